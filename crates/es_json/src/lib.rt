@@ -1,0 +1,2 @@
+//! The reader and the writer of the tree form.
+#![tactic(auto)]

@@ -1,0 +1,11 @@
+pub mod Words
+pub mod Table
+pub mod Tree
+pub mod TreeCode
+pub mod Heads
+pub mod Views
+pub mod Falls
+pub mod Attributes
+pub mod Order
+pub mod Agree
+pub mod Texts

@@ -1,0 +1,42 @@
+-- Node order: a node before its children, children in reading order, lists from front to back.
+use Rattle.std.specs.Prelude.{ℕ, suc, ◌+◌, ◌≡◌, List}
+use Rattle.es_tree.specs.Tree.{Tree, node, Fields, done, ◌then◌, Field, missing, one, many, statements, Trees, empty, ◌before◌, tree_size, field_size}
+use Rattle.es_tree.specs.Attributes.{no_marks}
+
+-- The ids of the tree count from n in node order.
+abbrev mutual
+  pub IsNumbered : ℕ → Tree → Type 0
+  IsNumbered n (node k l fs) = (l.id ≡ n) × AreFieldsNumbered (suc n) fs
+
+  pub AreFieldsNumbered : ℕ → Fields → Type 0
+  AreFieldsNumbered n done = Unit {0}
+  AreFieldsNumbered n (f then fs) = IsFieldNumbered n f × AreFieldsNumbered (n + field_size f) fs
+
+  pub IsFieldNumbered : ℕ → Field → Type 0
+  IsFieldNumbered n missing = Unit {0}
+  IsFieldNumbered n (one t) = IsNumbered n t
+  IsFieldNumbered n (many ts) = AreTreesNumbered n ts
+  IsFieldNumbered n (statements ts) = AreTreesNumbered n ts
+
+  pub AreTreesNumbered : ℕ → Trees → Type 0
+  AreTreesNumbered n empty = Unit {0}
+  AreTreesNumbered n (t before ts) = IsNumbered n t × AreTreesNumbered (n + tree_size t) ts
+
+-- No mark of the tables of scopes stands in the tree.
+abbrev mutual
+  pub IsUnmarked : Tree → Type 0
+  IsUnmarked (node k l fs) = (l.marks ≡ no_marks k) × AreFieldsUnmarked fs
+
+  pub AreFieldsUnmarked : Fields → Type 0
+  AreFieldsUnmarked done = Unit {0}
+  AreFieldsUnmarked (f then fs) = IsFieldUnmarked f × AreFieldsUnmarked fs
+
+  pub IsFieldUnmarked : Field → Type 0
+  IsFieldUnmarked missing = Unit {0}
+  IsFieldUnmarked (one t) = IsUnmarked t
+  IsFieldUnmarked (many ts) = AreTreesUnmarked ts
+  IsFieldUnmarked (statements ts) = AreTreesUnmarked ts
+
+  pub AreTreesUnmarked : Trees → Type 0
+  AreTreesUnmarked empty = Unit {0}
+  AreTreesUnmarked (t before ts) = IsUnmarked t × AreTreesUnmarked ts

@@ -1,0 +1,10 @@
+//! An owned JavaScript syntax tree in the shape of ESTree: one uniform node, its kinds, and the table
+//! of their fields.
+#![tactic(auto)]
+
+pub mod ast_type;
+pub mod ids;
+pub mod kind;
+pub mod node;
+pub mod operators;
+pub mod table;
