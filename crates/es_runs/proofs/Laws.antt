@@ -1,0 +1,147 @@
+-- The laws of place and of fresh names.
+use Rattle.std.proofs.Common.{◌≡◌, refl, List, [], ap, rules}
+use Rattle.std.specs.Prelude.{Bool, true, false, bytes_eq, codes, ◌||◌}
+use Rattle.es_tree.specs.Words.{Text}
+use Rattle.es_tree.specs.Tree.{Tree, Trees, Label}
+use Rattle.es_tree.specs.Tree.{◌before◌}
+use Rattle.es_runs.specs.Machine.{Value, M, State, Stop, Result, Move}
+use Rattle.es_runs.specs.Machine.State.{state}
+use Rattle.es_runs.specs.Machine.Stop.{throws, waits, uncallable, cut, unknown}
+use Rattle.es_runs.specs.Machine.Result.{gives, stops}
+use Rattle.es_runs.specs.Core.{World, Reference, value, meaning, meanings, in_order}
+use Rattle.es_runs.specs.Core.Reference.{named, property, plain}
+use Rattle.es_runs.specs.Alike.{Frame, set_cells, Agree, Same, Alike, Equal, SameReference, SameWorld, Level, Need, Like, LikeAt, the_value, SameTarget, touches_nodes, bad_names}
+use Rattle.es_runs.specs.Alike.Level.{no_evaluation, value_alone, whole_reference, a_callee, a_target}
+use Rattle.es_runs.specs.Alike.LikeCallee.{by_reference}
+use Rattle.es_runs.specs.Alike.SameTarget.{target_name, target_property, target_plain}
+use Rattle.es_runs.specs.Alike.Agree.{agree}
+use Rattle.es_runs.specs.Alike.Same.{both_give, both_stop, outside}
+use Rattle.es_runs.specs.Alike.Equal.{equal}
+use Rattle.es_runs.specs.Alike.SameReference.{same_name, same_property, same_plain}
+use Rattle.es_runs.specs.Runs.{Declared, names_of, cells_of, world_of, outcome, SameRun, is_declared, stands, only, var_statement, program, LawFresh, EvaluateAlike, Swaps, none_hidden, Swapped, LawPlace}
+use Rattle.es_runs.specs.Runs.Outcome.{called_uncallable}
+use Rattle.es_runs.specs.Runs.Swaps.{swaps}
+use Rattle.es_runs.proofs.Basic.{value_alike}
+use Rattle.es_runs.proofs.Everywhere.{near_like, near_meanings}
+use Rattle.es_runs.proofs.Lists.{in_order_alike}
+use Rattle.es_runs.proofs.Congruence.{plain_like}
+use Rattle.es_runs.proofs.Fresh.{or_left, or_right, near_all}
+use Rattle.std.proofs.lemmas.Slice.Eq.{bytes_eq-Decides}
+
+abbrev pub no_frame : Frame
+no_frame = set_cells none_hidden
+
+-- FROM STATES TO RUNS
+
+stop_outcome : (w : Stop) (s t : State) → outcome (stops w t) ≡ outcome (stops w s)
+stop_outcome (throws u) s t = refl
+stop_outcome waits s t = refl
+stop_outcome uncallable s t = refl
+stop_outcome cut s t = refl
+stop_outcome unknown s t = refl
+
+pub same_run : (F : Frame) (counts : Text → Bool) → ((x : Text) → counts x ≡ true → F.hidden x ≡ false) → {r q : Result Value} → (outcome r ≡ called_uncallable → ⊥) → Same F Equal r q → SameRun counts r q
+same_run F counts ok callable (both_give equal (agree h g f)) = record { outcomes = refl; questions = refl; final_cells = λ x e. h x (ok x e) }
+same_run F counts ok callable (both_stop {w = w} {s = s} {t = t} (agree h g f)) = record { outcomes = stop_outcome w _ _; questions = refl; final_cells = λ x e. h x (ok x e) }
+same_run F counts ok callable outside = absurd (callable refl)
+
+-- PLACES
+
+same_self : {A : Type 0} (r : Result A) → Same no_frame Equal r r
+same_self (gives a (state c ms qs)) = both_give equal (agree (λ x e. refl) (λ x e. cc) (λ x e. cc))
+same_self (stops w (state c ms qs)) = both_stop (agree (λ x e. refl) (λ x e. cc) (λ x e. cc))
+
+same_reference_self : (r : Result Reference) → Same no_frame (SameReference no_frame) r r
+same_reference_self (gives (named x) (state c ms qs)) = both_give (same_name refl) (agree (λ x e. refl) (λ x e. cc) (λ x e. cc))
+same_reference_self (gives (property o k) (state c ms qs)) = both_give same_property (agree (λ x e. refl) (λ x e. cc) (λ x e. cc))
+same_reference_self (gives (plain u) (state c ms qs)) = both_give same_plain (agree (λ x e. refl) (λ x e. cc) (λ x e. cc))
+same_reference_self (stops w (state c ms qs)) = both_stop (agree (λ x e. refl) (λ x e. cc) (λ x e. cc))
+
+same_target_self : (r : Result Reference) → Same no_frame (SameTarget no_frame) r r
+same_target_self (gives (named x) (state c ms qs)) = both_give (target_name refl refl) (agree (λ x e. refl) (λ x e. cc) (λ x e. cc))
+same_target_self (gives (property o k) (state c ms qs)) = both_give target_property (agree (λ x e. refl) (λ x e. cc) (λ x e. cc))
+same_target_self (gives (plain u) (state c ms qs)) = both_give target_plain (agree (λ x e. refl) (λ x e. cc) (λ x e. cc))
+same_target_self (stops w (state c ms qs)) = both_stop (agree (λ x e. refl) (λ x e. cc) (λ x e. cc))
+
+same_states : {s t : State} → Agree no_frame s t → t ≡ s
+same_states (agree {ms = ms} {qs = qs} h g f) = ap (λ c. state c ms qs) (λ i x. h x refl i)
+
+values_agree : (m k : M Value) → ((s : State) → k s ≡ m s) → Alike no_frame Equal m k
+values_agree m k h s t g = rw (same_states g, h s) (same_self (m s))
+
+references_agree : (m k : M Reference) → ((s : State) → k s ≡ m s) → Alike no_frame (SameReference no_frame) m k
+references_agree m k h s t g = rw (same_states g, h s) (same_reference_self (m s))
+
+targets_agree : (m k : M Reference) → ((s : State) → k s ≡ m s) → Alike no_frame (SameTarget no_frame) m k
+targets_agree m k h s t g = rw (same_states g, h s) (same_target_self (m s))
+
+evaluation_agrees : (level : Level) (e d : Tree) → EvaluateAlike level e d → (w : World) → LikeAt no_frame w w level (meaning w e) (meaning w d)
+evaluation_agrees no_evaluation e d h w = tt
+evaluation_agrees value_alone e d h w = values_agree (value w (meaning w e)) (value w (meaning w d)) (h w)
+evaluation_agrees whole_reference e d h w = references_agree (meaning w e).reference (meaning w d).reference (h w)
+evaluation_agrees a_callee e d h w = by_reference (references_agree (meaning w e).reference (meaning w d).reference (h w))
+evaluation_agrees a_target e d h w = targets_agree (meaning w e).reference (meaning w d).reference (h w)
+
+same_world : (w : World) → SameWorld none_hidden w w
+same_world w = record { scope = λ x e. refl; this = refl; math = refl }
+
+module _ (need : Need) (e d : Tree) (alike : EvaluateAlike need.level e d) (form : (w : World) → need.form ≡ true → (meaning w d).form ≡ (meaning w e).form) where
+  swaps_like : (w : World) (n : Need) (a b : Tree) → Swaps need e d n a b → Like no_frame w w n (meaning w a) (meaning w b)
+  swaps_like w n a b swaps = record { evaluation = evaluation_agrees need.level e d alike w; form = form w }
+
+  swapped_alike : (w : World) (p q : Tree) → Swapped need e d p q → Alike no_frame Equal (value w (meaning w p)) (value w (meaning w q))
+  swapped_alike w p q h = value_alike no_frame w w (same_world w) (meaning w p) (meaning w q) (near_like no_frame w w (same_world w) (Swaps need e d) (swaps_like w) h).evaluation
+
+agree_self : (s : State) → Agree no_frame s s
+agree_self (state c ms qs) = agree (λ x e. refl) (λ x e. cc) (λ x e. cc)
+
+pub law_place_proof : LawPlace
+law_place_proof need e d p q h alike form names this moves callable =
+    rw names (same_run no_frame (is_declared (names_of p)) (λ x k. refl) callable (swapped_alike need e d alike form (world_of this (names_of p)) p q h _ _ (agree_self (state (cells_of (names_of p)) moves []))))
+
+-- FRESH NAMES
+
+bytes_eq-equal : (a b : Text) → bytes_eq a b ≡ true → a ≡ b
+bytes_eq-equal a b h = search (rules, bytes_eq-Decides)
+
+module _ (x : Text) (l : Label) (ds body : Trees) (nowhere : stands x (program l ds body) ≡ false) (not_math : bytes_eq (codes "Math") x ≡ false) (this : Value) where
+  abbrev old_names : List Declared
+  old_names = names_of (program l ds body)
+
+  abbrev new_names : List Declared
+  new_names = names_of (program l ds (var_statement x before body))
+
+  abbrev old_world : World
+  old_world = world_of this old_names
+
+  abbrev new_world : World
+  new_world = world_of this new_names
+
+  fresh_world : SameWorld (only x) old_world new_world
+  fresh_world = record { scope = λ y e. rw e; this = refl; math = not_math }
+
+  abbrev bad_here : Level → Text → Bool
+  bad_here = bad_names (only x) none_hidden
+
+  not_in_body : touches_nodes bad_here the_value body ≡ false
+  not_in_body = or_left (touches_nodes bad_here the_value body) false (or_right (touches_nodes bad_here the_value ds) (touches_nodes bad_here the_value body || false) nowhere)
+
+  body_alike : Alike (set_cells (only x)) Equal (in_order old_world (meanings old_world body)) (in_order new_world (meanings new_world body))
+  body_alike = in_order_alike (set_cells (only x)) old_world new_world fresh_world (near_meanings (set_cells (only x)) old_world new_world fresh_world (λ n a b. ⊥) (λ n a b e. absurd e) (near_all bad_here (λ n a b. ⊥) body the_value not_in_body))
+
+  program_alike : Alike (set_cells (only x)) Equal (value old_world (meaning old_world (program l ds body))) (value new_world (meaning new_world (program l ds (var_statement x before body))))
+  program_alike = (plain_like (set_cells (only x)) old_world new_world fresh_world the_value (in_order old_world (meanings old_world body)) (in_order new_world (meanings new_world (var_statement x before body))) body_alike).evaluation
+
+  first_cells : (moves : List Move) → Agree (set_cells (only x)) (state (cells_of old_names) moves []) (state (cells_of new_names) moves [])
+  first_cells moves = agree (λ y e. rw e) (λ y e. rw e) (λ y e. cc)
+
+  counted_hides : is_declared old_names x ≡ false → (y : Text) → is_declared old_names y ≡ true → only x y ≡ false
+  counted_hides d y e = not_same (bytes_eq y x) refl
+    where
+      not_same : (b : Bool) → bytes_eq y x ≡ b → b ≡ false
+      not_same false h = refl
+      not_same true h = let k : y ≡ x = bytes_eq-equal y x h in cc
+
+pub law_fresh_proof : LawFresh
+law_fresh_proof x l ds body nowhere not_math undeclared this moves callable =
+    same_run (set_cells (only x)) (is_declared (names_of (program l ds body))) (counted_hides x l ds body nowhere not_math this undeclared) callable (program_alike x l ds body nowhere not_math this _ _ (first_cells x l ds body nowhere not_math this moves))

@@ -1,0 +1,17 @@
+pub mod Fresh
+pub mod Basic
+pub mod Congruence
+pub mod Lists
+pub mod Everywhere
+pub mod Temporary
+pub mod Nullish
+pub mod Uncut
+pub mod Chains
+pub mod OptionalCalls
+pub mod LogicalAssign
+pub mod NoStray
+pub mod Spine
+pub mod Steps
+pub mod Laws
+pub mod CoreRules
+pub mod Examples

@@ -1,0 +1,5 @@
+pub mod Machine
+pub mod Core
+pub mod Alike
+pub mod Runs
+pub mod Rules

@@ -1,0 +1,157 @@
+-- What the lowerings write, as nodes of the plain tree.
+use Rattle.std.specs.Prelude.{◌≡◌, ℕ, zero, suc, bytes_eq, ◌&&◌, ◌||◌, not, Bool, true, false, Option, Some, None, List, [], ◌∷◌, codes}
+use Rattle.es_tree.specs.Words.{Text}
+use Rattle.es_tree.specs.declared.ast_type.AstType.{AstType}
+use Rattle.es_tree.specs.Tree.{Tree, Fields, Field, Trees, Label}
+use Rattle.es_tree.specs.declared.ast_type.AstType.TheVariants.{UnaryExpression, BinaryExpression, LogicalExpression, ConditionalExpression, AssignmentExpression, ChainExpression, ParenthesizedExpression, NullLiteral, NumericLiteral, MemberExpression, CallExpression, Identifier, ThisExpression}
+use Rattle.es_tree.specs.Tree.{node}
+use Rattle.es_tree.specs.Tree.{done, ◌then◌}
+use Rattle.es_tree.specs.Tree.{missing, one, many, statements}
+use Rattle.es_tree.specs.Tree.{empty, ◌before◌}
+use Rattle.es_runs.specs.Machine.{Value, Move}
+use Rattle.es_runs.specs.Core.{first, flag, flag_after}
+use Rattle.es_runs.specs.Alike.{Need, needs, all_of_it, value_and_form}
+use Rattle.es_runs.specs.Runs.{made, identifier, Declared, names_of, run, run_with, outcome, SameRun, is_declared, stands}
+use Rattle.es_runs.specs.Runs.Outcome.{called_uncallable}
+
+abbrev pub parenthesized_node : Tree → Tree
+parenthesized_node e = node ParenthesizedExpression (made [] []) (one e then done)
+
+abbrev pub null_node : Tree
+null_node = node NullLiteral (made [] []) done
+
+abbrev pub void_zero_node : Tree
+void_zero_node = node UnaryExpression (made (Some (codes "void") ∷ []) []) (one (node NumericLiteral (made (Some (codes "0") ∷ Some (codes "0") ∷ []) []) done) then done)
+
+abbrev pub binary_node : Text → Tree → Tree → Tree
+binary_node op l r = node BinaryExpression (made (Some op ∷ []) []) (one l then one r then done)
+
+abbrev pub logical_node : Text → Tree → Tree → Tree
+logical_node op l r = node LogicalExpression (made (Some op ∷ []) []) (one l then one r then done)
+
+abbrev pub assign_node : Tree → Tree → Tree
+assign_node l r = node AssignmentExpression (made (Some (codes "=") ∷ []) []) (one l then one r then done)
+
+abbrev pub conditional_node : Tree → Tree → Tree → Tree
+conditional_node t a b = node ConditionalExpression (made [] []) (one t then one a then one b then done)
+
+-- NULLISH COALESCING
+
+-- `first !== null && again !== void 0 ? again : r`
+abbrev pub tested : Tree → Tree → Tree → Tree
+tested begin again r = conditional_node (logical_node (codes "&&") (binary_node (codes "!==") begin null_node) (binary_node (codes "!==") again void_zero_node)) again r
+
+-- `(x = l) !== null && x !== void 0 ? x : r`; the parentheses are for reading
+abbrev pub tested_by : Text → Tree → Tree → Tree
+tested_by x l r = tested (assign_node (identifier x) l) (identifier x) r
+
+-- A rule at one place of a tree: all else stays.
+mutual
+  pub data OnePlace (R : Need → Tree → Tree → Type 0) : Need → Tree → Tree → Type 0 where
+    this_place : {n : Need} {a b : Tree} → R n a b → OnePlace R n a b
+    below : {n : Need} {k : AstType} {l : Label} {fs gs : Fields} → OneField R (needs n k l.texts l.flags) fs gs → OnePlace R n (node k l fs) (node k l gs)
+
+  pub data OneField (R : Need → Tree → Tree → Type 0) : (ℕ → Need) → Fields → Fields → Type 0 where
+    first_field : {c : ℕ → Need} {f g : Field} {fs : Fields} → InField R (c zero) f g → OneField R c (f then fs) (g then fs)
+    later_field : {c : ℕ → Need} {f : Field} {fs gs : Fields} → OneField R (λ i. c (suc i)) fs gs → OneField R c (f then fs) (f then gs)
+
+  pub data InField (R : Need → Tree → Tree → Type 0) : Need → Field → Field → Type 0 where
+    in_one : {n : Need} {a b : Tree} → OnePlace R n a b → InField R n (one a) (one b)
+    in_many : {n : Need} {xs ys : Trees} → OneNode R n xs ys → InField R n (many xs) (many ys)
+    in_statements : {n : Need} {xs ys : Trees} → OneNode R n xs ys → InField R n (statements xs) (statements ys)
+
+  pub data OneNode (R : Need → Tree → Tree → Type 0) : Need → Trees → Trees → Type 0 where
+    first_node : {n : Need} {a b : Tree} {xs : Trees} → OnePlace R n a b → OneNode R n (a before xs) (b before xs)
+    later_node : {n : Need} {a : Tree} {xs ys : Trees} → OneNode R n xs ys → OneNode R n (a before xs) (a before ys)
+
+-- the row of `??` with a temporary x
+pub data NullishRow (x : Text) : Need → Tree → Tree → Type 0 where
+  nullish_row : {n : Need} {m : Label} {l r : Tree} → m.texts ≡ Some (codes "??") ∷ [] → NullishRow x n (node LogicalExpression m (one l then one r then done)) (tested_by x l r)
+
+-- the row of `??` with a left side that is a bound name, or `this`
+pub data RereadRow (bound : Text → Bool) : Need → Tree → Tree → Type 0 where
+  name_row : {n : Need} {m o : Label} {fs : Fields} {r : Tree} → m.texts ≡ Some (codes "??") ∷ [] → bound (first o.texts) ≡ true → RereadRow bound n (node LogicalExpression m (one (node Identifier o fs) then one r then done)) (tested (node Identifier o fs) (node Identifier o fs) r)
+  this_row : {n : Need} {m o : Label} {fs : Fields} {r : Tree} → m.texts ≡ Some (codes "??") ∷ [] → RereadRow bound n (node LogicalExpression m (one (node ThisExpression o fs) then one r then done)) (tested (node ThisExpression o fs) (node ThisExpression o fs) r)
+
+-- An open program runs with one more cell for the pending declarator of x.
+abbrev pub pending : Text → List Declared → List Declared
+pending x ds = record { name = x; kind = codes "var" } ∷ ds
+
+abbrev pub OpenAlike : Text → Tree → Tree → Type 0
+OpenAlike x p q = (this : Value) (moves : List Move) → (outcome (run p this moves) ≡ called_uncallable → ⊥) → SameRun (is_declared (names_of p)) (run p this moves) (run_with (pending x (names_of p)) q this moves)
+
+abbrev pub IsFresh : Text → Tree → Type 0
+IsFresh x p = (stands x p ≡ false) × (bytes_eq (codes "Math") x ≡ false) × (is_declared (names_of p) x ≡ false)
+
+-- A step of nullish coalescing keeps the runs, at any place of any program.
+abbrev pub LawNullish : Type 0
+LawNullish = (x : Text) (p q : Tree) → IsFresh x p → OnePlace (NullishRow x) all_of_it p q → OpenAlike x p q
+
+abbrev pub LawReread : Type 0
+LawReread = (p q : Tree) → OnePlace (RereadRow (is_declared (names_of p))) all_of_it p q → (this : Value) (moves : List Move) → (outcome (run p this moves) ≡ called_uncallable → ⊥) → SameRun (is_declared (names_of p)) (run p this moves) (run_with (names_of p) q this moves)
+
+-- OPTIONAL MARKS
+
+abbrev pub is_marked : AstType → List Bool → Bool
+is_marked MemberExpression fs = flag_after fs
+is_marked CallExpression fs = flag fs
+is_marked _ fs = false
+
+-- whether the first field stands on a chain's spine, where the node does or not
+abbrev pub on_spine : AstType → Bool → Bool
+on_spine ChainExpression on = true
+on_spine MemberExpression on = on
+on_spine CallExpression on = on
+on_spine _ on = false
+
+-- whether an optional mark stands on no chain's spine
+abbrev mutual
+  pub strays : Bool → Tree → Bool
+  strays on (node k l fs) = (is_marked k l.flags && not on) || strays_fields (on_spine k on) fs
+
+  pub strays_fields : Bool → Fields → Bool
+  strays_fields on done = false
+  strays_fields on (f then fs) = strays_field on f || strays_fields false fs
+
+  pub strays_field : Bool → Field → Bool
+  strays_field on missing = false
+  strays_field on (one n) = strays on n
+  strays_field on (many ns) = strays_nodes on ns
+  strays_field on (statements ns) = strays_nodes on ns
+
+  pub strays_nodes : Bool → Trees → Bool
+  strays_nodes on empty = false
+  strays_nodes on (n before ns) = strays on n || strays_nodes on ns
+
+-- OPTIONAL MEMBERS
+
+abbrev pub member_node : Bool → Tree → Tree → Tree
+member_node computed o p = node MemberExpression (made [] (computed ∷ false ∷ [])) (one o then one p then done)
+
+-- `(x = e) === null || x === void 0`
+abbrev pub tests_node : Text → Tree → Tree
+tests_node x e = logical_node (codes "||") (binary_node (codes "===") (assign_node (identifier x) e) null_node) (binary_node (codes "===") (identifier x) void_zero_node)
+
+-- `a?.p`, a chain of one step, at a place that takes its value alone
+pub data OptionalMemberRow (x : Text) : Need → Tree → Tree → Type 0 where
+  optional_member_row : {form : Bool} {l m : Label} {computed : Bool} {a p : Tree} → m.flags ≡ computed ∷ true ∷ [] → strays false a ≡ false → strays false p ≡ false → OptionalMemberRow x (value_and_form form) (node ChainExpression l (one (node MemberExpression m (one a then one p then done)) then done)) (conditional_node (tests_node x a) void_zero_node (member_node computed (identifier x) p))
+
+-- A step of optional chaining at a chain of one optional member keeps the runs.
+abbrev pub LawOptionalMember : Type 0
+LawOptionalMember = (x : Text) (p q : Tree) → IsFresh x p → OnePlace (OptionalMemberRow x) all_of_it p q → OpenAlike x p q
+
+-- MANY STEPS
+
+abbrev pub IsFreshFor : List Declared → Text → Tree → Type 0
+IsFreshFor ds x p = (stands x p ≡ false) × (bytes_eq (codes "Math") x ≡ false) × (is_declared ds x ≡ false)
+
+-- From a program with these declared names, by steps, to another with more.
+pub data Reaches : List Declared → Tree → List Declared → Tree → Type 0 where
+  reached : {ds : List Declared} {p : Tree} → Reaches ds p ds p
+  by_nullish : {ds es : List Declared} {p q r : Tree} {x : Text} → IsFreshFor ds x p → OnePlace (NullishRow x) all_of_it p q → Reaches (pending x ds) q es r → Reaches ds p es r
+  by_reread : {ds es : List Declared} {p q r : Tree} → OnePlace (RereadRow (is_declared ds)) all_of_it p q → Reaches ds q es r → Reaches ds p es r
+  by_optional_member : {ds es : List Declared} {p q r : Tree} {x : Text} → IsFreshFor ds x p → OnePlace (OptionalMemberRow x) all_of_it p q → Reaches (pending x ds) q es r → Reaches ds p es r
+
+-- Whatever steps are taken, source and result run alike, where the result has a cell for each pending declarator.
+abbrev pub LawSteps : Type 0
+LawSteps = (p r : Tree) (es : List Declared) → Reaches (names_of p) p es r → (this : Value) (moves : List Move) → (outcome (run p this moves) ≡ called_uncallable → ⊥) → SameRun (is_declared (names_of p)) (run p this moves) (run_with es r this moves)

@@ -1,0 +1,173 @@
+-- Runs of programs, and when two programs run alike.
+use Rattle.std.specs.Prelude.{◌≡◌, Bool, true, false, List, [], ◌∷◌, ◌++◌, bytes_eq, codes, if◌then◌else◌, not, Option, None, Some}
+use Rattle.es_tree.specs.Words.{Text}
+use Rattle.es_tree.specs.declared.ast_type.AstType.{AstType}
+use Rattle.es_tree.specs.Tree.{Tree, Fields, Trees, Label}
+use Rattle.es_tree.specs.declared.ast_type.AstType.TheVariants.{Program, Identifier, VariableDeclaration, VariableDeclarator}
+use Rattle.es_tree.specs.Tree.{node}
+use Rattle.es_tree.specs.Tree.{done, ◌then◌}
+use Rattle.es_tree.specs.Tree.{missing, one, many, statements}
+use Rattle.es_tree.specs.Tree.{empty, ◌before◌}
+use Rattle.es_runs.specs.Machine.{Value, Question, Move, Cell, State, Result}
+use Rattle.es_runs.specs.Machine.Value.{undefined}
+use Rattle.es_runs.specs.Machine.Cell.{unset, holds}
+use Rattle.es_runs.specs.Machine.State.{state}
+use Rattle.es_runs.specs.Machine.Stop.{throws, waits, uncallable}
+use Rattle.es_runs.specs.Machine.Result.{gives, stops}
+use Rattle.es_runs.specs.Core.{World, Binding, value, meaning, first, is_free}
+use Rattle.es_runs.specs.Core.Binding.{free, changeable, constant}
+use Rattle.es_runs.specs.Alike.{Level, Need, all_of_it, Near, touches, bad_names}
+use Rattle.es_runs.specs.Alike.Level.{no_evaluation, value_alone, whole_reference, a_callee, a_target}
+
+-- DECLARED NAMES
+
+-- A declared name, and the word that declares it.
+pub record Declared : Type 0 where
+  pub name : Text
+  pub kind : Text
+
+abbrev pub first_text : Tree → Text
+first_text (node k l fs) = first l.texts
+
+abbrev pub name_in : Fields → Text
+name_in (one n then fs) = first_text n
+name_in _ = []
+
+abbrev pub declarator_name : Tree → Text
+declarator_name (node k l fs) = name_in fs
+
+abbrev pub declared_names : Text → Trees → List Declared
+declared_names kind empty = []
+declared_names kind (d before ds) = record { name = declarator_name d; kind = kind } ∷ declared_names kind ds
+
+abbrev pub declared_in : AstType → Text → Fields → List Declared
+declared_in VariableDeclaration kind (many ds then fs) = declared_names kind ds
+declared_in _ kind fs = []
+
+abbrev pub declared_by : Tree → List Declared
+declared_by (node k l fs) = declared_in k (first l.texts) fs
+
+abbrev pub declared_in_body : Trees → List Declared
+declared_in_body empty = []
+declared_in_body (n before ns) = declared_by n ++ declared_in_body ns
+
+abbrev pub program_names : Fields → List Declared
+program_names (ds then statements body then fs) = declared_in_body body
+program_names _ = []
+
+abbrev pub names_of : Tree → List Declared
+names_of (node k l fs) = program_names fs
+
+abbrev pub binding_of : Text → Binding
+binding_of kind = if bytes_eq kind (codes "const") then constant else changeable
+
+abbrev pub first_cell : Text → Cell
+first_cell kind = if bytes_eq kind (codes "var") then holds undefined else unset
+
+abbrev pub scope_of : List Declared → Text → Binding
+scope_of [] x = free
+scope_of (d ∷ ds) x = if bytes_eq x d.name then binding_of d.kind else scope_of ds x
+
+abbrev pub cells_of : List Declared → Text → Cell
+cells_of [] x = unset
+cells_of (d ∷ ds) x = if bytes_eq x d.name then first_cell d.kind else cells_of ds x
+
+-- RUNS
+
+abbrev pub world_of : Value → List Declared → World
+world_of this ds = record { scope = scope_of ds; this = this }
+
+-- the run of a program with these declared names
+abbrev pub run_with : List Declared → Tree → Value → List Move → Result Value
+run_with ds p this moves = let w = world_of this ds in value w (meaning w p) (state (cells_of ds) moves [])
+
+abbrev pub run : Tree → Value → List Move → Result Value
+run p = run_with (names_of p) p
+
+pub data Outcome : Type 0 where
+  finished : Outcome
+  threw : Value → Outcome
+  waiting called_uncallable not_core : Outcome
+
+abbrev pub outcome : Result Value → Outcome
+outcome (gives v s) = finished
+outcome (stops (throws v) s) = threw v
+outcome (stops waits s) = waiting
+outcome (stops uncallable s) = called_uncallable
+outcome (stops _ s) = not_core
+
+abbrev pub state_of : Result Value → State
+state_of (gives v s) = s
+state_of (stops w s) = s
+
+abbrev pub asked : State → List Question
+asked (state c ms qs) = qs
+
+abbrev pub cells : State → Text → Cell
+cells (state c ms qs) = c
+
+-- the same outcome, the same questions, and equal cells of the names that count
+pub record SameRun (counts : Text → Bool) (r q : Result Value) : Type 0 where
+  pub outcomes : outcome q ≡ outcome r
+  pub questions : asked (state_of q) ≡ asked (state_of r)
+  pub final_cells : (x : Text) → counts x ≡ true → cells (state_of q) x ≡ cells (state_of r) x
+
+abbrev pub is_declared : List Declared → Text → Bool
+is_declared ds x = not (is_free (scope_of ds x))
+
+-- Source and output run alike: for each value of `this` and list of moves, unless the source calls what isn't callable.
+abbrev pub RunAlike : Tree → Tree → Type 0
+RunAlike p q = (this : Value) (moves : List Move) → (outcome (run p this moves) ≡ called_uncallable → ⊥) → SameRun (is_declared (names_of p)) (run p this moves) (run q this moves)
+
+-- FRESH NAMES
+
+-- the name x alone
+abbrev pub only : Text → Text → Bool
+only x y = bytes_eq y x
+
+abbrev pub none_hidden : Text → Bool
+none_hidden x = false
+
+-- the name stands in the tree, other than as the key of a member
+abbrev pub stands : Text → Tree → Bool
+stands x = touches (bad_names (only x) none_hidden) all_of_it
+
+-- MADE NODES
+
+abbrev pub made : List (Option Text) → List Bool → Label
+made ts fs = record { id = 0; start = 0; stop = 0; texts = ts; flags = fs; marks = [] }
+
+abbrev pub identifier : Text → Tree
+identifier x = node Identifier (made (Some x ∷ []) []) done
+
+-- `var x;`
+abbrev pub var_statement : Text → Tree
+var_statement x = node VariableDeclaration (made (Some (codes "var") ∷ []) []) (many (node VariableDeclarator (made [] []) (one (identifier x) then missing then done) before empty) then done)
+
+abbrev pub program : Label → Trees → Trees → Tree
+program l directives body = node Program l (many directives then statements body then done)
+
+-- LAWS
+
+-- A `var` of a name that stands nowhere keeps the runs.
+abbrev pub LawFresh : Type 0
+LawFresh = (x : Text) (l : Label) (ds body : Trees) → stands x (program l ds body) ≡ false → bytes_eq (codes "Math") x ≡ false → is_declared (names_of (program l ds body)) x ≡ false → RunAlike (program l ds body) (program l ds (var_statement x before body))
+
+-- e and d evaluate alike at what a place takes
+abbrev pub EvaluateAlike : Level → Tree → Tree → Type 0
+EvaluateAlike no_evaluation e d = Unit {0}
+EvaluateAlike value_alone e d = (w : World) (s : State) → value w (meaning w d) s ≡ value w (meaning w e) s
+EvaluateAlike a_target e d = (w : World) (s : State) → (meaning w d).reference s ≡ (meaning w e).reference s
+EvaluateAlike a_callee e d = (w : World) (s : State) → (meaning w d).reference s ≡ (meaning w e).reference s
+EvaluateAlike whole_reference e d = (w : World) (s : State) → (meaning w d).reference s ≡ (meaning w e).reference s
+
+pub data Swaps (need : Need) (e d : Tree) : Need → Tree → Tree → Type 0 where
+  swaps : Swaps need e d need e d
+
+-- q is p but at a place with this need, where p has e and q has d
+abbrev pub Swapped : Need → Tree → Tree → Tree → Tree → Type 0
+Swapped need e d p q = Near (bad_names none_hidden none_hidden) (Swaps need e d) all_of_it p q
+
+-- Replacing an expression by one that evaluates alike, at what the place takes of it, keeps the runs.
+abbrev pub LawPlace : Type 0
+LawPlace = (need : Need) (e d p q : Tree) → Swapped need e d p q → EvaluateAlike need.level e d → ((w : World) → need.form ≡ true → (meaning w d).form ≡ (meaning w e).form) → names_of q ≡ names_of p → RunAlike p q
