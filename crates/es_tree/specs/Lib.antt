@@ -9,3 +9,8 @@ pub mod Attributes
 pub mod Order
 pub mod Agree
 pub mod Texts
+pub mod Walks
+pub mod Bare
+pub mod Names
+pub mod Fresh
+pub mod FirstPath

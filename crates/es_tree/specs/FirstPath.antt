@@ -1,0 +1,41 @@
+-- The programs that the first path takes: scripts without directives whose statements are expressions built of
+-- names, `this`, null, truth values, numbers, strings, static members, `??`, and `=` to a name or a member.
+use Rattle.std.specs.Prelude.{List, [], ◌∷◌, Bool, true, false, ◌&&◌, ◌||◌, not, Option, Some, None, bytes_eq, codes}
+use Rattle.es_tree.specs.Words.{Text}
+use Rattle.es_tree.specs.Names.{first_text, flag_at}
+use Rattle.es_tree.specs.Tree.{Tree, node, Label, Fields, done, ◌then◌, Field, missing, one, many, statements, kind_of}
+use Rattle.es_tree.specs.Walks.{all_nodes}
+use Rattle.es_tree.specs.declared.ast_type.AstType.{AstType}
+use Rattle.es_tree.specs.declared.ast_type.AstType.TheVariants.{
+  Program, ExpressionStatement, Identifier, ThisExpression, NullLiteral, BooleanLiteral, NumericLiteral, StringLiteral, MemberExpression, LogicalExpression, AssignmentExpression
+}
+
+abbrev pub is_simple_target : AstType → Bool
+is_simple_target Identifier = true
+is_simple_target MemberExpression = true
+is_simple_target _ = false
+
+abbrev pub assigns_simply : Fields → Bool
+assigns_simply (one (node k l fs) then rest) = is_simple_target k
+assigns_simply _ = false
+
+abbrev pub no_flag : List Bool → Bool
+no_flag [] = true
+no_flag (b ∷ bs) = not b && no_flag bs
+
+abbrev pub is_first_path_node : AstType → Label → Fields → Bool
+is_first_path_node Program l fs = bytes_eq (first_text l.texts) (codes "script")
+is_first_path_node ExpressionStatement l fs = true
+is_first_path_node Identifier l fs = true
+is_first_path_node ThisExpression l fs = true
+is_first_path_node NullLiteral l fs = true
+is_first_path_node BooleanLiteral l fs = true
+is_first_path_node NumericLiteral l fs = true
+is_first_path_node StringLiteral l fs = true
+is_first_path_node MemberExpression l fs = no_flag l.flags
+is_first_path_node LogicalExpression l fs = bytes_eq (first_text l.texts) (codes "??")
+is_first_path_node AssignmentExpression l fs = bytes_eq (first_text l.texts) (codes "=") && assigns_simply fs
+is_first_path_node _ l fs = false
+
+abbrev pub is_first_path : Tree → Bool
+is_first_path t = all_nodes is_first_path_node t
