@@ -3,6 +3,7 @@
 #![tactic(auto)]
 
 pub mod ast_type;
+pub mod builder;
 pub mod ids;
 pub mod kind;
 pub mod node;
