@@ -8,4 +8,5 @@ pub mod ids;
 pub mod kind;
 pub mod node;
 pub mod operators;
+pub mod sorts;
 pub mod table;

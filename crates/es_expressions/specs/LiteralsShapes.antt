@@ -1,0 +1,44 @@
+-- The shape of each kind of node.
+use Rattle.std.specs.Prelude.{List, [], ◌∷◌, ◌≡◌}
+use Rattle.es_tree.specs.Tree.{Tree, kind_of}
+use Rattle.es_tree.specs.declared.ast_type.AstType.TheVariants.{
+  Identifier, PrivateIdentifier, ThisExpression, Super, NullLiteral, BooleanLiteral, NumericLiteral,
+  BigIntLiteral, StringLiteral, RegExpLiteral, TemplateLiteral, TemplateElement
+}
+use Rattle.es_tree.specs.Shapes.{Opens, required, optional, list, statement_list}
+
+abbrev pub IsIdentifier : Tree → Type 0
+IsIdentifier = Opens Identifier ([])
+
+abbrev pub IsPrivateIdentifier : Tree → Type 0
+IsPrivateIdentifier = Opens PrivateIdentifier ([])
+
+abbrev pub IsThisExpression : Tree → Type 0
+IsThisExpression = Opens ThisExpression ([])
+
+abbrev pub IsSuper : Tree → Type 0
+IsSuper = Opens Super ([])
+
+abbrev pub IsNullLiteral : Tree → Type 0
+IsNullLiteral = Opens NullLiteral ([])
+
+abbrev pub IsBooleanLiteral : Tree → Type 0
+IsBooleanLiteral = Opens BooleanLiteral ([])
+
+abbrev pub IsNumericLiteral : Tree → Type 0
+IsNumericLiteral = Opens NumericLiteral ([])
+
+abbrev pub IsBigIntLiteral : Tree → Type 0
+IsBigIntLiteral = Opens BigIntLiteral ([])
+
+abbrev pub IsStringLiteral : Tree → Type 0
+IsStringLiteral = Opens StringLiteral ([])
+
+abbrev pub IsRegExpLiteral : Tree → Type 0
+IsRegExpLiteral = Opens RegExpLiteral ([])
+
+abbrev pub IsTemplateLiteral : Tree → Type 0
+IsTemplateLiteral = Opens TemplateLiteral (list ∷ list ∷ [])
+
+abbrev pub IsTemplateElement : Tree → Type 0
+IsTemplateElement = Opens TemplateElement ([])

@@ -1,0 +1,4 @@
+pub mod PatternsShapes
+pub mod PatternsPlain
+pub mod ModulesShapes
+pub mod ModulesPlain
