@@ -12,3 +12,4 @@ pub mod Attributes
 pub mod Order
 pub mod Agree
 pub mod Texts
+pub mod Reads
