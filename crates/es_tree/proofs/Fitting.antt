@@ -1,5 +1,5 @@
 -- What is read at the places of a kind, where texts fit and the truth values are as many as the table says.
-use Rattle.std.proofs.Common.{◌≡◌, ℕ, suc, List, [], ◌∷◌, Bool, true, false, cond, Option, Some, None, find, is_some, unwrap_or, slice_index_or, bytes_eq, length, refl, ap}
+use Rattle.std.proofs.Common.{◌≡◌, List, [], ◌∷◌, Bool, true, false, cond, Option, Some, None, find, is_some, unwrap_or, slice_index_or, bytes_eq, length, refl, ap}
 use Rattle.std.proofs.lemmas.Bool.{and_parts}
 use Rattle.std.proofs.lemmas.Slice.Eq.{bytes_eq-Decides}
 use Rattle.es_tree.specs.Words.{
