@@ -1,5 +1,5 @@
 -- What a node of a kind says by itself, by the table of fields: its texts, its truth values, its marks.
-use Rattle.std.specs.Prelude.{ℕ, List, [], ◌∷◌, Bool, true, false, ◌&&◌, ◌==◌, Option, Some, None, length, filter, replicate, if◌then◌else◌}
+use Rattle.std.specs.Prelude.{ℕ, List, [], ◌∷◌, Bool, true, false, ◌&&◌, Option, Some, None, filter, replicate}
 use Rattle.es_tree.specs.Words.{Text}
 use Rattle.es_tree.specs.Table.{entries, allows_text}
 use Rattle.es_tree.specs.declared.ast_type.AstType.{AstType}

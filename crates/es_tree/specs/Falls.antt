@@ -2,7 +2,7 @@
 use Rattle.std.specs.Prelude.{ℕ, ◌+◌, ◌≤◌, suc, List, [], ◌∷◌, map}
 use Rattle.std.proofs.Common.{arith}
 use denote.Param.Weighed.{most, w_this}
-use Rattle.es_tree.specs.Tree.{Tree, Field, Fields, trees, fields, tree_size, trees_size, field_size, fields_size}
+use Rattle.es_tree.specs.Tree.{Tree, trees, fields, tree_size, trees_size, field_size, fields_size}
 use Rattle.es_tree.specs.Views.{plain_field, view_node}
 use Rattle.es_tree.specs.declared.node.Field.{Field as NodeField}
 use Rattle.es_tree.specs.declared.node.Field.TheVariants.{Missing, One, Many, Statements}

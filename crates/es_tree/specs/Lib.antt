@@ -17,3 +17,4 @@ pub mod Bare
 pub mod Names
 pub mod Fresh
 pub mod FirstPath
+pub mod Reads

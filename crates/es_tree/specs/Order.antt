@@ -1,5 +1,5 @@
 -- Node order: a node before its children, children in reading order, lists from front to back.
-use Rattle.std.specs.Prelude.{ℕ, suc, ◌+◌, ◌≡◌, List}
+use Rattle.std.specs.Prelude.{ℕ, suc, ◌+◌, ◌≡◌}
 use Rattle.es_tree.specs.Tree.{Tree, node, Fields, done, ◌then◌, Field, missing, one, many, statements, Trees, empty, ◌before◌, tree_size, field_size}
 use Rattle.es_tree.specs.Attributes.{no_marks}
 

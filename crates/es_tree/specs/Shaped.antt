@@ -1,7 +1,7 @@
 -- What the shape of a node says of its fields.
-use Rattle.std.specs.Prelude.{ℕ, ◌≡◌, List, [], ◌∷◌, length, map, suc, refl}
+use Rattle.std.specs.Prelude.{◌≡◌, List, [], ◌∷◌, length, map, suc, refl}
 use Rattle.std.proofs.Common.{ap, sym, subst}
-use Rattle.es_tree.specs.Tree.{Tree, Fields, fields, done, ◌then◌, fields_of}
+use Rattle.es_tree.specs.Tree.{Tree, fields, fields_of}
 use Rattle.es_tree.specs.Views.{plain_field}
 use Rattle.es_tree.specs.Plain.{plain_parts}
 use Rattle.es_tree.specs.Shapes.{Slot, Fits, Opens}

@@ -1,5 +1,5 @@
 -- The table of fields. Its lines are the constants of `src/table.rt`; here is what they mean.
-use Rattle.std.specs.Prelude.{ℕ, List, [], ◌∷◌, ◌++◌, ◌||◌, ◌==◌, Bool, true, false, not, Option, Some, None, is_some, find, bytes_eq, codes, length, if◌then◌else◌}
+use Rattle.std.specs.Prelude.{List, [], ◌++◌, ◌||◌, ◌==◌, Bool, true, false, not, Option, Some, None, is_some, find, bytes_eq, codes, length, if◌then◌else◌}
 use Rattle.es_tree.specs.Words.{Text, source_type_of, variable_declaration_kind_of, method_definition_kind_of, property_kind_of, unary_operator_of, update_operator_of, binary_operator_of, logical_operator_of, assignment_operator_of}
 use Rattle.es_tree.specs.declared.ast_type.AstType.{AstType}
 use Rattle.es_tree.specs.declared.ast_type.AstType.TheVariants.{
@@ -208,17 +208,7 @@ use Rattle.es_tree.specs.declared.table.TextRule.TheVariants.{
   LogicalOperator as r-LogicalOperator,
   AssignmentOperator as r-AssignmentOperator,
 }
-use Rattle.es_tree.specs.declared.table.Content.{Content}
-use Rattle.es_tree.specs.declared.table.Content.TheVariants.{
-  Text as c-Text,
-  OptionalText as c-OptionalText,
-  Flag as c-Flag,
-  RequiredFlag as c-RequiredFlag,
-  Refused as c-Refused,
-  Child as c-Child,
-}
 use Rattle.es_tree.specs.declared.table.Entry.{Entry}
-use Rattle.es_tree.specs.declared.table.Often.{Often}
 use Rattle.es_tree.specs.declared.table.TheConstants.{
   ARRAY_EXPRESSION,
   ARRAY_PATTERN,

@@ -1,8 +1,6 @@
 -- The plain tree: what a clause sees of a node.
 use Rattle.std.specs.Prelude.{ℕ, ◌+◌, suc, List, [], ◌∷◌, Bool, Option, get_or, ◌≡◌, refl}
 use Rattle.std.specs.Coded.{Coded, code_by, coded_ℕ, coded_bool, coded_list, coded_option, coded×}
-use base.Stored.{Gv, gnil, gnum, gcons, num}
-use Rattle.std.proofs.Common.{sym, ap, subst}
 use Rattle.es_tree.specs.Words.{Text}
 use Rattle.es_tree.specs.declared.ast_type.AstType.{AstType}
 use Rattle.es_tree.specs.declared.ast_type.AstType.TheVariants.{

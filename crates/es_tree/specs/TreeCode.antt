@@ -1,7 +1,7 @@
 -- The code of plain trees.
-use Rattle.std.specs.Prelude.{ℕ, ◌≡◌, refl}
+use Rattle.std.specs.Prelude.{◌≡◌, refl}
 use Rattle.std.specs.Coded.{Coded}
-use base.Stored.{Gv, gnil, gnum, gcons, num}
+use base.Stored.{Gv, gnil, gnum, gcons}
 use Rattle.std.proofs.Common.{sym, ap, subst}
 use Rattle.es_tree.specs.Tree.{Tree, node, Fields, done, ◌then◌, Field, missing, one, many, statements, Trees, empty, ◌before◌, type_code, label_code}
 

@@ -1,7 +1,7 @@
 -- What a node is seen as.
-use Rattle.std.specs.Prelude.{List, map}
+use Rattle.std.specs.Prelude.{map}
 use Rattle.es_tree.specs.Tree.{Tree, node, Fields, fields, Field, missing, one, many, statements, trees}
-use Rattle.es_tree.specs.Heads.{Head, head_of, label}
+use Rattle.es_tree.specs.Heads.{head_of, label}
 use Rattle.es_tree.specs.declared.ids.NodeId.{NodeId}
 use Rattle.es_tree.specs.declared.ids.Span.{Span}
 use Rattle.es_tree.specs.declared.kind.Kind.{Kind as NodeKind}
