@@ -5,12 +5,13 @@ use Rattle.es_tree.specs.Words.{Text}
 use Rattle.es_tree.specs.Tree.{Tree}
 use Rattle.es_runs.specs.Machine.{Value, State, Result, Move}
 use Rattle.es_runs.specs.Machine.State.{state}
-use Rattle.es_runs.specs.Core.{World, value, meaning, first, flag, flag_after, is_free}
+use Rattle.es_tree.specs.Names.{first_text as first}
+use Rattle.es_runs.specs.Core.{World, value, meaning, flag, flag_after, is_free}
 use Rattle.es_runs.specs.Core.Binding.{changeable}
 use Rattle.es_runs.specs.Core.Form.{other}
 use Rattle.es_runs.specs.Alike.{set_cells, Agree, Alike, Equal, SameWorld, Need, Like, the_value, all_of_it, member_needs, value_and_form, Level, touches, bad_names}
 use Rattle.es_runs.specs.Alike.Agree.{agree}
-use Rattle.es_runs.specs.Runs.{Declared, names_of, scope_of, cells_of, world_of, run_with, outcome, SameRun, is_declared, stands, only, none_hidden}
+use Rattle.es_runs.specs.Runs.{Declared, declared_of, scope_of, cells_of, world_of, run_with, outcome, SameRun, is_declared, stands, only, none_hidden}
 use Rattle.es_runs.specs.Runs.Outcome.{called_uncallable}
 use Rattle.es_runs.specs.Rules.{OnePlace, NullishRow, RereadRow, pending, OpenAlike, IsFresh, LawNullish, LawReread, OptionalMemberRow, LawOptionalMember, IsFreshFor, Reaches, LawSteps}
 use Rattle.es_runs.specs.Rules.Reaches.{reached, by_nullish, by_reread, by_optional_member}
@@ -70,8 +71,8 @@ counted x ds d y e = at (bytes_eq y x) refl
     at false h = refl
     at true h = let k : y ≡ x = bytes_eq-equal y x h in cc
 
-open_run : (x : Text) (p q : Tree) → IsFresh x p → ((this : Value) → Alike (set_cells (only x)) Equal (value (world_of this (names_of p)) (meaning (world_of this (names_of p)) p)) (value (world_of this (pending x (names_of p))) (meaning (world_of this (pending x (names_of p))) q))) → OpenAlike x p q
-open_run x p q fresh h this moves callable = same_run (set_cells (only x)) (is_declared (names_of p)) (counted x (names_of p) fresh.2) callable (h this _ _ (one_more_cell x (names_of p) this fresh.1 moves))
+open_run : (x : Text) (p q : Tree) → IsFresh x p → ((this : Value) → Alike (set_cells (only x)) Equal (value (world_of this (declared_of p)) (meaning (world_of this (declared_of p)) p)) (value (world_of this (pending x (declared_of p))) (meaning (world_of this (pending x (declared_of p))) q))) → OpenAlike x p q
+open_run x p q fresh h this moves callable = same_run (set_cells (only x)) (is_declared (declared_of p)) (counted x (declared_of p) fresh.2) callable (h this _ _ (one_more_cell x (declared_of p) this fresh.1 moves))
 
 -- NULLISH COALESCING
 
@@ -93,7 +94,7 @@ module _ (x : Text) (ds : List Declared) (this : Value) (not_math : bytes_eq (co
       (nullish_alike (only x) w v (one_more x ds this not_math) x (bytes_eq-self x) (is_var x ds this not_math) (meaning w r) (meaning v r) right.evaluation (meaning w l) (meaning v l) left.evaluation))
 
 pub law_nullish_proof : LawNullish
-law_nullish_proof x p q fresh r = open_run x p q fresh (λ this. open_alike x (names_of p) this fresh.1 (NullishRow x) (nullish_base x (names_of p) this fresh.1) p q fresh.0 r)
+law_nullish_proof x p q fresh r = open_run x p q fresh (λ this. open_alike x (declared_of p) this fresh.1 (NullishRow x) (nullish_base x (declared_of p) this fresh.1) p q fresh.0 r)
 
 -- READING A BOUND NAME AGAIN
 
@@ -112,9 +113,9 @@ module _ (w : World) where
 
 pub law_reread_proof : LawReread
 law_reread_proof p q r this moves callable =
-    let w = world_of this (names_of p) in
-    same_run no_frame (is_declared (names_of p)) (λ x e. refl) callable (value_alike no_frame w w (same_world w) (meaning w p) (meaning w q)
-    (near_like no_frame w w (same_world w) (Unnamed (bad_names none_hidden none_hidden) (RereadRow (is_declared (names_of p)))) (λ n a b h. reread_base w n a b h.0) (near_place (bad_names none_hidden none_hidden) (RereadRow (is_declared (names_of p))) r (none_touched p all_of_it))).evaluation _ _ (agree_self (state (cells_of (names_of p)) moves [])))
+    let w = world_of this (declared_of p) in
+    same_run no_frame (is_declared (declared_of p)) (λ x e. refl) callable (value_alike no_frame w w (same_world w) (meaning w p) (meaning w q)
+    (near_like no_frame w w (same_world w) (Unnamed (bad_names none_hidden none_hidden) (RereadRow (is_declared (declared_of p)))) (λ n a b h. reread_base w n a b h.0) (near_place (bad_names none_hidden none_hidden) (RereadRow (is_declared (declared_of p))) r (none_touched p all_of_it))).evaluation _ _ (agree_self (state (cells_of (declared_of p)) moves [])))
 
 -- OPTIONAL MEMBERS
 
@@ -141,7 +142,7 @@ module _ (x : Text) (ds : List Declared) (this : Value) (not_math : bytes_eq (co
       })
 
 pub law_optional_member_proof : LawOptionalMember
-law_optional_member_proof x p q fresh r = open_run x p q fresh (λ this. open_alike x (names_of p) this fresh.1 (OptionalMemberRow x) (optional_member_base x (names_of p) this fresh.1) p q fresh.0 r)
+law_optional_member_proof x p q fresh r = open_run x p q fresh (λ this. open_alike x (declared_of p) this fresh.1 (OptionalMemberRow x) (optional_member_base x (declared_of p) this fresh.1) p q fresh.0 r)
 
 -- MANY STEPS
 
@@ -181,4 +182,4 @@ steps_alike counts (by_optional_member {ds = ds} {p = p} {q = q} {x = x} fresh o
     same_run_trans counts _ _ _ one (steps_alike counts rest (λ y e. still_declared x ds y (ok y e)) this moves (still_callable counts _ _ one callable))
 
 pub law_steps_proof : LawSteps
-law_steps_proof p r es h = steps_alike (is_declared (names_of p)) h (λ y e. e)
+law_steps_proof p r es h = steps_alike (is_declared (declared_of p)) h (λ y e. e)

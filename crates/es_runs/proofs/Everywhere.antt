@@ -8,7 +8,8 @@ use Rattle.es_tree.specs.declared.ast_type.AstType.TheVariants.{Program, Express
 use Rattle.es_tree.specs.Tree.{node}
 use Rattle.es_runs.specs.Machine.{Value}
 use Rattle.es_runs.specs.Machine.Value.{null, boolean, number, bigint, text}
-use Rattle.es_runs.specs.Core.{World, Meaning, value, literal, name, Part, first, second, flag, flag_after, of_one, of_two, of_three, of_many, of_one_many, of_declarator, of_program, number_form, meaning_of, meaning, parts, part, meanings}
+use Rattle.es_tree.specs.Names.{first_text as first}
+use Rattle.es_runs.specs.Core.{World, Meaning, value, literal, name, Part, second, flag, flag_after, of_one, of_two, of_three, of_many, of_one_many, of_declarator, of_program, number_form, meaning_of, meaning, parts, part, meanings}
 use Rattle.es_runs.specs.Core.Part.{absent, single, several}
 use Rattle.es_runs.specs.Core.Form.{other, null_form}
 use Rattle.es_runs.specs.Alike.{Frame, SameWorld, Level, Need, Like, LikeAt, needs, bad_names, is_bad, Near, NearFields, NearField, NearNodes}

@@ -18,7 +18,7 @@ use Rattle.es_runs.specs.Alike.Agree.{agree}
 use Rattle.es_runs.specs.Alike.Same.{both_give, both_stop, outside}
 use Rattle.es_runs.specs.Alike.Equal.{equal}
 use Rattle.es_runs.specs.Alike.SameReference.{same_name, same_property, same_plain}
-use Rattle.es_runs.specs.Runs.{Declared, names_of, cells_of, world_of, outcome, SameRun, is_declared, stands, only, var_statement, program, LawFresh, EvaluateAlike, Swaps, none_hidden, Swapped, LawPlace}
+use Rattle.es_runs.specs.Runs.{Declared, declared_of, cells_of, world_of, outcome, SameRun, is_declared, stands, only, var_statement, program, LawFresh, EvaluateAlike, Swaps, none_hidden, Swapped, LawPlace}
 use Rattle.es_runs.specs.Runs.Outcome.{called_uncallable}
 use Rattle.es_runs.specs.Runs.Swaps.{swaps}
 use Rattle.es_runs.proofs.Basic.{value_alike}
@@ -97,7 +97,7 @@ agree_self (state c ms qs) = agree (λ x e. refl) (λ x e. cc) (λ x e. cc)
 
 pub law_place_proof : LawPlace
 law_place_proof need e d p q h alike form names this moves callable =
-    rw names (same_run no_frame (is_declared (names_of p)) (λ x k. refl) callable (swapped_alike need e d alike form (world_of this (names_of p)) p q h _ _ (agree_self (state (cells_of (names_of p)) moves []))))
+    rw names (same_run no_frame (is_declared (declared_of p)) (λ x k. refl) callable (swapped_alike need e d alike form (world_of this (declared_of p)) p q h _ _ (agree_self (state (cells_of (declared_of p)) moves []))))
 
 -- FRESH NAMES
 
@@ -106,10 +106,10 @@ bytes_eq-equal a b h = search (rules, bytes_eq-Decides)
 
 module _ (x : Text) (l : Label) (ds body : Trees) (nowhere : stands x (program l ds body) ≡ false) (not_math : bytes_eq (codes "Math") x ≡ false) (this : Value) where
   abbrev old_names : List Declared
-  old_names = names_of (program l ds body)
+  old_names = declared_of (program l ds body)
 
   abbrev new_names : List Declared
-  new_names = names_of (program l ds (var_statement x before body))
+  new_names = declared_of (program l ds (var_statement x before body))
 
   abbrev old_world : World
   old_world = world_of this old_names
@@ -144,4 +144,4 @@ module _ (x : Text) (l : Label) (ds body : Trees) (nowhere : stands x (program l
 
 pub law_fresh_proof : LawFresh
 law_fresh_proof x l ds body nowhere not_math undeclared this moves callable =
-    same_run (set_cells (only x)) (is_declared (names_of (program l ds body))) (counted_hides x l ds body nowhere not_math this undeclared) callable (program_alike x l ds body nowhere not_math this _ _ (first_cells x l ds body nowhere not_math this moves))
+    same_run (set_cells (only x)) (is_declared (declared_of (program l ds body))) (counted_hides x l ds body nowhere not_math this undeclared) callable (program_alike x l ds body nowhere not_math this _ _ (first_cells x l ds body nowhere not_math this moves))

@@ -17,7 +17,8 @@ use Rattle.es_runs.specs.Machine.State.{state}
 use Rattle.es_runs.specs.Machine.Stop.{cut, uncallable, throws, waits, unknown}
 use Rattle.es_runs.specs.Machine.Cell.{unset, holds}
 use Rattle.es_runs.specs.Machine.Result.{gives, stops}
-use Rattle.es_runs.specs.Core.{World, Binding, Reference, Meaning, Form, value, values, get_value, put_value, read_cell, write_name, change_cell, keep_cell, gives_value, nothing, key, member, receiver, run_call, plain_call, apply_call, apply_bind, method_call, unmarked_call, call_value, call_of, closed_result, chain, typeof_name, typeof_value, delete_value, UnaryClass, unary_by, unary_class, is_equality, asked_binary, equality, goes_right, logical, conditional, last_value, AssignClass, assigned, assign_class, without_last, update_at, in_order, initialise, settle, declared, Part, of_one, of_two, of_three, of_many, of_one_many, of_declarator, of_program, meaning_of, meaning, parts, part, meanings, first, second, flag, flag_after}
+use Rattle.es_tree.specs.Names.{first_text as first}
+use Rattle.es_runs.specs.Core.{World, Binding, Reference, Meaning, Form, value, values, get_value, put_value, read_cell, write_name, change_cell, keep_cell, gives_value, nothing, key, member, receiver, run_call, plain_call, apply_call, apply_bind, method_call, unmarked_call, call_value, call_of, closed_result, chain, typeof_name, typeof_value, delete_value, UnaryClass, unary_by, unary_class, is_equality, asked_binary, equality, goes_right, logical, conditional, last_value, AssignClass, assigned, assign_class, without_last, update_at, in_order, initialise, settle, declared, Part, of_one, of_two, of_three, of_many, of_one_many, of_declarator, of_program, meaning_of, meaning, parts, part, meanings, second, flag, flag_after}
 use Rattle.es_runs.specs.Core.UnaryClass.{typeof_class, delete_class, void_class, not_class, asked_class}
 use Rattle.es_runs.specs.Core.AssignClass.{plainly, logically, compound}
 use Rattle.es_runs.specs.Core.Binding.{free, changeable, constant}

@@ -2,7 +2,7 @@
 use Rattle.std.proofs.Common.{◌≡◌, refl, List, ◌∙◌}
 use Rattle.std.specs.Prelude.{Bool, true, false, codes, if◌then◌else◌, not}
 use Rattle.es_tree.specs.Words.{Text}
-use Rattle.es_tree.specs.Tree.{Tree}
+use Rattle.es_tree.specs.Tree.{Tree, Label}
 use Rattle.es_runs.specs.Machine.{Value, M, onward, return, State, Stop, Result, Cell, Move, Question, with_cell, is_set, is_null, is_true}
 use Rattle.es_runs.specs.Machine.Value.{undefined, null, boolean, number, unset_error}
 use Rattle.es_runs.specs.Machine.State.{state}
@@ -31,8 +31,8 @@ abbrev stored : World → Text → Meaning → Meaning
 stored v x a = parenthesized (assignment v (codes "=") (name x) a)
 
 -- the whole that a node stands for
-made_as : (v : World) (x : Text) (l r : Tree) → meaning v (tested_by x l r) ≡ tested_meaning v (stored v x (meaning v l)) (name x) (meaning v r)
-made_as v x l r = refl
+made_as : (v : World) (m : Label) (x : Text) (l r : Tree) → meaning v (tested_by m x l r) ≡ tested_meaning v (stored v x (meaning v l)) (name x) (meaning v r)
+made_as v m x l r = refl
 
 -- the evaluation of what is made, from the result of l
 abbrev after_store : World → Text → Result Value → Result Value

@@ -15,7 +15,8 @@ use Rattle.es_runs.specs.Alike.Near.{here, within}
 use Rattle.es_runs.specs.Alike.NearFields.{near_then}
 use Rattle.es_runs.specs.Alike.NearField.{near_one, near_many, near_statements}
 use Rattle.es_runs.specs.Alike.NearNodes.{near_before}
-use Rattle.es_runs.specs.Core.{first}
+use Rattle.es_tree.specs.Names.{first_text as first}
+use Rattle.es_runs.specs.Core.{}
 use Rattle.es_runs.specs.Runs.{none_hidden}
 use Rattle.es_runs.specs.Rules.{OnePlace, OneField, InField, OneNode}
 use Rattle.es_runs.specs.Rules.OnePlace.{this_place, below}

@@ -16,7 +16,8 @@ use Rattle.es_runs.specs.Machine.{Value, ◌>>=◌, Question, Move, Cell, State,
 use Rattle.es_runs.specs.Machine.State.{state}
 use Rattle.es_runs.specs.Machine.Stop.{uncallable}
 use Rattle.es_runs.specs.Machine.Result.{gives, stops}
-use Rattle.es_runs.specs.Core.{World, Reference, Meaning, value, first, flag, is_equality, UnaryClass, unary_class, Called, callee_from}
+use Rattle.es_tree.specs.Names.{first_text as first}
+use Rattle.es_runs.specs.Core.{World, Reference, Meaning, value, flag, is_equality, UnaryClass, unary_class, Called, callee_from}
 use Rattle.es_runs.specs.Core.UnaryClass.{typeof_class, delete_class, void_class}
 use Rattle.es_runs.specs.Core.Reference.{named, property, plain}
 

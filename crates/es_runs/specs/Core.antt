@@ -1,6 +1,7 @@
 -- What each kind of core expression means: ECMA-262's evaluation, as a computation that gives a reference.
 use Rattle.std.specs.Prelude.{Bool, true, false, Option, None, Some, List, [], ◌∷◌, bytes_eq, if◌then◌else◌, codes, ◌&&◌, ◌||◌, not}
 use Rattle.es_tree.specs.Words.{Text}
+use Rattle.es_tree.specs.Names.{first_text as first}
 use Rattle.es_tree.specs.declared.ast_type.AstType.{AstType}
 use Rattle.es_tree.specs.Tree.{Tree, Fields, Field, Trees}
 use Rattle.es_tree.specs.declared.ast_type.AstType.TheVariants.{Program, ExpressionStatement, VariableDeclaration, VariableDeclarator, Identifier, ThisExpression, NullLiteral, BooleanLiteral, NumericLiteral, BigIntLiteral, StringLiteral, UnaryExpression, UpdateExpression, BinaryExpression, LogicalExpression, ConditionalExpression, AssignmentExpression, SequenceExpression, MemberExpression, CallExpression, NewExpression, ChainExpression, ParenthesizedExpression}
@@ -353,11 +354,6 @@ pub data Part : Type 0 where
   absent : Part
   single : Meaning → Part
   several : List Meaning → Part
-
-abbrev pub first : List (Option Text) → Text
-first [] = []
-first (None ∷ ts) = []
-first (Some t ∷ ts) = t
 
 abbrev pub second : List (Option Text) → Text
 second [] = []

@@ -9,9 +9,10 @@ use Rattle.es_tree.specs.Tree.{done, ◌then◌}
 use Rattle.es_tree.specs.Tree.{missing, one, many, statements}
 use Rattle.es_tree.specs.Tree.{empty, ◌before◌}
 use Rattle.es_runs.specs.Machine.{Value, Move}
-use Rattle.es_runs.specs.Core.{first, flag, flag_after}
+use Rattle.es_tree.specs.Names.{first_text as first}
+use Rattle.es_runs.specs.Core.{flag, flag_after}
 use Rattle.es_runs.specs.Alike.{Need, needs, all_of_it, value_and_form}
-use Rattle.es_runs.specs.Runs.{made, identifier, Declared, names_of, run, run_with, outcome, SameRun, is_declared, stands}
+use Rattle.es_runs.specs.Runs.{made, identifier, Declared, declared_of, run, run_with, outcome, SameRun, is_declared, stands}
 use Rattle.es_runs.specs.Runs.Outcome.{called_uncallable}
 
 abbrev pub parenthesized_node : Tree → Tree
@@ -35,15 +36,22 @@ assign_node l r = node AssignmentExpression (made (Some (codes "=") ∷ []) []) 
 abbrev pub conditional_node : Tree → Tree → Tree → Tree
 conditional_node t a b = node ConditionalExpression (made [] []) (one t then one a then one b then done)
 
+abbrev pub conditional_at : Label → Tree → Tree → Tree → Tree
+conditional_at m t a b = node ConditionalExpression m (one t then one a then one b then done)
+
+-- the label of a node that takes the place of another: it has that one's span
+abbrev pub in_place_of : Label → Label
+in_place_of m = record (made [] []) { start = m.start; stop = m.stop }
+
 -- NULLISH COALESCING
 
 -- `first !== null && again !== void 0 ? again : r`
-abbrev pub tested : Tree → Tree → Tree → Tree
-tested begin again r = conditional_node (logical_node (codes "&&") (binary_node (codes "!==") begin null_node) (binary_node (codes "!==") again void_zero_node)) again r
+abbrev pub tested : Label → Tree → Tree → Tree → Tree
+tested m begin again r = conditional_at (in_place_of m) (logical_node (codes "&&") (binary_node (codes "!==") begin null_node) (binary_node (codes "!==") again void_zero_node)) again r
 
 -- `(x = l) !== null && x !== void 0 ? x : r`; the parentheses are for reading
-abbrev pub tested_by : Text → Tree → Tree → Tree
-tested_by x l r = tested (assign_node (identifier x) l) (identifier x) r
+abbrev pub tested_by : Label → Text → Tree → Tree → Tree
+tested_by m x l r = tested m (assign_node (identifier x) l) (identifier x) r
 
 -- A rule at one place of a tree: all else stays.
 mutual
@@ -66,29 +74,29 @@ mutual
 
 -- the row of `??` with a temporary x
 pub data NullishRow (x : Text) : Need → Tree → Tree → Type 0 where
-  nullish_row : {n : Need} {m : Label} {l r : Tree} → m.texts ≡ Some (codes "??") ∷ [] → NullishRow x n (node LogicalExpression m (one l then one r then done)) (tested_by x l r)
+  nullish_row : {n : Need} {m : Label} {l r : Tree} → m.texts ≡ Some (codes "??") ∷ [] → NullishRow x n (node LogicalExpression m (one l then one r then done)) (tested_by m x l r)
 
 -- the row of `??` with a left side that is a bound name, or `this`
 pub data RereadRow (bound : Text → Bool) : Need → Tree → Tree → Type 0 where
-  name_row : {n : Need} {m o : Label} {fs : Fields} {r : Tree} → m.texts ≡ Some (codes "??") ∷ [] → bound (first o.texts) ≡ true → RereadRow bound n (node LogicalExpression m (one (node Identifier o fs) then one r then done)) (tested (node Identifier o fs) (node Identifier o fs) r)
-  this_row : {n : Need} {m o : Label} {fs : Fields} {r : Tree} → m.texts ≡ Some (codes "??") ∷ [] → RereadRow bound n (node LogicalExpression m (one (node ThisExpression o fs) then one r then done)) (tested (node ThisExpression o fs) (node ThisExpression o fs) r)
+  name_row : {n : Need} {m o : Label} {fs : Fields} {r : Tree} → m.texts ≡ Some (codes "??") ∷ [] → bound (first o.texts) ≡ true → RereadRow bound n (node LogicalExpression m (one (node Identifier o fs) then one r then done)) (tested m (node Identifier o fs) (node Identifier o fs) r)
+  this_row : {n : Need} {m o : Label} {fs : Fields} {r : Tree} → m.texts ≡ Some (codes "??") ∷ [] → RereadRow bound n (node LogicalExpression m (one (node ThisExpression o fs) then one r then done)) (tested m (node ThisExpression o fs) (node ThisExpression o fs) r)
 
 -- An open program runs with one more cell for the pending declarator of x.
 abbrev pub pending : Text → List Declared → List Declared
 pending x ds = record { name = x; kind = codes "var" } ∷ ds
 
 abbrev pub OpenAlike : Text → Tree → Tree → Type 0
-OpenAlike x p q = (this : Value) (moves : List Move) → (outcome (run p this moves) ≡ called_uncallable → ⊥) → SameRun (is_declared (names_of p)) (run p this moves) (run_with (pending x (names_of p)) q this moves)
+OpenAlike x p q = (this : Value) (moves : List Move) → (outcome (run p this moves) ≡ called_uncallable → ⊥) → SameRun (is_declared (declared_of p)) (run p this moves) (run_with (pending x (declared_of p)) q this moves)
 
 abbrev pub IsFresh : Text → Tree → Type 0
-IsFresh x p = (stands x p ≡ false) × (bytes_eq (codes "Math") x ≡ false) × (is_declared (names_of p) x ≡ false)
+IsFresh x p = (stands x p ≡ false) × (bytes_eq (codes "Math") x ≡ false) × (is_declared (declared_of p) x ≡ false)
 
 -- A step of nullish coalescing keeps the runs, at any place of any program.
 abbrev pub LawNullish : Type 0
 LawNullish = (x : Text) (p q : Tree) → IsFresh x p → OnePlace (NullishRow x) all_of_it p q → OpenAlike x p q
 
 abbrev pub LawReread : Type 0
-LawReread = (p q : Tree) → OnePlace (RereadRow (is_declared (names_of p))) all_of_it p q → (this : Value) (moves : List Move) → (outcome (run p this moves) ≡ called_uncallable → ⊥) → SameRun (is_declared (names_of p)) (run p this moves) (run_with (names_of p) q this moves)
+LawReread = (p q : Tree) → OnePlace (RereadRow (is_declared (declared_of p))) all_of_it p q → (this : Value) (moves : List Move) → (outcome (run p this moves) ≡ called_uncallable → ⊥) → SameRun (is_declared (declared_of p)) (run p this moves) (run_with (declared_of p) q this moves)
 
 -- OPTIONAL MARKS
 
@@ -154,4 +162,4 @@ pub data Reaches : List Declared → Tree → List Declared → Tree → Type 0 
 
 -- Whatever steps are taken, source and result run alike, where the result has a cell for each pending declarator.
 abbrev pub LawSteps : Type 0
-LawSteps = (p r : Tree) (es : List Declared) → Reaches (names_of p) p es r → (this : Value) (moves : List Move) → (outcome (run p this moves) ≡ called_uncallable → ⊥) → SameRun (is_declared (names_of p)) (run p this moves) (run_with es r this moves)
+LawSteps = (p r : Tree) (es : List Declared) → Reaches (declared_of p) p es r → (this : Value) (moves : List Move) → (outcome (run p this moves) ≡ called_uncallable → ⊥) → SameRun (is_declared (declared_of p)) (run p this moves) (run_with es r this moves)

@@ -14,7 +14,8 @@ use Rattle.es_runs.specs.Machine.Cell.{unset, holds}
 use Rattle.es_runs.specs.Machine.State.{state}
 use Rattle.es_runs.specs.Machine.Stop.{throws, waits, uncallable}
 use Rattle.es_runs.specs.Machine.Result.{gives, stops}
-use Rattle.es_runs.specs.Core.{World, Binding, value, meaning, first, is_free}
+use Rattle.es_tree.specs.Names.{first_text as first}
+use Rattle.es_runs.specs.Core.{World, Binding, value, meaning, is_free}
 use Rattle.es_runs.specs.Core.Binding.{free, changeable, constant}
 use Rattle.es_runs.specs.Alike.{Level, Need, all_of_it, Near, touches, bad_names}
 use Rattle.es_runs.specs.Alike.Level.{no_evaluation, value_alone, whole_reference, a_callee, a_target}
@@ -55,8 +56,8 @@ abbrev pub program_names : Fields → List Declared
 program_names (ds then statements body then fs) = declared_in_body body
 program_names _ = []
 
-abbrev pub names_of : Tree → List Declared
-names_of (node k l fs) = program_names fs
+abbrev pub declared_of : Tree → List Declared
+declared_of (node k l fs) = program_names fs
 
 abbrev pub binding_of : Text → Binding
 binding_of kind = if bytes_eq kind (codes "const") then constant else changeable
@@ -82,7 +83,7 @@ abbrev pub run_with : List Declared → Tree → Value → List Move → Result 
 run_with ds p this moves = let w = world_of this ds in value w (meaning w p) (state (cells_of ds) moves [])
 
 abbrev pub run : Tree → Value → List Move → Result Value
-run p = run_with (names_of p) p
+run p = run_with (declared_of p) p
 
 pub data Outcome : Type 0 where
   finished : Outcome
@@ -117,7 +118,7 @@ is_declared ds x = not (is_free (scope_of ds x))
 
 -- Source and output run alike: for each value of `this` and list of moves, unless the source calls what isn't callable.
 abbrev pub RunAlike : Tree → Tree → Type 0
-RunAlike p q = (this : Value) (moves : List Move) → (outcome (run p this moves) ≡ called_uncallable → ⊥) → SameRun (is_declared (names_of p)) (run p this moves) (run q this moves)
+RunAlike p q = (this : Value) (moves : List Move) → (outcome (run p this moves) ≡ called_uncallable → ⊥) → SameRun (is_declared (declared_of p)) (run p this moves) (run q this moves)
 
 -- FRESH NAMES
 
@@ -151,7 +152,7 @@ program l directives body = node Program l (many directives then statements body
 
 -- A `var` of a name that stands nowhere keeps the runs.
 abbrev pub LawFresh : Type 0
-LawFresh = (x : Text) (l : Label) (ds body : Trees) → stands x (program l ds body) ≡ false → bytes_eq (codes "Math") x ≡ false → is_declared (names_of (program l ds body)) x ≡ false → RunAlike (program l ds body) (program l ds (var_statement x before body))
+LawFresh = (x : Text) (l : Label) (ds body : Trees) → stands x (program l ds body) ≡ false → bytes_eq (codes "Math") x ≡ false → is_declared (declared_of (program l ds body)) x ≡ false → RunAlike (program l ds body) (program l ds (var_statement x before body))
 
 -- e and d evaluate alike at what a place takes
 abbrev pub EvaluateAlike : Level → Tree → Tree → Type 0
@@ -170,4 +171,4 @@ Swapped need e d p q = Near (bad_names none_hidden none_hidden) (Swaps need e d)
 
 -- Replacing an expression by one that evaluates alike, at what the place takes of it, keeps the runs.
 abbrev pub LawPlace : Type 0
-LawPlace = (need : Need) (e d p q : Tree) → Swapped need e d p q → EvaluateAlike need.level e d → ((w : World) → need.form ≡ true → (meaning w d).form ≡ (meaning w e).form) → names_of q ≡ names_of p → RunAlike p q
+LawPlace = (need : Need) (e d p q : Tree) → Swapped need e d p q → EvaluateAlike need.level e d → ((w : World) → need.form ≡ true → (meaning w d).form ≡ (meaning w e).form) → declared_of q ≡ declared_of p → RunAlike p q

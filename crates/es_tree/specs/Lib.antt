@@ -18,3 +18,4 @@ pub mod Names
 pub mod Fresh
 pub mod FirstPath
 pub mod Reads
+pub mod Core
