@@ -5,6 +5,7 @@
 pub mod ast_type;
 pub mod attributes;
 pub mod builder;
+pub mod error;
 pub mod ids;
 pub mod kind;
 pub mod node;
