@@ -3,3 +3,4 @@ pub mod Core
 pub mod Alike
 pub mod Runs
 pub mod Rules
+pub mod Steps

@@ -23,8 +23,16 @@ abbrev pub no_flag : List Bool → Bool
 no_flag [] = true
 no_flag (b ∷ bs) = not b && no_flag bs
 
+abbrev pub has_two_children : Fields → Bool
+has_two_children (one a then (one b then done)) = true
+has_two_children _ = false
+
+abbrev pub has_two_lists : Fields → Bool
+has_two_lists (many ds then (statements body then done)) = true
+has_two_lists _ = false
+
 abbrev pub is_first_path_node : AstType → Label → Fields → Bool
-is_first_path_node Program l fs = bytes_eq (first_text l.texts) (codes "script")
+is_first_path_node Program l fs = bytes_eq (first_text l.texts) (codes "script") && has_two_lists fs
 is_first_path_node ExpressionStatement l fs = true
 is_first_path_node Identifier l fs = true
 is_first_path_node ThisExpression l fs = true
@@ -33,9 +41,13 @@ is_first_path_node BooleanLiteral l fs = true
 is_first_path_node NumericLiteral l fs = true
 is_first_path_node StringLiteral l fs = true
 is_first_path_node MemberExpression l fs = no_flag l.flags
-is_first_path_node LogicalExpression l fs = bytes_eq (first_text l.texts) (codes "??")
+is_first_path_node LogicalExpression l fs = bytes_eq (first_text l.texts) (codes "??") && has_two_children fs
 is_first_path_node AssignmentExpression l fs = bytes_eq (first_text l.texts) (codes "=") && assigns_simply fs
 is_first_path_node _ l fs = false
 
+abbrev pub is_program : Tree → Bool
+is_program (node Program l fs) = true
+is_program _ = false
+
 abbrev pub is_first_path : Tree → Bool
-is_first_path t = all_nodes is_first_path_node t
+is_first_path t = is_program t && all_nodes is_first_path_node t

@@ -19,3 +19,4 @@ pub mod Fresh
 pub mod FirstPath
 pub mod Reads
 pub mod Core
+pub mod Constructs
