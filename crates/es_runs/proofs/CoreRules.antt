@@ -86,7 +86,7 @@ module _ (x : Text) (ds : List Declared) (this : Value) (not_math : bytes_eq (co
   abbrev bad_here : Level → Text → Bool
   bad_here = bad_names (only x) none_hidden
 
-  nullish_base : (n : Need) (a b : Tree) → Unnamed (bad_names (only x) none_hidden) (NullishRow x) n a b → Like (set_cells (only x)) w v n (meaning w a) (meaning v b)
+  pub nullish_base : (n : Need) (a b : Tree) → Unnamed (bad_names (only x) none_hidden) (NullishRow x) n a b → Like (set_cells (only x)) w v n (meaning w a) (meaning v b)
   nullish_base n _ _ (nullish_row {m = lab} {l = l} {r = r} e, h) =
       let left = unnamed_value x ds this not_math l (or_left (touches bad_here the_value l) (touches bad_here the_value r || false) h) in
       let right = unnamed_value x ds this not_math r (or_left (touches bad_here the_value r) false (or_right (touches bad_here the_value l) (touches bad_here the_value r || false) h)) in
@@ -146,10 +146,10 @@ law_optional_member_proof x p q fresh r = open_run x p q fresh (λ this. open_al
 
 -- MANY STEPS
 
-same_run_trans : (counts : Text → Bool) (a b c : Result Value) → SameRun counts a b → SameRun counts b c → SameRun counts a c
+pub same_run_trans : (counts : Text → Bool) (a b c : Result Value) → SameRun counts a b → SameRun counts b c → SameRun counts a c
 same_run_trans counts a b c h g = record { outcomes = g.outcomes ∙ h.outcomes; questions = g.questions ∙ h.questions; final_cells = λ x e. g.final_cells x e ∙ h.final_cells x e }
 
-still_declared : (x : Text) (ds : List Declared) (y : Text) → is_declared ds y ≡ true → is_declared (pending x ds) y ≡ true
+pub still_declared : (x : Text) (ds : List Declared) (y : Text) → is_declared ds y ≡ true → is_declared (pending x ds) y ≡ true
 still_declared x ds y h = at (bytes_eq y x)
   where
     at : (b : Bool) → not (is_free (if b then changeable else scope_of ds y)) ≡ true
@@ -157,7 +157,7 @@ still_declared x ds y h = at (bytes_eq y x)
     at false = h
 
 -- one step from an open program
-open_step : (x : Text) (ds : List Declared) (R : Need → Tree → Tree → Type 0) → ((this : Value) (m : bytes_eq (codes "Math") x ≡ false) (n : Need) (a b : Tree) → Unnamed (bad_names (only x) none_hidden) R n a b → Like (set_cells (only x)) (before x ds this m) (after x ds this m) n (meaning (before x ds this m) a) (meaning (after x ds this m) b)) → (p q : Tree) → IsFreshFor ds x p → OnePlace R all_of_it p q → (counts : Text → Bool) → ((y : Text) → counts y ≡ true → is_declared ds y ≡ true) → (this : Value) (moves : List Move) → (outcome (run_with ds p this moves) ≡ called_uncallable → ⊥) → SameRun counts (run_with ds p this moves) (run_with (pending x ds) q this moves)
+pub open_step : (x : Text) (ds : List Declared) (R : Need → Tree → Tree → Type 0) → ((this : Value) (m : bytes_eq (codes "Math") x ≡ false) (n : Need) (a b : Tree) → Unnamed (bad_names (only x) none_hidden) R n a b → Like (set_cells (only x)) (before x ds this m) (after x ds this m) n (meaning (before x ds this m) a) (meaning (after x ds this m) b)) → (p q : Tree) → IsFreshFor ds x p → OnePlace R all_of_it p q → (counts : Text → Bool) → ((y : Text) → counts y ≡ true → is_declared ds y ≡ true) → (this : Value) (moves : List Move) → (outcome (run_with ds p this moves) ≡ called_uncallable → ⊥) → SameRun counts (run_with ds p this moves) (run_with (pending x ds) q this moves)
 open_step x ds R base p q fresh r counts ok this moves callable = same_run (set_cells (only x)) counts (λ y e. counted x ds fresh.2 y (ok y e)) callable (open_alike x ds this fresh.1 R (base this fresh.1) p q fresh.0 r _ _ (one_more_cell x ds this fresh.1 moves))
 
 reread_step : (ds : List Declared) (p q : Tree) → OnePlace (RereadRow (is_declared ds)) all_of_it p q → (counts : Text → Bool) (this : Value) (moves : List Move) → (outcome (run_with ds p this moves) ≡ called_uncallable → ⊥) → SameRun counts (run_with ds p this moves) (run_with ds q this moves)
@@ -166,7 +166,7 @@ reread_step ds p q r counts this moves callable =
     same_run no_frame counts (λ x e. refl) callable (value_alike no_frame w w (same_world w) (meaning w p) (meaning w q)
     (near_like no_frame w w (same_world w) (Unnamed (bad_names none_hidden none_hidden) (RereadRow (is_declared ds))) (λ n a b h. reread_base w n a b h.0) (near_place (bad_names none_hidden none_hidden) (RereadRow (is_declared ds)) r (none_touched p all_of_it))).evaluation _ _ (agree_self (state (cells_of ds) moves [])))
 
-still_callable : (counts : Text → Bool) (a b : Result Value) → SameRun counts a b → (outcome a ≡ called_uncallable → ⊥) → outcome b ≡ called_uncallable → ⊥
+pub still_callable : (counts : Text → Bool) (a b : Result Value) → SameRun counts a b → (outcome a ≡ called_uncallable → ⊥) → outcome b ≡ called_uncallable → ⊥
 still_callable counts a b h callable e = callable (sym h.outcomes ∙ e)
 
 steps_alike : (counts : Text → Bool) {ds es : List Declared} {p r : Tree} → Reaches ds p es r → ((y : Text) → counts y ≡ true → is_declared ds y ≡ true) → (this : Value) (moves : List Move) → (outcome (run_with ds p this moves) ≡ called_uncallable → ⊥) → SameRun counts (run_with ds p this moves) (run_with es r this moves)

@@ -15,3 +15,7 @@ pub mod Steps
 pub mod Laws
 pub mod CoreRules
 pub mod Examples
+pub mod Named
+pub mod Kept
+pub mod BareTrees
+pub mod Written

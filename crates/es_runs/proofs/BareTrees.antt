@@ -1,0 +1,121 @@
+-- Ids and marks mean nothing: a bare tree has the meaning, the declared names and the names of the tree.
+use Rattle.std.proofs.Common.{◌≡◌, ℕ, zero, suc, refl, ap, ◌∙◌, List, [], ◌∷◌, ◌++◌, Option}
+use Rattle.std.specs.Prelude.{Bool, true, false, if◌then◌else◌}
+use Rattle.es_tree.specs.Words.{Text}
+use Rattle.es_tree.specs.Bare.{bare, bare_label, bare_fields, bare_field, bare_trees}
+use Rattle.es_tree.specs.Names.{first_text, names_if, names_in_fields, names_in_field, names_in_trees, own_name, is_name_place, is_reexport, third_stands}
+use Rattle.es_tree.specs.Tree.{Tree, node, Label, Fields, done, ◌then◌, Field, missing, one, many, statements, Trees, empty, ◌before◌}
+use Rattle.es_tree.specs.declared.ast_type.AstType.{AstType}
+use Rattle.es_tree.specs.declared.ast_type.AstType.TheVariants.{VariableDeclaration, ExportNamedDeclaration, Identifier, MemberExpression}
+use Rattle.es_runs.specs.Machine.{Value, Move, Result}
+use Rattle.es_runs.specs.Core.{World, Meaning, Part, meaning, meanings, part, parts, meaning_of, absent, single, several}
+use Rattle.es_runs.specs.Runs.{Declared, declared_of, program_names, declared_in_body, declared_by, declared_in, declared_names, declarator_name, name_in, run, run_with}
+
+mutual
+  pub meaning-bare : (w : World) (t : Tree) → meaning w (bare t) ≡ meaning w t
+  meaning-bare w (node k l fs) = ap (meaning_of w k l.texts l.flags) (parts-bare w fs)
+
+  parts-bare : (w : World) (fs : Fields) → parts w (bare_fields fs) ≡ parts w fs
+  parts-bare w done = refl
+  parts-bare w (f then fs) = λ i. part-bare w f i ∷ parts-bare w fs i
+
+  part-bare : (w : World) (f : Field) → part w (bare_field f) ≡ part w f
+  part-bare w missing = refl
+  part-bare w (one t) = ap single (meaning-bare w t)
+  part-bare w (many ts) = ap several (meanings-bare w ts)
+  part-bare w (statements ts) = ap several (meanings-bare w ts)
+
+  meanings-bare : (w : World) (ts : Trees) → meanings w (bare_trees ts) ≡ meanings w ts
+  meanings-bare w empty = refl
+  meanings-bare w (t before ts) = λ i. meaning-bare w t i ∷ meanings-bare w ts i
+
+name_in-bare : (fs : Fields) → name_in (bare_fields fs) ≡ name_in fs
+name_in-bare done = refl
+name_in-bare (missing then fs) = refl
+name_in-bare (one (node k l gs) then fs) = refl
+name_in-bare (many ts then fs) = refl
+name_in-bare (statements ts then fs) = refl
+
+declarator_name-bare : (t : Tree) → declarator_name (bare t) ≡ declarator_name t
+declarator_name-bare (node k l fs) = name_in-bare fs
+
+declared_names-bare : (kind : Text) (ts : Trees) → declared_names kind (bare_trees ts) ≡ declared_names kind ts
+declared_names-bare kind empty = refl
+declared_names-bare kind (t before ts) = λ i. record { name = declarator_name-bare t i; kind = kind } ∷ declared_names-bare kind ts i
+
+declared_in-bare : (k : AstType) (kind : Text) (fs : Fields) → declared_in k kind (bare_fields fs) ≡ declared_in k kind fs
+declared_in-bare VariableDeclaration kind done = refl
+declared_in-bare VariableDeclaration kind (missing then fs) = refl
+declared_in-bare VariableDeclaration kind (one t then fs) = refl
+declared_in-bare VariableDeclaration kind (many ts then fs) = declared_names-bare kind ts
+declared_in-bare VariableDeclaration kind (statements ts then fs) = refl
+declared_in-bare _ kind fs = refl
+
+declared_by-bare : (t : Tree) → declared_by (bare t) ≡ declared_by t
+declared_by-bare (node k l fs) = declared_in-bare k (first_text l.texts) fs
+
+pub declared_in_body-bare : (ts : Trees) → declared_in_body (bare_trees ts) ≡ declared_in_body ts
+declared_in_body-bare empty = refl
+declared_in_body-bare (t before ts) = λ i. declared_by-bare t i ++ declared_in_body-bare ts i
+
+program_names-bare : (fs : Fields) → program_names (bare_fields fs) ≡ program_names fs
+program_names-bare done = refl
+program_names-bare (f then done) = refl
+program_names-bare (f then (missing then fs)) = refl
+program_names-bare (f then (one t then fs)) = refl
+program_names-bare (f then (many ts then fs)) = refl
+program_names-bare (f then (statements ts then fs)) = declared_in_body-bare ts
+
+pub declared_of-bare : (t : Tree) → declared_of (bare t) ≡ declared_of t
+declared_of-bare (node k l fs) = program_names-bare fs
+
+pub run_with-bare : (ds : List Declared) (t : Tree) (this : Value) (moves : List Move) → run_with ds (bare t) this moves ≡ run_with ds t this moves
+run_with-bare ds t this moves = rw meaning-bare
+
+pub run-bare : (t : Tree) (this : Value) (moves : List Move) → run (bare t) this moves ≡ run t this moves
+run-bare t this moves = ap (λ ds. run_with ds (bare t) this moves) (declared_of-bare t) ∙ run_with-bare (declared_of t) t this moves
+
+third_stands-bare : (fs : Fields) → third_stands (bare_fields fs) ≡ third_stands fs
+third_stands-bare done = refl
+third_stands-bare (a then done) = refl
+third_stands-bare (a then (b then done)) = refl
+third_stands-bare (a then (b then (missing then fs))) = refl
+third_stands-bare (a then (b then (one t then fs))) = refl
+third_stands-bare (a then (b then (many ts then fs))) = refl
+third_stands-bare (a then (b then (statements ts then fs))) = refl
+
+is_reexport-bare : (k : AstType) (fs : Fields) → is_reexport k (bare_fields fs) ≡ is_reexport k fs
+is_reexport-bare ExportNamedDeclaration fs = third_stands-bare fs
+is_reexport-bare _ fs = refl
+
+own_name-bare : (counts : Bool) (k : AstType) (l : Label) → own_name counts k (bare_label l) ≡ own_name counts k l
+own_name-bare true Identifier l = refl
+own_name-bare false Identifier l = refl
+own_name-bare true _ l = refl
+own_name-bare false _ l = refl
+
+is_name_place-bare : (k : AstType) (l : Label) (n : ℕ) → is_name_place k (bare_label l) n ≡ is_name_place k l n
+is_name_place-bare MemberExpression l zero = refl
+is_name_place-bare MemberExpression l (suc zero) = refl
+is_name_place-bare MemberExpression l (suc (suc n)) = refl
+is_name_place-bare _ l zero = refl
+is_name_place-bare _ l (suc zero) = refl
+is_name_place-bare _ l (suc (suc n)) = refl
+
+mutual
+  pub names-bare : (counts : Bool) (t : Tree) → names_if counts (bare t) ≡ names_if counts t
+  names-bare counts (node k l fs) = λ i. own_name-bare counts k l i ++ (if is_reexport-bare k fs i then [] else names_in_fields-bare (λ n. is_name_place-bare k l n i) fs i)
+
+  names_in_fields-bare : (p : ℕ → Bool) (fs : Fields) → names_in_fields p (bare_fields fs) ≡ names_in_fields p fs
+  names_in_fields-bare p done = refl
+  names_in_fields-bare p (f then fs) = λ i. names_in_field-bare (p zero) f i ++ names_in_fields-bare (λ n. p (suc n)) fs i
+
+  names_in_field-bare : (counts : Bool) (f : Field) → names_in_field counts (bare_field f) ≡ names_in_field counts f
+  names_in_field-bare counts missing = refl
+  names_in_field-bare counts (one t) = names-bare counts t
+  names_in_field-bare counts (many ts) = names_in_trees-bare ts
+  names_in_field-bare counts (statements ts) = names_in_trees-bare ts
+
+  names_in_trees-bare : (ts : Trees) → names_in_trees (bare_trees ts) ≡ names_in_trees ts
+  names_in_trees-bare empty = refl
+  names_in_trees-bare (t before ts) = λ i. names-bare true t i ++ names_in_trees-bare ts i

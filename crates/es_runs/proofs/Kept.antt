@@ -1,0 +1,122 @@
+-- What a step of the rule of `??` keeps: a core tree stays one, and its names are those before and the one taken.
+use Rattle.std.proofs.Common.{◌≡◌, ℕ, zero, suc, refl, List, [], ◌∷◌, ◌++◌, Option}
+use Rattle.std.specs.Prelude.{Bool, true, false, ◌||◌, ◌&&◌, bytes_eq, if◌then◌else◌}
+use Rattle.es_tree.specs.Words.{Text}
+use Rattle.es_tree.specs.Names.{names_if, names_in_fields, names_in_field, names_in_trees, own_name, is_name_place, is_reexport}
+use Rattle.es_tree.specs.Fresh.{is_among}
+use Rattle.es_tree.specs.Walks.{all_nodes, all_in_fields, all_in_field, all_in_trees}
+use Rattle.es_tree.specs.Core.{is_core_node, is_core_kind}
+use Rattle.es_tree.specs.Tree.{Tree, node, Label, Fields, done, ◌then◌, Field, missing, one, many, statements, Trees, empty, ◌before◌}
+use Rattle.es_tree.specs.declared.ast_type.AstType.{AstType}
+use Rattle.es_tree.specs.declared.ast_type.AstType.TheVariants.{VariableDeclaration, LogicalExpression}
+use Rattle.es_runs.specs.Alike.{Need, needs}
+use Rattle.es_runs.specs.Rules.{OnePlace, OneField, InField, OneNode, tested_by}
+use Rattle.es_runs.specs.Rules.OnePlace.{this_place, below}
+use Rattle.es_runs.specs.Rules.OneField.{first_field, later_field}
+use Rattle.es_runs.specs.Rules.InField.{in_one, in_many, in_statements}
+use Rattle.es_runs.specs.Rules.OneNode.{first_node, later_node}
+use Rattle.es_runs.specs.Steps.{NullishRule}
+use Rattle.es_runs.specs.Steps.NullishRule.{nullish_rule}
+use Rattle.es_runs.proofs.Named.{and_left, and_right, or_both, or_first, or_second, among-append, among_first, among_second, core_exports}
+
+and_both : (a b : Bool) → a ≡ true → b ≡ true → (a && b) ≡ true
+and_both a b e d = rw (e, d)
+
+-- whether a node is core doesn't depend on its fields
+core_label : (k : AstType) (l : Label) (fs gs : Fields) → is_core_node k l gs ≡ is_core_node k l fs
+core_label VariableDeclaration l fs gs = refl
+core_label _ l fs gs = refl
+
+-- the tree is core, and a name y isn't among its names
+pub record Without (y : Text) (counts : Bool) (t : Tree) : Type 0 where
+  pub core : all_nodes is_core_node t ≡ true
+  pub free : is_among (names_if counts t) y ≡ false
+
+record FieldsWithout (y : Text) (p : ℕ → Bool) (fs : Fields) : Type 0 where
+  core : all_in_fields is_core_node fs ≡ true
+  free : is_among (names_in_fields p fs) y ≡ false
+
+record FieldWithout (y : Text) (counts : Bool) (f : Field) : Type 0 where
+  core : all_in_field is_core_node f ≡ true
+  free : is_among (names_in_field counts f) y ≡ false
+
+record TreesWithout (y : Text) (ts : Trees) : Type 0 where
+  core : all_in_trees is_core_node ts ≡ true
+  free : is_among (names_in_trees ts) y ≡ false
+
+below_names : (counts : Bool) (k : AstType) (l : Label) (fs : Fields) → is_reexport k fs ≡ false → names_if counts (node k l fs) ≡ own_name counts k l ++ names_in_fields (is_name_place k l) fs
+below_names counts k l fs e = rw e
+
+among_both : (xs ys : List Text) (x : Text) → is_among xs x ≡ false → is_among ys x ≡ false → is_among (xs ++ ys) x ≡ false
+among_both xs ys x e d = rw among-append (or_both (is_among xs x) (is_among ys x) e d)
+
+in_row : (x y : Text) (ls rs : List Text) → bytes_eq x y ≡ false → is_among ls y ≡ false → is_among rs y ≡ false → is_among (x ∷ ((((ls ++ []) ++ []) ++ x ∷ []) ++ x ∷ (rs ++ []))) y ≡ false
+in_row x y ls rs e dl dr =
+    let left = among_both ((ls ++ []) ++ []) (x ∷ []) y (among_both (ls ++ []) [] y (among_both ls [] y dl refl) refl) (or_both (bytes_eq x y) false e refl) in
+    let right = or_both (bytes_eq x y) (is_among (rs ++ []) y) e (among_both rs [] y dr refl) in
+    or_both (bytes_eq x y) (is_among ((((ls ++ []) ++ []) ++ x ∷ []) ++ x ∷ (rs ++ [])) y) e (among_both (((ls ++ []) ++ []) ++ x ∷ []) (x ∷ (rs ++ [])) y left right)
+
+-- the made conditional has the names of both sides, and x
+made_free : (m : Label) (x y : Text) (counts : Bool) (l r : Tree) → bytes_eq x y ≡ false → is_among (names_if true l) y ≡ false → is_among (names_if true r) y ≡ false → is_among (names_if counts (tested_by m x l r)) y ≡ false
+made_free m x y true l r e dl dr = in_row x y (names_if true l) (names_if true r) e dl dr
+made_free m x y false l r e dl dr = in_row x y (names_if true l) (names_if true r) e dl dr
+
+module _ (in_use : Text → Bool) (x y : Text) (other : bytes_eq x y ≡ false) where
+  mutual
+    pub step_without : {n : Need} {t u : Tree} (counts : Bool) → OnePlace (NullishRule in_use x) n t u → Without y counts t → Without y counts u
+    step_without counts (this_place (nullish_rule {m = m} {l = l} {r = r} texts fresh)) h =
+        let core_both : (all_nodes is_core_node l && (all_nodes is_core_node r && true)) ≡ true = h.core in
+        let core_l = and_left (all_nodes is_core_node l) (all_nodes is_core_node r && true) core_both in
+        let core_r = and_left (all_nodes is_core_node r) true (and_right (all_nodes is_core_node l) (all_nodes is_core_node r && true) core_both) in
+        let free_both : is_among (names_if true l ++ (names_if true r ++ [])) y ≡ false = at counts h.free in
+        let free_l = among_first (names_if true l) (names_if true r ++ []) y free_both in
+        let free_r = among_first (names_if true r) [] y (among_second (names_if true l) (names_if true r ++ []) y free_both) in
+        record {
+          core = simp (core_l, core_r);
+          free = made_free m x y counts l r other free_l free_r;
+        }
+      where
+        at : (c : Bool) → is_among (names_if c (node LogicalExpression m (one l then (one r then done)))) y ≡ false → is_among (names_if true l ++ (names_if true r ++ [])) y ≡ false
+        at true h = h
+        at false h = h
+    step_without counts (below {k = k} {l = l} {fs = fs} {gs = gs} r) h =
+        let own = and_left (is_core_node k l fs) (all_in_fields is_core_node fs) h.core in
+        let free : is_among (own_name counts k l ++ names_in_fields (is_name_place k l) fs) y ≡ false = rw (below_names counts k l fs (core_exports k l fs fs own)) at h.free in
+        let inner = fields_without (is_name_place k l) r (record { core = and_right (is_core_node k l fs) (all_in_fields is_core_node fs) h.core; free = among_second (own_name counts k l) (names_in_fields (is_name_place k l) fs) y free }) in
+        record {
+          core = and_both (is_core_node k l gs) (all_in_fields is_core_node gs) (rw (core_label k l fs gs) own) inner.core;
+          free = rw (below_names counts k l gs (core_exports k l fs gs own)) (among_both (own_name counts k l) (names_in_fields (is_name_place k l) gs) y (among_first (own_name counts k l) (names_in_fields (is_name_place k l) fs) y free) inner.free);
+        }
+
+    fields_without : {c : ℕ → Need} {fs gs : Fields} (p : ℕ → Bool) → OneField (NullishRule in_use x) c fs gs → FieldsWithout y p fs → FieldsWithout y p gs
+    fields_without p (first_field {f = f} {g = g} {fs = fs} r) h =
+        let one = field_without (p zero) r (record { core = and_left (all_in_field is_core_node f) (all_in_fields is_core_node fs) h.core; free = among_first (names_in_field (p zero) f) (names_in_fields (λ i. p (suc i)) fs) y h.free }) in
+        record {
+          core = and_both (all_in_field is_core_node g) (all_in_fields is_core_node fs) one.core (and_right (all_in_field is_core_node f) (all_in_fields is_core_node fs) h.core);
+          free = among_both (names_in_field (p zero) g) (names_in_fields (λ i. p (suc i)) fs) y one.free (among_second (names_in_field (p zero) f) (names_in_fields (λ i. p (suc i)) fs) y h.free);
+        }
+    fields_without p (later_field {f = f} {fs = fs} {gs = gs} r) h =
+        let rest = fields_without (λ i. p (suc i)) r (record { core = and_right (all_in_field is_core_node f) (all_in_fields is_core_node fs) h.core; free = among_second (names_in_field (p zero) f) (names_in_fields (λ i. p (suc i)) fs) y h.free }) in
+        record {
+          core = and_both (all_in_field is_core_node f) (all_in_fields is_core_node gs) (and_left (all_in_field is_core_node f) (all_in_fields is_core_node fs) h.core) rest.core;
+          free = among_both (names_in_field (p zero) f) (names_in_fields (λ i. p (suc i)) gs) y (among_first (names_in_field (p zero) f) (names_in_fields (λ i. p (suc i)) fs) y h.free) rest.free;
+        }
+
+    field_without : {n : Need} {f g : Field} (counts : Bool) → InField (NullishRule in_use x) n f g → FieldWithout y counts f → FieldWithout y counts g
+    field_without counts (in_one r) h = let k = step_without counts r (record { core = h.core; free = h.free }) in record { core = k.core; free = k.free }
+    field_without counts (in_many r) h = let k = trees_without r (record { core = h.core; free = h.free }) in record { core = k.core; free = k.free }
+    field_without counts (in_statements r) h = let k = trees_without r (record { core = h.core; free = h.free }) in record { core = k.core; free = k.free }
+
+    trees_without : {n : Need} {ts us : Trees} → OneNode (NullishRule in_use x) n ts us → TreesWithout y ts → TreesWithout y us
+    trees_without (first_node {a = a} {b = b} {xs = xs} r) h =
+        let k = step_without true r (record { core = and_left (all_nodes is_core_node a) (all_in_trees is_core_node xs) h.core; free = among_first (names_if true a) (names_in_trees xs) y h.free }) in
+        record {
+          core = and_both (all_nodes is_core_node b) (all_in_trees is_core_node xs) k.core (and_right (all_nodes is_core_node a) (all_in_trees is_core_node xs) h.core);
+          free = among_both (names_if true b) (names_in_trees xs) y k.free (among_second (names_if true a) (names_in_trees xs) y h.free);
+        }
+    trees_without (later_node {a = a} {xs = xs} {ys = ys} r) h =
+        let k = trees_without r (record { core = and_right (all_nodes is_core_node a) (all_in_trees is_core_node xs) h.core; free = among_second (names_if true a) (names_in_trees xs) y h.free }) in
+        record {
+          core = and_both (all_nodes is_core_node a) (all_in_trees is_core_node ys) (and_left (all_nodes is_core_node a) (all_in_trees is_core_node xs) h.core) k.core;
+          free = among_both (names_if true a) (names_in_trees ys) y (among_first (names_if true a) (names_in_trees xs) y h.free) k.free;
+        }

@@ -1,0 +1,112 @@
+-- A name that is not among the names of a core tree stands nowhere in it.
+use Rattle.std.proofs.Common.{◌≡◌, ℕ, zero, suc, refl, List, [], ◌∷◌, ◌++◌, Option}
+use Rattle.std.specs.Prelude.{Bool, true, false, ◌||◌, ◌&&◌, bytes_eq, if◌then◌else◌}
+use Rattle.es_tree.specs.Words.{Text}
+use Rattle.es_tree.specs.Names.{first_text, names_if, names_in_fields, names_in_field, names_in_trees, own_name, is_name_place, is_reexport, flag_at}
+use Rattle.es_tree.specs.Fresh.{is_among}
+use Rattle.es_tree.specs.Walks.{all_nodes, all_in_fields, all_in_field, all_in_trees}
+use Rattle.es_tree.specs.Core.{is_core_node, is_core_kind}
+use Rattle.es_tree.specs.Tree.{Tree, node, Label, Fields, done, ◌then◌, Field, missing, one, many, statements, Trees, empty, ◌before◌}
+use Rattle.es_tree.specs.declared.ast_type.AstType.{AstType}
+use Rattle.es_tree.specs.declared.ast_type.AstType.TheVariants.{Identifier, MemberExpression, ExportNamedDeclaration}
+use Rattle.es_runs.specs.Core.{flag}
+use Rattle.es_runs.specs.Alike.{Level, Need, needs, member_needs, bad_names, is_bad, touches, touches_fields, touches_field, touches_nodes}
+use Rattle.es_runs.specs.Alike.Level.{no_evaluation, value_alone, whole_reference, a_callee, a_target}
+use Rattle.es_runs.specs.Runs.{only, none_hidden}
+
+pub and_left : (a b : Bool) → (a && b) ≡ true → a ≡ true
+and_left true b h = refl
+and_left false b h = h
+
+pub and_right : (a b : Bool) → (a && b) ≡ true → b ≡ true
+and_right true b h = h
+and_right false b h = absurd (cc h)
+
+pub or_both : (a b : Bool) → a ≡ false → b ≡ false → (a || b) ≡ false
+or_both a b e d = rw (e, d)
+
+pub or_first : (a b : Bool) → (a || b) ≡ false → a ≡ false
+or_first true b h = h
+or_first false b h = refl
+
+pub or_second : (a b : Bool) → (a || b) ≡ false → b ≡ false
+or_second true b h = absurd (cc h)
+or_second false b h = h
+
+or_assoc : (a b c : Bool) → (a || (b || c)) ≡ ((a || b) || c)
+or_assoc true b c = refl
+or_assoc false b c = refl
+
+pub among-append : (xs ys : List Text) (x : Text) → is_among (xs ++ ys) x ≡ (is_among xs x || is_among ys x)
+among-append [] ys x = refl
+among-append (y ∷ xs) ys x = rw (among-append xs ys x) (or_assoc (bytes_eq y x) (is_among xs x) (is_among ys x))
+
+pub among_first : (xs ys : List Text) (x : Text) → is_among (xs ++ ys) x ≡ false → is_among xs x ≡ false
+among_first xs ys x h = or_first (is_among xs x) (is_among ys x) (rw among-append at h)
+
+pub among_second : (xs ys : List Text) (x : Text) → is_among (xs ++ ys) x ≡ false → is_among ys x ≡ false
+among_second xs ys x h = or_second (is_among xs x) (is_among ys x) (rw among-append at h)
+
+pub core_exports : (k : AstType) (l : Label) (fs gs : Fields) → is_core_node k l fs ≡ true → is_reexport k gs ≡ false
+core_exports ExportNamedDeclaration l fs gs h = absurd (cc h)
+core_exports _ l fs gs h = refl
+
+-- where an identifier doesn't count as a name, it isn't evaluated
+abbrev Quiet : Need → Bool → Type 0
+Quiet n counts = counts ≡ false → n.level ≡ no_evaluation
+
+member_quiet : (form : Bool) (bs : List Bool) (i : ℕ) (l : Label) → l.flags ≡ bs → is_name_place MemberExpression l i ≡ false → (member_needs form (flag bs) i).level ≡ no_evaluation
+member_quiet form bs zero l e h = absurd (cc h)
+member_quiet form [] (suc zero) l e h = refl
+member_quiet form (true ∷ bs) (suc zero) l e h = let k : flag_at 0 (true ∷ bs) ≡ false = rw e at h in absurd (cc k)
+member_quiet form (false ∷ bs) (suc zero) l e h = refl
+member_quiet form bs (suc (suc i)) l e h = absurd (cc h)
+
+core_quiet : (k : AstType) (l : Label) (fs : Fields) (n : Need) (i : ℕ) → is_core_node k l fs ≡ true → Quiet (needs n k l.texts l.flags i) (is_name_place k l i)
+core_quiet MemberExpression l fs n i core h = member_quiet n.form l.flags i l refl h
+core_quiet _ l fs n i core h = absurd (cc (core, h))
+
+level_free : (x : Text) (level : Level) (y : Text) → bytes_eq y x ≡ false → bad_names (only x) none_hidden level y ≡ false
+level_free x no_evaluation y h = refl
+level_free x value_alone y h = h
+level_free x whole_reference y h = h
+level_free x a_callee y h = h
+level_free x a_target y h = rw h
+
+own_free : (x : Text) (n : Need) (counts : Bool) (k : AstType) (l : Label) → is_among (own_name counts k l) x ≡ false → Quiet n counts → is_bad (bad_names (only x) none_hidden) n.level k l.texts ≡ false
+own_free x n true Identifier l h quiet = level_free x n.level (first_text l.texts) (or_first (bytes_eq (first_text l.texts) x) false h)
+own_free x n false Identifier l h quiet = rw (quiet refl)
+own_free x n counts _ l h quiet = refl
+
+names_below : (k : AstType) (l : Label) (fs : Fields) (b : Bool) → b ≡ false → (if b then [] else names_in_fields (is_name_place k l) fs) ≡ names_in_fields (is_name_place k l) fs
+names_below k l fs b e = rw e
+
+mutual
+  pub node_free : (x : Text) (t : Tree) (n : Need) (counts : Bool) → all_nodes is_core_node t ≡ true → is_among (names_if counts t) x ≡ false → Quiet n counts → touches (bad_names (only x) none_hidden) n t ≡ false
+  node_free x (node k l fs) n counts core free quiet =
+      let own = and_left (is_core_node k l fs) (all_in_fields is_core_node fs) core in
+      let rest = among_second (own_name counts k l) (if is_reexport k fs then [] else names_in_fields (is_name_place k l) fs) x free in
+      or_both (is_bad (bad_names (only x) none_hidden) n.level k l.texts) (touches_fields (bad_names (only x) none_hidden) (needs n k l.texts l.flags) fs)
+        (own_free x n counts k l (among_first (own_name counts k l) (if is_reexport k fs then [] else names_in_fields (is_name_place k l) fs) x free) quiet)
+        (fields_free x fs (needs n k l.texts l.flags) (is_name_place k l) (and_right (is_core_node k l fs) (all_in_fields is_core_node fs) core)
+          (rw (names_below k l fs (is_reexport k fs) (core_exports k l fs fs own)) at rest) (λ i. core_quiet k l fs n i own))
+
+  fields_free : (x : Text) (fs : Fields) (c : ℕ → Need) (p : ℕ → Bool) → all_in_fields is_core_node fs ≡ true → is_among (names_in_fields p fs) x ≡ false → ((i : ℕ) → Quiet (c i) (p i)) → touches_fields (bad_names (only x) none_hidden) c fs ≡ false
+  fields_free x done c p core free quiet = refl
+  fields_free x (f then fs) c p core free quiet =
+      or_both (touches_field (bad_names (only x) none_hidden) (c zero) f) (touches_fields (bad_names (only x) none_hidden) (λ i. c (suc i)) fs)
+        (field_free x f (c zero) (p zero) (and_left (all_in_field is_core_node f) (all_in_fields is_core_node fs) core) (among_first (names_in_field (p zero) f) (names_in_fields (λ i. p (suc i)) fs) x free) (quiet zero))
+        (fields_free x fs (λ i. c (suc i)) (λ i. p (suc i)) (and_right (all_in_field is_core_node f) (all_in_fields is_core_node fs) core) (among_second (names_in_field (p zero) f) (names_in_fields (λ i. p (suc i)) fs) x free) (λ i. quiet (suc i)))
+
+  field_free : (x : Text) (f : Field) (n : Need) (counts : Bool) → all_in_field is_core_node f ≡ true → is_among (names_in_field counts f) x ≡ false → Quiet n counts → touches_field (bad_names (only x) none_hidden) n f ≡ false
+  field_free x missing n counts core free quiet = refl
+  field_free x (one t) n counts core free quiet = node_free x t n counts core free quiet
+  field_free x (many ts) n counts core free quiet = trees_free x ts n core free
+  field_free x (statements ts) n counts core free quiet = trees_free x ts n core free
+
+  trees_free : (x : Text) (ts : Trees) (n : Need) → all_in_trees is_core_node ts ≡ true → is_among (names_in_trees ts) x ≡ false → touches_nodes (bad_names (only x) none_hidden) n ts ≡ false
+  trees_free x empty n core free = refl
+  trees_free x (t before ts) n core free =
+      or_both (touches (bad_names (only x) none_hidden) n t) (touches_nodes (bad_names (only x) none_hidden) n ts)
+        (node_free x t n true (and_left (all_nodes is_core_node t) (all_in_trees is_core_node ts) core) (among_first (names_if true t) (names_in_trees ts) x free) (λ e. absurd (cc e)))
+        (trees_free x ts n (and_right (all_nodes is_core_node t) (all_in_trees is_core_node ts) core) (among_second (names_if true t) (names_in_trees ts) x free))
