@@ -120,3 +120,46 @@ module _ (in_use : Text → Bool) (x y : Text) (other : bytes_eq x y ≡ false) 
           core = and_both (all_nodes is_core_node a) (all_in_trees is_core_node ys) (and_left (all_nodes is_core_node a) (all_in_trees is_core_node xs) h.core) k.core;
           free = among_both (names_if true a) (names_in_trees ys) y (among_first (names_if true a) (names_in_trees xs) y h.free) k.free;
         }
+
+module _ (in_use : Text → Bool) (x : Text) where
+  mutual
+    pub step_core : {n : Need} {t u : Tree} → OnePlace (NullishRule in_use x) n t u → all_nodes is_core_node t ≡ true → all_nodes is_core_node u ≡ true
+    step_core (this_place (nullish_rule {m = m} {l = l} {r = r} texts fresh)) h =
+        let core_l = and_left (all_nodes is_core_node l) (all_nodes is_core_node r && true) h in
+        let core_r = and_left (all_nodes is_core_node r) true (and_right (all_nodes is_core_node l) (all_nodes is_core_node r && true) h) in
+        simp (core_l, core_r)
+    step_core (below {k = k} {l = l} {fs = fs} {gs = gs} r) h =
+        and_both (is_core_node k l gs) (all_in_fields is_core_node gs) (rw (core_label k l fs gs) (and_left (is_core_node k l fs) (all_in_fields is_core_node fs) h)) (fields_core r (and_right (is_core_node k l fs) (all_in_fields is_core_node fs) h))
+
+    fields_core : {c : ℕ → Need} {fs gs : Fields} → OneField (NullishRule in_use x) c fs gs → all_in_fields is_core_node fs ≡ true → all_in_fields is_core_node gs ≡ true
+    fields_core (first_field {f = f} {g = g} {fs = fs} r) h = and_both (all_in_field is_core_node g) (all_in_fields is_core_node fs) (field_core r (and_left (all_in_field is_core_node f) (all_in_fields is_core_node fs) h)) (and_right (all_in_field is_core_node f) (all_in_fields is_core_node fs) h)
+    fields_core (later_field {f = f} {fs = fs} {gs = gs} r) h = and_both (all_in_field is_core_node f) (all_in_fields is_core_node gs) (and_left (all_in_field is_core_node f) (all_in_fields is_core_node fs) h) (fields_core r (and_right (all_in_field is_core_node f) (all_in_fields is_core_node fs) h))
+
+    field_core : {n : Need} {f g : Field} → InField (NullishRule in_use x) n f g → all_in_field is_core_node f ≡ true → all_in_field is_core_node g ≡ true
+    field_core (in_one r) h = step_core r h
+    field_core (in_many r) h = trees_core r h
+    field_core (in_statements r) h = trees_core r h
+
+    trees_core : {n : Need} {ts us : Trees} → OneNode (NullishRule in_use x) n ts us → all_in_trees is_core_node ts ≡ true → all_in_trees is_core_node us ≡ true
+    trees_core (first_node {a = a} {b = b} {xs = xs} r) h = and_both (all_nodes is_core_node b) (all_in_trees is_core_node xs) (step_core r (and_left (all_nodes is_core_node a) (all_in_trees is_core_node xs) h)) (and_right (all_nodes is_core_node a) (all_in_trees is_core_node xs) h)
+    trees_core (later_node {a = a} {xs = xs} {ys = ys} r) h = and_both (all_nodes is_core_node a) (all_in_trees is_core_node ys) (and_left (all_nodes is_core_node a) (all_in_trees is_core_node xs) h) (trees_core r (and_right (all_nodes is_core_node a) (all_in_trees is_core_node xs) h))
+
+-- what a rule says wherever it holds, it says of a step
+module _ (R : Need → Tree → Tree → Type 0) (P : Type 0) (says : (n : Need) (a b : Tree) → R n a b → P) where
+  mutual
+    pub somewhere : {n : Need} {t u : Tree} → OnePlace R n t u → P
+    somewhere (this_place {n = n} {a = a} {b = b} r) = says n a b r
+    somewhere (below r) = somewhere_in_fields r
+
+    somewhere_in_fields : {c : ℕ → Need} {fs gs : Fields} → OneField R c fs gs → P
+    somewhere_in_fields (first_field r) = somewhere_in_field r
+    somewhere_in_fields (later_field r) = somewhere_in_fields r
+
+    somewhere_in_field : {n : Need} {f g : Field} → InField R n f g → P
+    somewhere_in_field (in_one r) = somewhere r
+    somewhere_in_field (in_many r) = somewhere_in_trees r
+    somewhere_in_field (in_statements r) = somewhere_in_trees r
+
+    somewhere_in_trees : {n : Need} {ts us : Trees} → OneNode R n ts us → P
+    somewhere_in_trees (first_node r) = somewhere r
+    somewhere_in_trees (later_node r) = somewhere_in_trees r

@@ -19,3 +19,5 @@ pub mod Named
 pub mod Kept
 pub mod BareTrees
 pub mod Written
+pub mod PlainPrograms
+pub mod LoweredRuns

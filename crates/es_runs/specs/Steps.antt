@@ -5,11 +5,12 @@ use Rattle.es_tree.specs.Words.{Text}
 use Rattle.es_tree.specs.Names.{names_of}
 use Rattle.es_tree.specs.Fresh.{node_base, IsFreshName, is_among, also}
 use Rattle.es_tree.specs.Bare.{bare}
+use Rattle.es_tree.specs.FirstPath.{is_first_path}
 use Rattle.es_tree.specs.Tree.{Tree, node, Label, Fields, done, ◌then◌, Field, missing, one, many, statements, Trees, empty, ◌before◌}
 use Rattle.es_tree.specs.declared.ast_type.AstType.{AstType}
 use Rattle.es_tree.specs.declared.ast_type.AstType.TheVariants.{Program, LogicalExpression, VariableDeclaration, VariableDeclarator}
 use Rattle.es_runs.specs.Alike.{Need, all_of_it}
-use Rattle.es_runs.specs.Runs.{made, identifier}
+use Rattle.es_runs.specs.Runs.{made, identifier, RunAlike}
 use Rattle.es_runs.specs.Rules.{OnePlace, tested_by}
 
 -- A rule: the names in use, the name that it takes, what its place takes of the node there, the node before and after.
@@ -60,3 +61,7 @@ pub record IsLowered (p q : Tree) : Type 0 where
   pub body : Tree
   pub steps : Steps NullishRule all_of_it (is_among (names_of p)) (bare p) names in_use body
   pub written : bare q ≡ bare (declare_in names body)
+
+-- A program of the first path and what it was lowered to run alike.
+abbrev pub LawLowered : Type 0
+LawLowered = (p q : Tree) → is_first_path p ≡ true → IsLowered p q → RunAlike p q

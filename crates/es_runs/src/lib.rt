@@ -2,6 +2,7 @@
 #![tactic(auto)]
 
 ghost use Rattle.es_runs.specs.Runs.{LawPlace, LawFresh};
+ghost use Rattle.es_runs.specs.Steps.{LawLowered};
 ghost use Rattle.es_runs.specs.Rules.{LawNullish, LawReread, LawOptionalMember, LawSteps};
 
 /// Replacing an expression by one that evaluates alike, at what its place takes of it, keeps the runs.
@@ -32,4 +33,9 @@ pub fn law_optional_member()
 /// Whatever steps are taken, source and result run alike.
 pub fn law_steps()
     ensures { LawSteps }
+{}
+
+/// A program of the first path and what it was lowered to run alike.
+pub fn law_lowered()
+    ensures { LawLowered }
 {}
