@@ -1,2 +1,4 @@
 //! The reader and the writer of the tree form.
 #![tactic(auto)]
+
+pub mod writer;
