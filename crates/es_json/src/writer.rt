@@ -1,10 +1,11 @@
 //! The writer: a tree in its canonical form.
-ghost use Rattle.std.specs.Prelude.{◌≡◌, IfOk, OnOk, map, option_map};
+ghost use Rattle.std.specs.Prelude.{◌≡◌, IfOk, OnOk, map, option_map, string_bytes};
 ghost use Rattle.std.specs.Vec.Iter.{into_iter_items};
 ghost use Rattle.es_tree.specs.Tree.{kind_of, label_of};
 ghost use Rattle.es_tree.specs.Views.{plain_field};
 ghost use Rattle.es_json.specs.Canonical.{canonical, field_value, node_members, text_value, child_value, children_after};
 ghost use Rattle.serde_json.specs.View.{view, members_view};
+ghost use Rattle.serde_json.specs.Written.{compact_text};
 
 use es_tree::node::{Field, Node};
 use es_tree::table::{Content, FieldName, Often};
@@ -20,6 +21,15 @@ pub fn write_program(alloc: Global, program: &Node) -> Result<Value, AllocError>
 {
     let value = write_node(program, alloc)?;
     Ok(value)
+}
+
+/// The text of the program in the tree form, as compact JSON. Fails only where memory runs out.
+pub fn program_text(alloc: Global, program: &Node) -> Result<String, AllocError>
+    ensures { IfOk result (λ text. string_bytes text ≡ compact_text (canonical program.now)) }
+{
+    let value = write_program(alloc, program)?;
+    let text = value.to_string(alloc)?;
+    Ok(text)
 }
 
 #[cycle(write)]
