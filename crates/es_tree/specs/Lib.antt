@@ -13,3 +13,4 @@ pub mod Order
 pub mod Agree
 pub mod Texts
 pub mod Reads
+pub mod HasForm
