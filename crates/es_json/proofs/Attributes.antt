@@ -11,7 +11,12 @@ use Rattle.es_tree.specs.declared.table.Entry.{Entry}
 use Rattle.es_tree.specs.declared.table.Often.{Often}
 use Rattle.es_tree.specs.declared.table.Content.{Content}
 use Rattle.es_tree.specs.declared.table.Content.TheVariants.{
-  Text as c-Text, OptionalText as c-OptionalText, Flag as c-Flag, RequiredFlag as c-RequiredFlag, Refused as c-Refused, Child as c-Child
+  Text as c-Text,
+  OptionalText as c-OptionalText,
+  Flag as c-Flag,
+  RequiredFlag as c-RequiredFlag,
+  Refused as c-Refused,
+  Child as c-Child,
 }
 use Rattle.es_json.specs.Values.{field_of, TextIs, TextsAre, FlagIs, FlagsAre, IsAbsent, NoneStands}
 use Rattle.es_json.specs.Canonical.{text_value, child_value, children_after}

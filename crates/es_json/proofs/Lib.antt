@@ -5,3 +5,6 @@ pub mod TableFacts
 pub mod Bools
 pub mod ReadsBack
 pub mod Attributes
+pub mod Sorts
+pub mod Named
+pub mod WrittenReads

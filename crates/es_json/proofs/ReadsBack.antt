@@ -9,7 +9,12 @@ use Rattle.es_tree.specs.Table.{field_text}
 use Rattle.es_tree.specs.declared.table.Entry.{Entry}
 use Rattle.es_tree.specs.declared.table.Content.{Content}
 use Rattle.es_tree.specs.declared.table.Content.TheVariants.{
-  Text as c-Text, OptionalText as c-OptionalText, Flag as c-Flag, RequiredFlag as c-RequiredFlag, Refused as c-Refused, Child as c-Child
+  Text as c-Text,
+  OptionalText as c-OptionalText,
+  Flag as c-Flag,
+  RequiredFlag as c-RequiredFlag,
+  Refused as c-Refused,
+  Child as c-Child,
 }
 use Rattle.es_json.specs.Values.{field_of}
 use Rattle.es_json.specs.Canonical.{Rest, rest, text_value, child_value, children_after, put_entry, put_entries}
@@ -87,9 +92,10 @@ AreUnwritten (n ∷ ns) ms = (get_member n ms ≡ None) × AreUnwritten ns ms
 
 unwritten-put_option : (k : Text) (o : Option Data) (ns : List Text) (ms : Members) → list_any (bytes_eq k) ns ≡ false → AreUnwritten ns ms → AreUnwritten ns (put_option k o ms)
 unwritten-put_option k o [] ms h un = tt
-unwritten-put_option k o (n ∷ ns) ms h un =
-    (get_member-put_option_other n k o ms (λ e. differ k n (left_false (bytes_eq k n) _ h) (sym e)) ∙ un.0,
-      unwritten-put_option k o ns ms (right_false (bytes_eq k n) _ h) un.1)
+unwritten-put_option k o (n ∷ ns) ms h un = (
+  get_member-put_option_other n k o ms (λ e. differ k n (left_false (bytes_eq k n) _ h) (sym e)) ∙ un.0,
+  unwritten-put_option k o ns ms (right_false (bytes_eq k n) _ h) un.1,
+)
 
 pub has_entries : (es : List Entry) (ts : List (Option Text)) (bs : List Bool) (ds : List Data) (ms : Members)
     → all_distinct (map entry_name es) ≡ true → AreUnwritten (map entry_name es) ms
@@ -101,10 +107,10 @@ has_entries (e ∷ es) ts bs ds ms apart un =
     let others : list_any (bytes_eq name) (map entry_name es) ≡ false = not_true _ (left_true (not (list_any (bytes_eq name) (map entry_name es))) _ apart) in
     let step = put_entry-rest name e.content ts bs ds ms in
     let here : get_member name (put_entries es (put_entry name e.content (rest ts bs ds ms))).members ≡ value =
-      ap (λ r. get_member name (put_entries es r).members) step
-      ∙ get_member-put_entries name es _ _ _ _ others
-      ∙ get_member-put_option name value ms un.0 in
+    ap (λ r. get_member name (put_entries es r).members) step
+    ∙ get_member-put_entries name es _ _ _ _ others
+    ∙ get_member-put_option name value ms un.0 in
     let later = has_entries es (texts_left e.content ts) (flags_left e.content bs) (children_left e.content ds) (put_option name value ms)
-        (right_true (not (list_any (bytes_eq name) (map entry_name es))) _ apart)
-        (unwritten-put_option name value (map entry_name es) ms others un.1) in
+    (right_true (not (list_any (bytes_eq name) (map entry_name es))) _ apart)
+    (unwritten-put_option name value (map entry_name es) ms others un.1) in
     (here, subst (λ r. HasEntries (object (put_entries es r).members) es (texts_left e.content ts) (flags_left e.content bs) (children_left e.content ds)) (sym step) later)

@@ -42,7 +42,7 @@ abbrev pub is_of_sort : Sort → AstType → Bool
 is_of_sort s k = list_any (same_type k) (kinds_of s)
 
 abbrev pub has_name : FieldName → Entry → Bool
-has_name f e = bytes_eq (field_text e.field) (field_text f)
+has_name f e = bytes_eq (field_text f) (field_text e.field)
 
 -- the truth value of this field, false where there is none
 abbrev pub flag_of : FieldName → List Entry → List Bool → Bool
