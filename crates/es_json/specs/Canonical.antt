@@ -1,6 +1,6 @@
 -- The canonical form of a tree: all fields of the table, and no others. An object's members stand in the
 -- order of their keys, wherever they are put in.
-use Rattle.std.specs.Prelude.{ℕ, List, [], ◌∷◌, Bool, Option, Some, None}
+use Rattle.std.specs.Prelude.{ℕ, List, [], ◌∷◌, Bool, false, Option, Some, None}
 use Rattle.serde_json.specs.Data.{Data, null, boolean, number, unsigned, string, array, object, Items, no_items, item, Members, no_members, put}
 use Rattle.es_tree.specs.Words.{Text}
 use Rattle.es_tree.specs.Table.{entries, type_name, field_text}
@@ -13,7 +13,12 @@ use Rattle.es_tree.specs.declared.table.Often.{Often}
 use Rattle.es_tree.specs.declared.table.Often.TheVariants.{Elements, ElementsWithRest}
 use Rattle.es_tree.specs.declared.table.Content.{Content}
 use Rattle.es_tree.specs.declared.table.Content.TheVariants.{
-  Text as c-Text, OptionalText as c-OptionalText, Flag as c-Flag, RequiredFlag as c-RequiredFlag, Refused as c-Refused, Child as c-Child
+  Text as c-Text,
+  OptionalText as c-OptionalText,
+  Flag as c-Flag,
+  RequiredFlag as c-RequiredFlag,
+  Refused as c-Refused,
+  Child as c-Child,
 }
 
 abbrev pub text_value : Option Text → Data
@@ -34,26 +39,30 @@ pub record Rest : Type 0 where
 abbrev pub rest : List (Option Text) → List Bool → List Data → Members → Rest
 rest ts bs ds ms = record { texts = ts; flags = bs; children = ds; members = ms }
 
+-- What a node lacks of its kind's fields is written as none: null, false.
 abbrev pub put_text : Text → Rest → List (Option Text) → Rest
-put_text key r [] = r
+put_text key r [] = rest [] r.flags r.children (put key null r.members)
 put_text key r (t ∷ ts) = rest ts r.flags r.children (put key (text_value t) r.members)
 
 abbrev pub put_flag : Text → Rest → List Bool → Rest
-put_flag key r [] = r
+put_flag key r [] = rest r.texts [] r.children (put key (boolean false) r.members)
 put_flag key r (b ∷ bs) = rest r.texts bs r.children (put key (boolean b) r.members)
 
-abbrev pub put_child : Text → Rest → List Data → Rest
-put_child key r [] = r
-put_child key r (d ∷ ds) = rest r.texts r.flags ds (put key d r.members)
-
 -- the elements of an array are all of its children
-abbrev pub put_elements : Text → Rest → Rest
-put_elements key r = rest r.texts r.flags [] (put key (array (items r.children)) r.members)
+abbrev pub child_value : Often → List Data → Data
+child_value Elements ds = array (items ds)
+child_value ElementsWithRest ds = array (items ds)
+child_value o [] = null
+child_value o (d ∷ ds) = d
 
-abbrev pub put_children : Text → Often → Rest → Rest
-put_children key Elements r = put_elements key r
-put_children key ElementsWithRest r = put_elements key r
-put_children key o r = put_child key r r.children
+abbrev pub children_after : Often → List Data → List Data
+children_after Elements ds = []
+children_after ElementsWithRest ds = []
+children_after o [] = []
+children_after o (d ∷ ds) = ds
+
+abbrev pub put_child : Text → Often → Rest → Rest
+put_child key o r = rest r.texts r.flags (children_after o r.children) (put key (child_value o r.children) r.members)
 
 -- what one line of the table adds
 abbrev pub put_entry : Text → Content → Rest → Rest
@@ -62,7 +71,7 @@ put_entry key c-OptionalText r = put_text key r r.texts
 put_entry key c-Flag r = put_flag key r r.flags
 put_entry key c-RequiredFlag r = put_flag key r r.flags
 put_entry key c-Refused r = r
-put_entry key (c-Child s o) r = put_children key o r
+put_entry key (c-Child s o) r = put_child key o r
 
 abbrev pub put_entries : List Entry → Rest → Rest
 put_entries [] r = r
@@ -72,12 +81,16 @@ put_entries (e ∷ es) r = put_entries es (put_entry (field_text e.field) e.cont
 abbrev pub common_members : AstType → Label → Members
 common_members k l =
     put (field_text f-End) (number (unsigned l.stop))
-      (put (field_text f-Start) (number (unsigned l.start))
-        (put (field_text f-Type) (string (type_name k)) no_members))
+    (put (field_text f-Start) (number (unsigned l.start))
+    (put (field_text f-Type) (string (type_name k)) no_members))
+
+-- the members of a node, from its children's values
+abbrev pub node_members : AstType → Label → List Data → Members
+node_members k l ds = (put_entries (entries k) (rest l.texts l.flags ds (common_members k l))).members
 
 abbrev mutual
   pub canonical : Tree → Data
-  canonical (node k l fs) = object (put_entries (entries k) (rest l.texts l.flags (values fs) (common_members k l))).members
+  canonical (node k l fs) = object (node_members k l (values fs))
 
   pub values : Fields → List Data
   values done = []

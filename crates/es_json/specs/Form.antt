@@ -4,6 +4,7 @@ use Rattle.std.specs.Prelude.{ℕ, ◌≡◌, List, [], ◌∷◌, Bool, true, f
 use Rattle.serde_json.specs.Data.{Data, null, Items, no_items, item}
 use Rattle.es_tree.specs.Table.{rest_sort}
 use Rattle.es_tree.specs.Tree.{Tree, node, Fields, done, ◌then◌, Field, missing, one, many, statements, Trees, empty, ◌before◌}
+pub use Rattle.es_tree.specs.HasForm.{ElementsPlace, elements_by, elements_of}
 use Rattle.es_tree.specs.Attributes.{text_entries, flag_entries, refused_entries, child_entries}
 use Rattle.es_tree.specs.declared.table.FieldName.{FieldName}
 use Rattle.es_tree.specs.declared.table.FieldName.TheVariants.{Start as f-Start, End as f-End}
@@ -14,22 +15,6 @@ use Rattle.es_tree.specs.declared.table.Often.TheVariants.{Required, Optional, L
 use Rattle.es_tree.specs.declared.table.Content.{Content}
 use Rattle.es_tree.specs.declared.table.Content.TheVariants.{Child as c-Child}
 use Rattle.es_json.specs.Values.{field_of, kind_here, IsOffset, NoneStands, TextsAre, FlagsAre, sort_in, list_of, sort_before, value_agrees}
-
--- The elements of an array: the field, the sort of each, and the sort of the last.
-pub record ElementsPlace : Type 0 where
-  pub field : FieldName
-  pub sort : Sort
-  pub last : Sort
-
-abbrev pub elements_by : FieldName → Content → Option ElementsPlace
-elements_by f (c-Child s Elements) = Some (record { field = f; sort = s; last = s })
-elements_by f (c-Child s ElementsWithRest) = Some (record { field = f; sort = s; last = rest_sort s })
-elements_by f _ = None
-
--- the one place of an array literal or an array pattern
-abbrev pub elements_of : List Entry → Option ElementsPlace
-elements_of (e ∷ []) = elements_by e.field e.content
-elements_of _ = None
 
 abbrev mutual
   -- the value is a form of the tree, at a place of this sort

@@ -1,3 +1,4 @@
 pub mod Values
 pub mod Form
 pub mod Canonical
+pub mod Laws

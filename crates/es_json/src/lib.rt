@@ -1,2 +1,5 @@
 //! The reader and the writer of the tree form.
 #![tactic(auto)]
+
+pub mod laws;
+pub mod writer;

@@ -20,3 +20,4 @@ pub mod FirstPath
 pub mod Reads
 pub mod Core
 pub mod Constructs
+pub mod HasForm

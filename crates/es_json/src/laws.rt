@@ -1,0 +1,7 @@
+//! What the reader and the writer are to each other. The functions do nothing: their contracts are the laws.
+ghost use Rattle.es_json.specs.Laws.{WrittenReads};
+
+/// What is written of a tree with form is a form of that tree: read, it gives the tree.
+pub fn law_written_reads()
+    ensures { WrittenReads }
+{}
