@@ -1,0 +1,4 @@
+pub mod Ends
+pub mod Job
+pub mod Answer
+pub mod Memory
