@@ -49,7 +49,7 @@ pub fn read_input<S: Source>(alloc: Global, input: &mut S) -> Result<Vec<u8>, Re
     ensures rises { S.faults input.old ≤ S.faults input.new }
 {
     let mut bytes = Vec::new(alloc);
-    let mut block = vec![in alloc; 0; BLOCK]?;
+    let mut block = zeros(alloc, BLOCK)?;
     while bytes.len() <= INPUT_LIMIT {
         let room = BLOCK.min(INPUT_LIMIT + 1 - bytes.len());
         let count = read_piece(input, &mut block[..room], &mut bytes)?;
@@ -58,6 +58,13 @@ pub fn read_input<S: Source>(alloc: Global, input: &mut S) -> Result<Vec<u8>, Re
         }
     }
     Err(ReadError::TooLong)
+}
+
+/// So many bytes to read into.
+fn zeros(alloc: Global, len: usize) -> Result<Vec<u8>, AllocError>
+    ensures { IfOk result (λ zeros. vec_len zeros ≡ len) }
+{
+    vec![in alloc; 0; len]
 }
 
 /// Reads once into `piece`, and adds what it gives to `bytes`.

@@ -14,10 +14,9 @@ pub fn write_all<K: Sink>(sink: &mut K, text: &[u8]) -> Result<(), Failed>
     ensures rises { K.faults sink.old ≤ K.faults sink.new }
     ensures nothing { text.now ≡ [] → sink.new ≡ sink.old }
 {
-    let mut rest = text;
-    while !rest.is_empty() {
-        let count = sink.write(rest)?;
-        rest = &rest[count..];
+    let mut done = 0;
+    while done < text.len() {
+        done += sink.write(&text[done..])?;
     }
     Ok(())
 }
