@@ -2,3 +2,4 @@ pub mod Ends
 pub mod Job
 pub mod Answer
 pub mod Memory
+pub mod Run

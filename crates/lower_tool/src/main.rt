@@ -9,6 +9,7 @@ mod job;
 mod mem_sink;
 mod mem_source;
 mod reading;
+mod run;
 mod std_ends;
 mod writing;
 
