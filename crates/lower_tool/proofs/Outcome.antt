@@ -75,7 +75,7 @@ module _ (words : List (String Global)) (old new : Ends) where
     write_fault = λ is. absurd (omega arith);
     out_of_memory = λ is. absurd (omega arith);
     too_long = λ is. absurd (omega arith);
-    known = omega arith
+    known = omega arith;
   }
   table_gave Json gave = record {
     done = λ is. absurd (omega arith);
@@ -85,7 +85,7 @@ module _ (words : List (String Global)) (old new : Ends) where
     write_fault = λ is. absurd (omega arith);
     out_of_memory = λ is. absurd (omega arith);
     too_long = λ is. absurd (omega arith);
-    known = omega arith
+    known = omega arith;
   }
   table_gave NotBuilt gave = record {
     done = λ is. absurd (omega arith);
@@ -95,7 +95,7 @@ module _ (words : List (String Global)) (old new : Ends) where
     write_fault = λ is. absurd (omega arith);
     out_of_memory = λ is. absurd (omega arith);
     too_long = λ is. absurd (omega arith);
-    known = omega arith
+    known = omega arith;
   }
   table_gave Words gave = record {
     done = λ is. absurd (omega arith);
@@ -105,7 +105,7 @@ module _ (words : List (String Global)) (old new : Ends) where
     write_fault = λ is. absurd (omega arith);
     out_of_memory = λ is. absurd (omega arith);
     too_long = λ is. absurd (omega arith);
-    known = omega arith
+    known = omega arith;
   }
   table_gave ReadFault gave = record {
     done = λ is. absurd (omega arith);
@@ -115,7 +115,7 @@ module _ (words : List (String Global)) (old new : Ends) where
     write_fault = λ is. absurd (omega arith);
     out_of_memory = λ is. absurd (omega arith);
     too_long = λ is. absurd (omega arith);
-    known = omega arith
+    known = omega arith;
   }
   table_gave TooLong gave = record {
     done = λ is. absurd (omega arith);
@@ -125,7 +125,7 @@ module _ (words : List (String Global)) (old new : Ends) where
     write_fault = λ is. absurd (omega arith);
     out_of_memory = λ is. absurd (omega arith);
     too_long = λ _. gave;
-    known = omega arith
+    known = omega arith;
   }
 
   pub causes_gave : (answer : Answer) → IsDue answer words old.input new.input → Causes words old new (status_of answer)
@@ -133,7 +133,7 @@ module _ (words : List (String Global)) (old new : Ends) where
     refused_words = λ improper. inl (is_words answer words old.input new.input due improper);
     too_long = λ bytes has long. inl (is_long answer words old new bytes due has long);
     refused_input = λ bytes has short other. inl (is_refused answer words old new bytes due has short other);
-    done = λ bytes has _ short first. inl (is_done answer words old new bytes due has short first)
+    done = λ bytes has _ short first. inl (is_done answer words old new bytes due has short first);
   }
 
 -- the output took all, and a fault left the notes with the front of their text
@@ -149,5 +149,5 @@ front_of_notes answer old_output new_output old_notes new_notes count output wit
   notes_within = within;
   notes = notes;
   in_order = inl refl;
-  cause = inr fault
+  cause = inr fault;
 }

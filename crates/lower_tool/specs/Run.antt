@@ -102,12 +102,12 @@ pub record WasWritten (old new : Ends) : Type 0 where
 pub record Causes (words : List (String Global)) (old new : Ends) (status : ℕ) : Type 0 where
   pub refused_words : ¬ AreProper words → (status ≡ WORDS) ⊎ (status ≡ WRITE_FAULT)
   pub too_long : (bytes : List ℕ) → HasInput words old new bytes → 2 ^ 26 < length bytes
-    → (status ≡ TOO_LONG) ⊎ ((status ≡ WRITE_FAULT) ⊎ (status ≡ OUT_OF_MEMORY))
+      → (status ≡ TOO_LONG) ⊎ ((status ≡ WRITE_FAULT) ⊎ (status ≡ OUT_OF_MEMORY))
   pub refused_input : (bytes : List ℕ) → HasInput words old new bytes → length bytes ≤ 2 ^ 26 → ¬ IsFirstPath bytes
-    → (status ≡ REFUSED) ⊎ ((status ≡ WRITE_FAULT) ⊎ (status ≡ OUT_OF_MEMORY))
+      → (status ≡ REFUSED) ⊎ ((status ≡ WRITE_FAULT) ⊎ (status ≡ OUT_OF_MEMORY))
   -- without a fault, what the first path takes is done
   pub done : (bytes : List ℕ) → HasInput words old new bytes → WasWritten old new → length bytes ≤ 2 ^ 26 → IsFirstPath bytes
-    → (status ≡ DONE) ⊎ (status ≡ OUT_OF_MEMORY)
+      → (status ≡ DONE) ⊎ (status ≡ OUT_OF_MEMORY)
 
 -- no count of faults falls
 pub record FaultsStay (old new : Ends) : Type 0 where

@@ -31,7 +31,12 @@ impl Model for MemSink {
 impl MemSink {
     /// A sink with room for `space` bytes, that takes at most `piece` of them a call. The calls that `fails` lists
     /// fail, and so does a call where no room is left.
-    pub fn new(alloc: Global, space: usize, piece: usize, fails: Vec<u32>) -> Result<MemSink, AllocError>
+    pub fn new(
+        alloc: Global,
+        space: usize,
+        piece: usize,
+        fails: Vec<u32>,
+    ) -> Result<MemSink, AllocError>
         requires { 1 ≤ piece }
         ensures { IfOk result (λ sink. sink ≡ record { bytes = []; room = space; piece = piece; fails = fails.items; call = 0; faults = 0 }) }
     {

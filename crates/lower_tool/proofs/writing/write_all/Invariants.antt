@@ -7,7 +7,7 @@ invariant-loop-done g l = record {
   part : l.done ≤ length l.text;
   taken : g.K.Sink.taken l.sink ≡ append_known (g.K.Sink.taken l.fn.sink) (take l.done l.text);
   rises : g.K.Sink.faults l.fn.sink ≤ g.K.Sink.faults l.sink;
-  nothing : l.text ≡ [] → l.sink ≡ l.fn.sink
+  nothing : l.text ≡ [] → l.sink ≡ l.fn.sink;
 }
 
 abbrev pub decreases-loop-done : goal.decreases-loop-done
