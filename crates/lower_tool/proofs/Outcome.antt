@@ -1,15 +1,16 @@
 -- From the answer that is due to the table of statuses.
-use Rattle.std.proofs.Common.{◌≡◌, ◌⊎◌, ◌+◌, ◌^◌, ◌<◌, ◌≤◌, ℕ, List, [], length, take, Option, Some, None, String, inl, inr, refl, sym, ◌∙◌, ap, subst, arith, length-append, ◌++◌}
+use Rattle.std.proofs.Common.{◌≡◌, false, nat_eq, ◌+◌, ◌^◌, ◌<◌, ◌≤◌, ℕ, List, length, take, Option, Some, None, String, inl, inr, refl, sym, ◌∙◌, ap, subst, arith, length-append, ◌++◌}
 use Rattle.std.proofs.lemmas.List.{take_all}
+use Rattle.std.proofs.lemmas.Bool.{eq-eqb}
 use Rattle.std.specs.declared.alloc.Global.{Global}
-use Rattle.std.specs.Io.KnownBytes.{append_known, prepend_known}
+use Rattle.std.specs.Io.KnownBytes.{append_known}
 use Rattle.lower_tool.specs.declared.answer.Answer.{Answer}
 use Rattle.lower_tool.specs.declared.answer.Answer.TheVariants.{Lowered, Json, NotBuilt, Words, ReadFault, TooLong}
-use Rattle.lower_tool.specs.declared.answer.TheConstants.{DONE, REFUSED, WORDS, READ_FAULT, WRITE_FAULT, OUT_OF_MEMORY, TOO_LONG}
+use Rattle.lower_tool.specs.declared.answer.TheConstants.{DONE, REFUSED, WORDS, TOO_LONG}
 use Rattle.lower_tool.specs.Answer.{output_text, notes_text, status_of}
 use Rattle.lower_tool.specs.Ends.{HasFault, ReadWhole, ReadFront, End}
-use Rattle.lower_tool.specs.Job.{HasReading, IsFirstPath, IsFirstPath-reads}
-use Rattle.lower_tool.specs.Run.{AreProper, IsJobAnswer, WasWhole, IsDue, Took, TookAll, TookFront, Ends, Gave, GaveFront, Table, HasInput, WasWritten, Causes}
+use Rattle.lower_tool.specs.Job.{IsFirstPath, IsFirstPath-reads}
+use Rattle.lower_tool.specs.Run.{AreProper, WasWhole, IsDue, Took, TookFront, Ends, Gave, Table, HasInput, Causes}
 
 -- What is due, where the input tells its bytes.
 
@@ -64,66 +65,70 @@ is_done Words words old new bytes due has short first = absurd (due.0 has.proper
 is_done ReadFault words old new bytes due has short first = absurd (has.no_fault due.1)
 is_done TooLong words old new bytes due has short first = absurd (omega (arith, front_fits old.input.bytes new.input.bytes bytes (2 ^ 26 + 1) has.told due.1))
 
+-- one number is no other
+other : {P : Type 0} {m n : ℕ} → nat_eq m n ≡ false → m ≡ n → P
+other {P} {m} {n} differ same = absurd (cc (sym differ, eq-eqb m n same))
+
 module _ (words : List (String Global)) (old new : Ends) where
   -- an answer that was given whole has its status, and no other
   pub table_gave : (answer : Answer) → Gave answer words old new → Table words old new (status_of answer)
   table_gave (Lowered text) gave = record {
     done = λ _. (text, gave);
-    refused_input = λ is. absurd (omega arith);
-    refused_words = λ is. absurd (omega arith);
-    read_fault = λ is. absurd (omega arith);
-    write_fault = λ is. absurd (omega arith);
-    out_of_memory = λ is. absurd (omega arith);
-    too_long = λ is. absurd (omega arith);
+    refused_input = other refl;
+    refused_words = other refl;
+    read_fault = other refl;
+    write_fault = other refl;
+    out_of_memory = other refl;
+    too_long = other refl;
     known = omega arith;
   }
   table_gave Json gave = record {
-    done = λ is. absurd (omega arith);
+    done = other refl;
     refused_input = λ _. inl gave;
-    refused_words = λ is. absurd (omega arith);
-    read_fault = λ is. absurd (omega arith);
-    write_fault = λ is. absurd (omega arith);
-    out_of_memory = λ is. absurd (omega arith);
-    too_long = λ is. absurd (omega arith);
+    refused_words = other refl;
+    read_fault = other refl;
+    write_fault = other refl;
+    out_of_memory = other refl;
+    too_long = other refl;
     known = omega arith;
   }
   table_gave NotBuilt gave = record {
-    done = λ is. absurd (omega arith);
+    done = other refl;
     refused_input = λ _. inr gave;
-    refused_words = λ is. absurd (omega arith);
-    read_fault = λ is. absurd (omega arith);
-    write_fault = λ is. absurd (omega arith);
-    out_of_memory = λ is. absurd (omega arith);
-    too_long = λ is. absurd (omega arith);
+    refused_words = other refl;
+    read_fault = other refl;
+    write_fault = other refl;
+    out_of_memory = other refl;
+    too_long = other refl;
     known = omega arith;
   }
   table_gave Words gave = record {
-    done = λ is. absurd (omega arith);
-    refused_input = λ is. absurd (omega arith);
+    done = other refl;
+    refused_input = other refl;
     refused_words = λ _. gave;
-    read_fault = λ is. absurd (omega arith);
-    write_fault = λ is. absurd (omega arith);
-    out_of_memory = λ is. absurd (omega arith);
-    too_long = λ is. absurd (omega arith);
+    read_fault = other refl;
+    write_fault = other refl;
+    out_of_memory = other refl;
+    too_long = other refl;
     known = omega arith;
   }
   table_gave ReadFault gave = record {
-    done = λ is. absurd (omega arith);
-    refused_input = λ is. absurd (omega arith);
-    refused_words = λ is. absurd (omega arith);
+    done = other refl;
+    refused_input = other refl;
+    refused_words = other refl;
     read_fault = λ _. gave;
-    write_fault = λ is. absurd (omega arith);
-    out_of_memory = λ is. absurd (omega arith);
-    too_long = λ is. absurd (omega arith);
+    write_fault = other refl;
+    out_of_memory = other refl;
+    too_long = other refl;
     known = omega arith;
   }
   table_gave TooLong gave = record {
-    done = λ is. absurd (omega arith);
-    refused_input = λ is. absurd (omega arith);
-    refused_words = λ is. absurd (omega arith);
-    read_fault = λ is. absurd (omega arith);
-    write_fault = λ is. absurd (omega arith);
-    out_of_memory = λ is. absurd (omega arith);
+    done = other refl;
+    refused_input = other refl;
+    refused_words = other refl;
+    read_fault = other refl;
+    write_fault = other refl;
+    out_of_memory = other refl;
     too_long = λ _. gave;
     known = omega arith;
   }

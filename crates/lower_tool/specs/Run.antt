@@ -1,5 +1,5 @@
 -- What a run of the tool does: the table of its statuses.
-use Rattle.std.specs.Prelude.{◌≡◌, ◌≢◌, ◌⊎◌, ◌+◌, ◌^◌, ◌<◌, ◌≤◌, ℕ, List, [], ◌∷◌, map, length, take, Some, String, string_bytes, codes}
+use Rattle.std.specs.Prelude.{◌≡◌, ◌⊎◌, ◌+◌, ◌^◌, ◌<◌, ◌≤◌, ℕ, List, [], ◌∷◌, map, length, take, Some, String, string_bytes, codes}
 use Rattle.std.specs.declared.alloc.Global.{Global}
 use Rattle.std.specs.Io.KnownBytes.{append_known}
 use Rattle.lower_tool.specs.declared.answer.Answer.{Answer}

@@ -4,7 +4,7 @@ ghost use Rattle.lower_tool.specs.Answer.{output_text, notes_text};
 ghost use Rattle.lower_tool.specs.Ends.{end_of};
 ghost use Rattle.lower_tool.specs.Run.{AreProper, IsJobAnswer, IsDue, TookAll, TookFront, Table, Causes, FaultsStay, ends};
 
-use crate::answer::{Answer, OUT_OF_MEMORY, WRITE_FAULT};
+use crate::answer::{Answer, DONE, OUT_OF_MEMORY, WRITE_FAULT};
 use crate::ends::{Failed, Sink, Source};
 use crate::job::{LowerError, lower_text};
 use crate::reading::{ReadError, read_input};
@@ -36,15 +36,15 @@ pub fn run_tool<S: Source, O: Sink, E: Sink>(
 
     // What isn't used isn't touched, whether or not it tells its bytes.
     ensures unread { ¬ AreProper words.now → input.new ≡ input.old }
-    ensures output_kept { result ≢ 0 → result ≢ 4 → output.new ≡ output.old }
-    ensures notes_kept { (result ≡ 0) ⊎ (result ≡ 5) → notes.new ≡ notes.old }
+    ensures output_kept { result ≢ DONE → result ≢ WRITE_FAULT → output.new ≡ output.old }
+    ensures notes_kept { (result ≡ DONE) ⊎ (result ≡ OUT_OF_MEMORY) → notes.new ≡ notes.old }
 {
     let Ok(answer) = find_answer(alloc, words, input) else {
         return OUT_OF_MEMORY;
     };
     match give(&answer, output, notes) {
         Ok(()) => answer.status(),
-        Err(_) => WRITE_FAULT,
+        Err(Failed) => WRITE_FAULT,
     }
 }
 

@@ -1,4 +1,4 @@
-use Rattle.std.proofs.Common.{◌≡◌, ◌+◌, ◌-◌, ◌^◌, ◌≤◌, ℕ, length, vec_len}
+use Rattle.std.proofs.Common.{◌≡◌, ◌+◌, ◌-◌, ◌^◌, ◌≤◌, vec_len}
 use Rattle.std.specs.Io.KnownBytes.{prepend_known}
 use Rattle.lower_tool.proofs.reading.read_input.Given as goal
 

@@ -1,5 +1,4 @@
 use Rattle.std.proofs.lemmas.Result.{err_from_is_err_and}
-use Rattle.lower_tool.specs.Answer.{output_text, notes_text}
 use Rattle.lower_tool.proofs.Outcome.{front_of_notes}
 use Rattle.lower_tool.proofs.run.give.Goals as goal
 
