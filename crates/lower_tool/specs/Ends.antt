@@ -1,6 +1,10 @@
 -- What the ends of a run tell.
-use Rattle.std.specs.Prelude.{◌≡◌, ◌⊎◌, ◌-◌, ◌^◌, ◌<◌, ℕ, List, [], length, Option, None, Some, MatchOption}
+use Rattle.std.specs.Prelude.{◌≡◌, ◌⊎◌, ◌+◌, ◌-◌, ◌^◌, ◌<◌, min, ℕ, List, [], length, Option, None, Some, MatchOption}
 use Rattle.std.specs.Io.KnownBytes.{prepend_known}
+
+-- a count goes up by one, and stands still at its last value
+abbrev pub count_on : ℕ → ℕ
+count_on count = min (count + 1) (2 ^ 64 - 1)
 
 -- a fault since then: the count has risen, or stands at its last value
 abbrev pub HasFault : ℕ → ℕ → Type 0

@@ -1,9 +1,6 @@
 -- Ends in memory, whose calls are numbered from 0, and some of which fail.
-use Rattle.std.specs.Prelude.{◌≡◌, ◌⊎◌, ◌+◌, ◌-◌, ◌^◌, min, ℕ, List, ◌++◌, length, drop, Contains}
-
--- a count goes up by one, and stands still at its last value
-abbrev pub count_on : ℕ → ℕ
-count_on count = min (count + 1) (2 ^ 64 - 1)
+use Rattle.std.specs.Prelude.{◌≡◌, ◌⊎◌, ◌-◌, ℕ, List, ◌++◌, length, drop, Contains}
+use Rattle.lower_tool.specs.Ends.{count_on}
 
 -- the bytes left, the most that a call gives, the calls that fail, the number of the next call, and the faults so far
 pub record SourceState : Type 0 where

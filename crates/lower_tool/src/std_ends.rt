@@ -1,6 +1,6 @@
 //! The ends over what std reads from and writes to. They tell no bytes, and each fault of theirs is counted.
 ghost use Rattle.std.specs.Prelude.{◌≡◌, ◌<◌, ◌≤◌, ◌^◌, length, OnOk, OnErr, None, IfOk};
-ghost use Rattle.lower_tool.specs.Memory.{count_on};
+ghost use Rattle.lower_tool.specs.Ends.{count_on};
 
 use crate::ends::{Failed, Sink, Source};
 use std::io::{Read, Write};
