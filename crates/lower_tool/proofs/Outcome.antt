@@ -1,0 +1,158 @@
+-- From the answer that is due to the table of statuses.
+use Rattle.std.proofs.Common.{◌≡◌, false, nat_eq, ◌+◌, ◌^◌, ◌<◌, ◌≤◌, ℕ, List, length, take, Option, Some, None, String, inl, inr, refl, sym, ◌∙◌, ap, subst, arith, length-append, ◌++◌}
+use Rattle.std.proofs.lemmas.List.{take_all}
+use Rattle.std.proofs.lemmas.Bool.{eq-eqb}
+use Rattle.std.specs.declared.alloc.Global.{Global}
+use Rattle.std.specs.Io.KnownBytes.{append_known}
+use Rattle.lower_tool.specs.declared.answer.Answer.{Answer}
+use Rattle.lower_tool.specs.declared.answer.Answer.TheVariants.{Lowered, Json, NotBuilt, Words, ReadFault, TooLong}
+use Rattle.lower_tool.specs.declared.answer.TheConstants.{DONE, REFUSED, WORDS, TOO_LONG}
+use Rattle.lower_tool.specs.Answer.{output_text, notes_text, status_of}
+use Rattle.lower_tool.specs.Ends.{HasFault, ReadWhole, ReadFront, End}
+use Rattle.lower_tool.specs.Job.{IsFirstPath, IsFirstPath-reads}
+use Rattle.lower_tool.specs.Run.{AreProper, WasWhole, IsDue, Took, TookFront, Ends, Gave, Table, HasInput, Causes}
+
+-- What is due, where the input tells its bytes.
+
+whole_read : (told now : Option (List ℕ)) (bytes read : List ℕ) → told ≡ Some bytes → ReadWhole told now read → bytes ≡ read
+whole_read told now bytes read is whole = (subst (λ known. ReadWhole known now read) is whole).0
+
+told_whole : {P : List ℕ → Type 0} (old new : End) (bytes : List ℕ) → old.bytes ≡ Some bytes → WasWhole old new P → (length bytes ≤ 2 ^ 26) × P bytes
+told_whole {P} old new bytes told whole =
+    let same = whole_read old.bytes new.bytes bytes whole.0 told whole.1 in
+    (omega (arith, ap length same, whole.2), subst P (sym same) whole.3)
+
+front_fits : (told now : Option (List ℕ)) (bytes : List ℕ) (count : ℕ) → told ≡ Some bytes → ReadFront told now count → count ≤ length bytes
+front_fits told None bytes count is front = absurd (cc (is, front.2))
+front_fits told (Some left) bytes count is front =
+    let same : bytes ≡ front.0 ++ left = cc (is, front.2) in
+    omega (arith, ap length same, length-append front.0 left, front.1)
+
+-- The status is the one that has to come.
+
+is_words : (answer : Answer) (words : List (String Global)) (old new : End) → IsDue answer words old new → ¬ AreProper words → status_of answer ≡ WORDS
+is_words (Lowered text) words old new due improper = absurd (improper due.0)
+is_words Json words old new due improper = absurd (improper due.0)
+is_words NotBuilt words old new due improper = absurd (improper due.0)
+is_words Words words old new due improper = refl
+is_words ReadFault words old new due improper = absurd (improper due.0)
+is_words TooLong words old new due improper = absurd (improper due.0)
+
+is_long : (answer : Answer) (words : List (String Global)) (old new : Ends) (bytes : List ℕ) → IsDue answer words old.input new.input
+    → HasInput words old new bytes → 2 ^ 26 < length bytes → status_of answer ≡ TOO_LONG
+is_long (Lowered text) words old new bytes due has long = absurd (omega (arith, (told_whole old.input new.input bytes has.told due.1).0))
+is_long Json words old new bytes due has long = absurd (omega (arith, (told_whole old.input new.input bytes has.told due.1).0))
+is_long NotBuilt words old new bytes due has long = absurd (omega (arith, (told_whole old.input new.input bytes has.told due.1).0))
+is_long Words words old new bytes due has long = absurd (due.0 has.proper)
+is_long ReadFault words old new bytes due has long = absurd (has.no_fault due.1)
+is_long TooLong words old new bytes due has long = refl
+
+is_refused : (answer : Answer) (words : List (String Global)) (old new : Ends) (bytes : List ℕ) → IsDue answer words old.input new.input
+    → HasInput words old new bytes → length bytes ≤ 2 ^ 26 → ¬ IsFirstPath bytes → status_of answer ≡ REFUSED
+is_refused (Lowered text) words old new bytes due has short other = absurd (other (told_whole old.input new.input bytes has.told due.1).1.0)
+is_refused Json words old new bytes due has short other = refl
+is_refused NotBuilt words old new bytes due has short other = refl
+is_refused Words words old new bytes due has short other = absurd (due.0 has.proper)
+is_refused ReadFault words old new bytes due has short other = absurd (has.no_fault due.1)
+is_refused TooLong words old new bytes due has short other = absurd (omega (arith, front_fits old.input.bytes new.input.bytes bytes (2 ^ 26 + 1) has.told due.1))
+
+is_done : (answer : Answer) (words : List (String Global)) (old new : Ends) (bytes : List ℕ) → IsDue answer words old.input new.input
+    → HasInput words old new bytes → length bytes ≤ 2 ^ 26 → IsFirstPath bytes → status_of answer ≡ DONE
+is_done (Lowered text) words old new bytes due has short first = refl
+is_done Json words old new bytes due has short first = absurd ((told_whole old.input new.input bytes has.told due.1).1 (IsFirstPath-reads bytes first))
+is_done NotBuilt words old new bytes due has short first = absurd ((told_whole old.input new.input bytes has.told due.1).1.1 first)
+is_done Words words old new bytes due has short first = absurd (due.0 has.proper)
+is_done ReadFault words old new bytes due has short first = absurd (has.no_fault due.1)
+is_done TooLong words old new bytes due has short first = absurd (omega (arith, front_fits old.input.bytes new.input.bytes bytes (2 ^ 26 + 1) has.told due.1))
+
+-- one number is no other
+other : {P : Type 0} {m n : ℕ} → nat_eq m n ≡ false → m ≡ n → P
+other {P} {m} {n} differ same = absurd (cc (sym differ, eq-eqb m n same))
+
+module _ (words : List (String Global)) (old new : Ends) where
+  -- an answer that was given whole has its status, and no other
+  pub table_gave : (answer : Answer) → Gave answer words old new → Table words old new (status_of answer)
+  table_gave (Lowered text) gave = record {
+    done = λ _. (text, gave);
+    refused_input = other refl;
+    refused_words = other refl;
+    read_fault = other refl;
+    write_fault = other refl;
+    out_of_memory = other refl;
+    too_long = other refl;
+    known = omega arith;
+  }
+  table_gave Json gave = record {
+    done = other refl;
+    refused_input = λ _. inl gave;
+    refused_words = other refl;
+    read_fault = other refl;
+    write_fault = other refl;
+    out_of_memory = other refl;
+    too_long = other refl;
+    known = omega arith;
+  }
+  table_gave NotBuilt gave = record {
+    done = other refl;
+    refused_input = λ _. inr gave;
+    refused_words = other refl;
+    read_fault = other refl;
+    write_fault = other refl;
+    out_of_memory = other refl;
+    too_long = other refl;
+    known = omega arith;
+  }
+  table_gave Words gave = record {
+    done = other refl;
+    refused_input = other refl;
+    refused_words = λ _. gave;
+    read_fault = other refl;
+    write_fault = other refl;
+    out_of_memory = other refl;
+    too_long = other refl;
+    known = omega arith;
+  }
+  table_gave ReadFault gave = record {
+    done = other refl;
+    refused_input = other refl;
+    refused_words = other refl;
+    read_fault = λ _. gave;
+    write_fault = other refl;
+    out_of_memory = other refl;
+    too_long = other refl;
+    known = omega arith;
+  }
+  table_gave TooLong gave = record {
+    done = other refl;
+    refused_input = other refl;
+    refused_words = other refl;
+    read_fault = other refl;
+    write_fault = other refl;
+    out_of_memory = other refl;
+    too_long = λ _. gave;
+    known = omega arith;
+  }
+
+  pub causes_gave : (answer : Answer) → IsDue answer words old.input new.input → Causes words old new (status_of answer)
+  causes_gave answer due = record {
+    refused_words = λ improper. inl (is_words answer words old.input new.input due improper);
+    too_long = λ bytes has long. inl (is_long answer words old new bytes due has long);
+    refused_input = λ bytes has short other. inl (is_refused answer words old new bytes due has short other);
+    done = λ bytes has _ short first. inl (is_done answer words old new bytes due has short first);
+  }
+
+-- the output took all, and a fault left the notes with the front of their text
+pub front_of_notes : (answer : Answer) (old_output new_output old_notes new_notes : End) (count : ℕ)
+    → Took old_output new_output (output_text answer) → count ≤ length (notes_text answer)
+    → Took old_notes new_notes (take count (notes_text answer)) → HasFault old_notes.faults new_notes.faults
+    → TookFront answer old_output new_output old_notes new_notes
+front_of_notes answer old_output new_output old_notes new_notes count output within notes fault = record {
+  output_count = length (output_text answer);
+  output_within = omega arith;
+  output = output ∙ ap (append_known old_output.bytes) (sym (take_all (length (output_text answer)) (output_text answer) (omega arith)));
+  notes_count = count;
+  notes_within = within;
+  notes = notes;
+  in_order = inl refl;
+  cause = inr fault;
+}

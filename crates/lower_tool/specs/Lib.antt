@@ -1,0 +1,5 @@
+pub mod Ends
+pub mod Job
+pub mod Answer
+pub mod Memory
+pub mod Run

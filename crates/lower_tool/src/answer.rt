@@ -1,0 +1,74 @@
+//! What a run answers.
+ghost use Rattle.std.specs.Prelude.{◌≡◌};
+ghost use Rattle.lower_tool.specs.Answer.{output_text, notes_text, status_of};
+
+/// A run is done.
+pub const DONE: u8 = 0;
+/// The input is refused.
+pub const REFUSED: u8 = 1;
+/// The words are refused.
+pub const WORDS: u8 = 2;
+/// The input failed.
+pub const READ_FAULT: u8 = 3;
+/// The output or the notes failed.
+pub const WRITE_FAULT: u8 = 4;
+/// Memory ran out.
+pub const OUT_OF_MEMORY: u8 = 5;
+/// The input is too long.
+pub const TOO_LONG: u8 = 6;
+
+/// The answer to the words and the input of a run.
+#[derive(Drop)]
+pub enum Answer {
+    /// The text of the lowered program.
+    Lowered(String),
+    /// The input has no reading as JSON.
+    Json,
+    /// The input is no program that the first path takes.
+    NotBuilt,
+    /// The words are refused.
+    Words,
+    /// The input failed.
+    ReadFault,
+    /// The input is too long.
+    TooLong,
+}
+
+impl Answer {
+    /// The text for the output.
+    pub fn output(&self) -> &[u8]
+        ensures { result.now ≡ output_text self.now }
+    {
+        match self {
+            Answer::Lowered(text) => text.as_bytes(),
+            _ => b"",
+        }
+    }
+
+    /// The line for the notes, or nothing.
+    pub fn notes(&self) -> &'static [u8]
+        ensures { result.now ≡ notes_text self.now }
+    {
+        match self {
+            Answer::Lowered(_) => b"",
+            Answer::Json => b"lower: json\n",
+            Answer::NotBuilt => b"lower: not built\n",
+            Answer::Words => b"lower: words\n",
+            Answer::ReadFault => b"lower: read fault\n",
+            Answer::TooLong => b"lower: input too long\n",
+        }
+    }
+
+    /// The status of a run that gives this answer.
+    pub fn status(&self) -> u8
+        ensures { result ≡ status_of self.now }
+    {
+        match self {
+            Answer::Lowered(_) => DONE,
+            Answer::Json | Answer::NotBuilt => REFUSED,
+            Answer::Words => WORDS,
+            Answer::ReadFault => READ_FAULT,
+            Answer::TooLong => TOO_LONG,
+        }
+    }
+}

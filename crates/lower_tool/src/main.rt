@@ -1,0 +1,47 @@
+//! Reads a program of JavaScript in its tree form from standard input, lowers it as its words say, and writes it out.
+//! Faults and refusals go to standard error, a line each, and the status of the process says which it was.
+#![tactic(auto)]
+
+mod answer;
+mod calls;
+mod ends;
+mod fixed_source;
+mod job;
+mod mem_sink;
+mod mem_source;
+mod reading;
+mod run;
+mod std_ends;
+#[cfg(test)]
+mod tests;
+mod writing;
+
+use answer::OUT_OF_MEMORY;
+use run::run_tool;
+use std::env;
+use std::io::{self, ErrorKind};
+use std::process::ExitCode;
+use std::rt::Env;
+use std_ends::{StdSink, StdSource};
+
+/// The words after the program's name. `InvalidData` says that one of them isn't UTF-8.
+fn read_words(rt: &(impl Env + AllocGlobal)) -> io::Result<Vec<String>> {
+    let words = env::args(rt)?.skip(1).collect(rt.alloc())?;
+    Ok(words)
+}
+
+fn main(rt: HostRuntime) -> ExitCode {
+    let mut input = StdSource::new(rt.stdin());
+    let mut output = StdSink::new(rt.stdout());
+    let mut notes = StdSink::new(rt.stderr());
+    let words = match read_words(&rt) {
+        Ok(words) => words,
+        Err(error) if error.kind() == ErrorKind::OutOfMemory => {
+            return ExitCode::from(OUT_OF_MEMORY);
+        }
+        // A word that isn't UTF-8 is none of the command's: no words at all are refused in the same way.
+        Err(_) => Vec::new(rt.alloc()),
+    };
+    let status = run_tool(rt.alloc(), &words, &mut input, &mut output, &mut notes);
+    ExitCode::from(status)
+}

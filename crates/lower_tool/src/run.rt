@@ -1,0 +1,111 @@
+//! A run of the tool, from its words and its input to its output and its notes.
+ghost use Rattle.std.specs.Prelude.{◌≡◌, ◌≢◌, ◌⊎◌, ◌↔◌, ◌≤◌, [], IsTrue, IfOk, OnOk, OnErr};
+ghost use Rattle.lower_tool.specs.Answer.{output_text, notes_text};
+ghost use Rattle.lower_tool.specs.Ends.{end_of};
+ghost use Rattle.lower_tool.specs.Run.{AreProper, IsJobAnswer, IsDue, TookAll, TookFront, Table, Causes, FaultsStay, ends};
+
+use crate::answer::{Answer, DONE, OUT_OF_MEMORY, WRITE_FAULT};
+use crate::ends::{Failed, Sink, Source};
+use crate::job::{LowerError, lower_text};
+use crate::reading::{ReadError, read_input};
+use crate::writing::write_all;
+use std::alloc::{AllocError, Global};
+
+/// Reads the words, then the input, lowers it, and writes the answer: first `output`, then `notes`.
+/// The result is one of the statuses of `answer`.
+///
+/// All memory is taken before the first byte goes out. Want of memory may come once the words are found proper.
+pub fn run_tool<S: Source, O: Sink, E: Sink>(
+    alloc: Global,
+    words: &[String],
+    input: &mut S,
+    output: &mut O,
+    notes: &mut E,
+) -> u8
+    ensures table { Table words.now
+        (ends (end_of S.left S.faults input.old) (end_of O.taken O.faults output.old) (end_of E.taken E.faults notes.old))
+        (ends (end_of S.left S.faults input.new) (end_of O.taken O.faults output.new) (end_of E.taken E.faults notes.new))
+        result }
+    ensures causes { Causes words.now
+        (ends (end_of S.left S.faults input.old) (end_of O.taken O.faults output.old) (end_of E.taken E.faults notes.old))
+        (ends (end_of S.left S.faults input.new) (end_of O.taken O.faults output.new) (end_of E.taken E.faults notes.new))
+        result }
+    ensures faults { FaultsStay
+        (ends (end_of S.left S.faults input.old) (end_of O.taken O.faults output.old) (end_of E.taken E.faults notes.old))
+        (ends (end_of S.left S.faults input.new) (end_of O.taken O.faults output.new) (end_of E.taken E.faults notes.new)) }
+
+    // What isn't used isn't touched, whether or not it tells its bytes.
+    ensures unread { ¬ AreProper words.now → input.new ≡ input.old }
+    ensures output_kept { result ≢ DONE → result ≢ WRITE_FAULT → output.new ≡ output.old }
+    ensures notes_kept { (result ≡ DONE) ⊎ (result ≡ OUT_OF_MEMORY) → notes.new ≡ notes.old }
+{
+    let Ok(answer) = find_answer(alloc, words, input) else {
+        return OUT_OF_MEMORY;
+    };
+    match give(&answer, output, notes) {
+        Ok(()) => answer.status(),
+        Err(Failed) => WRITE_FAULT,
+    }
+}
+
+/// The answer to these words and this input. Nothing is read unless the words are proper.
+fn find_answer<S: Source>(
+    alloc: Global,
+    words: &[String],
+    input: &mut S,
+) -> Result<Answer, AllocError>
+    ensures due { IfOk result (λ answer. IsDue answer words.now (end_of S.left S.faults input.old) (end_of S.left S.faults input.new)) }
+    ensures memory { OnErr result (AreProper words.now) }
+    ensures unread { ¬ AreProper words.now → input.new ≡ input.old }
+    ensures rises { S.faults input.old ≤ S.faults input.new }
+{
+    if !are_proper(words) {
+        return Ok(Answer::Words);
+    }
+    match read_input(alloc, input) {
+        Ok(bytes) => answer_to(alloc, &bytes),
+        Err(ReadError::Fault) => Ok(Answer::ReadFault),
+        Err(ReadError::TooLong) => Ok(Answer::TooLong),
+        Err(ReadError::OutOfMemory) => Err(AllocError),
+    }
+}
+
+/// Whether the words are exactly `--nullish`.
+fn are_proper(words: &[String]) -> bool
+    ensures { IsTrue result ↔ AreProper words.now }
+{
+    match words {
+        [word] => word.as_str() == "--nullish",
+        _ => false,
+    }
+}
+
+/// The job's answer to an input of these bytes.
+fn answer_to(alloc: Global, bytes: &[u8]) -> Result<Answer, AllocError>
+    ensures { IfOk result (λ answer. IsJobAnswer answer bytes.now) }
+{
+    match lower_text(alloc, bytes) {
+        Ok(text) => Ok(Answer::Lowered(text)),
+        Err(LowerError::Json) => Ok(Answer::Json),
+        Err(LowerError::NotBuilt) => Ok(Answer::NotBuilt),
+        Err(LowerError::OutOfMemory) => Err(AllocError),
+    }
+}
+
+/// Writes an answer: all of its text for the output, and then all of that for the notes. It takes no memory.
+fn give<O: Sink, E: Sink>(answer: &Answer, output: &mut O, notes: &mut E) -> Result<(), Failed>
+    ensures all { OnOk result (TookAll answer.now
+        (end_of O.taken O.faults output.old) (end_of O.taken O.faults output.new)
+        (end_of E.taken E.faults notes.old) (end_of E.taken E.faults notes.new)) }
+    ensures front { OnErr result (TookFront answer.now
+        (end_of O.taken O.faults output.old) (end_of O.taken O.faults output.new)
+        (end_of E.taken E.faults notes.old) (end_of E.taken E.faults notes.new)) }
+    ensures output_rises { O.faults output.old ≤ O.faults output.new }
+    ensures notes_rises { E.faults notes.old ≤ E.faults notes.new }
+    ensures output_kept { output_text answer.now ≡ [] → output.new ≡ output.old }
+    ensures notes_kept { notes_text answer.now ≡ [] → notes.new ≡ notes.old }
+{
+    write_all(output, answer.output())?;
+    write_all(notes, answer.notes())?;
+    Ok(())
+}

@@ -1,0 +1,150 @@
+use crate::ends::Source;
+use crate::fixed_source::FixedSource;
+use crate::mem_sink::MemSink;
+use crate::mem_source::MemSource;
+use crate::run::run_tool;
+use crate::std_ends::{StdSink, StdSource};
+use std::alloc::{AllocError, Global};
+use std::process::Abort;
+use std::test::Fail;
+
+// `foo = object.foo ?? "default";`
+const PROGRAM: &str =
+    r#"{"type":"Program","sourceType":"script","body":[{"type":"ExpressionStatement","expression":{"type":"AssignmentExpression","operator":"=","left":{"type":"Identifier","name":"foo"},"right":{"type":"LogicalExpression","operator":"??","left":{"type":"MemberExpression","object":{"type":"Identifier","name":"object"},"property":{"type":"Identifier","name":"foo"}},"right":{"type":"StringLiteral","value":"default"}}}}]}"#;
+
+fn words_of(alloc: Global, texts: &[&str]) -> Result<Vec<String>, AllocError> {
+    let mut words = Vec::new(alloc);
+    for text in texts {
+        words.push(String::from_str(alloc, text)?)?;
+    }
+    Ok(words)
+}
+
+fn ample_sink(alloc: Global) -> Result<MemSink, AllocError> {
+    MemSink::new(alloc, 4096, 4096, Vec::new(alloc))
+}
+
+// A run over input and sinks in memory has this status, and leaves these texts.
+fn assert_run<S: Source>(
+    rt: &(impl Abort + AllocGlobal),
+    texts: &[&str],
+    input: &mut S,
+    status: u8,
+    output_text: &[u8],
+    notes_text: &[u8],
+) -> Result<(), AllocError> {
+    let alloc = rt.alloc();
+    let words = words_of(alloc, texts)?;
+    let mut output = ample_sink(alloc)?;
+    let mut notes = ample_sink(alloc)?;
+    assert_eq!(rt;
+        run_tool(alloc, &words, input, &mut output, &mut notes),
+        status
+    );
+    assert_eq!(rt; output.bytes(), output_text);
+    assert_eq!(rt; notes.bytes(), notes_text);
+    Ok(())
+}
+
+#[test]
+fn a_failing_output_keeps_the_front_of_its_text(rt: HostRuntime) -> Result<(), Fail> {
+    let alloc = rt.alloc();
+    let words = words_of(alloc, &["--nullish"])?;
+    let mut whole = ample_sink(alloc)?;
+    let mut notes = ample_sink(alloc)?;
+    let mut input = MemSource::new(PROGRAM.as_bytes().to_vec(alloc)?, 7, Vec::new(alloc));
+    assert_eq!(rt;
+        run_tool(alloc, &words, &mut input, &mut whole, &mut notes),
+        0
+    );
+    assert!(rt; whole.bytes().len() > 10);
+
+    let mut output = MemSink::new(alloc, 4096, 10, vec![in alloc; 1]?)?;
+    let mut input = FixedSource::new(PROGRAM.as_bytes().to_vec(alloc)?);
+    assert_eq!(rt;
+        run_tool(alloc, &words, &mut input, &mut output, &mut notes),
+        4
+    );
+    assert_eq!(rt; output.bytes(), &whole.bytes()[..10]);
+    assert!(rt; notes.bytes().is_empty());
+    Ok(())
+}
+
+#[test]
+fn a_failing_input_is_a_read_fault(rt: HostRuntime) -> Result<(), Fail> {
+    let alloc = rt.alloc();
+    for call in [0, 3] {
+        let bytes = PROGRAM.as_bytes().to_vec(alloc)?;
+        let mut input = MemSource::new(bytes, 100, vec![in alloc; call]?);
+        assert_run(
+            &rt,
+            &["--nullish"],
+            &mut input,
+            3,
+            b"",
+            b"lower: read fault\n",
+        )?;
+    }
+    Ok(())
+}
+
+#[test]
+fn refused_words_read_nothing(rt: HostRuntime) -> Result<(), Fail> {
+    for texts in [&["--frobnicate"][..], &["--nullish", "--nullish"], &[]] {
+        let mut input = FixedSource::new(PROGRAM.as_bytes().to_vec(rt.alloc())?);
+        assert_run(&rt, texts, &mut input, 2, b"", b"lower: words\n")?;
+        let mut rest = [0u8; 1024];
+        let count = input
+            .read(&mut rest)
+            .expect(&rt, "a source that never fails");
+        assert_eq!(rt; &rest[..count], PROGRAM.as_bytes());
+    }
+    Ok(())
+}
+
+#[test]
+fn refused_inputs_have_their_lines(rt: HostRuntime) -> Result<(), Fail> {
+    for (bytes, line) in [
+        (&b"\xff"[..], &b"lower: json\n"[..]),
+        (b"[]", b"lower: not built\n"),
+    ] {
+        let mut input = FixedSource::new(bytes.to_vec(rt.alloc())?);
+        assert_run(&rt, &["--nullish"], &mut input, 1, b"", line)?;
+    }
+    Ok(())
+}
+
+fn spaces(alloc: Global, count: usize) -> Result<Vec<u8>, AllocError> {
+    vec![in alloc; b' '; count]
+}
+
+#[test]
+fn one_byte_above_the_limit_is_too_long(rt: HostRuntime) -> Result<(), Fail> {
+    let mut input = FixedSource::new(spaces(rt.alloc(), (1 << 26) + 1)?);
+    assert_run(
+        &rt,
+        &["--nullish"],
+        &mut input,
+        6,
+        b"",
+        b"lower: input too long\n",
+    )?;
+    Ok(())
+}
+
+#[test]
+fn a_writer_that_takes_nothing_is_a_write_fault(rt: HostRuntime) -> Result<(), Fail> {
+    let alloc = rt.alloc();
+    let words = words_of(alloc, &["--nullish"])?;
+    let mut text = [0u8; 5];
+    let mut input = StdSource::new(&b"[]"[..]);
+    let mut output = ample_sink(alloc)?;
+    let mut notes = StdSink::new(&mut text[..]);
+    assert_eq!(rt;
+        run_tool(alloc, &words, &mut input, &mut output, &mut notes),
+        4
+    );
+    assert!(rt; output.bytes().is_empty());
+    assert_eq!(rt; text, *b"lower");
+    Ok(())
+}
