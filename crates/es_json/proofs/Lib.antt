@@ -8,3 +8,4 @@ pub mod Attributes
 pub mod Sorts
 pub mod Named
 pub mod WrittenReads
+pub mod OneTree
