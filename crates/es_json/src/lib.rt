@@ -1,2 +1,6 @@
 //! The reader and the writer of the tree form.
 #![tactic(auto)]
+
+pub mod error;
+mod places;
+mod scalars;
