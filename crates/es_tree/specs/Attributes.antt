@@ -4,13 +4,31 @@ use Rattle.es_tree.specs.Words.{Text}
 use Rattle.es_tree.specs.Table.{entries, allows_text}
 use Rattle.es_tree.specs.declared.ast_type.AstType.{AstType}
 use Rattle.es_tree.specs.declared.ast_type.AstType.TheVariants.{
-  Program, BlockStatement, StaticBlock, FunctionDeclaration, FunctionExpression, FunctionBody, ArrowFunctionExpression,
-  ClassDeclaration, ClassExpression, ForStatement, ForInStatement, ForOfStatement, SwitchStatement, CatchClause, Identifier
+  Program,
+  BlockStatement,
+  StaticBlock,
+  FunctionDeclaration,
+  FunctionExpression,
+  FunctionBody,
+  ArrowFunctionExpression,
+  ClassDeclaration,
+  ClassExpression,
+  ForStatement,
+  ForInStatement,
+  ForOfStatement,
+  SwitchStatement,
+  CatchClause,
+  Identifier,
 }
 use Rattle.es_tree.specs.declared.table.Entry.{Entry}
 use Rattle.es_tree.specs.declared.table.Content.{Content}
 use Rattle.es_tree.specs.declared.table.Content.TheVariants.{
-  Text as c-Text, OptionalText as c-OptionalText, Flag as c-Flag, RequiredFlag as c-RequiredFlag, Refused as c-Refused, Child as c-Child
+  Text as c-Text,
+  OptionalText as c-OptionalText,
+  Flag as c-Flag,
+  RequiredFlag as c-RequiredFlag,
+  Refused as c-Refused,
+  Child as c-Child,
 }
 
 abbrev pub is_text : Entry → Bool

@@ -22,11 +22,11 @@ deep_le-field Missing = omega arith
 deep_le-field (One t) = omega arith
 deep_le-field (Many ts) =
     let h : (weighed-Field-Many-0).weight Node (λ t. tree_size t + 1) ts ≤ suc (trees_size (trees ts.items)) =
-      most_le-trees (λ t. w_this.weight Node (λ u. tree_size u + 1) t) (λ t. omega arith) ts.items in
+    most_le-trees (λ t. w_this.weight Node (λ u. tree_size u + 1) t) (λ t. omega arith) ts.items in
     omega (arith, h)
 deep_le-field (Statements ts) =
     let h : (weighed-Field-Many-0).weight Node (λ t. tree_size t + 1) ts ≤ suc (trees_size (trees ts.items)) =
-      most_le-trees (λ t. w_this.weight Node (λ u. tree_size u + 1) t) (λ t. omega arith) ts.items in
+    most_le-trees (λ t. w_this.weight Node (λ u. tree_size u + 1) t) (λ t. omega arith) ts.items in
     omega (arith, h)
 
 pub most_le-fields : (fs : List NodeField) → most deep-Field fs ≤ suc (fields_size (fields (map plain_field fs)))

@@ -5,7 +5,11 @@ pub mod TreeCode
 pub mod Heads
 pub mod Views
 pub mod Falls
+pub mod Plain
+pub mod Shapes
+pub mod Shaped
 pub mod Attributes
 pub mod Order
 pub mod Agree
 pub mod Texts
+pub mod Reads

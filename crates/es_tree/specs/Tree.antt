@@ -6,20 +6,87 @@ use Rattle.std.proofs.Common.{sym, ap, subst}
 use Rattle.es_tree.specs.Words.{Text}
 use Rattle.es_tree.specs.declared.ast_type.AstType.{AstType}
 use Rattle.es_tree.specs.declared.ast_type.AstType.TheVariants.{
-  Program, Directive, ExpressionStatement, BlockStatement, StaticBlock, EmptyStatement, DebuggerStatement,
-  VariableDeclaration, VariableDeclarator, FunctionDeclaration, FunctionExpression, FunctionBody,
-  ArrowFunctionExpression, ClassDeclaration, ClassExpression, MethodDefinition, PropertyDefinition,
-  ReturnStatement, ThrowStatement, IfStatement, ForStatement, ForInStatement, ForOfStatement, WhileStatement,
-  DoWhileStatement, BreakStatement, ContinueStatement, LabeledStatement, SwitchStatement, SwitchCase,
-  TryStatement, CatchClause, ImportDeclaration, ImportSpecifier, ImportDefaultSpecifier,
-  ImportNamespaceSpecifier, ImportAttribute, ExportNamedDeclaration, ExportSpecifier, ExportDefaultDeclaration,
-  ExportAllDeclaration, Identifier, PrivateIdentifier, ThisExpression, Super, NullLiteral, BooleanLiteral,
-  NumericLiteral, BigIntLiteral, StringLiteral, RegExpLiteral, TemplateLiteral, TemplateElement,
-  TaggedTemplateExpression, ArrayExpression, SpreadElement, ObjectExpression, ObjectProperty, UnaryExpression,
-  UpdateExpression, BinaryExpression, LogicalExpression, ConditionalExpression, AssignmentExpression,
-  SequenceExpression, MemberExpression, CallExpression, NewExpression, ChainExpression, ParenthesizedExpression,
-  MetaProperty, ObjectPattern, PatternProperty, ArrayPattern, AssignmentPattern, RestElement, ObjectTarget,
-  TargetProperty, ArrayTarget, TargetWithDefault, TargetRest
+  Program,
+  Directive,
+  ExpressionStatement,
+  BlockStatement,
+  StaticBlock,
+  EmptyStatement,
+  DebuggerStatement,
+  VariableDeclaration,
+  VariableDeclarator,
+  FunctionDeclaration,
+  FunctionExpression,
+  FunctionBody,
+  ArrowFunctionExpression,
+  ClassDeclaration,
+  ClassExpression,
+  MethodDefinition,
+  PropertyDefinition,
+  ReturnStatement,
+  ThrowStatement,
+  IfStatement,
+  ForStatement,
+  ForInStatement,
+  ForOfStatement,
+  WhileStatement,
+  DoWhileStatement,
+  BreakStatement,
+  ContinueStatement,
+  LabeledStatement,
+  SwitchStatement,
+  SwitchCase,
+  TryStatement,
+  CatchClause,
+  ImportDeclaration,
+  ImportSpecifier,
+  ImportDefaultSpecifier,
+  ImportNamespaceSpecifier,
+  ImportAttribute,
+  ExportNamedDeclaration,
+  ExportSpecifier,
+  ExportDefaultDeclaration,
+  ExportAllDeclaration,
+  Identifier,
+  PrivateIdentifier,
+  ThisExpression,
+  Super,
+  NullLiteral,
+  BooleanLiteral,
+  NumericLiteral,
+  BigIntLiteral,
+  StringLiteral,
+  RegExpLiteral,
+  TemplateLiteral,
+  TemplateElement,
+  TaggedTemplateExpression,
+  ArrayExpression,
+  SpreadElement,
+  ObjectExpression,
+  ObjectProperty,
+  UnaryExpression,
+  UpdateExpression,
+  BinaryExpression,
+  LogicalExpression,
+  ConditionalExpression,
+  AssignmentExpression,
+  SequenceExpression,
+  MemberExpression,
+  CallExpression,
+  NewExpression,
+  ChainExpression,
+  ParenthesizedExpression,
+  MetaProperty,
+  ObjectPattern,
+  PatternProperty,
+  ArrayPattern,
+  AssignmentPattern,
+  RestElement,
+  ObjectTarget,
+  TargetProperty,
+  ArrayTarget,
+  TargetWithDefault,
+  TargetRest,
 }
 
 -- The kinds in order, for their code.
@@ -230,10 +297,10 @@ LabelTuple = ℕ × (ℕ × (ℕ × (List (Option Text) × (List Bool × List (O
 abbrev pub label_code : Coded Label
 label_code =
     code_by LabelTuple
-      (coded× coded_ℕ (coded× coded_ℕ (coded× coded_ℕ (coded× (coded_list (coded_option (coded_list coded_ℕ))) (coded× (coded_list coded_bool) (coded_list (coded_option coded_ℕ)))))))
-      (λ l. (l.id, (l.start, (l.stop, (l.texts, (l.flags, l.marks))))))
-      (λ p. record { id = p.0; start = p.1.0; stop = p.1.1.0; texts = p.1.1.1.0; flags = p.1.1.1.1.0; marks = p.1.1.1.1.1 })
-      (λ _. refl)
+    (coded× coded_ℕ (coded× coded_ℕ (coded× coded_ℕ (coded× (coded_list (coded_option (coded_list coded_ℕ))) (coded× (coded_list coded_bool) (coded_list (coded_option coded_ℕ)))))))
+    (λ l. (l.id, (l.start, (l.stop, (l.texts, (l.flags, l.marks))))))
+    (λ p. record { id = p.0; start = p.1.0; stop = p.1.1.0; texts = p.1.1.1.0; flags = p.1.1.1.1.0; marks = p.1.1.1.1.1 })
+    (λ _. refl)
 
 -- A node: its kind, its label, and its fields in reading order. The elements of an array stand as fields
 -- of their own, with a hole as a missing one.
@@ -257,7 +324,6 @@ mutual
 
 infixr 5 ◌then◌
 infixr 5 ◌before◌
-
 abbrev mutual
   -- The number of nodes.
   pub tree_size : Tree → ℕ

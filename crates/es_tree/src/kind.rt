@@ -5,92 +5,187 @@ ghost use Rattle.es_tree.specs.Heads.{head_of};
 use crate::ast_type::AstType;
 use crate::ids::{ReferenceId, ScopeId, SymbolId};
 use crate::operators::{
-    AssignmentOperator, BinaryOperator, LogicalOperator, MethodDefinitionKind, PropertyKind, SourceType,
-    UnaryOperator, UpdateOperator, VariableDeclarationKind,
+    AssignmentOperator, BinaryOperator, LogicalOperator, MethodDefinitionKind, PropertyKind,
+    SourceType, UnaryOperator, UpdateOperator, VariableDeclarationKind,
 };
 
 /// The kind of a node, with all that is no child of it: texts, words, truth values, and the marks
 /// that the tables of scopes write into the tree.
 #[derive(Debug, Drop)]
 pub enum Kind {
-    Program { source_type: SourceType, scope: Option<ScopeId> },
-    Directive { value: String },
+    Program {
+        source_type: SourceType,
+        scope: Option<ScopeId>,
+    },
+    Directive {
+        value: String,
+    },
     ExpressionStatement,
-    BlockStatement { scope: Option<ScopeId> },
-    StaticBlock { scope: Option<ScopeId> },
+    BlockStatement {
+        scope: Option<ScopeId>,
+    },
+    StaticBlock {
+        scope: Option<ScopeId>,
+    },
     EmptyStatement,
     DebuggerStatement,
-    VariableDeclaration { kind: VariableDeclarationKind },
+    VariableDeclaration {
+        kind: VariableDeclarationKind,
+    },
     VariableDeclarator,
-    FunctionDeclaration { scope: Option<ScopeId> },
-    FunctionExpression { scope: Option<ScopeId> },
-    FunctionBody { scope: Option<ScopeId> },
-    ArrowFunctionExpression { scope: Option<ScopeId> },
-    ClassDeclaration { scope: Option<ScopeId> },
-    ClassExpression { scope: Option<ScopeId> },
-    MethodDefinition { kind: MethodDefinitionKind, is_static: bool, computed: bool },
-    PropertyDefinition { is_static: bool, computed: bool },
+    FunctionDeclaration {
+        scope: Option<ScopeId>,
+    },
+    FunctionExpression {
+        scope: Option<ScopeId>,
+    },
+    FunctionBody {
+        scope: Option<ScopeId>,
+    },
+    ArrowFunctionExpression {
+        scope: Option<ScopeId>,
+    },
+    ClassDeclaration {
+        scope: Option<ScopeId>,
+    },
+    ClassExpression {
+        scope: Option<ScopeId>,
+    },
+    MethodDefinition {
+        kind: MethodDefinitionKind,
+        is_static: bool,
+        computed: bool,
+    },
+    PropertyDefinition {
+        is_static: bool,
+        computed: bool,
+    },
     ReturnStatement,
     ThrowStatement,
     IfStatement,
-    ForStatement { scope: Option<ScopeId> },
-    ForInStatement { scope: Option<ScopeId> },
-    ForOfStatement { scope: Option<ScopeId> },
+    ForStatement {
+        scope: Option<ScopeId>,
+    },
+    ForInStatement {
+        scope: Option<ScopeId>,
+    },
+    ForOfStatement {
+        scope: Option<ScopeId>,
+    },
     WhileStatement,
     DoWhileStatement,
     BreakStatement,
     ContinueStatement,
     LabeledStatement,
-    SwitchStatement { scope: Option<ScopeId> },
+    SwitchStatement {
+        scope: Option<ScopeId>,
+    },
     SwitchCase,
     TryStatement,
-    CatchClause { scope: Option<ScopeId> },
+    CatchClause {
+        scope: Option<ScopeId>,
+    },
     ImportDeclaration,
     ImportSpecifier,
     ImportDefaultSpecifier,
     ImportNamespaceSpecifier,
-    ImportAttribute { key: String, value: String },
+    ImportAttribute {
+        key: String,
+        value: String,
+    },
     ExportNamedDeclaration,
     ExportSpecifier,
     ExportDefaultDeclaration,
     ExportAllDeclaration,
-    Identifier { name: String, reference: Option<ReferenceId>, symbol: Option<SymbolId> },
-    PrivateIdentifier { name: String },
+    Identifier {
+        name: String,
+        reference: Option<ReferenceId>,
+        symbol: Option<SymbolId>,
+    },
+    PrivateIdentifier {
+        name: String,
+    },
     ThisExpression,
     Super,
     NullLiteral,
-    BooleanLiteral { value: bool },
-    NumericLiteral { raw: String, key: String },
-    BigIntLiteral { raw: String, key: String },
-    StringLiteral { value: String },
-    RegExpLiteral { pattern: String, flags: String },
+    BooleanLiteral {
+        value: bool,
+    },
+    NumericLiteral {
+        raw: String,
+        key: String,
+    },
+    BigIntLiteral {
+        raw: String,
+        key: String,
+    },
+    StringLiteral {
+        value: String,
+    },
+    RegExpLiteral {
+        pattern: String,
+        flags: String,
+    },
     TemplateLiteral,
-    TemplateElement { raw: String, cooked: Option<String> },
+    TemplateElement {
+        raw: String,
+        cooked: Option<String>,
+    },
     TaggedTemplateExpression,
     ArrayExpression,
     SpreadElement,
     ObjectExpression,
-    ObjectProperty { kind: PropertyKind, method: bool, shorthand: bool, computed: bool },
-    UnaryExpression { operator: UnaryOperator },
-    UpdateExpression { operator: UpdateOperator, prefix: bool },
-    BinaryExpression { operator: BinaryOperator },
-    LogicalExpression { operator: LogicalOperator },
+    ObjectProperty {
+        kind: PropertyKind,
+        method: bool,
+        shorthand: bool,
+        computed: bool,
+    },
+    UnaryExpression {
+        operator: UnaryOperator,
+    },
+    UpdateExpression {
+        operator: UpdateOperator,
+        prefix: bool,
+    },
+    BinaryExpression {
+        operator: BinaryOperator,
+    },
+    LogicalExpression {
+        operator: LogicalOperator,
+    },
     ConditionalExpression,
-    AssignmentExpression { operator: AssignmentOperator },
+    AssignmentExpression {
+        operator: AssignmentOperator,
+    },
     SequenceExpression,
-    MemberExpression { computed: bool, optional: bool },
-    CallExpression { optional: bool },
+    MemberExpression {
+        computed: bool,
+        optional: bool,
+    },
+    CallExpression {
+        optional: bool,
+    },
     NewExpression,
     ChainExpression,
     ParenthesizedExpression,
-    MetaProperty { meta: String, property: String },
+    MetaProperty {
+        meta: String,
+        property: String,
+    },
     ObjectPattern,
-    PatternProperty { shorthand: bool, computed: bool },
+    PatternProperty {
+        shorthand: bool,
+        computed: bool,
+    },
     ArrayPattern,
     AssignmentPattern,
     RestElement,
     ObjectTarget,
-    TargetProperty { shorthand: bool, computed: bool },
+    TargetProperty {
+        shorthand: bool,
+        computed: bool,
+    },
     ArrayTarget,
     TargetWithDefault,
     TargetRest,

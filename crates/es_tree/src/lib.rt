@@ -3,6 +3,8 @@
 #![tactic(auto)]
 
 pub mod ast_type;
+pub mod attributes;
+pub mod builder;
 pub mod ids;
 pub mod kind;
 pub mod node;

@@ -1,8 +1,8 @@
 //! The nodes.
-ghost use Rattle.std.specs.Prelude.{◌≡◌};
-ghost use Rattle.es_tree.specs.Views.{plain};
-ghost use Rattle.std.specs.Prelude.{map};
-ghost use Rattle.es_tree.specs.Tree.{fields};
+ghost use Rattle.std.specs.Prelude.{◌≡◌, length};
+ghost use Rattle.es_tree.specs.Plain.{plain_parts};
+ghost use Rattle.es_tree.specs.Shapes.{IsMany, IsMaybe, IsOne, IsStatements, maybe};
+ghost use Rattle.es_tree.specs.Tree.{many, one, statements, trees};
 ghost use Rattle.es_tree.specs.Views.{plain_field};
 
 use crate::ids::{NodeId, Span};
@@ -51,7 +51,12 @@ impl Model for Node {
 impl Drop for Node {
     #[cycle(let_go)]
     fn drop(self) {
-        let Node { id: _id, span: _span, kind, fields } = self;
+        let Node {
+            id: _id,
+            span: _span,
+            kind,
+            fields,
+        } = self;
         mem::drop(kind);
         mem::drop(fields);
     }
@@ -65,6 +70,103 @@ impl Drop for Field {
             Field::One(node) => mem::drop(node),
             Field::Many(nodes) => mem::drop(nodes),
             Field::Statements(nodes) => mem::drop(nodes),
+        }
+    }
+}
+
+/// A node taken apart.
+#[derive(Drop)]
+pub struct Parts {
+    pub id: NodeId,
+    pub span: Span,
+    pub kind: Kind,
+    pub fields: Vec<Field>,
+}
+
+impl Node {
+    /// Takes the node apart.
+    pub fn into_parts(self) -> Parts
+        ensures { plain_parts result ≡ self }
+    {
+        let Node {
+            id,
+            span,
+            kind,
+            fields,
+        } = self;
+        Parts {
+            id,
+            span,
+            kind,
+            fields,
+        }
+    }
+}
+
+/// The fields of a node that has just these many.
+pub fn exactly<const N: usize>(fields: Vec<Field>) -> [Field; N]
+    requires { length fields.items ≡ N }
+    ensures { result ≡ fields.items }
+{
+    match <[Field; N]>::try_from(fields) {
+        Ok(fields) => fields,
+        Err(_fields) => unreachable!(),
+    }
+}
+
+impl Field {
+    /// The field of a child that may be missing.
+    pub fn from_optional(node: Option<Node>) -> Field
+        ensures { plain_field result ≡ maybe node }
+    {
+        match node {
+            None => Field::Missing,
+            Some(node) => Field::One(node),
+        }
+    }
+
+    /// The one child of this field.
+    pub fn into_node(self) -> Node
+        requires { IsOne (plain_field self) }
+        ensures { plain_field self ≡ one result }
+    {
+        match self {
+            Field::One(node) => node,
+            _other => unreachable!(),
+        }
+    }
+
+    /// The child of this field, if there is one.
+    pub fn into_optional(self) -> Option<Node>
+        requires { IsMaybe (plain_field self) }
+        ensures { plain_field self ≡ maybe result }
+    {
+        match self {
+            Field::Missing => None,
+            Field::One(node) => Some(node),
+            _other => unreachable!(),
+        }
+    }
+
+    /// The list of this field.
+    pub fn into_nodes(self) -> Vec<Node>
+        requires { IsMany (plain_field self) }
+        ensures { plain_field self ≡ many (trees result.items) }
+    {
+        match self {
+            Field::Many(nodes) => nodes,
+            _other => unreachable!(),
+        }
+    }
+
+    /// The list of statements of this field.
+    pub fn into_statements(self) -> Vec<Node>
+        requires { IsStatements (plain_field self) }
+        ensures { plain_field self ≡ statements (trees result.items) }
+    {
+        match self {
+            Field::Statements(nodes) => nodes,
+            _other => unreachable!(),
         }
     }
 }

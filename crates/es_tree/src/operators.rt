@@ -1,11 +1,24 @@
 //! Words and operators that a node holds, each with its text in the tree form.
 ghost use Rattle.std.specs.Prelude.{◌≡◌};
 ghost use Rattle.es_tree.specs.Words.{
-    source_type_text, variable_declaration_kind_text, method_definition_kind_text, property_kind_text,
-    unary_operator_text, update_operator_text, binary_operator_text, logical_operator_text,
-    assignment_operator_text, source_type_of, variable_declaration_kind_of, method_definition_kind_of,
-    property_kind_of, unary_operator_of, update_operator_of, binary_operator_of, logical_operator_of,
-    assignment_operator_of
+  source_type_text,
+  variable_declaration_kind_text,
+  method_definition_kind_text,
+  property_kind_text,
+  unary_operator_text,
+  update_operator_text,
+  binary_operator_text,
+  logical_operator_text,
+  assignment_operator_text,
+  source_type_of,
+  variable_declaration_kind_of,
+  method_definition_kind_of,
+  property_kind_of,
+  unary_operator_of,
+  update_operator_of,
+  binary_operator_of,
+  logical_operator_of,
+  assignment_operator_of,
 };
 
 /// Whether a program is a script or a module (ECMA-262, 16.1 and 16.2).
@@ -15,10 +28,7 @@ pub enum SourceType {
     Script,
 }
 
-pub static SOURCE_TYPES: [SourceType; 2] = [
-    SourceType::Module,
-    SourceType::Script,
-];
+pub static SOURCE_TYPES: [SourceType; 2] = [SourceType::Module, SourceType::Script];
 
 impl SourceType {
     /// Its text.
@@ -35,7 +45,10 @@ impl SourceType {
     pub fn from_text(text: &str) -> Option<SourceType>
         ensures { result ≡ source_type_of text.now }
     {
-        SOURCE_TYPES.iter().copied().find(|word| word.as_str() == text)
+        SOURCE_TYPES
+            .iter()
+            .copied()
+            .find(|word| word.as_str() == text)
     }
 }
 
@@ -72,7 +85,10 @@ impl VariableDeclarationKind {
     pub fn from_text(text: &str) -> Option<VariableDeclarationKind>
         ensures { result ≡ variable_declaration_kind_of text.now }
     {
-        VARIABLE_DECLARATION_KINDS.iter().copied().find(|word| word.as_str() == text)
+        VARIABLE_DECLARATION_KINDS
+            .iter()
+            .copied()
+            .find(|word| word.as_str() == text)
     }
 }
 
@@ -109,7 +125,10 @@ impl MethodDefinitionKind {
     pub fn from_text(text: &str) -> Option<MethodDefinitionKind>
         ensures { result ≡ method_definition_kind_of text.now }
     {
-        METHOD_DEFINITION_KINDS.iter().copied().find(|word| word.as_str() == text)
+        METHOD_DEFINITION_KINDS
+            .iter()
+            .copied()
+            .find(|word| word.as_str() == text)
     }
 }
 
@@ -143,7 +162,10 @@ impl PropertyKind {
     pub fn from_text(text: &str) -> Option<PropertyKind>
         ensures { result ≡ property_kind_of text.now }
     {
-        PROPERTY_KINDS.iter().copied().find(|word| word.as_str() == text)
+        PROPERTY_KINDS
+            .iter()
+            .copied()
+            .find(|word| word.as_str() == text)
     }
 }
 
@@ -189,7 +211,10 @@ impl UnaryOperator {
     pub fn from_text(text: &str) -> Option<UnaryOperator>
         ensures { result ≡ unary_operator_of text.now }
     {
-        UNARY_OPERATORS.iter().copied().find(|word| word.as_str() == text)
+        UNARY_OPERATORS
+            .iter()
+            .copied()
+            .find(|word| word.as_str() == text)
     }
 }
 
@@ -220,7 +245,10 @@ impl UpdateOperator {
     pub fn from_text(text: &str) -> Option<UpdateOperator>
         ensures { result ≡ update_operator_of text.now }
     {
-        UPDATE_OPERATORS.iter().copied().find(|word| word.as_str() == text)
+        UPDATE_OPERATORS
+            .iter()
+            .copied()
+            .find(|word| word.as_str() == text)
     }
 }
 
@@ -311,7 +339,10 @@ impl BinaryOperator {
     pub fn from_text(text: &str) -> Option<BinaryOperator>
         ensures { result ≡ binary_operator_of text.now }
     {
-        BINARY_OPERATORS.iter().copied().find(|word| word.as_str() == text)
+        BINARY_OPERATORS
+            .iter()
+            .copied()
+            .find(|word| word.as_str() == text)
     }
 }
 
@@ -345,7 +376,10 @@ impl LogicalOperator {
     pub fn from_text(text: &str) -> Option<LogicalOperator>
         ensures { result ≡ logical_operator_of text.now }
     {
-        LOGICAL_OPERATORS.iter().copied().find(|word| word.as_str() == text)
+        LOGICAL_OPERATORS
+            .iter()
+            .copied()
+            .find(|word| word.as_str() == text)
     }
 }
 
@@ -418,6 +452,9 @@ impl AssignmentOperator {
     pub fn from_text(text: &str) -> Option<AssignmentOperator>
         ensures { result ≡ assignment_operator_of text.now }
     {
-        ASSIGNMENT_OPERATORS.iter().copied().find(|word| word.as_str() == text)
+        ASSIGNMENT_OPERATORS
+            .iter()
+            .copied()
+            .find(|word| word.as_str() == text)
     }
 }
