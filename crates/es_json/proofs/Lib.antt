@@ -1,2 +1,7 @@
 pub mod Entries
 pub mod Lists
+pub mod Depth
+pub mod NewNodes
+pub mod Items
+pub mod Children
+pub mod Parts

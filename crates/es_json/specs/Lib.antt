@@ -1,3 +1,5 @@
 pub mod Values
 pub mod Form
 pub mod Canonical
+pub mod New
+pub mod Parts

@@ -3,4 +3,5 @@
 
 pub mod error;
 mod places;
+//READER
 mod scalars;

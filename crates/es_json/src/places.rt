@@ -1,11 +1,13 @@
 //! What the fields of a JSON value ask of one another.
 ghost use Rattle.std.specs.Prelude.{◌≡◌, option_map, codes};
 ghost use Rattle.serde_json.specs.View.{view, items_view};
-ghost use Rattle.es_json.specs.Values.{field_of, list_of, stands, is_word, is_in, is_computed, sort_in, counts_fit, value_agrees};
+ghost use Rattle.es_json.specs.Values.{field_of, list_of, stands, is_word, is_in, is_computed, sort_in, counts_fit, value_agrees, sort_before};
+ghost use Rattle.es_json.specs.Form.{elements_of};
+ghost use Rattle.es_json.specs.Parts.{plain_place};
 
 use crate::scalars::field_of;
 use es_tree::ast_type::AstType;
-use es_tree::table::{FieldName, Sort};
+use es_tree::table::{Content, Entry, FieldName, Often, Sort};
 use serde_json::Value;
 
 /// The list in a field, empty where absent.
@@ -81,5 +83,39 @@ pub(crate) fn fields_agree(value: &Value, ast_type: AstType) -> bool
                 || is_word(value, FieldName::Meta, "import") && is_word(value, FieldName::Property, "meta")
         }
         _ => true,
+    }
+}
+
+/// The elements of an array: their field, the sort of each, and the sort of the last.
+#[derive(Clone, Copy)]
+pub(crate) struct ElementsPlace {
+    pub(crate) field: FieldName,
+    pub(crate) sort: Sort,
+    pub(crate) last: Sort,
+}
+
+/// The place of the elements where these fields are an array's.
+pub(crate) fn elements_of(entries: &[Entry]) -> Option<ElementsPlace>
+    ensures { option_map plain_place result ≡ elements_of entries.now }
+{
+    let [entry] = entries else {
+        return None;
+    };
+    match entry.content {
+        Content::Child(sort, Often::Elements) => Some(ElementsPlace { field: entry.field, sort, last: sort }),
+        Content::Child(sort, Often::ElementsWithRest) => {
+            Some(ElementsPlace { field: entry.field, sort, last: sort.with_rest() })
+        }
+        _ => None,
+    }
+}
+
+/// The sort of the item before these.
+pub(crate) fn sort_before(sort: Sort, last: Sort, rest: &[Value]) -> Sort
+    ensures { result ≡ sort_before sort last (items_view rest.now) }
+{
+    match rest {
+        [] => last,
+        [_, ..] => sort,
     }
 }
