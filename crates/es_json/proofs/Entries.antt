@@ -1,9 +1,13 @@
 -- Lists of entries beside what was read for them.
-use Rattle.std.proofs.Common.{◌≡◌, ℕ, zero, suc, ◌+◌, ◌<◌, List, [], ◌∷◌, ◌++◌, length, get_or, take, drop, filter, Bool, true, false, cond, Option, Some, None, ◌⊎◌, inl, inr, refl, sym, ap, ◌∙◌, subst, arith, append_assoc}
-use Rattle.std.proofs.lemmas.List.{take_more, drop_more, take-append-drop, append-nil}
+use Rattle.std.proofs.Common.{◌≡◌, ℕ, zero, suc, ◌+◌, ◌<◌, ◌≤◌, List, [], ◌∷◌, ◌++◌, length, get_or, take, drop, filter, map, Bool, true, false, cond, Option, Some, None, ◌⊎◌, inl, inr, refl, sym, ap, ◌∙◌, subst, arith, append_assoc}
+use Rattle.std.proofs.lemmas.List.{take_more, drop_more, take-append-drop, append-nil, map_push, take_all}
 use Rattle.std.proofs.lemmas.List.Elements.{filter-append}
 use Rattle.serde_json.specs.Data.{Data, null, boolean, number, string, array, object}
+use Rattle.std.specs.Borrow.{Bor}
 use Rattle.es_tree.specs.Words.{Text}
+use Rattle.es_tree.specs.Texts.{plain_text, plain_texts}
+use Rattle.es_tree.specs.Views.{plain_field}
+use Rattle.es_tree.specs.declared.node.Field.{Field as NodeField}
 use Rattle.es_tree.specs.Tree.{Tree, Fields, done, ◌then◌, Field, fields}
 use Rattle.es_tree.specs.Attributes.{is_text, is_flag, is_refused, is_child, text_fits, texts_fit}
 use Rattle.es_tree.specs.declared.table.FieldName.{FieldName}
@@ -13,7 +17,12 @@ use Rattle.es_tree.specs.declared.table.Often.{Often}
 use Rattle.es_tree.specs.declared.table.TextRule.{TextRule}
 use Rattle.es_tree.specs.declared.table.Content.{Content}
 use Rattle.es_tree.specs.declared.table.Content.TheVariants.{
-  Text as c-Text, OptionalText as c-OptionalText, Flag as c-Flag, RequiredFlag as c-RequiredFlag, Refused as c-Refused, Child as c-Child
+  Text as c-Text,
+  OptionalText as c-OptionalText,
+  Flag as c-Flag,
+  RequiredFlag as c-RequiredFlag,
+  Refused as c-Refused,
+  Child as c-Child,
 }
 use Rattle.es_json.specs.Values.{field_of, TextIs, FlagIs, IsAbsent, NoneStands, TextsAre, FlagsAre}
 use Rattle.es_json.specs.Form.{AreFields, IsChild}
@@ -159,7 +168,7 @@ module _ (es : List Entry) (i : ℕ) (d : Entry) (v : Data) (h : i < length es) 
   more ts us bs cs fs gs before here = record {
     texts = texts_more es i d v ts us h before.texts here.texts;
     flags = flags_more es i d v bs cs h before.flags here.flags;
-    children = fields_more es i d v fs gs h before.children here.children
+    children = fields_more es i d v fs gs h before.children here.children;
   }
 
 one_text : (f : FieldName) (k : Content) (v : Data) (t : Option Text) → TextIs k (field_of f v) t → AreRead v (entry f k ∷ []) (t ∷ []) [] []
@@ -181,34 +190,48 @@ one_flag f (c-Child s o) v t h = absurd h
 one_child : (f : FieldName) (s : Sort) (o : Often) (v : Data) (x : Field) → IsChild v (c-Child s o) (field_of f v) x → AreRead v (entry f (c-Child s o) ∷ []) [] [] (x ∷ [])
 one_child f s o v x h = record { texts = tt; flags = tt; children = (h, tt) }
 
+as_read : {v : Data} {es : List Entry} {ts : List (Option Text)} {bs : List Bool} {fs : List Field} (us : List (Option Text)) (cs : List Bool) (gs : List Field)
+    → us ≡ ts → cs ≡ bs → gs ≡ fs → AreRead v es ts bs fs → AreRead v es us cs gs
+as_read {v} {es} {ts} {bs} {fs} us cs gs e p q r = record {
+  texts = subst (λ x. TextsAre (filter is_text es) v x) (sym e) r.texts;
+  flags = subst (λ x. FlagsAre (filter is_flag es) v x) (sym p) r.flags;
+  children = subst (λ x. AreFields v (filter is_child es) (fields x)) (sym q) r.children;
+}
+
 module _ (es : List Entry) (i : ℕ) (d : Entry) (v : Data) (h : i < length es) where
-  pub one_more_text : (ts : List (Option Text)) (bs : List Bool) (fs : List Field) (t : Option Text) → AreRead v (take i es) ts bs fs
-      → TextIs (get_or es i d).content (field_of (get_or es i d).field v) t → AreRead v (take (i + 1) es) (ts ++ t ∷ []) bs fs
-  one_more_text ts bs fs t before is =
+  pub one_more_text : (ts us : List (Option Text)) (bs cs : List Bool) (fs gs : List Field) (t : Option Text) → us ≡ ts ++ t ∷ [] → cs ≡ bs → gs ≡ fs → AreRead v (take i es) ts bs fs
+      → TextIs (get_or es i d).content (field_of (get_or es i d).field v) t → AreRead v (take (i + 1) es) us cs gs
+  one_more_text ts us bs cs fs gs t e p q before is =
       let r = more es i d v h ts (t ∷ []) bs [] fs [] before (one_text _ (get_or es i d).content v t is) in
-      rw (append-nil bs, append-nil fs) at r
+      as_read us cs gs e (p ∙ sym (append-nil bs)) (q ∙ sym (append-nil fs)) r
 
-  pub one_more_flag : (ts : List (Option Text)) (bs : List Bool) (fs : List Field) (b : Bool) → AreRead v (take i es) ts bs fs
-      → FlagIs (get_or es i d).content (field_of (get_or es i d).field v) b → AreRead v (take (i + 1) es) ts (bs ++ b ∷ []) fs
-  one_more_flag ts bs fs b before is =
+  pub one_more_flag : (ts us : List (Option Text)) (bs cs : List Bool) (fs gs : List Field) (b : Bool) → us ≡ ts → cs ≡ bs ++ b ∷ [] → gs ≡ fs → AreRead v (take i es) ts bs fs
+      → FlagIs (get_or es i d).content (field_of (get_or es i d).field v) b → AreRead v (take (i + 1) es) us cs gs
+  one_more_flag ts us bs cs fs gs b e p q before is =
       let r = more es i d v h ts [] bs (b ∷ []) fs [] before (one_flag _ (get_or es i d).content v b is) in
-      rw (append-nil ts, append-nil fs) at r
+      as_read us cs gs (e ∙ sym (append-nil ts)) p (q ∙ sym (append-nil fs)) r
 
-  pub one_more_refused : (ts : List (Option Text)) (bs : List Bool) (fs : List Field) → AreRead v (take i es) ts bs fs
-      → (get_or es i d).content ≡ c-Refused → AreRead v (take (i + 1) es) ts bs fs
-  one_more_refused ts bs fs before is =
+  pub one_more_refused : (ts us : List (Option Text)) (bs cs : List Bool) (fs gs : List Field) → us ≡ ts → cs ≡ bs → gs ≡ fs → AreRead v (take i es) ts bs fs
+      → (get_or es i d).content ≡ c-Refused → AreRead v (take (i + 1) es) us cs gs
+  one_more_refused ts us bs cs fs gs e p q before is =
       let P : Content → Type 0 = λ k. AreRead v (entry (get_or es i d).field k ∷ []) [] [] [] in
       let here : AreRead v (get_or es i d ∷ []) [] [] [] = subst P (sym is) (record { texts = tt; flags = tt; children = tt }) in
       let r = more es i d v h ts [] bs [] fs [] before here in
-      rw (append-nil ts, append-nil bs, append-nil fs) at r
+      as_read us cs gs (e ∙ sym (append-nil ts)) (p ∙ sym (append-nil bs)) (q ∙ sym (append-nil fs)) r
 
-  pub one_more_child : (ts : List (Option Text)) (bs : List Bool) (fs : List Field) (s : Sort) (o : Often) (f : Field) → AreRead v (take i es) ts bs fs
-      → (get_or es i d).content ≡ c-Child s o → IsChild v (c-Child s o) (field_of (get_or es i d).field v) f → AreRead v (take (i + 1) es) ts bs (fs ++ f ∷ [])
-  one_more_child ts bs fs s o f before is child =
+  pub one_more_child : (ts us : List (Option Text)) (bs cs : List Bool) (fs gs : List Field) (s : Sort) (o : Often) (f : Field) → us ≡ ts → cs ≡ bs → gs ≡ fs ++ f ∷ [] → AreRead v (take i es) ts bs fs
+      → (get_or es i d).content ≡ c-Child s o → IsChild v (c-Child s o) (field_of (get_or es i d).field v) f → AreRead v (take (i + 1) es) us cs gs
+  one_more_child ts us bs cs fs gs s o f e p q before is child =
       let P : Content → Type 0 = λ k. AreRead v (entry (get_or es i d).field k ∷ []) [] [] (f ∷ []) in
       let here : AreRead v (get_or es i d ∷ []) [] [] (f ∷ []) = subst P (sym is) (one_child _ s o v f child) in
       let r = more es i d v h ts [] bs [] fs (f ∷ []) before here in
-      rw (append-nil ts, append-nil bs) at r
+      as_read us cs gs (e ∙ sym (append-nil ts)) (p ∙ sym (append-nil bs)) q r
+
+pub texts_pushed : (ts us : List (Option (Bor (List ℕ)))) (t : Option (Bor (List ℕ))) → us ≡ ts ++ t ∷ [] → plain_texts us ≡ plain_texts ts ++ plain_text t ∷ []
+texts_pushed ts us t e = ap plain_texts e ∙ map_push plain_text ts t
+
+pub fields_pushed : (fs gs : List NodeField) (f : NodeField) → gs ≡ fs ++ f ∷ [] → map plain_field gs ≡ map plain_field fs ++ plain_field f ∷ []
+fields_pushed fs gs f e = ap (map plain_field) e ∙ map_push plain_field fs f
 
 -- ---- what isn't there
 
@@ -290,3 +313,15 @@ length-flags [] v [] h = refl
 length-flags [] v (b ∷ bs) h = absurd h
 length-flags (e ∷ es) v [] h = absurd h
 length-flags (e ∷ es) v (b ∷ bs) h = ap suc (length-flags es v bs h.1)
+
+-- ---- all entries have been read
+
+module _ (es all : List Entry) (i : ℕ) (v : Data) where
+  pub all_texts : (ts : List (Option Text)) → es ≡ all → length es ≤ i → TextsAre (filter is_text (take i es)) v ts → TextsAre (filter is_text all) v ts
+  all_texts ts is h are = subst (λ l. TextsAre (filter is_text l) v ts) (take_all i es h ∙ is) are
+
+  pub all_flags : (bs : List Bool) → es ≡ all → length es ≤ i → FlagsAre (filter is_flag (take i es)) v bs → FlagsAre (filter is_flag all) v bs
+  all_flags bs is h are = subst (λ l. FlagsAre (filter is_flag l) v bs) (take_all i es h ∙ is) are
+
+  pub all_fields : (fs : Fields) → es ≡ all → length es ≤ i → AreFields v (filter is_child (take i es)) fs → AreFields v (filter is_child all) fs
+  all_fields fs is h are = subst (λ l. AreFields v (filter is_child l) fs) (take_all i es h ∙ is) are

@@ -15,20 +15,36 @@ rest_of : (vs : List Value) (i : ℕ) → take (length vs - i) (drop i vs) ≡ d
 rest_of vs i = let P : ℕ → Type 0 = λ n. take n (drop i vs) ≡ drop i vs in subst P (length-drop i vs) (take-length (drop i vs))
 
 module _ (s last : Sort) (vs : List Value) (i : ℕ) (x : Value) (here : Sort) (h : i < length vs) (is : x ≡ get_or vs i x) (place : here ≡ sort_before s last (items_view (take (length vs - (i + 1)) (drop (i + 1) vs)))) where
-  -- the nodes of the items from one on
-  pub items_from : (t : Tree) (ts : List Tree) → IsForm here (view x) t → AreItems s last (Some (items_view (drop (i + 1) vs))) (trees ts)
+  items_from : (t : Tree) (ts : List Tree) → IsForm here (view x) t → AreItems s last (Some (items_view (drop (i + 1) vs))) (trees ts)
       → AreItems s last (Some (items_view (drop i vs))) (trees (t ∷ ts))
   items_from t ts form rest =
       let P : List Value → Type 0 = λ l. AreItems s last (Some (items_view l)) (trees (t ∷ ts)) in
       let Q : Value → Sort → Type 0 = λ y r. IsForm r (view y) t in
       subst P (sym (drop_more vs i x h)) (subst (λ y. Q y (sort_before s last (items_view (drop (i + 1) vs)))) is (subst (Q x) (place ∙ ap (λ l. sort_before s last (items_view l)) (rest_of vs (i + 1))) form), rest)
 
-  pub elements_from : (f : Field) (fs : List Field) → IsElement here (view x) f → AreElements s last (Some (items_view (drop (i + 1) vs))) (fields fs)
+  -- one more item has been read
+  pub one_more_item : (nodes more : List Tree) (t : Tree) → more ≡ nodes ++ t ∷ [] → IsForm here (view x) t
+      → ((ts : List Tree) → AreItems s last (Some (items_view (drop i vs))) (trees ts) → AreItems s last (Some (items_view vs)) (trees (nodes ++ ts)))
+      → (ts : List Tree) → AreItems s last (Some (items_view (drop (i + 1) vs))) (trees ts) → AreItems s last (Some (items_view vs)) (trees (more ++ ts))
+  one_more_item nodes more t e form so_far ts rest =
+      let P : List Tree → Type 0 = λ l. AreItems s last (Some (items_view vs)) (trees l) in
+      let joined : nodes ++ t ∷ ts ≡ more ++ ts = sym (append_assoc nodes (t ∷ []) ts) ∙ ap (λ l. l ++ ts) (sym e) in
+      subst P joined (so_far (t ∷ ts) (items_from t ts form rest))
+
+  elements_from : (f : Field) (fs : List Field) → IsElement here (view x) f → AreElements s last (Some (items_view (drop (i + 1) vs))) (fields fs)
       → AreElements s last (Some (items_view (drop i vs))) (fields (f ∷ fs))
   elements_from f fs form rest =
       let P : List Value → Type 0 = λ l. AreElements s last (Some (items_view l)) (fields (f ∷ fs)) in
       let Q : Value → Sort → Type 0 = λ y r. IsElement r (view y) f in
       subst P (sym (drop_more vs i x h)) (subst (λ y. Q y (sort_before s last (items_view (drop (i + 1) vs)))) is (subst (Q x) (place ∙ ap (λ l. sort_before s last (items_view l)) (rest_of vs (i + 1))) form), rest)
+
+  pub one_more_element : (read more : List Field) (f : Field) → more ≡ read ++ f ∷ [] → IsElement here (view x) f
+      → ((fs : List Field) → AreElements s last (Some (items_view (drop i vs))) (fields fs) → AreElements s last (Some (items_view vs)) (fields (read ++ fs)))
+      → (fs : List Field) → AreElements s last (Some (items_view (drop (i + 1) vs))) (fields fs) → AreElements s last (Some (items_view vs)) (fields (more ++ fs))
+  one_more_element read more f e form so_far fs rest =
+      let P : List Field → Type 0 = λ l. AreElements s last (Some (items_view vs)) (fields l) in
+      let joined : read ++ f ∷ fs ≡ more ++ fs = sym (append_assoc read (f ∷ []) fs) ∙ ap (λ l. l ++ fs) (sym e) in
+      subst P joined (so_far (f ∷ fs) (elements_from f fs form rest))
 
 -- the node of an item
 item_at : (s last : Sort) (vs : List Value) (i : ℕ) (d : Value) (ts : Trees) → i < length vs → AreItems s last (Some (items_view vs)) ts
@@ -46,7 +62,7 @@ element_at s last (v ∷ vs) zero d (f then fs) h are = (f, are.0)
 element_at s last (v ∷ vs) (suc i) d (f then fs) h are = element_at s last vs i d fs (omega arith) are.1
 
 module _ (s last : Sort) (vs : List Value) (i : ℕ) (x : Value) (here : Sort) (h : i < length vs) (is : x ≡ get_or vs i x) (place : here ≡ sort_before s last (items_view (take (length vs - (i + 1)) (drop (i + 1) vs)))) where
-  -- where an item is the form of no node, the list is the form of never nodes
+  -- where an item is the form of no node, the list is the form of no nodes
   pub no_trees : (o : Option Items) → Some (items_view vs) ≡ o → ((t : Tree) → IsForm here (view x) t → ⊥) → (ts : Trees) → AreItems s last o ts → ⊥
   no_trees o same never ts are =
       let P : Option Items → Type 0 = λ p. AreItems s last p ts in

@@ -5,3 +5,4 @@ pub mod NewNodes
 pub mod Items
 pub mod Children
 pub mod Parts
+pub mod Errors

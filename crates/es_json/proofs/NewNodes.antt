@@ -18,9 +18,10 @@ trees_size-push : (ts : List Tree) (t : Tree) → trees_size (trees (ts ++ t ∷
 trees_size-push [] t = omega arith
 trees_size-push (u ∷ ts) t = omega (arith, trees_size-push ts t)
 
-pub one_more_tree : (n m k : ℕ) (ts : List Tree) (t : Tree) → AreNewTrees n m (trees ts) → IsNumbered m t → IsUnmarked t → k ≡ m + tree_size t → AreNewTrees n k (trees (ts ++ t ∷ []))
-one_more_tree n m k ts t h order marks counted =
-    (trees_numbered n m ts t h.2 h.0 order, trees_unmarked ts t h.1 marks, omega (arith, h.2, counted, trees_size-push ts t))
+pub one_more_tree : (n m k : ℕ) (ts us : List Tree) (t : Tree) → us ≡ ts ++ t ∷ [] → AreNewTrees n m (trees ts) → IsNumbered m t → IsUnmarked t → k ≡ m + tree_size t → AreNewTrees n k (trees us)
+one_more_tree n m k ts us t e h order marks counted =
+    let P : List Tree → Type 0 = λ l. AreNewTrees n k (trees l) in
+    subst P (sym e) (trees_numbered n m ts t h.2 h.0 order, trees_unmarked ts t h.1 marks, omega (arith, h.2, counted, trees_size-push ts t))
 
 fields_numbered : (n m : ℕ) (fs : List Field) (f : Field) → m ≡ n + fields_size (fields fs) → AreFieldsNumbered n (fields fs) → IsFieldNumbered m f → AreFieldsNumbered n (fields (fs ++ f ∷ []))
 fields_numbered n m [] f e h k =
@@ -36,6 +37,13 @@ fields_size-push : (fs : List Field) (f : Field) → fields_size (fields (fs ++ 
 fields_size-push [] f = omega arith
 fields_size-push (g ∷ fs) f = omega (arith, fields_size-push fs f)
 
-pub one_more_field : (n m k : ℕ) (fs : List Field) (f : Field) → AreNewFields n m (fields fs) → IsNewField m k f → AreNewFields n k (fields (fs ++ f ∷ []))
-one_more_field n m k fs f h new =
-    (fields_numbered n m fs f h.2 h.0 new.0, fields_unmarked fs f h.1 new.1, omega (arith, h.2, new.2, fields_size-push fs f))
+pub one_more_field : (n m k : ℕ) (fs gs : List Field) (f : Field) → gs ≡ fs ++ f ∷ [] → AreNewFields n m (fields fs) → IsNewField m k f → AreNewFields n k (fields gs)
+one_more_field n m k fs gs f e h new =
+    let P : List Field → Type 0 = λ l. AreNewFields n k (fields l) in
+    subst P (sym e) (fields_numbered n m fs f h.2 h.0 new.0, fields_unmarked fs f h.1 new.1, omega (arith, h.2, new.2, fields_size-push fs f))
+
+pub no_more_fields : (n m k : ℕ) (fs gs : List Field) → gs ≡ fs → k ≡ m → AreNewFields n m (fields fs) → AreNewFields n k (fields gs)
+no_more_fields n m k fs gs e same h =
+    let P : List Field → Type 0 = λ l. AreNewFields n m (fields l) in
+    let Q : ℕ → Type 0 = λ j. AreNewFields n j (fields gs) in
+    subst Q (sym same) (subst P (sym e) h)

@@ -13,7 +13,12 @@ use Rattle.es_tree.specs.declared.table.Sort.{Sort}
 use Rattle.es_tree.specs.declared.table.Entry.{Entry}
 use Rattle.es_tree.specs.declared.table.Content.{Content}
 use Rattle.es_tree.specs.declared.table.Content.TheVariants.{
-  Text as c-Text, OptionalText as c-OptionalText, Flag as c-Flag, RequiredFlag as c-RequiredFlag, Refused as c-Refused, Child as c-Child
+  Text as c-Text,
+  OptionalText as c-OptionalText,
+  Flag as c-Flag,
+  RequiredFlag as c-RequiredFlag,
+  Refused as c-Refused,
+  Child as c-Child,
 }
 use Rattle.es_json.specs.Values.{field_of, kind_here, TextsAre, FlagsAre, list_of}
 use Rattle.es_json.specs.Form.{ElementsPlace, elements_by, elements_of, IsForm, AreFields, AreElements}
@@ -119,7 +124,7 @@ module _ (k : AstType) (v : Data) (is : elements_of (entries k) ≡ None) where
   pub no_parts_by_fields : ((fs : Fields) → AreFields v (child_entries k) fs → ⊥) → (h : Head) (fs : Fields) → AreParts k v h fs → ⊥
   no_parts_by_fields never h fs are = never fs (children_are_fields fs are.4)
 
--- ---- a value with no parts is the form of never tree
+-- ---- a value with no parts is the form of no tree
 
 pub no_form : (s : Sort) (v : Data) (k : AstType) → Some k ≡ kind_here s v → ((h : Head) (fs : Fields) → AreParts k v h fs → ⊥) → (t : Tree) → IsForm s v t → ⊥
 no_form s v k is never (node m l fs) form =

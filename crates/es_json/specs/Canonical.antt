@@ -13,7 +13,12 @@ use Rattle.es_tree.specs.declared.table.Often.{Often}
 use Rattle.es_tree.specs.declared.table.Often.TheVariants.{Elements, ElementsWithRest}
 use Rattle.es_tree.specs.declared.table.Content.{Content}
 use Rattle.es_tree.specs.declared.table.Content.TheVariants.{
-  Text as c-Text, OptionalText as c-OptionalText, Flag as c-Flag, RequiredFlag as c-RequiredFlag, Refused as c-Refused, Child as c-Child
+  Text as c-Text,
+  OptionalText as c-OptionalText,
+  Flag as c-Flag,
+  RequiredFlag as c-RequiredFlag,
+  Refused as c-Refused,
+  Child as c-Child,
 }
 
 abbrev pub text_value : Option Text → Data
@@ -72,8 +77,8 @@ put_entries (e ∷ es) r = put_entries es (put_entry (field_text e.field) e.cont
 abbrev pub common_members : AstType → Label → Members
 common_members k l =
     put (field_text f-End) (number (unsigned l.stop))
-      (put (field_text f-Start) (number (unsigned l.start))
-        (put (field_text f-Type) (string (type_name k)) no_members))
+    (put (field_text f-Start) (number (unsigned l.start))
+    (put (field_text f-Type) (string (type_name k)) no_members))
 
 abbrev mutual
   pub canonical : Tree → Data

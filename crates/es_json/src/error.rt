@@ -1,7 +1,6 @@
 //! Why a JSON value isn't read.
 
-use std::alloc::AllocError;
-use std::alloc::AllocFailed;
+use std::alloc::{AllocError, AllocFailed};
 
 /// Why a JSON value isn't read.
 #[derive(Clone, Copy, PartialEq, Eq, Debug)]

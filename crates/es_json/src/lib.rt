@@ -3,5 +3,5 @@
 
 pub mod error;
 mod places;
-//READER
+pub mod reader;
 mod scalars;

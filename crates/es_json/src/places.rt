@@ -63,7 +63,10 @@ pub(crate) fn sort_in(value: &Value, sort: Sort) -> Sort
 fn counts_fit(value: &Value) -> bool
     ensures { result ≡ counts_fit (list_of (field_of FieldName.Quasis (view value.now))) (list_of (field_of FieldName.Expressions (view value.now))) }
 {
-    match (list_of(value, FieldName::Quasis), list_of(value, FieldName::Expressions)) {
+    match (
+        list_of(value, FieldName::Quasis),
+        list_of(value, FieldName::Expressions),
+    ) {
         (Some(quasis), Some(expressions)) => quasis.len() == expressions.len() + 1,
         _ => true,
     }
@@ -77,10 +80,12 @@ pub(crate) fn fields_agree(value: &Value, ast_type: AstType) -> bool
 {
     match ast_type {
         AstType::TemplateLiteral => counts_fit(value),
-        AstType::TryStatement => stands(value, FieldName::Handler) || stands(value, FieldName::Finalizer),
+        AstType::TryStatement => stands(value, FieldName::Handler)
+            || stands(value, FieldName::Finalizer),
         AstType::MetaProperty => {
             is_word(value, FieldName::Meta, "new") && is_word(value, FieldName::Property, "target")
-                || is_word(value, FieldName::Meta, "import") && is_word(value, FieldName::Property, "meta")
+                || is_word(value, FieldName::Meta, "import")
+                    && is_word(value, FieldName::Property, "meta")
         }
         _ => true,
     }
@@ -102,9 +107,17 @@ pub(crate) fn elements_of(entries: &[Entry]) -> Option<ElementsPlace>
         return None;
     };
     match entry.content {
-        Content::Child(sort, Often::Elements) => Some(ElementsPlace { field: entry.field, sort, last: sort }),
+        Content::Child(sort, Often::Elements) => Some(ElementsPlace {
+            field: entry.field,
+            sort,
+            last: sort,
+        }),
         Content::Child(sort, Often::ElementsWithRest) => {
-            Some(ElementsPlace { field: entry.field, sort, last: sort.with_rest() })
+            Some(ElementsPlace {
+                field: entry.field,
+                sort,
+                last: sort.with_rest(),
+            })
         }
         _ => None,
     }

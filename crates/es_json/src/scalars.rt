@@ -70,7 +70,9 @@ pub(crate) fn read_flag(value: &Value, entry: Entry) -> Result<bool, ReadError>
 {
     match (entry.content, field_of(value, entry.field)) {
         (Content::Flag, None) => Ok(false),
-        (Content::Flag | Content::RequiredFlag, Some(found)) => found.as_bool().ok_or(ReadError::Shape),
+        (Content::Flag | Content::RequiredFlag, Some(found)) => found
+            .as_bool()
+            .ok_or(ReadError::Shape),
         _ => Err(ReadError::Shape),
     }
 }
