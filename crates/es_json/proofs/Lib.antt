@@ -1,5 +1,13 @@
-pub mod Puts
+pub mod Entries
+pub mod Lists
+pub mod Depth
+pub mod NewNodes
+pub mod Items
 pub mod Children
+pub mod Parts
+pub mod Errors
+pub mod Puts
+pub mod WrittenChildren
 pub mod NoFloat
 pub mod TableFacts
 pub mod Bools

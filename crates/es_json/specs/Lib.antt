@@ -2,3 +2,5 @@ pub mod Values
 pub mod Form
 pub mod Canonical
 pub mod Laws
+pub mod New
+pub mod Parts

@@ -1,5 +1,9 @@
 //! The reader and the writer of the tree form.
 #![tactic(auto)]
 
+pub mod error;
 pub mod laws;
+mod places;
+pub mod reader;
+mod scalars;
 pub mod writer;

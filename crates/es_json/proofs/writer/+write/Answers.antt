@@ -4,7 +4,7 @@ use Rattle.serde_json.specs.View.{view}
 use Rattle.serde_json.proofs.Views.{view-Array, view-Object}
 use Rattle.es_json.specs.Canonical.{canonical, field_value}
 use Rattle.es_tree.specs.Views.{plain_field}
-use Rattle.es_json.proofs.Children.{canonical_node, canonical_list, map-take_all}
+use Rattle.es_json.proofs.WrittenChildren.{canonical_node, canonical_list, map-take_all}
 use Rattle.es_json.proofs.writer.+write.Goals as goal
 
 pub write_field-returns-after-loop-node : goal.write_field-returns-after-loop-node
