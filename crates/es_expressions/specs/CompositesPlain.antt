@@ -4,9 +4,13 @@ use Rattle.es_tree.specs.Tree.{Tree, fields, done, ◌then◌, one, many, statem
 use Rattle.es_tree.specs.Shapes.{maybe}
 use Rattle.es_tree.specs.Views.{plain, plain_field}
 use Rattle.es_tree.specs.declared.kind.Kind.TheVariants.{
-  ArrayExpression as k-ArrayExpression, SpreadElement as k-SpreadElement, ObjectExpression as k-ObjectExpression,
-  ObjectProperty as k-ObjectProperty, FunctionExpression as k-FunctionExpression,
-  ArrowFunctionExpression as k-ArrowFunctionExpression, ClassExpression as k-ClassExpression
+  ArrayExpression as k-ArrayExpression,
+  SpreadElement as k-SpreadElement,
+  ObjectExpression as k-ObjectExpression,
+  ObjectProperty as k-ObjectProperty,
+  FunctionExpression as k-FunctionExpression,
+  ArrowFunctionExpression as k-ArrowFunctionExpression,
+  ClassExpression as k-ClassExpression,
 }
 use Rattle.es_expressions.specs.declared.composites.ArrayExpression.{ArrayExpression}
 use Rattle.es_expressions.specs.declared.composites.SpreadElement.{SpreadElement}

@@ -2,8 +2,13 @@
 use Rattle.std.specs.Prelude.{List, [], ◌∷◌, ◌≡◌}
 use Rattle.es_tree.specs.Tree.{Tree, kind_of}
 use Rattle.es_tree.specs.declared.ast_type.AstType.TheVariants.{
-  ArrayExpression, SpreadElement, ObjectExpression, ObjectProperty, FunctionExpression, ArrowFunctionExpression,
-  ClassExpression
+  ArrayExpression,
+  SpreadElement,
+  ObjectExpression,
+  ObjectProperty,
+  FunctionExpression,
+  ArrowFunctionExpression,
+  ClassExpression,
 }
 use Rattle.es_tree.specs.Shapes.{Opens, required, optional, list, statement_list}
 

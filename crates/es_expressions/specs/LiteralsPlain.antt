@@ -4,10 +4,18 @@ use Rattle.es_tree.specs.Tree.{Tree, fields, done, ◌then◌, one, many, statem
 use Rattle.es_tree.specs.Shapes.{maybe}
 use Rattle.es_tree.specs.Views.{plain, plain_field}
 use Rattle.es_tree.specs.declared.kind.Kind.TheVariants.{
-  Identifier as k-Identifier, PrivateIdentifier as k-PrivateIdentifier, ThisExpression as k-ThisExpression,
-  Super as k-Super, NullLiteral as k-NullLiteral, BooleanLiteral as k-BooleanLiteral,
-  NumericLiteral as k-NumericLiteral, BigIntLiteral as k-BigIntLiteral, StringLiteral as k-StringLiteral,
-  RegExpLiteral as k-RegExpLiteral, TemplateLiteral as k-TemplateLiteral, TemplateElement as k-TemplateElement
+  Identifier as k-Identifier,
+  PrivateIdentifier as k-PrivateIdentifier,
+  ThisExpression as k-ThisExpression,
+  Super as k-Super,
+  NullLiteral as k-NullLiteral,
+  BooleanLiteral as k-BooleanLiteral,
+  NumericLiteral as k-NumericLiteral,
+  BigIntLiteral as k-BigIntLiteral,
+  StringLiteral as k-StringLiteral,
+  RegExpLiteral as k-RegExpLiteral,
+  TemplateLiteral as k-TemplateLiteral,
+  TemplateElement as k-TemplateElement,
 }
 use Rattle.es_expressions.specs.declared.literals.Identifier.{Identifier}
 use Rattle.es_expressions.specs.declared.literals.PrivateIdentifier.{PrivateIdentifier}

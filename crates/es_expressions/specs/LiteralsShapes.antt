@@ -2,8 +2,18 @@
 use Rattle.std.specs.Prelude.{List, [], ◌∷◌, ◌≡◌}
 use Rattle.es_tree.specs.Tree.{Tree, kind_of}
 use Rattle.es_tree.specs.declared.ast_type.AstType.TheVariants.{
-  Identifier, PrivateIdentifier, ThisExpression, Super, NullLiteral, BooleanLiteral, NumericLiteral,
-  BigIntLiteral, StringLiteral, RegExpLiteral, TemplateLiteral, TemplateElement
+  Identifier,
+  PrivateIdentifier,
+  ThisExpression,
+  Super,
+  NullLiteral,
+  BooleanLiteral,
+  NumericLiteral,
+  BigIntLiteral,
+  StringLiteral,
+  RegExpLiteral,
+  TemplateLiteral,
+  TemplateElement,
 }
 use Rattle.es_tree.specs.Shapes.{Opens, required, optional, list, statement_list}
 

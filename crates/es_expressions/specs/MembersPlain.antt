@@ -4,9 +4,12 @@ use Rattle.es_tree.specs.Tree.{Tree, fields, done, ◌then◌, one, many, statem
 use Rattle.es_tree.specs.Shapes.{maybe}
 use Rattle.es_tree.specs.Views.{plain, plain_field}
 use Rattle.es_tree.specs.declared.kind.Kind.TheVariants.{
-  MemberExpression as k-MemberExpression, CallExpression as k-CallExpression, NewExpression as k-NewExpression,
-  ChainExpression as k-ChainExpression, MetaProperty as k-MetaProperty,
-  TaggedTemplateExpression as k-TaggedTemplateExpression
+  MemberExpression as k-MemberExpression,
+  CallExpression as k-CallExpression,
+  NewExpression as k-NewExpression,
+  ChainExpression as k-ChainExpression,
+  MetaProperty as k-MetaProperty,
+  TaggedTemplateExpression as k-TaggedTemplateExpression,
 }
 use Rattle.es_expressions.specs.declared.members.MemberExpression.{MemberExpression}
 use Rattle.es_expressions.specs.declared.members.CallExpression.{CallExpression}

@@ -2,7 +2,12 @@
 use Rattle.std.specs.Prelude.{List, [], ◌∷◌, ◌≡◌}
 use Rattle.es_tree.specs.Tree.{Tree, kind_of}
 use Rattle.es_tree.specs.declared.ast_type.AstType.TheVariants.{
-  MemberExpression, CallExpression, NewExpression, ChainExpression, MetaProperty, TaggedTemplateExpression
+  MemberExpression,
+  CallExpression,
+  NewExpression,
+  ChainExpression,
+  MetaProperty,
+  TaggedTemplateExpression,
 }
 use Rattle.es_tree.specs.Shapes.{Opens, required, optional, list, statement_list}
 

@@ -4,10 +4,14 @@ use Rattle.es_tree.specs.Tree.{Tree, fields, done, ◌then◌, one, many, statem
 use Rattle.es_tree.specs.Shapes.{maybe}
 use Rattle.es_tree.specs.Views.{plain, plain_field}
 use Rattle.es_tree.specs.declared.kind.Kind.TheVariants.{
-  UnaryExpression as k-UnaryExpression, UpdateExpression as k-UpdateExpression,
-  BinaryExpression as k-BinaryExpression, LogicalExpression as k-LogicalExpression,
-  ConditionalExpression as k-ConditionalExpression, AssignmentExpression as k-AssignmentExpression,
-  SequenceExpression as k-SequenceExpression, ParenthesizedExpression as k-ParenthesizedExpression
+  UnaryExpression as k-UnaryExpression,
+  UpdateExpression as k-UpdateExpression,
+  BinaryExpression as k-BinaryExpression,
+  LogicalExpression as k-LogicalExpression,
+  ConditionalExpression as k-ConditionalExpression,
+  AssignmentExpression as k-AssignmentExpression,
+  SequenceExpression as k-SequenceExpression,
+  ParenthesizedExpression as k-ParenthesizedExpression,
 }
 use Rattle.es_expressions.specs.declared.operations.UnaryExpression.{UnaryExpression}
 use Rattle.es_expressions.specs.declared.operations.UpdateExpression.{UpdateExpression}

@@ -2,8 +2,14 @@
 use Rattle.std.specs.Prelude.{List, [], ◌∷◌, ◌≡◌}
 use Rattle.es_tree.specs.Tree.{Tree, kind_of}
 use Rattle.es_tree.specs.declared.ast_type.AstType.TheVariants.{
-  UnaryExpression, UpdateExpression, BinaryExpression, LogicalExpression, ConditionalExpression,
-  AssignmentExpression, SequenceExpression, ParenthesizedExpression
+  UnaryExpression,
+  UpdateExpression,
+  BinaryExpression,
+  LogicalExpression,
+  ConditionalExpression,
+  AssignmentExpression,
+  SequenceExpression,
+  ParenthesizedExpression,
 }
 use Rattle.es_tree.specs.Shapes.{Opens, required, optional, list, statement_list}
 

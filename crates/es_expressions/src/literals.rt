@@ -1,22 +1,40 @@
 //! Names and literals.
 ghost use Rattle.std.specs.Prelude.{IfOk, ◌≡◌, ◌+◌, ◌-◌, ◌^◌, ◌<◌, None};
 ghost use Rattle.es_expressions.specs.LiteralsShapes.{
-    IsIdentifier, IsPrivateIdentifier, IsThisExpression, IsSuper, IsNullLiteral, IsBooleanLiteral,
-    IsNumericLiteral, IsBigIntLiteral, IsStringLiteral, IsRegExpLiteral, IsTemplateLiteral, IsTemplateElement
+  IsIdentifier,
+  IsPrivateIdentifier,
+  IsThisExpression,
+  IsSuper,
+  IsNullLiteral,
+  IsBooleanLiteral,
+  IsNumericLiteral,
+  IsBigIntLiteral,
+  IsStringLiteral,
+  IsRegExpLiteral,
+  IsTemplateLiteral,
+  IsTemplateElement,
 };
 ghost use Rattle.es_expressions.specs.LiteralsPlain.{
-    plain_identifier, plain_private_identifier, plain_this_expression, plain_super, plain_null_literal,
-    plain_boolean_literal, plain_numeric_literal, plain_big_int_literal, plain_string_literal,
-    plain_reg_exp_literal, plain_template_literal, plain_template_element
+  plain_identifier,
+  plain_private_identifier,
+  plain_this_expression,
+  plain_super,
+  plain_null_literal,
+  plain_boolean_literal,
+  plain_numeric_literal,
+  plain_big_int_literal,
+  plain_string_literal,
+  plain_reg_exp_literal,
+  plain_template_literal,
+  plain_template_element,
 };
-
-use std::alloc::{AllocError, Global};
 
 use es_tree::builder::AstBuilder;
 use es_tree::ids::{NodeId, ReferenceId, Span, SymbolId};
 use es_tree::kind::Kind;
 use es_tree::node::{Field, Node, Parts, exactly};
-use es_tree::sorts::{Expression};
+use es_tree::sorts::Expression;
+use std::alloc::{AllocError, Global};
 
 /// A name (ECMA-262, 13.1).
 #[derive(Drop)]
@@ -34,23 +52,53 @@ impl Identifier {
         requires { IsIdentifier node }
         ensures { plain_identifier result ≡ node }
     {
-        let Parts { id, span, kind, fields } = node.into_parts();
+        let Parts {
+            id,
+            span,
+            kind,
+            fields,
+        } = node.into_parts();
         let (name, reference, symbol) = match kind {
-            Kind::Identifier { name, reference, symbol } => (name, reference, symbol),
+            Kind::Identifier {
+                name,
+                reference,
+                symbol,
+            } => (name, reference, symbol),
             _other => unreachable!(),
         };
         let []: [Field; 0] = exactly(fields);
-        Identifier { id, span, name, reference, symbol }
+        Identifier {
+            id,
+            span,
+            name,
+            reference,
+            symbol,
+        }
     }
 
     /// The node of these parts.
     pub fn close(self, alloc: Global) -> Result<Node, AllocError>
         ensures { IfOk result (λ node. node ≡ plain_identifier self) }
     {
-        let Identifier { id, span, name, reference, symbol } = self;
-        let kind = Kind::Identifier { name, reference, symbol };
+        let Identifier {
+            id,
+            span,
+            name,
+            reference,
+            symbol,
+        } = self;
+        let kind = Kind::Identifier {
+            name,
+            reference,
+            symbol,
+        };
         let fields = Vec::new(alloc);
-        Ok(Node { id, span, kind, fields })
+        Ok(Node {
+            id,
+            span,
+            kind,
+            fields,
+        })
     }
 }
 
@@ -61,7 +109,13 @@ pub fn new_identifier(ast: &mut AstBuilder, span: Span, name: String) -> Result<
     ensures counted { ast.new.next ≡ ast.old.next + 1 }
 {
     let id = ast.new_id();
-    let made = Identifier { id, span, name, reference: None, symbol: None };
+    let made = Identifier {
+        id,
+        span,
+        name,
+        reference: None,
+        symbol: None,
+    };
     made.close(ast.alloc)
 }
 
@@ -79,7 +133,12 @@ impl PrivateIdentifier {
         requires { IsPrivateIdentifier node }
         ensures { plain_private_identifier result ≡ node }
     {
-        let Parts { id, span, kind, fields } = node.into_parts();
+        let Parts {
+            id,
+            span,
+            kind,
+            fields,
+        } = node.into_parts();
         let name = match kind {
             Kind::PrivateIdentifier { name } => name,
             _other => unreachable!(),
@@ -95,12 +154,21 @@ impl PrivateIdentifier {
         let PrivateIdentifier { id, span, name } = self;
         let kind = Kind::PrivateIdentifier { name };
         let fields = Vec::new(alloc);
-        Ok(Node { id, span, kind, fields })
+        Ok(Node {
+            id,
+            span,
+            kind,
+            fields,
+        })
     }
 }
 
 /// A node `PrivateIdentifier` with a new id and without marks.
-pub fn new_private_identifier(ast: &mut AstBuilder, span: Span, name: String) -> Result<Node, AllocError>
+pub fn new_private_identifier(
+    ast: &mut AstBuilder,
+    span: Span,
+    name: String,
+) -> Result<Node, AllocError>
     requires { ast.old.next < 2 ^ 32 - 1 }
     ensures made { IfOk result (λ node. node ≡ plain_private_identifier (record { id = record { 0 = ast.old.next }; span = span; name = name })) }
     ensures counted { ast.new.next ≡ ast.old.next + 1 }
@@ -123,7 +191,12 @@ impl ThisExpression {
         requires { IsThisExpression node }
         ensures { plain_this_expression result ≡ node }
     {
-        let Parts { id, span, kind, fields } = node.into_parts();
+        let Parts {
+            id,
+            span,
+            kind,
+            fields,
+        } = node.into_parts();
         match kind {
             Kind::ThisExpression => {}
             _other => unreachable!(),
@@ -139,7 +212,12 @@ impl ThisExpression {
         let ThisExpression { id, span } = self;
         let kind = Kind::ThisExpression;
         let fields = Vec::new(alloc);
-        Ok(Node { id, span, kind, fields })
+        Ok(Node {
+            id,
+            span,
+            kind,
+            fields,
+        })
     }
 }
 
@@ -167,7 +245,12 @@ impl Super {
         requires { IsSuper node }
         ensures { plain_super result ≡ node }
     {
-        let Parts { id, span, kind, fields } = node.into_parts();
+        let Parts {
+            id,
+            span,
+            kind,
+            fields,
+        } = node.into_parts();
         match kind {
             Kind::Super => {}
             _other => unreachable!(),
@@ -183,7 +266,12 @@ impl Super {
         let Super { id, span } = self;
         let kind = Kind::Super;
         let fields = Vec::new(alloc);
-        Ok(Node { id, span, kind, fields })
+        Ok(Node {
+            id,
+            span,
+            kind,
+            fields,
+        })
     }
 }
 
@@ -211,7 +299,12 @@ impl NullLiteral {
         requires { IsNullLiteral node }
         ensures { plain_null_literal result ≡ node }
     {
-        let Parts { id, span, kind, fields } = node.into_parts();
+        let Parts {
+            id,
+            span,
+            kind,
+            fields,
+        } = node.into_parts();
         match kind {
             Kind::NullLiteral => {}
             _other => unreachable!(),
@@ -227,7 +320,12 @@ impl NullLiteral {
         let NullLiteral { id, span } = self;
         let kind = Kind::NullLiteral;
         let fields = Vec::new(alloc);
-        Ok(Node { id, span, kind, fields })
+        Ok(Node {
+            id,
+            span,
+            kind,
+            fields,
+        })
     }
 }
 
@@ -256,7 +354,12 @@ impl BooleanLiteral {
         requires { IsBooleanLiteral node }
         ensures { plain_boolean_literal result ≡ node }
     {
-        let Parts { id, span, kind, fields } = node.into_parts();
+        let Parts {
+            id,
+            span,
+            kind,
+            fields,
+        } = node.into_parts();
         let value = match kind {
             Kind::BooleanLiteral { value } => value,
             _other => unreachable!(),
@@ -272,12 +375,21 @@ impl BooleanLiteral {
         let BooleanLiteral { id, span, value } = self;
         let kind = Kind::BooleanLiteral { value };
         let fields = Vec::new(alloc);
-        Ok(Node { id, span, kind, fields })
+        Ok(Node {
+            id,
+            span,
+            kind,
+            fields,
+        })
     }
 }
 
 /// A node `BooleanLiteral` with a new id and without marks.
-pub fn new_boolean_literal(ast: &mut AstBuilder, span: Span, value: bool) -> Result<Node, AllocError>
+pub fn new_boolean_literal(
+    ast: &mut AstBuilder,
+    span: Span,
+    value: bool,
+) -> Result<Node, AllocError>
     requires { ast.old.next < 2 ^ 32 - 1 }
     ensures made { IfOk result (λ node. node ≡ plain_boolean_literal (record { id = record { 0 = ast.old.next }; span = span; value = value })) }
     ensures counted { ast.new.next ≡ ast.old.next + 1 }
@@ -302,7 +414,12 @@ impl NumericLiteral {
         requires { IsNumericLiteral node }
         ensures { plain_numeric_literal result ≡ node }
     {
-        let Parts { id, span, kind, fields } = node.into_parts();
+        let Parts {
+            id,
+            span,
+            kind,
+            fields,
+        } = node.into_parts();
         let (raw, key) = match kind {
             Kind::NumericLiteral { raw, key } => (raw, key),
             _other => unreachable!(),
@@ -318,12 +435,22 @@ impl NumericLiteral {
         let NumericLiteral { id, span, raw, key } = self;
         let kind = Kind::NumericLiteral { raw, key };
         let fields = Vec::new(alloc);
-        Ok(Node { id, span, kind, fields })
+        Ok(Node {
+            id,
+            span,
+            kind,
+            fields,
+        })
     }
 }
 
 /// A node `NumericLiteral` with a new id and without marks.
-pub fn new_numeric_literal(ast: &mut AstBuilder, span: Span, raw: String, key: String) -> Result<Node, AllocError>
+pub fn new_numeric_literal(
+    ast: &mut AstBuilder,
+    span: Span,
+    raw: String,
+    key: String,
+) -> Result<Node, AllocError>
     requires { ast.old.next < 2 ^ 32 - 1 }
     ensures made { IfOk result (λ node. node ≡ plain_numeric_literal (record { id = record { 0 = ast.old.next }; span = span; raw = raw; key = key })) }
     ensures counted { ast.new.next ≡ ast.old.next + 1 }
@@ -348,7 +475,12 @@ impl BigIntLiteral {
         requires { IsBigIntLiteral node }
         ensures { plain_big_int_literal result ≡ node }
     {
-        let Parts { id, span, kind, fields } = node.into_parts();
+        let Parts {
+            id,
+            span,
+            kind,
+            fields,
+        } = node.into_parts();
         let (raw, key) = match kind {
             Kind::BigIntLiteral { raw, key } => (raw, key),
             _other => unreachable!(),
@@ -364,12 +496,22 @@ impl BigIntLiteral {
         let BigIntLiteral { id, span, raw, key } = self;
         let kind = Kind::BigIntLiteral { raw, key };
         let fields = Vec::new(alloc);
-        Ok(Node { id, span, kind, fields })
+        Ok(Node {
+            id,
+            span,
+            kind,
+            fields,
+        })
     }
 }
 
 /// A node `BigIntLiteral` with a new id and without marks.
-pub fn new_big_int_literal(ast: &mut AstBuilder, span: Span, raw: String, key: String) -> Result<Node, AllocError>
+pub fn new_big_int_literal(
+    ast: &mut AstBuilder,
+    span: Span,
+    raw: String,
+    key: String,
+) -> Result<Node, AllocError>
     requires { ast.old.next < 2 ^ 32 - 1 }
     ensures made { IfOk result (λ node. node ≡ plain_big_int_literal (record { id = record { 0 = ast.old.next }; span = span; raw = raw; key = key })) }
     ensures counted { ast.new.next ≡ ast.old.next + 1 }
@@ -393,7 +535,12 @@ impl StringLiteral {
         requires { IsStringLiteral node }
         ensures { plain_string_literal result ≡ node }
     {
-        let Parts { id, span, kind, fields } = node.into_parts();
+        let Parts {
+            id,
+            span,
+            kind,
+            fields,
+        } = node.into_parts();
         let value = match kind {
             Kind::StringLiteral { value } => value,
             _other => unreachable!(),
@@ -409,12 +556,21 @@ impl StringLiteral {
         let StringLiteral { id, span, value } = self;
         let kind = Kind::StringLiteral { value };
         let fields = Vec::new(alloc);
-        Ok(Node { id, span, kind, fields })
+        Ok(Node {
+            id,
+            span,
+            kind,
+            fields,
+        })
     }
 }
 
 /// A node `StringLiteral` with a new id and without marks.
-pub fn new_string_literal(ast: &mut AstBuilder, span: Span, value: String) -> Result<Node, AllocError>
+pub fn new_string_literal(
+    ast: &mut AstBuilder,
+    span: Span,
+    value: String,
+) -> Result<Node, AllocError>
     requires { ast.old.next < 2 ^ 32 - 1 }
     ensures made { IfOk result (λ node. node ≡ plain_string_literal (record { id = record { 0 = ast.old.next }; span = span; value = value })) }
     ensures counted { ast.new.next ≡ ast.old.next + 1 }
@@ -439,34 +595,64 @@ impl RegExpLiteral {
         requires { IsRegExpLiteral node }
         ensures { plain_reg_exp_literal result ≡ node }
     {
-        let Parts { id, span, kind, fields } = node.into_parts();
+        let Parts {
+            id,
+            span,
+            kind,
+            fields,
+        } = node.into_parts();
         let (pattern, flags) = match kind {
             Kind::RegExpLiteral { pattern, flags } => (pattern, flags),
             _other => unreachable!(),
         };
         let []: [Field; 0] = exactly(fields);
-        RegExpLiteral { id, span, pattern, flags }
+        RegExpLiteral {
+            id,
+            span,
+            pattern,
+            flags,
+        }
     }
 
     /// The node of these parts.
     pub fn close(self, alloc: Global) -> Result<Node, AllocError>
         ensures { IfOk result (λ node. node ≡ plain_reg_exp_literal self) }
     {
-        let RegExpLiteral { id, span, pattern, flags } = self;
+        let RegExpLiteral {
+            id,
+            span,
+            pattern,
+            flags,
+        } = self;
         let kind = Kind::RegExpLiteral { pattern, flags };
         let fields = Vec::new(alloc);
-        Ok(Node { id, span, kind, fields })
+        Ok(Node {
+            id,
+            span,
+            kind,
+            fields,
+        })
     }
 }
 
 /// A node `RegExpLiteral` with a new id and without marks.
-pub fn new_reg_exp_literal(ast: &mut AstBuilder, span: Span, pattern: String, flags: String) -> Result<Node, AllocError>
+pub fn new_reg_exp_literal(
+    ast: &mut AstBuilder,
+    span: Span,
+    pattern: String,
+    flags: String,
+) -> Result<Node, AllocError>
     requires { ast.old.next < 2 ^ 32 - 1 }
     ensures made { IfOk result (λ node. node ≡ plain_reg_exp_literal (record { id = record { 0 = ast.old.next }; span = span; pattern = pattern; flags = flags })) }
     ensures counted { ast.new.next ≡ ast.old.next + 1 }
 {
     let id = ast.new_id();
-    let made = RegExpLiteral { id, span, pattern, flags };
+    let made = RegExpLiteral {
+        id,
+        span,
+        pattern,
+        flags,
+    };
     made.close(ast.alloc)
 }
 
@@ -485,34 +671,64 @@ impl TemplateLiteral {
         requires { IsTemplateLiteral node }
         ensures { plain_template_literal result ≡ node }
     {
-        let Parts { id, span, kind, fields } = node.into_parts();
+        let Parts {
+            id,
+            span,
+            kind,
+            fields,
+        } = node.into_parts();
         match kind {
             Kind::TemplateLiteral => {}
             _other => unreachable!(),
         }
         let [quasis, expressions]: [Field; 2] = exactly(fields);
-        TemplateLiteral { id, span, quasis: quasis.into_nodes(), expressions: expressions.into_nodes() }
+        TemplateLiteral {
+            id,
+            span,
+            quasis: quasis.into_nodes(),
+            expressions: expressions.into_nodes(),
+        }
     }
 
     /// The node of these parts.
     pub fn close(self, alloc: Global) -> Result<Node, AllocError>
         ensures { IfOk result (λ node. node ≡ plain_template_literal self) }
     {
-        let TemplateLiteral { id, span, quasis, expressions } = self;
+        let TemplateLiteral {
+            id,
+            span,
+            quasis,
+            expressions,
+        } = self;
         let kind = Kind::TemplateLiteral;
         let fields = Vec::from_array(alloc, [Field::Many(quasis), Field::Many(expressions)])?;
-        Ok(Node { id, span, kind, fields })
+        Ok(Node {
+            id,
+            span,
+            kind,
+            fields,
+        })
     }
 }
 
 /// A node `TemplateLiteral` with a new id and without marks.
-pub fn new_template_literal(ast: &mut AstBuilder, span: Span, quasis: Vec<Node>, expressions: Vec<Expression>) -> Result<Node, AllocError>
+pub fn new_template_literal(
+    ast: &mut AstBuilder,
+    span: Span,
+    quasis: Vec<Node>,
+    expressions: Vec<Expression>,
+) -> Result<Node, AllocError>
     requires { ast.old.next < 2 ^ 32 - 1 }
     ensures made { IfOk result (λ node. node ≡ plain_template_literal (record { id = record { 0 = ast.old.next }; span = span; quasis = quasis; expressions = expressions })) }
     ensures counted { ast.new.next ≡ ast.old.next + 1 }
 {
     let id = ast.new_id();
-    let made = TemplateLiteral { id, span, quasis, expressions };
+    let made = TemplateLiteral {
+        id,
+        span,
+        quasis,
+        expressions,
+    };
     made.close(ast.alloc)
 }
 
@@ -531,33 +747,63 @@ impl TemplateElement {
         requires { IsTemplateElement node }
         ensures { plain_template_element result ≡ node }
     {
-        let Parts { id, span, kind, fields } = node.into_parts();
+        let Parts {
+            id,
+            span,
+            kind,
+            fields,
+        } = node.into_parts();
         let (raw, cooked) = match kind {
             Kind::TemplateElement { raw, cooked } => (raw, cooked),
             _other => unreachable!(),
         };
         let []: [Field; 0] = exactly(fields);
-        TemplateElement { id, span, raw, cooked }
+        TemplateElement {
+            id,
+            span,
+            raw,
+            cooked,
+        }
     }
 
     /// The node of these parts.
     pub fn close(self, alloc: Global) -> Result<Node, AllocError>
         ensures { IfOk result (λ node. node ≡ plain_template_element self) }
     {
-        let TemplateElement { id, span, raw, cooked } = self;
+        let TemplateElement {
+            id,
+            span,
+            raw,
+            cooked,
+        } = self;
         let kind = Kind::TemplateElement { raw, cooked };
         let fields = Vec::new(alloc);
-        Ok(Node { id, span, kind, fields })
+        Ok(Node {
+            id,
+            span,
+            kind,
+            fields,
+        })
     }
 }
 
 /// A node `TemplateElement` with a new id and without marks.
-pub fn new_template_element(ast: &mut AstBuilder, span: Span, raw: String, cooked: Option<String>) -> Result<Node, AllocError>
+pub fn new_template_element(
+    ast: &mut AstBuilder,
+    span: Span,
+    raw: String,
+    cooked: Option<String>,
+) -> Result<Node, AllocError>
     requires { ast.old.next < 2 ^ 32 - 1 }
     ensures made { IfOk result (λ node. node ≡ plain_template_element (record { id = record { 0 = ast.old.next }; span = span; raw = raw; cooked = cooked })) }
     ensures counted { ast.new.next ≡ ast.old.next + 1 }
 {
     let id = ast.new_id();
-    let made = TemplateElement { id, span, raw, cooked };
+    let made = TemplateElement {
+        id,
+        span,
+        raw,
+        cooked,
+    };
     made.close(ast.alloc)
 }

@@ -4,11 +4,15 @@ use Rattle.es_tree.specs.Tree.{Tree, fields, done, ◌then◌, one, many, statem
 use Rattle.es_tree.specs.Shapes.{maybe}
 use Rattle.es_tree.specs.Views.{plain, plain_field}
 use Rattle.es_tree.specs.declared.kind.Kind.TheVariants.{
-  ImportDeclaration as k-ImportDeclaration, ImportSpecifier as k-ImportSpecifier,
-  ImportDefaultSpecifier as k-ImportDefaultSpecifier, ImportNamespaceSpecifier as k-ImportNamespaceSpecifier,
-  ImportAttribute as k-ImportAttribute, ExportNamedDeclaration as k-ExportNamedDeclaration,
-  ExportSpecifier as k-ExportSpecifier, ExportDefaultDeclaration as k-ExportDefaultDeclaration,
-  ExportAllDeclaration as k-ExportAllDeclaration
+  ImportDeclaration as k-ImportDeclaration,
+  ImportSpecifier as k-ImportSpecifier,
+  ImportDefaultSpecifier as k-ImportDefaultSpecifier,
+  ImportNamespaceSpecifier as k-ImportNamespaceSpecifier,
+  ImportAttribute as k-ImportAttribute,
+  ExportNamedDeclaration as k-ExportNamedDeclaration,
+  ExportSpecifier as k-ExportSpecifier,
+  ExportDefaultDeclaration as k-ExportDefaultDeclaration,
+  ExportAllDeclaration as k-ExportAllDeclaration,
 }
 use Rattle.es_patterns.specs.declared.modules.ImportDeclaration.{ImportDeclaration}
 use Rattle.es_patterns.specs.declared.modules.ImportSpecifier.{ImportSpecifier}

@@ -2,8 +2,15 @@
 use Rattle.std.specs.Prelude.{List, [], ◌∷◌, ◌≡◌}
 use Rattle.es_tree.specs.Tree.{Tree, kind_of}
 use Rattle.es_tree.specs.declared.ast_type.AstType.TheVariants.{
-  ImportDeclaration, ImportSpecifier, ImportDefaultSpecifier, ImportNamespaceSpecifier, ImportAttribute,
-  ExportNamedDeclaration, ExportSpecifier, ExportDefaultDeclaration, ExportAllDeclaration
+  ImportDeclaration,
+  ImportSpecifier,
+  ImportDefaultSpecifier,
+  ImportNamespaceSpecifier,
+  ImportAttribute,
+  ExportNamedDeclaration,
+  ExportSpecifier,
+  ExportDefaultDeclaration,
+  ExportAllDeclaration,
 }
 use Rattle.es_tree.specs.Shapes.{Opens, required, optional, list, statement_list}
 

@@ -4,10 +4,16 @@ use Rattle.es_tree.specs.Tree.{Tree, fields, done, ◌then◌, one, many, statem
 use Rattle.es_tree.specs.Shapes.{maybe}
 use Rattle.es_tree.specs.Views.{plain, plain_field}
 use Rattle.es_tree.specs.declared.kind.Kind.TheVariants.{
-  ObjectPattern as k-ObjectPattern, PatternProperty as k-PatternProperty, ArrayPattern as k-ArrayPattern,
-  AssignmentPattern as k-AssignmentPattern, RestElement as k-RestElement, ObjectTarget as k-ObjectTarget,
-  TargetProperty as k-TargetProperty, ArrayTarget as k-ArrayTarget, TargetWithDefault as k-TargetWithDefault,
-  TargetRest as k-TargetRest
+  ObjectPattern as k-ObjectPattern,
+  PatternProperty as k-PatternProperty,
+  ArrayPattern as k-ArrayPattern,
+  AssignmentPattern as k-AssignmentPattern,
+  RestElement as k-RestElement,
+  ObjectTarget as k-ObjectTarget,
+  TargetProperty as k-TargetProperty,
+  ArrayTarget as k-ArrayTarget,
+  TargetWithDefault as k-TargetWithDefault,
+  TargetRest as k-TargetRest,
 }
 use Rattle.es_patterns.specs.declared.patterns.ObjectPattern.{ObjectPattern}
 use Rattle.es_patterns.specs.declared.patterns.PatternProperty.{PatternProperty}

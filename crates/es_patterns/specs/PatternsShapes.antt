@@ -2,8 +2,16 @@
 use Rattle.std.specs.Prelude.{List, [], ◌∷◌, ◌≡◌}
 use Rattle.es_tree.specs.Tree.{Tree, kind_of}
 use Rattle.es_tree.specs.declared.ast_type.AstType.TheVariants.{
-  ObjectPattern, PatternProperty, ArrayPattern, AssignmentPattern, RestElement, ObjectTarget, TargetProperty,
-  ArrayTarget, TargetWithDefault, TargetRest
+  ObjectPattern,
+  PatternProperty,
+  ArrayPattern,
+  AssignmentPattern,
+  RestElement,
+  ObjectTarget,
+  TargetProperty,
+  ArrayTarget,
+  TargetWithDefault,
+  TargetRest,
 }
 use Rattle.es_tree.specs.Shapes.{Opens, required, optional, list, statement_list}
 

@@ -1,22 +1,38 @@
 //! Binding patterns and assignment patterns.
 ghost use Rattle.std.specs.Prelude.{IfOk, ◌≡◌, ◌+◌, ◌-◌, ◌^◌, ◌<◌, None};
 ghost use Rattle.es_patterns.specs.PatternsShapes.{
-    IsObjectPattern, IsPatternProperty, IsArrayPattern, IsAssignmentPattern, IsRestElement, IsObjectTarget,
-    IsTargetProperty, IsArrayTarget, IsTargetWithDefault, IsTargetRest
+  IsObjectPattern,
+  IsPatternProperty,
+  IsArrayPattern,
+  IsAssignmentPattern,
+  IsRestElement,
+  IsObjectTarget,
+  IsTargetProperty,
+  IsArrayTarget,
+  IsTargetWithDefault,
+  IsTargetRest,
 };
 ghost use Rattle.es_patterns.specs.PatternsPlain.{
-    plain_object_pattern, plain_pattern_property, plain_array_pattern, plain_assignment_pattern,
-    plain_rest_element, plain_object_target, plain_target_property, plain_array_target, plain_target_with_default,
-    plain_target_rest
+  plain_object_pattern,
+  plain_pattern_property,
+  plain_array_pattern,
+  plain_assignment_pattern,
+  plain_rest_element,
+  plain_object_target,
+  plain_target_property,
+  plain_array_target,
+  plain_target_with_default,
+  plain_target_rest,
 };
-
-use std::alloc::{AllocError, Global};
 
 use es_tree::builder::AstBuilder;
 use es_tree::ids::{NodeId, Span};
 use es_tree::kind::Kind;
 use es_tree::node::{Field, Node, Parts, exactly};
-use es_tree::sorts::{AssignmentTarget, BindingPattern, Expression, PatternMember, PropertyKey, TargetMember};
+use es_tree::sorts::{
+    AssignmentTarget, BindingPattern, Expression, PatternMember, PropertyKey, TargetMember,
+};
+use std::alloc::{AllocError, Global};
 
 /// An object pattern that binds (ECMA-262, 14.3.3).
 #[derive(Drop)]
@@ -32,34 +48,60 @@ impl ObjectPattern {
         requires { IsObjectPattern node }
         ensures { plain_object_pattern result ≡ node }
     {
-        let Parts { id, span, kind, fields } = node.into_parts();
+        let Parts {
+            id,
+            span,
+            kind,
+            fields,
+        } = node.into_parts();
         match kind {
             Kind::ObjectPattern => {}
             _other => unreachable!(),
         }
         let [properties]: [Field; 1] = exactly(fields);
-        ObjectPattern { id, span, properties: properties.into_nodes() }
+        ObjectPattern {
+            id,
+            span,
+            properties: properties.into_nodes(),
+        }
     }
 
     /// The node of these parts.
     pub fn close(self, alloc: Global) -> Result<Node, AllocError>
         ensures { IfOk result (λ node. node ≡ plain_object_pattern self) }
     {
-        let ObjectPattern { id, span, properties } = self;
+        let ObjectPattern {
+            id,
+            span,
+            properties,
+        } = self;
         let kind = Kind::ObjectPattern;
         let fields = Vec::from_array(alloc, [Field::Many(properties)])?;
-        Ok(Node { id, span, kind, fields })
+        Ok(Node {
+            id,
+            span,
+            kind,
+            fields,
+        })
     }
 }
 
 /// A node `ObjectPattern` with a new id and without marks.
-pub fn new_object_pattern(ast: &mut AstBuilder, span: Span, properties: Vec<PatternMember>) -> Result<Node, AllocError>
+pub fn new_object_pattern(
+    ast: &mut AstBuilder,
+    span: Span,
+    properties: Vec<PatternMember>,
+) -> Result<Node, AllocError>
     requires { ast.old.next < 2 ^ 32 - 1 }
     ensures made { IfOk result (λ node. node ≡ plain_object_pattern (record { id = record { 0 = ast.old.next }; span = span; properties = properties })) }
     ensures counted { ast.new.next ≡ ast.old.next + 1 }
 {
     let id = ast.new_id();
-    let made = ObjectPattern { id, span, properties };
+    let made = ObjectPattern {
+        id,
+        span,
+        properties,
+    };
     made.close(ast.alloc)
 }
 
@@ -80,34 +122,78 @@ impl PatternProperty {
         requires { IsPatternProperty node }
         ensures { plain_pattern_property result ≡ node }
     {
-        let Parts { id, span, kind, fields } = node.into_parts();
+        let Parts {
+            id,
+            span,
+            kind,
+            fields,
+        } = node.into_parts();
         let (shorthand, computed) = match kind {
-            Kind::PatternProperty { shorthand, computed } => (shorthand, computed),
+            Kind::PatternProperty {
+                shorthand,
+                computed,
+            } => (shorthand, computed),
             _other => unreachable!(),
         };
         let [key, value]: [Field; 2] = exactly(fields);
-        PatternProperty { id, span, shorthand, computed, key: key.into_node(), value: value.into_node() }
+        PatternProperty {
+            id,
+            span,
+            shorthand,
+            computed,
+            key: key.into_node(),
+            value: value.into_node(),
+        }
     }
 
     /// The node of these parts.
     pub fn close(self, alloc: Global) -> Result<Node, AllocError>
         ensures { IfOk result (λ node. node ≡ plain_pattern_property self) }
     {
-        let PatternProperty { id, span, shorthand, computed, key, value } = self;
-        let kind = Kind::PatternProperty { shorthand, computed };
+        let PatternProperty {
+            id,
+            span,
+            shorthand,
+            computed,
+            key,
+            value,
+        } = self;
+        let kind = Kind::PatternProperty {
+            shorthand,
+            computed,
+        };
         let fields = Vec::from_array(alloc, [Field::One(key), Field::One(value)])?;
-        Ok(Node { id, span, kind, fields })
+        Ok(Node {
+            id,
+            span,
+            kind,
+            fields,
+        })
     }
 }
 
 /// A node `PatternProperty` with a new id and without marks.
-pub fn new_pattern_property(ast: &mut AstBuilder, span: Span, shorthand: bool, computed: bool, key: PropertyKey, value: BindingPattern) -> Result<Node, AllocError>
+pub fn new_pattern_property(
+    ast: &mut AstBuilder,
+    span: Span,
+    shorthand: bool,
+    computed: bool,
+    key: PropertyKey,
+    value: BindingPattern,
+) -> Result<Node, AllocError>
     requires { ast.old.next < 2 ^ 32 - 1 }
     ensures made { IfOk result (λ node. node ≡ plain_pattern_property (record { id = record { 0 = ast.old.next }; span = span; shorthand = shorthand; computed = computed; key = key; value = value })) }
     ensures counted { ast.new.next ≡ ast.old.next + 1 }
 {
     let id = ast.new_id();
-    let made = PatternProperty { id, span, shorthand, computed, key, value };
+    let made = PatternProperty {
+        id,
+        span,
+        shorthand,
+        computed,
+        key,
+        value,
+    };
     made.close(ast.alloc)
 }
 
@@ -125,7 +211,12 @@ impl ArrayPattern {
         requires { IsArrayPattern node }
         ensures { plain_array_pattern result ≡ node }
     {
-        let Parts { id, span, kind, fields } = node.into_parts();
+        let Parts {
+            id,
+            span,
+            kind,
+            fields,
+        } = node.into_parts();
         match kind {
             Kind::ArrayPattern => {}
             _other => unreachable!(),
@@ -140,12 +231,21 @@ impl ArrayPattern {
     {
         let ArrayPattern { id, span, elements } = self;
         let kind = Kind::ArrayPattern;
-        Ok(Node { id, span, kind, fields: elements })
+        Ok(Node {
+            id,
+            span,
+            kind,
+            fields: elements,
+        })
     }
 }
 
 /// A node `ArrayPattern` with a new id and without marks.
-pub fn new_array_pattern(ast: &mut AstBuilder, span: Span, elements: Vec<Field>) -> Result<Node, AllocError>
+pub fn new_array_pattern(
+    ast: &mut AstBuilder,
+    span: Span,
+    elements: Vec<Field>,
+) -> Result<Node, AllocError>
     requires { ast.old.next < 2 ^ 32 - 1 }
     ensures made { IfOk result (λ node. node ≡ plain_array_pattern (record { id = record { 0 = ast.old.next }; span = span; elements = elements })) }
     ensures counted { ast.new.next ≡ ast.old.next + 1 }
@@ -170,34 +270,64 @@ impl AssignmentPattern {
         requires { IsAssignmentPattern node }
         ensures { plain_assignment_pattern result ≡ node }
     {
-        let Parts { id, span, kind, fields } = node.into_parts();
+        let Parts {
+            id,
+            span,
+            kind,
+            fields,
+        } = node.into_parts();
         match kind {
             Kind::AssignmentPattern => {}
             _other => unreachable!(),
         }
         let [left, right]: [Field; 2] = exactly(fields);
-        AssignmentPattern { id, span, left: left.into_node(), right: right.into_node() }
+        AssignmentPattern {
+            id,
+            span,
+            left: left.into_node(),
+            right: right.into_node(),
+        }
     }
 
     /// The node of these parts.
     pub fn close(self, alloc: Global) -> Result<Node, AllocError>
         ensures { IfOk result (λ node. node ≡ plain_assignment_pattern self) }
     {
-        let AssignmentPattern { id, span, left, right } = self;
+        let AssignmentPattern {
+            id,
+            span,
+            left,
+            right,
+        } = self;
         let kind = Kind::AssignmentPattern;
         let fields = Vec::from_array(alloc, [Field::One(left), Field::One(right)])?;
-        Ok(Node { id, span, kind, fields })
+        Ok(Node {
+            id,
+            span,
+            kind,
+            fields,
+        })
     }
 }
 
 /// A node `AssignmentPattern` with a new id and without marks.
-pub fn new_assignment_pattern(ast: &mut AstBuilder, span: Span, left: BindingPattern, right: Expression) -> Result<Node, AllocError>
+pub fn new_assignment_pattern(
+    ast: &mut AstBuilder,
+    span: Span,
+    left: BindingPattern,
+    right: Expression,
+) -> Result<Node, AllocError>
     requires { ast.old.next < 2 ^ 32 - 1 }
     ensures made { IfOk result (λ node. node ≡ plain_assignment_pattern (record { id = record { 0 = ast.old.next }; span = span; left = left; right = right })) }
     ensures counted { ast.new.next ≡ ast.old.next + 1 }
 {
     let id = ast.new_id();
-    let made = AssignmentPattern { id, span, left, right };
+    let made = AssignmentPattern {
+        id,
+        span,
+        left,
+        right,
+    };
     made.close(ast.alloc)
 }
 
@@ -215,13 +345,22 @@ impl RestElement {
         requires { IsRestElement node }
         ensures { plain_rest_element result ≡ node }
     {
-        let Parts { id, span, kind, fields } = node.into_parts();
+        let Parts {
+            id,
+            span,
+            kind,
+            fields,
+        } = node.into_parts();
         match kind {
             Kind::RestElement => {}
             _other => unreachable!(),
         }
         let [argument]: [Field; 1] = exactly(fields);
-        RestElement { id, span, argument: argument.into_node() }
+        RestElement {
+            id,
+            span,
+            argument: argument.into_node(),
+        }
     }
 
     /// The node of these parts.
@@ -231,12 +370,21 @@ impl RestElement {
         let RestElement { id, span, argument } = self;
         let kind = Kind::RestElement;
         let fields = Vec::from_array(alloc, [Field::One(argument)])?;
-        Ok(Node { id, span, kind, fields })
+        Ok(Node {
+            id,
+            span,
+            kind,
+            fields,
+        })
     }
 }
 
 /// A node `RestElement` with a new id and without marks.
-pub fn new_rest_element(ast: &mut AstBuilder, span: Span, argument: BindingPattern) -> Result<Node, AllocError>
+pub fn new_rest_element(
+    ast: &mut AstBuilder,
+    span: Span,
+    argument: BindingPattern,
+) -> Result<Node, AllocError>
     requires { ast.old.next < 2 ^ 32 - 1 }
     ensures made { IfOk result (λ node. node ≡ plain_rest_element (record { id = record { 0 = ast.old.next }; span = span; argument = argument })) }
     ensures counted { ast.new.next ≡ ast.old.next + 1 }
@@ -260,34 +408,60 @@ impl ObjectTarget {
         requires { IsObjectTarget node }
         ensures { plain_object_target result ≡ node }
     {
-        let Parts { id, span, kind, fields } = node.into_parts();
+        let Parts {
+            id,
+            span,
+            kind,
+            fields,
+        } = node.into_parts();
         match kind {
             Kind::ObjectTarget => {}
             _other => unreachable!(),
         }
         let [properties]: [Field; 1] = exactly(fields);
-        ObjectTarget { id, span, properties: properties.into_nodes() }
+        ObjectTarget {
+            id,
+            span,
+            properties: properties.into_nodes(),
+        }
     }
 
     /// The node of these parts.
     pub fn close(self, alloc: Global) -> Result<Node, AllocError>
         ensures { IfOk result (λ node. node ≡ plain_object_target self) }
     {
-        let ObjectTarget { id, span, properties } = self;
+        let ObjectTarget {
+            id,
+            span,
+            properties,
+        } = self;
         let kind = Kind::ObjectTarget;
         let fields = Vec::from_array(alloc, [Field::Many(properties)])?;
-        Ok(Node { id, span, kind, fields })
+        Ok(Node {
+            id,
+            span,
+            kind,
+            fields,
+        })
     }
 }
 
 /// A node `ObjectTarget` with a new id and without marks.
-pub fn new_object_target(ast: &mut AstBuilder, span: Span, properties: Vec<TargetMember>) -> Result<Node, AllocError>
+pub fn new_object_target(
+    ast: &mut AstBuilder,
+    span: Span,
+    properties: Vec<TargetMember>,
+) -> Result<Node, AllocError>
     requires { ast.old.next < 2 ^ 32 - 1 }
     ensures made { IfOk result (λ node. node ≡ plain_object_target (record { id = record { 0 = ast.old.next }; span = span; properties = properties })) }
     ensures counted { ast.new.next ≡ ast.old.next + 1 }
 {
     let id = ast.new_id();
-    let made = ObjectTarget { id, span, properties };
+    let made = ObjectTarget {
+        id,
+        span,
+        properties,
+    };
     made.close(ast.alloc)
 }
 
@@ -308,34 +482,78 @@ impl TargetProperty {
         requires { IsTargetProperty node }
         ensures { plain_target_property result ≡ node }
     {
-        let Parts { id, span, kind, fields } = node.into_parts();
+        let Parts {
+            id,
+            span,
+            kind,
+            fields,
+        } = node.into_parts();
         let (shorthand, computed) = match kind {
-            Kind::TargetProperty { shorthand, computed } => (shorthand, computed),
+            Kind::TargetProperty {
+                shorthand,
+                computed,
+            } => (shorthand, computed),
             _other => unreachable!(),
         };
         let [key, value]: [Field; 2] = exactly(fields);
-        TargetProperty { id, span, shorthand, computed, key: key.into_node(), value: value.into_node() }
+        TargetProperty {
+            id,
+            span,
+            shorthand,
+            computed,
+            key: key.into_node(),
+            value: value.into_node(),
+        }
     }
 
     /// The node of these parts.
     pub fn close(self, alloc: Global) -> Result<Node, AllocError>
         ensures { IfOk result (λ node. node ≡ plain_target_property self) }
     {
-        let TargetProperty { id, span, shorthand, computed, key, value } = self;
-        let kind = Kind::TargetProperty { shorthand, computed };
+        let TargetProperty {
+            id,
+            span,
+            shorthand,
+            computed,
+            key,
+            value,
+        } = self;
+        let kind = Kind::TargetProperty {
+            shorthand,
+            computed,
+        };
         let fields = Vec::from_array(alloc, [Field::One(key), Field::One(value)])?;
-        Ok(Node { id, span, kind, fields })
+        Ok(Node {
+            id,
+            span,
+            kind,
+            fields,
+        })
     }
 }
 
 /// A node `TargetProperty` with a new id and without marks.
-pub fn new_target_property(ast: &mut AstBuilder, span: Span, shorthand: bool, computed: bool, key: PropertyKey, value: AssignmentTarget) -> Result<Node, AllocError>
+pub fn new_target_property(
+    ast: &mut AstBuilder,
+    span: Span,
+    shorthand: bool,
+    computed: bool,
+    key: PropertyKey,
+    value: AssignmentTarget,
+) -> Result<Node, AllocError>
     requires { ast.old.next < 2 ^ 32 - 1 }
     ensures made { IfOk result (λ node. node ≡ plain_target_property (record { id = record { 0 = ast.old.next }; span = span; shorthand = shorthand; computed = computed; key = key; value = value })) }
     ensures counted { ast.new.next ≡ ast.old.next + 1 }
 {
     let id = ast.new_id();
-    let made = TargetProperty { id, span, shorthand, computed, key, value };
+    let made = TargetProperty {
+        id,
+        span,
+        shorthand,
+        computed,
+        key,
+        value,
+    };
     made.close(ast.alloc)
 }
 
@@ -353,7 +571,12 @@ impl ArrayTarget {
         requires { IsArrayTarget node }
         ensures { plain_array_target result ≡ node }
     {
-        let Parts { id, span, kind, fields } = node.into_parts();
+        let Parts {
+            id,
+            span,
+            kind,
+            fields,
+        } = node.into_parts();
         match kind {
             Kind::ArrayTarget => {}
             _other => unreachable!(),
@@ -368,12 +591,21 @@ impl ArrayTarget {
     {
         let ArrayTarget { id, span, elements } = self;
         let kind = Kind::ArrayTarget;
-        Ok(Node { id, span, kind, fields: elements })
+        Ok(Node {
+            id,
+            span,
+            kind,
+            fields: elements,
+        })
     }
 }
 
 /// A node `ArrayTarget` with a new id and without marks.
-pub fn new_array_target(ast: &mut AstBuilder, span: Span, elements: Vec<Field>) -> Result<Node, AllocError>
+pub fn new_array_target(
+    ast: &mut AstBuilder,
+    span: Span,
+    elements: Vec<Field>,
+) -> Result<Node, AllocError>
     requires { ast.old.next < 2 ^ 32 - 1 }
     ensures made { IfOk result (λ node. node ≡ plain_array_target (record { id = record { 0 = ast.old.next }; span = span; elements = elements })) }
     ensures counted { ast.new.next ≡ ast.old.next + 1 }
@@ -398,34 +630,64 @@ impl TargetWithDefault {
         requires { IsTargetWithDefault node }
         ensures { plain_target_with_default result ≡ node }
     {
-        let Parts { id, span, kind, fields } = node.into_parts();
+        let Parts {
+            id,
+            span,
+            kind,
+            fields,
+        } = node.into_parts();
         match kind {
             Kind::TargetWithDefault => {}
             _other => unreachable!(),
         }
         let [left, right]: [Field; 2] = exactly(fields);
-        TargetWithDefault { id, span, left: left.into_node(), right: right.into_node() }
+        TargetWithDefault {
+            id,
+            span,
+            left: left.into_node(),
+            right: right.into_node(),
+        }
     }
 
     /// The node of these parts.
     pub fn close(self, alloc: Global) -> Result<Node, AllocError>
         ensures { IfOk result (λ node. node ≡ plain_target_with_default self) }
     {
-        let TargetWithDefault { id, span, left, right } = self;
+        let TargetWithDefault {
+            id,
+            span,
+            left,
+            right,
+        } = self;
         let kind = Kind::TargetWithDefault;
         let fields = Vec::from_array(alloc, [Field::One(left), Field::One(right)])?;
-        Ok(Node { id, span, kind, fields })
+        Ok(Node {
+            id,
+            span,
+            kind,
+            fields,
+        })
     }
 }
 
 /// A node `TargetWithDefault` with a new id and without marks.
-pub fn new_target_with_default(ast: &mut AstBuilder, span: Span, left: AssignmentTarget, right: Expression) -> Result<Node, AllocError>
+pub fn new_target_with_default(
+    ast: &mut AstBuilder,
+    span: Span,
+    left: AssignmentTarget,
+    right: Expression,
+) -> Result<Node, AllocError>
     requires { ast.old.next < 2 ^ 32 - 1 }
     ensures made { IfOk result (λ node. node ≡ plain_target_with_default (record { id = record { 0 = ast.old.next }; span = span; left = left; right = right })) }
     ensures counted { ast.new.next ≡ ast.old.next + 1 }
 {
     let id = ast.new_id();
-    let made = TargetWithDefault { id, span, left, right };
+    let made = TargetWithDefault {
+        id,
+        span,
+        left,
+        right,
+    };
     made.close(ast.alloc)
 }
 
@@ -443,13 +705,22 @@ impl TargetRest {
         requires { IsTargetRest node }
         ensures { plain_target_rest result ≡ node }
     {
-        let Parts { id, span, kind, fields } = node.into_parts();
+        let Parts {
+            id,
+            span,
+            kind,
+            fields,
+        } = node.into_parts();
         match kind {
             Kind::TargetRest => {}
             _other => unreachable!(),
         }
         let [argument]: [Field; 1] = exactly(fields);
-        TargetRest { id, span, argument: argument.into_node() }
+        TargetRest {
+            id,
+            span,
+            argument: argument.into_node(),
+        }
     }
 
     /// The node of these parts.
@@ -459,12 +730,21 @@ impl TargetRest {
         let TargetRest { id, span, argument } = self;
         let kind = Kind::TargetRest;
         let fields = Vec::from_array(alloc, [Field::One(argument)])?;
-        Ok(Node { id, span, kind, fields })
+        Ok(Node {
+            id,
+            span,
+            kind,
+            fields,
+        })
     }
 }
 
 /// A node `TargetRest` with a new id and without marks.
-pub fn new_target_rest(ast: &mut AstBuilder, span: Span, argument: AssignmentTarget) -> Result<Node, AllocError>
+pub fn new_target_rest(
+    ast: &mut AstBuilder,
+    span: Span,
+    argument: AssignmentTarget,
+) -> Result<Node, AllocError>
     requires { ast.old.next < 2 ^ 32 - 1 }
     ensures made { IfOk result (λ node. node ≡ plain_target_rest (record { id = record { 0 = ast.old.next }; span = span; argument = argument })) }
     ensures counted { ast.new.next ≡ ast.old.next + 1 }

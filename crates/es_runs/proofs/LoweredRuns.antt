@@ -51,7 +51,7 @@ fresh_of in_use x (nullish_rule {l = l} texts fresh) = (fresh.free, not_math in_
 
 module _ (in_use : Text → Bool) (x : Text) where
   rule_base : (ds : List Declared) (this : Value) (m : bytes_eq (codes "Math") x ≡ false) (n : Need) (a b : Tree) → Unnamed (bad_names (only x) none_hidden) (NullishRule in_use x) n a b →
-    Like (set_cells (only x)) (before x ds this m) (after x ds this m) n (meaning (before x ds this m) a) (meaning (after x ds this m) b)
+      Like (set_cells (only x)) (before x ds this m) (after x ds this m) n (meaning (before x ds this m) a) (meaning (after x ds this m) b)
   rule_base ds this m n _ _ (nullish_rule {m = lab} {l = l} {r = r} texts fresh, h) = nullish_base x ds this m n (node LogicalExpression lab (one l then (one r then done))) (tested_by lab x l r) (nullish_row {n = n} {m = lab} {l = l} {r = r} texts, h)
 
 program_written : (x : Text) (xs : List Text) (l : Label) (ds body : Trees) → declared_in_body body ≡ [] → (this : Value) (moves : List Move) →
@@ -131,5 +131,5 @@ law_lowered_proof p q h lowered this moves callable =
     let known : Known (is_among (names_of p)) [] (bare p) = rw none at (source_known p h) in
     let found = steps_alike (is_declared (declared_of p)) this moves lowered.steps [] known (λ y e. rw none_p at e) (λ e. callable (ap outcome (sym start) ∙ e)) in
     let target : run q this moves ≡ run_with (all_pending lowered.names []) lowered.body this moves =
-      sym (run-bare q this moves) ∙ ap (λ t. run t this moves) lowered.written ∙ run-bare (declare_in lowered.names lowered.body) this moves ∙ written_alike lowered.names lowered.body found.plain this moves in
+    sym (run-bare q this moves) ∙ ap (λ t. run t this moves) lowered.written ∙ run-bare (declare_in lowered.names lowered.body) this moves ∙ written_alike lowered.names lowered.body found.plain this moves in
     rw (← start, target) found.same

@@ -87,16 +87,16 @@ mutual
       let own = and_left (is_core_node k l fs) (all_in_fields is_core_node fs) core in
       let rest = among_second (own_name counts k l) (if is_reexport k fs then [] else names_in_fields (is_name_place k l) fs) x free in
       or_both (is_bad (bad_names (only x) none_hidden) n.level k l.texts) (touches_fields (bad_names (only x) none_hidden) (needs n k l.texts l.flags) fs)
-        (own_free x n counts k l (among_first (own_name counts k l) (if is_reexport k fs then [] else names_in_fields (is_name_place k l) fs) x free) quiet)
-        (fields_free x fs (needs n k l.texts l.flags) (is_name_place k l) (and_right (is_core_node k l fs) (all_in_fields is_core_node fs) core)
-          (rw (names_below k l fs (is_reexport k fs) (core_exports k l fs fs own)) at rest) (λ i. core_quiet k l fs n i own))
+      (own_free x n counts k l (among_first (own_name counts k l) (if is_reexport k fs then [] else names_in_fields (is_name_place k l) fs) x free) quiet)
+      (fields_free x fs (needs n k l.texts l.flags) (is_name_place k l) (and_right (is_core_node k l fs) (all_in_fields is_core_node fs) core)
+      (rw (names_below k l fs (is_reexport k fs) (core_exports k l fs fs own)) at rest) (λ i. core_quiet k l fs n i own))
 
   fields_free : (x : Text) (fs : Fields) (c : ℕ → Need) (p : ℕ → Bool) → all_in_fields is_core_node fs ≡ true → is_among (names_in_fields p fs) x ≡ false → ((i : ℕ) → Quiet (c i) (p i)) → touches_fields (bad_names (only x) none_hidden) c fs ≡ false
   fields_free x done c p core free quiet = refl
   fields_free x (f then fs) c p core free quiet =
       or_both (touches_field (bad_names (only x) none_hidden) (c zero) f) (touches_fields (bad_names (only x) none_hidden) (λ i. c (suc i)) fs)
-        (field_free x f (c zero) (p zero) (and_left (all_in_field is_core_node f) (all_in_fields is_core_node fs) core) (among_first (names_in_field (p zero) f) (names_in_fields (λ i. p (suc i)) fs) x free) (quiet zero))
-        (fields_free x fs (λ i. c (suc i)) (λ i. p (suc i)) (and_right (all_in_field is_core_node f) (all_in_fields is_core_node fs) core) (among_second (names_in_field (p zero) f) (names_in_fields (λ i. p (suc i)) fs) x free) (λ i. quiet (suc i)))
+      (field_free x f (c zero) (p zero) (and_left (all_in_field is_core_node f) (all_in_fields is_core_node fs) core) (among_first (names_in_field (p zero) f) (names_in_fields (λ i. p (suc i)) fs) x free) (quiet zero))
+      (fields_free x fs (λ i. c (suc i)) (λ i. p (suc i)) (and_right (all_in_field is_core_node f) (all_in_fields is_core_node fs) core) (among_second (names_in_field (p zero) f) (names_in_fields (λ i. p (suc i)) fs) x free) (λ i. quiet (suc i)))
 
   field_free : (x : Text) (f : Field) (n : Need) (counts : Bool) → all_in_field is_core_node f ≡ true → is_among (names_in_field counts f) x ≡ false → Quiet n counts → touches_field (bad_names (only x) none_hidden) n f ≡ false
   field_free x missing n counts core free quiet = refl
@@ -108,5 +108,5 @@ mutual
   trees_free x empty n core free = refl
   trees_free x (t before ts) n core free =
       or_both (touches (bad_names (only x) none_hidden) n t) (touches_nodes (bad_names (only x) none_hidden) n ts)
-        (node_free x t n true (and_left (all_nodes is_core_node t) (all_in_trees is_core_node ts) core) (among_first (names_if true t) (names_in_trees ts) x free) (λ e. absurd (cc e)))
-        (trees_free x ts n (and_right (all_nodes is_core_node t) (all_in_trees is_core_node ts) core) (among_second (names_if true t) (names_in_trees ts) x free))
+      (node_free x t n true (and_left (all_nodes is_core_node t) (all_in_trees is_core_node ts) core) (among_first (names_if true t) (names_in_trees ts) x free) (λ e. absurd (cc e)))
+      (trees_free x ts n (and_right (all_nodes is_core_node t) (all_in_trees is_core_node ts) core) (among_second (names_if true t) (names_in_trees ts) x free))

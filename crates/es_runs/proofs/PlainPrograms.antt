@@ -10,7 +10,18 @@ use Rattle.es_tree.specs.FirstPath.{is_first_path, is_first_path_node, is_progra
 use Rattle.es_tree.specs.Tree.{Tree, node, Label, Fields, done, ◌then◌, Field, missing, one, many, statements, Trees, empty, ◌before◌}
 use Rattle.es_tree.specs.declared.ast_type.AstType.{AstType}
 use Rattle.es_tree.specs.declared.ast_type.AstType.TheVariants.{
-  Program, VariableDeclaration, ExpressionStatement, Identifier, ThisExpression, NullLiteral, BooleanLiteral, NumericLiteral, StringLiteral, MemberExpression, LogicalExpression, AssignmentExpression
+  Program,
+  VariableDeclaration,
+  ExpressionStatement,
+  Identifier,
+  ThisExpression,
+  NullLiteral,
+  BooleanLiteral,
+  NumericLiteral,
+  StringLiteral,
+  MemberExpression,
+  LogicalExpression,
+  AssignmentExpression,
 }
 use Rattle.es_runs.specs.Alike.{Need}
 use Rattle.es_runs.specs.Runs.{Declared, declared_of, declared_in_body, declared_by, declared_in}
@@ -163,8 +174,8 @@ plain_body : (ts : Trees) → all_in_trees is_first_path_node ts ≡ true → no
 plain_body empty h = refl
 plain_body (node k l fs before ts) h =
     and_both (not (is_declaration k)) (no_declarations (bare_trees ts))
-      (no_declaration k l fs (and_left (is_first_path_node k l fs) (all_in_fields is_first_path_node fs) (and_left (all_nodes is_first_path_node (node k l fs)) (all_in_trees is_first_path_node ts) h)))
-      (plain_body ts (and_right (all_nodes is_first_path_node (node k l fs)) (all_in_trees is_first_path_node ts) h))
+    (no_declaration k l fs (and_left (is_first_path_node k l fs) (all_in_fields is_first_path_node fs) (and_left (all_nodes is_first_path_node (node k l fs)) (all_in_trees is_first_path_node ts) h)))
+    (plain_body ts (and_right (all_nodes is_first_path_node (node k l fs)) (all_in_trees is_first_path_node ts) h))
 
 plain_two : (fs : Fields) → has_two_lists fs ≡ true → all_in_fields is_first_path_node fs ≡ true → plain_fields (bare_fields fs) ≡ true
 plain_two (many ds then (statements body then done)) e h =

@@ -62,8 +62,8 @@ same_names ds es p this moves h g =
 pub pending_vars : (xs : List Text) (p : Tree) (this : Value) (moves : List Move) → run_with (vars xs ++ []) p this moves ≡ run_with (all_pending xs []) p this moves
 pending_vars xs p this moves =
     same_names (all_pending xs []) (vars xs ++ []) p this moves
-      (λ y. scope_of-vars xs [] y ∙ sym (scope_of-all_pending xs [] y))
-      (λ y. cells_of-vars xs [] y ∙ sym (cells_of-all_pending xs [] y))
+    (λ y. scope_of-vars xs [] y ∙ sym (scope_of-all_pending xs [] y))
+    (λ y. cells_of-vars xs [] y ∙ sym (cells_of-all_pending xs [] y))
 
 declares_nothing : (w : World) (xs : List Text) (s : State) → declared false (meanings w (declarator_nodes xs)) s ≡ gives undefined s
 declares_nothing w [] s = refl

@@ -20,13 +20,13 @@ Rule = (Text → Bool) → Text → Need → Tree → Tree → Type 0
 -- `l ?? r` becomes `(x = l) !== null && x !== void 0 ? x : r`, with x the first free name for the base of l
 pub data NullishRule (in_use : Text → Bool) (x : Text) : Need → Tree → Tree → Type 0 where
   nullish_rule : {n : Need} {m : Label} {l r : Tree} → m.texts ≡ Some (codes "??") ∷ [] → IsFreshName in_use (node_base l) x →
-    NullishRule in_use x n (node LogicalExpression m (one l then one r then done)) (tested_by m x l r)
+      NullishRule in_use x n (node LogicalExpression m (one l then one r then done)) (tested_by m x l r)
 
 -- Steps of a rule from one tree to another, the names that they take in their order, and the names in use then.
 pub data Steps (R : (Text → Bool) → Text → Need → Tree → Tree → Type 0) (n : Need) : (Text → Bool) → Tree → List Text → (Text → Bool) → Tree → Type 0 where
   stays : {in_use : Text → Bool} {t : Tree} → Steps R n in_use t [] in_use t
   goes : {in_use then_in_use : Text → Bool} {t u v : Tree} {x : Text} {xs : List Text} → OnePlace (R in_use x) n t u → Steps R n (also x in_use) u xs then_in_use v →
-    Steps R n in_use t (x ∷ xs) then_in_use v
+      Steps R n in_use t (x ∷ xs) then_in_use v
 
 -- WRITING DECLARATORS
 

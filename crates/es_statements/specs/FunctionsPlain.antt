@@ -4,9 +4,12 @@ use Rattle.es_tree.specs.Tree.{Tree, fields, done, ◌then◌, one, many, statem
 use Rattle.es_tree.specs.Shapes.{maybe}
 use Rattle.es_tree.specs.Views.{plain, plain_field}
 use Rattle.es_tree.specs.declared.kind.Kind.TheVariants.{
-  FunctionDeclaration as k-FunctionDeclaration, FunctionBody as k-FunctionBody,
-  ClassDeclaration as k-ClassDeclaration, MethodDefinition as k-MethodDefinition,
-  PropertyDefinition as k-PropertyDefinition, StaticBlock as k-StaticBlock
+  FunctionDeclaration as k-FunctionDeclaration,
+  FunctionBody as k-FunctionBody,
+  ClassDeclaration as k-ClassDeclaration,
+  MethodDefinition as k-MethodDefinition,
+  PropertyDefinition as k-PropertyDefinition,
+  StaticBlock as k-StaticBlock,
 }
 use Rattle.es_statements.specs.declared.functions.FunctionDeclaration.{FunctionDeclaration}
 use Rattle.es_statements.specs.declared.functions.FunctionBody.{FunctionBody}

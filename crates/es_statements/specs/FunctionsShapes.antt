@@ -2,7 +2,12 @@
 use Rattle.std.specs.Prelude.{List, [], ◌∷◌, ◌≡◌}
 use Rattle.es_tree.specs.Tree.{Tree, kind_of}
 use Rattle.es_tree.specs.declared.ast_type.AstType.TheVariants.{
-  FunctionDeclaration, FunctionBody, ClassDeclaration, MethodDefinition, PropertyDefinition, StaticBlock
+  FunctionDeclaration,
+  FunctionBody,
+  ClassDeclaration,
+  MethodDefinition,
+  PropertyDefinition,
+  StaticBlock,
 }
 use Rattle.es_tree.specs.Shapes.{Opens, required, optional, list, statement_list}
 

@@ -4,10 +4,17 @@ use Rattle.es_tree.specs.Tree.{Tree, fields, done, ◌then◌, one, many, statem
 use Rattle.es_tree.specs.Shapes.{maybe}
 use Rattle.es_tree.specs.Views.{plain, plain_field}
 use Rattle.es_tree.specs.declared.kind.Kind.TheVariants.{
-  ForStatement as k-ForStatement, ForInStatement as k-ForInStatement, ForOfStatement as k-ForOfStatement,
-  WhileStatement as k-WhileStatement, DoWhileStatement as k-DoWhileStatement, BreakStatement as k-BreakStatement,
-  ContinueStatement as k-ContinueStatement, SwitchStatement as k-SwitchStatement, SwitchCase as k-SwitchCase,
-  TryStatement as k-TryStatement, CatchClause as k-CatchClause
+  ForStatement as k-ForStatement,
+  ForInStatement as k-ForInStatement,
+  ForOfStatement as k-ForOfStatement,
+  WhileStatement as k-WhileStatement,
+  DoWhileStatement as k-DoWhileStatement,
+  BreakStatement as k-BreakStatement,
+  ContinueStatement as k-ContinueStatement,
+  SwitchStatement as k-SwitchStatement,
+  SwitchCase as k-SwitchCase,
+  TryStatement as k-TryStatement,
+  CatchClause as k-CatchClause,
 }
 use Rattle.es_statements.specs.declared.loops.ForStatement.{ForStatement}
 use Rattle.es_statements.specs.declared.loops.ForInStatement.{ForInStatement}

@@ -2,8 +2,17 @@
 use Rattle.std.specs.Prelude.{List, [], ◌∷◌, ◌≡◌}
 use Rattle.es_tree.specs.Tree.{Tree, kind_of}
 use Rattle.es_tree.specs.declared.ast_type.AstType.TheVariants.{
-  ForStatement, ForInStatement, ForOfStatement, WhileStatement, DoWhileStatement, BreakStatement,
-  ContinueStatement, SwitchStatement, SwitchCase, TryStatement, CatchClause
+  ForStatement,
+  ForInStatement,
+  ForOfStatement,
+  WhileStatement,
+  DoWhileStatement,
+  BreakStatement,
+  ContinueStatement,
+  SwitchStatement,
+  SwitchCase,
+  TryStatement,
+  CatchClause,
 }
 use Rattle.es_tree.specs.Shapes.{Opens, required, optional, list, statement_list}
 

@@ -4,11 +4,18 @@ use Rattle.es_tree.specs.Tree.{Tree, fields, done, ◌then◌, one, many, statem
 use Rattle.es_tree.specs.Shapes.{maybe}
 use Rattle.es_tree.specs.Views.{plain, plain_field}
 use Rattle.es_tree.specs.declared.kind.Kind.TheVariants.{
-  Program as k-Program, Directive as k-Directive, ExpressionStatement as k-ExpressionStatement,
-  BlockStatement as k-BlockStatement, EmptyStatement as k-EmptyStatement,
-  DebuggerStatement as k-DebuggerStatement, VariableDeclaration as k-VariableDeclaration,
-  VariableDeclarator as k-VariableDeclarator, ReturnStatement as k-ReturnStatement,
-  ThrowStatement as k-ThrowStatement, IfStatement as k-IfStatement, LabeledStatement as k-LabeledStatement
+  Program as k-Program,
+  Directive as k-Directive,
+  ExpressionStatement as k-ExpressionStatement,
+  BlockStatement as k-BlockStatement,
+  EmptyStatement as k-EmptyStatement,
+  DebuggerStatement as k-DebuggerStatement,
+  VariableDeclaration as k-VariableDeclaration,
+  VariableDeclarator as k-VariableDeclarator,
+  ReturnStatement as k-ReturnStatement,
+  ThrowStatement as k-ThrowStatement,
+  IfStatement as k-IfStatement,
+  LabeledStatement as k-LabeledStatement,
 }
 use Rattle.es_statements.specs.declared.program.Program.{Program}
 use Rattle.es_statements.specs.declared.program.Directive.{Directive}

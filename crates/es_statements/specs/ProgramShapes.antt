@@ -2,8 +2,18 @@
 use Rattle.std.specs.Prelude.{List, [], ◌∷◌, ◌≡◌}
 use Rattle.es_tree.specs.Tree.{Tree, kind_of}
 use Rattle.es_tree.specs.declared.ast_type.AstType.TheVariants.{
-  Program, Directive, ExpressionStatement, BlockStatement, EmptyStatement, DebuggerStatement,
-  VariableDeclaration, VariableDeclarator, ReturnStatement, ThrowStatement, IfStatement, LabeledStatement
+  Program,
+  Directive,
+  ExpressionStatement,
+  BlockStatement,
+  EmptyStatement,
+  DebuggerStatement,
+  VariableDeclaration,
+  VariableDeclarator,
+  ReturnStatement,
+  ThrowStatement,
+  IfStatement,
+  LabeledStatement,
 }
 use Rattle.es_tree.specs.Shapes.{Opens, required, optional, list, statement_list}
 

@@ -1,22 +1,38 @@
 //! Loops and what they pass, `switch` and `try`.
 ghost use Rattle.std.specs.Prelude.{IfOk, ◌≡◌, ◌+◌, ◌-◌, ◌^◌, ◌<◌, None};
 ghost use Rattle.es_statements.specs.LoopsShapes.{
-    IsForStatement, IsForInStatement, IsForOfStatement, IsWhileStatement, IsDoWhileStatement, IsBreakStatement,
-    IsContinueStatement, IsSwitchStatement, IsSwitchCase, IsTryStatement, IsCatchClause
+  IsForStatement,
+  IsForInStatement,
+  IsForOfStatement,
+  IsWhileStatement,
+  IsDoWhileStatement,
+  IsBreakStatement,
+  IsContinueStatement,
+  IsSwitchStatement,
+  IsSwitchCase,
+  IsTryStatement,
+  IsCatchClause,
 };
 ghost use Rattle.es_statements.specs.LoopsPlain.{
-    plain_for_statement, plain_for_in_statement, plain_for_of_statement, plain_while_statement,
-    plain_do_while_statement, plain_break_statement, plain_continue_statement, plain_switch_statement,
-    plain_switch_case, plain_try_statement, plain_catch_clause
+  plain_for_statement,
+  plain_for_in_statement,
+  plain_for_of_statement,
+  plain_while_statement,
+  plain_do_while_statement,
+  plain_break_statement,
+  plain_continue_statement,
+  plain_switch_statement,
+  plain_switch_case,
+  plain_try_statement,
+  plain_catch_clause,
 };
-
-use std::alloc::{AllocError, Global};
 
 use es_tree::builder::AstBuilder;
 use es_tree::ids::{NodeId, ScopeId, Span};
 use es_tree::kind::Kind;
 use es_tree::node::{Field, Node, Parts, exactly};
 use es_tree::sorts::{BindingPattern, Expression, ForInit, ForLeft, Statement};
+use std::alloc::{AllocError, Global};
 
 /// A for statement (ECMA-262, 14.7.4).
 #[derive(Drop)]
@@ -36,34 +52,83 @@ impl ForStatement {
         requires { IsForStatement node }
         ensures { plain_for_statement result ≡ node }
     {
-        let Parts { id, span, kind, fields } = node.into_parts();
+        let Parts {
+            id,
+            span,
+            kind,
+            fields,
+        } = node.into_parts();
         let scope = match kind {
             Kind::ForStatement { scope } => scope,
             _other => unreachable!(),
         };
         let [init, test, update, body]: [Field; 4] = exactly(fields);
-        ForStatement { id, span, scope, init: init.into_optional(), test: test.into_optional(), update: update.into_optional(), body: body.into_node() }
+        ForStatement {
+            id,
+            span,
+            scope,
+            init: init.into_optional(),
+            test: test.into_optional(),
+            update: update.into_optional(),
+            body: body.into_node(),
+        }
     }
 
     /// The node of these parts.
     pub fn close(self, alloc: Global) -> Result<Node, AllocError>
         ensures { IfOk result (λ node. node ≡ plain_for_statement self) }
     {
-        let ForStatement { id, span, scope, init, test, update, body } = self;
+        let ForStatement {
+            id,
+            span,
+            scope,
+            init,
+            test,
+            update,
+            body,
+        } = self;
         let kind = Kind::ForStatement { scope };
-        let fields = Vec::from_array(alloc, [Field::from_optional(init), Field::from_optional(test), Field::from_optional(update), Field::One(body)])?;
-        Ok(Node { id, span, kind, fields })
+        let fields = Vec::from_array(
+            alloc,
+            [
+                Field::from_optional(init),
+                Field::from_optional(test),
+                Field::from_optional(update),
+                Field::One(body),
+            ],
+        )?;
+        Ok(Node {
+            id,
+            span,
+            kind,
+            fields,
+        })
     }
 }
 
 /// A node `ForStatement` with a new id and without marks.
-pub fn new_for_statement(ast: &mut AstBuilder, span: Span, init: Option<ForInit>, test: Option<Expression>, update: Option<Expression>, body: Statement) -> Result<Node, AllocError>
+pub fn new_for_statement(
+    ast: &mut AstBuilder,
+    span: Span,
+    init: Option<ForInit>,
+    test: Option<Expression>,
+    update: Option<Expression>,
+    body: Statement,
+) -> Result<Node, AllocError>
     requires { ast.old.next < 2 ^ 32 - 1 }
     ensures made { IfOk result (λ node. node ≡ plain_for_statement (record { id = record { 0 = ast.old.next }; span = span; init = init; test = test; update = update; body = body; scope = None })) }
     ensures counted { ast.new.next ≡ ast.old.next + 1 }
 {
     let id = ast.new_id();
-    let made = ForStatement { id, span, init, test, update, body, scope: None };
+    let made = ForStatement {
+        id,
+        span,
+        init,
+        test,
+        update,
+        body,
+        scope: None,
+    };
     made.close(ast.alloc)
 }
 
@@ -84,34 +149,74 @@ impl ForInStatement {
         requires { IsForInStatement node }
         ensures { plain_for_in_statement result ≡ node }
     {
-        let Parts { id, span, kind, fields } = node.into_parts();
+        let Parts {
+            id,
+            span,
+            kind,
+            fields,
+        } = node.into_parts();
         let scope = match kind {
             Kind::ForInStatement { scope } => scope,
             _other => unreachable!(),
         };
         let [left, right, body]: [Field; 3] = exactly(fields);
-        ForInStatement { id, span, scope, left: left.into_node(), right: right.into_node(), body: body.into_node() }
+        ForInStatement {
+            id,
+            span,
+            scope,
+            left: left.into_node(),
+            right: right.into_node(),
+            body: body.into_node(),
+        }
     }
 
     /// The node of these parts.
     pub fn close(self, alloc: Global) -> Result<Node, AllocError>
         ensures { IfOk result (λ node. node ≡ plain_for_in_statement self) }
     {
-        let ForInStatement { id, span, scope, left, right, body } = self;
+        let ForInStatement {
+            id,
+            span,
+            scope,
+            left,
+            right,
+            body,
+        } = self;
         let kind = Kind::ForInStatement { scope };
-        let fields = Vec::from_array(alloc, [Field::One(left), Field::One(right), Field::One(body)])?;
-        Ok(Node { id, span, kind, fields })
+        let fields = Vec::from_array(
+            alloc,
+            [Field::One(left), Field::One(right), Field::One(body)],
+        )?;
+        Ok(Node {
+            id,
+            span,
+            kind,
+            fields,
+        })
     }
 }
 
 /// A node `ForInStatement` with a new id and without marks.
-pub fn new_for_in_statement(ast: &mut AstBuilder, span: Span, left: ForLeft, right: Expression, body: Statement) -> Result<Node, AllocError>
+pub fn new_for_in_statement(
+    ast: &mut AstBuilder,
+    span: Span,
+    left: ForLeft,
+    right: Expression,
+    body: Statement,
+) -> Result<Node, AllocError>
     requires { ast.old.next < 2 ^ 32 - 1 }
     ensures made { IfOk result (λ node. node ≡ plain_for_in_statement (record { id = record { 0 = ast.old.next }; span = span; left = left; right = right; body = body; scope = None })) }
     ensures counted { ast.new.next ≡ ast.old.next + 1 }
 {
     let id = ast.new_id();
-    let made = ForInStatement { id, span, left, right, body, scope: None };
+    let made = ForInStatement {
+        id,
+        span,
+        left,
+        right,
+        body,
+        scope: None,
+    };
     made.close(ast.alloc)
 }
 
@@ -132,34 +237,74 @@ impl ForOfStatement {
         requires { IsForOfStatement node }
         ensures { plain_for_of_statement result ≡ node }
     {
-        let Parts { id, span, kind, fields } = node.into_parts();
+        let Parts {
+            id,
+            span,
+            kind,
+            fields,
+        } = node.into_parts();
         let scope = match kind {
             Kind::ForOfStatement { scope } => scope,
             _other => unreachable!(),
         };
         let [left, right, body]: [Field; 3] = exactly(fields);
-        ForOfStatement { id, span, scope, left: left.into_node(), right: right.into_node(), body: body.into_node() }
+        ForOfStatement {
+            id,
+            span,
+            scope,
+            left: left.into_node(),
+            right: right.into_node(),
+            body: body.into_node(),
+        }
     }
 
     /// The node of these parts.
     pub fn close(self, alloc: Global) -> Result<Node, AllocError>
         ensures { IfOk result (λ node. node ≡ plain_for_of_statement self) }
     {
-        let ForOfStatement { id, span, scope, left, right, body } = self;
+        let ForOfStatement {
+            id,
+            span,
+            scope,
+            left,
+            right,
+            body,
+        } = self;
         let kind = Kind::ForOfStatement { scope };
-        let fields = Vec::from_array(alloc, [Field::One(left), Field::One(right), Field::One(body)])?;
-        Ok(Node { id, span, kind, fields })
+        let fields = Vec::from_array(
+            alloc,
+            [Field::One(left), Field::One(right), Field::One(body)],
+        )?;
+        Ok(Node {
+            id,
+            span,
+            kind,
+            fields,
+        })
     }
 }
 
 /// A node `ForOfStatement` with a new id and without marks.
-pub fn new_for_of_statement(ast: &mut AstBuilder, span: Span, left: ForLeft, right: Expression, body: Statement) -> Result<Node, AllocError>
+pub fn new_for_of_statement(
+    ast: &mut AstBuilder,
+    span: Span,
+    left: ForLeft,
+    right: Expression,
+    body: Statement,
+) -> Result<Node, AllocError>
     requires { ast.old.next < 2 ^ 32 - 1 }
     ensures made { IfOk result (λ node. node ≡ plain_for_of_statement (record { id = record { 0 = ast.old.next }; span = span; left = left; right = right; body = body; scope = None })) }
     ensures counted { ast.new.next ≡ ast.old.next + 1 }
 {
     let id = ast.new_id();
-    let made = ForOfStatement { id, span, left, right, body, scope: None };
+    let made = ForOfStatement {
+        id,
+        span,
+        left,
+        right,
+        body,
+        scope: None,
+    };
     made.close(ast.alloc)
 }
 
@@ -178,34 +323,64 @@ impl WhileStatement {
         requires { IsWhileStatement node }
         ensures { plain_while_statement result ≡ node }
     {
-        let Parts { id, span, kind, fields } = node.into_parts();
+        let Parts {
+            id,
+            span,
+            kind,
+            fields,
+        } = node.into_parts();
         match kind {
             Kind::WhileStatement => {}
             _other => unreachable!(),
         }
         let [test, body]: [Field; 2] = exactly(fields);
-        WhileStatement { id, span, test: test.into_node(), body: body.into_node() }
+        WhileStatement {
+            id,
+            span,
+            test: test.into_node(),
+            body: body.into_node(),
+        }
     }
 
     /// The node of these parts.
     pub fn close(self, alloc: Global) -> Result<Node, AllocError>
         ensures { IfOk result (λ node. node ≡ plain_while_statement self) }
     {
-        let WhileStatement { id, span, test, body } = self;
+        let WhileStatement {
+            id,
+            span,
+            test,
+            body,
+        } = self;
         let kind = Kind::WhileStatement;
         let fields = Vec::from_array(alloc, [Field::One(test), Field::One(body)])?;
-        Ok(Node { id, span, kind, fields })
+        Ok(Node {
+            id,
+            span,
+            kind,
+            fields,
+        })
     }
 }
 
 /// A node `WhileStatement` with a new id and without marks.
-pub fn new_while_statement(ast: &mut AstBuilder, span: Span, test: Expression, body: Statement) -> Result<Node, AllocError>
+pub fn new_while_statement(
+    ast: &mut AstBuilder,
+    span: Span,
+    test: Expression,
+    body: Statement,
+) -> Result<Node, AllocError>
     requires { ast.old.next < 2 ^ 32 - 1 }
     ensures made { IfOk result (λ node. node ≡ plain_while_statement (record { id = record { 0 = ast.old.next }; span = span; test = test; body = body })) }
     ensures counted { ast.new.next ≡ ast.old.next + 1 }
 {
     let id = ast.new_id();
-    let made = WhileStatement { id, span, test, body };
+    let made = WhileStatement {
+        id,
+        span,
+        test,
+        body,
+    };
     made.close(ast.alloc)
 }
 
@@ -224,34 +399,64 @@ impl DoWhileStatement {
         requires { IsDoWhileStatement node }
         ensures { plain_do_while_statement result ≡ node }
     {
-        let Parts { id, span, kind, fields } = node.into_parts();
+        let Parts {
+            id,
+            span,
+            kind,
+            fields,
+        } = node.into_parts();
         match kind {
             Kind::DoWhileStatement => {}
             _other => unreachable!(),
         }
         let [body, test]: [Field; 2] = exactly(fields);
-        DoWhileStatement { id, span, body: body.into_node(), test: test.into_node() }
+        DoWhileStatement {
+            id,
+            span,
+            body: body.into_node(),
+            test: test.into_node(),
+        }
     }
 
     /// The node of these parts.
     pub fn close(self, alloc: Global) -> Result<Node, AllocError>
         ensures { IfOk result (λ node. node ≡ plain_do_while_statement self) }
     {
-        let DoWhileStatement { id, span, body, test } = self;
+        let DoWhileStatement {
+            id,
+            span,
+            body,
+            test,
+        } = self;
         let kind = Kind::DoWhileStatement;
         let fields = Vec::from_array(alloc, [Field::One(body), Field::One(test)])?;
-        Ok(Node { id, span, kind, fields })
+        Ok(Node {
+            id,
+            span,
+            kind,
+            fields,
+        })
     }
 }
 
 /// A node `DoWhileStatement` with a new id and without marks.
-pub fn new_do_while_statement(ast: &mut AstBuilder, span: Span, body: Statement, test: Expression) -> Result<Node, AllocError>
+pub fn new_do_while_statement(
+    ast: &mut AstBuilder,
+    span: Span,
+    body: Statement,
+    test: Expression,
+) -> Result<Node, AllocError>
     requires { ast.old.next < 2 ^ 32 - 1 }
     ensures made { IfOk result (λ node. node ≡ plain_do_while_statement (record { id = record { 0 = ast.old.next }; span = span; body = body; test = test })) }
     ensures counted { ast.new.next ≡ ast.old.next + 1 }
 {
     let id = ast.new_id();
-    let made = DoWhileStatement { id, span, body, test };
+    let made = DoWhileStatement {
+        id,
+        span,
+        body,
+        test,
+    };
     made.close(ast.alloc)
 }
 
@@ -269,13 +474,22 @@ impl BreakStatement {
         requires { IsBreakStatement node }
         ensures { plain_break_statement result ≡ node }
     {
-        let Parts { id, span, kind, fields } = node.into_parts();
+        let Parts {
+            id,
+            span,
+            kind,
+            fields,
+        } = node.into_parts();
         match kind {
             Kind::BreakStatement => {}
             _other => unreachable!(),
         }
         let [label]: [Field; 1] = exactly(fields);
-        BreakStatement { id, span, label: label.into_optional() }
+        BreakStatement {
+            id,
+            span,
+            label: label.into_optional(),
+        }
     }
 
     /// The node of these parts.
@@ -285,12 +499,21 @@ impl BreakStatement {
         let BreakStatement { id, span, label } = self;
         let kind = Kind::BreakStatement;
         let fields = Vec::from_array(alloc, [Field::from_optional(label)])?;
-        Ok(Node { id, span, kind, fields })
+        Ok(Node {
+            id,
+            span,
+            kind,
+            fields,
+        })
     }
 }
 
 /// A node `BreakStatement` with a new id and without marks.
-pub fn new_break_statement(ast: &mut AstBuilder, span: Span, label: Option<Node>) -> Result<Node, AllocError>
+pub fn new_break_statement(
+    ast: &mut AstBuilder,
+    span: Span,
+    label: Option<Node>,
+) -> Result<Node, AllocError>
     requires { ast.old.next < 2 ^ 32 - 1 }
     ensures made { IfOk result (λ node. node ≡ plain_break_statement (record { id = record { 0 = ast.old.next }; span = span; label = label })) }
     ensures counted { ast.new.next ≡ ast.old.next + 1 }
@@ -314,13 +537,22 @@ impl ContinueStatement {
         requires { IsContinueStatement node }
         ensures { plain_continue_statement result ≡ node }
     {
-        let Parts { id, span, kind, fields } = node.into_parts();
+        let Parts {
+            id,
+            span,
+            kind,
+            fields,
+        } = node.into_parts();
         match kind {
             Kind::ContinueStatement => {}
             _other => unreachable!(),
         }
         let [label]: [Field; 1] = exactly(fields);
-        ContinueStatement { id, span, label: label.into_optional() }
+        ContinueStatement {
+            id,
+            span,
+            label: label.into_optional(),
+        }
     }
 
     /// The node of these parts.
@@ -330,12 +562,21 @@ impl ContinueStatement {
         let ContinueStatement { id, span, label } = self;
         let kind = Kind::ContinueStatement;
         let fields = Vec::from_array(alloc, [Field::from_optional(label)])?;
-        Ok(Node { id, span, kind, fields })
+        Ok(Node {
+            id,
+            span,
+            kind,
+            fields,
+        })
     }
 }
 
 /// A node `ContinueStatement` with a new id and without marks.
-pub fn new_continue_statement(ast: &mut AstBuilder, span: Span, label: Option<Node>) -> Result<Node, AllocError>
+pub fn new_continue_statement(
+    ast: &mut AstBuilder,
+    span: Span,
+    label: Option<Node>,
+) -> Result<Node, AllocError>
     requires { ast.old.next < 2 ^ 32 - 1 }
     ensures made { IfOk result (λ node. node ≡ plain_continue_statement (record { id = record { 0 = ast.old.next }; span = span; label = label })) }
     ensures counted { ast.new.next ≡ ast.old.next + 1 }
@@ -361,34 +602,67 @@ impl SwitchStatement {
         requires { IsSwitchStatement node }
         ensures { plain_switch_statement result ≡ node }
     {
-        let Parts { id, span, kind, fields } = node.into_parts();
+        let Parts {
+            id,
+            span,
+            kind,
+            fields,
+        } = node.into_parts();
         let scope = match kind {
             Kind::SwitchStatement { scope } => scope,
             _other => unreachable!(),
         };
         let [discriminant, cases]: [Field; 2] = exactly(fields);
-        SwitchStatement { id, span, scope, discriminant: discriminant.into_node(), cases: cases.into_nodes() }
+        SwitchStatement {
+            id,
+            span,
+            scope,
+            discriminant: discriminant.into_node(),
+            cases: cases.into_nodes(),
+        }
     }
 
     /// The node of these parts.
     pub fn close(self, alloc: Global) -> Result<Node, AllocError>
         ensures { IfOk result (λ node. node ≡ plain_switch_statement self) }
     {
-        let SwitchStatement { id, span, scope, discriminant, cases } = self;
+        let SwitchStatement {
+            id,
+            span,
+            scope,
+            discriminant,
+            cases,
+        } = self;
         let kind = Kind::SwitchStatement { scope };
         let fields = Vec::from_array(alloc, [Field::One(discriminant), Field::Many(cases)])?;
-        Ok(Node { id, span, kind, fields })
+        Ok(Node {
+            id,
+            span,
+            kind,
+            fields,
+        })
     }
 }
 
 /// A node `SwitchStatement` with a new id and without marks.
-pub fn new_switch_statement(ast: &mut AstBuilder, span: Span, discriminant: Expression, cases: Vec<Node>) -> Result<Node, AllocError>
+pub fn new_switch_statement(
+    ast: &mut AstBuilder,
+    span: Span,
+    discriminant: Expression,
+    cases: Vec<Node>,
+) -> Result<Node, AllocError>
     requires { ast.old.next < 2 ^ 32 - 1 }
     ensures made { IfOk result (λ node. node ≡ plain_switch_statement (record { id = record { 0 = ast.old.next }; span = span; discriminant = discriminant; cases = cases; scope = None })) }
     ensures counted { ast.new.next ≡ ast.old.next + 1 }
 {
     let id = ast.new_id();
-    let made = SwitchStatement { id, span, discriminant, cases, scope: None };
+    let made = SwitchStatement {
+        id,
+        span,
+        discriminant,
+        cases,
+        scope: None,
+    };
     made.close(ast.alloc)
 }
 
@@ -407,34 +681,67 @@ impl SwitchCase {
         requires { IsSwitchCase node }
         ensures { plain_switch_case result ≡ node }
     {
-        let Parts { id, span, kind, fields } = node.into_parts();
+        let Parts {
+            id,
+            span,
+            kind,
+            fields,
+        } = node.into_parts();
         match kind {
             Kind::SwitchCase => {}
             _other => unreachable!(),
         }
         let [test, consequent]: [Field; 2] = exactly(fields);
-        SwitchCase { id, span, test: test.into_optional(), consequent: consequent.into_statements() }
+        SwitchCase {
+            id,
+            span,
+            test: test.into_optional(),
+            consequent: consequent.into_statements(),
+        }
     }
 
     /// The node of these parts.
     pub fn close(self, alloc: Global) -> Result<Node, AllocError>
         ensures { IfOk result (λ node. node ≡ plain_switch_case self) }
     {
-        let SwitchCase { id, span, test, consequent } = self;
+        let SwitchCase {
+            id,
+            span,
+            test,
+            consequent,
+        } = self;
         let kind = Kind::SwitchCase;
-        let fields = Vec::from_array(alloc, [Field::from_optional(test), Field::Statements(consequent)])?;
-        Ok(Node { id, span, kind, fields })
+        let fields = Vec::from_array(
+            alloc,
+            [Field::from_optional(test), Field::Statements(consequent)],
+        )?;
+        Ok(Node {
+            id,
+            span,
+            kind,
+            fields,
+        })
     }
 }
 
 /// A node `SwitchCase` with a new id and without marks.
-pub fn new_switch_case(ast: &mut AstBuilder, span: Span, test: Option<Expression>, consequent: Vec<Statement>) -> Result<Node, AllocError>
+pub fn new_switch_case(
+    ast: &mut AstBuilder,
+    span: Span,
+    test: Option<Expression>,
+    consequent: Vec<Statement>,
+) -> Result<Node, AllocError>
     requires { ast.old.next < 2 ^ 32 - 1 }
     ensures made { IfOk result (λ node. node ≡ plain_switch_case (record { id = record { 0 = ast.old.next }; span = span; test = test; consequent = consequent })) }
     ensures counted { ast.new.next ≡ ast.old.next + 1 }
 {
     let id = ast.new_id();
-    let made = SwitchCase { id, span, test, consequent };
+    let made = SwitchCase {
+        id,
+        span,
+        test,
+        consequent,
+    };
     made.close(ast.alloc)
 }
 
@@ -454,34 +761,75 @@ impl TryStatement {
         requires { IsTryStatement node }
         ensures { plain_try_statement result ≡ node }
     {
-        let Parts { id, span, kind, fields } = node.into_parts();
+        let Parts {
+            id,
+            span,
+            kind,
+            fields,
+        } = node.into_parts();
         match kind {
             Kind::TryStatement => {}
             _other => unreachable!(),
         }
         let [block, handler, finalizer]: [Field; 3] = exactly(fields);
-        TryStatement { id, span, block: block.into_node(), handler: handler.into_optional(), finalizer: finalizer.into_optional() }
+        TryStatement {
+            id,
+            span,
+            block: block.into_node(),
+            handler: handler.into_optional(),
+            finalizer: finalizer.into_optional(),
+        }
     }
 
     /// The node of these parts.
     pub fn close(self, alloc: Global) -> Result<Node, AllocError>
         ensures { IfOk result (λ node. node ≡ plain_try_statement self) }
     {
-        let TryStatement { id, span, block, handler, finalizer } = self;
+        let TryStatement {
+            id,
+            span,
+            block,
+            handler,
+            finalizer,
+        } = self;
         let kind = Kind::TryStatement;
-        let fields = Vec::from_array(alloc, [Field::One(block), Field::from_optional(handler), Field::from_optional(finalizer)])?;
-        Ok(Node { id, span, kind, fields })
+        let fields = Vec::from_array(
+            alloc,
+            [
+                Field::One(block),
+                Field::from_optional(handler),
+                Field::from_optional(finalizer),
+            ],
+        )?;
+        Ok(Node {
+            id,
+            span,
+            kind,
+            fields,
+        })
     }
 }
 
 /// A node `TryStatement` with a new id and without marks.
-pub fn new_try_statement(ast: &mut AstBuilder, span: Span, block: Node, handler: Option<Node>, finalizer: Option<Node>) -> Result<Node, AllocError>
+pub fn new_try_statement(
+    ast: &mut AstBuilder,
+    span: Span,
+    block: Node,
+    handler: Option<Node>,
+    finalizer: Option<Node>,
+) -> Result<Node, AllocError>
     requires { ast.old.next < 2 ^ 32 - 1 }
     ensures made { IfOk result (λ node. node ≡ plain_try_statement (record { id = record { 0 = ast.old.next }; span = span; block = block; handler = handler; finalizer = finalizer })) }
     ensures counted { ast.new.next ≡ ast.old.next + 1 }
 {
     let id = ast.new_id();
-    let made = TryStatement { id, span, block, handler, finalizer };
+    let made = TryStatement {
+        id,
+        span,
+        block,
+        handler,
+        finalizer,
+    };
     made.close(ast.alloc)
 }
 
@@ -501,33 +849,66 @@ impl CatchClause {
         requires { IsCatchClause node }
         ensures { plain_catch_clause result ≡ node }
     {
-        let Parts { id, span, kind, fields } = node.into_parts();
+        let Parts {
+            id,
+            span,
+            kind,
+            fields,
+        } = node.into_parts();
         let scope = match kind {
             Kind::CatchClause { scope } => scope,
             _other => unreachable!(),
         };
         let [param, body]: [Field; 2] = exactly(fields);
-        CatchClause { id, span, scope, param: param.into_optional(), body: body.into_node() }
+        CatchClause {
+            id,
+            span,
+            scope,
+            param: param.into_optional(),
+            body: body.into_node(),
+        }
     }
 
     /// The node of these parts.
     pub fn close(self, alloc: Global) -> Result<Node, AllocError>
         ensures { IfOk result (λ node. node ≡ plain_catch_clause self) }
     {
-        let CatchClause { id, span, scope, param, body } = self;
+        let CatchClause {
+            id,
+            span,
+            scope,
+            param,
+            body,
+        } = self;
         let kind = Kind::CatchClause { scope };
         let fields = Vec::from_array(alloc, [Field::from_optional(param), Field::One(body)])?;
-        Ok(Node { id, span, kind, fields })
+        Ok(Node {
+            id,
+            span,
+            kind,
+            fields,
+        })
     }
 }
 
 /// A node `CatchClause` with a new id and without marks.
-pub fn new_catch_clause(ast: &mut AstBuilder, span: Span, param: Option<BindingPattern>, body: Node) -> Result<Node, AllocError>
+pub fn new_catch_clause(
+    ast: &mut AstBuilder,
+    span: Span,
+    param: Option<BindingPattern>,
+    body: Node,
+) -> Result<Node, AllocError>
     requires { ast.old.next < 2 ^ 32 - 1 }
     ensures made { IfOk result (λ node. node ≡ plain_catch_clause (record { id = record { 0 = ast.old.next }; span = span; param = param; body = body; scope = None })) }
     ensures counted { ast.new.next ≡ ast.old.next + 1 }
 {
     let id = ast.new_id();
-    let made = CatchClause { id, span, param, body, scope: None };
+    let made = CatchClause {
+        id,
+        span,
+        param,
+        body,
+        scope: None,
+    };
     made.close(ast.alloc)
 }

@@ -1,17 +1,33 @@
 //! The program and its plain statements.
 ghost use Rattle.std.specs.Prelude.{IfOk, ◌≡◌, ◌+◌, ◌-◌, ◌^◌, ◌<◌, None};
 ghost use Rattle.es_statements.specs.ProgramShapes.{
-    IsProgram, IsDirective, IsExpressionStatement, IsBlockStatement, IsEmptyStatement, IsDebuggerStatement,
-    IsVariableDeclaration, IsVariableDeclarator, IsReturnStatement, IsThrowStatement, IsIfStatement,
-    IsLabeledStatement
+  IsProgram,
+  IsDirective,
+  IsExpressionStatement,
+  IsBlockStatement,
+  IsEmptyStatement,
+  IsDebuggerStatement,
+  IsVariableDeclaration,
+  IsVariableDeclarator,
+  IsReturnStatement,
+  IsThrowStatement,
+  IsIfStatement,
+  IsLabeledStatement,
 };
 ghost use Rattle.es_statements.specs.ProgramPlain.{
-    plain_program, plain_directive, plain_expression_statement, plain_block_statement, plain_empty_statement,
-    plain_debugger_statement, plain_variable_declaration, plain_variable_declarator, plain_return_statement,
-    plain_throw_statement, plain_if_statement, plain_labeled_statement
+  plain_program,
+  plain_directive,
+  plain_expression_statement,
+  plain_block_statement,
+  plain_empty_statement,
+  plain_debugger_statement,
+  plain_variable_declaration,
+  plain_variable_declarator,
+  plain_return_statement,
+  plain_throw_statement,
+  plain_if_statement,
+  plain_labeled_statement,
 };
-
-use std::alloc::{AllocError, Global};
 
 use es_tree::builder::AstBuilder;
 use es_tree::ids::{NodeId, ScopeId, Span};
@@ -19,6 +35,7 @@ use es_tree::kind::Kind;
 use es_tree::node::{Field, Node, Parts, exactly};
 use es_tree::operators::{SourceType, VariableDeclarationKind};
 use es_tree::sorts::{BindingPattern, Expression, Statement};
+use std::alloc::{AllocError, Global};
 
 /// A script or a module (ECMA-262, 16).
 #[derive(Drop)]
@@ -37,34 +54,71 @@ impl Program {
         requires { IsProgram node }
         ensures { plain_program result ≡ node }
     {
-        let Parts { id, span, kind, fields } = node.into_parts();
+        let Parts {
+            id,
+            span,
+            kind,
+            fields,
+        } = node.into_parts();
         let (source_type, scope) = match kind {
             Kind::Program { source_type, scope } => (source_type, scope),
             _other => unreachable!(),
         };
         let [directives, body]: [Field; 2] = exactly(fields);
-        Program { id, span, source_type, scope, directives: directives.into_nodes(), body: body.into_statements() }
+        Program {
+            id,
+            span,
+            source_type,
+            scope,
+            directives: directives.into_nodes(),
+            body: body.into_statements(),
+        }
     }
 
     /// The node of these parts.
     pub fn close(self, alloc: Global) -> Result<Node, AllocError>
         ensures { IfOk result (λ node. node ≡ plain_program self) }
     {
-        let Program { id, span, source_type, scope, directives, body } = self;
+        let Program {
+            id,
+            span,
+            source_type,
+            scope,
+            directives,
+            body,
+        } = self;
         let kind = Kind::Program { source_type, scope };
         let fields = Vec::from_array(alloc, [Field::Many(directives), Field::Statements(body)])?;
-        Ok(Node { id, span, kind, fields })
+        Ok(Node {
+            id,
+            span,
+            kind,
+            fields,
+        })
     }
 }
 
 /// A node `Program` with a new id and without marks.
-pub fn new_program(ast: &mut AstBuilder, span: Span, source_type: SourceType, directives: Vec<Node>, body: Vec<Statement>) -> Result<Node, AllocError>
+pub fn new_program(
+    ast: &mut AstBuilder,
+    span: Span,
+    source_type: SourceType,
+    directives: Vec<Node>,
+    body: Vec<Statement>,
+) -> Result<Node, AllocError>
     requires { ast.old.next < 2 ^ 32 - 1 }
     ensures made { IfOk result (λ node. node ≡ plain_program (record { id = record { 0 = ast.old.next }; span = span; source_type = source_type; directives = directives; body = body; scope = None })) }
     ensures counted { ast.new.next ≡ ast.old.next + 1 }
 {
     let id = ast.new_id();
-    let made = Program { id, span, source_type, directives, body, scope: None };
+    let made = Program {
+        id,
+        span,
+        source_type,
+        directives,
+        body,
+        scope: None,
+    };
     made.close(ast.alloc)
 }
 
@@ -82,7 +136,12 @@ impl Directive {
         requires { IsDirective node }
         ensures { plain_directive result ≡ node }
     {
-        let Parts { id, span, kind, fields } = node.into_parts();
+        let Parts {
+            id,
+            span,
+            kind,
+            fields,
+        } = node.into_parts();
         let value = match kind {
             Kind::Directive { value } => value,
             _other => unreachable!(),
@@ -98,7 +157,12 @@ impl Directive {
         let Directive { id, span, value } = self;
         let kind = Kind::Directive { value };
         let fields = Vec::new(alloc);
-        Ok(Node { id, span, kind, fields })
+        Ok(Node {
+            id,
+            span,
+            kind,
+            fields,
+        })
     }
 }
 
@@ -127,34 +191,60 @@ impl ExpressionStatement {
         requires { IsExpressionStatement node }
         ensures { plain_expression_statement result ≡ node }
     {
-        let Parts { id, span, kind, fields } = node.into_parts();
+        let Parts {
+            id,
+            span,
+            kind,
+            fields,
+        } = node.into_parts();
         match kind {
             Kind::ExpressionStatement => {}
             _other => unreachable!(),
         }
         let [expression]: [Field; 1] = exactly(fields);
-        ExpressionStatement { id, span, expression: expression.into_node() }
+        ExpressionStatement {
+            id,
+            span,
+            expression: expression.into_node(),
+        }
     }
 
     /// The node of these parts.
     pub fn close(self, alloc: Global) -> Result<Node, AllocError>
         ensures { IfOk result (λ node. node ≡ plain_expression_statement self) }
     {
-        let ExpressionStatement { id, span, expression } = self;
+        let ExpressionStatement {
+            id,
+            span,
+            expression,
+        } = self;
         let kind = Kind::ExpressionStatement;
         let fields = Vec::from_array(alloc, [Field::One(expression)])?;
-        Ok(Node { id, span, kind, fields })
+        Ok(Node {
+            id,
+            span,
+            kind,
+            fields,
+        })
     }
 }
 
 /// A node `ExpressionStatement` with a new id and without marks.
-pub fn new_expression_statement(ast: &mut AstBuilder, span: Span, expression: Expression) -> Result<Node, AllocError>
+pub fn new_expression_statement(
+    ast: &mut AstBuilder,
+    span: Span,
+    expression: Expression,
+) -> Result<Node, AllocError>
     requires { ast.old.next < 2 ^ 32 - 1 }
     ensures made { IfOk result (λ node. node ≡ plain_expression_statement (record { id = record { 0 = ast.old.next }; span = span; expression = expression })) }
     ensures counted { ast.new.next ≡ ast.old.next + 1 }
 {
     let id = ast.new_id();
-    let made = ExpressionStatement { id, span, expression };
+    let made = ExpressionStatement {
+        id,
+        span,
+        expression,
+    };
     made.close(ast.alloc)
 }
 
@@ -173,34 +263,63 @@ impl BlockStatement {
         requires { IsBlockStatement node }
         ensures { plain_block_statement result ≡ node }
     {
-        let Parts { id, span, kind, fields } = node.into_parts();
+        let Parts {
+            id,
+            span,
+            kind,
+            fields,
+        } = node.into_parts();
         let scope = match kind {
             Kind::BlockStatement { scope } => scope,
             _other => unreachable!(),
         };
         let [body]: [Field; 1] = exactly(fields);
-        BlockStatement { id, span, scope, body: body.into_statements() }
+        BlockStatement {
+            id,
+            span,
+            scope,
+            body: body.into_statements(),
+        }
     }
 
     /// The node of these parts.
     pub fn close(self, alloc: Global) -> Result<Node, AllocError>
         ensures { IfOk result (λ node. node ≡ plain_block_statement self) }
     {
-        let BlockStatement { id, span, scope, body } = self;
+        let BlockStatement {
+            id,
+            span,
+            scope,
+            body,
+        } = self;
         let kind = Kind::BlockStatement { scope };
         let fields = Vec::from_array(alloc, [Field::Statements(body)])?;
-        Ok(Node { id, span, kind, fields })
+        Ok(Node {
+            id,
+            span,
+            kind,
+            fields,
+        })
     }
 }
 
 /// A node `BlockStatement` with a new id and without marks.
-pub fn new_block_statement(ast: &mut AstBuilder, span: Span, body: Vec<Statement>) -> Result<Node, AllocError>
+pub fn new_block_statement(
+    ast: &mut AstBuilder,
+    span: Span,
+    body: Vec<Statement>,
+) -> Result<Node, AllocError>
     requires { ast.old.next < 2 ^ 32 - 1 }
     ensures made { IfOk result (λ node. node ≡ plain_block_statement (record { id = record { 0 = ast.old.next }; span = span; body = body; scope = None })) }
     ensures counted { ast.new.next ≡ ast.old.next + 1 }
 {
     let id = ast.new_id();
-    let made = BlockStatement { id, span, body, scope: None };
+    let made = BlockStatement {
+        id,
+        span,
+        body,
+        scope: None,
+    };
     made.close(ast.alloc)
 }
 
@@ -217,7 +336,12 @@ impl EmptyStatement {
         requires { IsEmptyStatement node }
         ensures { plain_empty_statement result ≡ node }
     {
-        let Parts { id, span, kind, fields } = node.into_parts();
+        let Parts {
+            id,
+            span,
+            kind,
+            fields,
+        } = node.into_parts();
         match kind {
             Kind::EmptyStatement => {}
             _other => unreachable!(),
@@ -233,7 +357,12 @@ impl EmptyStatement {
         let EmptyStatement { id, span } = self;
         let kind = Kind::EmptyStatement;
         let fields = Vec::new(alloc);
-        Ok(Node { id, span, kind, fields })
+        Ok(Node {
+            id,
+            span,
+            kind,
+            fields,
+        })
     }
 }
 
@@ -261,7 +390,12 @@ impl DebuggerStatement {
         requires { IsDebuggerStatement node }
         ensures { plain_debugger_statement result ≡ node }
     {
-        let Parts { id, span, kind, fields } = node.into_parts();
+        let Parts {
+            id,
+            span,
+            kind,
+            fields,
+        } = node.into_parts();
         match kind {
             Kind::DebuggerStatement => {}
             _other => unreachable!(),
@@ -277,7 +411,12 @@ impl DebuggerStatement {
         let DebuggerStatement { id, span } = self;
         let kind = Kind::DebuggerStatement;
         let fields = Vec::new(alloc);
-        Ok(Node { id, span, kind, fields })
+        Ok(Node {
+            id,
+            span,
+            kind,
+            fields,
+        })
     }
 }
 
@@ -307,34 +446,64 @@ impl VariableDeclaration {
         requires { IsVariableDeclaration node }
         ensures { plain_variable_declaration result ≡ node }
     {
-        let Parts { id, span, kind: node_kind, fields } = node.into_parts();
+        let Parts {
+            id,
+            span,
+            kind: node_kind,
+            fields,
+        } = node.into_parts();
         let kind = match node_kind {
             Kind::VariableDeclaration { kind } => kind,
             _other => unreachable!(),
         };
         let [declarations]: [Field; 1] = exactly(fields);
-        VariableDeclaration { id, span, kind, declarations: declarations.into_nodes() }
+        VariableDeclaration {
+            id,
+            span,
+            kind,
+            declarations: declarations.into_nodes(),
+        }
     }
 
     /// The node of these parts.
     pub fn close(self, alloc: Global) -> Result<Node, AllocError>
         ensures { IfOk result (λ node. node ≡ plain_variable_declaration self) }
     {
-        let VariableDeclaration { id, span, kind, declarations } = self;
+        let VariableDeclaration {
+            id,
+            span,
+            kind,
+            declarations,
+        } = self;
         let node_kind = Kind::VariableDeclaration { kind };
         let fields = Vec::from_array(alloc, [Field::Many(declarations)])?;
-        Ok(Node { id, span, kind: node_kind, fields })
+        Ok(Node {
+            id,
+            span,
+            kind: node_kind,
+            fields,
+        })
     }
 }
 
 /// A node `VariableDeclaration` with a new id and without marks.
-pub fn new_variable_declaration(ast: &mut AstBuilder, span: Span, kind: VariableDeclarationKind, declarations: Vec<Node>) -> Result<Node, AllocError>
+pub fn new_variable_declaration(
+    ast: &mut AstBuilder,
+    span: Span,
+    kind: VariableDeclarationKind,
+    declarations: Vec<Node>,
+) -> Result<Node, AllocError>
     requires { ast.old.next < 2 ^ 32 - 1 }
     ensures made { IfOk result (λ node. node ≡ plain_variable_declaration (record { id = record { 0 = ast.old.next }; span = span; kind = kind; declarations = declarations })) }
     ensures counted { ast.new.next ≡ ast.old.next + 1 }
 {
     let id = ast.new_id();
-    let made = VariableDeclaration { id, span, kind, declarations };
+    let made = VariableDeclaration {
+        id,
+        span,
+        kind,
+        declarations,
+    };
     made.close(ast.alloc)
 }
 
@@ -353,34 +522,64 @@ impl VariableDeclarator {
         requires { IsVariableDeclarator node }
         ensures { plain_variable_declarator result ≡ node }
     {
-        let Parts { id, span, kind, fields } = node.into_parts();
+        let Parts {
+            id,
+            span,
+            kind,
+            fields,
+        } = node.into_parts();
         match kind {
             Kind::VariableDeclarator => {}
             _other => unreachable!(),
         }
         let [binding, init]: [Field; 2] = exactly(fields);
-        VariableDeclarator { id, span, binding: binding.into_node(), init: init.into_optional() }
+        VariableDeclarator {
+            id,
+            span,
+            binding: binding.into_node(),
+            init: init.into_optional(),
+        }
     }
 
     /// The node of these parts.
     pub fn close(self, alloc: Global) -> Result<Node, AllocError>
         ensures { IfOk result (λ node. node ≡ plain_variable_declarator self) }
     {
-        let VariableDeclarator { id, span, binding, init } = self;
+        let VariableDeclarator {
+            id,
+            span,
+            binding,
+            init,
+        } = self;
         let kind = Kind::VariableDeclarator;
         let fields = Vec::from_array(alloc, [Field::One(binding), Field::from_optional(init)])?;
-        Ok(Node { id, span, kind, fields })
+        Ok(Node {
+            id,
+            span,
+            kind,
+            fields,
+        })
     }
 }
 
 /// A node `VariableDeclarator` with a new id and without marks.
-pub fn new_variable_declarator(ast: &mut AstBuilder, span: Span, binding: BindingPattern, init: Option<Expression>) -> Result<Node, AllocError>
+pub fn new_variable_declarator(
+    ast: &mut AstBuilder,
+    span: Span,
+    binding: BindingPattern,
+    init: Option<Expression>,
+) -> Result<Node, AllocError>
     requires { ast.old.next < 2 ^ 32 - 1 }
     ensures made { IfOk result (λ node. node ≡ plain_variable_declarator (record { id = record { 0 = ast.old.next }; span = span; binding = binding; init = init })) }
     ensures counted { ast.new.next ≡ ast.old.next + 1 }
 {
     let id = ast.new_id();
-    let made = VariableDeclarator { id, span, binding, init };
+    let made = VariableDeclarator {
+        id,
+        span,
+        binding,
+        init,
+    };
     made.close(ast.alloc)
 }
 
@@ -398,13 +597,22 @@ impl ReturnStatement {
         requires { IsReturnStatement node }
         ensures { plain_return_statement result ≡ node }
     {
-        let Parts { id, span, kind, fields } = node.into_parts();
+        let Parts {
+            id,
+            span,
+            kind,
+            fields,
+        } = node.into_parts();
         match kind {
             Kind::ReturnStatement => {}
             _other => unreachable!(),
         }
         let [argument]: [Field; 1] = exactly(fields);
-        ReturnStatement { id, span, argument: argument.into_optional() }
+        ReturnStatement {
+            id,
+            span,
+            argument: argument.into_optional(),
+        }
     }
 
     /// The node of these parts.
@@ -414,12 +622,21 @@ impl ReturnStatement {
         let ReturnStatement { id, span, argument } = self;
         let kind = Kind::ReturnStatement;
         let fields = Vec::from_array(alloc, [Field::from_optional(argument)])?;
-        Ok(Node { id, span, kind, fields })
+        Ok(Node {
+            id,
+            span,
+            kind,
+            fields,
+        })
     }
 }
 
 /// A node `ReturnStatement` with a new id and without marks.
-pub fn new_return_statement(ast: &mut AstBuilder, span: Span, argument: Option<Expression>) -> Result<Node, AllocError>
+pub fn new_return_statement(
+    ast: &mut AstBuilder,
+    span: Span,
+    argument: Option<Expression>,
+) -> Result<Node, AllocError>
     requires { ast.old.next < 2 ^ 32 - 1 }
     ensures made { IfOk result (λ node. node ≡ plain_return_statement (record { id = record { 0 = ast.old.next }; span = span; argument = argument })) }
     ensures counted { ast.new.next ≡ ast.old.next + 1 }
@@ -443,13 +660,22 @@ impl ThrowStatement {
         requires { IsThrowStatement node }
         ensures { plain_throw_statement result ≡ node }
     {
-        let Parts { id, span, kind, fields } = node.into_parts();
+        let Parts {
+            id,
+            span,
+            kind,
+            fields,
+        } = node.into_parts();
         match kind {
             Kind::ThrowStatement => {}
             _other => unreachable!(),
         }
         let [argument]: [Field; 1] = exactly(fields);
-        ThrowStatement { id, span, argument: argument.into_node() }
+        ThrowStatement {
+            id,
+            span,
+            argument: argument.into_node(),
+        }
     }
 
     /// The node of these parts.
@@ -459,12 +685,21 @@ impl ThrowStatement {
         let ThrowStatement { id, span, argument } = self;
         let kind = Kind::ThrowStatement;
         let fields = Vec::from_array(alloc, [Field::One(argument)])?;
-        Ok(Node { id, span, kind, fields })
+        Ok(Node {
+            id,
+            span,
+            kind,
+            fields,
+        })
     }
 }
 
 /// A node `ThrowStatement` with a new id and without marks.
-pub fn new_throw_statement(ast: &mut AstBuilder, span: Span, argument: Expression) -> Result<Node, AllocError>
+pub fn new_throw_statement(
+    ast: &mut AstBuilder,
+    span: Span,
+    argument: Expression,
+) -> Result<Node, AllocError>
     requires { ast.old.next < 2 ^ 32 - 1 }
     ensures made { IfOk result (λ node. node ≡ plain_throw_statement (record { id = record { 0 = ast.old.next }; span = span; argument = argument })) }
     ensures counted { ast.new.next ≡ ast.old.next + 1 }
@@ -490,34 +725,75 @@ impl IfStatement {
         requires { IsIfStatement node }
         ensures { plain_if_statement result ≡ node }
     {
-        let Parts { id, span, kind, fields } = node.into_parts();
+        let Parts {
+            id,
+            span,
+            kind,
+            fields,
+        } = node.into_parts();
         match kind {
             Kind::IfStatement => {}
             _other => unreachable!(),
         }
         let [test, consequent, alternate]: [Field; 3] = exactly(fields);
-        IfStatement { id, span, test: test.into_node(), consequent: consequent.into_node(), alternate: alternate.into_optional() }
+        IfStatement {
+            id,
+            span,
+            test: test.into_node(),
+            consequent: consequent.into_node(),
+            alternate: alternate.into_optional(),
+        }
     }
 
     /// The node of these parts.
     pub fn close(self, alloc: Global) -> Result<Node, AllocError>
         ensures { IfOk result (λ node. node ≡ plain_if_statement self) }
     {
-        let IfStatement { id, span, test, consequent, alternate } = self;
+        let IfStatement {
+            id,
+            span,
+            test,
+            consequent,
+            alternate,
+        } = self;
         let kind = Kind::IfStatement;
-        let fields = Vec::from_array(alloc, [Field::One(test), Field::One(consequent), Field::from_optional(alternate)])?;
-        Ok(Node { id, span, kind, fields })
+        let fields = Vec::from_array(
+            alloc,
+            [
+                Field::One(test),
+                Field::One(consequent),
+                Field::from_optional(alternate),
+            ],
+        )?;
+        Ok(Node {
+            id,
+            span,
+            kind,
+            fields,
+        })
     }
 }
 
 /// A node `IfStatement` with a new id and without marks.
-pub fn new_if_statement(ast: &mut AstBuilder, span: Span, test: Expression, consequent: Statement, alternate: Option<Statement>) -> Result<Node, AllocError>
+pub fn new_if_statement(
+    ast: &mut AstBuilder,
+    span: Span,
+    test: Expression,
+    consequent: Statement,
+    alternate: Option<Statement>,
+) -> Result<Node, AllocError>
     requires { ast.old.next < 2 ^ 32 - 1 }
     ensures made { IfOk result (λ node. node ≡ plain_if_statement (record { id = record { 0 = ast.old.next }; span = span; test = test; consequent = consequent; alternate = alternate })) }
     ensures counted { ast.new.next ≡ ast.old.next + 1 }
 {
     let id = ast.new_id();
-    let made = IfStatement { id, span, test, consequent, alternate };
+    let made = IfStatement {
+        id,
+        span,
+        test,
+        consequent,
+        alternate,
+    };
     made.close(ast.alloc)
 }
 
@@ -536,33 +812,63 @@ impl LabeledStatement {
         requires { IsLabeledStatement node }
         ensures { plain_labeled_statement result ≡ node }
     {
-        let Parts { id, span, kind, fields } = node.into_parts();
+        let Parts {
+            id,
+            span,
+            kind,
+            fields,
+        } = node.into_parts();
         match kind {
             Kind::LabeledStatement => {}
             _other => unreachable!(),
         }
         let [label, body]: [Field; 2] = exactly(fields);
-        LabeledStatement { id, span, label: label.into_node(), body: body.into_node() }
+        LabeledStatement {
+            id,
+            span,
+            label: label.into_node(),
+            body: body.into_node(),
+        }
     }
 
     /// The node of these parts.
     pub fn close(self, alloc: Global) -> Result<Node, AllocError>
         ensures { IfOk result (λ node. node ≡ plain_labeled_statement self) }
     {
-        let LabeledStatement { id, span, label, body } = self;
+        let LabeledStatement {
+            id,
+            span,
+            label,
+            body,
+        } = self;
         let kind = Kind::LabeledStatement;
         let fields = Vec::from_array(alloc, [Field::One(label), Field::One(body)])?;
-        Ok(Node { id, span, kind, fields })
+        Ok(Node {
+            id,
+            span,
+            kind,
+            fields,
+        })
     }
 }
 
 /// A node `LabeledStatement` with a new id and without marks.
-pub fn new_labeled_statement(ast: &mut AstBuilder, span: Span, label: Node, body: Statement) -> Result<Node, AllocError>
+pub fn new_labeled_statement(
+    ast: &mut AstBuilder,
+    span: Span,
+    label: Node,
+    body: Statement,
+) -> Result<Node, AllocError>
     requires { ast.old.next < 2 ^ 32 - 1 }
     ensures made { IfOk result (λ node. node ≡ plain_labeled_statement (record { id = record { 0 = ast.old.next }; span = span; label = label; body = body })) }
     ensures counted { ast.new.next ≡ ast.old.next + 1 }
 {
     let id = ast.new_id();
-    let made = LabeledStatement { id, span, label, body };
+    let made = LabeledStatement {
+        id,
+        span,
+        label,
+        body,
+    };
     made.close(ast.alloc)
 }

@@ -1,5 +1,5 @@
 -- A tree without its ids and the marks of the tables of scopes: what a reader of the written program sees.
-use Rattle.std.specs.Prelude.{List, []}
+use Rattle.std.specs.Prelude.{[]}
 use Rattle.es_tree.specs.Tree.{Tree, node, Label, Fields, done, ◌then◌, Field, missing, one, many, statements, Trees, empty, ◌before◌}
 
 abbrev pub bare_label : Label → Label

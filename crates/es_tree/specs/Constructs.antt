@@ -1,5 +1,5 @@
 -- The constructs that lowerings take away, each told by its kind and its texts.
-use Rattle.std.specs.Prelude.{Bool, true, false, bytes_eq, codes}
+use Rattle.std.specs.Prelude.{Bool, false, bytes_eq, codes}
 use Rattle.es_tree.specs.Names.{first_text}
 use Rattle.es_tree.specs.Tree.{Tree, Label, Fields}
 use Rattle.es_tree.specs.Walks.{any_node}

@@ -7,9 +7,30 @@ use Rattle.es_tree.specs.Tree.{Tree, Label, Fields}
 use Rattle.es_tree.specs.Walks.{all_nodes}
 use Rattle.es_tree.specs.declared.ast_type.AstType.{AstType}
 use Rattle.es_tree.specs.declared.ast_type.AstType.TheVariants.{
-  Program, Directive, ExpressionStatement, VariableDeclaration, VariableDeclarator, Identifier, ThisExpression, NullLiteral, BooleanLiteral,
-  NumericLiteral, BigIntLiteral, StringLiteral, UnaryExpression, UpdateExpression, BinaryExpression, LogicalExpression, ConditionalExpression,
-  AssignmentExpression, SequenceExpression, MemberExpression, CallExpression, NewExpression, ChainExpression, ParenthesizedExpression
+  Program,
+  Directive,
+  ExpressionStatement,
+  VariableDeclaration,
+  VariableDeclarator,
+  Identifier,
+  ThisExpression,
+  NullLiteral,
+  BooleanLiteral,
+  NumericLiteral,
+  BigIntLiteral,
+  StringLiteral,
+  UnaryExpression,
+  UpdateExpression,
+  BinaryExpression,
+  LogicalExpression,
+  ConditionalExpression,
+  AssignmentExpression,
+  SequenceExpression,
+  MemberExpression,
+  CallExpression,
+  NewExpression,
+  ChainExpression,
+  ParenthesizedExpression,
 }
 
 abbrev pub is_core_kind : AstType → Bool

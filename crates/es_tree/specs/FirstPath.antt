@@ -1,13 +1,22 @@
 -- The programs that the first path takes: scripts without directives whose statements are expressions built of
 -- names, `this`, null, truth values, numbers, strings, static members, `??`, and `=` to a name or a member.
-use Rattle.std.specs.Prelude.{List, [], ◌∷◌, Bool, true, false, ◌&&◌, ◌||◌, not, Option, Some, None, bytes_eq, codes}
-use Rattle.es_tree.specs.Words.{Text}
-use Rattle.es_tree.specs.Names.{first_text, flag_at}
-use Rattle.es_tree.specs.Tree.{Tree, node, Label, Fields, done, ◌then◌, Field, missing, one, many, statements, kind_of}
+use Rattle.std.specs.Prelude.{List, [], ◌∷◌, Bool, true, false, ◌&&◌, not, bytes_eq, codes}
+use Rattle.es_tree.specs.Names.{first_text}
+use Rattle.es_tree.specs.Tree.{Tree, node, Label, Fields, done, ◌then◌, one, many, statements}
 use Rattle.es_tree.specs.Walks.{all_nodes}
 use Rattle.es_tree.specs.declared.ast_type.AstType.{AstType}
 use Rattle.es_tree.specs.declared.ast_type.AstType.TheVariants.{
-  Program, ExpressionStatement, Identifier, ThisExpression, NullLiteral, BooleanLiteral, NumericLiteral, StringLiteral, MemberExpression, LogicalExpression, AssignmentExpression
+  Program,
+  ExpressionStatement,
+  Identifier,
+  ThisExpression,
+  NullLiteral,
+  BooleanLiteral,
+  NumericLiteral,
+  StringLiteral,
+  MemberExpression,
+  LogicalExpression,
+  AssignmentExpression,
 }
 
 abbrev pub is_simple_target : AstType → Bool

@@ -1,12 +1,20 @@
 -- Fresh names: the base of a node, the candidates of a base, and the first one that is not in use.
-use Rattle.std.specs.Prelude.{◌≡◌, ℕ, zero, suc, ◌+◌, ◌<◌, List, [], ◌∷◌, ◌++◌, Bool, true, false, not, ◌&&◌, ◌||◌, ◌==◌, nat_le, Option, Some, None, codes, decimal, reverse, bytes_eq, if◌then◌else◌}
+use Rattle.std.specs.Prelude.{◌≡◌, ℕ, zero, suc, ◌+◌, ◌<◌, List, [], ◌∷◌, ◌++◌, Bool, true, false, ◌&&◌, ◌||◌, ◌==◌, nat_le, codes, decimal, reverse, bytes_eq, if◌then◌else◌}
 use Rattle.std.specs.List.{list_any}
 use Rattle.es_tree.specs.Words.{Text}
-use Rattle.es_tree.specs.Names.{first_text, flag_at}
-use Rattle.es_tree.specs.Tree.{Tree, node, Label, Fields, done, ◌then◌, Field, missing, one, many, statements, Trees, empty, ◌before◌}
-use Rattle.es_tree.specs.declared.ast_type.AstType.{AstType}
+use Rattle.es_tree.specs.Names.{first_text}
+use Rattle.es_tree.specs.Tree.{Tree, node, Fields, done, ◌then◌, Field, missing, one, many, statements}
 use Rattle.es_tree.specs.declared.ast_type.AstType.TheVariants.{
-  Identifier, PrivateIdentifier, ThisExpression, Super, MemberExpression, CallExpression, NewExpression, AssignmentExpression, ParenthesizedExpression, ChainExpression
+  Identifier,
+  PrivateIdentifier,
+  ThisExpression,
+  Super,
+  MemberExpression,
+  CallExpression,
+  NewExpression,
+  AssignmentExpression,
+  ParenthesizedExpression,
+  ChainExpression,
 }
 
 -- THE BASE OF A NODE

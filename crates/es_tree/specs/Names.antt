@@ -1,14 +1,24 @@
 -- The names of a tree: those of its bindings and references (ECMA-262, 13.1 and 8.2). Property names, labels and
 -- the names of imports and exports in other modules refer to nothing.
-use Rattle.std.specs.Prelude.{ℕ, zero, suc, List, [], ◌∷◌, ◌++◌, Bool, true, false, not, ◌||◌, ◌&&◌, ◌==◌, Option, Some, None, if◌then◌else◌}
+use Rattle.std.specs.Prelude.{ℕ, zero, suc, List, [], ◌∷◌, ◌++◌, Bool, true, false, Option, Some, if◌then◌else◌}
 use Rattle.es_tree.specs.Words.{Text}
-use Rattle.es_tree.specs.Table.{entries}
-use Rattle.es_tree.specs.Attributes.{flag_entries}
 use Rattle.es_tree.specs.Tree.{Tree, node, Label, Fields, done, ◌then◌, Field, missing, one, many, statements, Trees, empty, ◌before◌}
 use Rattle.es_tree.specs.declared.ast_type.AstType.{AstType}
 use Rattle.es_tree.specs.declared.ast_type.AstType.TheVariants.{
-  Identifier, MemberExpression, MethodDefinition, PropertyDefinition, ObjectProperty, PatternProperty, TargetProperty,
-  BreakStatement, ContinueStatement, LabeledStatement, ImportSpecifier, ExportSpecifier, ExportNamedDeclaration, ExportAllDeclaration
+  Identifier,
+  MemberExpression,
+  MethodDefinition,
+  PropertyDefinition,
+  ObjectProperty,
+  PatternProperty,
+  TargetProperty,
+  BreakStatement,
+  ContinueStatement,
+  LabeledStatement,
+  ImportSpecifier,
+  ExportSpecifier,
+  ExportNamedDeclaration,
+  ExportAllDeclaration,
 }
 
 -- the first text, or none
