@@ -1,0 +1,4 @@
+//! The names of a program, and names that are fresh in it.
+#![tactic(auto)]
+
+pub mod base;
