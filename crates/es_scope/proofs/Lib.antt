@@ -1,3 +1,4 @@
 pub mod Trims
-pub mod Children
+pub mod Parts
 pub mod Joined
+pub mod Among

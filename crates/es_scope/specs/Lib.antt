@@ -1,1 +1,3 @@
-pub mod Base
+pub mod Children
+pub mod Taken
+pub mod Uids

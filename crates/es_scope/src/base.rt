@@ -1,12 +1,10 @@
 //! The bases of fresh names: what a node or a text gives to a name that is made for it.
-ghost use Rattle.std.specs.Prelude.{◌≡◌, ◌++◌, map, IfOk, OnOk, option_copied, string_bytes};
+ghost use Rattle.std.specs.Prelude.{◌≡◌, ◌++◌, map, IfOk, OnOk, string_bytes};
 ghost use Rattle.es_tree.specs.Fresh.{parts, without_underscores, first_characters, longest_base, without_last_digits, or_ref, text_base, node_base};
-ghost use Rattle.es_tree.specs.Tree.{fields_of};
-ghost use Rattle.es_tree.specs.Views.{plain_field};
-ghost use Rattle.es_scope.specs.Base.{only_child, child_at};
 
+use crate::children::child_at;
 use es_tree::kind::Kind;
-use es_tree::node::{Field, Node};
+use es_tree::node::Node;
 use std::alloc::{AllocError, Global};
 
 /// The most characters that the base of a node keeps.
@@ -65,22 +63,6 @@ fn push_parts<'a>(names: &mut Vec<&'a str>, node: &'a Node) -> Result<(), AllocE
         _ => {}
     }
     Ok(())
-}
-
-/// The one child of the field at this place.
-fn child_at(node: &Node, index: usize) -> Option<&Node>
-    ensures { option_copied result ≡ child_at index (fields_of node.now) }
-{
-    only_child(node.fields.get(index)?)
-}
-
-fn only_child(field: &Field) -> Option<&Node>
-    ensures { option_copied result ≡ only_child (plain_field field.now) }
-{
-    match field {
-        Field::One(child) => Some(child),
-        _ => None,
-    }
 }
 
 fn without_underscores(text: &str) -> &str

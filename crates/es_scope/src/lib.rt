@@ -2,3 +2,6 @@
 #![tactic(auto)]
 
 pub mod base;
+mod children;
+pub mod names;
+pub mod uids;

@@ -9,7 +9,7 @@ use Rattle.es_tree.specs.declared.node.Field.{Field as NodeField}
 use Rattle.es_tree.specs.declared.kind.Kind.{Kind}
 use Rattle.es_tree.specs.declared.kind.Kind.TheVariants.{MemberExpression, CallExpression, NewExpression, AssignmentExpression, ParenthesizedExpression, ChainExpression}
 use Rattle.es_tree.specs.declared.operators.AssignmentOperator.{AssignmentOperator}
-use Rattle.es_scope.specs.Base.{only_child, child_at, optional_parts}
+use Rattle.es_scope.specs.Children.{only_child, child_at, optional_parts}
 
 pub child_at-get : (xs : List NodeField) (i : ℕ) (f : NodeField) → i < length xs → f ≡ get_or xs i f → only_child (plain_field f) ≡ child_at i (fields (map plain_field xs))
 child_at-get [] i f h e = absurd (omega arith)

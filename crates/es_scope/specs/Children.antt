@@ -1,4 +1,4 @@
--- What the children of a node give to its base.
+-- The one children of a node, and what they give to its base.
 use Rattle.std.specs.Prelude.{ℕ, zero, suc, List, [], Option, Some, None}
 use Rattle.es_tree.specs.Words.{Text}
 use Rattle.es_tree.specs.Fresh.{parts}

@@ -1,6 +1,6 @@
 use Rattle.std.proofs.Common.{◌<◌, ◌≤◌, ◌∙◌, length}
-use Rattle.es_scope.proofs.Children.{child_at-get, child_at-past}
-use Rattle.es_scope.proofs.base.child_at.Goals as goal
+use Rattle.es_scope.proofs.Parts.{child_at-get, child_at-past}
+use Rattle.es_scope.proofs.children.child_at.Goals as goal
 
 pub returns-in_err-get : goal.returns-in_err-get
 returns-in_err-get c =
