@@ -1,8 +1,11 @@
 -- The names in the first fields and the first trees of a node, one more at a time.
-use Rattle.std.proofs.Common.{◌≡◌, ℕ, zero, suc, ◌+◌, ◌<◌, Bool, true, false, ◌||◌, List, [], ◌∷◌, ◌++◌, map, take, length, get_or, bytes_eq, cond, append_assoc, append-nil, add-one, refl, sym, ap, ◌∙◌, arith}
+use Rattle.std.proofs.Common.{◌≡◌, ℕ, zero, suc, ◌+◌, ◌<◌, Bool, true, false, ◌||◌, List, [], ◌∷◌, ◌++◌, map, take, length, get_or, bytes_eq, string_bytes, String, HashSet, cond, append_assoc, append-nil, add-one, refl, sym, ap, ◌∙◌, arith}
 use Rattle.std.proofs.lemmas.List.Folds.{list_any-append}
+use Rattle.std.proofs.lemmas.Map.Text.{hash_set_updates_text}
+use Rattle.std.specs.HashSet.{contains_text, UpdatesBy}
+use Rattle.std.specs.String.{string_eq}
 use Rattle.es_tree.specs.Words.{Text}
-use Rattle.es_tree.specs.Fresh.{is_among}
+use Rattle.es_tree.specs.Fresh.{also, is_among}
 use Rattle.es_tree.specs.Names.{is_name_place, is_reexport, own_name, names_if, names_in_fields, names_in_field, names_in_trees}
 use Rattle.es_tree.specs.Tree.{Tree, node, Label, Fields, kind_of, label_of, fields_of, fields, trees}
 use Rattle.es_tree.specs.Views.{plain_field}
@@ -17,12 +20,16 @@ pub or_nothing : (b : Bool) → b ≡ (b || false)
 or_nothing true = refl
 or_nothing false = refl
 
--- a name more in the set
-pub also-cond : (b used : Bool) → cond b true used ≡ (used || b)
+also-cond : (b used : Bool) → cond b true used ≡ (used || b)
 also-cond true true = refl
 also-cond true false = refl
 also-cond false true = refl
 also-cond false false = refl
+
+-- a name more in the set
+pub also-inserted : {Y S : Type 0} (old new : HashSet (String Y) S) (key name : Text) → UpdatesBy string_eq (λ k. bytes_eq key (string_bytes k)) old new true → key ≡ name → (x : Text) → contains_text new x ≡ also name (contains_text old) x
+also-inserted old new key name updated same x =
+    hash_set_updates_text key old new true updated x ∙ (rw same (also-cond (bytes_eq name x) (contains_text old x)))
 
 -- names that a text is among before and after more of them
 pub among_more : (old mid new : Bool) (xs ys zs : List Text) (x : Text) → mid ≡ (old || is_among xs x) → new ≡ (mid || is_among ys x) → zs ≡ xs ++ ys → new ≡ (old || is_among zs x)

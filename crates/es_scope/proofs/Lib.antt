@@ -2,3 +2,4 @@ pub mod Trims
 pub mod Parts
 pub mod Joined
 pub mod Among
+pub mod Candidates

@@ -1,7 +1,8 @@
 -- What is known of the candidates of each base.
-use Rattle.std.specs.Prelude.{◌≡◌, ℕ, ◌<◌, true, unwrap_or, HashMap, HashSet, String}
-use Rattle.std.specs.HashMap.{get_by_text}
-use Rattle.std.specs.HashSet.{contains_text}
+use Rattle.std.specs.Prelude.{◌≡◌, ℕ, ◌<◌, true, unwrap_or}
+use Rattle.std.specs.HashMap.{HashMap, get_by_text}
+use Rattle.std.specs.HashSet.{HashSet, contains_text}
+use Rattle.std.specs.declared.string.String.{String}
 use Rattle.es_tree.specs.Words.{Text}
 use Rattle.es_tree.specs.Fresh.{candidate}
 

@@ -18,7 +18,11 @@ use std::collections::HashSet;
 
 /// Puts each name of the tree into the set. Answers an error only for want of memory, and the set then
 /// has some of them.
-pub fn insert_names(alloc: Global, names: &mut HashSet<String>, tree: &Node) -> Result<(), AllocError>
+pub fn insert_names(
+    alloc: Global,
+    names: &mut HashSet<String>,
+    tree: &Node,
+) -> Result<(), AllocError>
     ensures { OnOk result ((x : Text) → contains_text names.new x ≡ (contains_text names.old x || is_among (names_of tree.now) x)) }
 {
     insert_node(alloc, names, tree, true)
@@ -26,7 +30,12 @@ pub fn insert_names(alloc: Global, names: &mut HashSet<String>, tree: &Node) -> 
 
 /// The names in a node; an identifier that is the node itself counts or not.
 #[cycle(names)]
-fn insert_node(alloc: Global, names: &mut HashSet<String>, node: &Node, counts: bool) -> Result<(), AllocError>
+fn insert_node(
+    alloc: Global,
+    names: &mut HashSet<String>,
+    node: &Node,
+    counts: bool,
+) -> Result<(), AllocError>
     ensures { OnOk result ((x : Text) → contains_text names.new x ≡ (contains_text names.old x || is_among (names_if counts node.now) x)) }
 {
     if counts {
@@ -42,7 +51,12 @@ fn insert_node(alloc: Global, names: &mut HashSet<String>, node: &Node, counts: 
 }
 
 #[cycle(names)]
-fn insert_field(alloc: Global, names: &mut HashSet<String>, field: &Field, counts: bool) -> Result<(), AllocError>
+fn insert_field(
+    alloc: Global,
+    names: &mut HashSet<String>,
+    field: &Field,
+    counts: bool,
+) -> Result<(), AllocError>
     ensures { OnOk result ((x : Text) → contains_text names.new x ≡ (contains_text names.old x || is_among (names_in_field counts (plain_field field.now)) x)) }
 {
     match field {
@@ -58,7 +72,11 @@ fn insert_field(alloc: Global, names: &mut HashSet<String>, field: &Field, count
 }
 
 /// Puts the name of an identifier into the set.
-fn insert_own_name(alloc: Global, names: &mut HashSet<String>, kind: &Kind) -> Result<(), AllocError>
+fn insert_own_name(
+    alloc: Global,
+    names: &mut HashSet<String>,
+    kind: &Kind,
+) -> Result<(), AllocError>
     ensures { OnOk result ((x : Text) (id : NodeId) (span : Span) → contains_text names.new x ≡ (contains_text names.old x || is_among (own_name true (head_of kind.now).kind (label id span (head_of kind.now))) x)) }
 {
     match kind {

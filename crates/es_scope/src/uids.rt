@@ -108,10 +108,11 @@ impl UidGenerator {
         ensures taken { OnOk result ((x : Text) → uses self.new x ≡ also name.now (uses self.old) x) }
         ensures made { OnOk result (made self.new ≡ made self.old ++ name.now ∷ []) }
     {
-        self.in_use.insert(String::from_str(self.alloc, name)?)?;
-        self.taken
-            .insert(String::from_str(self.alloc, base)?, number + 1)?;
+        let key = String::from_str(self.alloc, base)?;
+        let used = String::from_str(self.alloc, name)?;
         self.made.push(String::from_str(self.alloc, name)?)?;
+        self.in_use.insert(used)?;
+        self.taken.insert(key, number + 1)?;
         Ok(())
     }
 }
