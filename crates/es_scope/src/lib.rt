@@ -4,4 +4,6 @@
 pub mod base;
 mod children;
 pub mod names;
+#[cfg(test)]
+mod tests;
 pub mod uids;
