@@ -1,0 +1,40 @@
+-- The candidates in use, as names are taken.
+use Rattle.std.proofs.Common.{◌≡◌, ℕ, ◌+◌, ◌<◌, Bool, true, false, ◌||◌, cond, Some, Result, Ok, Err, OnOk, OnErr, unwrap_or, bytes_eq, string_bytes, below_more, String, HashMap, HashSet, refl, ◌∙◌}
+use Rattle.std.proofs.lemmas.Map.Text.{hash_map_updates_text}
+use Rattle.std.specs.Cmp.Lexicographic.{bytes_decides}
+use Rattle.std.specs.HashMap.{get_by_text, UpdatesBy, IsUnchanged}
+use Rattle.std.specs.HashSet.{contains_text}
+use Rattle.std.specs.String.{string_eq}
+use Rattle.es_tree.specs.Words.{Text}
+use Rattle.es_tree.specs.Fresh.{also, candidate}
+use Rattle.es_scope.specs.Taken.{AreTaken}
+
+stays : (used : Bool) (b : Bool) → used ≡ true → (used || b) ≡ true
+stays used b e = rw e refl
+
+comes : (used : Bool) → (used || true) ≡ true
+comes true = refl
+comes false = refl
+
+-- a name more in use
+pub AreTaken-also : {X Y S T : Type 0} (numbers : HashMap (String X) ℕ S) (old new : HashSet (String Y) T) (name : Text) → ((x : Text) → contains_text new x ≡ also name (contains_text old) x) → AreTaken numbers old → AreTaken numbers new
+AreTaken-also numbers old new name adds taken =
+    λ base m h. adds (candidate base m) ∙ stays _ (bytes_eq name (candidate base m)) (taken base m h)
+
+-- the candidates up to the one that the name is
+pub taken_through : {Y T : Type 0} (old new : HashSet (String Y) T) (name : Text) → ((x : Text) → contains_text new x ≡ also name (contains_text old) x) → (base : Text) (number : ℕ) → name ≡ candidate base number → ((m : ℕ) → m < number → contains_text old (candidate base m) ≡ true) → (m : ℕ) → m < number + 1 → contains_text new (candidate base m) ≡ true
+taken_through old new name adds base number e first =
+    let here : bytes_eq name (candidate base number) ≡ true = (bytes_decides name (candidate base number)).1 e in
+    below_more (λ m. contains_text new (candidate base m) ≡ true) number
+    (λ m h. adds (candidate base m) ∙ stays _ (bytes_eq name (candidate base m)) (first m h))
+    (adds (candidate base number) ∙ rw here (comes _))
+
+-- the number of a base, after an insertion that may fail
+pub AreTaken-inserted : {X Y S T A E : Type 0} (old new : HashMap (String X) ℕ S) (in_use : HashSet (String Y) T) (base : Text) (number : ℕ) (r : Result A E) → OnOk r (UpdatesBy string_eq (λ k. bytes_eq base (string_bytes k)) old new (Some number)) → OnErr r (IsUnchanged old new) → ((m : ℕ) → m < number → contains_text in_use (candidate base m) ≡ true) → AreTaken old in_use → AreTaken new in_use
+AreTaken-inserted old new in_use base number (Ok a) updated unchanged first taken = λ b m h. at b m (bytes_eq base b) refl (rw (hash_map_updates_text base old new (Some number) updated b) at h) where
+  at : (b : Text) (m : ℕ) (same : Bool) → bytes_eq base b ≡ same → m < unwrap_or (cond (bytes_eq base b) (Some number) (get_by_text old b)) 0 → contains_text in_use (candidate b m) ≡ true
+  at b m true e h =
+      let this : base ≡ b = (bytes_decides base b).0 e in
+      rw (← this) (first m (rw e at h))
+  at b m false e h = taken b m (rw e at h)
+AreTaken-inserted old new in_use base number (Err a) updated unchanged first taken = λ b m h. taken b m (rw unchanged at h)

@@ -1,0 +1,5 @@
+pub mod Trims
+pub mod Parts
+pub mod Joined
+pub mod Among
+pub mod Candidates
