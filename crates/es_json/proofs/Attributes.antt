@@ -20,7 +20,7 @@ use Rattle.es_tree.specs.declared.table.Content.TheVariants.{
 }
 use Rattle.es_json.specs.Values.{field_of, TextIs, TextsAre, FlagIs, FlagsAre, IsAbsent, NoneStands}
 use Rattle.es_json.specs.Canonical.{text_value, child_value, children_after}
-use Rattle.es_json.proofs.Bools.{left_true, right_true, left_false, right_false}
+use Rattle.std.proofs.lemmas.Bool.{and_parts}
 use Rattle.es_json.proofs.ReadsBack.{HasEntries, written_value, texts_left, flags_left, children_left}
 
 abbrev entry : FieldName → Content → Entry
@@ -41,7 +41,7 @@ texts_are_one : (v : Data) (f : FieldName) (k : Content) (es : List Entry) (ts :
     → texts_fit (entry f k ∷ es) ts ≡ true → TextsAre (entry f k ∷ es) v ts
 texts_are_one v f k es [] here later fit = absurd (cc fit)
 texts_are_one v f k es (t ∷ ts) here later fit =
-    (subst (λ o. TextIs k o t) (sym here) (text_is k t (left_true (text_fits k t) _ fit)), later (right_true (text_fits k t) _ fit))
+    (subst (λ o. TextIs k o t) (sym here) (text_is k t (and_parts (text_fits k t) _ fit).0), later (and_parts (text_fits k t) _ fit).1)
 
 texts_are_at : (v : Data) (f : FieldName) (k : Content) (es : List Entry) (ts : List (Option Text)) (bs : List Bool) (ds : List Data)
     → ((ts : List (Option Text)) (bs : List Bool) (ds : List Data) → HasEntries v es ts bs ds → texts_fit (filter is_text es) ts ≡ true → TextsAre (filter is_text es) v ts)

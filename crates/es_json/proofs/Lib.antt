@@ -2,9 +2,9 @@ pub mod Puts
 pub mod Children
 pub mod NoFloat
 pub mod TableFacts
-pub mod Bools
 pub mod ReadsBack
 pub mod Attributes
 pub mod Sorts
 pub mod Named
 pub mod WrittenReads
+pub mod FormHasForm
