@@ -1,14 +1,10 @@
 -- The texts, the truth values and the children of a written node stand in its fields.
-use Rattle.std.proofs.Common.{◌≡◌, ◌⊎◌, inl, inr, ℕ, suc, List, [], ◌∷◌, drop, filter, length, get_or, Bool, true, false, not, ◌&&◌, ◌||◌, Option, Some, None, if◌then◌else◌, bytes_eq, refl, sym, ap, ◌∙◌, subst}
-use Rattle.std.specs.List.{list_any, list_all}
-use Rattle.serde_json.specs.Data.{Data, null, boolean, string}
+use Rattle.std.proofs.Common.{◌≡◌, ◌⊎◌, inl, inr, suc, List, [], ◌∷◌, drop, filter, length, get_or, Bool, true, false, Option, Some, None, refl, sym, subst}
+use Rattle.serde_json.specs.Data.{Data, boolean}
 use Rattle.es_tree.specs.Words.{Text}
-use Rattle.es_tree.specs.Table.{field_text, allows_text}
 use Rattle.es_tree.specs.Attributes.{is_text, is_flag, is_refused, is_child, text_fits, texts_fit}
-use Rattle.es_tree.specs.HasForm.{has_name, flag_of, text_of}
 use Rattle.es_tree.specs.declared.table.FieldName.{FieldName}
 use Rattle.es_tree.specs.declared.table.Entry.{Entry}
-use Rattle.es_tree.specs.declared.table.Often.{Often}
 use Rattle.es_tree.specs.declared.table.Content.{Content}
 use Rattle.es_tree.specs.declared.table.Content.TheVariants.{
   Text as c-Text,
@@ -19,9 +15,9 @@ use Rattle.es_tree.specs.declared.table.Content.TheVariants.{
   Child as c-Child,
 }
 use Rattle.es_json.specs.Values.{field_of, TextIs, TextsAre, FlagIs, FlagsAre, IsAbsent, NoneStands}
-use Rattle.es_json.specs.Canonical.{text_value, child_value, children_after}
+use Rattle.es_json.specs.Canonical.{text_value}
 use Rattle.std.proofs.lemmas.Bool.{and_parts}
-use Rattle.es_json.proofs.ReadsBack.{HasEntries, written_value, texts_left, flags_left, children_left}
+use Rattle.es_json.proofs.ReadsBack.{HasEntries, written_value, children_left}
 
 abbrev entry : FieldName → Content → Entry
 entry f k = record { field = f; content = k }

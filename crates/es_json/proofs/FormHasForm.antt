@@ -1,35 +1,27 @@
 -- A tree that a value is a form of has form.
-use Rattle.std.proofs.Common.{◌≡◌, ◌<◌, ◌^◌, ◌==◌, ◌⊎◌, inl, inr, ℕ, suc, List, [], ◌∷◌, ◌++◌, length, Bool, true, false, not, ◌&&◌, ◌||◌, Option, Some, None, option_and_then, find, MatchOption, if◌then◌else◌, bytes_eq, codes, refl, sym, ap, ◌∙◌, subst, lit<}
+use Rattle.std.proofs.Common.{◌≡◌, ◌<◌, ◌^◌, ◌==◌, ◌⊎◌, inl, inr, ℕ, suc, List, [], ◌∷◌, length, Bool, true, false, not, ◌&&◌, ◌||◌, Option, Some, None, option_and_then, find, MatchOption, if◌then◌else◌, bytes_eq, codes, refl, ap, ◌∙◌, subst, lit<}
 use Rattle.std.proofs.lemmas.Bool.{and_parts, and_from, or_left, or_right, eq-eqb}
 use Rattle.std.proofs.lemmas.List.Folds.{list_any-append}
 use Rattle.std.specs.List.{list_any, list_all}
-use Rattle.serde_json.specs.Data.{Data, null, boolean, number, string, array, object, Items, no_items, item}
-use Rattle.serde_json.specs.Find.{as_str}
+use Rattle.serde_json.specs.Data.{Data, null, string, Items, no_items, item}
 use Rattle.es_tree.specs.Words.{Text}
-use Rattle.es_tree.specs.Table.{kinds_of, own_kinds, takes_expressions, kind_named, is_named, first_of, field_text, rest_sort, allows_text}
+use Rattle.es_tree.specs.Table.{own_kinds, takes_expressions, kind_named, is_named, first_of, rest_sort}
 use Rattle.es_tree.specs.Tree.{Tree, node, Label, Fields, done, ◌then◌, Field, missing, one, many, statements, Trees, empty, ◌before◌, type_number}
 use Rattle.es_tree.specs.Attributes.{text_entries, flag_entries, child_entries, text_fits, texts_fit}
 use Rattle.es_tree.specs.Agree.{fields_agree, quasis_fit, is_guarded, is_meta_pair, trees_count, is_missing}
-use Rattle.es_tree.specs.HasForm.{
-  ElementsPlace, elements_of, same_type, is_of_sort, sort_at, sort_before_trees, sort_before_fields, match_option,
-  has_form, elements_form, element_form, fields_form, field_form, trees_form
-}
+use Rattle.es_tree.specs.HasForm.{ElementsPlace, elements_of, same_type, is_of_sort, sort_before_trees, sort_before_fields, match_option, has_form, elements_form, element_form, fields_form, field_form, trees_form}
 use Rattle.es_tree.proofs.NodeForm.{has_form-node}
 use Rattle.es_tree.specs.declared.ast_type.AstType.{AstType}
 use Rattle.es_tree.specs.declared.ast_type.AstType.TheVariants.{TemplateLiteral, TryStatement, MetaProperty}
 use Rattle.es_tree.specs.declared.table.TheConstants.{EXPRESSION_KINDS}
-use Rattle.es_tree.specs.declared.table.FieldName.{FieldName}
 use Rattle.es_tree.specs.declared.table.FieldName.TheVariants.{Start as f-Start, End as f-End, Handler as f-Handler, Finalizer as f-Finalizer, Meta as f-Meta, Property as f-Property}
 use Rattle.es_tree.specs.declared.table.Entry.{Entry}
 use Rattle.es_tree.specs.declared.table.Sort.{Sort}
 use Rattle.es_tree.specs.declared.table.TextRule.TheVariants.{Any as r-Any, Meta as r-Meta}
-use Rattle.es_tree.specs.declared.table.Often.{Often}
-use Rattle.es_tree.specs.declared.table.Often.TheVariants.{Required, Optional, List as a-List, NonEmptyList, ListWithRest, Statements, Elements, ElementsWithRest}
+use Rattle.es_tree.specs.declared.table.Often.TheVariants.{Required, Optional, List as a-List, NonEmptyList, ListWithRest, Statements}
 use Rattle.es_tree.specs.declared.table.Content.{Content}
-use Rattle.es_tree.specs.declared.table.Content.TheVariants.{
-  Text as c-Text, OptionalText as c-OptionalText, Flag as c-Flag, RequiredFlag as c-RequiredFlag, Refused as c-Refused, Child as c-Child
-}
-use Rattle.es_json.specs.Values.{field_of, kind_here, whole, IsOffset, TextIs, TextsAre, FlagIs, FlagsAre, sort_in, list_of, sort_before, items_count, counts_fit, stands, is_word, value_agrees}
+use Rattle.es_tree.specs.declared.table.Content.TheVariants.{Text as c-Text, OptionalText as c-OptionalText, Child as c-Child}
+use Rattle.es_json.specs.Values.{field_of, IsOffset, TextIs, TextsAre, FlagsAre, sort_in, list_of, sort_before, items_count, counts_fit, stands, is_word, value_agrees}
 use Rattle.es_json.specs.Form.{IsForm, AreElements, IsElement, AreFields, IsChild, AreItems}
 use Rattle.es_json.proofs.TableFacts.{content_decides, decides, children-decide}
 use Rattle.es_json.proofs.Sorts.{SortsAgree, sort_in-node}
@@ -144,7 +136,7 @@ guarded_agree v (f then done) h fit = absurd h.1
 guarded_agree v (f then (g then done)) h fit = absurd h.1.1
 guarded_agree v (b then (f then (g then done))) h fit =
     guarded_by (stands (field_of f-Handler v)) (stands (field_of f-Finalizer v)) (is_missing f) (is_missing g)
-      (absent_by v _ (field_of f-Handler v) f h.1.0) (absent_by v _ (field_of f-Finalizer v) g h.1.1.0) fit
+    (absent_by v _ (field_of f-Handler v) f h.1.0) (absent_by v _ (field_of f-Finalizer v) g h.1.1.0) fit
 guarded_agree v (b then (f then (g then (x then fs)))) h fit = absurd h.1.1.1
 
 abbrev text_is_word : Text → Option Text → Bool
@@ -175,8 +167,12 @@ meta_agrees : (v : Data) (ts : List (Option Text)) → TextsAre (text_entries Me
 meta_agrees v [] h fit = absurd h
 meta_agrees v (t ∷ []) h fit = absurd h.1
 meta_agrees v (m ∷ (p ∷ [])) h fit =
-    words_fit m p (rw (word_is (c-Text r-Meta) (field_of f-Meta v) m (codes "new") h.0, word_is (c-Text r-Any) (field_of f-Property v) p (codes "target") h.1.0,
-      word_is (c-Text r-Meta) (field_of f-Meta v) m (codes "import") h.0, word_is (c-Text r-Any) (field_of f-Property v) p (codes "meta") h.1.0) at fit)
+    words_fit m p (rw (
+      word_is (c-Text r-Meta) (field_of f-Meta v) m (codes "new") h.0,
+      word_is (c-Text r-Any) (field_of f-Property v) p (codes "target") h.1.0,
+      word_is (c-Text r-Meta) (field_of f-Meta v) m (codes "import") h.0,
+      word_is (c-Text r-Any) (field_of f-Property v) p (codes "meta") h.1.0,
+    ) at fit)
 meta_agrees v (m ∷ (p ∷ (x ∷ ts))) h fit = absurd h.1.1
 
 agrees : (k : AstType) (v : Data) (ts : List (Option Text)) (fs : Fields) → TextsAre (text_entries k) v ts
@@ -218,8 +214,8 @@ mutual
         stop = offset_below (field_of f-End v) l.stop h.2;
         agree = agrees k v l.texts fs h.4 h.6 h.7;
         children = children_form k l v (child_entries k) fs (elements_of (child_entries k))
-          (λ are. fields_have_form k l v (sort_in-node k l v h.4 h.5) (child_entries k) fs (children-decide k) are)
-          (λ p are. elements_have_form p.sort p.last (list_of (field_of p.field v)) fs are) h.6;
+            (λ are. fields_have_form k l v (sort_in-node k l v h.4 h.5) (child_entries k) fs (children-decide k) are)
+            (λ p are. elements_have_form p.sort p.last (list_of (field_of p.field v)) fs are) h.6;
       })
 
   fields_have_form : (k : AstType) (l : Label) (v : Data) → SortsAgree k l v → (es : List Entry) (fs : Fields) → list_all (decides k) es ≡ true
@@ -228,7 +224,7 @@ mutual
   fields_have_form k l v sorts (e ∷ es) (f then fs) decide h =
       let decided = and_parts (decides k e) _ decide in
       and_from (field_form k l e.content f) _ (field_has_form k l v sorts e.content (field_of e.field v) f decided.0 h.0)
-        (fields_have_form k l v sorts es fs decided.1 h.1)
+      (fields_have_form k l v sorts es fs decided.1 h.1)
   fields_have_form k l v sorts _ _ decide h = absurd h
 
   field_has_form : (k : AstType) (l : Label) (v : Data) → SortsAgree k l v → (c : Content) (o : Option Data) (f : Field) → content_decides k c ≡ true
@@ -249,16 +245,16 @@ mutual
   trees_have_form s last (Some no_items) empty h = refl
   trees_have_form s last (Some (item d ds)) (t before ts) h =
       and_from (has_form (sort_before_trees s last ts) t) _
-        (subst (λ s. has_form s t ≡ true) (sort_before-items s last ds ts h.1) (form_has_form (sort_before s last ds) d t h.0))
-        (trees_have_form s last (Some ds) ts h.1)
+      (subst (λ s. has_form s t ≡ true) (sort_before-items s last ds ts h.1) (form_has_form (sort_before s last ds) d t h.0))
+      (trees_have_form s last (Some ds) ts h.1)
   trees_have_form s last _ _ h = absurd h
 
   elements_have_form : (s last : Sort) (o : Option Items) (fs : Fields) → AreElements s last o fs → elements_form s last fs ≡ true
   elements_have_form s last (Some no_items) done h = refl
   elements_have_form s last (Some (item d ds)) (f then fs) h =
       and_from (element_form (sort_before_fields s last fs) f) _
-        (subst (λ s. element_form s f ≡ true) (sort_before-elements s last ds fs h.1) (element_has_form (sort_before s last ds) d f h.0))
-        (elements_have_form s last (Some ds) fs h.1)
+      (subst (λ s. element_form s f ≡ true) (sort_before-elements s last ds fs h.1) (element_has_form (sort_before s last ds) d f h.0))
+      (elements_have_form s last (Some ds) fs h.1)
   elements_have_form s last _ _ h = absurd h
 
   element_has_form : (s : Sort) (d : Data) (f : Field) → IsElement s d f → element_form s f ≡ true

@@ -1,9 +1,9 @@
 -- The canonical form has no float, so its text is known.
-use Rattle.std.proofs.Common.{◌≡◌, List, [], ◌∷◌, Bool, true, false, ◌||◌, Option, Some, None, Ordering, Less, Equal, Greater, nat_cmp, refl, sym, ap, ◌∙◌, subst}
+use Rattle.std.proofs.Common.{◌≡◌, List, [], ◌∷◌, Bool, false, Option, Some, None, Ordering, Less, Equal, Greater, nat_cmp, refl}
 use Rattle.std.proofs.lemmas.Bool.{or_from, or_parts}
 use Rattle.std.specs.Ordering.{match_ordering}
 use Rattle.std.specs.Cmp.Lexicographic.{slice_cmp}
-use Rattle.serde_json.specs.Data.{Data, array, Items, no_items, item, Members, no_members, member, put}
+use Rattle.serde_json.specs.Data.{Data, Members, no_members, member, put}
 use Rattle.serde_json.specs.Written.{has_float, items_have_float, members_have_float}
 use Rattle.es_tree.specs.Words.{Text}
 use Rattle.es_tree.specs.Table.{entries, field_text}
@@ -20,22 +20,7 @@ use Rattle.es_tree.specs.declared.table.Content.TheVariants.{
   Refused as c-Refused,
   Child as c-Child,
 }
-use Rattle.es_json.specs.Canonical.{
-  canonical,
-  values,
-  field_value,
-  tree_items,
-  items,
-  text_value,
-  Rest,
-  rest,
-  child_value,
-  children_after,
-  put_text,
-  put_flag,
-  put_entry,
-  put_entries,
-}
+use Rattle.es_json.specs.Canonical.{canonical, values, field_value, tree_items, items, text_value, Rest, child_value, children_after, put_text, put_flag, put_entry, put_entries}
 
 put_at : (o : Ordering) (k l : Text) (d e : Data) (ms puts : Members) → has_float d ≡ false → members_have_float (member l e ms) ≡ false → members_have_float puts ≡ false
     → members_have_float (match_ordering o (member k d (member l e ms)) (member l d ms) (member l e puts)) ≡ false

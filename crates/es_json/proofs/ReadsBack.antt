@@ -1,12 +1,11 @@
 -- What a written node has at its fields.
-use Rattle.std.proofs.Common.{◌≡◌, ℕ, List, [], ◌∷◌, map, drop, get_or, Bool, true, false, not, ◌&&◌, Option, Some, None, bytes_eq, refl, sym, ap, ◌∙◌, subst}
+use Rattle.std.proofs.Common.{◌≡◌, ℕ, List, [], ◌∷◌, map, drop, get_or, Bool, true, false, not, Option, Some, None, bytes_eq, refl, sym, ap, ◌∙◌, subst}
 use Rattle.std.proofs.lemmas.Slice.Eq.{bytes_eq-Decides}
 use Rattle.std.specs.List.{list_any}
 use Rattle.serde_json.specs.Data.{Data, boolean, object, Members, put}
-use Rattle.serde_json.specs.Find.{get, get_member}
+use Rattle.serde_json.specs.Find.{get_member}
 use Rattle.serde_json.proofs.Views.{get_member-put, get_member-put_other}
 use Rattle.es_tree.specs.Words.{Text}
-use Rattle.es_tree.specs.Table.{field_text}
 use Rattle.es_tree.specs.declared.table.Entry.{Entry}
 use Rattle.es_tree.specs.declared.table.Content.{Content}
 use Rattle.es_tree.specs.declared.table.Content.TheVariants.{
@@ -18,7 +17,7 @@ use Rattle.es_tree.specs.declared.table.Content.TheVariants.{
   Child as c-Child,
 }
 use Rattle.es_json.specs.Values.{field_of}
-use Rattle.es_json.specs.Canonical.{Rest, rest, text_value, child_value, children_after, put_entry, put_entries}
+use Rattle.es_json.specs.Canonical.{rest, text_value, child_value, children_after, put_entry, put_entries}
 use Rattle.std.proofs.lemmas.Bool.{both_ways, and_parts, or_parts, not-true}
 use Rattle.es_json.proofs.TableFacts.{entry_name, all_distinct}
 

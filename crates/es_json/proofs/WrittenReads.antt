@@ -1,55 +1,29 @@
 -- What is written of a tree with form is a form of that tree.
-use Rattle.std.proofs.Common.{◌≡◌, ◌<◌, ◌^◌, ◌==◌, ◌⊎◌, inl, inr, ℕ, suc, List, [], ◌∷◌, map, filter, length, nat_lt, Bool, true, false, not, ◌&&◌, ◌||◌, Option, Some, None, MatchOption, bytes_eq, refl, sym, ap, ◌∙◌, subst}
+use Rattle.std.proofs.Common.{◌≡◌, ◌<◌, ◌^◌, ℕ, suc, List, [], ◌∷◌, map, Bool, true, false, not, ◌&&◌, ◌||◌, Option, Some, None, MatchOption, bytes_eq, refl, sym, ap, ◌∙◌, subst}
 use Rattle.std.specs.List.{list_any, list_all}
-use Rattle.serde_json.specs.Data.{Data, array, object, unsigned, number, string, Items, no_items, item, Members, no_members, put}
-use Rattle.serde_json.specs.Find.{get_member}
+use Rattle.serde_json.specs.Data.{Data, array, object, unsigned, number, string, Members, no_members, put}
 use Rattle.serde_json.proofs.Views.{get_member-put_other}
 use Rattle.es_tree.specs.Words.{Text}
 use Rattle.es_tree.specs.Table.{entries, type_name, field_text, rest_sort}
 use Rattle.es_tree.specs.Tree.{Tree, node, Label, Fields, done, ◌then◌, Field, missing, one, many, statements, Trees, empty, ◌before◌}
-use Rattle.es_tree.specs.Attributes.{text_entries, flag_entries, refused_entries, child_entries, texts_fit}
+use Rattle.es_tree.specs.Attributes.{child_entries}
 use Rattle.es_tree.specs.Agree.{fields_agree, quasis_fit, is_guarded, is_meta_pair, trees_count, is_missing}
-use Rattle.es_tree.specs.HasForm.{
-  ElementsPlace,
-  elements_by,
-  elements_of,
-  is_of_sort,
-  label_form,
-  sort_at,
-  sort_before_trees,
-  sort_before_fields,
-  match_option,
-  has_form,
-  elements_form,
-  element_form,
-  fields_form,
-  field_form,
-  trees_form,
-  has_name,
-}
+use Rattle.es_tree.specs.HasForm.{ElementsPlace, elements_by, elements_of, is_of_sort, sort_before_trees, sort_before_fields, match_option, has_form, elements_form, element_form, fields_form, field_form, trees_form}
 use Rattle.es_tree.proofs.NodeForm.{node_form}
 use Rattle.es_tree.specs.declared.ast_type.AstType.{AstType}
 use Rattle.es_tree.specs.declared.ast_type.AstType.TheVariants.{TemplateLiteral, TryStatement, MetaProperty}
 use Rattle.es_tree.specs.declared.table.FieldName.{FieldName}
-use Rattle.es_tree.specs.declared.table.FieldName.TheVariants.{«Type» as f-Type, Start as f-Start, End as f-End, Computed as f-Computed, Operator as f-Operator}
+use Rattle.es_tree.specs.declared.table.FieldName.TheVariants.{«Type» as f-Type, Start as f-Start, End as f-End}
 use Rattle.es_tree.specs.declared.table.Entry.{Entry}
 use Rattle.es_tree.specs.declared.table.Sort.{Sort}
-use Rattle.es_tree.specs.declared.table.Often.{Often}
 use Rattle.es_tree.specs.declared.table.Often.TheVariants.{Required, Optional, List as a-List, NonEmptyList, ListWithRest, Statements, Elements, ElementsWithRest}
 use Rattle.es_tree.specs.declared.table.Content.{Content}
-use Rattle.es_tree.specs.declared.table.Content.TheVariants.{
-  Text as c-Text,
-  OptionalText as c-OptionalText,
-  Flag as c-Flag,
-  RequiredFlag as c-RequiredFlag,
-  Refused as c-Refused,
-  Child as c-Child,
-}
-use Rattle.es_json.specs.Values.{field_of, kind_here, whole, IsOffset, NoneStands, TextsAre, FlagsAre, sort_in, list_of, sort_before, items_count, stands, value_agrees}
+use Rattle.es_tree.specs.declared.table.Content.TheVariants.{Child as c-Child}
+use Rattle.es_json.specs.Values.{field_of, kind_here, IsOffset, sort_in, list_of, sort_before, items_count, stands, value_agrees}
 use Rattle.es_json.specs.Form.{IsForm, AreElements, IsElement, AreFields, IsChild, AreItems}
-use Rattle.es_json.specs.Canonical.{canonical, values, field_value, tree_items, items, node_members, common_members, put_entries, rest}
+use Rattle.es_json.specs.Canonical.{canonical, values, field_value, tree_items, items, node_members, common_members}
 use Rattle.std.proofs.lemmas.Bool.{and_parts, or_parts, not-true}
-use Rattle.es_json.proofs.TableFacts.{entry_name, all_distinct, names, names-distinct, content_decides, decides, children-decide}
+use Rattle.es_json.proofs.TableFacts.{entry_name, all_distinct, names-distinct, content_decides, decides, children-decide}
 use Rattle.es_json.proofs.ReadsBack.{differ, HasEntries, written_value, children_left, AreUnwritten, has_entries, get_member-put_entries}
 use Rattle.es_json.proofs.Attributes.{texts_are, flags_are, none_stands, HoldChildren, hold_children}
 use Rattle.es_json.proofs.Sorts.{SortsAgree, sort_in-node}
@@ -222,8 +196,7 @@ mutual
       let hold = hold_children v (entries k) l.texts l.flags (values fs) has in
       let texts = texts_are v (entries k) l.texts l.flags (values fs) has form.texts in
       let flags = flags_are v (entries k) l.texts l.flags (values fs) has form.flags in
-      let sorts : SortsAgree k l v = sort_in-node k l v texts flags in
-      (
+      let sorts : SortsAgree k l v = sort_in-node k l v texts flags in (
         kind_stands s k v (type_stands k l (values fs)) form.sort,
         offset_stands (field_of f-Start v) l.start (start_stands k l (values fs)) form.start,
         offset_stands (field_of f-End v) l.stop (stop_stands k l (values fs)) form.stop,
@@ -231,7 +204,7 @@ mutual
         texts,
         flags,
         children_read k l v (child_entries k) fs (elements_of (child_entries k)) refl hold
-          (λ h. fields_read k l v sorts (child_entries k) fs (children-decide k) hold h) (λ p h. elements_read p.sort p.last fs h) form.children,
+            (λ h. fields_read k l v sorts (child_entries k) fs (children-decide k) hold h) (λ p h. elements_read p.sort p.last fs h) form.children,
         agrees k v l.texts l.flags fs has form.agree,
       )
 

@@ -9,5 +9,4 @@ pub fn law_written_reads()
 /// A tree that a value is a form of, as each tree that is read, has form.
 pub fn law_form_has_form()
     ensures { FormHasForm }
-{
-}
+{}

@@ -1,5 +1,5 @@
 -- What it means for one node that it has form.
-use Rattle.std.proofs.Common.{◌≡◌, ℕ, ◌<◌, ◌^◌, ◌==◌, ◌&&◌, nat_lt, length, true}
+use Rattle.std.proofs.Common.{◌≡◌, ◌<◌, ◌^◌, ◌==◌, ◌&&◌, nat_lt, length, true}
 use Rattle.std.proofs.lemmas.Bool.{and_parts, and_from, eqb-true, eq-eqb, ltb-true, lt-ltb}
 use Rattle.es_tree.specs.Tree.{node, Label, Fields}
 use Rattle.es_tree.specs.Attributes.{text_entries, flag_entries, child_entries, texts_fit}
