@@ -1,14 +1,10 @@
 -- The texts, the truth values and the children of a written node stand in its fields.
-use Rattle.std.proofs.Common.{◌≡◌, ◌⊎◌, inl, inr, ℕ, suc, List, [], ◌∷◌, drop, filter, length, get_or, Bool, true, false, not, ◌&&◌, ◌||◌, Option, Some, None, if◌then◌else◌, bytes_eq, refl, sym, ap, ◌∙◌, subst}
-use Rattle.std.specs.List.{list_any, list_all}
-use Rattle.serde_json.specs.Data.{Data, null, boolean, string}
+use Rattle.std.proofs.Common.{◌≡◌, ◌⊎◌, inl, inr, suc, List, [], ◌∷◌, drop, filter, length, get_or, Bool, true, false, Option, Some, None, refl, sym, subst}
+use Rattle.serde_json.specs.Data.{Data, boolean}
 use Rattle.es_tree.specs.Words.{Text}
-use Rattle.es_tree.specs.Table.{field_text, allows_text}
 use Rattle.es_tree.specs.Attributes.{is_text, is_flag, is_refused, is_child, text_fits, texts_fit}
-use Rattle.es_tree.specs.HasForm.{has_name, flag_of, text_of}
 use Rattle.es_tree.specs.declared.table.FieldName.{FieldName}
 use Rattle.es_tree.specs.declared.table.Entry.{Entry}
-use Rattle.es_tree.specs.declared.table.Often.{Often}
 use Rattle.es_tree.specs.declared.table.Content.{Content}
 use Rattle.es_tree.specs.declared.table.Content.TheVariants.{
   Text as c-Text,
@@ -19,9 +15,9 @@ use Rattle.es_tree.specs.declared.table.Content.TheVariants.{
   Child as c-Child,
 }
 use Rattle.es_json.specs.Values.{field_of, TextIs, TextsAre, FlagIs, FlagsAre, IsAbsent, NoneStands}
-use Rattle.es_json.specs.Canonical.{text_value, child_value, children_after}
-use Rattle.es_json.proofs.Bools.{left_true, right_true, left_false, right_false}
-use Rattle.es_json.proofs.ReadsBack.{HasEntries, written_value, texts_left, flags_left, children_left}
+use Rattle.es_json.specs.Canonical.{text_value}
+use Rattle.std.proofs.lemmas.Bool.{and_parts}
+use Rattle.es_json.proofs.ReadsBack.{HasEntries, written_value, children_left}
 
 abbrev entry : FieldName → Content → Entry
 entry f k = record { field = f; content = k }
@@ -41,7 +37,7 @@ texts_are_one : (v : Data) (f : FieldName) (k : Content) (es : List Entry) (ts :
     → texts_fit (entry f k ∷ es) ts ≡ true → TextsAre (entry f k ∷ es) v ts
 texts_are_one v f k es [] here later fit = absurd (cc fit)
 texts_are_one v f k es (t ∷ ts) here later fit =
-    (subst (λ o. TextIs k o t) (sym here) (text_is k t (left_true (text_fits k t) _ fit)), later (right_true (text_fits k t) _ fit))
+    (subst (λ o. TextIs k o t) (sym here) (text_is k t (and_parts (text_fits k t) _ fit).0), later (and_parts (text_fits k t) _ fit).1)
 
 texts_are_at : (v : Data) (f : FieldName) (k : Content) (es : List Entry) (ts : List (Option Text)) (bs : List Bool) (ds : List Data)
     → ((ts : List (Option Text)) (bs : List Bool) (ds : List Data) → HasEntries v es ts bs ds → texts_fit (filter is_text es) ts ≡ true → TextsAre (filter is_text es) v ts)

@@ -10,10 +10,10 @@ pub mod Puts
 pub mod WrittenChildren
 pub mod NoFloat
 pub mod TableFacts
-pub mod Bools
 pub mod ReadsBack
 pub mod Attributes
 pub mod Sorts
 pub mod Named
 pub mod WrittenReads
 pub mod OneTree
+pub mod FormHasForm

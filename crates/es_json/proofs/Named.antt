@@ -1,5 +1,5 @@
 -- A kind of a sort is found by its name.
-use Rattle.std.proofs.Common.{◌≡◌, ℕ, List, [], ◌∷◌, Bool, true, false, ◌&&◌, ◌||◌, Option, Some, None, refl, sym, ap, ◌∙◌}
+use Rattle.std.proofs.Common.{◌≡◌, List, [], ◌∷◌, Bool, true, false, Option, Some, None, refl, sym, ap, ◌∙◌}
 use Rattle.std.proofs.lemmas.Bool.{eqb-true}
 use Rattle.std.specs.List.{list_any, list_all}
 use Rattle.es_tree.specs.Tree.{type_number, type_at, type_at-number}
@@ -7,7 +7,7 @@ use Rattle.es_tree.specs.Table.{kinds_of, kind_named, type_name}
 use Rattle.es_tree.specs.HasForm.{same_type, is_of_sort}
 use Rattle.es_tree.specs.declared.ast_type.AstType.{AstType}
 use Rattle.es_tree.specs.declared.table.Sort.{Sort}
-use Rattle.es_json.proofs.Bools.{left_true, right_true}
+use Rattle.std.proofs.lemmas.Bool.{and_parts}
 use Rattle.es_json.proofs.TableFacts.{is_type, sorts-tell_apart}
 
 pub same_type-equal : (j k : AstType) → same_type j k ≡ true → j ≡ k
@@ -22,7 +22,7 @@ passes_at p k j ks false is later h here = later (rw is at h)
 pub passes : (p : AstType → Bool) (k : AstType) (ks : List AstType) → list_any (same_type k) ks ≡ true → list_all p ks ≡ true → p k ≡ true
 passes p k [] h all = absurd (cc h)
 passes p k (j ∷ ks) h all =
-    passes_at p k j ks (same_type k j) refl (λ later. passes p k ks later (right_true (p j) _ all)) h (left_true (p j) _ all)
+    passes_at p k j ks (same_type k j) refl (λ later. passes p k ks later (and_parts (p j) _ all).1) h (and_parts (p j) _ all).0
 
 found : (o : Option AstType) (k : AstType) → is_type o k ≡ true → o ≡ Some k
 found None k h = absurd (cc h)

@@ -1,8 +1,9 @@
 -- The canonical form has no float, so its text is known.
-use Rattle.std.proofs.Common.{◌≡◌, List, [], ◌∷◌, Bool, true, false, ◌||◌, Option, Some, None, Ordering, Less, Equal, Greater, nat_cmp, refl, sym, ap, ◌∙◌, subst}
+use Rattle.std.proofs.Common.{◌≡◌, List, [], ◌∷◌, Bool, false, Option, Some, None, Ordering, Less, Equal, Greater, nat_cmp, refl}
+use Rattle.std.proofs.lemmas.Bool.{or_from, or_parts}
 use Rattle.std.specs.Ordering.{match_ordering}
 use Rattle.std.specs.Cmp.Lexicographic.{slice_cmp}
-use Rattle.serde_json.specs.Data.{Data, array, Items, no_items, item, Members, no_members, member, put}
+use Rattle.serde_json.specs.Data.{Data, Members, no_members, member, put}
 use Rattle.serde_json.specs.Written.{has_float, items_have_float, members_have_float}
 use Rattle.es_tree.specs.Words.{Text}
 use Rattle.es_tree.specs.Table.{entries, field_text}
@@ -19,45 +20,18 @@ use Rattle.es_tree.specs.declared.table.Content.TheVariants.{
   Refused as c-Refused,
   Child as c-Child,
 }
-use Rattle.es_json.specs.Canonical.{
-  canonical,
-  values,
-  field_value,
-  tree_items,
-  items,
-  text_value,
-  Rest,
-  rest,
-  child_value,
-  children_after,
-  put_text,
-  put_flag,
-  put_entry,
-  put_entries,
-}
-
-neither : (a b : Bool) → a ≡ false → b ≡ false → (a || b) ≡ false
-neither false b g h = h
-neither true b g h = g
-
-first_of_neither : (a b : Bool) → (a || b) ≡ false → a ≡ false
-first_of_neither false b h = refl
-first_of_neither true b h = h
-
-second_of_neither : (a b : Bool) → (a || b) ≡ false → b ≡ false
-second_of_neither false b h = h
-second_of_neither true b h = cc
+use Rattle.es_json.specs.Canonical.{canonical, values, field_value, tree_items, items, text_value, Rest, child_value, children_after, put_text, put_flag, put_entry, put_entries}
 
 put_at : (o : Ordering) (k l : Text) (d e : Data) (ms puts : Members) → has_float d ≡ false → members_have_float (member l e ms) ≡ false → members_have_float puts ≡ false
     → members_have_float (match_ordering o (member k d (member l e ms)) (member l d ms) (member l e puts)) ≡ false
-put_at Less k l d e ms puts g h later = neither (has_float d) _ g h
-put_at Equal k l d e ms puts g h later = neither (has_float d) _ g (second_of_neither (has_float e) _ h)
-put_at Greater k l d e ms puts g h later = neither (has_float e) _ (first_of_neither (has_float e) _ h) later
+put_at Less k l d e ms puts g h later = or_from (has_float d) _ g h
+put_at Equal k l d e ms puts g h later = or_from (has_float d) _ g (or_parts (has_float e) _ h).1
+put_at Greater k l d e ms puts g h later = or_from (has_float e) _ (or_parts (has_float e) _ h).0 later
 
 pub no_float-put : (k : Text) (d : Data) (ms : Members) → has_float d ≡ false → members_have_float ms ≡ false → members_have_float (put k d ms) ≡ false
-no_float-put k d no_members g h = neither (has_float d) _ g refl
+no_float-put k d no_members g h = or_from (has_float d) _ g refl
 no_float-put k d (member l e ms) g h =
-    put_at (slice_cmp nat_cmp k l) k l d e ms (put k d ms) g h (no_float-put k d ms g (second_of_neither (has_float e) _ h))
+    put_at (slice_cmp nat_cmp k l) k l d e ms (put k d ms) g h (no_float-put k d ms g (or_parts (has_float e) _ h).1)
 
 -- no value of the list has a float
 abbrev AreFloatless : List Data → Type 0
@@ -70,7 +44,7 @@ record IsFloatless (r : Rest) : Type 0 where
 
 no_float-items : (ds : List Data) → AreFloatless ds → items_have_float (items ds) ≡ false
 no_float-items [] h = refl
-no_float-items (d ∷ ds) h = neither (has_float d) _ h.0 (no_float-items ds h.1)
+no_float-items (d ∷ ds) h = or_from (has_float d) _ h.0 (no_float-items ds h.1)
 
 no_float-text_value : (t : Option Text) → has_float (text_value t) ≡ false
 no_float-text_value None = refl
@@ -145,4 +119,4 @@ mutual
 
   no_float-tree_items : (ts : Trees) → items_have_float (tree_items ts) ≡ false
   no_float-tree_items empty = refl
-  no_float-tree_items (t before ts) = neither (has_float (canonical t)) _ (no_float-canonical t) (no_float-tree_items ts)
+  no_float-tree_items (t before ts) = or_from (has_float (canonical t)) _ (no_float-canonical t) (no_float-tree_items ts)

@@ -1,11 +1,11 @@
 -- What a written node has at its fields.
-use Rattle.std.proofs.Common.{◌≡◌, ℕ, List, [], ◌∷◌, map, drop, get_or, Bool, true, false, not, ◌&&◌, Option, Some, None, bytes_eq, refl, sym, ap, ◌∙◌, subst}
+use Rattle.std.proofs.Common.{◌≡◌, ℕ, List, [], ◌∷◌, map, drop, get_or, Bool, true, false, not, Option, Some, None, bytes_eq, refl, sym, ap, ◌∙◌, subst}
+use Rattle.std.proofs.lemmas.Slice.Eq.{bytes_eq-Decides}
 use Rattle.std.specs.List.{list_any}
 use Rattle.serde_json.specs.Data.{Data, boolean, object, Members, put}
-use Rattle.serde_json.specs.Find.{get, get_member}
+use Rattle.serde_json.specs.Find.{get_member}
 use Rattle.serde_json.proofs.Views.{get_member-put, get_member-put_other}
 use Rattle.es_tree.specs.Words.{Text}
-use Rattle.es_tree.specs.Table.{field_text}
 use Rattle.es_tree.specs.declared.table.Entry.{Entry}
 use Rattle.es_tree.specs.declared.table.Content.{Content}
 use Rattle.es_tree.specs.declared.table.Content.TheVariants.{
@@ -17,8 +17,8 @@ use Rattle.es_tree.specs.declared.table.Content.TheVariants.{
   Child as c-Child,
 }
 use Rattle.es_json.specs.Values.{field_of}
-use Rattle.es_json.specs.Canonical.{Rest, rest, text_value, child_value, children_after, put_entry, put_entries}
-use Rattle.es_json.proofs.Bools.{left_true, right_true, left_false, right_false, not_true, differ}
+use Rattle.es_json.specs.Canonical.{rest, text_value, child_value, children_after, put_entry, put_entries}
+use Rattle.std.proofs.lemmas.Bool.{both_ways, and_parts, or_parts, not-true}
 use Rattle.es_json.proofs.TableFacts.{entry_name, all_distinct}
 
 -- what is written for an entry, and what is left after it
@@ -43,6 +43,10 @@ flags_left _ bs = bs
 abbrev pub children_left : Content → List Data → List Data
 children_left (c-Child s o) ds = children_after o ds
 children_left _ ds = ds
+
+-- texts that a test tells apart
+pub differ : (xs ys : List ℕ) → bytes_eq xs ys ≡ false → xs ≡ ys → ⊥
+differ xs ys h e = both_ways (bytes_eq xs ys) h ((bytes_eq-Decides xs ys).1 e)
 
 -- the object has at each entry's field what is written for it
 abbrev pub HasEntries : Data → List Entry → List (Option Text) → List Bool → List Data → Type 0
@@ -82,8 +86,8 @@ pub get_member-put_entries : (q : Text) (es : List Entry) (ts : List (Option Tex
 get_member-put_entries q [] ts bs ds ms h = refl
 get_member-put_entries q (e ∷ es) ts bs ds ms h =
     ap (λ r. get_member q (put_entries es r).members) (put_entry-rest (entry_name e) e.content ts bs ds ms)
-    ∙ get_member-put_entries q es _ _ _ _ (right_false (bytes_eq q (entry_name e)) _ h)
-    ∙ get_member-put_option_other q (entry_name e) (written_value e.content ts bs ds) ms (differ q (entry_name e) (left_false (bytes_eq q (entry_name e)) _ h))
+    ∙ get_member-put_entries q es _ _ _ _ (or_parts (bytes_eq q (entry_name e)) _ h).1
+    ∙ get_member-put_option_other q (entry_name e) (written_value e.content ts bs ds) ms (differ q (entry_name e) (or_parts (bytes_eq q (entry_name e)) _ h).0)
 
 -- no member stands at these names
 abbrev pub AreUnwritten : List Text → Members → Type 0
@@ -93,8 +97,8 @@ AreUnwritten (n ∷ ns) ms = (get_member n ms ≡ None) × AreUnwritten ns ms
 unwritten-put_option : (k : Text) (o : Option Data) (ns : List Text) (ms : Members) → list_any (bytes_eq k) ns ≡ false → AreUnwritten ns ms → AreUnwritten ns (put_option k o ms)
 unwritten-put_option k o [] ms h un = tt
 unwritten-put_option k o (n ∷ ns) ms h un = (
-  get_member-put_option_other n k o ms (λ e. differ k n (left_false (bytes_eq k n) _ h) (sym e)) ∙ un.0,
-  unwritten-put_option k o ns ms (right_false (bytes_eq k n) _ h) un.1,
+  get_member-put_option_other n k o ms (λ e. differ k n (or_parts (bytes_eq k n) _ h).0 (sym e)) ∙ un.0,
+  unwritten-put_option k o ns ms (or_parts (bytes_eq k n) _ h).1 un.1,
 )
 
 pub has_entries : (es : List Entry) (ts : List (Option Text)) (bs : List Bool) (ds : List Data) (ms : Members)
@@ -104,13 +108,13 @@ has_entries [] ts bs ds ms apart un = tt
 has_entries (e ∷ es) ts bs ds ms apart un =
     let name = entry_name e in
     let value = written_value e.content ts bs ds in
-    let others : list_any (bytes_eq name) (map entry_name es) ≡ false = not_true _ (left_true (not (list_any (bytes_eq name) (map entry_name es))) _ apart) in
+    let others : list_any (bytes_eq name) (map entry_name es) ≡ false = not-true _ (and_parts (not (list_any (bytes_eq name) (map entry_name es))) _ apart).0 in
     let step = put_entry-rest name e.content ts bs ds ms in
     let here : get_member name (put_entries es (put_entry name e.content (rest ts bs ds ms))).members ≡ value =
     ap (λ r. get_member name (put_entries es r).members) step
     ∙ get_member-put_entries name es _ _ _ _ others
     ∙ get_member-put_option name value ms un.0 in
     let later = has_entries es (texts_left e.content ts) (flags_left e.content bs) (children_left e.content ds) (put_option name value ms)
-    (right_true (not (list_any (bytes_eq name) (map entry_name es))) _ apart)
+    (and_parts (not (list_any (bytes_eq name) (map entry_name es))) _ apart).1
     (unwritten-put_option name value (map entry_name es) ms others un.1) in
     (here, subst (λ r. HasEntries (object (put_entries es r).members) es (texts_left e.content ts) (flags_left e.content bs) (children_left e.content ds)) (sym step) later)

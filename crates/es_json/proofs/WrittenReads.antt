@@ -1,73 +1,47 @@
 -- What is written of a tree with form is a form of that tree.
-use Rattle.std.proofs.Common.{◌≡◌, ◌<◌, ◌^◌, ◌==◌, ◌⊎◌, inl, inr, ℕ, suc, List, [], ◌∷◌, map, filter, length, nat_lt, Bool, true, false, not, ◌&&◌, ◌||◌, Option, Some, None, MatchOption, bytes_eq, refl, sym, ap, ◌∙◌, subst}
-use Rattle.std.proofs.lemmas.Bool.{eqb-true, ltb-true}
-use Rattle.std.specs.List.{list_any}
-use Rattle.serde_json.specs.Data.{Data, array, object, unsigned, number, string, Items, no_items, item, Members, no_members, put}
-use Rattle.serde_json.specs.Find.{get_member}
+use Rattle.std.proofs.Common.{◌≡◌, ◌<◌, ◌^◌, ℕ, suc, List, [], ◌∷◌, map, Bool, true, false, not, ◌&&◌, ◌||◌, Option, Some, None, MatchOption, bytes_eq, refl, sym, ap, ◌∙◌, subst}
+use Rattle.std.specs.List.{list_any, list_all}
+use Rattle.serde_json.specs.Data.{Data, array, object, unsigned, number, string, Members, no_members, put}
 use Rattle.serde_json.proofs.Views.{get_member-put_other}
 use Rattle.es_tree.specs.Words.{Text}
 use Rattle.es_tree.specs.Table.{entries, type_name, field_text, rest_sort}
 use Rattle.es_tree.specs.Tree.{Tree, node, Label, Fields, done, ◌then◌, Field, missing, one, many, statements, Trees, empty, ◌before◌}
-use Rattle.es_tree.specs.Attributes.{text_entries, flag_entries, refused_entries, child_entries, texts_fit}
+use Rattle.es_tree.specs.Attributes.{child_entries}
 use Rattle.es_tree.specs.Agree.{fields_agree, quasis_fit, is_guarded, is_meta_pair, trees_count, is_missing}
-use Rattle.es_tree.specs.HasForm.{
-  ElementsPlace,
-  elements_by,
-  elements_of,
-  is_of_sort,
-  label_form,
-  sort_at,
-  sort_before_trees,
-  sort_before_fields,
-  match_option,
-  has_form,
-  elements_form,
-  element_form,
-  fields_form,
-  field_form,
-  trees_form,
-  has_name,
-}
+use Rattle.es_tree.specs.HasForm.{ElementsPlace, elements_by, elements_of, is_of_sort, sort_before_trees, sort_before_fields, match_option, has_form, elements_form, element_form, fields_form, field_form, trees_form}
+use Rattle.es_tree.proofs.NodeForm.{node_form}
 use Rattle.es_tree.specs.declared.ast_type.AstType.{AstType}
 use Rattle.es_tree.specs.declared.ast_type.AstType.TheVariants.{TemplateLiteral, TryStatement, MetaProperty}
 use Rattle.es_tree.specs.declared.table.FieldName.{FieldName}
-use Rattle.es_tree.specs.declared.table.FieldName.TheVariants.{«Type» as f-Type, Start as f-Start, End as f-End, Computed as f-Computed, Operator as f-Operator}
+use Rattle.es_tree.specs.declared.table.FieldName.TheVariants.{«Type» as f-Type, Start as f-Start, End as f-End}
 use Rattle.es_tree.specs.declared.table.Entry.{Entry}
 use Rattle.es_tree.specs.declared.table.Sort.{Sort}
-use Rattle.es_tree.specs.declared.table.Often.{Often}
 use Rattle.es_tree.specs.declared.table.Often.TheVariants.{Required, Optional, List as a-List, NonEmptyList, ListWithRest, Statements, Elements, ElementsWithRest}
 use Rattle.es_tree.specs.declared.table.Content.{Content}
-use Rattle.es_tree.specs.declared.table.Content.TheVariants.{
-  Text as c-Text,
-  OptionalText as c-OptionalText,
-  Flag as c-Flag,
-  RequiredFlag as c-RequiredFlag,
-  Refused as c-Refused,
-  Child as c-Child,
-}
-use Rattle.es_json.specs.Values.{field_of, kind_here, whole, IsOffset, NoneStands, TextsAre, FlagsAre, sort_in, list_of, sort_before, items_count, stands, value_agrees}
+use Rattle.es_tree.specs.declared.table.Content.TheVariants.{Child as c-Child}
+use Rattle.es_json.specs.Values.{field_of, kind_here, IsOffset, sort_in, list_of, sort_before, items_count, stands, value_agrees}
 use Rattle.es_json.specs.Form.{IsForm, AreElements, IsElement, AreFields, IsChild, AreItems}
-use Rattle.es_json.specs.Canonical.{canonical, values, field_value, tree_items, items, node_members, common_members, put_entries, rest}
-use Rattle.es_json.proofs.Bools.{left_true, right_true, left_false, right_false, not_true, differ}
-use Rattle.es_json.proofs.TableFacts.{entry_name, all_distinct, names, names-distinct}
-use Rattle.es_json.proofs.ReadsBack.{HasEntries, written_value, children_left, AreUnwritten, has_entries, get_member-put_entries}
+use Rattle.es_json.specs.Canonical.{canonical, values, field_value, tree_items, items, node_members, common_members}
+use Rattle.std.proofs.lemmas.Bool.{and_parts, or_parts, not-true}
+use Rattle.es_json.proofs.TableFacts.{entry_name, all_distinct, names-distinct, content_decides, decides, children-decide}
+use Rattle.es_json.proofs.ReadsBack.{differ, HasEntries, written_value, children_left, AreUnwritten, has_entries, get_member-put_entries}
 use Rattle.es_json.proofs.Attributes.{texts_are, flags_are, none_stands, HoldChildren, hold_children}
-use Rattle.es_json.proofs.Sorts.{SaysLike, sort_in-written}
+use Rattle.es_json.proofs.Sorts.{SortsAgree, sort_in-node}
 use Rattle.es_json.proofs.Named.{kind_named-type_name}
 
 -- ---- the node by itself
 
 others : (n : Text) (ns : List Text) → all_distinct (n ∷ ns) ≡ true → list_any (bytes_eq n) ns ≡ false
-others n ns h = not_true _ (left_true (not (list_any (bytes_eq n) ns)) _ h)
+others n ns h = not-true _ (and_parts (not (list_any (bytes_eq n) ns)) _ h).0
 
 more_distinct : (n : Text) (ns : List Text) → all_distinct (n ∷ ns) ≡ true → all_distinct ns ≡ true
-more_distinct n ns h = right_true (not (list_any (bytes_eq n) ns)) _ h
+more_distinct n ns h = (and_parts (not (list_any (bytes_eq n) ns)) _ h).1
 
 not_among : (q n : Text) (ns : List Text) → list_any (bytes_eq q) (n ∷ ns) ≡ false → list_any (bytes_eq q) ns ≡ false
-not_among q n ns h = right_false (bytes_eq q n) _ h
+not_among q n ns h = (or_parts (bytes_eq q n) _ h).1
 
 apart : (q n : Text) (ns : List Text) → list_any (bytes_eq q) (n ∷ ns) ≡ false → n ≡ q → ⊥
-apart q n ns h e = differ q n (left_false (bytes_eq q n) _ h) (sym e)
+apart q n ns h e = differ q n (or_parts (bytes_eq q n) _ h).0 (sym e)
 
 abbrev n-type : Text
 n-type = field_text f-Type
@@ -94,12 +68,8 @@ unwritten_common k l (n ∷ ns) kind start end = (
   unwritten_common k l ns (not_among n-type n ns kind) (not_among n-start n ns start) (not_among n-end n ns end),
 )
 
-list_any-names : (f : FieldName) (es : List Entry) → list_any (bytes_eq (field_text f)) (map entry_name es) ≡ list_any (has_name f) es
-list_any-names f [] = refl
-list_any-names f (e ∷ es) = ap (λ b. has_name f e || b) (list_any-names f es)
-
-says_like : (k : AstType) (l : Label) (ds : List Data) → SaysLike k l ds (object (node_members k l ds))
-says_like k l ds =
+has_written : (k : AstType) (l : Label) (ds : List Data) → HasEntries (object (node_members k l ds)) (entries k) l.texts l.flags ds
+has_written k l ds =
     let all = names-distinct k in
     let own = map entry_name (entries k) in
     let from_start = more_distinct n-type (n-start ∷ n-end ∷ own) all in
@@ -107,11 +77,7 @@ says_like k l ds =
     let kind = not_among n-type n-end own (not_among n-type n-start (n-end ∷ own) (others n-type (n-start ∷ n-end ∷ own) all)) in
     let start = not_among n-start n-end own (others n-start (n-end ∷ own) from_start) in
     let end = others n-end own from_end in
-    record {
-      has = has_entries (entries k) l.texts l.flags ds (common_members k l) (more_distinct n-end own from_end) (unwritten_common k l own kind start end);
-      no_computed = λ none. get_member-put_entries (field_text f-Computed) (entries k) l.texts l.flags ds (common_members k l) (list_any-names f-Computed (entries k) ∙ none);
-      no_operator = λ none. get_member-put_entries (field_text f-Operator) (entries k) l.texts l.flags ds (common_members k l) (list_any-names f-Operator (entries k) ∙ none);
-    }
+    has_entries (entries k) l.texts l.flags ds (common_members k l) (more_distinct n-end own from_end) (unwritten_common k l own kind start end)
 
 type_stands : (k : AstType) (l : Label) (ds : List Data) → field_of f-Type (object (node_members k l ds)) ≡ Some (string (type_name k))
 type_stands k l ds =
@@ -134,8 +100,8 @@ stop_stands k l ds =
 kind_stands : (s : Sort) (k : AstType) (v : Data) → field_of f-Type v ≡ Some (string (type_name k)) → is_of_sort s k ≡ true → kind_here s v ≡ Some k
 kind_stands s k v h is = rw h (kind_named-type_name s k is)
 
-offset_stands : (o : Option Data) (n : ℕ) → o ≡ Some (number (unsigned n)) → nat_lt n (2 ^ 32) ≡ true → IsOffset o n
-offset_stands o n h below = subst (λ o. IsOffset o n) (sym h) (refl, ltb-true n (2 ^ 32) below)
+offset_stands : (o : Option Data) (n : ℕ) → o ≡ Some (number (unsigned n)) → n < 2 ^ 32 → IsOffset o n
+offset_stands o n h below = subst (λ o. IsOffset o n) (sym h) (refl, below)
 
 -- ---- what a node's fields are to each other
 
@@ -225,65 +191,59 @@ mutual
   pub written_reads : (s : Sort) (t : Tree) → has_form s t ≡ true → IsForm s (canonical t) t
   written_reads s (node k l fs) h =
       let v = object (node_members k l (values fs)) in
-      let says = says_like k l (values fs) in
-      let of_sort = is_of_sort s k in
-      let label = label_form k l in
-      let agree = fields_agree k l.texts fs in
-      let by_node : (of_sort && label && agree) ≡ true = left_true (of_sort && label && agree) _ h in
-      let by_label : label ≡ true = right_true of_sort _ (left_true (of_sort && label) _ by_node) in
-      let texts = texts_fit (text_entries k) l.texts in
-      let flags = length l.flags == length (flag_entries k) in
-      let start = nat_lt l.start (2 ^ 32) in
-      let stop = nat_lt l.stop (2 ^ 32) in (
-        kind_stands s k v (type_stands k l (values fs)) (left_true of_sort _ (left_true (of_sort && label) _ by_node)),
-        offset_stands (field_of f-Start v) l.start (start_stands k l (values fs)) (right_true (texts && flags) _ (left_true (texts && flags && start) _ by_label)),
-        offset_stands (field_of f-End v) l.stop (stop_stands k l (values fs)) (right_true (texts && flags && start) _ by_label),
-        none_stands v (entries k) l.texts l.flags (values fs) says.has,
-        texts_are v (entries k) l.texts l.flags (values fs) says.has (left_true texts _ (left_true (texts && flags) _ (left_true (texts && flags && start) _ by_label))),
-        flags_are v (entries k) l.texts l.flags (values fs) says.has
-            (eqb-true (length l.flags) (length (flag_entries k)) (right_true texts _ (left_true (texts && flags) _ (left_true (texts && flags && start) _ by_label)))),
-        children_read k l v (child_entries k) fs (elements_of (child_entries k)) refl (hold_children v (entries k) l.texts l.flags (values fs) says.has)
-            (λ form. fields_read k l v (sort_in-written k l (values fs) v says) (child_entries k) fs (hold_children v (entries k) l.texts l.flags (values fs) says.has) form)
-            (λ p form. elements_read p.sort p.last fs form)
-            (right_true (of_sort && label && agree) _ h),
-        agrees k v l.texts l.flags fs says.has (right_true (of_sort && label) _ by_node),
+      let form = node_form s k l fs h in
+      let has = has_written k l (values fs) in
+      let hold = hold_children v (entries k) l.texts l.flags (values fs) has in
+      let texts = texts_are v (entries k) l.texts l.flags (values fs) has form.texts in
+      let flags = flags_are v (entries k) l.texts l.flags (values fs) has form.flags in
+      let sorts : SortsAgree k l v = sort_in-node k l v texts flags in (
+        kind_stands s k v (type_stands k l (values fs)) form.sort,
+        offset_stands (field_of f-Start v) l.start (start_stands k l (values fs)) form.start,
+        offset_stands (field_of f-End v) l.stop (stop_stands k l (values fs)) form.stop,
+        none_stands v (entries k) l.texts l.flags (values fs) has,
+        texts,
+        flags,
+        children_read k l v (child_entries k) fs (elements_of (child_entries k)) refl hold
+            (λ h. fields_read k l v sorts (child_entries k) fs (children-decide k) hold h) (λ p h. elements_read p.sort p.last fs h) form.children,
+        agrees k v l.texts l.flags fs has form.agree,
       )
 
-  fields_read : (k : AstType) (l : Label) (v : Data) → ((s : Sort) → sort_in v s ≡ sort_at k l s) → (es : List Entry) (fs : Fields)
+  fields_read : (k : AstType) (l : Label) (v : Data) → SortsAgree k l v → (es : List Entry) (fs : Fields) → list_all (decides k) es ≡ true
       → HoldChildren v es (values fs) → fields_form k l es fs ≡ true → AreFields v es fs
-  fields_read k l v sorts [] done hold h = tt
-  fields_read k l v sorts (e ∷ es) (f then fs) hold h =
-      let form = left_true (field_form k l e.content f) _ h in
-      let left = subst (HoldChildren v es) (left_after k l e.content f (values fs) form) hold.1 in
-      (field_read k l v sorts e.content (field_of e.field v) f (values fs) hold.0 form, fields_read k l v sorts es fs left (right_true (field_form k l e.content f) _ h))
-  fields_read k l v sorts _ _ hold h = absurd (cc h)
+  fields_read k l v sorts [] done decide hold h = tt
+  fields_read k l v sorts (e ∷ es) (f then fs) decide hold h =
+      let form = and_parts (field_form k l e.content f) _ h in
+      let decided = and_parts (decides k e) _ decide in
+      let left = subst (HoldChildren v es) (left_after k l e.content f (values fs) form.0) hold.1 in
+      (field_read k l v sorts e.content (field_of e.field v) f (values fs) decided.0 hold.0 form.0, fields_read k l v sorts es fs decided.1 left form.1)
+  fields_read k l v sorts _ _ decide hold h = absurd (cc h)
 
-  field_read : (k : AstType) (l : Label) (v : Data) → ((s : Sort) → sort_in v s ≡ sort_at k l s) → (c : Content) (o : Option Data) (f : Field) (ds : List Data)
+  field_read : (k : AstType) (l : Label) (v : Data) → SortsAgree k l v → (c : Content) (o : Option Data) (f : Field) (ds : List Data) → content_decides k c ≡ true
       → o ≡ written_value c [] [] (field_value f ∷ ds) → field_form k l c f ≡ true → IsChild v c o f
-  field_read k l v sorts (c-Child s Required) o (one t) ds is h =
-      subst (λ o. IsChild v (c-Child s Required) o (one t)) (sym is) (written_reads (sort_in v s) t (subst (λ s. has_form s t ≡ true) (sym (sorts s)) h))
-  field_read k l v sorts (c-Child s Optional) o missing ds is h = subst (λ o. IsChild v (c-Child s Optional) o missing) (sym is) refl
-  field_read k l v sorts (c-Child s Optional) o (one t) ds is h =
-      subst (λ o. IsChild v (c-Child s Optional) o (one t)) (sym is) (written_reads (sort_in v s) t (subst (λ s. has_form s t ≡ true) (sym (sorts s)) h))
-  field_read k l v sorts (c-Child s a-List) o (many ts) ds is h = subst (λ o. AreItems s s (list_of o) ts) (sym is) (trees_read s s ts h)
-  field_read k l v sorts (c-Child s NonEmptyList) o (many (t before ts)) ds is h =
+  field_read k l v sorts (c-Child s Required) o (one t) ds decided is h =
+      subst (λ o. IsChild v (c-Child s Required) o (one t)) (sym is) (written_reads (sort_in v s) t (subst (λ s. has_form s t ≡ true) (sym (sorts s decided)) h))
+  field_read k l v sorts (c-Child s Optional) o missing ds decided is h = subst (λ o. IsChild v (c-Child s Optional) o missing) (sym is) refl
+  field_read k l v sorts (c-Child s Optional) o (one t) ds decided is h =
+      subst (λ o. IsChild v (c-Child s Optional) o (one t)) (sym is) (written_reads (sort_in v s) t (subst (λ s. has_form s t ≡ true) (sym (sorts s decided)) h))
+  field_read k l v sorts (c-Child s a-List) o (many ts) ds decided is h = subst (λ o. AreItems s s (list_of o) ts) (sym is) (trees_read s s ts h)
+  field_read k l v sorts (c-Child s NonEmptyList) o (many (t before ts)) ds decided is h =
       subst (λ o. AreItems s s (list_of o) (t before ts)) (sym is) (trees_read s s (t before ts) h)
-  field_read k l v sorts (c-Child s ListWithRest) o (many ts) ds is h = subst (λ o. AreItems s (rest_sort s) (list_of o) ts) (sym is) (trees_read s (rest_sort s) ts h)
-  field_read k l v sorts (c-Child s Statements) o (statements ts) ds is h = subst (λ o. AreItems s s (list_of o) ts) (sym is) (trees_read s s ts h)
-  field_read k l v sorts _ o _ ds is h = absurd (cc h)
+  field_read k l v sorts (c-Child s ListWithRest) o (many ts) ds decided is h = subst (λ o. AreItems s (rest_sort s) (list_of o) ts) (sym is) (trees_read s (rest_sort s) ts h)
+  field_read k l v sorts (c-Child s Statements) o (statements ts) ds decided is h = subst (λ o. AreItems s s (list_of o) ts) (sym is) (trees_read s s ts h)
+  field_read k l v sorts _ o _ ds decided is h = absurd (cc h)
 
   trees_read : (s last : Sort) (ts : Trees) → trees_form s last ts ≡ true → AreItems s last (Some (tree_items ts)) ts
   trees_read s last empty h = tt
   trees_read s last (t before ts) h = (
-    subst (λ s. IsForm s (canonical t) t) (sym (sort_before-trees s last ts)) (written_reads (sort_before_trees s last ts) t (left_true (has_form (sort_before_trees s last ts) t) _ h)),
-    trees_read s last ts (right_true (has_form (sort_before_trees s last ts) t) _ h),
+    subst (λ s. IsForm s (canonical t) t) (sym (sort_before-trees s last ts)) (written_reads (sort_before_trees s last ts) t (and_parts (has_form (sort_before_trees s last ts) t) _ h).0),
+    trees_read s last ts (and_parts (has_form (sort_before_trees s last ts) t) _ h).1,
   )
 
   elements_read : (s last : Sort) (fs : Fields) → elements_form s last fs ≡ true → AreElements s last (Some (items (values fs))) fs
   elements_read s last done h = tt
   elements_read s last (f then fs) h = (
-    subst (λ s. IsElement s (field_value f) f) (sym (sort_before-fields s last fs)) (element_read (sort_before_fields s last fs) f (left_true (element_form (sort_before_fields s last fs) f) _ h)),
-    elements_read s last fs (right_true (element_form (sort_before_fields s last fs) f) _ h),
+    subst (λ s. IsElement s (field_value f) f) (sym (sort_before-fields s last fs)) (element_read (sort_before_fields s last fs) f (and_parts (element_form (sort_before_fields s last fs) f) _ h).0),
+    elements_read s last fs (and_parts (element_form (sort_before_fields s last fs) f) _ h).1,
   )
 
   element_read : (s : Sort) (f : Field) → element_form s f ≡ true → IsElement s (field_value f) f

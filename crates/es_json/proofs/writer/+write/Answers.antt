@@ -1,6 +1,5 @@
-use Rattle.std.proofs.Common.{◌≡◌, map, ap, ◌∙◌}
-use Rattle.serde_json.specs.Data.{array, object}
-use Rattle.serde_json.specs.View.{view}
+use Rattle.std.proofs.Common.{map, ap, ◌∙◌}
+use Rattle.serde_json.specs.Data.{object}
 use Rattle.serde_json.proofs.Views.{view-Array, view-Object}
 use Rattle.es_json.specs.Canonical.{canonical, field_value}
 use Rattle.es_tree.specs.Views.{plain_field}

@@ -1,4 +1,4 @@
-use Rattle.std.proofs.Common.{◌≡◌, ◌≤◌, ◌<◌, ◌⊎◌, inl, inr, ℕ, arith, refl, ap, ◌∙◌, map}
+use Rattle.std.proofs.Common.{arith, ap, ◌∙◌, map}
 use Rattle.std.specs.Vec.Iter.{into_iter_items}
 use Rattle.serde_json.specs.Data.{boolean}
 use Rattle.serde_json.specs.View.{view}

@@ -1,4 +1,4 @@
-use Rattle.std.proofs.Common.{◌≡◌, ◌≤◌, map, drop, string_bytes}
+use Rattle.std.proofs.Common.{◌≡◌, ◌≤◌, map, drop}
 use Rattle.es_tree.specs.Heads.{head_of}
 use Rattle.es_tree.specs.Tree.{kind_of, label_of}
 use Rattle.es_json.specs.Canonical.{put_entries, rest, common_members}
