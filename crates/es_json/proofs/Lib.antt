@@ -6,3 +6,4 @@ pub mod Items
 pub mod Children
 pub mod Parts
 pub mod Errors
+pub mod Sizes

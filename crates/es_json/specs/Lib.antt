@@ -3,3 +3,5 @@ pub mod Form
 pub mod Canonical
 pub mod New
 pub mod Parts
+pub mod Limits
+pub mod Laws

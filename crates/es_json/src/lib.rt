@@ -2,6 +2,8 @@
 #![tactic(auto)]
 
 pub mod error;
+pub mod laws;
+pub mod limits;
 mod places;
 pub mod reader;
 mod scalars;
