@@ -6,6 +6,7 @@ pub mod Items
 pub mod Children
 pub mod Parts
 pub mod Errors
+pub mod Sizes
 pub mod Puts
 pub mod WrittenChildren
 pub mod NoFloat
@@ -17,3 +18,4 @@ pub mod Named
 pub mod WrittenReads
 pub mod OneTree
 pub mod FormHasForm
+pub mod FirstPaths

@@ -4,3 +4,5 @@ pub mod Canonical
 pub mod Laws
 pub mod New
 pub mod Parts
+pub mod Limits
+pub mod Programs

@@ -2,8 +2,11 @@
 #![tactic(auto)]
 
 pub mod error;
+pub mod first_path;
 pub mod laws;
+pub mod limits;
 mod places;
+pub mod program;
 pub mod reader;
 mod scalars;
 pub mod writer;

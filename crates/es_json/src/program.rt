@@ -1,0 +1,45 @@
+//! The reader of programs that are lowered so far.
+ghost use Rattle.std.specs.Prelude.{◌≡◌, IfOk, IsErrOf};
+ghost use Rattle.serde_json.specs.View.{view};
+ghost use Rattle.es_tree.specs.Order.{IsNumbered, IsUnmarked};
+ghost use Rattle.es_tree.specs.Tree.{Tree};
+ghost use Rattle.es_json.specs.Programs.{IsProgramForm};
+
+use crate::error::ReadError;
+use crate::first_path::is_first_path;
+use crate::limits::value_objects;
+use crate::reader::read_tree;
+use es_tree::error::LowerError;
+use es_tree::node::Node;
+use serde_json::Value;
+use std::alloc::Global;
+
+/// So many JSON objects are too many.
+const MANY_OBJECTS: u64 = 1_048_576;
+
+/// Reads a program of the first path: a script of expression statements over names, `this`, null,
+/// truth values, numbers, strings, static members, `??`, and `=` to a name or a member. Its nodes
+/// are numbered in node order, and no mark stands.
+///
+/// Fails with `NotBuilt` exactly where the value is no form of such a program or has 2^20 JSON
+/// objects or more, and with `OutOfMemory` where memory runs out.
+pub fn read_program(alloc: Global, value: &Value) -> Result<Node, LowerError>
+    ensures form { IfOk result (IsProgramForm (view value.now)) }
+    ensures order { IfOk result (IsNumbered 0) }
+    ensures marks { IfOk result IsUnmarked }
+    ensures not_built { IsErrOf result LowerError.NotBuilt → (p : Tree) → IsProgramForm (view value.now) p → ⊥ }
+    ensures only { IsErrOf result LowerError.Json → ⊥ }
+{
+    if value_objects(value) >= MANY_OBJECTS {
+        return Err(LowerError::NotBuilt);
+    }
+    let program = match read_tree(alloc, value) {
+        Ok(program) => program,
+        Err(ReadError::Shape) => return Err(LowerError::NotBuilt),
+        Err(ReadError::OutOfMemory) => return Err(LowerError::OutOfMemory),
+    };
+    if !is_first_path(&program) {
+        return Err(LowerError::NotBuilt);
+    }
+    Ok(program)
+}
