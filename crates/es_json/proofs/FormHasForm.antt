@@ -13,7 +13,7 @@ use Rattle.es_tree.specs.HasForm.{ElementsPlace, elements_of, same_type, is_of_s
 use Rattle.es_tree.proofs.NodeForm.{has_form-node}
 use Rattle.es_tree.specs.declared.ast_type.AstType.{AstType}
 use Rattle.es_tree.specs.declared.ast_type.AstType.TheVariants.{TemplateLiteral, TryStatement, MetaProperty}
-use Rattle.es_tree.specs.declared.table.TheConstants.{EXPRESSION_KINDS}
+use Rattle.es_tree.specs.declared.sort_kinds.TheConstants.{EXPRESSION_KINDS}
 use Rattle.es_tree.specs.declared.table.FieldName.TheVariants.{Start as f-Start, End as f-End, Handler as f-Handler, Finalizer as f-Finalizer, Meta as f-Meta, Property as f-Property}
 use Rattle.es_tree.specs.declared.table.Entry.{Entry}
 use Rattle.es_tree.specs.declared.table.Sort.{Sort}

@@ -1,13 +1,125 @@
 //! The table of fields: which fields a node of each kind has, in reading order, and what stands there.
-//! The definitions in `specs/` read these same constants.
+//! Its lines are the constants of `statement_fields`, `expression_fields` and `sort_kinds`; the definitions
+//! in `specs/` read these same constants.
 ghost use Rattle.std.specs.Prelude.{◌≡◌, find};
 ghost use Rattle.es_tree.specs.Table.{is_named, entries, own_kinds, takes_expressions, kind_named, field_text, allows_text, rest_sort};
 
 use crate::ast_type::AstType;
-use crate::operators::{
-    AssignmentOperator, BinaryOperator, LogicalOperator, MethodDefinitionKind, PropertyKind,
-    SourceType, UnaryOperator, UpdateOperator, VariableDeclarationKind,
-};
+use crate::expression_fields::ARRAY_EXPRESSION;
+use crate::expression_fields::ARRAY_PATTERN;
+use crate::expression_fields::ARRAY_TARGET;
+use crate::expression_fields::ASSIGNMENT_EXPRESSION;
+use crate::expression_fields::ASSIGNMENT_PATTERN;
+use crate::expression_fields::BINARY_EXPRESSION;
+use crate::expression_fields::BOOLEAN_LITERAL;
+use crate::expression_fields::CALL_EXPRESSION;
+use crate::expression_fields::CHAIN_EXPRESSION;
+use crate::expression_fields::CONDITIONAL_EXPRESSION;
+use crate::expression_fields::IDENTIFIER;
+use crate::expression_fields::LOGICAL_EXPRESSION;
+use crate::expression_fields::MEMBER_EXPRESSION;
+use crate::expression_fields::META_PROPERTY;
+use crate::expression_fields::NEW_EXPRESSION;
+use crate::expression_fields::NUMERIC_LITERAL;
+use crate::expression_fields::OBJECT_EXPRESSION;
+use crate::expression_fields::OBJECT_PATTERN;
+use crate::expression_fields::OBJECT_PROPERTY;
+use crate::expression_fields::OBJECT_TARGET;
+use crate::expression_fields::PATTERN_PROPERTY;
+use crate::expression_fields::REG_EXP_LITERAL;
+use crate::expression_fields::REST_ELEMENT;
+use crate::expression_fields::SEQUENCE_EXPRESSION;
+use crate::expression_fields::TAGGED_TEMPLATE_EXPRESSION;
+use crate::expression_fields::TARGET_PROPERTY;
+use crate::expression_fields::TARGET_REST;
+use crate::expression_fields::TARGET_WITH_DEFAULT;
+use crate::expression_fields::TEMPLATE_ELEMENT;
+use crate::expression_fields::TEMPLATE_LITERAL;
+use crate::expression_fields::UNARY_EXPRESSION;
+use crate::expression_fields::UPDATE_EXPRESSION;
+use crate::operators::AssignmentOperator;
+use crate::operators::BinaryOperator;
+use crate::operators::LogicalOperator;
+use crate::operators::MethodDefinitionKind;
+use crate::operators::PropertyKind;
+use crate::operators::SourceType;
+use crate::operators::UnaryOperator;
+use crate::operators::UpdateOperator;
+use crate::operators::VariableDeclarationKind;
+use crate::sort_kinds::ARGUMENT_KINDS;
+use crate::sort_kinds::ASSIGNMENT_TARGET_KINDS;
+use crate::sort_kinds::BINARY_LEFT_KINDS;
+use crate::sort_kinds::BINDING_KINDS;
+use crate::sort_kinds::BLOCK_STATEMENT_KINDS;
+use crate::sort_kinds::CATCH_CLAUSE_KINDS;
+use crate::sort_kinds::CHAIN_ELEMENT_KINDS;
+use crate::sort_kinds::CLASS_ELEMENT_KINDS;
+use crate::sort_kinds::DECLARATION_KINDS;
+use crate::sort_kinds::DIRECTIVE_KINDS;
+use crate::sort_kinds::EXPORT_DEFAULT_KINDS;
+use crate::sort_kinds::EXPORT_SPECIFIER_KINDS;
+use crate::sort_kinds::EXPRESSION_KINDS;
+use crate::sort_kinds::FOR_INIT_KINDS;
+use crate::sort_kinds::FOR_LEFT_KINDS;
+use crate::sort_kinds::FUNCTION_BODY_KINDS;
+use crate::sort_kinds::FUNCTION_EXPRESSION_KINDS;
+use crate::sort_kinds::IDENTIFIER_KINDS;
+use crate::sort_kinds::IMPORT_ATTRIBUTE_KINDS;
+use crate::sort_kinds::IMPORT_ITEM_KINDS;
+use crate::sort_kinds::MEMBER_PROPERTY_KINDS;
+use crate::sort_kinds::MODULE_EXPORT_NAME_KINDS;
+use crate::sort_kinds::NO_KINDS;
+use crate::sort_kinds::OBJECT_MEMBER_KINDS;
+use crate::sort_kinds::PATTERN_KINDS;
+use crate::sort_kinds::PATTERN_MEMBER_KINDS;
+use crate::sort_kinds::PATTERN_MEMBER_REST_KINDS;
+use crate::sort_kinds::PATTERN_REST_KINDS;
+use crate::sort_kinds::PROGRAM_KINDS;
+use crate::sort_kinds::PROPERTY_KEY_KINDS;
+use crate::sort_kinds::STATEMENT_KINDS;
+use crate::sort_kinds::STRING_LITERAL_KINDS;
+use crate::sort_kinds::SWITCH_CASE_KINDS;
+use crate::sort_kinds::TARGET_ELEMENT_KINDS;
+use crate::sort_kinds::TARGET_ELEMENT_REST_KINDS;
+use crate::sort_kinds::TARGET_MEMBER_KINDS;
+use crate::sort_kinds::TARGET_MEMBER_REST_KINDS;
+use crate::sort_kinds::TEMPLATE_ELEMENT_KINDS;
+use crate::sort_kinds::TEMPLATE_LITERAL_KINDS;
+use crate::sort_kinds::VARIABLE_DECLARATOR_KINDS;
+use crate::statement_fields::ARROW_FUNCTION_EXPRESSION;
+use crate::statement_fields::BLOCK_STATEMENT;
+use crate::statement_fields::BREAK_STATEMENT;
+use crate::statement_fields::CATCH_CLAUSE;
+use crate::statement_fields::CLASS_DECLARATION;
+use crate::statement_fields::DIRECTIVE;
+use crate::statement_fields::DO_WHILE_STATEMENT;
+use crate::statement_fields::EXPORT_ALL_DECLARATION;
+use crate::statement_fields::EXPORT_DEFAULT_DECLARATION;
+use crate::statement_fields::EXPORT_NAMED_DECLARATION;
+use crate::statement_fields::EXPORT_SPECIFIER;
+use crate::statement_fields::EXPRESSION_STATEMENT;
+use crate::statement_fields::FOR_IN_STATEMENT;
+use crate::statement_fields::FOR_STATEMENT;
+use crate::statement_fields::FUNCTION_BODY;
+use crate::statement_fields::FUNCTION_DECLARATION;
+use crate::statement_fields::IF_STATEMENT;
+use crate::statement_fields::IMPORT_ATTRIBUTE;
+use crate::statement_fields::IMPORT_DECLARATION;
+use crate::statement_fields::IMPORT_DEFAULT_SPECIFIER;
+use crate::statement_fields::IMPORT_SPECIFIER;
+use crate::statement_fields::LABELED_STATEMENT;
+use crate::statement_fields::METHOD_DEFINITION;
+use crate::statement_fields::NO_ENTRIES;
+use crate::statement_fields::PROGRAM;
+use crate::statement_fields::PROPERTY_DEFINITION;
+use crate::statement_fields::RETURN_STATEMENT;
+use crate::statement_fields::SWITCH_CASE;
+use crate::statement_fields::SWITCH_STATEMENT;
+use crate::statement_fields::THROW_STATEMENT;
+use crate::statement_fields::TRY_STATEMENT;
+use crate::statement_fields::VARIABLE_DECLARATION;
+use crate::statement_fields::VARIABLE_DECLARATOR;
+use crate::statement_fields::WHILE_STATEMENT;
 
 /// The name of a field in the tree form.
 #[derive(Clone, Copy, PartialEq, Eq, Debug)]
@@ -269,759 +381,6 @@ pub struct Entry {
     pub content: Content,
 }
 
-pub static PROGRAM: [Entry; 3] = [
-    Entry {
-        field: FieldName::SourceType,
-        content: Content::Text(TextRule::SourceType),
-    },
-    Entry {
-        field: FieldName::Directives,
-        content: Content::Child(Sort::Directive, Often::List),
-    },
-    Entry {
-        field: FieldName::Body,
-        content: Content::Child(Sort::Statement, Often::Statements),
-    },
-];
-
-pub static DIRECTIVE: [Entry; 1] = [Entry {
-    field: FieldName::Value,
-    content: Content::Text(TextRule::Any),
-}];
-
-pub static EXPRESSION_STATEMENT: [Entry; 1] = [Entry {
-    field: FieldName::Expression,
-    content: Content::Child(Sort::Expression, Often::Required),
-}];
-
-pub static BLOCK_STATEMENT: [Entry; 1] = [Entry {
-    field: FieldName::Body,
-    content: Content::Child(Sort::Statement, Often::Statements),
-}];
-
-pub static NO_ENTRIES: [Entry; 0] = [];
-
-pub static VARIABLE_DECLARATION: [Entry; 2] = [
-    Entry {
-        field: FieldName::Kind,
-        content: Content::Text(TextRule::VariableDeclarationKind),
-    },
-    Entry {
-        field: FieldName::Declarations,
-        content: Content::Child(Sort::VariableDeclarator, Often::NonEmptyList),
-    },
-];
-
-pub static VARIABLE_DECLARATOR: [Entry; 2] = [
-    Entry {
-        field: FieldName::Id,
-        content: Content::Child(Sort::Binding, Often::Required),
-    },
-    Entry {
-        field: FieldName::Init,
-        content: Content::Child(Sort::Expression, Often::Optional),
-    },
-];
-
-pub static FUNCTION_DECLARATION: [Entry; 5] = [
-    Entry {
-        field: FieldName::Async,
-        content: Content::Refused,
-    },
-    Entry {
-        field: FieldName::Generator,
-        content: Content::Refused,
-    },
-    Entry {
-        field: FieldName::Id,
-        content: Content::Child(Sort::Identifier, Often::Optional),
-    },
-    Entry {
-        field: FieldName::Params,
-        content: Content::Child(Sort::Pattern, Often::ListWithRest),
-    },
-    Entry {
-        field: FieldName::Body,
-        content: Content::Child(Sort::FunctionBody, Often::Required),
-    },
-];
-
-pub static FUNCTION_BODY: [Entry; 2] = [
-    Entry {
-        field: FieldName::Directives,
-        content: Content::Child(Sort::Directive, Often::List),
-    },
-    Entry {
-        field: FieldName::Body,
-        content: Content::Child(Sort::Statement, Often::Statements),
-    },
-];
-
-pub static ARROW_FUNCTION_EXPRESSION: [Entry; 4] = [
-    Entry {
-        field: FieldName::Async,
-        content: Content::Refused,
-    },
-    Entry {
-        field: FieldName::Generator,
-        content: Content::Refused,
-    },
-    Entry {
-        field: FieldName::Params,
-        content: Content::Child(Sort::Pattern, Often::ListWithRest),
-    },
-    Entry {
-        field: FieldName::Body,
-        content: Content::Child(Sort::ArrowFunctionBody, Often::Required),
-    },
-];
-
-pub static CLASS_DECLARATION: [Entry; 3] = [
-    Entry {
-        field: FieldName::Id,
-        content: Content::Child(Sort::Identifier, Often::Optional),
-    },
-    Entry {
-        field: FieldName::SuperClass,
-        content: Content::Child(Sort::Expression, Often::Optional),
-    },
-    Entry {
-        field: FieldName::Body,
-        content: Content::Child(Sort::ClassElement, Often::List),
-    },
-];
-
-pub static METHOD_DEFINITION: [Entry; 5] = [
-    Entry {
-        field: FieldName::Kind,
-        content: Content::Text(TextRule::MethodDefinitionKind),
-    },
-    Entry {
-        field: FieldName::Static,
-        content: Content::Flag,
-    },
-    Entry {
-        field: FieldName::Computed,
-        content: Content::Flag,
-    },
-    Entry {
-        field: FieldName::Key,
-        content: Content::Child(Sort::PropertyKey, Often::Required),
-    },
-    Entry {
-        field: FieldName::Value,
-        content: Content::Child(Sort::FunctionExpression, Often::Required),
-    },
-];
-
-pub static PROPERTY_DEFINITION: [Entry; 4] = [
-    Entry {
-        field: FieldName::Static,
-        content: Content::Flag,
-    },
-    Entry {
-        field: FieldName::Computed,
-        content: Content::Flag,
-    },
-    Entry {
-        field: FieldName::Key,
-        content: Content::Child(Sort::PropertyKey, Often::Required),
-    },
-    Entry {
-        field: FieldName::Value,
-        content: Content::Child(Sort::Expression, Often::Optional),
-    },
-];
-
-pub static RETURN_STATEMENT: [Entry; 1] = [Entry {
-    field: FieldName::Argument,
-    content: Content::Child(Sort::Expression, Often::Optional),
-}];
-
-pub static THROW_STATEMENT: [Entry; 1] = [Entry {
-    field: FieldName::Argument,
-    content: Content::Child(Sort::Expression, Often::Required),
-}];
-
-pub static IF_STATEMENT: [Entry; 3] = [
-    Entry {
-        field: FieldName::Test,
-        content: Content::Child(Sort::Expression, Often::Required),
-    },
-    Entry {
-        field: FieldName::Consequent,
-        content: Content::Child(Sort::Statement, Often::Required),
-    },
-    Entry {
-        field: FieldName::Alternate,
-        content: Content::Child(Sort::Statement, Often::Optional),
-    },
-];
-
-pub static FOR_STATEMENT: [Entry; 5] = [
-    Entry {
-        field: FieldName::Await,
-        content: Content::Refused,
-    },
-    Entry {
-        field: FieldName::Init,
-        content: Content::Child(Sort::ForInit, Often::Optional),
-    },
-    Entry {
-        field: FieldName::Test,
-        content: Content::Child(Sort::Expression, Often::Optional),
-    },
-    Entry {
-        field: FieldName::Update,
-        content: Content::Child(Sort::Expression, Often::Optional),
-    },
-    Entry {
-        field: FieldName::Body,
-        content: Content::Child(Sort::Statement, Often::Required),
-    },
-];
-
-pub static FOR_IN_STATEMENT: [Entry; 4] = [
-    Entry {
-        field: FieldName::Await,
-        content: Content::Refused,
-    },
-    Entry {
-        field: FieldName::Left,
-        content: Content::Child(Sort::ForLeft, Often::Required),
-    },
-    Entry {
-        field: FieldName::Right,
-        content: Content::Child(Sort::Expression, Often::Required),
-    },
-    Entry {
-        field: FieldName::Body,
-        content: Content::Child(Sort::Statement, Often::Required),
-    },
-];
-
-pub static WHILE_STATEMENT: [Entry; 2] = [
-    Entry {
-        field: FieldName::Test,
-        content: Content::Child(Sort::Expression, Often::Required),
-    },
-    Entry {
-        field: FieldName::Body,
-        content: Content::Child(Sort::Statement, Often::Required),
-    },
-];
-
-pub static DO_WHILE_STATEMENT: [Entry; 2] = [
-    Entry {
-        field: FieldName::Body,
-        content: Content::Child(Sort::Statement, Often::Required),
-    },
-    Entry {
-        field: FieldName::Test,
-        content: Content::Child(Sort::Expression, Often::Required),
-    },
-];
-
-pub static BREAK_STATEMENT: [Entry; 1] = [Entry {
-    field: FieldName::Label,
-    content: Content::Child(Sort::Identifier, Often::Optional),
-}];
-
-pub static LABELED_STATEMENT: [Entry; 2] = [
-    Entry {
-        field: FieldName::Label,
-        content: Content::Child(Sort::Identifier, Often::Required),
-    },
-    Entry {
-        field: FieldName::Body,
-        content: Content::Child(Sort::Statement, Often::Required),
-    },
-];
-
-pub static SWITCH_STATEMENT: [Entry; 2] = [
-    Entry {
-        field: FieldName::Discriminant,
-        content: Content::Child(Sort::Expression, Often::Required),
-    },
-    Entry {
-        field: FieldName::Cases,
-        content: Content::Child(Sort::SwitchCase, Often::List),
-    },
-];
-
-pub static SWITCH_CASE: [Entry; 2] = [
-    Entry {
-        field: FieldName::Test,
-        content: Content::Child(Sort::Expression, Often::Optional),
-    },
-    Entry {
-        field: FieldName::Consequent,
-        content: Content::Child(Sort::Statement, Often::Statements),
-    },
-];
-
-pub static TRY_STATEMENT: [Entry; 3] = [
-    Entry {
-        field: FieldName::Block,
-        content: Content::Child(Sort::BlockStatement, Often::Required),
-    },
-    Entry {
-        field: FieldName::Handler,
-        content: Content::Child(Sort::CatchClause, Often::Optional),
-    },
-    Entry {
-        field: FieldName::Finalizer,
-        content: Content::Child(Sort::BlockStatement, Often::Optional),
-    },
-];
-
-pub static CATCH_CLAUSE: [Entry; 2] = [
-    Entry {
-        field: FieldName::Param,
-        content: Content::Child(Sort::Binding, Often::Optional),
-    },
-    Entry {
-        field: FieldName::Body,
-        content: Content::Child(Sort::BlockStatement, Often::Required),
-    },
-];
-
-pub static IMPORT_DECLARATION: [Entry; 3] = [
-    Entry {
-        field: FieldName::Specifiers,
-        content: Content::Child(Sort::ImportItem, Often::List),
-    },
-    Entry {
-        field: FieldName::Source,
-        content: Content::Child(Sort::StringLiteral, Often::Required),
-    },
-    Entry {
-        field: FieldName::Attributes,
-        content: Content::Child(Sort::ImportAttribute, Often::List),
-    },
-];
-
-pub static IMPORT_SPECIFIER: [Entry; 2] = [
-    Entry {
-        field: FieldName::Imported,
-        content: Content::Child(Sort::ModuleExportName, Often::Required),
-    },
-    Entry {
-        field: FieldName::Local,
-        content: Content::Child(Sort::Identifier, Often::Required),
-    },
-];
-
-pub static IMPORT_DEFAULT_SPECIFIER: [Entry; 1] = [Entry {
-    field: FieldName::Local,
-    content: Content::Child(Sort::Identifier, Often::Required),
-}];
-
-pub static IMPORT_ATTRIBUTE: [Entry; 2] = [
-    Entry {
-        field: FieldName::Key,
-        content: Content::Text(TextRule::Any),
-    },
-    Entry {
-        field: FieldName::Value,
-        content: Content::Text(TextRule::Any),
-    },
-];
-
-pub static EXPORT_NAMED_DECLARATION: [Entry; 4] = [
-    Entry {
-        field: FieldName::Declaration,
-        content: Content::Child(Sort::Declaration, Often::Optional),
-    },
-    Entry {
-        field: FieldName::Specifiers,
-        content: Content::Child(Sort::ExportSpecifier, Often::List),
-    },
-    Entry {
-        field: FieldName::Source,
-        content: Content::Child(Sort::StringLiteral, Often::Optional),
-    },
-    Entry {
-        field: FieldName::Attributes,
-        content: Content::Child(Sort::ImportAttribute, Often::List),
-    },
-];
-
-pub static EXPORT_SPECIFIER: [Entry; 2] = [
-    Entry {
-        field: FieldName::Local,
-        content: Content::Child(Sort::ModuleExportName, Often::Required),
-    },
-    Entry {
-        field: FieldName::Exported,
-        content: Content::Child(Sort::ModuleExportName, Often::Required),
-    },
-];
-
-pub static EXPORT_DEFAULT_DECLARATION: [Entry; 1] = [Entry {
-    field: FieldName::Declaration,
-    content: Content::Child(Sort::ExportDefault, Often::Required),
-}];
-
-pub static EXPORT_ALL_DECLARATION: [Entry; 3] = [
-    Entry {
-        field: FieldName::Exported,
-        content: Content::Child(Sort::ModuleExportName, Often::Optional),
-    },
-    Entry {
-        field: FieldName::Source,
-        content: Content::Child(Sort::StringLiteral, Often::Required),
-    },
-    Entry {
-        field: FieldName::Attributes,
-        content: Content::Child(Sort::ImportAttribute, Often::List),
-    },
-];
-
-pub static IDENTIFIER: [Entry; 1] = [Entry {
-    field: FieldName::Name,
-    content: Content::Text(TextRule::Name),
-}];
-
-pub static BOOLEAN_LITERAL: [Entry; 1] = [Entry {
-    field: FieldName::Value,
-    content: Content::RequiredFlag,
-}];
-
-pub static NUMERIC_LITERAL: [Entry; 2] = [
-    Entry {
-        field: FieldName::Raw,
-        content: Content::Text(TextRule::Any),
-    },
-    Entry {
-        field: FieldName::Key,
-        content: Content::Text(TextRule::Any),
-    },
-];
-
-pub static REG_EXP_LITERAL: [Entry; 2] = [
-    Entry {
-        field: FieldName::Pattern,
-        content: Content::Text(TextRule::Any),
-    },
-    Entry {
-        field: FieldName::Flags,
-        content: Content::Text(TextRule::Any),
-    },
-];
-
-pub static TEMPLATE_LITERAL: [Entry; 2] = [
-    Entry {
-        field: FieldName::Quasis,
-        content: Content::Child(Sort::TemplateElement, Often::List),
-    },
-    Entry {
-        field: FieldName::Expressions,
-        content: Content::Child(Sort::Expression, Often::List),
-    },
-];
-
-pub static TEMPLATE_ELEMENT: [Entry; 2] = [
-    Entry {
-        field: FieldName::Raw,
-        content: Content::Text(TextRule::Any),
-    },
-    Entry {
-        field: FieldName::Cooked,
-        content: Content::OptionalText,
-    },
-];
-
-pub static TAGGED_TEMPLATE_EXPRESSION: [Entry; 2] = [
-    Entry {
-        field: FieldName::Tag,
-        content: Content::Child(Sort::Expression, Often::Required),
-    },
-    Entry {
-        field: FieldName::Quasi,
-        content: Content::Child(Sort::TemplateLiteral, Often::Required),
-    },
-];
-
-pub static ARRAY_EXPRESSION: [Entry; 1] = [Entry {
-    field: FieldName::Elements,
-    content: Content::Child(Sort::Argument, Often::Elements),
-}];
-
-pub static OBJECT_EXPRESSION: [Entry; 1] = [Entry {
-    field: FieldName::Properties,
-    content: Content::Child(Sort::ObjectMember, Often::List),
-}];
-
-pub static OBJECT_PROPERTY: [Entry; 6] = [
-    Entry {
-        field: FieldName::Kind,
-        content: Content::Text(TextRule::PropertyKind),
-    },
-    Entry {
-        field: FieldName::Method,
-        content: Content::Flag,
-    },
-    Entry {
-        field: FieldName::Shorthand,
-        content: Content::Flag,
-    },
-    Entry {
-        field: FieldName::Computed,
-        content: Content::Flag,
-    },
-    Entry {
-        field: FieldName::Key,
-        content: Content::Child(Sort::PropertyKey, Often::Required),
-    },
-    Entry {
-        field: FieldName::Value,
-        content: Content::Child(Sort::Expression, Often::Required),
-    },
-];
-
-pub static UNARY_EXPRESSION: [Entry; 2] = [
-    Entry {
-        field: FieldName::Operator,
-        content: Content::Text(TextRule::UnaryOperator),
-    },
-    Entry {
-        field: FieldName::Argument,
-        content: Content::Child(Sort::Expression, Often::Required),
-    },
-];
-
-pub static UPDATE_EXPRESSION: [Entry; 3] = [
-    Entry {
-        field: FieldName::Operator,
-        content: Content::Text(TextRule::UpdateOperator),
-    },
-    Entry {
-        field: FieldName::Prefix,
-        content: Content::Flag,
-    },
-    Entry {
-        field: FieldName::Argument,
-        content: Content::Child(Sort::Expression, Often::Required),
-    },
-];
-
-pub static BINARY_EXPRESSION: [Entry; 3] = [
-    Entry {
-        field: FieldName::Operator,
-        content: Content::Text(TextRule::BinaryOperator),
-    },
-    Entry {
-        field: FieldName::Left,
-        content: Content::Child(Sort::BinaryLeft, Often::Required),
-    },
-    Entry {
-        field: FieldName::Right,
-        content: Content::Child(Sort::Expression, Often::Required),
-    },
-];
-
-pub static LOGICAL_EXPRESSION: [Entry; 3] = [
-    Entry {
-        field: FieldName::Operator,
-        content: Content::Text(TextRule::LogicalOperator),
-    },
-    Entry {
-        field: FieldName::Left,
-        content: Content::Child(Sort::Expression, Often::Required),
-    },
-    Entry {
-        field: FieldName::Right,
-        content: Content::Child(Sort::Expression, Often::Required),
-    },
-];
-
-pub static CONDITIONAL_EXPRESSION: [Entry; 3] = [
-    Entry {
-        field: FieldName::Test,
-        content: Content::Child(Sort::Expression, Often::Required),
-    },
-    Entry {
-        field: FieldName::Consequent,
-        content: Content::Child(Sort::Expression, Often::Required),
-    },
-    Entry {
-        field: FieldName::Alternate,
-        content: Content::Child(Sort::Expression, Often::Required),
-    },
-];
-
-pub static ASSIGNMENT_EXPRESSION: [Entry; 3] = [
-    Entry {
-        field: FieldName::Operator,
-        content: Content::Text(TextRule::AssignmentOperator),
-    },
-    Entry {
-        field: FieldName::Left,
-        content: Content::Child(Sort::AssignmentTarget, Often::Required),
-    },
-    Entry {
-        field: FieldName::Right,
-        content: Content::Child(Sort::Expression, Often::Required),
-    },
-];
-
-pub static SEQUENCE_EXPRESSION: [Entry; 1] = [Entry {
-    field: FieldName::Expressions,
-    content: Content::Child(Sort::Expression, Often::NonEmptyList),
-}];
-
-pub static MEMBER_EXPRESSION: [Entry; 4] = [
-    Entry {
-        field: FieldName::Object,
-        content: Content::Child(Sort::Expression, Often::Required),
-    },
-    Entry {
-        field: FieldName::Property,
-        content: Content::Child(Sort::MemberProperty, Often::Required),
-    },
-    Entry {
-        field: FieldName::Computed,
-        content: Content::Flag,
-    },
-    Entry {
-        field: FieldName::Optional,
-        content: Content::Flag,
-    },
-];
-
-pub static CALL_EXPRESSION: [Entry; 3] = [
-    Entry {
-        field: FieldName::Callee,
-        content: Content::Child(Sort::Expression, Often::Required),
-    },
-    Entry {
-        field: FieldName::Arguments,
-        content: Content::Child(Sort::Argument, Often::List),
-    },
-    Entry {
-        field: FieldName::Optional,
-        content: Content::Flag,
-    },
-];
-
-pub static NEW_EXPRESSION: [Entry; 2] = [
-    Entry {
-        field: FieldName::Callee,
-        content: Content::Child(Sort::Expression, Often::Required),
-    },
-    Entry {
-        field: FieldName::Arguments,
-        content: Content::Child(Sort::Argument, Often::List),
-    },
-];
-
-pub static CHAIN_EXPRESSION: [Entry; 1] = [Entry {
-    field: FieldName::Expression,
-    content: Content::Child(Sort::ChainElement, Often::Required),
-}];
-
-pub static META_PROPERTY: [Entry; 2] = [
-    Entry {
-        field: FieldName::Meta,
-        content: Content::Text(TextRule::Meta),
-    },
-    Entry {
-        field: FieldName::Property,
-        content: Content::Text(TextRule::Any),
-    },
-];
-
-pub static OBJECT_PATTERN: [Entry; 1] = [Entry {
-    field: FieldName::Properties,
-    content: Content::Child(Sort::PatternMember, Often::ListWithRest),
-}];
-
-pub static PATTERN_PROPERTY: [Entry; 4] = [
-    Entry {
-        field: FieldName::Shorthand,
-        content: Content::Flag,
-    },
-    Entry {
-        field: FieldName::Computed,
-        content: Content::Flag,
-    },
-    Entry {
-        field: FieldName::Key,
-        content: Content::Child(Sort::PropertyKey, Often::Required),
-    },
-    Entry {
-        field: FieldName::Value,
-        content: Content::Child(Sort::Pattern, Often::Required),
-    },
-];
-
-pub static ARRAY_PATTERN: [Entry; 1] = [Entry {
-    field: FieldName::Elements,
-    content: Content::Child(Sort::Pattern, Often::ElementsWithRest),
-}];
-
-pub static ASSIGNMENT_PATTERN: [Entry; 2] = [
-    Entry {
-        field: FieldName::Left,
-        content: Content::Child(Sort::Pattern, Often::Required),
-    },
-    Entry {
-        field: FieldName::Right,
-        content: Content::Child(Sort::Expression, Often::Required),
-    },
-];
-
-pub static REST_ELEMENT: [Entry; 1] = [Entry {
-    field: FieldName::Argument,
-    content: Content::Child(Sort::Pattern, Often::Required),
-}];
-
-pub static OBJECT_TARGET: [Entry; 1] = [Entry {
-    field: FieldName::Properties,
-    content: Content::Child(Sort::TargetMember, Often::ListWithRest),
-}];
-
-pub static TARGET_PROPERTY: [Entry; 4] = [
-    Entry {
-        field: FieldName::Shorthand,
-        content: Content::Flag,
-    },
-    Entry {
-        field: FieldName::Computed,
-        content: Content::Flag,
-    },
-    Entry {
-        field: FieldName::Key,
-        content: Content::Child(Sort::PropertyKey, Often::Required),
-    },
-    Entry {
-        field: FieldName::Value,
-        content: Content::Child(Sort::TargetElement, Often::Required),
-    },
-];
-
-pub static ARRAY_TARGET: [Entry; 1] = [Entry {
-    field: FieldName::Elements,
-    content: Content::Child(Sort::TargetElement, Often::ElementsWithRest),
-}];
-
-pub static TARGET_WITH_DEFAULT: [Entry; 2] = [
-    Entry {
-        field: FieldName::Left,
-        content: Content::Child(Sort::TargetElement, Often::Required),
-    },
-    Entry {
-        field: FieldName::Right,
-        content: Content::Child(Sort::Expression, Often::Required),
-    },
-];
-
-pub static TARGET_REST: [Entry; 1] = [Entry {
-    field: FieldName::Argument,
-    content: Content::Child(Sort::TargetElement, Often::Required),
-}];
-
 impl AstType {
     /// The fields of a node of this kind, in reading order.
     pub fn entries(self) -> &'static [Entry]
@@ -1103,194 +462,6 @@ impl AstType {
         }
     }
 }
-
-/// The kinds of expressions, the frequent ones first.
-pub static EXPRESSION_KINDS: [AstType; 29] = [
-    AstType::Identifier,
-    AstType::MemberExpression,
-    AstType::CallExpression,
-    AstType::StringLiteral,
-    AstType::NumericLiteral,
-    AstType::ThisExpression,
-    AstType::BinaryExpression,
-    AstType::AssignmentExpression,
-    AstType::LogicalExpression,
-    AstType::ConditionalExpression,
-    AstType::UnaryExpression,
-    AstType::ObjectExpression,
-    AstType::ArrayExpression,
-    AstType::FunctionExpression,
-    AstType::ArrowFunctionExpression,
-    AstType::ParenthesizedExpression,
-    AstType::ChainExpression,
-    AstType::TemplateLiteral,
-    AstType::NullLiteral,
-    AstType::BooleanLiteral,
-    AstType::NewExpression,
-    AstType::UpdateExpression,
-    AstType::SequenceExpression,
-    AstType::RegExpLiteral,
-    AstType::BigIntLiteral,
-    AstType::ClassExpression,
-    AstType::TaggedTemplateExpression,
-    AstType::Super,
-    AstType::MetaProperty,
-];
-
-pub static PROGRAM_KINDS: [AstType; 1] = [AstType::Program];
-
-pub static DIRECTIVE_KINDS: [AstType; 1] = [AstType::Directive];
-
-pub static STATEMENT_KINDS: [AstType; 24] = [
-    AstType::ExpressionStatement,
-    AstType::VariableDeclaration,
-    AstType::IfStatement,
-    AstType::ReturnStatement,
-    AstType::BlockStatement,
-    AstType::FunctionDeclaration,
-    AstType::ForStatement,
-    AstType::TryStatement,
-    AstType::ThrowStatement,
-    AstType::ClassDeclaration,
-    AstType::BreakStatement,
-    AstType::SwitchStatement,
-    AstType::ForOfStatement,
-    AstType::WhileStatement,
-    AstType::ForInStatement,
-    AstType::ContinueStatement,
-    AstType::ImportDeclaration,
-    AstType::ExportNamedDeclaration,
-    AstType::ExportDefaultDeclaration,
-    AstType::ExportAllDeclaration,
-    AstType::LabeledStatement,
-    AstType::DoWhileStatement,
-    AstType::EmptyStatement,
-    AstType::DebuggerStatement,
-];
-
-pub static NO_KINDS: [AstType; 0] = [];
-
-pub static VARIABLE_DECLARATOR_KINDS: [AstType; 1] = [AstType::VariableDeclarator];
-
-pub static BINDING_KINDS: [AstType; 3] = [
-    AstType::Identifier,
-    AstType::ObjectPattern,
-    AstType::ArrayPattern,
-];
-
-pub static PATTERN_KINDS: [AstType; 4] = [
-    AstType::Identifier,
-    AstType::ObjectPattern,
-    AstType::ArrayPattern,
-    AstType::AssignmentPattern,
-];
-
-pub static PATTERN_REST_KINDS: [AstType; 5] = [
-    AstType::Identifier,
-    AstType::ObjectPattern,
-    AstType::ArrayPattern,
-    AstType::AssignmentPattern,
-    AstType::RestElement,
-];
-
-pub static PATTERN_MEMBER_KINDS: [AstType; 1] = [AstType::PatternProperty];
-
-pub static PATTERN_MEMBER_REST_KINDS: [AstType; 2] = [
-    AstType::PatternProperty,
-    AstType::RestElement,
-];
-
-pub static ASSIGNMENT_TARGET_KINDS: [AstType; 2] = [AstType::ObjectTarget, AstType::ArrayTarget];
-
-pub static TARGET_ELEMENT_KINDS: [AstType; 3] = [
-    AstType::ObjectTarget,
-    AstType::ArrayTarget,
-    AstType::TargetWithDefault,
-];
-
-pub static TARGET_ELEMENT_REST_KINDS: [AstType; 4] = [
-    AstType::ObjectTarget,
-    AstType::ArrayTarget,
-    AstType::TargetWithDefault,
-    AstType::TargetRest,
-];
-
-pub static TARGET_MEMBER_KINDS: [AstType; 1] = [AstType::TargetProperty];
-
-pub static TARGET_MEMBER_REST_KINDS: [AstType; 2] = [AstType::TargetProperty, AstType::TargetRest];
-
-pub static IDENTIFIER_KINDS: [AstType; 1] = [AstType::Identifier];
-
-pub static FUNCTION_BODY_KINDS: [AstType; 1] = [AstType::FunctionBody];
-
-pub static FUNCTION_EXPRESSION_KINDS: [AstType; 1] = [AstType::FunctionExpression];
-
-pub static CLASS_ELEMENT_KINDS: [AstType; 3] = [
-    AstType::MethodDefinition,
-    AstType::PropertyDefinition,
-    AstType::StaticBlock,
-];
-
-pub static PROPERTY_KEY_KINDS: [AstType; 5] = [
-    AstType::Identifier,
-    AstType::StringLiteral,
-    AstType::NumericLiteral,
-    AstType::BigIntLiteral,
-    AstType::PrivateIdentifier,
-];
-
-pub static MEMBER_PROPERTY_KINDS: [AstType; 2] = [AstType::Identifier, AstType::PrivateIdentifier];
-
-pub static FOR_INIT_KINDS: [AstType; 1] = [AstType::VariableDeclaration];
-
-pub static FOR_LEFT_KINDS: [AstType; 3] = [
-    AstType::VariableDeclaration,
-    AstType::ObjectTarget,
-    AstType::ArrayTarget,
-];
-
-pub static SWITCH_CASE_KINDS: [AstType; 1] = [AstType::SwitchCase];
-
-pub static BLOCK_STATEMENT_KINDS: [AstType; 1] = [AstType::BlockStatement];
-
-pub static CATCH_CLAUSE_KINDS: [AstType; 1] = [AstType::CatchClause];
-
-pub static IMPORT_ITEM_KINDS: [AstType; 3] = [
-    AstType::ImportSpecifier,
-    AstType::ImportDefaultSpecifier,
-    AstType::ImportNamespaceSpecifier,
-];
-
-pub static IMPORT_ATTRIBUTE_KINDS: [AstType; 1] = [AstType::ImportAttribute];
-
-pub static STRING_LITERAL_KINDS: [AstType; 1] = [AstType::StringLiteral];
-
-pub static MODULE_EXPORT_NAME_KINDS: [AstType; 2] = [AstType::Identifier, AstType::StringLiteral];
-
-pub static DECLARATION_KINDS: [AstType; 3] = [
-    AstType::VariableDeclaration,
-    AstType::FunctionDeclaration,
-    AstType::ClassDeclaration,
-];
-
-pub static EXPORT_SPECIFIER_KINDS: [AstType; 1] = [AstType::ExportSpecifier];
-
-pub static EXPORT_DEFAULT_KINDS: [AstType; 2] = [
-    AstType::FunctionDeclaration,
-    AstType::ClassDeclaration,
-];
-
-pub static TEMPLATE_ELEMENT_KINDS: [AstType; 1] = [AstType::TemplateElement];
-
-pub static TEMPLATE_LITERAL_KINDS: [AstType; 1] = [AstType::TemplateLiteral];
-
-pub static ARGUMENT_KINDS: [AstType; 1] = [AstType::SpreadElement];
-
-pub static OBJECT_MEMBER_KINDS: [AstType; 2] = [AstType::ObjectProperty, AstType::SpreadElement];
-
-pub static BINARY_LEFT_KINDS: [AstType; 1] = [AstType::PrivateIdentifier];
-
-pub static CHAIN_ELEMENT_KINDS: [AstType; 2] = [AstType::MemberExpression, AstType::CallExpression];
 
 impl Sort {
     /// The kinds of this sort that stand before the expressions.
