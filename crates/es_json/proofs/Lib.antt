@@ -7,3 +7,4 @@ pub mod Children
 pub mod Parts
 pub mod Errors
 pub mod Sizes
+pub mod OneTree
