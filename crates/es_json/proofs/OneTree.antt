@@ -3,7 +3,7 @@ use Rattle.std.proofs.Common.{◌≡◌, ℕ, suc, ◌+◌, List, [], ◌∷◌,
 use Rattle.serde_json.specs.Data.{Data, null, boolean, number, string, array, object, Items, no_items, item}
 use Rattle.es_tree.specs.Words.{Text}
 use Rattle.es_tree.specs.Table.{rest_sort}
-use Rattle.es_tree.specs.Tree.{Tree, node, Label, Fields, done, ◌then◌, Field, missing, one, many, statements, Trees, empty, ◌before◌, tree_size, field_size}
+use Rattle.es_tree.specs.Tree.{Tree, node, Fields, done, ◌then◌, Field, missing, one, many, statements, Trees, empty, ◌before◌, tree_size, field_size}
 use Rattle.es_tree.specs.Attributes.{text_entries, flag_entries, child_entries}
 use Rattle.es_tree.specs.Order.{IsNumbered, AreFieldsNumbered, IsFieldNumbered, AreTreesNumbered, IsUnmarked, AreFieldsUnmarked, IsFieldUnmarked, AreTreesUnmarked}
 use Rattle.es_tree.specs.declared.ast_type.AstType.{AstType}
@@ -13,7 +13,12 @@ use Rattle.es_tree.specs.declared.table.Sort.{Sort}
 use Rattle.es_tree.specs.declared.table.Often.TheVariants.{Required, Optional, List as a-List, NonEmptyList, ListWithRest, Statements, Elements, ElementsWithRest}
 use Rattle.es_tree.specs.declared.table.Content.{Content}
 use Rattle.es_tree.specs.declared.table.Content.TheVariants.{
-  Text as c-Text, OptionalText as c-OptionalText, Flag as c-Flag, RequiredFlag as c-RequiredFlag, Refused as c-Refused, Child as c-Child
+  Text as c-Text,
+  OptionalText as c-OptionalText,
+  Flag as c-Flag,
+  RequiredFlag as c-RequiredFlag,
+  Refused as c-Refused,
+  Child as c-Child,
 }
 use Rattle.es_json.specs.Values.{field_of, IsOffset, TextIs, FlagIs, TextsAre, FlagsAre, sort_in, list_of, sort_before}
 use Rattle.es_json.specs.Form.{ElementsPlace, elements_of, IsForm, AreElements, IsElement, AreFields, IsChild, AreItems}

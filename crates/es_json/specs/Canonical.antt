@@ -1,12 +1,11 @@
 -- The canonical form of a tree: all fields of the table, and no others. An object's members stand in the
 -- order of their keys, wherever they are put in.
-use Rattle.std.specs.Prelude.{ℕ, List, [], ◌∷◌, Bool, Option, Some, None}
+use Rattle.std.specs.Prelude.{List, [], ◌∷◌, Bool, Option, Some, None}
 use Rattle.serde_json.specs.Data.{Data, null, boolean, number, unsigned, string, array, object, Items, no_items, item, Members, no_members, put}
 use Rattle.es_tree.specs.Words.{Text}
 use Rattle.es_tree.specs.Table.{entries, type_name, field_text}
 use Rattle.es_tree.specs.Tree.{Tree, node, Label, Fields, done, ◌then◌, Field, missing, one, many, statements, Trees, empty, ◌before◌}
 use Rattle.es_tree.specs.declared.ast_type.AstType.{AstType}
-use Rattle.es_tree.specs.declared.table.FieldName.{FieldName}
 use Rattle.es_tree.specs.declared.table.FieldName.TheVariants.{«Type» as f-Type, Start as f-Start, End as f-End}
 use Rattle.es_tree.specs.declared.table.Entry.{Entry}
 use Rattle.es_tree.specs.declared.table.Often.{Often}

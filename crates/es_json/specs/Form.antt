@@ -1,6 +1,6 @@
 -- When a JSON value is a form of a tree. A value may leave out what the table of fields lets it leave out,
 -- and may hold fields that the table doesn't know.
-use Rattle.std.specs.Prelude.{ℕ, ◌≡◌, List, [], ◌∷◌, Bool, true, false, Option, Some, None, MatchOption}
+use Rattle.std.specs.Prelude.{◌≡◌, List, [], ◌∷◌, true, Option, Some, None, MatchOption}
 use Rattle.serde_json.specs.Data.{Data, null, Items, no_items, item}
 use Rattle.es_tree.specs.Table.{rest_sort}
 use Rattle.es_tree.specs.Tree.{Tree, node, Fields, done, ◌then◌, Field, missing, one, many, statements, Trees, empty, ◌before◌}
@@ -9,7 +9,6 @@ use Rattle.es_tree.specs.declared.table.FieldName.{FieldName}
 use Rattle.es_tree.specs.declared.table.FieldName.TheVariants.{Start as f-Start, End as f-End}
 use Rattle.es_tree.specs.declared.table.Entry.{Entry}
 use Rattle.es_tree.specs.declared.table.Sort.{Sort}
-use Rattle.es_tree.specs.declared.table.Often.{Often}
 use Rattle.es_tree.specs.declared.table.Often.TheVariants.{Required, Optional, List as a-List, NonEmptyList, ListWithRest, Statements, Elements, ElementsWithRest}
 use Rattle.es_tree.specs.declared.table.Content.{Content}
 use Rattle.es_tree.specs.declared.table.Content.TheVariants.{Child as c-Child}

@@ -1,6 +1,6 @@
 -- What a field of a JSON value says by itself.
-use Rattle.std.specs.Prelude.{ℕ, suc, ◌&&◌, ◌||◌, ◌==◌, ◌^◌, ◌<◌, ◌≡◌, List, [], ◌∷◌, Bool, true, false, not, Option, Some, None, option_and_then, bytes_eq, codes, if◌then◌else◌}
-use Rattle.serde_json.specs.Data.{Data, null, boolean, number, string, array, object, Items, no_items, item}
+use Rattle.std.specs.Prelude.{ℕ, suc, ◌&&◌, ◌||◌, ◌==◌, ◌^◌, ◌<◌, ◌≡◌, List, [], ◌∷◌, Bool, true, false, Option, Some, None, option_and_then, bytes_eq, codes, if◌then◌else◌}
+use Rattle.serde_json.specs.Data.{Data, null, boolean, string, array, Items, no_items, item}
 use Rattle.serde_json.specs.Find.{get, as_str, as_number, as_u64}
 use Rattle.es_tree.specs.Words.{Text}
 use Rattle.es_tree.specs.Table.{kind_named, field_text, allows_text}
