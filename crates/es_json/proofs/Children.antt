@@ -1,11 +1,11 @@
 -- What stands in a field for children, by how often.
-use Rattle.std.proofs.Common.{◌≡◌, ℕ, List, [], ◌∷◌, length, Option, Some, None, refl, sym, ap, subst, arith}
+use Rattle.std.proofs.Common.{◌≡◌, List, [], ◌∷◌, length, Option, Some, None, refl, sym, subst, arith}
 use Rattle.serde_json.specs.Data.{Data, Items, no_items, item}
 use Rattle.es_tree.specs.Table.{rest_sort}
 use Rattle.es_tree.specs.Tree.{Tree, Trees, empty, ◌before◌, trees, Field, missing, one, many, statements}
 use Rattle.es_tree.specs.declared.table.Sort.{Sort}
 use Rattle.es_tree.specs.declared.table.Often.{Often}
-use Rattle.es_tree.specs.declared.table.Often.TheVariants.{Required, Optional, List as a-List, NonEmptyList, ListWithRest, Statements, Elements, ElementsWithRest}
+use Rattle.es_tree.specs.declared.table.Often.TheVariants.{List as a-List, NonEmptyList, ListWithRest, Statements}
 use Rattle.es_json.specs.Values.{list_of}
 use Rattle.es_json.specs.Form.{AreItems}
 use Rattle.es_json.specs.Parts.{IsChildOf}

@@ -1,5 +1,5 @@
 -- Lists of entries beside what was read for them.
-use Rattle.std.proofs.Common.{◌≡◌, ℕ, zero, suc, ◌+◌, ◌<◌, ◌≤◌, List, [], ◌∷◌, ◌++◌, length, get_or, take, drop, filter, map, Bool, true, false, cond, Option, Some, None, ◌⊎◌, inl, inr, refl, sym, ap, ◌∙◌, subst, arith, append_assoc}
+use Rattle.std.proofs.Common.{◌≡◌, ℕ, suc, ◌+◌, ◌<◌, ◌≤◌, List, [], ◌∷◌, ◌++◌, length, get_or, take, drop, filter, map, Bool, true, Option, Some, None, Vec, Global, ◌⊎◌, inl, inr, refl, sym, ap, ◌∙◌, subst, append_assoc}
 use Rattle.std.proofs.lemmas.List.{take_more, drop_more, take-append-drop, append-nil, map_push, take_all}
 use Rattle.std.proofs.lemmas.List.Elements.{filter-append}
 use Rattle.serde_json.specs.Data.{Data, null, boolean, number, string, array, object}
@@ -8,7 +8,7 @@ use Rattle.es_tree.specs.Words.{Text}
 use Rattle.es_tree.specs.Texts.{plain_text, plain_texts}
 use Rattle.es_tree.specs.Views.{plain_field}
 use Rattle.es_tree.specs.declared.node.Field.{Field as NodeField}
-use Rattle.es_tree.specs.Tree.{Tree, Fields, done, ◌then◌, Field, fields}
+use Rattle.es_tree.specs.Tree.{Fields, done, ◌then◌, Field, fields}
 use Rattle.es_tree.specs.Attributes.{is_text, is_flag, is_refused, is_child, text_fits, texts_fit}
 use Rattle.es_tree.specs.declared.table.FieldName.{FieldName}
 use Rattle.es_tree.specs.declared.table.Entry.{Entry}
@@ -24,7 +24,7 @@ use Rattle.es_tree.specs.declared.table.Content.TheVariants.{
   Refused as c-Refused,
   Child as c-Child,
 }
-use Rattle.es_json.specs.Values.{field_of, TextIs, FlagIs, IsAbsent, NoneStands, TextsAre, FlagsAre}
+use Rattle.es_json.specs.Values.{field_of, TextIs, FlagIs, NoneStands, TextsAre, FlagsAre}
 use Rattle.es_json.specs.Form.{AreFields, IsChild}
 
 abbrev pub entry : FieldName → Content → Entry
@@ -227,11 +227,16 @@ module _ (es : List Entry) (i : ℕ) (d : Entry) (v : Data) (h : i < length es) 
       let r = more es i d v h ts [] bs [] fs (f ∷ []) before here in
       as_read us cs gs (e ∙ sym (append-nil ts)) (p ∙ sym (append-nil bs)) q r
 
-pub texts_pushed : (ts us : List (Option (Bor (List ℕ)))) (t : Option (Bor (List ℕ))) → us ≡ ts ++ t ∷ [] → plain_texts us ≡ plain_texts ts ++ plain_text t ∷ []
-texts_pushed ts us t e = ap plain_texts e ∙ map_push plain_text ts t
+pub texts_pushed : (ts : List (Option (Bor (List ℕ)))) (us ws : Vec (Option (Bor (List ℕ))) Global) (t : Option (Bor (List ℕ))) → ws ≡ us → us.items ≡ ts ++ t ∷ []
+    → plain_texts ws.items ≡ plain_texts ts ++ plain_text t ∷ []
+texts_pushed ts us ws t same e = ap (λ v. plain_texts v.items) same ∙ ap plain_texts e ∙ map_push plain_text ts t
 
-pub fields_pushed : (fs gs : List NodeField) (f : NodeField) → gs ≡ fs ++ f ∷ [] → map plain_field gs ≡ map plain_field fs ++ plain_field f ∷ []
-fields_pushed fs gs f e = ap (map plain_field) e ∙ map_push plain_field fs f
+pub flags_pushed : (bs : List Bool) (cs ds : Vec Bool Global) (b : Bool) → ds ≡ cs → cs.items ≡ bs ++ b ∷ [] → ds.items ≡ bs ++ b ∷ []
+flags_pushed bs cs ds b same e = ap (λ v. v.items) same ∙ e
+
+pub fields_pushed : (fs : List NodeField) (gs hs : Vec NodeField Global) (f : NodeField) → hs ≡ gs → gs.items ≡ fs ++ f ∷ []
+    → map plain_field hs.items ≡ map plain_field fs ++ plain_field f ∷ []
+fields_pushed fs gs hs f same e = ap (λ v. map plain_field v.items) same ∙ ap (map plain_field) e ∙ map_push plain_field fs f
 
 -- ---- what isn't there
 

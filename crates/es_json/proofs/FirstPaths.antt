@@ -12,7 +12,7 @@ use Rattle.es_tree.specs.declared.ast_type.AstType.{AstType}
 use Rattle.es_tree.specs.declared.ast_type.AstType.TheVariants.{Program, LogicalExpression, AssignmentExpression}
 use Rattle.es_tree.specs.declared.table.Sort.{Sort}
 use Rattle.es_json.specs.Form.{IsForm}
-use Rattle.es_json.proofs.OneTree.{same_tree}
+use Rattle.es_json.proofs.SameTrees.{same_tree}
 
 has_two_lists-bare : (fs : Fields) → has_two_lists (bare_fields fs) ≡ has_two_lists fs
 has_two_lists-bare done = refl

@@ -17,5 +17,6 @@ pub mod Sorts
 pub mod Named
 pub mod WrittenReads
 pub mod OneTree
+pub mod SameTrees
 pub mod FormHasForm
 pub mod FirstPaths

@@ -1,5 +1,5 @@
 -- Lists of values.
-use Rattle.std.proofs.Common.{◌≡◌, ℕ, suc, ◌+◌, List, [], ◌∷◌, length, nat_eq, Option, Some, refl, ap, add-one, ◌≤◌, arith}
+use Rattle.std.proofs.Common.{◌≡◌, suc, ◌+◌, List, [], ◌∷◌, length, nat_eq, Option, Some, refl, ap, add-one, ◌≤◌, arith}
 use Rattle.serde_json.specs.Data.{Items}
 use Rattle.serde_json.specs.View.{items_view}
 use Rattle.serde_json.specs.declared.value.Value.{Value}

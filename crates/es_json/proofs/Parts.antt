@@ -1,9 +1,9 @@
 -- What is read of a value of a known kind.
-use Rattle.std.proofs.Common.{◌≡◌, ℕ, zero, suc, ◌<◌, List, [], ◌∷◌, length, get_or, filter, Bool, true, false, not, ◌||◌, Option, Some, None, is_some, MatchOption, refl, sym, ap, ◌∙◌, subst}
+use Rattle.std.proofs.Common.{◌≡◌, ℕ, zero, suc, List, [], ◌∷◌, get_or, filter, Bool, true, false, not, ◌||◌, Option, Some, None, is_some, MatchOption, refl, sym, ap, ◌∙◌, subst}
 use Rattle.serde_json.specs.Data.{Data}
 use Rattle.es_tree.specs.Words.{Text}
 use Rattle.es_tree.specs.Table.{entries}
-use Rattle.es_tree.specs.Tree.{Tree, node, Fields, all_types, type_at, type_number, type_at-number}
+use Rattle.es_tree.specs.Tree.{Tree, node, Fields, all_types, type_number, type_at-number}
 use Rattle.es_tree.specs.Heads.{Head, head}
 use Rattle.es_tree.specs.Attributes.{is_text, is_flag, is_child, text_entries, flag_entries, child_entries, no_marks}
 use Rattle.es_tree.specs.declared.ast_type.AstType.{AstType}

@@ -16,5 +16,4 @@ pub fn law_form_has_form()
 /// A value is a form of at most one tree.
 pub fn law_one_tree()
     ensures { OneTree }
-{
-}
+{}

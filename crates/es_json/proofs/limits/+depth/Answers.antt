@@ -1,4 +1,4 @@
-use Rattle.std.proofs.Common.{◌≡◌, [], ◌∷◌, ◌++◌, sym, ap, ◌∙◌, append_assoc, arith}
+use Rattle.std.proofs.Common.{[], ◌∷◌, ◌++◌, sym, ap, ◌∙◌, append_assoc, arith}
 use Rattle.serde_json.specs.View.{view}
 use Rattle.serde_json.proofs.Views.{Entry}
 use Rattle.serde_json.specs.Data.{depth}
@@ -12,6 +12,8 @@ items_depth-loop-item-preserved t c =
 pub members_depth-loop-key-preserved : goal.members_depth-loop-key-preserved
 members_depth-loop-key-preserved t c =
     let done = c.loop-key.invariant.0 in
-    let e : Entry = (c.in-Some._key.now, c.in-Some.member.now) in
-    (done ++ e ∷ [], c.loop-key.invariant.1 ∙ ap (λ es. done ++ es) c.in-Some.ensures.steps ∙ sym (append_assoc done (e ∷ []) c.next.new.self),
-      omega (arith, member_deeper done e, c.value_depth.ensures, c.max-deepest.ensures, c.loop-key.invariant.2))
+    let e : Entry = (c.in-Some._key.now, c.in-Some.member.now) in (
+      done ++ e ∷ [],
+      c.loop-key.invariant.1 ∙ ap (λ es. done ++ es) c.in-Some.ensures.steps ∙ sym (append_assoc done (e ∷ []) c.next.new.self),
+      omega (arith, member_deeper done e, c.value_depth.ensures, c.max-deepest.ensures, c.loop-key.invariant.2),
+    )

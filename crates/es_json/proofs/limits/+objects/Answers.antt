@@ -1,4 +1,4 @@
-use Rattle.std.proofs.Common.{◌≡◌, [], ◌∷◌, ◌++◌, sym, ap, ◌∙◌, append_assoc, arith}
+use Rattle.std.proofs.Common.{[], ◌∷◌, ◌++◌, sym, ap, ◌∙◌, append_assoc, arith}
 use Rattle.serde_json.specs.View.{view}
 use Rattle.serde_json.proofs.Views.{Entry}
 use Rattle.es_json.specs.Limits.{objects}
@@ -12,6 +12,8 @@ items_objects-loop-item-preserved t c =
 pub members_objects-loop-key-preserved : goal.members_objects-loop-key-preserved
 members_objects-loop-key-preserved t c =
     let done = c.loop-key.invariant.0 in
-    let e : Entry = (c.in-Some._key.now, c.in-Some.member.now) in
-    (done ++ e ∷ [], c.loop-key.invariant.1 ∙ ap (λ es. done ++ es) c.in-Some.ensures.steps ∙ sym (append_assoc done (e ∷ []) c.next.new.self),
-      omega (arith, one_more_member done e, c.value_objects.ensures, c.saturating_add-count.ensures, c.loop-key.invariant.2))
+    let e : Entry = (c.in-Some._key.now, c.in-Some.member.now) in (
+      done ++ e ∷ [],
+      c.loop-key.invariant.1 ∙ ap (λ es. done ++ es) c.in-Some.ensures.steps ∙ sym (append_assoc done (e ∷ []) c.next.new.self),
+      omega (arith, one_more_member done e, c.value_objects.ensures, c.saturating_add-count.ensures, c.loop-key.invariant.2),
+    )

@@ -1,6 +1,5 @@
 use Rattle.std.proofs.Common.{◌≡◌, List, ◌++◌, take}
 use Rattle.serde_json.specs.View.{items_view, members_view}
-use Rattle.serde_json.specs.Data.{items_depth, members_depth}
 use Rattle.serde_json.proofs.Views.{Entry}
 use Rattle.es_json.specs.Limits.{items_objects, members_objects, capped}
 use Rattle.es_json.proofs.limits.+objects.Given as goal

@@ -1,24 +1,17 @@
-use Rattle.std.proofs.Common.{rules, ◌≡◌, ◌+◌, ℕ, Some, None, IfOk, IsErrOf, option_map, map, ◌-◌, ◌*◌, ◌<◌, ◌≤◌, length, ◌/◌, ◌%◌, Bool, true, false, nat_eq, nat_lt, List, [], ◌∷◌, ◌++◌, slice_index_or, slice_set, bit_and, bit_or, Fits, w8, w32, w64, Bor, MutBor}
-use Rattle.serde_json.specs.View.{view, items_view}
-use Rattle.es_tree.specs.Heads.{Head, head_of}
-use Rattle.es_tree.specs.Order.{IsNumbered, IsUnmarked}
+use Rattle.std.proofs.Common.{◌≡◌, map, length, true}
+use Rattle.serde_json.specs.View.{view}
+use Rattle.es_tree.specs.Heads.{head_of}
 use Rattle.es_tree.specs.Table.{entries}
-use Rattle.es_tree.specs.Tree.{Tree}
-use Rattle.es_tree.specs.Tree.{Field as PlainField}
-use Rattle.es_tree.specs.Tree.{Fields, Trees, tree_size, trees}
+use Rattle.es_tree.specs.Tree.{Fields}
 use Rattle.es_tree.specs.Views.{plain_field}
-use Rattle.es_json.specs.Values.{field_of, list_of, IsOffset}
-use Rattle.es_json.specs.Form.{IsForm, IsElement, AreItems, AreElements, elements_of}
-use Rattle.es_json.specs.New.{IsNewField, AreNewFields, AreNewTrees}
-use Rattle.es_json.specs.Parts.{plain_place, plain_fields, IsChildOf, AreParts}
-use Rattle.std.proofs.Common.{arith, sym, ap, subst, refl, filter, ◌∙◌, append_assoc, take}
+use Rattle.es_json.specs.Parts.{plain_place, plain_fields}
+use Rattle.std.proofs.Common.{arith, sym, ap, subst, refl, filter, ◌∙◌, take}
 use Rattle.std.proofs.lemmas.Bool.Decides.{nat_tests}
-use Rattle.std.proofs.lemmas.List.{map_push}
 use Rattle.serde_json.specs.Data.{depth}
 use Rattle.es_tree.specs.Table.{field_text}
 use Rattle.es_json.proofs.Children.{no_list, no_non_empty, no_rest, no_statements, no_empty, a_non_empty}
 use Rattle.es_json.proofs.Depth.{get_depth, listed_depth}
-use Rattle.es_json.proofs.Entries.{AreRead, one_more_text, one_more_flag, one_more_refused, one_more_child, texts_pushed, fields_pushed, no_texts, no_flags, no_fields, texts_fit-given, length-flags, all_texts, all_flags, all_fields}
+use Rattle.es_json.proofs.Entries.{AreRead, one_more_text, one_more_flag, one_more_refused, one_more_child, texts_pushed, flags_pushed, fields_pushed, no_texts, no_flags, no_fields, texts_fit-given, length-flags, all_texts, all_flags, all_fields}
 use Rattle.es_tree.specs.Attributes.{is_text, is_flag, is_child, text_entries, flag_entries, texts_fit}
 use Rattle.es_json.specs.Values.{TextsAre, FlagsAre}
 use Rattle.es_json.specs.Form.{AreFields}
@@ -97,7 +90,7 @@ read_elements-returns-in_err-read_element-clause-shape t c shape =
 pub read_elements-loop-i-preserved : goal.read_elements-loop-i-preserved
 read_elements-loop-i-preserved t c =
     let f = plain_field c.in_ok-read_element.field-0 in
-    let pushed = fields_pushed c.loop-i.fields.items c.push.new.self.items c.in_ok-read_element.field-0 c.in_ok-push.ensures.items in record {
+    let pushed = fields_pushed c.loop-i.fields.items c.push.new.self c.push.new.self c.in_ok-read_element.field-0 refl c.in_ok-push.ensures.items in record {
       form = one_more_element c.args.place.sort c.args.place.last c.in-Some.elements.now c.loop-i.i c.index-elements-i.result c.sort_before-sort.result c.loop-i-test.true c.index-elements-i.is c.sort_before-sort.ensures (map plain_field c.loop-i.fields.items) (map plain_field c.push.new.self.items) f pushed c.in_ok-read_element.ensures.form c.loop-i.invariant.form;
       new = one_more_field c.args.ast.now.next c.loop-i.ast.next c.read_element.new.ast.next (map plain_field c.loop-i.fields.items) (map plain_field c.push.new.self.items) f pushed c.loop-i.invariant.new c.in_ok-read_element.ensures.new;
     }
@@ -139,13 +132,13 @@ read_fields-loop-entry-preserved t c =
     record { texts = c.loop-entry.invariant.texts; flags = c.loop-entry.invariant.flags; children = c.loop-entry.invariant.children } in
     elim c.match-entry.branch [
       | read_fields-in-Text+in_ok-read_text-in-Text+in_ok-push-in-Text w ↦
-          let r = one_more_text es i _ v c.loop-entry-test.true (plain_texts c.loop-entry.texts.items) (plain_texts c.match-entry.texts.items) c.loop-entry.flags.items c.match-entry.flags.items (map plain_field c.loop-entry.fields.items) (map plain_field c.match-entry.fields.items) (plain_text w.in_ok-read_text-in-Text.field-0) (texts_pushed c.loop-entry.texts.items c.match-entry.texts.items w.in_ok-read_text-in-Text.field-0 (ap (λ x. x.items) w.texts-is ∙ w.in_ok-push-in-Text.ensures.items)) (ap (λ x. x.items) w.flags-is) (ap (λ x. map plain_field x.items) w.fields-is) before w.in_ok-read_text-in-Text.ensures.text in record { texts = r.texts; flags = r.flags; children = r.children; new = no_more_fields c.args.ast.now.next c.loop-entry.ast.next c.match-entry.ast.next (map plain_field c.loop-entry.fields.items) (map plain_field c.match-entry.fields.items) (ap (λ x. map plain_field x.items) w.fields-is) (ap (λ x. x.next) w.ast-is) c.loop-entry.invariant.new }
+          let r = one_more_text es i _ v c.loop-entry-test.true (plain_texts c.loop-entry.texts.items) (plain_texts c.match-entry.texts.items) c.loop-entry.flags.items c.match-entry.flags.items (map plain_field c.loop-entry.fields.items) (map plain_field c.match-entry.fields.items) (plain_text w.in_ok-read_text-in-Text.field-0) (texts_pushed c.loop-entry.texts.items w.push.new.self c.match-entry.texts w.in_ok-read_text-in-Text.field-0 w.texts-is w.in_ok-push-in-Text.ensures.items) (ap (λ x. x.items) w.flags-is) (ap (λ x. map plain_field x.items) w.fields-is) before w.in_ok-read_text-in-Text.ensures.text in record { texts = r.texts; flags = r.flags; children = r.children; new = no_more_fields c.args.ast.now.next c.loop-entry.ast.next c.match-entry.ast.next (map plain_field c.loop-entry.fields.items) (map plain_field c.match-entry.fields.items) (ap (λ x. map plain_field x.items) w.fields-is) (ap (λ x. x.next) w.ast-is) c.loop-entry.invariant.new }
       | read_fields-in-Flag+in_ok-read_flag-in-Flag+in_ok-push-in-Flag w ↦
-          let r = one_more_flag es i _ v c.loop-entry-test.true (plain_texts c.loop-entry.texts.items) (plain_texts c.match-entry.texts.items) c.loop-entry.flags.items c.match-entry.flags.items (map plain_field c.loop-entry.fields.items) (map plain_field c.match-entry.fields.items) w.in_ok-read_flag-in-Flag.field-0 (ap (λ x. plain_texts x.items) w.texts-is) (ap (λ x. x.items) w.flags-is ∙ w.in_ok-push-in-Flag.ensures.items) (ap (λ x. map plain_field x.items) w.fields-is) before w.in_ok-read_flag-in-Flag.ensures.flag in record { texts = r.texts; flags = r.flags; children = r.children; new = no_more_fields c.args.ast.now.next c.loop-entry.ast.next c.match-entry.ast.next (map plain_field c.loop-entry.fields.items) (map plain_field c.match-entry.fields.items) (ap (λ x. map plain_field x.items) w.fields-is) (ap (λ x. x.next) w.ast-is) c.loop-entry.invariant.new }
+          let r = one_more_flag es i _ v c.loop-entry-test.true (plain_texts c.loop-entry.texts.items) (plain_texts c.match-entry.texts.items) c.loop-entry.flags.items c.match-entry.flags.items (map plain_field c.loop-entry.fields.items) (map plain_field c.match-entry.fields.items) w.in_ok-read_flag-in-Flag.field-0 (ap (λ x. plain_texts x.items) w.texts-is) (flags_pushed c.loop-entry.flags.items w.push-in-Flag.new.self c.match-entry.flags w.in_ok-read_flag-in-Flag.field-0 w.flags-is w.in_ok-push-in-Flag.ensures.items) (ap (λ x. map plain_field x.items) w.fields-is) before w.in_ok-read_flag-in-Flag.ensures.flag in record { texts = r.texts; flags = r.flags; children = r.children; new = no_more_fields c.args.ast.now.next c.loop-entry.ast.next c.match-entry.ast.next (map plain_field c.loop-entry.fields.items) (map plain_field c.match-entry.fields.items) (ap (λ x. map plain_field x.items) w.fields-is) (ap (λ x. x.next) w.ast-is) c.loop-entry.invariant.new }
       | read_fields-in-Refused w ↦
           let r = one_more_refused es i _ v c.loop-entry-test.true (plain_texts c.loop-entry.texts.items) (plain_texts c.match-entry.texts.items) c.loop-entry.flags.items c.match-entry.flags.items (map plain_field c.loop-entry.fields.items) (map plain_field c.match-entry.fields.items) (ap (λ x. plain_texts x.items) w.texts-is) (ap (λ x. x.items) w.flags-is) (ap (λ x. map plain_field x.items) w.fields-is) before w.in-Refused.is in record { texts = r.texts; flags = r.flags; children = r.children; new = no_more_fields c.args.ast.now.next c.loop-entry.ast.next c.match-entry.ast.next (map plain_field c.loop-entry.fields.items) (map plain_field c.match-entry.fields.items) (ap (λ x. map plain_field x.items) w.fields-is) (ap (λ x. x.next) w.ast-is) c.loop-entry.invariant.new }
       | read_fields-in-Child+in_ok-read_child-in-Child+in_ok-push-in-Child w ↦
-          let pushed = fields_pushed c.loop-entry.fields.items c.match-entry.fields.items w.in_ok-read_child-in-Child.field-0 (ap (λ x. x.items) w.fields-is ∙ w.in_ok-push-in-Child.ensures.items) in
+          let pushed = fields_pushed c.loop-entry.fields.items w.push-in-Child.new.self c.match-entry.fields w.in_ok-read_child-in-Child.field-0 w.fields-is w.in_ok-push-in-Child.ensures.items in
           let r = one_more_child es i _ v c.loop-entry-test.true (plain_texts c.loop-entry.texts.items) (plain_texts c.match-entry.texts.items) c.loop-entry.flags.items c.match-entry.flags.items (map plain_field c.loop-entry.fields.items) (map plain_field c.match-entry.fields.items) w.in-Child.sort w.in-Child.often (plain_field w.in_ok-read_child-in-Child.field-0) (ap (λ x. plain_texts x.items) w.texts-is) (ap (λ x. x.items) w.flags-is) pushed before w.in-Child.is w.in_ok-read_child-in-Child.ensures.form in record { texts = r.texts; flags = r.flags; children = r.children; new = no_more_fields c.args.ast.now.next w.read_child.new.ast.next c.match-entry.ast.next (map plain_field c.match-entry.fields.items) (map plain_field c.match-entry.fields.items) refl (ap (λ x. x.next) w.ast-is) (one_more_field c.args.ast.now.next c.loop-entry.ast.next w.read_child.new.ast.next (map plain_field c.loop-entry.fields.items) (map plain_field c.match-entry.fields.items) (plain_field w.in_ok-read_child-in-Child.field-0) pushed c.loop-entry.invariant.new w.in_ok-read_child-in-Child.ensures.new) }
     ]
 
