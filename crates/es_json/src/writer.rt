@@ -3,7 +3,7 @@ ghost use Rattle.std.specs.Prelude.{◌≡◌, IfOk, OnOk, map, option_map, stri
 ghost use Rattle.std.specs.Vec.Iter.{into_iter_items};
 ghost use Rattle.es_tree.specs.Tree.{kind_of, label_of};
 ghost use Rattle.es_tree.specs.Views.{plain_field};
-ghost use Rattle.es_json.specs.Canonical.{canonical, field_value, node_members, text_value, child_value, children_after};
+ghost use Rattle.es_json.specs.Canonical.{canonical, field_value, common_members, node_members, text_value, child_value, children_after};
 ghost use Rattle.serde_json.specs.View.{view, members_view};
 ghost use Rattle.serde_json.specs.Written.{compact_text};
 
@@ -64,6 +64,20 @@ fn write_field(field: &Field, alloc: Global) -> Result<Value, AllocError>
     }
 }
 
+/// The members that every node has: its kind and its span.
+fn write_common_members(alloc: Global, node: &Node) -> Result<Map<String, Value>, AllocError>
+    ensures { IfOk result (λ members. members_view members.entries ≡ common_members (kind_of node.now) (label_of node.now)) }
+{
+    let mut members = Map::new(alloc);
+    let name = Value::try_from_str(alloc, node.kind.ast_type().name())?;
+    put(&mut members, alloc, FieldName::Type.as_str(), name)?;
+    let start = Value::from(node.span.start);
+    put(&mut members, alloc, FieldName::Start.as_str(), start)?;
+    let end = Value::from(node.span.end);
+    put(&mut members, alloc, FieldName::End.as_str(), end)?;
+    Ok(members)
+}
+
 /// The members of a node, whose children are written already.
 fn write_members(
     alloc: Global,
@@ -72,31 +86,12 @@ fn write_members(
 ) -> Result<Map<String, Value>, AllocError>
     ensures { IfOk result (λ members. members_view members.entries ≡ node_members (kind_of node.now) (label_of node.now) (map view children.items)) }
 {
-    let Node { span, kind, .. } = node;
-    let ast_type = kind.ast_type();
-    let mut members = Map::new(alloc);
-    put(
-        &mut members,
-        alloc,
-        FieldName::Type.as_str(),
-        Value::try_from_str(alloc, ast_type.name())?,
-    )?;
-    put(
-        &mut members,
-        alloc,
-        FieldName::Start.as_str(),
-        Value::from(span.start),
-    )?;
-    put(
-        &mut members,
-        alloc,
-        FieldName::End.as_str(),
-        Value::from(span.end),
-    )?;
+    let kind = &node.kind;
+    let mut members = write_common_members(alloc, node)?;
     let mut children = children.into_iter();
     let mut texts = 0;
     let mut flags = 0;
-    for entry in ast_type.entries() {
+    for entry in kind.ast_type().entries() {
         let value = match entry.content {
             Content::Refused => continue,
             Content::Text(_) | Content::OptionalText => {
@@ -134,11 +129,73 @@ fn next_child(
     }
 }
 
+/// The value of a field for a text, which may be none.
 fn write_text(alloc: Global, text: Option<&str>) -> Result<Value, AllocError>
     ensures { IfOk result (λ value. view value ≡ text_value (option_map (λ s. s.now) text.entry)) }
 {
     match text {
         Some(text) => Value::try_from_str(alloc, text),
         None => Ok(Value::Null),
+    }
+}
+
+#[cfg(test)]
+mod tests {
+    use super::*;
+    use es_tree::ids::{NodeId, Span};
+    use es_tree::kind::Kind;
+    use es_tree::operators::SourceType;
+    use std::test::Fail;
+
+    fn node(id: u32, kind: Kind, fields: Vec<Field>) -> Node {
+        Node {
+            id: NodeId(id),
+            span: Span { start: 0, end: 4 },
+            kind,
+            fields,
+        }
+    }
+
+    // `[a,,]`, whose second element is a hole.
+    #[test]
+    fn writes_a_program(rt: HostRuntime) -> Result<(), Fail> {
+        let alloc = rt.alloc();
+        let name = String::from_str(alloc, "a")?;
+        let name = node(
+            3,
+            Kind::Identifier {
+                name,
+                reference: None,
+                symbol: None,
+            },
+            Vec::new(alloc),
+        );
+        let elements = vec![in alloc; Field::One(name), Field::Missing]?;
+        let array = node(2, Kind::ArrayExpression, elements);
+        let statement = node(
+            1,
+            Kind::ExpressionStatement,
+            vec![in alloc; Field::One(array)]?,
+        );
+        let body = vec![in alloc; statement]?;
+        let fields = vec![in alloc; Field::Many(Vec::new(alloc)), Field::Statements(body)]?;
+        let program = node(
+            0,
+            Kind::Program {
+                source_type: SourceType::Module,
+                scope: None,
+            },
+            fields,
+        );
+        let text = program_text(alloc, &program)?;
+        assert_eq!(rt;
+            text.as_str(),
+            concat!(
+                r#"{"body":[{"end":4,"expression":{"elements":[{"end":4,"name":"a","start":0,"type":"Identifier"},null],"#,
+                r#""end":4,"start":0,"type":"ArrayExpression"},"start":0,"type":"ExpressionStatement"}],"#,
+                r#""directives":[],"end":4,"sourceType":"module","start":0,"type":"Program"}"#
+            )
+        );
+        Ok(())
     }
 }

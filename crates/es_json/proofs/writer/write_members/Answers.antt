@@ -11,8 +11,8 @@ pub loop-entry-preserved : goal.loop-entry-preserved
 loop-entry-preserved c =
     let es = c.entries-entry-items.result.now in
     let l = c.loop-entry in
-    let key = c.as_str-in-loop-entry.ensures in
-    let puts = c.in_ok-put-4.ensures.ok in
+    let key = c.as_str.ensures in
+    let puts = c.in_ok-put.ensures.ok in
     elim c.match-entry.branch [
       | in-Text+in_ok-value-in-Text w ↦
           let value = ap view w.value-is ∙ w.in_ok-value-in-Text.ensures ∙ ap text_value w.text-text.ensures in
