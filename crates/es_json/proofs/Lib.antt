@@ -20,3 +20,5 @@ pub mod OneTree
 pub mod SameTrees
 pub mod FormHasForm
 pub mod FirstPaths
+pub mod Alls
+pub mod Twos
