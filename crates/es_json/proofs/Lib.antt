@@ -22,3 +22,4 @@ pub mod FormHasForm
 pub mod FirstPaths
 pub mod Alls
 pub mod Twos
+pub mod Rows

@@ -1,0 +1,12 @@
+use Rattle.std.proofs.Common.{◌≡◌, true, false}
+use Rattle.serde_json.specs.View.{view}
+use Rattle.es_tree.specs.FirstPath.{is_first_path}
+use Rattle.es_tree.specs.declared.table.Sort.TheVariants.{Program as s-Program}
+use Rattle.es_json.proofs.FirstPaths.{same_first_path}
+use Rattle.es_json.proofs.program.read_program.Goals as goal
+
+pub returns-then-not-is_first_path-clause-not_built :
+    goal.returns-then-not-is_first_path-clause-not_built
+returns-then-not-is_first_path-clause-not_built c = λ e p h.
+    let same : is_first_path c.in-Ok.program ≡ is_first_path p = same_first_path s-Program (view c.args.value.now) p c.in-Ok.program h.form c.in-Ok.ensures.form in
+    cc (same, h.first_path, c.is_first_path.ensures, c.if-not-is_first_path.true)
