@@ -14,8 +14,8 @@ use std::collections::{HashMap, HashSet};
 /// Makes names that no binding or reference of a program has: for a base `b` the first of `_b`, `_b2`,
 /// `_b3` and so on that is not in use.
 ///
-/// A call answers an error only for want of memory. It may then have taken the name, or recorded it as
-/// made, or neither.
+/// A call answers an error only for want of memory. It may then have recorded a name as made, or have
+/// taken it into use, without answering it.
 #[derive(Drop)]
 pub struct UidGenerator {
     alloc: Global,
