@@ -1,3 +1,9 @@
 pub mod Known
 pub mod Outcome
 pub mod Wordlist
+pub mod Bare
+pub mod Declared
+pub mod Items
+pub mod Lifts
+pub mod Rows
+pub mod Tested

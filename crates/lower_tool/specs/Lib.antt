@@ -3,3 +3,5 @@ pub mod Job
 pub mod Answer
 pub mod Memory
 pub mod Run
+pub mod Changes
+pub mod Lowers

@@ -1,44 +1,43 @@
-//! The job: from the bytes of an input to the text that goes out. A temporary body stands here.
+//! The job: from the bytes of an input to the text that goes out.
 ghost use Rattle.std.specs.Prelude.{◌≡◌, IfOk, IsErrOf, string_bytes};
-ghost use Rattle.lower_tool.specs.Job.{HasReading, IsFirstPath, IsLoweredText};
-ghost use Rattle.lower_tool.specs.declared.job.LowerError.TheVariants.{OutOfMemory};
+ghost use Rattle.serde_json.specs.View.{view};
+ghost use Rattle.lower_tool.specs.Job.{HasReading, IsReading, IsFirstPath, IsLoweredText};
 
-use std::alloc::{AllocError, Global};
+use crate::nullish::lower_program;
+use es_json::program::{ReadProgram, read_program};
+use es_json::writer::program_text;
+use es_tree::error::LowerError;
+use serde_json::{Category, Value};
+use std::alloc::Global;
 
-/// Why an input isn't lowered.
-#[derive(Clone, Copy, Debug, PartialEq, Eq)]
-pub enum LowerError {
-    /// The bytes have no reading as JSON.
-    Json,
-    /// The value isn't a program that the first path takes.
-    NotBuilt,
-    /// Memory ran out.
-    OutOfMemory,
-}
-
-impl From<AllocError> for LowerError {
-    ghost from_gives = { λ _ error. error ≡ OutOfMemory };
-
-    fn from(_: AllocError) -> Self {
-        LowerError::OutOfMemory
-    }
-}
-
-#[tactic(auto, unfolding(crate::specs::Job::HasReading, crate::specs::Job::IsFirstPath, crate::specs::Job::IsLoweredText))]
-/// The text that goes out for an input of these bytes, its newline included.
+/// The text that goes out for an input of these bytes, its newline included: the program that they
+/// read as, with each `??` lowered.
+///
+/// Fails with `Json` exactly where the bytes have no reading as JSON, with `NotBuilt` exactly where
+/// they read as no program of the first path, and with `OutOfMemory` where memory runs out.
 pub fn lower_text(alloc: Global, bytes: &[u8]) -> Result<String, LowerError>
     ensures first_path { IfOk result (λ _. IsFirstPath bytes.now) }
     ensures text { IfOk result (λ text. IsLoweredText bytes.now (string_bytes text)) }
     ensures json { IsErrOf result LowerError.Json → ¬ HasReading bytes.now }
     ensures not_built { IsErrOf result LowerError.NotBuilt → HasReading bytes.now × (¬ IsFirstPath bytes.now) }
 {
-    let Ok(text) = str::from_utf8(bytes) else {
-        return Err(LowerError::Json);
-    };
-    if bytes.first().copied() != Some(b'{') {
-        return Err(LowerError::NotBuilt);
+    let value = read_value(alloc, bytes)?;
+    let ReadProgram { program, ast } = read_program(alloc, &value)?;
+    let lowered = lower_program(alloc, program, ast.next)?;
+    let mut text = program_text(alloc, &lowered)?;
+    text.push_str("\n")?;
+    Ok(text)
+}
+
+/// The JSON value that the bytes are.
+fn read_value(alloc: Global, bytes: &[u8]) -> Result<Value, LowerError>
+    ensures reading { IfOk result (λ value. IsReading bytes.now (view value)) }
+    ensures json { IsErrOf result LowerError.Json → ¬ HasReading bytes.now }
+    ensures only { IsErrOf result LowerError.NotBuilt → ⊥ }
+{
+    match Value::from_slice(alloc, bytes) {
+        Ok(value) => Ok(value),
+        Err(error) if error.classify() == Category::Memory => Err(LowerError::OutOfMemory),
+        Err(_error) => Err(LowerError::Json),
     }
-    let mut lowered = String::from_str(alloc, text)?;
-    lowered.push_str("\n")?;
-    Ok(lowered)
 }

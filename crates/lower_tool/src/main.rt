@@ -9,6 +9,7 @@ mod fixed_source;
 mod job;
 mod mem_sink;
 mod mem_source;
+mod nullish;
 mod reading;
 mod run;
 mod std_ends;

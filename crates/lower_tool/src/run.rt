@@ -6,9 +6,10 @@ ghost use Rattle.lower_tool.specs.Run.{AreProper, IsJobAnswer, IsDue, TookAll, T
 
 use crate::answer::{Answer, DONE, OUT_OF_MEMORY, WRITE_FAULT};
 use crate::ends::{Failed, Sink, Source};
-use crate::job::{LowerError, lower_text};
+use crate::job::lower_text;
 use crate::reading::{ReadError, read_input};
 use crate::writing::write_all;
+use es_tree::error::LowerError;
 use std::alloc::{AllocError, Global};
 
 /// Reads the words, then the input, lowers it, and writes the answer: first `output`, then `notes`.
