@@ -7,3 +7,5 @@ pub mod limits;
 mod places;
 pub mod reader;
 mod scalars;
+#[cfg(test)]
+mod tests;
