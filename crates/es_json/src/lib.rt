@@ -9,4 +9,6 @@ mod places;
 pub mod program;
 pub mod reader;
 mod scalars;
+#[cfg(test)]
+mod tests;
 pub mod writer;
