@@ -132,179 +132,178 @@ impl Kind {
     pub fn clone_kind(&self, alloc: Global) -> Result<Kind, AllocError>
         ensures { IfOk result (λ copy. head_of copy ≡ head_of self.now) }
     {
-        let copy = match self {
-            Kind::Program { source_type, scope } => Kind::Program {
+        match self {
+            Kind::Program { source_type, scope } => Ok(Kind::Program {
                 source_type: *source_type,
                 scope: *scope,
-            },
-            Kind::Directive { value } => Kind::Directive {
+            }),
+            Kind::Directive { value } => Ok(Kind::Directive {
                 value: String::from_str(alloc, value)?,
-            },
-            Kind::ExpressionStatement => Kind::ExpressionStatement,
-            Kind::BlockStatement { scope } => Kind::BlockStatement { scope: *scope },
-            Kind::StaticBlock { scope } => Kind::StaticBlock { scope: *scope },
-            Kind::EmptyStatement => Kind::EmptyStatement,
-            Kind::DebuggerStatement => Kind::DebuggerStatement,
-            Kind::VariableDeclaration { kind } => Kind::VariableDeclaration { kind: *kind },
-            Kind::VariableDeclarator => Kind::VariableDeclarator,
-            Kind::FunctionDeclaration { scope } => Kind::FunctionDeclaration { scope: *scope },
-            Kind::FunctionExpression { scope } => Kind::FunctionExpression { scope: *scope },
-            Kind::FunctionBody { scope } => Kind::FunctionBody { scope: *scope },
-            Kind::ArrowFunctionExpression { scope } => Kind::ArrowFunctionExpression {
+            }),
+            Kind::ExpressionStatement => Ok(Kind::ExpressionStatement),
+            Kind::BlockStatement { scope } => Ok(Kind::BlockStatement { scope: *scope }),
+            Kind::StaticBlock { scope } => Ok(Kind::StaticBlock { scope: *scope }),
+            Kind::EmptyStatement => Ok(Kind::EmptyStatement),
+            Kind::DebuggerStatement => Ok(Kind::DebuggerStatement),
+            Kind::VariableDeclaration { kind } => Ok(Kind::VariableDeclaration { kind: *kind }),
+            Kind::VariableDeclarator => Ok(Kind::VariableDeclarator),
+            Kind::FunctionDeclaration { scope } => Ok(Kind::FunctionDeclaration { scope: *scope }),
+            Kind::FunctionExpression { scope } => Ok(Kind::FunctionExpression { scope: *scope }),
+            Kind::FunctionBody { scope } => Ok(Kind::FunctionBody { scope: *scope }),
+            Kind::ArrowFunctionExpression { scope } => Ok(Kind::ArrowFunctionExpression {
                 scope: *scope,
-            },
-            Kind::ClassDeclaration { scope } => Kind::ClassDeclaration { scope: *scope },
-            Kind::ClassExpression { scope } => Kind::ClassExpression { scope: *scope },
+            }),
+            Kind::ClassDeclaration { scope } => Ok(Kind::ClassDeclaration { scope: *scope }),
+            Kind::ClassExpression { scope } => Ok(Kind::ClassExpression { scope: *scope }),
             Kind::MethodDefinition {
                 kind,
                 is_static,
                 computed,
-            } => Kind::MethodDefinition {
+            } => Ok(Kind::MethodDefinition {
                 kind: *kind,
                 is_static: *is_static,
                 computed: *computed,
-            },
+            }),
             Kind::PropertyDefinition {
                 is_static,
                 computed,
-            } => Kind::PropertyDefinition {
+            } => Ok(Kind::PropertyDefinition {
                 is_static: *is_static,
                 computed: *computed,
-            },
-            Kind::ReturnStatement => Kind::ReturnStatement,
-            Kind::ThrowStatement => Kind::ThrowStatement,
-            Kind::IfStatement => Kind::IfStatement,
-            Kind::ForStatement { scope } => Kind::ForStatement { scope: *scope },
-            Kind::ForInStatement { scope } => Kind::ForInStatement { scope: *scope },
-            Kind::ForOfStatement { scope } => Kind::ForOfStatement { scope: *scope },
-            Kind::WhileStatement => Kind::WhileStatement,
-            Kind::DoWhileStatement => Kind::DoWhileStatement,
-            Kind::BreakStatement => Kind::BreakStatement,
-            Kind::ContinueStatement => Kind::ContinueStatement,
-            Kind::LabeledStatement => Kind::LabeledStatement,
-            Kind::SwitchStatement { scope } => Kind::SwitchStatement { scope: *scope },
-            Kind::SwitchCase => Kind::SwitchCase,
-            Kind::TryStatement => Kind::TryStatement,
-            Kind::CatchClause { scope } => Kind::CatchClause { scope: *scope },
-            Kind::ImportDeclaration => Kind::ImportDeclaration,
-            Kind::ImportSpecifier => Kind::ImportSpecifier,
-            Kind::ImportDefaultSpecifier => Kind::ImportDefaultSpecifier,
-            Kind::ImportNamespaceSpecifier => Kind::ImportNamespaceSpecifier,
-            Kind::ImportAttribute { key, value } => Kind::ImportAttribute {
+            }),
+            Kind::ReturnStatement => Ok(Kind::ReturnStatement),
+            Kind::ThrowStatement => Ok(Kind::ThrowStatement),
+            Kind::IfStatement => Ok(Kind::IfStatement),
+            Kind::ForStatement { scope } => Ok(Kind::ForStatement { scope: *scope }),
+            Kind::ForInStatement { scope } => Ok(Kind::ForInStatement { scope: *scope }),
+            Kind::ForOfStatement { scope } => Ok(Kind::ForOfStatement { scope: *scope }),
+            Kind::WhileStatement => Ok(Kind::WhileStatement),
+            Kind::DoWhileStatement => Ok(Kind::DoWhileStatement),
+            Kind::BreakStatement => Ok(Kind::BreakStatement),
+            Kind::ContinueStatement => Ok(Kind::ContinueStatement),
+            Kind::LabeledStatement => Ok(Kind::LabeledStatement),
+            Kind::SwitchStatement { scope } => Ok(Kind::SwitchStatement { scope: *scope }),
+            Kind::SwitchCase => Ok(Kind::SwitchCase),
+            Kind::TryStatement => Ok(Kind::TryStatement),
+            Kind::CatchClause { scope } => Ok(Kind::CatchClause { scope: *scope }),
+            Kind::ImportDeclaration => Ok(Kind::ImportDeclaration),
+            Kind::ImportSpecifier => Ok(Kind::ImportSpecifier),
+            Kind::ImportDefaultSpecifier => Ok(Kind::ImportDefaultSpecifier),
+            Kind::ImportNamespaceSpecifier => Ok(Kind::ImportNamespaceSpecifier),
+            Kind::ImportAttribute { key, value } => Ok(Kind::ImportAttribute {
                 key: String::from_str(alloc, key)?,
                 value: String::from_str(alloc, value)?,
-            },
-            Kind::ExportNamedDeclaration => Kind::ExportNamedDeclaration,
-            Kind::ExportSpecifier => Kind::ExportSpecifier,
-            Kind::ExportDefaultDeclaration => Kind::ExportDefaultDeclaration,
-            Kind::ExportAllDeclaration => Kind::ExportAllDeclaration,
+            }),
+            Kind::ExportNamedDeclaration => Ok(Kind::ExportNamedDeclaration),
+            Kind::ExportSpecifier => Ok(Kind::ExportSpecifier),
+            Kind::ExportDefaultDeclaration => Ok(Kind::ExportDefaultDeclaration),
+            Kind::ExportAllDeclaration => Ok(Kind::ExportAllDeclaration),
             Kind::Identifier {
                 name,
                 reference,
                 symbol,
-            } => Kind::Identifier {
+            } => Ok(Kind::Identifier {
                 name: String::from_str(alloc, name)?,
                 reference: *reference,
                 symbol: *symbol,
-            },
-            Kind::PrivateIdentifier { name } => Kind::PrivateIdentifier {
+            }),
+            Kind::PrivateIdentifier { name } => Ok(Kind::PrivateIdentifier {
                 name: String::from_str(alloc, name)?,
-            },
-            Kind::ThisExpression => Kind::ThisExpression,
-            Kind::Super => Kind::Super,
-            Kind::NullLiteral => Kind::NullLiteral,
-            Kind::BooleanLiteral { value } => Kind::BooleanLiteral { value: *value },
-            Kind::NumericLiteral { raw, key } => Kind::NumericLiteral {
+            }),
+            Kind::ThisExpression => Ok(Kind::ThisExpression),
+            Kind::Super => Ok(Kind::Super),
+            Kind::NullLiteral => Ok(Kind::NullLiteral),
+            Kind::BooleanLiteral { value } => Ok(Kind::BooleanLiteral { value: *value }),
+            Kind::NumericLiteral { raw, key } => Ok(Kind::NumericLiteral {
                 raw: String::from_str(alloc, raw)?,
                 key: String::from_str(alloc, key)?,
-            },
-            Kind::BigIntLiteral { raw, key } => Kind::BigIntLiteral {
+            }),
+            Kind::BigIntLiteral { raw, key } => Ok(Kind::BigIntLiteral {
                 raw: String::from_str(alloc, raw)?,
                 key: String::from_str(alloc, key)?,
-            },
-            Kind::StringLiteral { value } => Kind::StringLiteral {
+            }),
+            Kind::StringLiteral { value } => Ok(Kind::StringLiteral {
                 value: String::from_str(alloc, value)?,
-            },
-            Kind::RegExpLiteral { pattern, flags } => Kind::RegExpLiteral {
+            }),
+            Kind::RegExpLiteral { pattern, flags } => Ok(Kind::RegExpLiteral {
                 pattern: String::from_str(alloc, pattern)?,
                 flags: String::from_str(alloc, flags)?,
-            },
-            Kind::TemplateLiteral => Kind::TemplateLiteral,
-            Kind::TemplateElement { raw, cooked } => Kind::TemplateElement {
+            }),
+            Kind::TemplateLiteral => Ok(Kind::TemplateLiteral),
+            Kind::TemplateElement { raw, cooked } => Ok(Kind::TemplateElement {
                 raw: String::from_str(alloc, raw)?,
                 cooked: copy_of_optional(alloc, cooked.as_deref())?,
-            },
-            Kind::TaggedTemplateExpression => Kind::TaggedTemplateExpression,
-            Kind::ArrayExpression => Kind::ArrayExpression,
-            Kind::SpreadElement => Kind::SpreadElement,
-            Kind::ObjectExpression => Kind::ObjectExpression,
+            }),
+            Kind::TaggedTemplateExpression => Ok(Kind::TaggedTemplateExpression),
+            Kind::ArrayExpression => Ok(Kind::ArrayExpression),
+            Kind::SpreadElement => Ok(Kind::SpreadElement),
+            Kind::ObjectExpression => Ok(Kind::ObjectExpression),
             Kind::ObjectProperty {
                 kind,
                 method,
                 shorthand,
                 computed,
-            } => Kind::ObjectProperty {
+            } => Ok(Kind::ObjectProperty {
                 kind: *kind,
                 method: *method,
                 shorthand: *shorthand,
                 computed: *computed,
-            },
-            Kind::UnaryExpression { operator } => Kind::UnaryExpression {
+            }),
+            Kind::UnaryExpression { operator } => Ok(Kind::UnaryExpression {
                 operator: *operator,
-            },
-            Kind::UpdateExpression { operator, prefix } => Kind::UpdateExpression {
+            }),
+            Kind::UpdateExpression { operator, prefix } => Ok(Kind::UpdateExpression {
                 operator: *operator,
                 prefix: *prefix,
-            },
-            Kind::BinaryExpression { operator } => Kind::BinaryExpression {
+            }),
+            Kind::BinaryExpression { operator } => Ok(Kind::BinaryExpression {
                 operator: *operator,
-            },
-            Kind::LogicalExpression { operator } => Kind::LogicalExpression {
+            }),
+            Kind::LogicalExpression { operator } => Ok(Kind::LogicalExpression {
                 operator: *operator,
-            },
-            Kind::ConditionalExpression => Kind::ConditionalExpression,
-            Kind::AssignmentExpression { operator } => Kind::AssignmentExpression {
+            }),
+            Kind::ConditionalExpression => Ok(Kind::ConditionalExpression),
+            Kind::AssignmentExpression { operator } => Ok(Kind::AssignmentExpression {
                 operator: *operator,
-            },
-            Kind::SequenceExpression => Kind::SequenceExpression,
-            Kind::MemberExpression { computed, optional } => Kind::MemberExpression {
+            }),
+            Kind::SequenceExpression => Ok(Kind::SequenceExpression),
+            Kind::MemberExpression { computed, optional } => Ok(Kind::MemberExpression {
                 computed: *computed,
                 optional: *optional,
-            },
-            Kind::CallExpression { optional } => Kind::CallExpression {
+            }),
+            Kind::CallExpression { optional } => Ok(Kind::CallExpression {
                 optional: *optional,
-            },
-            Kind::NewExpression => Kind::NewExpression,
-            Kind::ChainExpression => Kind::ChainExpression,
-            Kind::ParenthesizedExpression => Kind::ParenthesizedExpression,
-            Kind::MetaProperty { meta, property } => Kind::MetaProperty {
+            }),
+            Kind::NewExpression => Ok(Kind::NewExpression),
+            Kind::ChainExpression => Ok(Kind::ChainExpression),
+            Kind::ParenthesizedExpression => Ok(Kind::ParenthesizedExpression),
+            Kind::MetaProperty { meta, property } => Ok(Kind::MetaProperty {
                 meta: String::from_str(alloc, meta)?,
                 property: String::from_str(alloc, property)?,
-            },
-            Kind::ObjectPattern => Kind::ObjectPattern,
+            }),
+            Kind::ObjectPattern => Ok(Kind::ObjectPattern),
             Kind::PatternProperty {
                 shorthand,
                 computed,
-            } => Kind::PatternProperty {
+            } => Ok(Kind::PatternProperty {
                 shorthand: *shorthand,
                 computed: *computed,
-            },
-            Kind::ArrayPattern => Kind::ArrayPattern,
-            Kind::AssignmentPattern => Kind::AssignmentPattern,
-            Kind::RestElement => Kind::RestElement,
-            Kind::ObjectTarget => Kind::ObjectTarget,
+            }),
+            Kind::ArrayPattern => Ok(Kind::ArrayPattern),
+            Kind::AssignmentPattern => Ok(Kind::AssignmentPattern),
+            Kind::RestElement => Ok(Kind::RestElement),
+            Kind::ObjectTarget => Ok(Kind::ObjectTarget),
             Kind::TargetProperty {
                 shorthand,
                 computed,
-            } => Kind::TargetProperty {
+            } => Ok(Kind::TargetProperty {
                 shorthand: *shorthand,
                 computed: *computed,
-            },
-            Kind::ArrayTarget => Kind::ArrayTarget,
-            Kind::TargetWithDefault => Kind::TargetWithDefault,
-            Kind::TargetRest => Kind::TargetRest,
-        };
-        Ok(copy)
+            }),
+            Kind::ArrayTarget => Ok(Kind::ArrayTarget),
+            Kind::TargetWithDefault => Ok(Kind::TargetWithDefault),
+            Kind::TargetRest => Ok(Kind::TargetRest),
+        }
     }
 }
 
@@ -314,171 +313,170 @@ impl<'a> Given<'a> {
     fn kind(&self, ast_type: AstType) -> Result<Kind, AllocError>
         ensures { IfOk result (λ kind. head_of kind ≡ read_head ast_type (plain_texts self.now.texts.now) self.now.flags.now) }
     {
-        let kind = match ast_type {
-            AstType::Program => Kind::Program {
+        match ast_type {
+            AstType::Program => Ok(Kind::Program {
                 source_type: SourceType::from_text(self.word(0)).unwrap_or(SourceType::Script),
                 scope: None,
-            },
-            AstType::Directive => Kind::Directive {
+            }),
+            AstType::Directive => Ok(Kind::Directive {
                 value: self.text(0)?,
-            },
-            AstType::ExpressionStatement => Kind::ExpressionStatement,
-            AstType::BlockStatement => Kind::BlockStatement { scope: None },
-            AstType::StaticBlock => Kind::StaticBlock { scope: None },
-            AstType::EmptyStatement => Kind::EmptyStatement,
-            AstType::DebuggerStatement => Kind::DebuggerStatement,
-            AstType::VariableDeclaration => Kind::VariableDeclaration {
+            }),
+            AstType::ExpressionStatement => Ok(Kind::ExpressionStatement),
+            AstType::BlockStatement => Ok(Kind::BlockStatement { scope: None }),
+            AstType::StaticBlock => Ok(Kind::StaticBlock { scope: None }),
+            AstType::EmptyStatement => Ok(Kind::EmptyStatement),
+            AstType::DebuggerStatement => Ok(Kind::DebuggerStatement),
+            AstType::VariableDeclaration => Ok(Kind::VariableDeclaration {
                 kind: VariableDeclarationKind::from_text(self.word(0)).unwrap_or(
                     VariableDeclarationKind::Var,
                 ),
-            },
-            AstType::VariableDeclarator => Kind::VariableDeclarator,
-            AstType::FunctionDeclaration => Kind::FunctionDeclaration { scope: None },
-            AstType::FunctionExpression => Kind::FunctionExpression { scope: None },
-            AstType::FunctionBody => Kind::FunctionBody { scope: None },
-            AstType::ArrowFunctionExpression => Kind::ArrowFunctionExpression { scope: None },
-            AstType::ClassDeclaration => Kind::ClassDeclaration { scope: None },
-            AstType::ClassExpression => Kind::ClassExpression { scope: None },
-            AstType::MethodDefinition => Kind::MethodDefinition {
+            }),
+            AstType::VariableDeclarator => Ok(Kind::VariableDeclarator),
+            AstType::FunctionDeclaration => Ok(Kind::FunctionDeclaration { scope: None }),
+            AstType::FunctionExpression => Ok(Kind::FunctionExpression { scope: None }),
+            AstType::FunctionBody => Ok(Kind::FunctionBody { scope: None }),
+            AstType::ArrowFunctionExpression => Ok(Kind::ArrowFunctionExpression { scope: None }),
+            AstType::ClassDeclaration => Ok(Kind::ClassDeclaration { scope: None }),
+            AstType::ClassExpression => Ok(Kind::ClassExpression { scope: None }),
+            AstType::MethodDefinition => Ok(Kind::MethodDefinition {
                 kind: MethodDefinitionKind::from_text(self.word(0)).unwrap_or(
                     MethodDefinitionKind::Method,
                 ),
                 is_static: flag_at(self.flags, 0),
                 computed: flag_at(self.flags, 1),
-            },
-            AstType::PropertyDefinition => Kind::PropertyDefinition {
+            }),
+            AstType::PropertyDefinition => Ok(Kind::PropertyDefinition {
                 is_static: flag_at(self.flags, 0),
                 computed: flag_at(self.flags, 1),
-            },
-            AstType::ReturnStatement => Kind::ReturnStatement,
-            AstType::ThrowStatement => Kind::ThrowStatement,
-            AstType::IfStatement => Kind::IfStatement,
-            AstType::ForStatement => Kind::ForStatement { scope: None },
-            AstType::ForInStatement => Kind::ForInStatement { scope: None },
-            AstType::ForOfStatement => Kind::ForOfStatement { scope: None },
-            AstType::WhileStatement => Kind::WhileStatement,
-            AstType::DoWhileStatement => Kind::DoWhileStatement,
-            AstType::BreakStatement => Kind::BreakStatement,
-            AstType::ContinueStatement => Kind::ContinueStatement,
-            AstType::LabeledStatement => Kind::LabeledStatement,
-            AstType::SwitchStatement => Kind::SwitchStatement { scope: None },
-            AstType::SwitchCase => Kind::SwitchCase,
-            AstType::TryStatement => Kind::TryStatement,
-            AstType::CatchClause => Kind::CatchClause { scope: None },
-            AstType::ImportDeclaration => Kind::ImportDeclaration,
-            AstType::ImportSpecifier => Kind::ImportSpecifier,
-            AstType::ImportDefaultSpecifier => Kind::ImportDefaultSpecifier,
-            AstType::ImportNamespaceSpecifier => Kind::ImportNamespaceSpecifier,
-            AstType::ImportAttribute => Kind::ImportAttribute {
+            }),
+            AstType::ReturnStatement => Ok(Kind::ReturnStatement),
+            AstType::ThrowStatement => Ok(Kind::ThrowStatement),
+            AstType::IfStatement => Ok(Kind::IfStatement),
+            AstType::ForStatement => Ok(Kind::ForStatement { scope: None }),
+            AstType::ForInStatement => Ok(Kind::ForInStatement { scope: None }),
+            AstType::ForOfStatement => Ok(Kind::ForOfStatement { scope: None }),
+            AstType::WhileStatement => Ok(Kind::WhileStatement),
+            AstType::DoWhileStatement => Ok(Kind::DoWhileStatement),
+            AstType::BreakStatement => Ok(Kind::BreakStatement),
+            AstType::ContinueStatement => Ok(Kind::ContinueStatement),
+            AstType::LabeledStatement => Ok(Kind::LabeledStatement),
+            AstType::SwitchStatement => Ok(Kind::SwitchStatement { scope: None }),
+            AstType::SwitchCase => Ok(Kind::SwitchCase),
+            AstType::TryStatement => Ok(Kind::TryStatement),
+            AstType::CatchClause => Ok(Kind::CatchClause { scope: None }),
+            AstType::ImportDeclaration => Ok(Kind::ImportDeclaration),
+            AstType::ImportSpecifier => Ok(Kind::ImportSpecifier),
+            AstType::ImportDefaultSpecifier => Ok(Kind::ImportDefaultSpecifier),
+            AstType::ImportNamespaceSpecifier => Ok(Kind::ImportNamespaceSpecifier),
+            AstType::ImportAttribute => Ok(Kind::ImportAttribute {
                 key: self.text(0)?,
                 value: self.text(1)?,
-            },
-            AstType::ExportNamedDeclaration => Kind::ExportNamedDeclaration,
-            AstType::ExportSpecifier => Kind::ExportSpecifier,
-            AstType::ExportDefaultDeclaration => Kind::ExportDefaultDeclaration,
-            AstType::ExportAllDeclaration => Kind::ExportAllDeclaration,
-            AstType::Identifier => Kind::Identifier {
+            }),
+            AstType::ExportNamedDeclaration => Ok(Kind::ExportNamedDeclaration),
+            AstType::ExportSpecifier => Ok(Kind::ExportSpecifier),
+            AstType::ExportDefaultDeclaration => Ok(Kind::ExportDefaultDeclaration),
+            AstType::ExportAllDeclaration => Ok(Kind::ExportAllDeclaration),
+            AstType::Identifier => Ok(Kind::Identifier {
                 name: self.text(0)?,
                 reference: None,
                 symbol: None,
-            },
-            AstType::PrivateIdentifier => Kind::PrivateIdentifier {
+            }),
+            AstType::PrivateIdentifier => Ok(Kind::PrivateIdentifier {
                 name: self.text(0)?,
-            },
-            AstType::ThisExpression => Kind::ThisExpression,
-            AstType::Super => Kind::Super,
-            AstType::NullLiteral => Kind::NullLiteral,
-            AstType::BooleanLiteral => Kind::BooleanLiteral {
+            }),
+            AstType::ThisExpression => Ok(Kind::ThisExpression),
+            AstType::Super => Ok(Kind::Super),
+            AstType::NullLiteral => Ok(Kind::NullLiteral),
+            AstType::BooleanLiteral => Ok(Kind::BooleanLiteral {
                 value: flag_at(self.flags, 0),
-            },
-            AstType::NumericLiteral => Kind::NumericLiteral {
+            }),
+            AstType::NumericLiteral => Ok(Kind::NumericLiteral {
                 raw: self.text(0)?,
                 key: self.text(1)?,
-            },
-            AstType::BigIntLiteral => Kind::BigIntLiteral {
+            }),
+            AstType::BigIntLiteral => Ok(Kind::BigIntLiteral {
                 raw: self.text(0)?,
                 key: self.text(1)?,
-            },
-            AstType::StringLiteral => Kind::StringLiteral {
+            }),
+            AstType::StringLiteral => Ok(Kind::StringLiteral {
                 value: self.text(0)?,
-            },
-            AstType::RegExpLiteral => Kind::RegExpLiteral {
+            }),
+            AstType::RegExpLiteral => Ok(Kind::RegExpLiteral {
                 pattern: self.text(0)?,
                 flags: self.text(1)?,
-            },
-            AstType::TemplateLiteral => Kind::TemplateLiteral,
-            AstType::TemplateElement => Kind::TemplateElement {
+            }),
+            AstType::TemplateLiteral => Ok(Kind::TemplateLiteral),
+            AstType::TemplateElement => Ok(Kind::TemplateElement {
                 raw: self.text(0)?,
                 cooked: self.optional_text(1)?,
-            },
-            AstType::TaggedTemplateExpression => Kind::TaggedTemplateExpression,
-            AstType::ArrayExpression => Kind::ArrayExpression,
-            AstType::SpreadElement => Kind::SpreadElement,
-            AstType::ObjectExpression => Kind::ObjectExpression,
-            AstType::ObjectProperty => Kind::ObjectProperty {
+            }),
+            AstType::TaggedTemplateExpression => Ok(Kind::TaggedTemplateExpression),
+            AstType::ArrayExpression => Ok(Kind::ArrayExpression),
+            AstType::SpreadElement => Ok(Kind::SpreadElement),
+            AstType::ObjectExpression => Ok(Kind::ObjectExpression),
+            AstType::ObjectProperty => Ok(Kind::ObjectProperty {
                 kind: PropertyKind::from_text(self.word(0)).unwrap_or(PropertyKind::Init),
                 method: flag_at(self.flags, 0),
                 shorthand: flag_at(self.flags, 1),
                 computed: flag_at(self.flags, 2),
-            },
-            AstType::UnaryExpression => Kind::UnaryExpression {
+            }),
+            AstType::UnaryExpression => Ok(Kind::UnaryExpression {
                 operator: UnaryOperator::from_text(self.word(0)).unwrap_or(
                     UnaryOperator::LogicalNot,
                 ),
-            },
-            AstType::UpdateExpression => Kind::UpdateExpression {
+            }),
+            AstType::UpdateExpression => Ok(Kind::UpdateExpression {
                 operator: UpdateOperator::from_text(self.word(0)).unwrap_or(
                     UpdateOperator::Increment,
                 ),
                 prefix: flag_at(self.flags, 0),
-            },
-            AstType::BinaryExpression => Kind::BinaryExpression {
+            }),
+            AstType::BinaryExpression => Ok(Kind::BinaryExpression {
                 operator: BinaryOperator::from_text(self.word(0)).unwrap_or(
                     BinaryOperator::Addition,
                 ),
-            },
-            AstType::LogicalExpression => Kind::LogicalExpression {
+            }),
+            AstType::LogicalExpression => Ok(Kind::LogicalExpression {
                 operator: LogicalOperator::from_text(self.word(0)).unwrap_or(LogicalOperator::Or),
-            },
-            AstType::ConditionalExpression => Kind::ConditionalExpression,
-            AstType::AssignmentExpression => Kind::AssignmentExpression {
+            }),
+            AstType::ConditionalExpression => Ok(Kind::ConditionalExpression),
+            AstType::AssignmentExpression => Ok(Kind::AssignmentExpression {
                 operator: AssignmentOperator::from_text(self.word(0)).unwrap_or(
                     AssignmentOperator::Assign,
                 ),
-            },
-            AstType::SequenceExpression => Kind::SequenceExpression,
-            AstType::MemberExpression => Kind::MemberExpression {
+            }),
+            AstType::SequenceExpression => Ok(Kind::SequenceExpression),
+            AstType::MemberExpression => Ok(Kind::MemberExpression {
                 computed: flag_at(self.flags, 0),
                 optional: flag_at(self.flags, 1),
-            },
-            AstType::CallExpression => Kind::CallExpression {
+            }),
+            AstType::CallExpression => Ok(Kind::CallExpression {
                 optional: flag_at(self.flags, 0),
-            },
-            AstType::NewExpression => Kind::NewExpression,
-            AstType::ChainExpression => Kind::ChainExpression,
-            AstType::ParenthesizedExpression => Kind::ParenthesizedExpression,
-            AstType::MetaProperty => Kind::MetaProperty {
+            }),
+            AstType::NewExpression => Ok(Kind::NewExpression),
+            AstType::ChainExpression => Ok(Kind::ChainExpression),
+            AstType::ParenthesizedExpression => Ok(Kind::ParenthesizedExpression),
+            AstType::MetaProperty => Ok(Kind::MetaProperty {
                 meta: self.text(0)?,
                 property: self.text(1)?,
-            },
-            AstType::ObjectPattern => Kind::ObjectPattern,
-            AstType::PatternProperty => Kind::PatternProperty {
+            }),
+            AstType::ObjectPattern => Ok(Kind::ObjectPattern),
+            AstType::PatternProperty => Ok(Kind::PatternProperty {
                 shorthand: flag_at(self.flags, 0),
                 computed: flag_at(self.flags, 1),
-            },
-            AstType::ArrayPattern => Kind::ArrayPattern,
-            AstType::AssignmentPattern => Kind::AssignmentPattern,
-            AstType::RestElement => Kind::RestElement,
-            AstType::ObjectTarget => Kind::ObjectTarget,
-            AstType::TargetProperty => Kind::TargetProperty {
+            }),
+            AstType::ArrayPattern => Ok(Kind::ArrayPattern),
+            AstType::AssignmentPattern => Ok(Kind::AssignmentPattern),
+            AstType::RestElement => Ok(Kind::RestElement),
+            AstType::ObjectTarget => Ok(Kind::ObjectTarget),
+            AstType::TargetProperty => Ok(Kind::TargetProperty {
                 shorthand: flag_at(self.flags, 0),
                 computed: flag_at(self.flags, 1),
-            },
-            AstType::ArrayTarget => Kind::ArrayTarget,
-            AstType::TargetWithDefault => Kind::TargetWithDefault,
-            AstType::TargetRest => Kind::TargetRest,
-        };
-        Ok(kind)
+            }),
+            AstType::ArrayTarget => Ok(Kind::ArrayTarget),
+            AstType::TargetWithDefault => Ok(Kind::TargetWithDefault),
+            AstType::TargetRest => Ok(Kind::TargetRest),
+        }
     }
 
     /// The text at this place, the empty text where there is none.
@@ -528,5 +526,34 @@ fn copy_of_optional(alloc: Global, text: Option<&str>) -> Result<Option<String>,
             let copy = String::from_str(alloc, text)?;
             Ok(Some(copy))
         }
+    }
+}
+
+#[cfg(test)]
+mod tests {
+    use super::*;
+    use std::test::Fail;
+
+    #[test]
+    fn makes_reads_and_copies(rt: HostRuntime) -> Result<(), Fail> {
+        let made = Kind::new(
+            rt.alloc(),
+            AstType::NumericLiteral,
+            &[Some("0x10"), Some("16")],
+            &[],
+        )?;
+        let copy = made.clone_kind(rt.alloc())?;
+        assert_eq!(rt; copy.text(0), Some("0x10"));
+        assert_eq!(rt; copy.text(1), Some("16"));
+        assert_eq!(rt; copy.text(2), None);
+        let method = Kind::new(
+            rt.alloc(),
+            AstType::ObjectProperty,
+            &[Some("init")],
+            &[true, false, true],
+        )?;
+        assert_eq!(rt; method.text(0), Some("init"));
+        assert!(rt; method.flag(0) && !method.flag(1) && method.flag(2) && !method.flag(3));
+        Ok(())
     }
 }
