@@ -1,0 +1,1 @@
+foo = object.foo ?? "default";
