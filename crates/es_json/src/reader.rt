@@ -52,7 +52,7 @@ fn read_span(value: &Value) -> Result<Span, ReadError>
 /// Fails with `Shape` where the value is the form of no tree there, and with `OutOfMemory` where
 /// memory or ids run out.
 #[cycle(read)]
-fn read_node(value: &Value, sort: Sort, ast: &mut AstBuilder) -> Result<Node, ReadError>
+pub fn read_node(value: &Value, sort: Sort, ast: &mut AstBuilder) -> Result<Node, ReadError>
     ensures form { IfOk result (λ node. IsForm sort (view value.now) node) }
     ensures order { IfOk result (λ node. IsNumbered ast.old.next node) }
     ensures marks { IfOk result (λ node. IsUnmarked node) }
