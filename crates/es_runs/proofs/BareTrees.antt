@@ -1,5 +1,5 @@
 -- Ids and marks mean nothing: a bare tree has the meaning, the declared names and the names of the tree.
-use Rattle.std.proofs.Common.{◌≡◌, ℕ, zero, suc, refl, ap, ◌∙◌, List, [], ◌∷◌, ◌++◌, Option}
+use Rattle.std.proofs.Common.{◌≡◌, ℕ, zero, suc, refl, ap, ◌∙◌, List, [], ◌∷◌, ◌++◌}
 use Rattle.std.specs.Prelude.{Bool, true, false, if◌then◌else◌}
 use Rattle.es_tree.specs.Words.{Text}
 use Rattle.es_tree.specs.Bare.{bare, bare_label, bare_fields, bare_field, bare_trees}
@@ -7,8 +7,8 @@ use Rattle.es_tree.specs.Names.{first_text, names_if, names_in_fields, names_in_
 use Rattle.es_tree.specs.Tree.{Tree, node, Label, Fields, done, ◌then◌, Field, missing, one, many, statements, Trees, empty, ◌before◌}
 use Rattle.es_tree.specs.declared.ast_type.AstType.{AstType}
 use Rattle.es_tree.specs.declared.ast_type.AstType.TheVariants.{VariableDeclaration, ExportNamedDeclaration, Identifier, MemberExpression}
-use Rattle.es_runs.specs.Machine.{Value, Move, Result}
-use Rattle.es_runs.specs.Core.{World, Meaning, Part, meaning, meanings, part, parts, meaning_of, absent, single, several}
+use Rattle.es_runs.specs.Machine.{Value, Move}
+use Rattle.es_runs.specs.Core.{World, meaning, meanings, part, parts, meaning_of, single, several}
 use Rattle.es_runs.specs.Runs.{Declared, declared_of, program_names, declared_in_body, declared_by, declared_in, declared_names, declarator_name, name_in, run, run_with}
 
 mutual

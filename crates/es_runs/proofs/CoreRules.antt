@@ -13,7 +13,7 @@ use Rattle.es_runs.specs.Alike.{set_cells, Agree, Alike, Equal, SameWorld, Need,
 use Rattle.es_runs.specs.Alike.Agree.{agree}
 use Rattle.es_runs.specs.Runs.{Declared, declared_of, scope_of, cells_of, world_of, run_with, outcome, SameRun, is_declared, stands, only, none_hidden}
 use Rattle.es_runs.specs.Runs.Outcome.{called_uncallable}
-use Rattle.es_runs.specs.Rules.{OnePlace, NullishRow, RereadRow, pending, OpenAlike, IsFresh, LawNullish, LawReread, OptionalMemberRow, LawOptionalMember, IsFreshFor, Reaches, LawSteps}
+use Rattle.es_runs.specs.Rules.{OnePlace, NullishRow, RereadRow, pending, OpenAlike, IsFresh, LawNullish, LawReread, OptionalMemberRow, LawOptionalMember, IsFreshFor, Reaches, LawCoreRules}
 use Rattle.es_runs.specs.Rules.Reaches.{reached, by_nullish, by_reread, by_optional_member}
 use Rattle.es_runs.specs.Rules.OptionalMemberRow.{optional_member_row}
 use Rattle.es_runs.proofs.NoStray.{value_uncut}
@@ -181,5 +181,5 @@ steps_alike counts (by_optional_member {ds = ds} {p = p} {q = q} {x = x} fresh o
     let one = open_step x ds (OptionalMemberRow x) (optional_member_base x ds) p q fresh o counts ok this moves callable in
     same_run_trans counts _ _ _ one (steps_alike counts rest (λ y e. still_declared x ds y (ok y e)) this moves (still_callable counts _ _ one callable))
 
-pub law_steps_proof : LawSteps
-law_steps_proof p r es h = steps_alike (is_declared (declared_of p)) h (λ y e. e)
+pub law_core_rules_proof : LawCoreRules
+law_core_rules_proof p r es h = steps_alike (is_declared (declared_of p)) h (λ y e. e)

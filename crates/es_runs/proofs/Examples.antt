@@ -5,7 +5,7 @@ use Rattle.es_tree.specs.Tree.{Tree}
 use Rattle.es_tree.specs.declared.ast_type.AstType.TheVariants.{ExpressionStatement, CallExpression, ChainExpression}
 use Rattle.es_tree.specs.Tree.{node}
 use Rattle.es_tree.specs.Tree.{done, ◌then◌}
-use Rattle.es_tree.specs.Tree.{one, many, statements}
+use Rattle.es_tree.specs.Tree.{one, many}
 use Rattle.es_tree.specs.Tree.{empty, ◌before◌}
 use Rattle.es_runs.specs.Machine.{Move}
 use Rattle.es_runs.specs.Machine.Value.{undefined, null, host, text, number}

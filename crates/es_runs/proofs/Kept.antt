@@ -1,15 +1,15 @@
 -- What a step of the rule of `??` keeps: a core tree stays one, and its names are those before and the one taken.
-use Rattle.std.proofs.Common.{◌≡◌, ℕ, zero, suc, refl, List, [], ◌∷◌, ◌++◌, Option}
-use Rattle.std.specs.Prelude.{Bool, true, false, ◌||◌, ◌&&◌, bytes_eq, if◌then◌else◌}
+use Rattle.std.proofs.Common.{◌≡◌, ℕ, zero, suc, refl, List, [], ◌∷◌, ◌++◌}
+use Rattle.std.specs.Prelude.{Bool, true, false, ◌&&◌, bytes_eq, if◌then◌else◌}
 use Rattle.es_tree.specs.Words.{Text}
 use Rattle.es_tree.specs.Names.{names_if, names_in_fields, names_in_field, names_in_trees, own_name, is_name_place, is_reexport}
 use Rattle.es_tree.specs.Fresh.{is_among}
 use Rattle.es_tree.specs.Walks.{all_nodes, all_in_fields, all_in_field, all_in_trees}
-use Rattle.es_tree.specs.Core.{is_core_node, is_core_kind}
-use Rattle.es_tree.specs.Tree.{Tree, node, Label, Fields, done, ◌then◌, Field, missing, one, many, statements, Trees, empty, ◌before◌}
+use Rattle.es_tree.specs.Core.{is_core_node}
+use Rattle.es_tree.specs.Tree.{Tree, node, Label, Fields, done, ◌then◌, Field, one, Trees}
 use Rattle.es_tree.specs.declared.ast_type.AstType.{AstType}
 use Rattle.es_tree.specs.declared.ast_type.AstType.TheVariants.{VariableDeclaration, LogicalExpression}
-use Rattle.es_runs.specs.Alike.{Need, needs}
+use Rattle.es_runs.specs.Alike.{Need}
 use Rattle.es_runs.specs.Rules.{OnePlace, OneField, InField, OneNode, tested_by}
 use Rattle.es_runs.specs.Rules.OnePlace.{this_place, below}
 use Rattle.es_runs.specs.Rules.OneField.{first_field, later_field}
@@ -17,7 +17,7 @@ use Rattle.es_runs.specs.Rules.InField.{in_one, in_many, in_statements}
 use Rattle.es_runs.specs.Rules.OneNode.{first_node, later_node}
 use Rattle.es_runs.specs.Steps.{NullishRule}
 use Rattle.es_runs.specs.Steps.NullishRule.{nullish_rule}
-use Rattle.es_runs.proofs.Named.{and_left, and_right, or_both, or_first, or_second, among-append, among_first, among_second, core_exports}
+use Rattle.es_runs.proofs.Named.{and_left, and_right, or_both, among-append, among_first, among_second, core_exports}
 
 and_both : (a b : Bool) → a ≡ true → b ≡ true → (a && b) ≡ true
 and_both a b e d = rw (e, d)

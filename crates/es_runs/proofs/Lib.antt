@@ -21,3 +21,5 @@ pub mod BareTrees
 pub mod Written
 pub mod PlainPrograms
 pub mod LoweredRuns
+pub mod NullishRuns
+pub mod Unbound

@@ -1,34 +1,33 @@
 -- A program of the first path and what it was lowered to run alike.
 use Rattle.std.proofs.Common.{◌≡◌, ℕ, zero, suc, refl, sym, ap, subst, ◌∙◌, List, [], ◌∷◌, ◌++◌}
-use Rattle.std.specs.Prelude.{Bool, true, false, not, ◌||◌, bytes_eq, codes, if◌then◌else◌}
+use Rattle.std.specs.Prelude.{Bool, true, false, bytes_eq, codes, if◌then◌else◌}
 use Rattle.es_tree.specs.Words.{Text}
 use Rattle.es_tree.specs.Bare.{bare}
-use Rattle.es_tree.specs.Names.{names_of, names_if}
+use Rattle.es_tree.specs.Names.{names_of}
 use Rattle.es_tree.specs.Fresh.{IsFreshName, candidate, is_among, also}
 use Rattle.es_tree.specs.FirstPath.{is_first_path}
 use Rattle.es_tree.specs.Walks.{all_nodes}
 use Rattle.es_tree.specs.Core.{is_core_node}
-use Rattle.es_tree.specs.Tree.{Tree, node, Label, Fields, done, ◌then◌, Field, one, many, statements, Trees}
+use Rattle.es_tree.specs.Tree.{Tree, node, Label, done, ◌then◌, one, many, statements, Trees}
 use Rattle.es_tree.specs.declared.ast_type.AstType.TheVariants.{Program, LogicalExpression}
 use Rattle.es_runs.specs.Machine.State.{state}
-use Rattle.es_runs.specs.Machine.{Value, Move, Result}
-use Rattle.es_runs.specs.Core.{value, meaning, is_free}
-use Rattle.es_runs.specs.Core.Binding.{changeable}
-use Rattle.es_runs.specs.Alike.{Need, Like, Level, all_of_it, bad_names, set_cells}
-use Rattle.es_runs.specs.Runs.{Declared, declared_of, declared_in_body, scope_of, cells_of, world_of, run, run_with, outcome, SameRun, RunAlike, is_declared, only, none_hidden}
+use Rattle.es_runs.specs.Machine.{Value, Move}
+use Rattle.es_runs.specs.Core.{meaning}
+use Rattle.es_runs.specs.Alike.{Need, Like, all_of_it, bad_names, set_cells}
+use Rattle.es_runs.specs.Runs.{Declared, declared_of, declared_in_body, cells_of, world_of, run, run_with, outcome, SameRun, is_declared, only, none_hidden}
 use Rattle.es_runs.specs.Runs.Outcome.{called_uncallable}
 use Rattle.es_runs.specs.Rules.{OnePlace, pending, IsFreshFor, tested_by}
 use Rattle.es_runs.specs.Rules.NullishRow.{nullish_row}
-use Rattle.es_runs.specs.Steps.{NullishRule, Steps, IsLowered, LawLowered, declare_in}
+use Rattle.es_runs.specs.Steps.{NullishRule, Steps, LawLowered, declare_in}
 use Rattle.es_runs.specs.Steps.NullishRule.{nullish_rule}
 use Rattle.es_runs.specs.Steps.Steps.{stays, goes}
 use Rattle.es_runs.proofs.Temporary.{bytes_eq-self, bytes_eq-equal}
 use Rattle.es_runs.proofs.Steps.{Unnamed}
 use Rattle.es_runs.proofs.CoreRules.{nullish_base, open_step, same_run_trans, still_declared, still_callable, before, after}
 use Rattle.es_runs.proofs.Named.{node_free, or_first, or_second}
-use Rattle.es_runs.proofs.Kept.{Without, step_without, step_core, somewhere}
+use Rattle.es_runs.proofs.Kept.{step_without, step_core, somewhere}
 use Rattle.es_runs.proofs.BareTrees.{names-bare, run-bare, declared_of-bare}
-use Rattle.es_runs.proofs.PlainPrograms.{is_plain, step_plain, PlainParts, plain_parts, first_path-core, first_path-plain}
+use Rattle.es_runs.proofs.PlainPrograms.{is_plain, step_plain, plain_parts, first_path-core, first_path-plain}
 use Rattle.es_runs.proofs.Written.{all_pending, vars, pending_vars, declare_in-runs}
 
 -- a candidate begins with `_`
@@ -46,7 +45,7 @@ flipped x y h = at (bytes_eq y x) refl
     at false e = refl
     at true e = let k : y ≡ x = bytes_eq-equal y x e in let same : bytes_eq x y ≡ true = rw k (bytes_eq-self x) in absurd (cc (same, h))
 
-fresh_of : (in_use : Text → Bool) (x : Text) {n : Need} {a b : Tree} → NullishRule in_use x n a b → (in_use x ≡ false) × (bytes_eq (codes "Math") x ≡ false)
+pub fresh_of : (in_use : Text → Bool) (x : Text) {n : Need} {a b : Tree} → NullishRule in_use x n a b → (in_use x ≡ false) × (bytes_eq (codes "Math") x ≡ false)
 fresh_of in_use x (nullish_rule {l = l} texts fresh) = (fresh.free, not_math in_use _ x fresh)
 
 module _ (in_use : Text → Bool) (x : Text) where

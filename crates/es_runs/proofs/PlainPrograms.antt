@@ -1,5 +1,5 @@
 -- Programs whose bodies declare nothing, as those of the first path are; steps of the rule of `??` keep them so.
-use Rattle.std.proofs.Common.{◌≡◌, ℕ, zero, suc, refl, List, [], ◌++◌, ap, ◌∙◌}
+use Rattle.std.proofs.Common.{◌≡◌, ℕ, refl, []}
 use Rattle.std.specs.Prelude.{Bool, true, false, not, ◌&&◌, bytes_eq, codes}
 use Rattle.es_tree.specs.Words.{Text}
 use Rattle.es_tree.specs.Bare.{bare, bare_label, bare_fields, bare_field, bare_trees}
@@ -24,7 +24,7 @@ use Rattle.es_tree.specs.declared.ast_type.AstType.TheVariants.{
   AssignmentExpression,
 }
 use Rattle.es_runs.specs.Alike.{Need}
-use Rattle.es_runs.specs.Runs.{Declared, declared_of, declared_in_body, declared_by, declared_in}
+use Rattle.es_runs.specs.Runs.{declared_in_body}
 use Rattle.es_runs.specs.Rules.{OnePlace, OneField, InField, OneNode}
 use Rattle.es_runs.specs.Rules.OnePlace.{this_place, below}
 use Rattle.es_runs.specs.Rules.OneField.{first_field, later_field}

@@ -3,18 +3,18 @@ use Rattle.std.proofs.Common.{◌≡◌, refl, sym, ◌∙◌, ap, List, [], ◌
 use Rattle.std.specs.Prelude.{Bool, true, false, ◌||◌, bytes_eq, codes, if◌then◌else◌}
 use Rattle.std.specs.List.{list_any}
 use Rattle.es_tree.specs.Words.{Text}
-use Rattle.es_tree.specs.Tree.{Tree, node, Label, Fields, done, ◌then◌, Field, missing, one, many, statements, Trees, empty, ◌before◌}
+use Rattle.es_tree.specs.Tree.{Tree, node, Label, done, ◌then◌, many, statements, Trees}
 use Rattle.es_tree.specs.declared.ast_type.AstType.TheVariants.{Program}
 use Rattle.es_runs.specs.Machine.{Value, Move, State, Cell, Result}
 use Rattle.es_runs.specs.Machine.Value.{undefined}
 use Rattle.es_runs.specs.Machine.State.{state}
 use Rattle.es_runs.specs.Machine.Cell.{holds}
 use Rattle.es_runs.specs.Machine.Result.{gives}
-use Rattle.es_runs.specs.Core.{World, Binding, Meaning, value, meaning, meanings, declared, in_order}
+use Rattle.es_runs.specs.Core.{World, Binding, value, meaning, meanings, declared}
 use Rattle.es_runs.specs.Core.Binding.{changeable}
-use Rattle.es_runs.specs.Runs.{Declared, declared_of, declared_names, declared_in_body, scope_of, cells_of, world_of, run, run_with}
+use Rattle.es_runs.specs.Runs.{Declared, declared_names, scope_of, cells_of, run_with}
 use Rattle.es_runs.specs.Rules.{pending}
-use Rattle.es_runs.specs.Steps.{declarator_node, declarator_nodes, var_of, declare, declare_in}
+use Rattle.es_runs.specs.Steps.{declarator_nodes, var_of, declare_in}
 
 -- the declarators of these names are pending, the first of them the longest
 abbrev pub all_pending : List Text → List Declared → List Declared
@@ -24,7 +24,7 @@ all_pending (x ∷ xs) ds = all_pending xs (pending x ds)
 abbrev pub vars : List Text → List Declared
 vars xs = declared_names (codes "var") (declarator_nodes xs)
 
-abbrev one_of : List Text → Text → Bool
+abbrev pub one_of : List Text → Text → Bool
 one_of xs y = list_any (λ x. bytes_eq y x) xs
 
 first_or : {A : Type 0} (a b : Bool) (c d : A) → (if b then c else (if a then c else d)) ≡ (if a || b then c else d)
@@ -41,7 +41,7 @@ scope_of-all_pending : (xs : List Text) (ds : List Declared) (y : Text) → scop
 scope_of-all_pending [] ds y = refl
 scope_of-all_pending (x ∷ xs) ds y = scope_of-all_pending xs (pending x ds) y ∙ first_or (bytes_eq y x) (one_of xs y) changeable (scope_of ds y)
 
-scope_of-vars : (xs : List Text) (ds : List Declared) (y : Text) → scope_of (vars xs ++ ds) y ≡ (if one_of xs y then changeable else scope_of ds y)
+pub scope_of-vars : (xs : List Text) (ds : List Declared) (y : Text) → scope_of (vars xs ++ ds) y ≡ (if one_of xs y then changeable else scope_of ds y)
 scope_of-vars [] ds y = refl
 scope_of-vars (x ∷ xs) ds y = ap (λ (b : Binding). if bytes_eq y x then changeable else b) (scope_of-vars xs ds y) ∙ or_later (bytes_eq y x) (one_of xs y) changeable (scope_of ds y)
 

@@ -1,5 +1,5 @@
--- What each kind of core expression means: ECMA-262's evaluation, as a computation that gives a reference.
-use Rattle.std.specs.Prelude.{Bool, true, false, Option, None, Some, List, [], ◌∷◌, bytes_eq, if◌then◌else◌, codes, ◌&&◌, ◌||◌, not}
+-- What each kind of core expression means: the evaluation of ECMA-262, clause 13, as a computation that gives a reference.
+use Rattle.std.specs.Prelude.{Bool, true, false, Option, List, [], ◌∷◌, bytes_eq, if◌then◌else◌, codes, ◌&&◌, ◌||◌, not}
 use Rattle.es_tree.specs.Words.{Text}
 use Rattle.es_tree.specs.Names.{first_text as first}
 use Rattle.es_tree.specs.declared.ast_type.AstType.{AstType}
@@ -25,7 +25,7 @@ pub record World : Type 0 where
   pub scope : Text → Binding
   pub this : Value
 
--- A reference is a name, or an object with a key; anything else is a plain value.
+-- A reference is a name, or an object with a key; anything else is a plain value (ECMA-262, 6.2.5).
 pub data Reference : Type 0 where
   named : Text → Reference
   property : Value → Value → Reference
@@ -41,6 +41,7 @@ pub record Meaning : Type 0 where
   pub reference : M Reference
   pub form : Form
 
+-- a binding that isn't initialised can't be read (ECMA-262, 9.1.1.1.6)
 abbrev pub read_cell : Text → Cell → M Value
 read_cell x unset = stop (throws (unset_error x))
 read_cell x (holds v) = return v
@@ -50,12 +51,13 @@ read_name x free = ask (read x)
 read_name x changeable = cell_of x >>= read_cell x
 read_name x constant = cell_of x >>= read_cell x
 
--- the value that a reference has
+-- the value that a reference has (GetValue, ECMA-262, 6.2.5.5)
 abbrev pub get_value : World → Reference → M Value
 get_value w (named x) = read_name x (w.scope x)
 get_value w (property o k) = ask (get o k)
 get_value w (plain v) = return v
 
+-- nor can it be written, and a constant is never written (ECMA-262, 9.1.1.1.5)
 abbrev pub change_cell : Text → Value → Cell → M Value
 change_cell x v unset = stop (throws (unset_error x))
 change_cell x v (holds old) = set_cell x v
@@ -69,7 +71,7 @@ write_name x v free = ask (write x v) >>= λ _. return v
 write_name x v changeable = cell_of x >>= change_cell x v
 write_name x v constant = cell_of x >>= keep_cell x
 
--- puts a value, and gives it
+-- puts a value, and gives it (PutValue, ECMA-262, 6.2.5.6)
 abbrev pub put_value : World → Reference → Value → M Value
 put_value w (named x) v = write_name x v (w.scope x)
 put_value w (property o k) v = ask (put o k v) >>= λ _. return v
@@ -78,6 +80,7 @@ put_value w (plain u) v = stop unknown
 abbrev pub value : World → Meaning → M Value
 value w e = e.reference >>= get_value w
 
+-- arguments, from left to right (ECMA-262, 13.3.8)
 abbrev pub values : World → List Meaning → M Values
 values w [] = return none
 values w (e ∷ es) = value w e >>= λ v. values w es >>= λ vs. return (v and vs)
@@ -98,7 +101,7 @@ literal v f = record { reference = return (plain v); form = f }
 abbrev pub name : Text → Meaning
 name x = record { reference = return (named x); form = word x }
 
--- MEMBERS
+-- MEMBERS (ECMA-262, 13.3.2 and 13.3.3)
 
 abbrev pub cut_where : {A : Type 0} → Bool → M A → M A
 cut_where true m = stop cut
@@ -139,7 +142,7 @@ member w computed optional object p = record {
   form = member_form w computed optional object.form p.form;
 }
 
--- CALLS
+-- CALLS (ECMA-262, 13.3.6) AND `new` (13.3.5)
 
 abbrev pub receiver : Reference → Value
 receiver (property o k) = o
@@ -197,7 +200,7 @@ call_of w optional callee es = gives_value (call_value w optional callee es)
 abbrev pub new_of : World → Meaning → List Meaning → Meaning
 new_of w callee es = gives_value (value w callee >>= λ f. values w es >>= λ vs. ask (construct f vs))
 
--- CHAINS AND PARENTHESES
+-- CHAINS (ECMA-262, 13.3.9) AND PARENTHESES (13.2.9)
 
 abbrev pub closed_result : Result Reference → Result Reference
 closed_result (gives r s) = gives r s
@@ -210,8 +213,10 @@ chain e = record { reference = λ s. closed_result (e.reference s); form = other
 abbrev pub parenthesized : Meaning → Meaning
 parenthesized e = record { reference = e.reference; form = other }
 
--- OPERATORS
+-- OPERATORS: unary (ECMA-262, 13.5), equality (13.11), other binary ones (13.6 to 13.12), logical (13.13), conditional
+-- (13.14), comma (13.16), assignment (13.15) and update (13.4)
 
+-- `typeof` of a name that isn't bound throws nothing (ECMA-262, 13.5.3)
 abbrev pub typeof_name : Text → Binding → M Value
 typeof_name x free = ask (typeof_read x)
 typeof_name x b = read_name x b >>= λ v. ask (operator (codes "typeof") (v and none))
@@ -220,6 +225,7 @@ abbrev pub typeof_value : World → Reference → M Value
 typeof_value w (named x) = typeof_name x (w.scope x)
 typeof_value w r = get_value w r >>= λ v. ask (operator (codes "typeof") (v and none))
 
+-- `delete` (ECMA-262, 13.5.1)
 abbrev pub delete_value : World → Reference → M Value
 delete_value w (property o k) = ask (delete o k)
 delete_value w r = get_value w r >>= λ v. return (boolean true)
@@ -326,7 +332,7 @@ update_at w op prefix r =
 abbrev pub update : World → Text → Bool → Meaning → Meaning
 update w op prefix target = gives_value (target.reference >>= update_at w op prefix)
 
--- STATEMENTS, which give undefined
+-- STATEMENTS (ECMA-262, 14.2, 14.3 and 14.5), which give undefined
 
 abbrev pub in_order : World → List Meaning → M Value
 in_order w [] = return undefined

@@ -103,17 +103,19 @@ with_cell x v c y = if bytes_eq y x then holds v else c y
 abbrev pub set_cell : Text → Value → M Value
 set_cell x v (state c ms qs) = gives v (state (with_cell x v c) ms qs)
 
+-- undefined and null, and nothing else (ECMA-262, 13.13 and 13.3.9)
 abbrev pub is_nullish : Value → Bool
 is_nullish undefined = true
 is_nullish null = true
 is_nullish _ = false
 
+-- IsCallable (ECMA-262, 7.2.3)
 abbrev pub is_callable : Value → Bool
 is_callable (host n callable truthy all) = callable
 is_callable (bound f r vs) = true
 is_callable _ = false
 
--- undefined, null and `document.all`
+-- undefined, null and `document.all` (ECMA-262, 7.2.14 and B.3.6.2)
 abbrev pub is_loosely_nullish : Value → Bool
 is_loosely_nullish undefined = true
 is_loosely_nullish null = true
@@ -131,7 +133,7 @@ is_null _ = false
 abbrev pub is_zero_text : Text → Bool
 is_zero_text t = if bytes_eq t (codes "0") then true else bytes_eq t (codes "NaN")
 
--- whether a value counts as true in a test
+-- whether a value counts as true in a test (ToBoolean, ECMA-262, 7.1.2)
 abbrev pub is_true : Value → Bool
 is_true undefined = false
 is_true null = false

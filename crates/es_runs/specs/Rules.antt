@@ -1,5 +1,5 @@
 -- What the lowerings write, as nodes of the plain tree.
-use Rattle.std.specs.Prelude.{◌≡◌, ℕ, zero, suc, bytes_eq, ◌&&◌, ◌||◌, not, Bool, true, false, Option, Some, None, List, [], ◌∷◌, codes}
+use Rattle.std.specs.Prelude.{◌≡◌, ℕ, zero, suc, bytes_eq, ◌&&◌, ◌||◌, not, Bool, true, false, Some, List, [], ◌∷◌, codes}
 use Rattle.es_tree.specs.Words.{Text}
 use Rattle.es_tree.specs.declared.ast_type.AstType.{AstType}
 use Rattle.es_tree.specs.Tree.{Tree, Fields, Field, Trees, Label}
@@ -161,5 +161,5 @@ pub data Reaches : List Declared → Tree → List Declared → Tree → Type 0 
   by_optional_member : {ds es : List Declared} {p q r : Tree} {x : Text} → IsFreshFor ds x p → OnePlace (OptionalMemberRow x) all_of_it p q → Reaches (pending x ds) q es r → Reaches ds p es r
 
 -- Whatever steps are taken, source and result run alike, where the result has a cell for each pending declarator.
-abbrev pub LawSteps : Type 0
-LawSteps = (p r : Tree) (es : List Declared) → Reaches (declared_of p) p es r → (this : Value) (moves : List Move) → (outcome (run p this moves) ≡ called_uncallable → ⊥) → SameRun (is_declared (declared_of p)) (run p this moves) (run_with es r this moves)
+abbrev pub LawCoreRules : Type 0
+LawCoreRules = (p r : Tree) (es : List Declared) → Reaches (declared_of p) p es r → (this : Value) (moves : List Move) → (outcome (run p this moves) ≡ called_uncallable → ⊥) → SameRun (is_declared (declared_of p)) (run p this moves) (run_with es r this moves)

@@ -1,5 +1,5 @@
 -- Runs of programs, and when two programs run alike.
-use Rattle.std.specs.Prelude.{◌≡◌, Bool, true, false, List, [], ◌∷◌, ◌++◌, bytes_eq, codes, if◌then◌else◌, not, Option, None, Some}
+use Rattle.std.specs.Prelude.{◌≡◌, Bool, true, false, List, [], ◌∷◌, ◌++◌, bytes_eq, codes, if◌then◌else◌, not, Option, Some}
 use Rattle.es_tree.specs.Words.{Text}
 use Rattle.es_tree.specs.declared.ast_type.AstType.{AstType}
 use Rattle.es_tree.specs.Tree.{Tree, Fields, Trees, Label}
@@ -20,7 +20,7 @@ use Rattle.es_runs.specs.Core.Binding.{free, changeable, constant}
 use Rattle.es_runs.specs.Alike.{Level, Need, all_of_it, Near, touches, bad_names}
 use Rattle.es_runs.specs.Alike.Level.{no_evaluation, value_alone, whole_reference, a_callee, a_target}
 
--- DECLARED NAMES
+-- DECLARED NAMES (ECMA-262, 8.2)
 
 -- A declared name, and the word that declares it.
 pub record Declared : Type 0 where
@@ -73,7 +73,7 @@ abbrev pub cells_of : List Declared → Text → Cell
 cells_of [] x = unset
 cells_of (d ∷ ds) x = if bytes_eq x d.name then first_cell d.kind else cells_of ds x
 
--- RUNS
+-- RUNS (ECMA-262, 16.1.6 and 16.1.7)
 
 abbrev pub world_of : Value → List Declared → World
 world_of this ds = record { scope = scope_of ds; this = this }

@@ -1,16 +1,15 @@
 -- Steps of a lowering, each at one place of a tree, with names that nothing else uses; and what a program
 -- that was lowered by them is.
-use Rattle.std.specs.Prelude.{◌≡◌, Bool, true, false, List, [], ◌∷◌, ◌++◌, Option, Some, None, codes}
+use Rattle.std.specs.Prelude.{◌≡◌, Bool, true, false, List, [], ◌∷◌, Some, codes}
 use Rattle.es_tree.specs.Words.{Text}
 use Rattle.es_tree.specs.Names.{names_of}
 use Rattle.es_tree.specs.Fresh.{node_base, IsFreshName, is_among, also}
 use Rattle.es_tree.specs.Bare.{bare}
 use Rattle.es_tree.specs.FirstPath.{is_first_path}
-use Rattle.es_tree.specs.Tree.{Tree, node, Label, Fields, done, ◌then◌, Field, missing, one, many, statements, Trees, empty, ◌before◌}
-use Rattle.es_tree.specs.declared.ast_type.AstType.{AstType}
+use Rattle.es_tree.specs.Tree.{Tree, node, Label, done, ◌then◌, missing, one, many, statements, Trees, empty, ◌before◌}
 use Rattle.es_tree.specs.declared.ast_type.AstType.TheVariants.{Program, LogicalExpression, VariableDeclaration, VariableDeclarator}
 use Rattle.es_runs.specs.Alike.{Need, all_of_it}
-use Rattle.es_runs.specs.Runs.{made, identifier, RunAlike}
+use Rattle.es_runs.specs.Runs.{made, identifier, RunAlike, declared_of, is_declared}
 use Rattle.es_runs.specs.Rules.{OnePlace, tested_by}
 
 -- A rule: the names in use, the name that it takes, what its place takes of the node there, the node before and after.
@@ -65,3 +64,7 @@ pub record IsLowered (p q : Tree) : Type 0 where
 -- A program of the first path and what it was lowered to run alike.
 abbrev pub LawLowered : Type 0
 LawLowered = (p q : Tree) → is_first_path p ≡ true → IsLowered p q → RunAlike p q
+
+-- The names of the source stay unbound.
+abbrev pub LawUnbound : Type 0
+LawUnbound = (p q : Tree) → is_first_path p ≡ true → IsLowered p q → (x : Text) → is_among (names_of p) x ≡ true → is_declared (declared_of q) x ≡ false

@@ -1,9 +1,10 @@
-// The runs of core programs.
+//! The runs of core programs: what a program of the core grammar asks its host, in which order, and how it ends. The
+//! functions do nothing: their contracts are laws over the definitions.
 #![tactic(auto)]
 
 ghost use Rattle.es_runs.specs.Runs.{LawPlace, LawFresh};
-ghost use Rattle.es_runs.specs.Steps.{LawLowered};
-ghost use Rattle.es_runs.specs.Rules.{LawNullish, LawReread, LawOptionalMember, LawSteps};
+ghost use Rattle.es_runs.specs.Steps.{LawLowered, LawUnbound};
+ghost use Rattle.es_runs.specs.Rules.{LawNullish, LawReread, LawOptionalMember, LawCoreRules};
 
 /// Replacing an expression by one that evaluates alike, at what its place takes of it, keeps the runs.
 pub fn law_place()
@@ -30,12 +31,18 @@ pub fn law_optional_member()
     ensures { LawOptionalMember }
 {}
 
-/// Whatever steps are taken, source and result run alike.
-pub fn law_steps()
-    ensures { LawSteps }
+/// Whatever steps are taken of the rules of `??`, with a temporary or with a name or `this` read again, and of optional
+/// members, at whatever places: source and result run alike.
+pub fn law_core_rules()
+    ensures { LawCoreRules }
 {}
 
 /// A program of the first path and what it was lowered to run alike.
 pub fn law_lowered()
     ensures { LawLowered }
+{}
+
+/// No name of a program of the first path is declared by what it was lowered to.
+pub fn law_unbound()
+    ensures { LawUnbound }
 {}
