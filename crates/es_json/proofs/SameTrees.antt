@@ -13,7 +13,12 @@ use Rattle.es_tree.specs.declared.table.Sort.{Sort}
 use Rattle.es_tree.specs.declared.table.Often.TheVariants.{Required, Optional, List as a-List, NonEmptyList, ListWithRest, Statements, Elements, ElementsWithRest}
 use Rattle.es_tree.specs.declared.table.Content.{Content}
 use Rattle.es_tree.specs.declared.table.Content.TheVariants.{
-  Text as c-Text, OptionalText as c-OptionalText, Flag as c-Flag, RequiredFlag as c-RequiredFlag, Refused as c-Refused, Child as c-Child
+  Text as c-Text,
+  OptionalText as c-OptionalText,
+  Flag as c-Flag,
+  RequiredFlag as c-RequiredFlag,
+  Refused as c-Refused,
+  Child as c-Child,
 }
 use Rattle.es_tree.specs.Table.{rest_sort}
 use Rattle.es_json.specs.Values.{field_of, kind_here, whole, IsOffset, NoneStands, TextIs, TextsAre, FlagIs, FlagsAre, sort_in, list_of, sort_before, value_agrees}
@@ -127,7 +132,7 @@ mutual
       let P : AstType → Type 0 = λ j. FormOf v j n gs in
       let second : FormOf v k n gs = subst P kinds other in
       let children : bare_fields fs ≡ bare_fields gs =
-        chosen (elements_of (child_entries k)) (λ a b. same_fields v (child_entries k) fs gs a b) (λ p a b. same_elements p.sort p.last (list_of (field_of p.field v)) fs gs a b) first.5 second.5 in
+      chosen (elements_of (child_entries k)) (λ a b. same_fields v (child_entries k) fs gs a b) (λ p a b. same_elements p.sort p.last (list_of (field_of p.field v)) fs gs a b) first.5 second.5 in
       λ i. node (sym kinds i) (label_same v k l n fs gs first second i) (children i)
 
   same_elements : (s last : Sort) (o : Option Items) (fs gs : Fields) → AreElements s last o fs → AreElements s last o gs → bare_fields fs ≡ bare_fields gs

@@ -79,8 +79,10 @@ fn is_first_path_node(node: &Node) -> bool
         Kind::NumericLiteral { .. } => true,
         Kind::StringLiteral { .. } => true,
         Kind::MemberExpression { computed, optional } => !*computed && !*optional,
-        Kind::LogicalExpression { operator } => is_coalesce(*operator) && has_two_children(&node.fields),
-        Kind::AssignmentExpression { operator } => is_assign(*operator) && assigns_simply(&node.fields),
+        Kind::LogicalExpression { operator } => is_coalesce(*operator)
+            && has_two_children(&node.fields),
+        Kind::AssignmentExpression { operator } => is_assign(*operator)
+            && assigns_simply(&node.fields),
         _ => false,
     }
 }
@@ -128,5 +130,8 @@ fn assigns_simply(fields: &[Field]) -> bool
 fn is_simple_target(node: &Node) -> bool
     ensures { result ≡ is_simple_target (kind_of node.now) }
 {
-    matches!(node.kind, Kind::Identifier { .. } | Kind::MemberExpression { .. })
+    matches!(
+        node.kind,
+        Kind::Identifier { .. } | Kind::MemberExpression { .. }
+    )
 }

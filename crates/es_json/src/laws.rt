@@ -4,14 +4,12 @@ ghost use Rattle.es_json.specs.Laws.{WrittenReads, FormHasForm, OneTree};
 /// What is written of a tree with form is a form of that tree: read, it gives the tree.
 pub fn law_written_reads()
     ensures { WrittenReads }
-{
-}
+{}
 
 /// A tree that a value is a form of, as each tree that is read, has form.
 pub fn law_form_has_form()
     ensures { FormHasForm }
-{
-}
+{}
 
 /// A value is a form of at most one tree.
 pub fn law_one_tree()

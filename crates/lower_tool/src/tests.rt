@@ -1,3 +1,7 @@
+ghost use Rattle.std.specs.Prelude.{◌<◌};
+
+mod cases;
+
 use crate::ends::Source;
 use crate::fixed_source::FixedSource;
 use crate::mem_sink::MemSink;
@@ -65,7 +69,7 @@ fn a_failing_output_keeps_the_front_of_its_text(rt: HostRuntime) -> Result<(), F
         run_tool(alloc, &words, &mut input, &mut output, &mut notes),
         4
     );
-    assert_eq!(rt; output.bytes(), &whole.bytes()[..10]);
+    assert_eq!(rt; output.bytes(), b"{\"body\":[{");
     assert!(rt; notes.bytes().is_empty());
     Ok(())
 }
@@ -146,5 +150,65 @@ fn a_writer_that_takes_nothing_is_a_write_fault(rt: HostRuntime) -> Result<(), F
     );
     assert!(rt; output.bytes().is_empty());
     assert_eq!(rt; text, *b"lower");
+    Ok(())
+}
+
+// The text of this source, given in pieces of at most so many bytes, becomes the written text and a newline.
+fn assert_lowered(
+    rt: &(impl Abort + AllocGlobal),
+    source: &str,
+    written: &str,
+    piece: usize,
+) -> Result<(), AllocError>
+    requires { 0 < piece }
+{
+    let alloc = rt.alloc();
+    let mut expected = written.as_bytes().to_vec(alloc)?;
+    expected.push(b'\n')?;
+    let mut input = MemSource::new(source.as_bytes().to_vec(alloc)?, piece, Vec::new(alloc));
+    assert_run(rt, &["--nullish"], &mut input, 0, &expected, b"")
+}
+
+#[test]
+fn sources_become_what_stands_beside_them(rt: HostRuntime) -> Result<(), Fail> {
+    for (source, written) in [
+        cases::TWO_NAMES_OF_ONE_BASE,
+        cases::NESTED_LEFT,
+        cases::TAKEN_NAME,
+        cases::PROPERTY_NAME_IS_FREE,
+        cases::LONG_BASE,
+        cases::BASE_OF_DIGITS_AND_UNDERSCORES,
+        cases::NAME_OUTSIDE_ASCII,
+        cases::NUMBER_RAW_AND_KEY,
+        cases::THIS_AND_LITERALS,
+        cases::EMPTY_SCRIPT,
+    ] {
+        assert_lowered(&rt, source, written, 65_536)?;
+    }
+    Ok(())
+}
+
+#[test]
+fn pieces_make_no_difference(rt: HostRuntime) -> Result<(), Fail> {
+    let (source, written) = cases::TAKEN_NAME;
+    assert_lowered(&rt, source, written, 1)?;
+    assert_lowered(&rt, source, written, 64)?;
+    Ok(())
+}
+
+#[test]
+fn later_kinds_are_not_built(rt: HostRuntime) -> Result<(), Fail> {
+    // `a + b;`
+    let sum =
+        r#"{"type":"Program","sourceType":"script","body":[{"type":"ExpressionStatement","expression":{"type":"BinaryExpression","operator":"+","left":{"type":"Identifier","name":"a"},"right":{"type":"Identifier","name":"b"}}}]}"#;
+    let mut input = FixedSource::new(sum.as_bytes().to_vec(rt.alloc())?);
+    assert_run(
+        &rt,
+        &["--nullish"],
+        &mut input,
+        1,
+        b"",
+        b"lower: not built\n",
+    )?;
     Ok(())
 }
