@@ -69,7 +69,7 @@ fn a_failing_output_keeps_the_front_of_its_text(rt: HostRuntime) -> Result<(), F
         run_tool(alloc, &words, &mut input, &mut output, &mut notes),
         4
     );
-    assert_eq!(rt; output.bytes(), b"{\"body\":[{");
+    assert_eq!(rt; output.bytes(), b"{\"body\":[{".as_slice());
     assert!(rt; notes.bytes().is_empty());
     Ok(())
 }
