@@ -1,5 +1,5 @@
 -- The shape of each kind of node.
-use Rattle.std.specs.Prelude.{List, [], ◌∷◌, ◌≡◌}
+use Rattle.std.specs.Prelude.{[], ◌∷◌, ◌≡◌}
 use Rattle.es_tree.specs.Tree.{Tree, kind_of}
 use Rattle.es_tree.specs.declared.ast_type.AstType.TheVariants.{
   ArrayExpression,
@@ -10,7 +10,7 @@ use Rattle.es_tree.specs.declared.ast_type.AstType.TheVariants.{
   ArrowFunctionExpression,
   ClassExpression,
 }
-use Rattle.es_tree.specs.Shapes.{Opens, required, optional, list, statement_list}
+use Rattle.es_tree.specs.Shapes.{Opens, required, optional, list}
 
 abbrev pub IsArrayExpression : Tree → Type 0
 IsArrayExpression t = kind_of t ≡ ArrayExpression

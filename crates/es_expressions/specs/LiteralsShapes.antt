@@ -1,6 +1,6 @@
 -- The shape of each kind of node.
-use Rattle.std.specs.Prelude.{List, [], ◌∷◌, ◌≡◌}
-use Rattle.es_tree.specs.Tree.{Tree, kind_of}
+use Rattle.std.specs.Prelude.{[], ◌∷◌}
+use Rattle.es_tree.specs.Tree.{Tree}
 use Rattle.es_tree.specs.declared.ast_type.AstType.TheVariants.{
   Identifier,
   PrivateIdentifier,
@@ -15,7 +15,7 @@ use Rattle.es_tree.specs.declared.ast_type.AstType.TheVariants.{
   TemplateLiteral,
   TemplateElement,
 }
-use Rattle.es_tree.specs.Shapes.{Opens, required, optional, list, statement_list}
+use Rattle.es_tree.specs.Shapes.{Opens, list}
 
 abbrev pub IsIdentifier : Tree → Type 0
 IsIdentifier = Opens Identifier ([])

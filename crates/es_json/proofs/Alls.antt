@@ -1,5 +1,5 @@
 -- Tests of every item of a list, made one after the other.
-use Rattle.std.proofs.Common.{◌≡◌, ℕ, zero, suc, ◌+◌, ◌<◌, List, [], ◌∷◌, length, get_or, take, refl, ap, sym, ◌∙◌, arith, add-one, Bool, true, false, ◌&&◌, true≢false}
+use Rattle.std.proofs.Common.{◌≡◌, ℕ, zero, suc, ◌+◌, ◌<◌, List, [], ◌∷◌, length, get_or, take, refl, ap, sym, ◌∙◌, arith, add-one, Bool, true, false, ◌&&◌}
 use Rattle.es_json.proofs.Rows.{and_left, and_right}
 
 both_true : (a b : Bool) → a ≡ true → b ≡ true → (a && b) ≡ true

@@ -1,11 +1,10 @@
 -- Whether a tree is a program of the first path doesn't depend on ids and marks, so all trees that a value is a form
 -- of agree on it.
 use Rattle.std.proofs.Common.{◌≡◌, refl, sym, ap, ◌∙◌}
-use Rattle.std.specs.Prelude.{Bool, true, false, ◌&&◌, bytes_eq, codes}
+use Rattle.std.specs.Prelude.{◌&&◌}
 use Rattle.serde_json.specs.Data.{Data}
 use Rattle.es_tree.specs.Bare.{bare, bare_label, bare_fields, bare_field, bare_trees}
 use Rattle.es_tree.specs.FirstPath.{is_first_path, is_first_path_node, is_program, has_two_lists, has_two_children, assigns_simply}
-use Rattle.es_tree.specs.Names.{first_text}
 use Rattle.es_tree.specs.Walks.{all_nodes, all_in_fields, all_in_field, all_in_trees}
 use Rattle.es_tree.specs.Tree.{Tree, node, Label, Fields, done, ◌then◌, Field, missing, one, many, statements, Trees, empty, ◌before◌}
 use Rattle.es_tree.specs.declared.ast_type.AstType.{AstType}

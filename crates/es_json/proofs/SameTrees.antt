@@ -1,6 +1,6 @@
 -- All trees that a value is a form of are the same but for ids and marks.
-use Rattle.std.proofs.Common.{◌≡◌, ℕ, refl, sym, ap, subst, ◌∙◌, List, [], ◌∷◌, Option, Some, None}
-use Rattle.std.specs.Prelude.{Bool, true, false, MatchOption}
+use Rattle.std.proofs.Common.{◌≡◌, ℕ, refl, sym, ap, subst, List, [], ◌∷◌, Option, Some, None}
+use Rattle.std.specs.Prelude.{Bool, true, MatchOption}
 use Rattle.serde_json.specs.Data.{Data, null, boolean, number, string, array, object, Items, no_items, item}
 use Rattle.es_tree.specs.Words.{Text}
 use Rattle.es_tree.specs.Bare.{bare, bare_label, bare_fields, bare_field, bare_trees}
@@ -21,7 +21,7 @@ use Rattle.es_tree.specs.declared.table.Content.TheVariants.{
   Child as c-Child,
 }
 use Rattle.es_tree.specs.Table.{rest_sort}
-use Rattle.es_json.specs.Values.{field_of, kind_here, whole, IsOffset, NoneStands, TextIs, TextsAre, FlagIs, FlagsAre, sort_in, list_of, sort_before, value_agrees}
+use Rattle.es_json.specs.Values.{field_of, kind_here, IsOffset, NoneStands, TextIs, TextsAre, FlagIs, FlagsAre, sort_in, list_of, sort_before, value_agrees}
 use Rattle.es_json.specs.Form.{ElementsPlace, elements_of, IsForm, AreElements, IsElement, AreFields, IsChild, AreItems}
 
 offset_same : (o : Option Data) (a b : ℕ) → IsOffset o a → IsOffset o b → a ≡ b

@@ -2,7 +2,7 @@
 use Rattle.std.proofs.Common.{◌≡◌, ℕ, suc, List, [], ◌∷◌, length, refl, ap, sym, ◌∙◌, Bool, true, false}
 use Rattle.std.proofs.lemmas.Bool.{false≢true}
 use Rattle.es_tree.specs.FirstPath.{has_two_children, has_two_lists}
-use Rattle.es_tree.specs.Tree.{Fields, done, ◌then◌, missing, one, many, statements}
+use Rattle.es_tree.specs.Tree.{Fields, done, ◌then◌, one, many, statements}
 use Rattle.es_tree.specs.declared.node.Field.{Field as NodeField}
 use Rattle.es_json.specs.Parts.{plain_fields}
 

@@ -1,6 +1,6 @@
 -- The shape of each kind of node.
-use Rattle.std.specs.Prelude.{List, [], ◌∷◌, ◌≡◌}
-use Rattle.es_tree.specs.Tree.{Tree, kind_of}
+use Rattle.std.specs.Prelude.{[], ◌∷◌}
+use Rattle.es_tree.specs.Tree.{Tree}
 use Rattle.es_tree.specs.declared.ast_type.AstType.TheVariants.{
   ImportDeclaration,
   ImportSpecifier,
@@ -12,7 +12,7 @@ use Rattle.es_tree.specs.declared.ast_type.AstType.TheVariants.{
   ExportDefaultDeclaration,
   ExportAllDeclaration,
 }
-use Rattle.es_tree.specs.Shapes.{Opens, required, optional, list, statement_list}
+use Rattle.es_tree.specs.Shapes.{Opens, required, optional, list}
 
 abbrev pub IsImportDeclaration : Tree → Type 0
 IsImportDeclaration = Opens ImportDeclaration (list ∷ required ∷ list ∷ [])

@@ -1,5 +1,5 @@
 -- The shape of each kind of node.
-use Rattle.std.specs.Prelude.{List, [], ◌∷◌, ◌≡◌}
+use Rattle.std.specs.Prelude.{[], ◌∷◌, ◌≡◌}
 use Rattle.es_tree.specs.Tree.{Tree, kind_of}
 use Rattle.es_tree.specs.declared.ast_type.AstType.TheVariants.{
   ObjectPattern,
@@ -13,7 +13,7 @@ use Rattle.es_tree.specs.declared.ast_type.AstType.TheVariants.{
   TargetWithDefault,
   TargetRest,
 }
-use Rattle.es_tree.specs.Shapes.{Opens, required, optional, list, statement_list}
+use Rattle.es_tree.specs.Shapes.{Opens, required, list}
 
 abbrev pub IsObjectPattern : Tree → Type 0
 IsObjectPattern = Opens ObjectPattern (list ∷ [])

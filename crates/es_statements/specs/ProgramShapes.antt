@@ -1,6 +1,6 @@
 -- The shape of each kind of node.
-use Rattle.std.specs.Prelude.{List, [], ◌∷◌, ◌≡◌}
-use Rattle.es_tree.specs.Tree.{Tree, kind_of}
+use Rattle.std.specs.Prelude.{[], ◌∷◌}
+use Rattle.es_tree.specs.Tree.{Tree}
 use Rattle.es_tree.specs.declared.ast_type.AstType.TheVariants.{
   Program,
   Directive,

@@ -4,7 +4,15 @@ use Rattle.es_tree.specs.Words.{Text}
 use Rattle.es_tree.specs.Tree.{Tree, node, Label, done, ◌then◌, missing, one, many, statements, empty, ◌before◌}
 use Rattle.es_tree.specs.HasForm.{has_form}
 use Rattle.es_tree.specs.declared.ast_type.AstType.TheVariants.{
-  Program as t-Program, ExpressionStatement, Identifier, PrivateIdentifier, BinaryExpression, MemberExpression, ArrayPattern, RestElement, NullLiteral
+  Program as t-Program,
+  ExpressionStatement,
+  Identifier,
+  PrivateIdentifier,
+  BinaryExpression,
+  MemberExpression,
+  ArrayPattern,
+  RestElement,
+  NullLiteral,
 }
 use Rattle.es_tree.specs.declared.table.Sort.TheVariants.{Program, Expression, Pattern}
 

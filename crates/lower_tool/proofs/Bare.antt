@@ -1,6 +1,5 @@
 -- What a tree without its ids and marks keeps.
-use Rattle.std.proofs.Common.{◌≡◌, refl, ap, sym, ◌∙◌, List, ◌++◌, Bool, ◌||◌}
-use Rattle.es_tree.specs.Words.{Text}
+use Rattle.std.proofs.Common.{◌≡◌, refl, ap, ◌∙◌, ◌++◌, ◌||◌}
 use Rattle.es_tree.specs.Tree.{Tree, node, Label, Fields, done, ◌then◌, Field, missing, one, many, statements, Trees, empty, ◌before◌}
 use Rattle.es_tree.specs.Bare.{bare, bare_label, bare_fields, bare_field, bare_trees}
 use Rattle.es_tree.specs.Constructs.{is_nullish_coalescing, has_nullish_coalescing}

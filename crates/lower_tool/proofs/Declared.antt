@@ -1,5 +1,5 @@
 -- A program whose lists were lowered, and that declares the names.
-use Rattle.std.proofs.Common.{◌≡◌, List, [], ◌∷◌, ◌++◌, Bool, true, false, Option, Some, codes, refl, sym, ap, ◌∙◌, subst, map}
+use Rattle.std.proofs.Common.{◌≡◌, List, [], ◌∷◌, ◌++◌, Bool, false, refl, sym, ap, ◌∙◌, subst, map}
 use Rattle.std.proofs.lemmas.List.{map-append}
 use Rattle.es_tree.specs.Words.{Text}
 use Rattle.es_tree.specs.Bare.{bare, bare_label, bare_trees}
@@ -10,11 +10,10 @@ use Rattle.es_tree.specs.Tree.{Tree, node, Label, done, ◌then◌, many, statem
 use Rattle.es_tree.specs.Walks.{any_in_trees}
 use Rattle.es_tree.specs.declared.ast_type.AstType.TheVariants.{Program}
 use Rattle.es_runs.specs.Alike.{all_of_it}
-use Rattle.es_runs.specs.Steps.{NullishRule, Steps, IsLowered, declare, declarator_node, declarator_nodes, var_of}
+use Rattle.es_runs.specs.Steps.{NullishRule, Steps, IsLowered, declare, declarator_node, declarator_nodes}
 use Rattle.lower_tool.specs.Changes.{TreeStep, TreesStep, Change}
 use Rattle.lower_tool.proofs.Bare.{bare_trees-bare, trees_have-bare}
 use Rattle.lower_tool.proofs.Lifts.{change_trans, change_node, change_first_field, change_later_field, change_many, change_statements, chain_steps}
-use Rattle.lower_tool.proofs.Rows.{neither}
 
 bare_trees-trees : (ts : List Tree) → bare_trees (trees ts) ≡ trees (map bare ts)
 bare_trees-trees [] = refl

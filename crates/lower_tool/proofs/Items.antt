@@ -1,5 +1,5 @@
 -- A list whose items are changed one after the other.
-use Rattle.std.proofs.Common.{◌≡◌, ◌≢◌, ℕ, suc, zero, ◌+◌, ◌<◌, ◌≤◌, List, [], ◌∷◌, length, get_or, set, refl, ◌∙◌, sym, arith, length-set, get_or-set_other, ◌++◌, take, drop, ap}
+use Rattle.std.proofs.Common.{◌≡◌, ◌≢◌, ℕ, suc, zero, ◌+◌, ◌<◌, ◌≤◌, List, [], ◌∷◌, length, get_or, set, refl, ◌∙◌, arith, length-set, get_or-set_other, ◌++◌, take, drop, ap}
 use Rattle.std.proofs.Math.Seq.{take-append_seam}
 
 -- Of the items of now, those before i have P, and the others are those of first.

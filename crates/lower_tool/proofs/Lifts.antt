@@ -1,12 +1,12 @@
 -- Steps in a row, and steps of a part as steps of the whole.
-use Rattle.std.proofs.Common.{◌≡◌, ℕ, zero, suc, List, [], ◌∷◌, ◌++◌, Bool, Option, Some, codes, refl, sym, ap, ◌∙◌, subst, append_assoc, append-nil}
+use Rattle.std.proofs.Common.{◌≡◌, List, [], ◌∷◌, ◌++◌, Bool, Some, codes, sym, ap, ◌∙◌, subst, append_assoc, append-nil}
 use Rattle.es_tree.specs.Words.{Text}
 use Rattle.es_tree.specs.Fresh.{also, node_base, IsFreshName}
-use Rattle.es_tree.specs.Tree.{Tree, node, Label, Fields, done, ◌then◌, Field, missing, one, many, statements, Trees, empty, ◌before◌}
+use Rattle.es_tree.specs.Tree.{Tree, node, Label, Fields, done, ◌then◌, Field, one, many, statements, Trees, ◌before◌}
 use Rattle.es_tree.specs.declared.ast_type.AstType.{AstType}
 use Rattle.es_tree.specs.declared.ast_type.AstType.TheVariants.{LogicalExpression}
 use Rattle.es_runs.specs.Alike.{Need}
-use Rattle.es_runs.specs.Rules.{OnePlace, this_place, below, first_field, later_field, in_one, in_many, in_statements, first_node, later_node, tested_by}
+use Rattle.es_runs.specs.Rules.{this_place, below, first_field, later_field, in_one, in_many, in_statements, first_node, later_node, tested_by}
 use Rattle.es_runs.specs.Steps.{NullishRule, nullish_rule, Steps, stays as no_step, goes as one_step}
 use Rattle.lower_tool.specs.Changes.{TreeStep, FieldStep, FieldsStep, TreesStep, Chain, stays, goes, Change}
 

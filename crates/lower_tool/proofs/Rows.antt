@@ -1,5 +1,5 @@
 -- The fields of a node and the nodes of a list, changed one after the other.
-use Rattle.std.proofs.Common.{◌≡◌, ℕ, suc, zero, ◌+◌, ◌<◌, List, [], ◌∷◌, length, get_or, set, map, sum_by, refl, arith, Bool, true, false, ◌&&◌, ◌||◌}
+use Rattle.std.proofs.Common.{◌≡◌, ℕ, suc, zero, ◌<◌, List, [], ◌∷◌, length, get_or, set, map, sum_by, refl, arith, Bool, true, false, ◌&&◌, ◌||◌}
 use Rattle.std.proofs.lemmas.List.Sums.{sum_by-cons}
 use Rattle.es_tree.specs.Words.{Text}
 use Rattle.es_tree.specs.Tree.{Tree, Label, Fields, fields, trees, tree_size, field_size, fields_size, trees_size}

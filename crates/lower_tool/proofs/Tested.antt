@@ -1,5 +1,5 @@
 -- A `??` that was lowered.
-use Rattle.std.proofs.Common.{◌≡◌, List, [], ◌∷◌, ◌++◌, Bool, true, false, Option, Some, codes, refl, sym, ap, ◌∙◌, subst}
+use Rattle.std.proofs.Common.{◌≡◌, List, [], ◌∷◌, ◌++◌, Bool, true, false, Some, codes, refl, sym, ap, ◌∙◌, subst}
 use Rattle.std.specs.Prelude.{bytes_eq}
 use Rattle.es_tree.specs.Words.{Text, logical_operator_text}
 use Rattle.es_tree.specs.Bare.{bare, bare_label}

@@ -1,4 +1,4 @@
-use Rattle.std.proofs.Common.{arith, refl, sym, ◌≡◌, ◌∙◌, ap, false, ℕ}
+use Rattle.std.proofs.Common.{arith, refl, sym, ◌≡◌, ap, false, ℕ}
 use Rattle.std.proofs.lemmas.List.Sums.{get_or-le-sum_by}
 use Rattle.es_tree.specs.FirstPath.{is_first_path_node}
 use Rattle.es_tree.specs.Tree.{tree_size, field_size, fields_size, trees}

@@ -1,4 +1,4 @@
-use Rattle.std.proofs.Common.{◌≡◌, true, false}
+use Rattle.std.proofs.Common.{◌≡◌}
 use Rattle.serde_json.specs.View.{view}
 use Rattle.es_tree.specs.FirstPath.{is_first_path}
 use Rattle.es_tree.specs.declared.table.Sort.TheVariants.{Program as s-Program}

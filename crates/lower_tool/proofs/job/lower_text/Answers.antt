@@ -1,4 +1,4 @@
-use Rattle.std.proofs.Common.{◌≡◌, ℕ, List, [], ◌∷◌, ◌++◌, ap, ◌∙◌}
+use Rattle.std.proofs.Common.{ℕ, List, [], ◌∷◌, ◌++◌, ap, ◌∙◌}
 use Rattle.serde_json.specs.View.{view}
 use Rattle.es_json.specs.Programs.{IsProgramForm}
 use Rattle.es_runs.specs.Steps.{IsLowered}

@@ -1,15 +1,14 @@
-use Rattle.std.proofs.Common.{rules, arith, ◌≡◌, ◌∙◌, sym, ap, subst, refl, true, ℕ, ◌<◌, length, get_or}
+use Rattle.std.proofs.Common.{arith, ◌≡◌, sym, ap, subst, true, ℕ, ◌<◌, length, get_or}
 use Rattle.std.proofs.lemmas.List.Sums.{sum_by_more, sum_by_more_le, sum_by-take-le}
-use Rattle.es_tree.specs.Tree.{node, tree_size, field_size}
-use Rattle.es_tree.specs.Bare.{bare, bare_label}
+use Rattle.es_tree.specs.Tree.{tree_size, field_size}
+use Rattle.es_tree.specs.Bare.{bare_label}
 use Rattle.es_tree.specs.Views.{plain_field}
 use Rattle.es_tree.specs.Heads.{head_of, label}
 use Rattle.es_tree.specs.FirstPath.{is_first_path_node}
 use Rattle.es_tree.specs.Constructs.{is_nullish_coalescing}
 use Rattle.es_tree.specs.Walks.{all_in_field, all_nodes}
 use Rattle.es_tree.specs.declared.node.Field.{Field as NodeField}
-use Rattle.lower_tool.specs.Changes.{TreeStep, Change, at_span}
-use Rattle.lower_tool.specs.Lowers.{Lowers}
+use Rattle.lower_tool.specs.Changes.{at_span}
 use Rattle.lower_tool.proofs.Items.{so_far_none, so_far_more, written_back}
 use Rattle.lower_tool.proofs.Lifts.{change_none, change_trans, change_one, change_many, change_statements, change_node}
 use Rattle.lower_tool.proofs.Tested.{nullish_lowered, none_lowered}

@@ -1,5 +1,5 @@
 use Rattle.std.proofs.Common.{◌≡◌, ◌+◌, ◌*◌, ◌≤◌, ℕ, false, take, sum_by}
-use Rattle.es_tree.specs.Tree.{Tree, tree_size, field_size, fields_size, trees, trees_size}
+use Rattle.es_tree.specs.Tree.{tree_size, field_size, fields_size, trees, trees_size}
 use Rattle.es_tree.specs.Bare.{bare_fields, bare_trees}
 use Rattle.es_tree.specs.Views.{plain_field}
 use Rattle.es_tree.specs.Constructs.{is_nullish_coalescing}

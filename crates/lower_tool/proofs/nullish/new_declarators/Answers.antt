@@ -1,9 +1,8 @@
-use Rattle.std.proofs.Common.{rules, arith, refl, ap, sym, ◌∙◌, ◌≡◌, map, map-id, string_bytes, subst}
+use Rattle.std.proofs.Common.{rules, arith, refl, ap, sym, ◌∙◌, ◌≡◌, map, map-id, string_bytes}
 use Rattle.std.proofs.lemmas.Iterator.Adapters.{YieldsList-from_vec}
 use Rattle.std.proofs.lemmas.Iterator.Consumers.{YieldsList-turn, YieldsList-end}
 use Rattle.std.proofs.lemmas.List.{length_push}
 use Rattle.es_tree.specs.Bare.{bare}
-use Rattle.es_tree.specs.Tree.{Tree}
 use Rattle.es_runs.specs.Steps.{declarator_node, declarator_nodes}
 use Rattle.lower_tool.proofs.Declared.{declarators_made, declarator_more}
 use Rattle.lower_tool.proofs.nullish.new_declarators.Goals as goal
