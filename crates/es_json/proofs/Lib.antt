@@ -21,5 +21,6 @@ pub mod SameTrees
 pub mod FormHasForm
 pub mod FirstPaths
 pub mod Alls
+pub mod TreeObjects
 pub mod Twos
 pub mod Rows

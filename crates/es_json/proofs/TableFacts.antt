@@ -29,6 +29,10 @@ pub names-distinct : (k : AstType) → all_distinct (names k) ≡ true
 names-distinct Program = refl
 names-distinct _ = refl
 
+pub children-distinct : (k : AstType) → all_distinct (map entry_name (child_entries k)) ≡ true
+children-distinct Program = refl
+children-distinct _ = refl
+
 -- a kind with a place whose sort depends on a field has that field
 abbrev pub has_deciding_field : AstType → Sort → Bool
 has_deciding_field k s-PropertyKey = list_any (has_name f-Computed) (flag_entries k)

@@ -17,7 +17,7 @@ use serde_json::Value;
 use std::alloc::Global;
 
 /// So many JSON objects are too many.
-const MANY: u32 = 1_048_576;
+const TOO_MANY_OBJECTS: u64 = 1_048_576;
 
 /// A program that was read, and the builder of further nodes, whose ids follow those of the program.
 #[derive(Drop)]
@@ -41,7 +41,7 @@ pub fn read_program(alloc: Global, value: &Value) -> Result<ReadProgram, LowerEr
     ensures not_built { IsErrOf result LowerError.NotBuilt → (p : Tree) → IsProgramForm (view value.now) p → ⊥ }
     ensures only { IsErrOf result LowerError.Json → ⊥ }
 {
-    if value_objects(value) >= u64::from(MANY) {
+    if value_objects(value) >= TOO_MANY_OBJECTS {
         return Err(LowerError::NotBuilt);
     }
     let mut ast = AstBuilder::new(alloc, 0);
@@ -52,10 +52,6 @@ pub fn read_program(alloc: Global, value: &Value) -> Result<ReadProgram, LowerEr
     };
     if !is_first_path(&program) {
         return Err(LowerError::NotBuilt);
-    }
-    // Each node is an object of its own, so this doesn't come.
-    if ast.next >= MANY {
-        return Err(LowerError::OutOfMemory);
     }
     Ok(ReadProgram { program, ast })
 }
