@@ -1,0 +1,2 @@
+_object$foo;
+object.foo ?? 1;
