@@ -5,13 +5,14 @@ use Rattle.std.specs.Prelude.{true, false, Some, codes}
 use Rattle.es_tree.specs.Tree.{Tree, node, done, ◌then◌, one, empty, ◌before◌}
 use Rattle.es_tree.specs.declared.ast_type.AstType.TheVariants.{ExpressionStatement, LogicalExpression}
 use Rattle.es_runs.specs.Machine.{Value, Move, Question}
+use Rattle.es_runs.specs.Machine.Values.{none, ◌and◌}
 use Rattle.es_runs.specs.Machine.Value.{undefined, null, boolean, text, number}
-use Rattle.es_runs.specs.Machine.Question.{read, write}
+use Rattle.es_runs.specs.Machine.Question.{read, write, put, operator}
 use Rattle.es_runs.specs.Machine.Move.{answer, throw}
 use Rattle.es_runs.specs.Runs.{Outcome, made, identifier, program, run, asked, state_of, outcome, cells}
 use Rattle.es_runs.specs.Runs.Outcome.{finished, threw, waiting}
 use Rattle.es_runs.specs.Machine.Cell.{holds}
-use Rattle.es_runs.specs.Rules.{assign_node, tested_by}
+use Rattle.es_runs.specs.Rules.{assign_node, binary_node, member_node, tested_by}
 use Rattle.es_runs.specs.Steps.{declare_in}
 
 abbrev script : Tree → Tree
@@ -81,3 +82,21 @@ lowered_throws = refl
 -- the temporary holds what was read
 lowered_cell : cells (state_of (run lowered undefined (answer (boolean false) ∷ answer undefined ∷ []))) (codes "_a") ≡ holds (boolean false)
 lowered_cell = refl
+
+-- THE ORDER OF QUESTIONS
+
+abbrev a-b : Tree
+a-b = member_node false (identifier (codes "a")) (identifier (codes "b"))
+
+abbrev three : List Move
+three = answer (text (codes "A")) ∷ answer (text (codes "C")) ∷ answer undefined ∷ []
+
+-- `a.b = c` reads `a`, then `c`, and then puts (ECMA-262, 13.15.2)
+target_first : questions_of (script (assign_node a-b (identifier (codes "c")))) three
+    ≡ put (text (codes "A")) (text (codes "b")) (text (codes "C")) ∷ read (codes "c") ∷ read (codes "a") ∷ []
+target_first = refl
+
+-- `a + c` reads `a`, then `c` (ECMA-262, 13.15.4)
+left_operand_first : questions_of (script (binary_node (codes "+") (identifier (codes "a")) (identifier (codes "c")))) three
+    ≡ operator (codes "+") (text (codes "A") and text (codes "C") and none) ∷ read (codes "c") ∷ read (codes "a") ∷ []
+left_operand_first = refl
