@@ -1,5 +1,7 @@
 pub mod LiteralsShapes
 pub mod LiteralsPlain
+pub mod TemplatesShapes
+pub mod TemplatesPlain
 pub mod OperationsShapes
 pub mod OperationsPlain
 pub mod MembersShapes

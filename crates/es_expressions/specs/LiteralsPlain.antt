@@ -1,5 +1,5 @@
 -- What each kind of node is seen as.
-use Rattle.es_tree.specs.Tree.{Tree, done, ◌then◌, many, trees}
+use Rattle.es_tree.specs.Tree.{Tree, done}
 use Rattle.es_tree.specs.Views.{plain}
 use Rattle.es_tree.specs.declared.kind.Kind.TheVariants.{
   Identifier as k-Identifier,
@@ -12,8 +12,6 @@ use Rattle.es_tree.specs.declared.kind.Kind.TheVariants.{
   BigIntLiteral as k-BigIntLiteral,
   StringLiteral as k-StringLiteral,
   RegExpLiteral as k-RegExpLiteral,
-  TemplateLiteral as k-TemplateLiteral,
-  TemplateElement as k-TemplateElement,
 }
 use Rattle.es_expressions.specs.declared.literals.Identifier.{Identifier}
 use Rattle.es_expressions.specs.declared.literals.PrivateIdentifier.{PrivateIdentifier}
@@ -25,8 +23,6 @@ use Rattle.es_expressions.specs.declared.literals.NumericLiteral.{NumericLiteral
 use Rattle.es_expressions.specs.declared.literals.BigIntLiteral.{BigIntLiteral}
 use Rattle.es_expressions.specs.declared.literals.StringLiteral.{StringLiteral}
 use Rattle.es_expressions.specs.declared.literals.RegExpLiteral.{RegExpLiteral}
-use Rattle.es_expressions.specs.declared.literals.TemplateLiteral.{TemplateLiteral}
-use Rattle.es_expressions.specs.declared.literals.TemplateElement.{TemplateElement}
 
 abbrev pub plain_identifier : Identifier → Tree
 plain_identifier e = plain e.id e.span (k-Identifier e.name e.reference e.symbol) (done)
@@ -57,9 +53,3 @@ plain_string_literal e = plain e.id e.span (k-StringLiteral e.value) (done)
 
 abbrev pub plain_reg_exp_literal : RegExpLiteral → Tree
 plain_reg_exp_literal e = plain e.id e.span (k-RegExpLiteral e.pattern e.flags) (done)
-
-abbrev pub plain_template_literal : TemplateLiteral → Tree
-plain_template_literal e = plain e.id e.span (k-TemplateLiteral) (many (trees e.quasis.items) then many (trees e.expressions.items) then done)
-
-abbrev pub plain_template_element : TemplateElement → Tree
-plain_template_element e = plain e.id e.span (k-TemplateElement e.raw e.cooked) (done)

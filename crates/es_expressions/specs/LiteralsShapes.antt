@@ -12,10 +12,8 @@ use Rattle.es_tree.specs.declared.ast_type.AstType.TheVariants.{
   BigIntLiteral,
   StringLiteral,
   RegExpLiteral,
-  TemplateLiteral,
-  TemplateElement,
 }
-use Rattle.es_tree.specs.Shapes.{Opens, list}
+use Rattle.es_tree.specs.Shapes.{Opens}
 
 abbrev pub IsIdentifier : Tree → Type 0
 IsIdentifier = Opens Identifier ([])
@@ -46,9 +44,3 @@ IsStringLiteral = Opens StringLiteral ([])
 
 abbrev pub IsRegExpLiteral : Tree → Type 0
 IsRegExpLiteral = Opens RegExpLiteral ([])
-
-abbrev pub IsTemplateLiteral : Tree → Type 0
-IsTemplateLiteral = Opens TemplateLiteral (list ∷ list ∷ [])
-
-abbrev pub IsTemplateElement : Tree → Type 0
-IsTemplateElement = Opens TemplateElement ([])

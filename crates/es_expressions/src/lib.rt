@@ -5,3 +5,4 @@ pub mod composites;
 pub mod literals;
 pub mod members;
 pub mod operations;
+pub mod templates;

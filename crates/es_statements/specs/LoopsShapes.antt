@@ -9,12 +9,8 @@ use Rattle.es_tree.specs.declared.ast_type.AstType.TheVariants.{
   DoWhileStatement,
   BreakStatement,
   ContinueStatement,
-  SwitchStatement,
-  SwitchCase,
-  TryStatement,
-  CatchClause,
 }
-use Rattle.es_tree.specs.Shapes.{Opens, required, optional, list, statement_list}
+use Rattle.es_tree.specs.Shapes.{Opens, required, optional}
 
 abbrev pub IsForStatement : Tree → Type 0
 IsForStatement = Opens ForStatement (optional ∷ optional ∷ optional ∷ required ∷ [])
@@ -36,15 +32,3 @@ IsBreakStatement = Opens BreakStatement (optional ∷ [])
 
 abbrev pub IsContinueStatement : Tree → Type 0
 IsContinueStatement = Opens ContinueStatement (optional ∷ [])
-
-abbrev pub IsSwitchStatement : Tree → Type 0
-IsSwitchStatement = Opens SwitchStatement (required ∷ list ∷ [])
-
-abbrev pub IsSwitchCase : Tree → Type 0
-IsSwitchCase = Opens SwitchCase (optional ∷ statement_list ∷ [])
-
-abbrev pub IsTryStatement : Tree → Type 0
-IsTryStatement = Opens TryStatement (required ∷ optional ∷ optional ∷ [])
-
-abbrev pub IsCatchClause : Tree → Type 0
-IsCatchClause = Opens CatchClause (optional ∷ required ∷ [])

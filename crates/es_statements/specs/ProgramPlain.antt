@@ -11,10 +11,6 @@ use Rattle.es_tree.specs.declared.kind.Kind.TheVariants.{
   DebuggerStatement as k-DebuggerStatement,
   VariableDeclaration as k-VariableDeclaration,
   VariableDeclarator as k-VariableDeclarator,
-  ReturnStatement as k-ReturnStatement,
-  ThrowStatement as k-ThrowStatement,
-  IfStatement as k-IfStatement,
-  LabeledStatement as k-LabeledStatement,
 }
 use Rattle.es_statements.specs.declared.program.Program.{Program}
 use Rattle.es_statements.specs.declared.program.Directive.{Directive}
@@ -24,10 +20,6 @@ use Rattle.es_statements.specs.declared.program.EmptyStatement.{EmptyStatement}
 use Rattle.es_statements.specs.declared.program.DebuggerStatement.{DebuggerStatement}
 use Rattle.es_statements.specs.declared.program.VariableDeclaration.{VariableDeclaration}
 use Rattle.es_statements.specs.declared.program.VariableDeclarator.{VariableDeclarator}
-use Rattle.es_statements.specs.declared.program.ReturnStatement.{ReturnStatement}
-use Rattle.es_statements.specs.declared.program.ThrowStatement.{ThrowStatement}
-use Rattle.es_statements.specs.declared.program.IfStatement.{IfStatement}
-use Rattle.es_statements.specs.declared.program.LabeledStatement.{LabeledStatement}
 
 abbrev pub plain_program : Program → Tree
 plain_program e = plain e.id e.span (k-Program e.source_type e.scope) (many (trees e.directives.items) then statements (trees e.body.items) then done)
@@ -52,15 +44,3 @@ plain_variable_declaration e = plain e.id e.span (k-VariableDeclaration e.kind) 
 
 abbrev pub plain_variable_declarator : VariableDeclarator → Tree
 plain_variable_declarator e = plain e.id e.span (k-VariableDeclarator) (one e.binding then maybe e.init then done)
-
-abbrev pub plain_return_statement : ReturnStatement → Tree
-plain_return_statement e = plain e.id e.span (k-ReturnStatement) (maybe e.argument then done)
-
-abbrev pub plain_throw_statement : ThrowStatement → Tree
-plain_throw_statement e = plain e.id e.span (k-ThrowStatement) (one e.argument then done)
-
-abbrev pub plain_if_statement : IfStatement → Tree
-plain_if_statement e = plain e.id e.span (k-IfStatement) (one e.test then one e.consequent then maybe e.alternate then done)
-
-abbrev pub plain_labeled_statement : LabeledStatement → Tree
-plain_labeled_statement e = plain e.id e.span (k-LabeledStatement) (one e.label then one e.body then done)

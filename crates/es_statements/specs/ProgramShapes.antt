@@ -10,10 +10,6 @@ use Rattle.es_tree.specs.declared.ast_type.AstType.TheVariants.{
   DebuggerStatement,
   VariableDeclaration,
   VariableDeclarator,
-  ReturnStatement,
-  ThrowStatement,
-  IfStatement,
-  LabeledStatement,
 }
 use Rattle.es_tree.specs.Shapes.{Opens, required, optional, list, statement_list}
 
@@ -40,15 +36,3 @@ IsVariableDeclaration = Opens VariableDeclaration (list ∷ [])
 
 abbrev pub IsVariableDeclarator : Tree → Type 0
 IsVariableDeclarator = Opens VariableDeclarator (required ∷ optional ∷ [])
-
-abbrev pub IsReturnStatement : Tree → Type 0
-IsReturnStatement = Opens ReturnStatement (optional ∷ [])
-
-abbrev pub IsThrowStatement : Tree → Type 0
-IsThrowStatement = Opens ThrowStatement (required ∷ [])
-
-abbrev pub IsIfStatement : Tree → Type 0
-IsIfStatement = Opens IfStatement (required ∷ required ∷ optional ∷ [])
-
-abbrev pub IsLabeledStatement : Tree → Type 0
-IsLabeledStatement = Opens LabeledStatement (required ∷ required ∷ [])

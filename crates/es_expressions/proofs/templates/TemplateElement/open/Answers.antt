@@ -1,0 +1,6 @@
+use Rattle.std.proofs.Common.{arith}
+use Rattle.es_tree.specs.Shaped.{parts_length}
+use Rattle.es_expressions.proofs.templates.TemplateElement.open.Goals as goal
+
+pub exactly-requires : goal.exactly-requires
+exactly-requires c = (omega arith, parts_length c.into_parts-kind.result c.into_parts-kind.ensures c.requires)
