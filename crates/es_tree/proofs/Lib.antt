@@ -1,3 +1,15 @@
 pub mod Fitting
 pub mod NodeForm
 pub mod FormExamples
+pub mod Sizes
+pub mod Renumber
+pub mod BoundNames
+pub mod HelperNames
+pub mod Faults
+pub mod FirstNode
+pub mod Children
+pub mod BareForm
+pub mod KeptRules
+pub mod SymbolNumbers
+pub mod MarkedTrees
+pub mod WrittenSymbols

@@ -40,3 +40,22 @@ abbrev mutual
   pub AreTreesUnmarked : Trees → Type 0
   AreTreesUnmarked empty = Unit {0}
   AreTreesUnmarked (t before ts) = IsUnmarked t × AreTreesUnmarked ts
+
+-- The tree with ids that count from n in node order.
+abbrev mutual
+  pub renumber : ℕ → Tree → Tree
+  renumber n (node k l fs) = node k (record l { id = n }) (renumber_fields (suc n) fs)
+
+  pub renumber_fields : ℕ → Fields → Fields
+  renumber_fields n done = done
+  renumber_fields n (f then fs) = renumber_field n f then renumber_fields (n + field_size f) fs
+
+  pub renumber_field : ℕ → Field → Field
+  renumber_field n missing = missing
+  renumber_field n (one t) = one (renumber n t)
+  renumber_field n (many ts) = many (renumber_trees n ts)
+  renumber_field n (statements ts) = statements (renumber_trees n ts)
+
+  pub renumber_trees : ℕ → Trees → Trees
+  renumber_trees n empty = empty
+  renumber_trees n (t before ts) = renumber n t before renumber_trees (n + tree_size t) ts

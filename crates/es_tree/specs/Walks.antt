@@ -1,5 +1,5 @@
 -- Tests of every node of a tree.
-use Rattle.std.specs.Prelude.{Bool, true, false, ◌&&◌, ◌||◌}
+use Rattle.std.specs.Prelude.{ℕ, Bool, true, false, ◌&&◌, ◌||◌, Option, Some, None, if◌then◌else◌}
 use Rattle.es_tree.specs.Tree.{Tree, node, Label, Fields, done, ◌then◌, Field, missing, one, many, statements, Trees, empty, ◌before◌}
 use Rattle.es_tree.specs.declared.ast_type.AstType.{AstType}
 
@@ -44,3 +44,27 @@ abbrev mutual
   pub any_in_trees : (AstType → Label → Fields → Bool) → Trees → Bool
   any_in_trees p empty = false
   any_in_trees p (t before ts) = any_node p t || any_in_trees p ts
+
+-- the first of two ids
+abbrev pub or_later : Option ℕ → Option ℕ → Option ℕ
+or_later (Some n) later = Some n
+or_later None later = later
+
+-- the id of the first node, in node order, that passes the test
+abbrev mutual
+  pub first_node : (AstType → Label → Fields → Bool) → Tree → Option ℕ
+  first_node p (node k l fs) = if p k l fs then Some l.id else first_in_fields p fs
+
+  pub first_in_fields : (AstType → Label → Fields → Bool) → Fields → Option ℕ
+  first_in_fields p done = None
+  first_in_fields p (f then fs) = or_later (first_in_field p f) (first_in_fields p fs)
+
+  pub first_in_field : (AstType → Label → Fields → Bool) → Field → Option ℕ
+  first_in_field p missing = None
+  first_in_field p (one t) = first_node p t
+  first_in_field p (many ts) = first_in_trees p ts
+  first_in_field p (statements ts) = first_in_trees p ts
+
+  pub first_in_trees : (AstType → Label → Fields → Bool) → Trees → Option ℕ
+  first_in_trees p empty = None
+  first_in_trees p (t before ts) = or_later (first_node p t) (first_in_trees p ts)

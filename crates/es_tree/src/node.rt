@@ -1,8 +1,9 @@
 //! The nodes.
-ghost use Rattle.std.specs.Prelude.{◌≡◌, length};
+ghost use Rattle.std.specs.Prelude.{◌≡◌, length, option_copied};
+ghost use Rattle.es_tree.specs.Children.{child_at, only_child};
 ghost use Rattle.es_tree.specs.Plain.{plain_parts};
 ghost use Rattle.es_tree.specs.Shapes.{IsMany, IsMaybe, IsOne, IsStatements, maybe};
-ghost use Rattle.es_tree.specs.Tree.{many, one, statements, trees};
+ghost use Rattle.es_tree.specs.Tree.{fields_of, many, one, statements, trees};
 ghost use Rattle.es_tree.specs.Views.{plain_field};
 
 use crate::ids::{NodeId, Span};
@@ -101,6 +102,13 @@ impl Node {
             fields,
         }
     }
+
+    /// The one child of the field at this place, counted from 0.
+    pub fn child_at(&self, index: usize) -> Option<&Node>
+        ensures { option_copied result ≡ child_at index (fields_of self.now) }
+    {
+        self.fields.get(index)?.only_child()
+    }
 }
 
 /// The fields of a node that has just these many.
@@ -115,6 +123,15 @@ pub fn exactly<const N: usize>(fields: Vec<Field>) -> [Field; N]
 }
 
 impl Field {
+    fn only_child(&self) -> Option<&Node>
+        ensures { option_copied result ≡ only_child (plain_field self.now) }
+    {
+        match self {
+            Field::One(child) => Some(child),
+            _ => None,
+        }
+    }
+
     /// The field of a child that may be missing.
     pub fn from_optional(node: Option<Node>) -> Field
         ensures { plain_field result ≡ maybe node }

@@ -1,0 +1,26 @@
+//! Where nodes stand, as far as the static rules ask.
+use crate::table::Sort;
+
+/// Where a node stands, as far as the static rules ask.
+#[derive(Clone, Copy)]
+pub enum Place {
+    /// Anywhere else.
+    Other,
+    /// Directly in the program's body.
+    ProgramBody,
+    /// On the spine of a chain.
+    Spine,
+    /// What is assigned: a name, a member, or a node of the own kinds of this sort.
+    Target(Sort),
+    /// In a declaration outside the head of a for-in or for-of: whether that stands directly in the
+    /// program's body, whether it is lexical (not `var`), and whether it needs values (`const`, `using`).
+    Declarator {
+        top: bool,
+        lexical: bool,
+        constant: bool,
+    },
+    /// What a declaration in the program's body declares.
+    Declared {
+        lexical: bool,
+    },
+}

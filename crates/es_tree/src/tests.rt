@@ -1,0 +1,4 @@
+//! The options and the plain walks by example.
+
+mod options;
+mod walks;
