@@ -1,0 +1,40 @@
+use Rattle.std.proofs.Common.{◌≡◌, ℕ, true, Option, Some, inl, inr, map, refl, sym}
+use Rattle.es_tree.specs.Core.{is_core_node, is_not_core}
+use Rattle.es_tree.specs.Tree.{Tree, node, kind_of, label_of, fields_of, fields, trees}
+use Rattle.es_tree.specs.Views.{plain_field}
+use Rattle.es_tree.specs.Walks.{first_node, first_in_field, first_in_fields, first_in_trees}
+use Rattle.es_nodes.proofs.Firsts.{first_found, none_further}
+use Rattle.es_nodes.proofs.core_grammar.+core.Goals as goal
+
+-- the first of a core node is that of its fields
+below_core : (t : Tree) (o : Option ℕ) → is_core_node (kind_of t) (label_of t) (fields_of t) ≡ true → first_in_fields is_not_core (fields_of t) ≡ o → first_node is_not_core t ≡ o
+below_core (node k l fs) o core h = rw core h
+
+pub first_not_core-returns-in-Some : goal.first_not_core-returns-in-Some
+first_not_core-returns-in-Some t c =
+    let found : Some c.in-Some.id.0 ≡ first_in_fields is_not_core (fields (map plain_field c.deref-field-items.result.now)) =
+    sym (first_found (λ fs. first_in_fields is_not_core (fields (map plain_field fs))) (λ f. first_in_field is_not_core (plain_field f)) refl (λ f fs. refl)
+    c.deref-field-items.result.now c.loop-field.field-index c.field-item.result c.in-Some.id.0 c.loop-field-test.true c.field-item.is c.loop-field.invariant (sym c.in-Some.ensures)) in
+    let inner : first_in_fields is_not_core (fields_of c.args.node.now) ≡ Some c.in-Some.id.0 = rw (← c.node.view_is, ← c.deref-field-items.ensures.value) (sym found) in
+    sym (below_core c.args.node.now (Some c.in-Some.id.0) (sym c.if-not-is_core_node.ensures) inner)
+
+pub first_not_core-loop-field-preserved : goal.first_not_core-loop-field-preserved
+first_not_core-loop-field-preserved t c =
+    none_further (λ fs. first_in_fields is_not_core (fields (map plain_field fs))) (λ f. first_in_field is_not_core (plain_field f)) refl (λ f fs. refl)
+    c.deref-field-items.result.now c.loop-field.field-index c.field-item.result c.loop-field-test.true c.field-item.is c.loop-field.invariant (sym c.in_default.ensures)
+
+pub first_not_core_in-returns-in-Some : goal.first_not_core_in-returns-in-Some
+first_not_core_in-returns-in-Some t c =
+    let found : Some c.in-Some.id.0 ≡ first_in_trees is_not_core (trees c.deref-node-items.result.now) =
+    sym (first_found (λ ts. first_in_trees is_not_core (trees ts)) (first_node is_not_core) refl (λ t ts. refl)
+    c.deref-node-items.result.now c.loop-node.node-index c.node-item.result c.in-Some.id.0 c.loop-node-test.true c.node-item.is c.loop-node.invariant (sym c.in-Some.ensures)) in
+    let found_in_list : Some c.in-Some.id.0 ≡ first_in_trees is_not_core (trees c.in-Many.nodes.items) = rw (← c.deref-node-items.ensures.value) found in
+    elim c.in-Many.is [
+      | inl e ↦ rw e found_in_list
+      | inr e ↦ rw e found_in_list
+    ]
+
+pub first_not_core_in-loop-node-preserved : goal.first_not_core_in-loop-node-preserved
+first_not_core_in-loop-node-preserved t c =
+    none_further (λ ts. first_in_trees is_not_core (trees ts)) (first_node is_not_core) refl (λ t ts. refl)
+    c.deref-node-items.result.now c.loop-node.node-index c.node-item.result c.loop-node-test.true c.node-item.is c.loop-node.invariant (sym c.in_default.ensures)

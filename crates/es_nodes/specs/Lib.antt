@@ -1,0 +1,2 @@
+pub mod MaybeFields
+pub mod Checks
