@@ -3,3 +3,9 @@ pub mod Parts
 pub mod Joined
 pub mod Among
 pub mod Candidates
+pub mod Tables
+pub mod RolesAt
+pub mod MarkedLists
+pub mod DeclarationSteps
+pub mod Built
+pub mod Steady

@@ -1,3 +1,14 @@
 pub mod Children
 pub mod Taken
 pub mod Uids
+pub mod Outwards
+pub mod Tables
+pub mod Roles
+pub mod Numbers
+pub mod SymbolFlags
+pub mod Declarations
+pub mod PlainReferences
+pub mod Bodies
+pub mod Mutations
+pub mod ProgramFlags
+pub mod ScopingOf

@@ -2,7 +2,6 @@
 ghost use Rattle.std.specs.Prelude.{◌≡◌, ◌++◌, map, IfOk, OnOk, string_bytes};
 ghost use Rattle.es_tree.specs.Fresh.{parts, without_underscores, first_characters, longest_base, without_last_digits, or_ref, text_base, node_base};
 
-use crate::children::child_at;
 use es_tree::kind::Kind;
 use es_tree::node::Node;
 use std::alloc::{AllocError, Global};
@@ -44,10 +43,10 @@ fn push_parts<'a>(names: &mut Vec<&'a str>, node: &'a Node) -> Result<(), AllocE
         Kind::ThisExpression => names.push("this")?,
         Kind::Super => names.push("super")?,
         Kind::MemberExpression { .. } => {
-            if let Some(object) = child_at(node, 0) {
+            if let Some(object) = node.child_at(0) {
                 push_parts(names, object)?;
             }
-            if let Some(property) = child_at(node, 1) {
+            if let Some(property) = node.child_at(1) {
                 push_parts(names, property)?;
             }
         }
@@ -56,7 +55,7 @@ fn push_parts<'a>(names: &mut Vec<&'a str>, node: &'a Node) -> Result<(), AllocE
         | Kind::AssignmentExpression { .. }
         | Kind::ParenthesizedExpression
         | Kind::ChainExpression => {
-            if let Some(child) = child_at(node, 0) {
+            if let Some(child) = node.child_at(0) {
                 push_parts(names, child)?;
             }
         }

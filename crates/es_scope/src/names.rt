@@ -10,7 +10,6 @@ ghost use Rattle.es_tree.specs.Words.{Text};
 ghost use Rattle.es_tree.specs.declared.ids.NodeId.{NodeId};
 ghost use Rattle.es_tree.specs.declared.ids.Span.{Span};
 
-use crate::children::child_at;
 use es_tree::kind::Kind;
 use es_tree::node::{Field, Node};
 use std::alloc::{AllocError, Global};
@@ -107,7 +106,7 @@ fn is_name_place(kind: &Kind, index: usize) -> bool
     }
 }
 
-fn is_first_name(kind: &Kind) -> bool
+pub(crate) fn is_first_name(kind: &Kind) -> bool
     ensures { (id : NodeId) (span : Span) → result ≡ is_name_place (head_of kind.now).kind (label id span (head_of kind.now)) 0 }
 {
     match kind {
@@ -125,7 +124,7 @@ fn is_first_name(kind: &Kind) -> bool
     }
 }
 
-fn is_second_name(kind: &Kind) -> bool
+pub(crate) fn is_second_name(kind: &Kind) -> bool
     ensures { (id : NodeId) (span : Span) → result ≡ is_name_place (head_of kind.now).kind (label id span (head_of kind.now)) 1 }
 {
     match kind {
@@ -140,7 +139,7 @@ fn is_reexport(node: &Node) -> bool
     ensures { result ≡ is_reexport (kind_of node.now) (fields_of node.now) }
 {
     match &node.kind {
-        Kind::ExportNamedDeclaration => child_at(node, 2).is_some(),
+        Kind::ExportNamedDeclaration => node.child_at(2).is_some(),
         _ => false,
     }
 }

@@ -1,8 +1,10 @@
 use Rattle.std.proofs.Common.{◌≡◌, ◌++◌, map, append-nil, sym, arith}
 use Rattle.es_tree.specs.Fresh.{parts}
 use Rattle.es_tree.specs.Tree.{fields_of}
-use Rattle.es_scope.specs.Children.{child_at, optional_parts}
-use Rattle.es_scope.proofs.Parts.{child_smaller, member_parts, first_child_parts, with_children}
+use Rattle.es_tree.specs.Children.{child_at}
+use Rattle.es_tree.proofs.Children.{child_smaller}
+use Rattle.es_scope.specs.Children.{optional_parts}
+use Rattle.es_scope.proofs.Parts.{member_parts, first_child_parts, with_children}
 use Rattle.es_scope.proofs.base.+push_parts.Goals.{in-Some+in_ok-push_parts-in-MemberExpression, in_default-child_at}
 use Rattle.es_scope.proofs.base.+push_parts.Goals as goal
 
