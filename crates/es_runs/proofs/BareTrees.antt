@@ -9,7 +9,8 @@ use Rattle.es_tree.specs.declared.ast_type.AstType.{AstType}
 use Rattle.es_tree.specs.declared.ast_type.AstType.TheVariants.{VariableDeclaration, ExportNamedDeclaration, Identifier, MemberExpression}
 use Rattle.es_runs.specs.Machine.{Value, Move}
 use Rattle.es_runs.specs.Core.{World, meaning, meanings, part, parts, meaning_of, single, several}
-use Rattle.es_runs.specs.Runs.{Declared, declared_of, program_names, declared_in_body, declared_by, declared_in, declared_names, declarator_name, name_in, run, run_with}
+use Rattle.es_tree.specs.Scopes.{Declared, declared_of, program_names, declared_in_body, declared_by, declared_in, declared_names, declarator_name, name_in}
+use Rattle.es_runs.specs.Runs.{run, run_with}
 
 mutual
   pub meaning-bare : (w : World) (t : Tree) → meaning w (bare t) ≡ meaning w t

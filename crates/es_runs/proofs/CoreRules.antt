@@ -11,7 +11,8 @@ use Rattle.es_runs.specs.Core.Binding.{changeable}
 use Rattle.es_runs.specs.Core.Form.{other}
 use Rattle.es_runs.specs.Alike.{set_cells, Agree, Alike, Equal, SameWorld, Need, Like, the_value, all_of_it, member_needs, value_and_form, Level, touches, bad_names}
 use Rattle.es_runs.specs.Alike.Agree.{agree}
-use Rattle.es_runs.specs.Runs.{Declared, declared_of, scope_of, cells_of, world_of, run_with, outcome, SameRun, is_declared, stands, only, none_hidden}
+use Rattle.es_tree.specs.Scopes.{Declared, declared_of}
+use Rattle.es_runs.specs.Runs.{scope_of, cells_of, world_of, run_with, outcome, SameRun, is_declared, stands, only, none_hidden}
 use Rattle.es_runs.specs.Runs.Outcome.{called_uncallable}
 use Rattle.es_runs.specs.Rules.{OnePlace, NullishRow, RereadRow, pending, OpenAlike, IsFresh, LawNullish, LawReread, OptionalMemberRow, LawOptionalMember, IsFreshFor, Reaches, LawCoreRules}
 use Rattle.es_runs.specs.Rules.Reaches.{reached, by_nullish, by_reread, by_optional_member}
@@ -160,7 +161,7 @@ still_declared x ds y h = at (bytes_eq y x)
 pub open_step : (x : Text) (ds : List Declared) (R : Need → Tree → Tree → Type 0) → ((this : Value) (m : bytes_eq (codes "Math") x ≡ false) (n : Need) (a b : Tree) → Unnamed (bad_names (only x) none_hidden) R n a b → Like (set_cells (only x)) (before x ds this m) (after x ds this m) n (meaning (before x ds this m) a) (meaning (after x ds this m) b)) → (p q : Tree) → IsFreshFor ds x p → OnePlace R all_of_it p q → (counts : Text → Bool) → ((y : Text) → counts y ≡ true → is_declared ds y ≡ true) → (this : Value) (moves : List Move) → (outcome (run_with ds p this moves) ≡ called_uncallable → ⊥) → SameRun counts (run_with ds p this moves) (run_with (pending x ds) q this moves)
 open_step x ds R base p q fresh r counts ok this moves callable = same_run (set_cells (only x)) counts (λ y e. counted x ds fresh.2 y (ok y e)) callable (open_alike x ds this fresh.1 R (base this fresh.1) p q fresh.0 r _ _ (one_more_cell x ds this fresh.1 moves))
 
-reread_step : (ds : List Declared) (p q : Tree) → OnePlace (RereadRow (is_declared ds)) all_of_it p q → (counts : Text → Bool) (this : Value) (moves : List Move) → (outcome (run_with ds p this moves) ≡ called_uncallable → ⊥) → SameRun counts (run_with ds p this moves) (run_with ds q this moves)
+pub reread_step : (ds : List Declared) (p q : Tree) → OnePlace (RereadRow (is_declared ds)) all_of_it p q → (counts : Text → Bool) (this : Value) (moves : List Move) → (outcome (run_with ds p this moves) ≡ called_uncallable → ⊥) → SameRun counts (run_with ds p this moves) (run_with ds q this moves)
 reread_step ds p q r counts this moves callable =
     let w = world_of this ds in
     same_run no_frame counts (λ x e. refl) callable (value_alike no_frame w w (same_world w) (meaning w p) (meaning w q)

@@ -1,6 +1,7 @@
 -- What a step of the rule of `??` keeps: a core tree stays one, and its names are those before and the one taken.
 use Rattle.std.proofs.Common.{◌≡◌, ℕ, zero, suc, refl, List, [], ◌∷◌, ◌++◌}
-use Rattle.std.specs.Prelude.{Bool, true, false, ◌&&◌, bytes_eq, if◌then◌else◌}
+use Rattle.std.proofs.lemmas.Bool.{and_from}
+use Rattle.std.specs.Prelude.{Bool, true, false, ◌&&◌, if◌then◌else◌}
 use Rattle.es_tree.specs.Words.{Text}
 use Rattle.es_tree.specs.Names.{names_if, names_in_fields, names_in_field, names_in_trees, own_name, is_name_place, is_reexport}
 use Rattle.es_tree.specs.Fresh.{is_among}
@@ -10,17 +11,15 @@ use Rattle.es_tree.specs.Tree.{Tree, node, Label, Fields, done, ◌then◌, Fiel
 use Rattle.es_tree.specs.declared.ast_type.AstType.{AstType}
 use Rattle.es_tree.specs.declared.ast_type.AstType.TheVariants.{VariableDeclaration, LogicalExpression}
 use Rattle.es_runs.specs.Alike.{Need}
-use Rattle.es_runs.specs.Rules.{OnePlace, OneField, InField, OneNode, tested_by}
+use Rattle.es_runs.specs.Runs.{identifier}
+use Rattle.es_runs.specs.Rules.{OnePlace, OneField, InField, OneNode, assign_node, tested}
 use Rattle.es_runs.specs.Rules.OnePlace.{this_place, below}
 use Rattle.es_runs.specs.Rules.OneField.{first_field, later_field}
 use Rattle.es_runs.specs.Rules.InField.{in_one, in_many, in_statements}
 use Rattle.es_runs.specs.Rules.OneNode.{first_node, later_node}
 use Rattle.es_runs.specs.Steps.{NullishRule}
-use Rattle.es_runs.specs.Steps.NullishRule.{nullish_rule}
+use Rattle.es_runs.specs.Steps.NullishRule.{with_temporary, reading_again}
 use Rattle.es_runs.proofs.Named.{and_left, and_right, or_both, among-append, among_first, among_second, core_exports}
-
-and_both : (a b : Bool) → a ≡ true → b ≡ true → (a && b) ≡ true
-and_both a b e d = rw (e, d)
 
 -- whether a node is core doesn't depend on its fields
 core_label : (k : AstType) (l : Label) (fs gs : Fields) → is_core_node k l gs ≡ is_core_node k l fs
@@ -50,99 +49,116 @@ below_names counts k l fs e = rw e
 among_both : (xs ys : List Text) (x : Text) → is_among xs x ≡ false → is_among ys x ≡ false → is_among (xs ++ ys) x ≡ false
 among_both xs ys x e d = rw among-append (or_both (is_among xs x) (is_among ys x) e d)
 
-in_row : (x y : Text) (ls rs : List Text) → bytes_eq x y ≡ false → is_among ls y ≡ false → is_among rs y ≡ false → is_among (x ∷ ((((ls ++ []) ++ []) ++ x ∷ []) ++ x ∷ (rs ++ []))) y ≡ false
-in_row x y ls rs e dl dr =
-    let left = among_both ((ls ++ []) ++ []) (x ∷ []) y (among_both (ls ++ []) [] y (among_both ls [] y dl refl) refl) (or_both (bytes_eq x y) false e refl) in
-    let right = or_both (bytes_eq x y) (is_among (rs ++ []) y) e (among_both rs [] y dr refl) in
-    or_both (bytes_eq x y) (is_among ((((ls ++ []) ++ []) ++ x ∷ []) ++ x ∷ (rs ++ [])) y) e (among_both (((ls ++ []) ++ []) ++ x ∷ []) (x ∷ (rs ++ [])) y left right)
+in_row : (bs cs rs : List Text) (y : Text) → is_among bs y ≡ false → is_among cs y ≡ false → is_among rs y ≡ false → is_among (((bs ++ []) ++ (((cs ++ []) ++ []))) ++ (cs ++ (rs ++ []))) y ≡ false
+in_row bs cs rs y db da dr =
+    among_both ((bs ++ []) ++ ((cs ++ []) ++ [])) (cs ++ (rs ++ [])) y
+    (among_both (bs ++ []) ((cs ++ []) ++ []) y (among_both bs [] y db refl) (among_both (cs ++ []) [] y (among_both cs [] y da refl) refl))
+    (among_both cs (rs ++ []) y da (among_both rs [] y dr refl))
 
--- the made conditional has the names of both sides, and x
-made_free : (m : Label) (x y : Text) (counts : Bool) (l r : Tree) → bytes_eq x y ≡ false → is_among (names_if true l) y ≡ false → is_among (names_if true r) y ≡ false → is_among (names_if counts (tested_by m x l r)) y ≡ false
-made_free m x y true l r e dl dr = in_row x y (names_if true l) (names_if true r) e dl dr
-made_free m x y false l r e dl dr = in_row x y (names_if true l) (names_if true r) e dl dr
+-- the names of a made conditional are those of its parts
+made_names : (m : Label) (begin again r : Tree) (y : Text) (counts : Bool) → is_among (names_if true begin) y ≡ false → is_among (names_if true again) y ≡ false → is_among (names_if true r) y ≡ false →
+    is_among (names_if counts (tested m begin again r)) y ≡ false
+made_names m begin again r y true db da dr = in_row (names_if true begin) (names_if true again) (names_if true r) y db da dr
+made_names m begin again r y false db da dr = in_row (names_if true begin) (names_if true again) (names_if true r) y db da dr
 
-module _ (in_use : Text → Bool) (x y : Text) (other : bytes_eq x y ≡ false) where
+-- what the rule of `??` keeps at its own place
+module _ (steady in_use : Text → Bool) (y : Text) where
+  sides : (c : Bool) (m : Label) (l r : Tree) → is_among (names_if c (node LogicalExpression m (one l then (one r then done)))) y ≡ false → is_among (names_if true l ++ (names_if true r ++ [])) y ≡ false
+  sides true m l r h = h
+  sides false m l r h = h
+
+  pub rule_without : {ys : List Text} → is_among ys y ≡ false → (n : Need) (a b : Tree) (counts : Bool) → NullishRule steady in_use ys n a b → Without y counts a → Without y counts b
+  rule_without other n _ _ counts (with_temporary {m = m} {l = l} {r = r} {x = x} texts again fresh) h =
+      let core_both : (all_nodes is_core_node l && (all_nodes is_core_node r && true)) ≡ true = h.core in
+      let free_both = sides counts m l r h.free in
+      let free_l = among_first (names_if true l) (names_if true r ++ []) y free_both in
+      let free_r = among_first (names_if true r) [] y (among_second (names_if true l) (names_if true r ++ []) y free_both) in
+      record {
+        core = simp (and_left (all_nodes is_core_node l) (all_nodes is_core_node r && true) core_both, and_left (all_nodes is_core_node r) true (and_right (all_nodes is_core_node l) (all_nodes is_core_node r && true) core_both));
+        free = made_names m (assign_node (identifier x) l) (identifier x) r y counts (among_both (x ∷ []) (names_if true l ++ []) y other (among_both (names_if true l) [] y free_l refl)) other free_r;
+      }
+  rule_without other n _ _ counts (reading_again {m = m} {l = l} {r = r} texts again) h =
+      let core_both : (all_nodes is_core_node l && (all_nodes is_core_node r && true)) ≡ true = h.core in
+      let free_both = sides counts m l r h.free in
+      let free_l = among_first (names_if true l) (names_if true r ++ []) y free_both in
+      let free_r = among_first (names_if true r) [] y (among_second (names_if true l) (names_if true r ++ []) y free_both) in
+      record {
+        core = simp (and_left (all_nodes is_core_node l) (all_nodes is_core_node r && true) core_both, and_left (all_nodes is_core_node r) true (and_right (all_nodes is_core_node l) (all_nodes is_core_node r && true) core_both));
+        free = made_names m l l r y counts free_l free_l free_r;
+      }
+
+  pub rule_core : {ys : List Text} (n : Need) (a b : Tree) → NullishRule steady in_use ys n a b → all_nodes is_core_node a ≡ true → all_nodes is_core_node b ≡ true
+  rule_core n _ _ (with_temporary {l = l} {r = r} texts again fresh) h =
+      simp (and_left (all_nodes is_core_node l) (all_nodes is_core_node r && true) h, and_left (all_nodes is_core_node r) true (and_right (all_nodes is_core_node l) (all_nodes is_core_node r && true) h))
+  rule_core n _ _ (reading_again {l = l} {r = r} texts again) h =
+      simp (and_left (all_nodes is_core_node l) (all_nodes is_core_node r && true) h, and_left (all_nodes is_core_node r) true (and_right (all_nodes is_core_node l) (all_nodes is_core_node r && true) h))
+
+-- what a rule keeps at its own place, a step keeps
+module _ (R : Need → Tree → Tree → Type 0) (y : Text) (base : (n : Need) (a b : Tree) (counts : Bool) → R n a b → Without y counts a → Without y counts b) where
   mutual
-    pub step_without : {n : Need} {t u : Tree} (counts : Bool) → OnePlace (NullishRule in_use x) n t u → Without y counts t → Without y counts u
-    step_without counts (this_place (nullish_rule {m = m} {l = l} {r = r} texts fresh)) h =
-        let core_both : (all_nodes is_core_node l && (all_nodes is_core_node r && true)) ≡ true = h.core in
-        let core_l = and_left (all_nodes is_core_node l) (all_nodes is_core_node r && true) core_both in
-        let core_r = and_left (all_nodes is_core_node r) true (and_right (all_nodes is_core_node l) (all_nodes is_core_node r && true) core_both) in
-        let free_both : is_among (names_if true l ++ (names_if true r ++ [])) y ≡ false = at counts h.free in
-        let free_l = among_first (names_if true l) (names_if true r ++ []) y free_both in
-        let free_r = among_first (names_if true r) [] y (among_second (names_if true l) (names_if true r ++ []) y free_both) in
-        record {
-          core = simp (core_l, core_r);
-          free = made_free m x y counts l r other free_l free_r;
-        }
-      where
-        at : (c : Bool) → is_among (names_if c (node LogicalExpression m (one l then (one r then done)))) y ≡ false → is_among (names_if true l ++ (names_if true r ++ [])) y ≡ false
-        at true h = h
-        at false h = h
+    pub step_without : {n : Need} {t u : Tree} (counts : Bool) → OnePlace R n t u → Without y counts t → Without y counts u
+    step_without counts (this_place {n = n} {a = a} {b = b} r) h = base n a b counts r h
     step_without counts (below {k = k} {l = l} {fs = fs} {gs = gs} r) h =
         let own = and_left (is_core_node k l fs) (all_in_fields is_core_node fs) h.core in
         let free : is_among (own_name counts k l ++ names_in_fields (is_name_place k l) fs) y ≡ false = rw (below_names counts k l fs (core_exports k l fs fs own)) at h.free in
         let inner = fields_without (is_name_place k l) r (record { core = and_right (is_core_node k l fs) (all_in_fields is_core_node fs) h.core; free = among_second (own_name counts k l) (names_in_fields (is_name_place k l) fs) y free }) in
         record {
-          core = and_both (is_core_node k l gs) (all_in_fields is_core_node gs) (rw (core_label k l fs gs) own) inner.core;
+          core = and_from (is_core_node k l gs) (all_in_fields is_core_node gs) (rw (core_label k l fs gs) own) inner.core;
           free = rw (below_names counts k l gs (core_exports k l fs gs own)) (among_both (own_name counts k l) (names_in_fields (is_name_place k l) gs) y (among_first (own_name counts k l) (names_in_fields (is_name_place k l) fs) y free) inner.free);
         }
 
-    fields_without : {c : ℕ → Need} {fs gs : Fields} (p : ℕ → Bool) → OneField (NullishRule in_use x) c fs gs → FieldsWithout y p fs → FieldsWithout y p gs
+    fields_without : {c : ℕ → Need} {fs gs : Fields} (p : ℕ → Bool) → OneField R c fs gs → FieldsWithout y p fs → FieldsWithout y p gs
     fields_without p (first_field {f = f} {g = g} {fs = fs} r) h =
         let one = field_without (p zero) r (record { core = and_left (all_in_field is_core_node f) (all_in_fields is_core_node fs) h.core; free = among_first (names_in_field (p zero) f) (names_in_fields (λ i. p (suc i)) fs) y h.free }) in
         record {
-          core = and_both (all_in_field is_core_node g) (all_in_fields is_core_node fs) one.core (and_right (all_in_field is_core_node f) (all_in_fields is_core_node fs) h.core);
+          core = and_from (all_in_field is_core_node g) (all_in_fields is_core_node fs) one.core (and_right (all_in_field is_core_node f) (all_in_fields is_core_node fs) h.core);
           free = among_both (names_in_field (p zero) g) (names_in_fields (λ i. p (suc i)) fs) y one.free (among_second (names_in_field (p zero) f) (names_in_fields (λ i. p (suc i)) fs) y h.free);
         }
     fields_without p (later_field {f = f} {fs = fs} {gs = gs} r) h =
         let rest = fields_without (λ i. p (suc i)) r (record { core = and_right (all_in_field is_core_node f) (all_in_fields is_core_node fs) h.core; free = among_second (names_in_field (p zero) f) (names_in_fields (λ i. p (suc i)) fs) y h.free }) in
         record {
-          core = and_both (all_in_field is_core_node f) (all_in_fields is_core_node gs) (and_left (all_in_field is_core_node f) (all_in_fields is_core_node fs) h.core) rest.core;
+          core = and_from (all_in_field is_core_node f) (all_in_fields is_core_node gs) (and_left (all_in_field is_core_node f) (all_in_fields is_core_node fs) h.core) rest.core;
           free = among_both (names_in_field (p zero) f) (names_in_fields (λ i. p (suc i)) gs) y (among_first (names_in_field (p zero) f) (names_in_fields (λ i. p (suc i)) fs) y h.free) rest.free;
         }
 
-    field_without : {n : Need} {f g : Field} (counts : Bool) → InField (NullishRule in_use x) n f g → FieldWithout y counts f → FieldWithout y counts g
+    field_without : {n : Need} {f g : Field} (counts : Bool) → InField R n f g → FieldWithout y counts f → FieldWithout y counts g
     field_without counts (in_one r) h = let k = step_without counts r (record { core = h.core; free = h.free }) in record { core = k.core; free = k.free }
     field_without counts (in_many r) h = let k = trees_without r (record { core = h.core; free = h.free }) in record { core = k.core; free = k.free }
     field_without counts (in_statements r) h = let k = trees_without r (record { core = h.core; free = h.free }) in record { core = k.core; free = k.free }
 
-    trees_without : {n : Need} {ts us : Trees} → OneNode (NullishRule in_use x) n ts us → TreesWithout y ts → TreesWithout y us
+    trees_without : {n : Need} {ts us : Trees} → OneNode R n ts us → TreesWithout y ts → TreesWithout y us
     trees_without (first_node {a = a} {b = b} {xs = xs} r) h =
         let k = step_without true r (record { core = and_left (all_nodes is_core_node a) (all_in_trees is_core_node xs) h.core; free = among_first (names_if true a) (names_in_trees xs) y h.free }) in
         record {
-          core = and_both (all_nodes is_core_node b) (all_in_trees is_core_node xs) k.core (and_right (all_nodes is_core_node a) (all_in_trees is_core_node xs) h.core);
+          core = and_from (all_nodes is_core_node b) (all_in_trees is_core_node xs) k.core (and_right (all_nodes is_core_node a) (all_in_trees is_core_node xs) h.core);
           free = among_both (names_if true b) (names_in_trees xs) y k.free (among_second (names_if true a) (names_in_trees xs) y h.free);
         }
     trees_without (later_node {a = a} {xs = xs} {ys = ys} r) h =
         let k = trees_without r (record { core = and_right (all_nodes is_core_node a) (all_in_trees is_core_node xs) h.core; free = among_second (names_if true a) (names_in_trees xs) y h.free }) in
         record {
-          core = and_both (all_nodes is_core_node a) (all_in_trees is_core_node ys) (and_left (all_nodes is_core_node a) (all_in_trees is_core_node xs) h.core) k.core;
+          core = and_from (all_nodes is_core_node a) (all_in_trees is_core_node ys) (and_left (all_nodes is_core_node a) (all_in_trees is_core_node xs) h.core) k.core;
           free = among_both (names_if true a) (names_in_trees ys) y (among_first (names_if true a) (names_in_trees xs) y h.free) k.free;
         }
 
-module _ (in_use : Text → Bool) (x : Text) where
+module _ (R : Need → Tree → Tree → Type 0) (base : (n : Need) (a b : Tree) → R n a b → all_nodes is_core_node a ≡ true → all_nodes is_core_node b ≡ true) where
   mutual
-    pub step_core : {n : Need} {t u : Tree} → OnePlace (NullishRule in_use x) n t u → all_nodes is_core_node t ≡ true → all_nodes is_core_node u ≡ true
-    step_core (this_place (nullish_rule {m = m} {l = l} {r = r} texts fresh)) h =
-        let core_l = and_left (all_nodes is_core_node l) (all_nodes is_core_node r && true) h in
-        let core_r = and_left (all_nodes is_core_node r) true (and_right (all_nodes is_core_node l) (all_nodes is_core_node r && true) h) in
-        simp (core_l, core_r)
+    pub step_core : {n : Need} {t u : Tree} → OnePlace R n t u → all_nodes is_core_node t ≡ true → all_nodes is_core_node u ≡ true
+    step_core (this_place {n = n} {a = a} {b = b} r) h = base n a b r h
     step_core (below {k = k} {l = l} {fs = fs} {gs = gs} r) h =
-        and_both (is_core_node k l gs) (all_in_fields is_core_node gs) (rw (core_label k l fs gs) (and_left (is_core_node k l fs) (all_in_fields is_core_node fs) h)) (fields_core r (and_right (is_core_node k l fs) (all_in_fields is_core_node fs) h))
+        and_from (is_core_node k l gs) (all_in_fields is_core_node gs) (rw (core_label k l fs gs) (and_left (is_core_node k l fs) (all_in_fields is_core_node fs) h)) (fields_core r (and_right (is_core_node k l fs) (all_in_fields is_core_node fs) h))
 
-    fields_core : {c : ℕ → Need} {fs gs : Fields} → OneField (NullishRule in_use x) c fs gs → all_in_fields is_core_node fs ≡ true → all_in_fields is_core_node gs ≡ true
-    fields_core (first_field {f = f} {g = g} {fs = fs} r) h = and_both (all_in_field is_core_node g) (all_in_fields is_core_node fs) (field_core r (and_left (all_in_field is_core_node f) (all_in_fields is_core_node fs) h)) (and_right (all_in_field is_core_node f) (all_in_fields is_core_node fs) h)
-    fields_core (later_field {f = f} {fs = fs} {gs = gs} r) h = and_both (all_in_field is_core_node f) (all_in_fields is_core_node gs) (and_left (all_in_field is_core_node f) (all_in_fields is_core_node fs) h) (fields_core r (and_right (all_in_field is_core_node f) (all_in_fields is_core_node fs) h))
+    fields_core : {c : ℕ → Need} {fs gs : Fields} → OneField R c fs gs → all_in_fields is_core_node fs ≡ true → all_in_fields is_core_node gs ≡ true
+    fields_core (first_field {f = f} {g = g} {fs = fs} r) h = and_from (all_in_field is_core_node g) (all_in_fields is_core_node fs) (field_core r (and_left (all_in_field is_core_node f) (all_in_fields is_core_node fs) h)) (and_right (all_in_field is_core_node f) (all_in_fields is_core_node fs) h)
+    fields_core (later_field {f = f} {fs = fs} {gs = gs} r) h = and_from (all_in_field is_core_node f) (all_in_fields is_core_node gs) (and_left (all_in_field is_core_node f) (all_in_fields is_core_node fs) h) (fields_core r (and_right (all_in_field is_core_node f) (all_in_fields is_core_node fs) h))
 
-    field_core : {n : Need} {f g : Field} → InField (NullishRule in_use x) n f g → all_in_field is_core_node f ≡ true → all_in_field is_core_node g ≡ true
+    field_core : {n : Need} {f g : Field} → InField R n f g → all_in_field is_core_node f ≡ true → all_in_field is_core_node g ≡ true
     field_core (in_one r) h = step_core r h
     field_core (in_many r) h = trees_core r h
     field_core (in_statements r) h = trees_core r h
 
-    trees_core : {n : Need} {ts us : Trees} → OneNode (NullishRule in_use x) n ts us → all_in_trees is_core_node ts ≡ true → all_in_trees is_core_node us ≡ true
-    trees_core (first_node {a = a} {b = b} {xs = xs} r) h = and_both (all_nodes is_core_node b) (all_in_trees is_core_node xs) (step_core r (and_left (all_nodes is_core_node a) (all_in_trees is_core_node xs) h)) (and_right (all_nodes is_core_node a) (all_in_trees is_core_node xs) h)
-    trees_core (later_node {a = a} {xs = xs} {ys = ys} r) h = and_both (all_nodes is_core_node a) (all_in_trees is_core_node ys) (and_left (all_nodes is_core_node a) (all_in_trees is_core_node xs) h) (trees_core r (and_right (all_nodes is_core_node a) (all_in_trees is_core_node xs) h))
+    trees_core : {n : Need} {ts us : Trees} → OneNode R n ts us → all_in_trees is_core_node ts ≡ true → all_in_trees is_core_node us ≡ true
+    trees_core (first_node {a = a} {b = b} {xs = xs} r) h = and_from (all_nodes is_core_node b) (all_in_trees is_core_node xs) (step_core r (and_left (all_nodes is_core_node a) (all_in_trees is_core_node xs) h)) (and_right (all_nodes is_core_node a) (all_in_trees is_core_node xs) h)
+    trees_core (later_node {a = a} {xs = xs} {ys = ys} r) h = and_from (all_nodes is_core_node a) (all_in_trees is_core_node ys) (and_left (all_nodes is_core_node a) (all_in_trees is_core_node xs) h) (trees_core r (and_right (all_nodes is_core_node a) (all_in_trees is_core_node xs) h))
 
 -- what a rule says wherever it holds, it says of a step
 module _ (R : Need → Tree → Tree → Type 0) (P : Type 0) (says : (n : Need) (a b : Tree) → R n a b → P) where
@@ -163,3 +179,23 @@ module _ (R : Need → Tree → Tree → Type 0) (P : Type 0) (says : (n : Need)
     somewhere_in_trees : {n : Need} {ts us : Trees} → OneNode R n ts us → P
     somewhere_in_trees (first_node r) = somewhere r
     somewhere_in_trees (later_node r) = somewhere_in_trees r
+
+-- a step of one rule is a step of another that holds wherever it does
+module _ (R S : Need → Tree → Tree → Type 0) (to : (n : Need) (a b : Tree) → R n a b → S n a b) where
+  mutual
+    pub step_of : {n : Need} {t u : Tree} → OnePlace R n t u → OnePlace S n t u
+    step_of (this_place {n = n} {a = a} {b = b} r) = this_place (to n a b r)
+    step_of (below r) = below (step_of_fields r)
+
+    step_of_fields : {c : ℕ → Need} {fs gs : Fields} → OneField R c fs gs → OneField S c fs gs
+    step_of_fields (first_field r) = first_field (step_of_field r)
+    step_of_fields (later_field r) = later_field (step_of_fields r)
+
+    step_of_field : {n : Need} {f g : Field} → InField R n f g → InField S n f g
+    step_of_field (in_one r) = in_one (step_of r)
+    step_of_field (in_many r) = in_many (step_of_trees r)
+    step_of_field (in_statements r) = in_statements (step_of_trees r)
+
+    step_of_trees : {n : Need} {ts us : Trees} → OneNode R n ts us → OneNode S n ts us
+    step_of_trees (first_node r) = first_node (step_of r)
+    step_of_trees (later_node r) = later_node (step_of_trees r)

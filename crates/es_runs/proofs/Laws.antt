@@ -18,7 +18,8 @@ use Rattle.es_runs.specs.Alike.Agree.{agree}
 use Rattle.es_runs.specs.Alike.Same.{both_give, both_stop, outside}
 use Rattle.es_runs.specs.Alike.Equal.{equal}
 use Rattle.es_runs.specs.Alike.SameReference.{same_name, same_property, same_plain}
-use Rattle.es_runs.specs.Runs.{Declared, declared_of, cells_of, world_of, outcome, SameRun, is_declared, stands, only, var_statement, program, LawFresh, EvaluateAlike, Swaps, none_hidden, Swapped, LawPlace}
+use Rattle.es_tree.specs.Scopes.{Declared, declared_of}
+use Rattle.es_runs.specs.Runs.{cells_of, world_of, outcome, SameRun, is_declared, stands, only, var_statement, program, LawFresh, EvaluateAlike, Swaps, none_hidden, Swapped, LawPlace}
 use Rattle.es_runs.specs.Runs.Outcome.{called_uncallable}
 use Rattle.es_runs.specs.Runs.Swaps.{swaps}
 use Rattle.es_runs.proofs.Basic.{value_alike}

@@ -19,7 +19,8 @@ pub mod Named
 pub mod Kept
 pub mod BareTrees
 pub mod Written
-pub mod PlainPrograms
+pub mod Declarations
+pub mod DeclaredNames
 pub mod LoweredRuns
 pub mod NullishRuns
-pub mod Unbound
+pub mod Bindings

@@ -19,6 +19,15 @@ bytes_eq-self x = (bytes_eq-Decides x x).1 refl
 pub bytes_eq-equal : (a b : Text) → bytes_eq a b ≡ true → a ≡ b
 bytes_eq-equal a b h = (bytes_eq-Decides a b).0 h
 
+pub bytes_eq-flip : (x y : Text) → bytes_eq x y ≡ bytes_eq y x
+bytes_eq-flip x y = at (bytes_eq x y) (bytes_eq y x) refl refl
+  where
+    at : (b c : Bool) → bytes_eq x y ≡ b → bytes_eq y x ≡ c → b ≡ c
+    at true true e d = refl
+    at false false e d = refl
+    at true false e d = let k : x ≡ y = bytes_eq-equal x y e in let same : bytes_eq y x ≡ true = rw k (bytes_eq-self y) in absurd (cc (same, d))
+    at false true e d = let k : y ≡ x = bytes_eq-equal y x d in let same : bytes_eq x y ≡ true = rw k (bytes_eq-self x) in absurd (cc (same, e))
+
 write_set : (x : Text) (u : Value) (d : Text → Cell) (ms : List Move) (qs : List Question) (c : Cell) → is_set c ≡ true → d x ≡ c → write_name x u changeable (state d ms qs) ≡ gives u (state (with_cell x u d) ms qs)
 write_set x u d ms qs unset s e = cc
 write_set x u d ms qs (holds old) s e = rw e

@@ -12,7 +12,8 @@ use Rattle.es_runs.specs.Machine.Cell.{holds}
 use Rattle.es_runs.specs.Machine.Result.{gives}
 use Rattle.es_runs.specs.Core.{World, Binding, value, meaning, meanings, declared}
 use Rattle.es_runs.specs.Core.Binding.{changeable}
-use Rattle.es_runs.specs.Runs.{Declared, declared_names, scope_of, cells_of, run_with}
+use Rattle.es_tree.specs.Scopes.{Declared, declared_names}
+use Rattle.es_runs.specs.Runs.{scope_of, cells_of, run_with}
 use Rattle.es_runs.specs.Rules.{pending}
 use Rattle.es_runs.specs.Steps.{declarator_nodes, var_of, declare_in}
 
@@ -59,11 +60,11 @@ same_names ds es p this moves h g =
     let after : (Text → Binding) → (Text → Cell) → Result Value = λ scope cells. let w : World = record { scope = scope; this = this } in value w (meaning w p) (state cells moves []) in
     λ i. after (λ y. h y i) (λ y. g y i)
 
-pub pending_vars : (xs : List Text) (p : Tree) (this : Value) (moves : List Move) → run_with (vars xs ++ []) p this moves ≡ run_with (all_pending xs []) p this moves
-pending_vars xs p this moves =
-    same_names (all_pending xs []) (vars xs ++ []) p this moves
-    (λ y. scope_of-vars xs [] y ∙ sym (scope_of-all_pending xs [] y))
-    (λ y. cells_of-vars xs [] y ∙ sym (cells_of-all_pending xs [] y))
+pub pending_vars : (xs : List Text) (ds : List Declared) (p : Tree) (this : Value) (moves : List Move) → run_with (vars xs ++ ds) p this moves ≡ run_with (all_pending xs ds) p this moves
+pending_vars xs ds p this moves =
+    same_names (all_pending xs ds) (vars xs ++ ds) p this moves
+    (λ y. scope_of-vars xs ds y ∙ sym (scope_of-all_pending xs ds y))
+    (λ y. cells_of-vars xs ds y ∙ sym (cells_of-all_pending xs ds y))
 
 declares_nothing : (w : World) (xs : List Text) (s : State) → declared false (meanings w (declarator_nodes xs)) s ≡ gives undefined s
 declares_nothing w [] s = refl

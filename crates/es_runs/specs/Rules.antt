@@ -12,7 +12,8 @@ use Rattle.es_runs.specs.Machine.{Value, Move}
 use Rattle.es_tree.specs.Names.{first_text as first}
 use Rattle.es_runs.specs.Core.{flag, flag_after}
 use Rattle.es_runs.specs.Alike.{Need, needs, all_of_it, value_and_form}
-use Rattle.es_runs.specs.Runs.{made, identifier, Declared, declared_of, run, run_with, outcome, SameRun, is_declared, stands}
+use Rattle.es_tree.specs.Scopes.{Declared, declared_of}
+use Rattle.es_runs.specs.Runs.{made, identifier, run, run_with, outcome, SameRun, is_declared, stands}
 use Rattle.es_runs.specs.Runs.Outcome.{called_uncallable}
 
 abbrev pub parenthesized_node : Tree → Tree

@@ -1,63 +1,21 @@
 -- Runs of programs, and when two programs run alike.
-use Rattle.std.specs.Prelude.{◌≡◌, Bool, true, false, List, [], ◌∷◌, ◌++◌, bytes_eq, codes, if◌then◌else◌, not, Option, Some}
+use Rattle.std.specs.Prelude.{◌≡◌, Bool, true, false, List, [], ◌∷◌, bytes_eq, codes, if◌then◌else◌, not, Option, Some}
 use Rattle.es_tree.specs.Words.{Text}
-use Rattle.es_tree.specs.declared.ast_type.AstType.{AstType}
-use Rattle.es_tree.specs.Tree.{Tree, Fields, Trees, Label}
 use Rattle.es_tree.specs.declared.ast_type.AstType.TheVariants.{Program, Identifier, VariableDeclaration, VariableDeclarator}
-use Rattle.es_tree.specs.Tree.{node}
-use Rattle.es_tree.specs.Tree.{done, ◌then◌}
-use Rattle.es_tree.specs.Tree.{missing, one, many, statements}
-use Rattle.es_tree.specs.Tree.{empty, ◌before◌}
+use Rattle.es_tree.specs.Tree.{Tree, node, Label, done, ◌then◌, missing, one, many, statements, Trees, empty, ◌before◌}
 use Rattle.es_runs.specs.Machine.{Value, Question, Move, Cell, State, Result}
 use Rattle.es_runs.specs.Machine.Value.{undefined}
 use Rattle.es_runs.specs.Machine.Cell.{unset, holds}
 use Rattle.es_runs.specs.Machine.State.{state}
 use Rattle.es_runs.specs.Machine.Stop.{throws, waits, uncallable}
 use Rattle.es_runs.specs.Machine.Result.{gives, stops}
-use Rattle.es_tree.specs.Names.{first_text as first}
+use Rattle.es_tree.specs.Scopes.{Declared, declared_of}
 use Rattle.es_runs.specs.Core.{World, Binding, value, meaning, is_free}
 use Rattle.es_runs.specs.Core.Binding.{free, changeable, constant}
 use Rattle.es_runs.specs.Alike.{Level, Need, all_of_it, Near, touches, bad_names}
 use Rattle.es_runs.specs.Alike.Level.{no_evaluation, value_alone, whole_reference, a_callee, a_target}
 
--- DECLARED NAMES (ECMA-262, 8.2)
-
--- A declared name, and the word that declares it.
-pub record Declared : Type 0 where
-  pub name : Text
-  pub kind : Text
-
-abbrev pub first_text : Tree → Text
-first_text (node k l fs) = first l.texts
-
-abbrev pub name_in : Fields → Text
-name_in (one n then fs) = first_text n
-name_in _ = []
-
-abbrev pub declarator_name : Tree → Text
-declarator_name (node k l fs) = name_in fs
-
-abbrev pub declared_names : Text → Trees → List Declared
-declared_names kind empty = []
-declared_names kind (d before ds) = record { name = declarator_name d; kind = kind } ∷ declared_names kind ds
-
-abbrev pub declared_in : AstType → Text → Fields → List Declared
-declared_in VariableDeclaration kind (many ds then fs) = declared_names kind ds
-declared_in _ kind fs = []
-
-abbrev pub declared_by : Tree → List Declared
-declared_by (node k l fs) = declared_in k (first l.texts) fs
-
-abbrev pub declared_in_body : Trees → List Declared
-declared_in_body empty = []
-declared_in_body (n before ns) = declared_by n ++ declared_in_body ns
-
-abbrev pub program_names : Fields → List Declared
-program_names (ds then statements body then fs) = declared_in_body body
-program_names _ = []
-
-abbrev pub declared_of : Tree → List Declared
-declared_of (node k l fs) = program_names fs
+-- DECLARED NAMES AS CELLS
 
 abbrev pub binding_of : Text → Binding
 binding_of kind = if bytes_eq kind (codes "const") then constant else changeable

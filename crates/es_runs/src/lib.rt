@@ -3,7 +3,7 @@
 #![tactic(auto)]
 
 ghost use Rattle.es_runs.specs.Runs.{LawPlace, LawFresh};
-ghost use Rattle.es_runs.specs.Steps.{LawLowered, LawUnbound};
+ghost use Rattle.es_runs.specs.Steps.{LawBindings, LawLowered};
 ghost use Rattle.es_runs.specs.Rules.{LawNullish, LawReread, LawOptionalMember, LawCoreRules};
 
 /// Replacing an expression by one that evaluates alike, at what its place takes of it, keeps the runs.
@@ -37,12 +37,12 @@ pub fn law_core_rules()
     ensures { LawCoreRules }
 {}
 
-/// A program of the first path and what it was lowered to run alike.
+/// A core program and what it was lowered to run alike.
 pub fn law_lowered()
     ensures { LawLowered }
 {}
 
-/// No name of a program of the first path is declared by what it was lowered to.
-pub fn law_unbound()
-    ensures { LawUnbound }
+/// A name of a core program is bound in what it was lowered to exactly where it was bound before.
+pub fn law_bindings()
+    ensures { LawBindings }
 {}
