@@ -1,6 +1,6 @@
 -- Lists of entries beside what was read for them.
-use Rattle.std.proofs.Common.{◌≡◌, ℕ, suc, ◌+◌, ◌<◌, ◌≤◌, List, [], ◌∷◌, ◌++◌, length, get_or, take, drop, filter, map, Bool, true, Option, Some, None, Vec, Global, ◌⊎◌, inl, inr, refl, sym, ap, ◌∙◌, subst, append_assoc}
-use Rattle.std.proofs.lemmas.List.{take_more, drop_more, take-append-drop, append-nil, map_push, take_all}
+use Rattle.std.proofs.Common.{◌≡◌, ℕ, suc, ◌+◌, ◌<◌, ◌≤◌, List, [], ◌∷◌, ◌++◌, length, get_or, take, filter, map, Bool, true, Option, Some, None, Vec, Global, refl, sym, ap, ◌∙◌, subst}
+use Rattle.std.proofs.lemmas.List.{take_more, append-nil, map_push, take_all}
 use Rattle.std.proofs.lemmas.List.Elements.{filter-append}
 use Rattle.serde_json.specs.Data.{Data, null, boolean, number, string, array, object}
 use Rattle.std.specs.Borrow.{Bor}
@@ -8,13 +8,12 @@ use Rattle.es_tree.specs.Words.{Text}
 use Rattle.es_tree.specs.Texts.{plain_text, plain_texts}
 use Rattle.es_tree.specs.Views.{plain_field}
 use Rattle.es_tree.specs.declared.node.Field.{Field as NodeField}
-use Rattle.es_tree.specs.Tree.{Fields, done, ◌then◌, Field, fields}
-use Rattle.es_tree.specs.Attributes.{is_text, is_flag, is_refused, is_child, text_fits, texts_fit}
+use Rattle.es_tree.specs.Tree.{Fields, Field, fields}
+use Rattle.es_tree.specs.Attributes.{is_text, is_flag, is_child, text_fits, texts_fit}
 use Rattle.es_tree.specs.declared.table.FieldName.{FieldName}
 use Rattle.es_tree.specs.declared.table.Entry.{Entry}
 use Rattle.es_tree.specs.declared.table.Sort.{Sort}
 use Rattle.es_tree.specs.declared.table.Often.{Often}
-use Rattle.es_tree.specs.declared.table.TextRule.{TextRule}
 use Rattle.es_tree.specs.declared.table.Content.{Content}
 use Rattle.es_tree.specs.declared.table.Content.TheVariants.{
   Text as c-Text,
@@ -24,43 +23,15 @@ use Rattle.es_tree.specs.declared.table.Content.TheVariants.{
   Refused as c-Refused,
   Child as c-Child,
 }
-use Rattle.es_json.specs.Values.{field_of, TextIs, FlagIs, NoneStands, TextsAre, FlagsAre}
+use Rattle.es_json.specs.Values.{field_of, TextIs, FlagIs, TextsAre, FlagsAre}
 use Rattle.es_json.specs.Form.{AreFields, IsChild}
 
 abbrev pub entry : FieldName → Content → Entry
 entry f k = record { field = f; content = k }
 
-none-append : (a b : List Entry) (v : Data) → NoneStands a v → NoneStands b v → NoneStands (a ++ b) v
-none-append [] b v h k = k
-none-append (e ∷ a) b v h k = (h.0, none-append a b v h.1 k)
-
-none_parts : (a b : List Entry) (v : Data) → NoneStands (a ++ b) v → NoneStands a v × NoneStands b v
-none_parts [] b v n = (tt, n)
-none_parts (e ∷ a) b v n = let m = none_parts a b v n.1 in ((n.0, m.0), m.1)
-
--- an entry of a list stands between those before and after it
-around : (es : List Entry) (i : ℕ) (d : Entry) → i < length es → es ≡ take i es ++ (get_or es i d ∷ []) ++ drop (i + 1) es
-around es i d h = sym (take-append-drop i es) ∙ ap (λ r. take i es ++ r) (drop_more es i d h) ∙ sym (append_assoc (take i es) (get_or es i d ∷ []) (drop (i + 1) es))
-
-filter-around : (p : Entry → Bool) (es : List Entry) (i : ℕ) (d : Entry) → i < length es
-    → filter p es ≡ filter p (take i es) ++ filter p (get_or es i d ∷ []) ++ filter p (drop (i + 1) es)
-filter-around p es i d h = ap (filter p) (around es i d h) ∙ filter-append p (take i es ++ (get_or es i d ∷ [])) (drop (i + 1) es) ∙ ap (λ r. r ++ filter p (drop (i + 1) es)) (filter-append p (take i es) (get_or es i d ∷ []))
-
 filter_more : (p : Entry → Bool) (es : List Entry) (i : ℕ) (d : Entry) → i < length es
     → filter p (take (i + 1) es) ≡ filter p (take i es) ++ filter p (get_or es i d ∷ [])
 filter_more p es i d h = ap (filter p) (take_more es i d h) ∙ filter-append p (take i es) (get_or es i d ∷ [])
-
-pub none_more : (es : List Entry) (i : ℕ) (d : Entry) (v : Data) → i < length es → NoneStands (filter is_refused (take i es)) v
-    → NoneStands (filter is_refused (get_or es i d ∷ [])) v → NoneStands (filter is_refused (take (i + 1) es)) v
-none_more es i d v h before here =
-    let P : List Entry → Type 0 = λ l. NoneStands l v in
-    subst P (sym (filter_more is_refused es i d h)) (none-append (filter is_refused (take i es)) _ v before here)
-
-pub none_at : (es : List Entry) (i : ℕ) (d : Entry) (v : Data) → i < length es → NoneStands (filter is_refused es) v → NoneStands (filter is_refused (get_or es i d ∷ [])) v
-none_at es i d v h n =
-    let P : List Entry → Type 0 = λ l. NoneStands l v in
-    let parts = none_parts (filter is_refused (take i es) ++ filter is_refused (get_or es i d ∷ [])) _ v (subst P (filter-around is_refused es i d h) n) in
-    (none_parts (filter is_refused (take i es)) _ v parts.0).1
 
 -- ---- texts
 
@@ -70,28 +41,11 @@ texts_append [] b v (t ∷ ts) us h k = absurd h
 texts_append (e ∷ a) b v [] us h k = absurd h
 texts_append (e ∷ a) b v (t ∷ ts) us h k = (h.0, texts_append a b v ts us h.1 k)
 
-texts_after : (a b : List Entry) (v : Data) (ts : List (Option Text)) → TextsAre (a ++ b) v ts → (us : List (Option Text)) × TextsAre b v us
-texts_after [] b v ts h = (ts, h)
-texts_after (e ∷ a) b v [] h = absurd h
-texts_after (e ∷ a) b v (t ∷ ts) h = texts_after a b v ts h.1
-
-texts_before : (a b : List Entry) (v : Data) (ts : List (Option Text)) → TextsAre (a ++ b) v ts → (us : List (Option Text)) × TextsAre a v us
-texts_before [] b v ts h = ([], tt)
-texts_before (e ∷ a) b v [] h = absurd h
-texts_before (e ∷ a) b v (t ∷ ts) h = let r = texts_before a b v ts h.1 in (t ∷ r.0, (h.0, r.1))
-
 texts_more : (es : List Entry) (i : ℕ) (d : Entry) (v : Data) (ts us : List (Option Text)) → i < length es → TextsAre (filter is_text (take i es)) v ts
     → TextsAre (filter is_text (get_or es i d ∷ [])) v us → TextsAre (filter is_text (take (i + 1) es)) v (ts ++ us)
 texts_more es i d v ts us h before here =
     let P : List Entry → Type 0 = λ l. TextsAre l v (ts ++ us) in
     subst P (sym (filter_more is_text es i d h)) (texts_append (filter is_text (take i es)) _ v ts us before here)
-
-texts_at : (es : List Entry) (i : ℕ) (d : Entry) (v : Data) (ts : List (Option Text)) → i < length es → TextsAre (filter is_text es) v ts
-    → (us : List (Option Text)) × TextsAre (filter is_text (get_or es i d ∷ [])) v us
-texts_at es i d v ts h are =
-    let P : List Entry → Type 0 = λ l. TextsAre l v ts in
-    let r = texts_before (filter is_text (take i es) ++ filter is_text (get_or es i d ∷ [])) _ v ts (subst P (filter-around is_text es i d h) are) in
-    texts_after (filter is_text (take i es)) _ v r.0 r.1
 
 -- ---- truth values
 
@@ -101,28 +55,11 @@ flags_append [] b v (t ∷ ts) us h k = absurd h
 flags_append (e ∷ a) b v [] us h k = absurd h
 flags_append (e ∷ a) b v (t ∷ ts) us h k = (h.0, flags_append a b v ts us h.1 k)
 
-flags_after : (a b : List Entry) (v : Data) (ts : List Bool) → FlagsAre (a ++ b) v ts → (us : List Bool) × FlagsAre b v us
-flags_after [] b v ts h = (ts, h)
-flags_after (e ∷ a) b v [] h = absurd h
-flags_after (e ∷ a) b v (t ∷ ts) h = flags_after a b v ts h.1
-
-flags_before : (a b : List Entry) (v : Data) (ts : List Bool) → FlagsAre (a ++ b) v ts → (us : List Bool) × FlagsAre a v us
-flags_before [] b v ts h = ([], tt)
-flags_before (e ∷ a) b v [] h = absurd h
-flags_before (e ∷ a) b v (t ∷ ts) h = let r = flags_before a b v ts h.1 in (t ∷ r.0, (h.0, r.1))
-
 flags_more : (es : List Entry) (i : ℕ) (d : Entry) (v : Data) (ts us : List Bool) → i < length es → FlagsAre (filter is_flag (take i es)) v ts
     → FlagsAre (filter is_flag (get_or es i d ∷ [])) v us → FlagsAre (filter is_flag (take (i + 1) es)) v (ts ++ us)
 flags_more es i d v ts us h before here =
     let P : List Entry → Type 0 = λ l. FlagsAre l v (ts ++ us) in
     subst P (sym (filter_more is_flag es i d h)) (flags_append (filter is_flag (take i es)) _ v ts us before here)
-
-flags_at : (es : List Entry) (i : ℕ) (d : Entry) (v : Data) (ts : List Bool) → i < length es → FlagsAre (filter is_flag es) v ts
-    → (us : List Bool) × FlagsAre (filter is_flag (get_or es i d ∷ [])) v us
-flags_at es i d v ts h are =
-    let P : List Entry → Type 0 = λ l. FlagsAre l v ts in
-    let r = flags_before (filter is_flag (take i es) ++ filter is_flag (get_or es i d ∷ [])) _ v ts (subst P (filter-around is_flag es i d h) are) in
-    flags_after (filter is_flag (take i es)) _ v r.0 r.1
 
 -- ---- children
 
@@ -132,28 +69,11 @@ fields_append [] b v (f ∷ fs) gs h k = absurd h
 fields_append (e ∷ a) b v [] gs h k = absurd h
 fields_append (e ∷ a) b v (f ∷ fs) gs h k = (h.0, fields_append a b v fs gs h.1 k)
 
-fields_after : (a b : List Entry) (v : Data) (fs : Fields) → AreFields v (a ++ b) fs → (gs : Fields) × AreFields v b gs
-fields_after [] b v fs h = (fs, h)
-fields_after (e ∷ a) b v done h = absurd h
-fields_after (e ∷ a) b v (f then fs) h = fields_after a b v fs h.1
-
-fields_before : (a b : List Entry) (v : Data) (fs : Fields) → AreFields v (a ++ b) fs → (gs : Fields) × AreFields v a gs
-fields_before [] b v fs h = (done, tt)
-fields_before (e ∷ a) b v done h = absurd h
-fields_before (e ∷ a) b v (f then fs) h = let r = fields_before a b v fs h.1 in (f then r.0, (h.0, r.1))
-
 fields_more : (es : List Entry) (i : ℕ) (d : Entry) (v : Data) (fs gs : List Field) → i < length es → AreFields v (filter is_child (take i es)) (fields fs)
     → AreFields v (filter is_child (get_or es i d ∷ [])) (fields gs) → AreFields v (filter is_child (take (i + 1) es)) (fields (fs ++ gs))
 fields_more es i d v fs gs h before here =
     let P : List Entry → Type 0 = λ l. AreFields v l (fields (fs ++ gs)) in
     subst P (sym (filter_more is_child es i d h)) (fields_append (filter is_child (take i es)) _ v fs gs before here)
-
-fields_at : (es : List Entry) (i : ℕ) (d : Entry) (v : Data) (fs : Fields) → i < length es → AreFields v (filter is_child es) fs
-    → (gs : Fields) × AreFields v (filter is_child (get_or es i d ∷ [])) gs
-fields_at es i d v fs h are =
-    let P : List Entry → Type 0 = λ l. AreFields v l fs in
-    let r = fields_before (filter is_child (take i es) ++ filter is_child (get_or es i d ∷ [])) _ v fs (subst P (filter-around is_child es i d h) are) in
-    fields_after (filter is_child (take i es)) _ v r.0 r.1
 
 -- ---- all that is read of some entries
 
@@ -237,58 +157,6 @@ flags_pushed bs cs ds b same e = ap (λ v. v.items) same ∙ e
 pub fields_pushed : (fs : List NodeField) (gs hs : Vec NodeField Global) (f : NodeField) → hs ≡ gs → gs.items ≡ fs ++ f ∷ []
     → map plain_field hs.items ≡ map plain_field fs ++ plain_field f ∷ []
 fields_pushed fs gs hs f same e = ap (λ v. map plain_field v.items) same ∙ ap (map plain_field) e ∙ map_push plain_field fs f
-
--- ---- what isn't there
-
-abbrev HoldsText : Content → Type 0
-HoldsText k = ((r : TextRule) × (k ≡ c-Text r)) ⊎ (k ≡ c-OptionalText)
-
-abbrev HoldsFlag : Content → Type 0
-HoldsFlag k = (k ≡ c-Flag) ⊎ (k ≡ c-RequiredFlag)
-
-text_alone : (f : FieldName) (k : Content) (v : Data) (ts : List (Option Text)) → HoldsText k → TextsAre (filter is_text (entry f k ∷ [])) v ts → (t : Option Text) × TextIs k (field_of f v) t
-text_alone f (c-Text r) v [] h are = absurd are
-text_alone f (c-Text r) v (t ∷ ts) h are = (t, are.0)
-text_alone f c-OptionalText v [] h are = absurd are
-text_alone f c-OptionalText v (t ∷ ts) h are = (t, are.0)
-text_alone f c-Flag v ts h are = elim h [ inl x ↦ absurd (let e = x.1 in cc) | inr x ↦ absurd (cc) ]
-text_alone f c-RequiredFlag v ts h are = elim h [ inl x ↦ absurd (let e = x.1 in cc) | inr x ↦ absurd (cc) ]
-text_alone f c-Refused v ts h are = elim h [ inl x ↦ absurd (let e = x.1 in cc) | inr x ↦ absurd (cc) ]
-text_alone f (c-Child s o) v ts h are = elim h [ inl x ↦ absurd (let e = x.1 in cc) | inr x ↦ absurd (cc) ]
-
-flag_alone : (f : FieldName) (k : Content) (v : Data) (bs : List Bool) → HoldsFlag k → FlagsAre (filter is_flag (entry f k ∷ [])) v bs → (b : Bool) × FlagIs k (field_of f v) b
-flag_alone f c-Flag v [] h are = absurd are
-flag_alone f c-Flag v (b ∷ bs) h are = (b, are.0)
-flag_alone f c-RequiredFlag v [] h are = absurd are
-flag_alone f c-RequiredFlag v (b ∷ bs) h are = (b, are.0)
-flag_alone f (c-Text r) v bs h are = elim h [ inl x ↦ absurd (cc) | inr x ↦ absurd (cc) ]
-flag_alone f c-OptionalText v bs h are = elim h [ inl x ↦ absurd (cc) | inr x ↦ absurd (cc) ]
-flag_alone f c-Refused v bs h are = elim h [ inl x ↦ absurd (cc) | inr x ↦ absurd (cc) ]
-flag_alone f (c-Child s o) v bs h are = elim h [ inl x ↦ absurd (cc) | inr x ↦ absurd (cc) ]
-
-child_alone : (f : FieldName) (s : Sort) (o : Often) (v : Data) (fs : Fields) → AreFields v (entry f (c-Child s o) ∷ []) fs → (x : Field) × IsChild v (c-Child s o) (field_of f v) x
-child_alone f s o v done are = absurd are
-child_alone f s o v (x then fs) are = (x, are.0)
-
-module _ (es : List Entry) (i : ℕ) (d : Entry) (v : Data) (h : i < length es) where
-  pub no_texts : HoldsText (get_or es i d).content → ((t : Option Text) → TextIs (get_or es i d).content (field_of (get_or es i d).field v) t → ⊥)
-      → (ts : List (Option Text)) → TextsAre (filter is_text es) v ts → ⊥
-  no_texts is never ts are =
-      let here = texts_at es i d v ts h are in
-      let r = text_alone (get_or es i d).field (get_or es i d).content v here.0 is here.1 in never r.0 r.1
-
-  pub no_flags : HoldsFlag (get_or es i d).content → ((b : Bool) → FlagIs (get_or es i d).content (field_of (get_or es i d).field v) b → ⊥)
-      → (bs : List Bool) → FlagsAre (filter is_flag es) v bs → ⊥
-  no_flags is never bs are =
-      let here = flags_at es i d v bs h are in
-      let r = flag_alone (get_or es i d).field (get_or es i d).content v here.0 is here.1 in never r.0 r.1
-
-  pub no_fields : (s : Sort) (o : Often) → (get_or es i d).content ≡ c-Child s o → ((x : Field) → IsChild v (c-Child s o) (field_of (get_or es i d).field v) x → ⊥)
-      → (fs : Fields) → AreFields v (filter is_child es) fs → ⊥
-  no_fields s o is never fs are =
-      let here = fields_at es i d v fs h are in
-      let P : Content → Type 0 = λ k. AreFields v (filter is_child (entry (get_or es i d).field k ∷ [])) here.0 in
-      let r = child_alone (get_or es i d).field s o v here.0 (subst P is here.1) in never r.0 r.1
 
 -- ---- what a kind is made of
 

@@ -1,17 +1,17 @@
 -- Lists of values beside what was read for them.
-use Rattle.std.proofs.Common.{◌≡◌, ℕ, zero, suc, ◌+◌, ◌<◌, List, [], ◌∷◌, ◌++◌, length, get_or, take, drop, ◌-◌, ◌≤◌, Option, Some, sym, ap, ◌∙◌, subst, arith, append_assoc, add-one}
+use Rattle.std.proofs.Common.{◌≡◌, ℕ, ◌+◌, ◌<◌, List, [], ◌∷◌, ◌++◌, length, get_or, take, drop, ◌-◌, ◌≤◌, Option, Some, sym, ap, ◌∙◌, subst, append_assoc}
 use Rattle.std.proofs.lemmas.List.{drop_more, append-nil, length-drop}
 use Rattle.std.proofs.Math.Seq.{take-length}
 use Rattle.std.proofs.Math.ListN.{drop_of_length-le}
 use Rattle.serde_json.specs.Data.{Items}
 use Rattle.serde_json.specs.View.{view, items_view}
 use Rattle.serde_json.specs.declared.value.Value.{Value}
-use Rattle.es_tree.specs.Tree.{Tree, Trees, empty, ◌before◌, trees, Field, Fields, done, ◌then◌, fields}
+use Rattle.es_tree.specs.Tree.{Tree, trees, Field, fields}
 use Rattle.es_tree.specs.declared.table.Sort.{Sort}
 use Rattle.es_json.specs.Values.{sort_before}
 use Rattle.es_json.specs.Form.{IsForm, AreItems, IsElement, AreElements}
 
-rest_of : (vs : List Value) (i : ℕ) → take (length vs - i) (drop i vs) ≡ drop i vs
+pub rest_of : (vs : List Value) (i : ℕ) → take (length vs - i) (drop i vs) ≡ drop i vs
 rest_of vs i = let P : ℕ → Type 0 = λ n. take n (drop i vs) ≡ drop i vs in subst P (length-drop i vs) (take-length (drop i vs))
 
 module _ (s last : Sort) (vs : List Value) (i : ℕ) (x : Value) (here : Sort) (h : i < length vs) (is : x ≡ get_or vs i x) (place : here ≡ sort_before s last (items_view (take (length vs - (i + 1)) (drop (i + 1) vs)))) where
@@ -45,39 +45,6 @@ module _ (s last : Sort) (vs : List Value) (i : ℕ) (x : Value) (here : Sort) (
       let P : List Field → Type 0 = λ l. AreElements s last (Some (items_view vs)) (fields l) in
       let joined : read ++ f ∷ fs ≡ more ++ fs = sym (append_assoc read (f ∷ []) fs) ∙ ap (λ l. l ++ fs) (sym e) in
       subst P joined (so_far (f ∷ fs) (elements_from f fs form rest))
-
--- the node of an item
-item_at : (s last : Sort) (vs : List Value) (i : ℕ) (d : Value) (ts : Trees) → i < length vs → AreItems s last (Some (items_view vs)) ts
-    → (t : Tree) × IsForm (sort_before s last (items_view (drop (suc i) vs))) (view (get_or vs i d)) t
-item_at s last [] i d ts h are = absurd (omega arith)
-item_at s last (v ∷ vs) i d empty h are = absurd are
-item_at s last (v ∷ vs) zero d (t before ts) h are = (t, are.0)
-item_at s last (v ∷ vs) (suc i) d (t before ts) h are = item_at s last vs i d ts (omega arith) are.1
-
-element_at : (s last : Sort) (vs : List Value) (i : ℕ) (d : Value) (fs : Fields) → i < length vs → AreElements s last (Some (items_view vs)) fs
-    → (f : Field) × IsElement (sort_before s last (items_view (drop (suc i) vs))) (view (get_or vs i d)) f
-element_at s last [] i d fs h are = absurd (omega arith)
-element_at s last (v ∷ vs) i d done h are = absurd are
-element_at s last (v ∷ vs) zero d (f then fs) h are = (f, are.0)
-element_at s last (v ∷ vs) (suc i) d (f then fs) h are = element_at s last vs i d fs (omega arith) are.1
-
-module _ (s last : Sort) (vs : List Value) (i : ℕ) (x : Value) (here : Sort) (h : i < length vs) (is : x ≡ get_or vs i x) (place : here ≡ sort_before s last (items_view (take (length vs - (i + 1)) (drop (i + 1) vs)))) where
-  -- where an item is the form of no node, the list is the form of no nodes
-  pub no_trees : (o : Option Items) → Some (items_view vs) ≡ o → ((t : Tree) → IsForm here (view x) t → ⊥) → (ts : Trees) → AreItems s last o ts → ⊥
-  no_trees o same never ts are =
-      let P : Option Items → Type 0 = λ p. AreItems s last p ts in
-      let r = item_at s last vs i x ts h (subst P (sym same) are) in
-      let Q : Value → Sort → Type 0 = λ y q. IsForm q (view y) r.0 in
-      let sorts : sort_before s last (items_view (drop (suc i) vs)) ≡ here = rw (← add-one i) (sym (place ∙ ap (λ l. sort_before s last (items_view l)) (rest_of vs (i + 1)))) in
-      never r.0 (subst (λ y. Q y here) (sym is) (subst (Q (get_or vs i x)) sorts r.1))
-
-  pub no_elements : (o : Option Items) → Some (items_view vs) ≡ o → ((f : Field) → IsElement here (view x) f → ⊥) → (fs : Fields) → AreElements s last o fs → ⊥
-  no_elements o same never fs are =
-      let P : Option Items → Type 0 = λ p. AreElements s last p fs in
-      let r = element_at s last vs i x fs h (subst P (sym same) are) in
-      let Q : Value → Sort → Type 0 = λ y q. IsElement q (view y) r.0 in
-      let sorts : sort_before s last (items_view (drop (suc i) vs)) ≡ here = rw (← add-one i) (sym (place ∙ ap (λ l. sort_before s last (items_view l)) (rest_of vs (i + 1)))) in
-      never r.0 (subst (λ y. Q y here) (sym is) (subst (Q (get_or vs i x)) sorts r.1))
 
 -- all items of a list have been read
 pub all_items : (s last : Sort) (vs : List Value) (i : ℕ) (nodes : List Tree) (o : Option Items) → length vs ≤ i → Some (items_view vs) ≡ o

@@ -19,8 +19,7 @@ pub mod WrittenReads
 pub mod OneTree
 pub mod SameTrees
 pub mod FormHasForm
-pub mod FirstPaths
-pub mod Alls
 pub mod TreeObjects
-pub mod Twos
-pub mod Rows
+pub mod Faults
+pub mod NoFaults
+pub mod FirstFaults

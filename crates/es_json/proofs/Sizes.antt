@@ -5,7 +5,8 @@ use Rattle.serde_json.specs.Data.{depth, items_depth, members_depth}
 use Rattle.serde_json.specs.View.{view, items_view, members_view}
 use Rattle.serde_json.specs.declared.value.Value.{Value}
 use Rattle.serde_json.proofs.Views.{Entry}
-use Rattle.es_json.specs.Limits.{objects, items_objects, members_objects, capped}
+use Rattle.es_tree.specs.Capped.{capped}
+use Rattle.es_json.specs.Limits.{objects, items_objects, members_objects}
 
 items_objects-push : (vs : List Value) (v : Value) → items_objects (items_view (vs ++ v ∷ [])) ≡ items_objects (items_view vs) + objects (view v)
 items_objects-push [] v = omega arith

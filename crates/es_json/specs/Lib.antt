@@ -1,8 +1,10 @@
 pub mod Values
 pub mod Form
+pub mod Faults
 pub mod Canonical
 pub mod Laws
 pub mod New
 pub mod Parts
 pub mod Limits
+pub mod Pointer
 pub mod Programs

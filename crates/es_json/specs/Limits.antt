@@ -1,5 +1,5 @@
 -- How large a JSON value is.
-use Rattle.std.specs.Prelude.{ℕ, suc, ◌+◌, ◌-◌, ◌^◌, min}
+use Rattle.std.specs.Prelude.{ℕ, suc, ◌+◌}
 use Rattle.serde_json.specs.Data.{Data, null, boolean, number, string, array, object, Items, no_items, item, Members, no_members, member}
 
 abbrev mutual
@@ -19,7 +19,3 @@ abbrev mutual
   pub members_objects : Members → ℕ
   members_objects no_members = 0
   members_objects (member k d ms) = objects d + members_objects ms
-
--- as far as 64 bits hold it
-abbrev pub capped : ℕ → ℕ
-capped n = min n (2 ^ 64 - 1)

@@ -2,10 +2,10 @@
 #![tactic(auto)]
 
 pub mod error;
-pub mod first_path;
 pub mod laws;
 pub mod limits;
 mod places;
+mod pointer;
 pub mod program;
 pub mod reader;
 mod scalars;

@@ -2,7 +2,8 @@
 ghost use Rattle.std.specs.Prelude.{◌≡◌};
 ghost use Rattle.serde_json.specs.Data.{depth, items_depth, members_depth};
 ghost use Rattle.serde_json.specs.View.{view, items_view, members_view};
-ghost use Rattle.es_json.specs.Limits.{objects, items_objects, members_objects, capped};
+ghost use Rattle.es_tree.specs.Capped.{capped};
+ghost use Rattle.es_json.specs.Limits.{objects, items_objects, members_objects};
 
 use serde_json::{Map, Value};
 

@@ -3,6 +3,7 @@ ghost use Rattle.std.specs.Prelude.{◌≡◌, option_map, codes};
 ghost use Rattle.serde_json.specs.View.{view, items_view};
 ghost use Rattle.es_json.specs.Values.{field_of, list_of, stands, is_word, is_in, is_computed, sort_in, counts_fit, value_agrees, sort_before};
 ghost use Rattle.es_json.specs.Form.{elements_of};
+ghost use Rattle.es_json.specs.Faults.{agrees_at};
 ghost use Rattle.es_json.specs.Parts.{plain_place};
 
 use crate::scalars::field_of;
@@ -72,23 +73,27 @@ fn counts_fit(value: &Value) -> bool
     }
 }
 
-/// Whether the fields of a node of this kind agree: a template has one quasi more than expressions
-/// (ECMA-262, 13.2.8), a `try` a handler or a finalizer (14.15), and a meta property is `new.target`
-/// or `import.meta` (13.3.12).
-pub(crate) fn fields_agree(value: &Value, ast_type: AstType) -> bool
-    ensures { result ≡ value_agrees ast_type (view value.now) }
+/// Whether the fields of a node of this kind agree, where this is the field at which that is told: a
+/// template has one quasi more than expressions (ECMA-262, 13.2.8), a `try` a handler or a finalizer
+/// (14.15), and a meta property is one of the two.
+pub(crate) fn agrees_at(value: &Value, ast_type: AstType, name: FieldName) -> bool
+    ensures { result ≡ agrees_at ast_type name (view value.now) }
 {
-    match ast_type {
-        AstType::TemplateLiteral => counts_fit(value),
-        AstType::TryStatement => stands(value, FieldName::Handler)
+    match (ast_type, name) {
+        (AstType::TemplateLiteral, FieldName::Quasis) => counts_fit(value),
+        (AstType::TryStatement, FieldName::Handler) => stands(value, FieldName::Handler)
             || stands(value, FieldName::Finalizer),
-        AstType::MetaProperty => {
-            is_word(value, FieldName::Meta, "new") && is_word(value, FieldName::Property, "target")
-                || is_word(value, FieldName::Meta, "import")
-                    && is_word(value, FieldName::Property, "meta")
-        }
+        (AstType::MetaProperty, FieldName::Property) => is_meta_property(value),
         _ => true,
     }
+}
+
+/// Whether a meta property is `new.target` or `import.meta` (ECMA-262, 13.3.12).
+fn is_meta_property(value: &Value) -> bool
+    ensures { result ≡ value_agrees AstType.MetaProperty (view value.now) }
+{
+    is_word(value, FieldName::Meta, "new") && is_word(value, FieldName::Property, "target")
+        || is_word(value, FieldName::Meta, "import") && is_word(value, FieldName::Property, "meta")
 }
 
 /// The elements of an array: their field, the sort of each, and the sort of the last.

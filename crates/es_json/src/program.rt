@@ -1,13 +1,14 @@
-//! The reader of programs that are lowered so far.
-ghost use Rattle.std.specs.Prelude.{◌≡◌, ◌<◌, ◌^◌, IfOk, IsErrOf};
+//! The reader of programs.
+ghost use Rattle.std.specs.Prelude.{◌≡◌, ◌<◌, ◌^◌, [], IfOk, IfErr, IsErrOf};
 ghost use Rattle.serde_json.specs.View.{view};
 ghost use Rattle.es_tree.specs.Order.{IsNumbered, IsUnmarked};
-ghost use Rattle.es_tree.specs.Tree.{Tree, tree_size};
-ghost use Rattle.es_json.specs.Programs.{IsProgramForm};
+ghost use Rattle.es_tree.specs.Tree.{tree_size};
+ghost use Rattle.es_json.specs.Faults.{faults};
+ghost use Rattle.es_json.specs.Programs.{IsProgramForm, IsRefusal};
 
 use crate::error::ReadError;
-use crate::first_path::is_first_path;
-use crate::limits::value_objects;
+use crate::limits::{value_depth, value_objects};
+use crate::pointer::pointer;
 use crate::reader::read_node;
 use es_tree::builder::AstBuilder;
 use es_tree::error::LowerError;
@@ -19,6 +20,9 @@ use std::alloc::Global;
 /// So many JSON objects are too many.
 const TOO_MANY_OBJECTS: u64 = 1_048_576;
 
+/// A value may nest so deep.
+const MAX_DEPTH: u64 = 400;
+
 /// A program that was read, and the builder of further nodes, whose ids follow those of the program.
 #[derive(Drop)]
 pub struct ReadProgram {
@@ -26,32 +30,32 @@ pub struct ReadProgram {
     pub ast: AstBuilder,
 }
 
-/// Reads a program of the first path: a script of expression statements over names, `this`, null,
-/// truth values, numbers, strings, static members, `??`, and `=` to a name or a member. Its nodes
-/// are numbered in node order, and no mark stands.
+/// Reads a program in the tree form. Its nodes are numbered in node order, and no mark stands.
 ///
-/// Fails with `NotBuilt` exactly where the value is no form of such a program or has 2^20 JSON
-/// objects or more, and with `OutOfMemory` where memory runs out.
+/// Fails with `TooLarge` exactly where the value has 2^20 JSON objects or more, else with `TooDeep`
+/// exactly where it nests more than 400 deep, else with `Shape` exactly where a place fails by itself,
+/// and names the first in reading order. It fails with `OutOfMemory` where memory runs out.
 pub fn read_program(alloc: Global, value: &Value) -> Result<ReadProgram, LowerError>
     ensures form { IfOk result (λ read. IsProgramForm (view value.now) read.program) }
     ensures order { IfOk result (λ read. IsNumbered 0 read.program) }
     ensures marks { IfOk result (λ read. IsUnmarked read.program) }
     ensures size { IfOk result (λ read. tree_size read.program < 2 ^ 20) }
     ensures next { IfOk result (λ read. read.ast.next ≡ tree_size read.program) }
-    ensures not_built { IsErrOf result LowerError.NotBuilt → (p : Tree) → IsProgramForm (view value.now) p → ⊥ }
-    ensures only { IsErrOf result LowerError.Json → ⊥ }
+    ensures none { IfOk result (λ _. faults Sort.Program (view value.now) ≡ []) }
+    ensures refused { IfErr result (λ error. IsRefusal (view value.now) error) }
 {
-    if value_objects(value) >= TOO_MANY_OBJECTS {
-        return Err(LowerError::NotBuilt);
+    let objects = value_objects(value);
+    if objects >= TOO_MANY_OBJECTS {
+        return Err(LowerError::TooLarge(objects));
+    }
+    let depth = value_depth(value);
+    if depth > MAX_DEPTH {
+        return Err(LowerError::TooDeep(depth));
     }
     let mut ast = AstBuilder::new(alloc, 0);
-    let program = match read_node(value, Sort::Program, &mut ast) {
-        Ok(program) => program,
-        Err(ReadError::Shape) => return Err(LowerError::NotBuilt),
-        Err(ReadError::OutOfMemory) => return Err(LowerError::OutOfMemory),
-    };
-    if !is_first_path(&program) {
-        return Err(LowerError::NotBuilt);
+    match read_node(value, Sort::Program, &mut ast) {
+        Ok(program) => Ok(ReadProgram { program, ast }),
+        Err(ReadError::Shape(steps)) => Err(LowerError::Shape(pointer(alloc, steps)?)),
+        Err(ReadError::OutOfMemory) => Err(LowerError::OutOfMemory),
     }
-    Ok(ReadProgram { program, ast })
 }

@@ -1,15 +1,17 @@
 //! What a node says by itself, read from the fields of a JSON value.
-ghost use Rattle.std.specs.Prelude.{◌≡◌, ◌↔◌, ◌∷◌, [], ℕ, Bool, Option, IsTrue, IfOk, IfErr, filter, option_map};
+ghost use Rattle.std.specs.Prelude.{◌≡◌, IfOk, IfErr, option_map, true};
 ghost use Rattle.serde_json.specs.View.{view};
-ghost use Rattle.es_tree.specs.Attributes.{is_refused};
+ghost use Rattle.es_tree.specs.Attributes.{is_text, is_flag};
 ghost use Rattle.es_tree.specs.Texts.{plain_text};
-ghost use Rattle.es_tree.specs.Words.{Text};
-ghost use Rattle.es_json.specs.Values.{field_of, kind_here, IsOffset, TextIs, FlagIs, IsAbsent, NoneStands};
+ghost use Rattle.es_json.specs.Values.{field_of, kind_here, IsOffset, TextIs, FlagIs};
+ghost use Rattle.es_json.specs.declared.error.Step.{Step};
+ghost use Rattle.es_json.specs.Faults.{here, under, offset_holds, content_holds, TellsFirst};
 
-use crate::error::ReadError;
+use crate::error::{ReadError, fault_at};
 use es_tree::ast_type::AstType;
 use es_tree::table::{Content, Entry, FieldName, Sort};
 use serde_json::Value;
+use std::alloc::Global;
 
 /// The value of a field.
 pub(crate) fn field_of(value: &Value, name: FieldName) -> Option<&Value>
@@ -27,59 +29,72 @@ pub(crate) fn kind_here(value: &Value, sort: Sort) -> Option<AstType>
 }
 
 /// An end of the node's span: a whole number below 2^32, 0 where absent.
-pub(crate) fn read_offset(value: &Value, name: FieldName) -> Result<u32, ReadError>
+pub(crate) fn read_offset(alloc: Global, value: &Value, name: FieldName) -> Result<u32, ReadError>
     ensures offset { IfOk result (λ n. IsOffset (field_of name (view value.now)) n) }
-    ensures shape { IfErr result (λ _. (n : ℕ) → IsOffset (field_of name (view value.now)) n → ⊥) }
+    ensures fault { IfErr result (λ e. TellsFirst e
+        (under (Step.Field name) (here (offset_holds (field_of name (view value.now)))))) }
 {
     let Some(found) = field_of(value, name) else {
         return Ok(0);
     };
     match found.as_u64() {
         Some(offset) if offset <= u64::from(u32::MAX) => Ok(offset as u32),
-        _ => Err(ReadError::Shape),
+        _ => Err(fault_at(alloc, name)),
     }
 }
 
 /// The text of a field, or none where the field may be without.
-pub(crate) fn read_text(value: &Value, entry: Entry) -> Result<Option<&str>, ReadError>
+pub(crate) fn read_text(
+    alloc: Global,
+    value: &Value,
+    entry: Entry,
+) -> Result<Option<&str>, ReadError>
+    requires { is_text entry ≡ true }
     ensures text { IfOk result
         (λ t. TextIs entry.content (field_of entry.field (view value.now)) (plain_text t)) }
-    ensures shape { IfErr result
-        (λ _. (t : Option Text) → TextIs entry.content (field_of entry.field (view value.now)) t → ⊥) }
+    ensures fault { IfErr result (λ e. TellsFirst e
+        (under (Step.Field entry.field) (here (content_holds entry.content (field_of entry.field (view value.now)))))) }
 {
     let found = field_of(value, entry.field);
     match entry.content {
         Content::Text(rule) => match found.and_then(Value::as_str) {
             Some(text) if rule.allows(text) => Ok(Some(text)),
-            _ => Err(ReadError::Shape),
+            _ => Err(fault_at(alloc, entry.field)),
         },
         Content::OptionalText => match found {
             None => Ok(None),
             Some(found) if found.is_null() => Ok(None),
-            Some(found) => Ok(Some(found.as_str().ok_or(ReadError::Shape)?)),
+            Some(found) => match found.as_str() {
+                Some(text) => Ok(Some(text)),
+                None => Err(fault_at(alloc, entry.field)),
+            },
         },
-        _ => Err(ReadError::Shape),
+        _ => unreachable!(),
     }
 }
 
 /// The truth value of a field.
-pub(crate) fn read_flag(value: &Value, entry: Entry) -> Result<bool, ReadError>
+pub(crate) fn read_flag(alloc: Global, value: &Value, entry: Entry) -> Result<bool, ReadError>
+    requires { is_flag entry ≡ true }
     ensures flag { IfOk result (λ b. FlagIs entry.content (field_of entry.field (view value.now)) b) }
-    ensures shape { IfErr result
-        (λ _. (b : Bool) → FlagIs entry.content (field_of entry.field (view value.now)) b → ⊥) }
+    ensures fault { IfErr result (λ e. TellsFirst e
+        (under (Step.Field entry.field) (here (content_holds entry.content (field_of entry.field (view value.now)))))) }
 {
-    match (entry.content, field_of(value, entry.field)) {
-        (Content::Flag, None) => Ok(false),
-        (Content::Flag | Content::RequiredFlag, Some(found)) => found
-            .as_bool()
-            .ok_or(ReadError::Shape),
-        _ => Err(ReadError::Shape),
+    let flag = match (entry.content, field_of(value, entry.field)) {
+        (Content::Flag, None) => return Ok(false),
+        (Content::RequiredFlag, None) => None,
+        (Content::Flag | Content::RequiredFlag, Some(found)) => found.as_bool(),
+        _ => unreachable!(),
+    };
+    match flag {
+        Some(flag) => Ok(flag),
+        None => Err(fault_at(alloc, entry.field)),
     }
 }
 
 /// Whether the field is absent, null or false.
 fn is_absent(value: &Value, name: FieldName) -> bool
-    ensures { IsTrue result ↔ IsAbsent (field_of name (view value.now)) }
+    ensures { result ≡ content_holds Content.Refused (field_of name (view value.now)) }
 {
     match field_of(value, name) {
         None => true,
@@ -87,25 +102,14 @@ fn is_absent(value: &Value, name: FieldName) -> bool
     }
 }
 
-/// Whether the field holds nothing that the table refuses there.
-fn is_allowed(value: &Value, entry: Entry) -> bool
-    ensures { IsTrue result ↔ NoneStands (filter is_refused (entry ∷ [])) (view value.now) }
+/// Fails where something stands in a field that has no form.
+pub(crate) fn refuse(alloc: Global, value: &Value, name: FieldName) -> Result<(), ReadError>
+    ensures none { IfOk result (λ _. content_holds Content.Refused (field_of name (view value.now)) ≡ true) }
+    ensures fault { IfErr result (λ e. TellsFirst e
+        (under (Step.Field name) (here (content_holds Content.Refused (field_of name (view value.now)))))) }
 {
-    match entry.content {
-        Content::Refused => is_absent(value, entry.field),
-        _ => true,
+    if is_absent(value, name) {
+        return Ok(());
     }
-}
-
-/// Fails where something stands that has no form.
-pub(crate) fn refuse(value: &Value, entries: &[Entry]) -> Result<(), ReadError>
-    ensures none { IfOk result (λ _. NoneStands (filter is_refused entries.now) (view value.now)) }
-    ensures shape { IfErr result (λ _. NoneStands (filter is_refused entries.now) (view value.now) → ⊥) }
-{
-    for entry in entries {
-        if !is_allowed(value, *entry) {
-            return Err(ReadError::Shape);
-        }
-    }
-    Ok(())
+    Err(fault_at(alloc, name))
 }

@@ -2,7 +2,7 @@ use Rattle.std.proofs.Common.{◌≡◌, List, ◌++◌, take}
 use Rattle.serde_json.specs.View.{items_view, members_view}
 use Rattle.serde_json.specs.Data.{items_depth, members_depth}
 use Rattle.serde_json.proofs.Views.{Entry}
-use Rattle.es_json.specs.Limits.{capped}
+use Rattle.es_tree.specs.Capped.{capped}
 use Rattle.es_json.proofs.limits.+depth.Given as goal
 
 abbrev pub invariant-items_depth-loop-item : goal.invariant-items_depth-loop-item

@@ -1,7 +1,8 @@
 use Rattle.std.proofs.Common.{◌≡◌, List, ◌++◌, take}
 use Rattle.serde_json.specs.View.{items_view, members_view}
 use Rattle.serde_json.proofs.Views.{Entry}
-use Rattle.es_json.specs.Limits.{items_objects, members_objects, capped}
+use Rattle.es_tree.specs.Capped.{capped}
+use Rattle.es_json.specs.Limits.{items_objects, members_objects}
 use Rattle.es_json.proofs.limits.+objects.Given as goal
 
 abbrev pub invariant-items_objects-loop-item : goal.invariant-items_objects-loop-item
