@@ -6,6 +6,7 @@ use Rattle.es_tree.specs.Bare.{bare, bare_label, bare_trees}
 use Rattle.es_tree.specs.Constructs.{is_nullish_coalescing, has_nullish_coalescing}
 use Rattle.es_tree.specs.Fresh.{is_among}
 use Rattle.es_tree.specs.Names.{names_of}
+use Rattle.es_tree.specs.Scopes.{is_steady}
 use Rattle.es_tree.specs.Tree.{Tree, node, Label, done, ◌then◌, many, statements, Trees, trees}
 use Rattle.es_tree.specs.Walks.{any_in_trees}
 use Rattle.es_tree.specs.declared.ast_type.AstType.TheVariants.{Program}
@@ -48,25 +49,27 @@ none_declare : (xs : List Text) (ts : Trees) → any_in_trees is_nullish_coalesc
 none_declare [] ts h = h
 none_declare (x ∷ xs) ts h = rw (none_declarators xs, h)
 
-pub program_lowered : {u v w : Text → Bool} {ls ms ns : List Text} (p q : Tree) (l : Label) (ds ds' b b' body : Trees) →
-    node Program l (many ds then statements b then done) ≡ p → ((x : Text) → u x ≡ is_among (names_of p) x) → ls ≡ [] →
-    Change TreesStep u ls (bare_trees ds) v ms (bare_trees ds') → Change TreesStep v ms (bare_trees b) w ns (bare_trees b') →
+pub program_lowered : {steady u v w : Text → Bool} {ls ms ns : List Text} (p q : Tree) (l : Label) (ds ds' b b' body : Trees) →
+    node Program l (many ds then statements b then done) ≡ p → ((x : Text) → u x ≡ is_among (names_of p) x) → ((x : Text) → steady x ≡ is_steady p x) → ls ≡ [] →
+    Change (TreesStep steady) u ls (bare_trees ds) v ms (bare_trees ds') → Change (TreesStep steady) v ms (bare_trees b) w ns (bare_trees b') →
     bare_trees body ≡ declare ns (bare_trees b') → q ≡ node Program l (many ds' then statements body then done) → IsLowered p q
-program_lowered {u = u} {w = w} {ls = ls} {ns = ns} p q l ds ds' b b' body opened uses none on_directives on_body declared closed =
+program_lowered {steady = steady} {u = u} {w = w} {ls = ls} {ns = ns} p q l ds ds' b b' body opened uses same_steady none on_directives on_body declared closed =
     let m : Label = bare_label l in
     let after : Tree = node Program m (many (bare_trees ds') then statements (bare_trees b') then done) in
-    let whole : Change TreeStep u ls (bare (node Program l (many ds then statements b then done))) w ns after =
+    let whole : Change (TreeStep steady) u ls (bare (node Program l (many ds then statements b then done))) w ns after =
     change_trans (change_node Program m (change_first_field (statements (bare_trees b) then done) (change_many on_directives)))
     (change_node Program m (change_later_field (many (bare_trees ds')) (change_first_field done (change_statements on_body)))) in
     let names : ns ≡ whole.names = whole.added ∙ ap (λ xs. xs ++ whole.names) none in
     let in_use : u ≡ is_among (names_of p) = λ i x. uses x i in
+    let rereads : steady ≡ is_steady p = λ i x. same_steady x i in
     record {
       names = ns;
       in_use = w;
       body = after;
-      steps = subst (λ t. Steps NullishRule all_of_it (is_among (names_of p)) (bare t) ns w after) opened
-          (subst (λ i. Steps NullishRule all_of_it i (bare (node Program l (many ds then statements b then done))) ns w after) in_use
-          (subst (λ xs. Steps NullishRule all_of_it u (bare (node Program l (many ds then statements b then done))) xs w after) (sym names) (chain_steps all_of_it whole.chain)));
+      steps = subst (λ s. Steps (NullishRule s) all_of_it (is_among (names_of p)) (bare p) ns w after) rereads
+          (subst (λ t. Steps (NullishRule steady) all_of_it (is_among (names_of p)) (bare t) ns w after) opened
+          (subst (λ i. Steps (NullishRule steady) all_of_it i (bare (node Program l (many ds then statements b then done))) ns w after) in_use
+          (subst (λ xs. Steps (NullishRule steady) all_of_it u (bare (node Program l (many ds then statements b then done))) xs w after) (sym names) (chain_steps all_of_it whole.chain))));
       written = ap bare closed
           ∙ ap (λ ts. node Program m (many (bare_trees ds') then statements ts then done)) (declared ∙ ap (declare ns) (sym (bare_trees-bare b')) ∙ sym (bare_declare ns (bare_trees b')))
           ∙ ap (λ ts. node Program m (many ts then statements (bare_trees (declare ns (bare_trees b'))) then done)) (sym (bare_trees-bare ds'));

@@ -7,3 +7,7 @@ pub mod Items
 pub mod Lifts
 pub mod Rows
 pub mod Tested
+pub mod WellMade
+pub mod Causes
+pub mod Marked
+pub mod Reasons

@@ -5,11 +5,12 @@ use Rattle.std.proofs.lemmas.Bool.{eq-eqb}
 use Rattle.std.specs.declared.alloc.Global.{Global}
 use Rattle.std.specs.Io.KnownBytes.{append_known}
 use Rattle.lower_tool.specs.declared.answer.Answer.{Answer}
-use Rattle.lower_tool.specs.declared.answer.Answer.TheVariants.{Lowered, Json, NotBuilt, Words, ReadFault, TooLong}
+use Rattle.lower_tool.specs.declared.answer.Answer.TheVariants.{Lowered, Refused, Words, ReadFault, TooLong}
 use Rattle.lower_tool.specs.declared.answer.TheConstants.{DONE, REFUSED, WORDS, TOO_LONG}
 use Rattle.lower_tool.specs.Answer.{output_text, notes_text, status_of}
 use Rattle.lower_tool.specs.Ends.{HasFault, ReadWhole, ReadFront, End}
-use Rattle.lower_tool.specs.Job.{IsFirstPath, IsFirstPath-reads}
+use Rattle.lower_tool.specs.Job.{IsCoreSource}
+use Rattle.lower_tool.proofs.Causes.{not_refused}
 use Rattle.lower_tool.specs.Run.{AreProper, WasWhole, IsDue, Took, TookFront, Ends, Gave, Table, HasInput, Causes}
 
 -- What is due, where the input tells its bytes.
@@ -32,8 +33,7 @@ front_fits told (Some left) bytes count is front =
 
 is_words : (answer : Answer) (words : List (String Global)) (old new : End) → IsDue answer words old new → ¬ AreProper words → status_of answer ≡ WORDS
 is_words (Lowered text) words old new due improper = absurd (improper due.0)
-is_words Json words old new due improper = absurd (improper due.0)
-is_words NotBuilt words old new due improper = absurd (improper due.0)
+is_words (Refused text) words old new due improper = absurd (improper due.0)
 is_words Words words old new due improper = refl
 is_words ReadFault words old new due improper = absurd (improper due.0)
 is_words TooLong words old new due improper = absurd (improper due.0)
@@ -41,26 +41,23 @@ is_words TooLong words old new due improper = absurd (improper due.0)
 is_long : (answer : Answer) (words : List (String Global)) (old new : Ends) (bytes : List ℕ) → IsDue answer words old.input new.input
     → HasInput words old new bytes → 2 ^ 26 < length bytes → status_of answer ≡ TOO_LONG
 is_long (Lowered text) words old new bytes due has long = absurd (omega (arith, (told_whole old.input new.input bytes has.told due.1).0))
-is_long Json words old new bytes due has long = absurd (omega (arith, (told_whole old.input new.input bytes has.told due.1).0))
-is_long NotBuilt words old new bytes due has long = absurd (omega (arith, (told_whole old.input new.input bytes has.told due.1).0))
+is_long (Refused text) words old new bytes due has long = absurd (omega (arith, (told_whole old.input new.input bytes has.told due.1).0))
 is_long Words words old new bytes due has long = absurd (due.0 has.proper)
 is_long ReadFault words old new bytes due has long = absurd (has.no_fault due.1)
 is_long TooLong words old new bytes due has long = refl
 
 is_refused : (answer : Answer) (words : List (String Global)) (old new : Ends) (bytes : List ℕ) → IsDue answer words old.input new.input
-    → HasInput words old new bytes → length bytes ≤ 2 ^ 26 → ¬ IsFirstPath bytes → status_of answer ≡ REFUSED
+    → HasInput words old new bytes → length bytes ≤ 2 ^ 26 → ¬ IsCoreSource bytes → status_of answer ≡ REFUSED
 is_refused (Lowered text) words old new bytes due has short other = absurd (other (told_whole old.input new.input bytes has.told due.1).1.0)
-is_refused Json words old new bytes due has short other = refl
-is_refused NotBuilt words old new bytes due has short other = refl
+is_refused (Refused text) words old new bytes due has short other = refl
 is_refused Words words old new bytes due has short other = absurd (due.0 has.proper)
 is_refused ReadFault words old new bytes due has short other = absurd (has.no_fault due.1)
 is_refused TooLong words old new bytes due has short other = absurd (omega (arith, front_fits old.input.bytes new.input.bytes bytes (2 ^ 26 + 1) has.told due.1))
 
 is_done : (answer : Answer) (words : List (String Global)) (old new : Ends) (bytes : List ℕ) → IsDue answer words old.input new.input
-    → HasInput words old new bytes → length bytes ≤ 2 ^ 26 → IsFirstPath bytes → status_of answer ≡ DONE
+    → HasInput words old new bytes → length bytes ≤ 2 ^ 26 → IsCoreSource bytes → status_of answer ≡ DONE
 is_done (Lowered text) words old new bytes due has short first = refl
-is_done Json words old new bytes due has short first = absurd ((told_whole old.input new.input bytes has.told due.1).1 (IsFirstPath-reads bytes first))
-is_done NotBuilt words old new bytes due has short first = absurd ((told_whole old.input new.input bytes has.told due.1).1.1 first)
+is_done (Refused text) words old new bytes due has short first = let with_line = (told_whole old.input new.input bytes has.told due.1).1 in absurd (not_refused bytes with_line.error with_line.cause first)
 is_done Words words old new bytes due has short first = absurd (due.0 has.proper)
 is_done ReadFault words old new bytes due has short first = absurd (has.no_fault due.1)
 is_done TooLong words old new bytes due has short first = absurd (omega (arith, front_fits old.input.bytes new.input.bytes bytes (2 ^ 26 + 1) has.told due.1))
@@ -82,19 +79,9 @@ module _ (words : List (String Global)) (old new : Ends) where
     too_long = other refl;
     known = omega arith;
   }
-  table_gave Json gave = record {
+  table_gave (Refused text) gave = record {
     done = other refl;
-    refused_input = λ _. inl gave;
-    refused_words = other refl;
-    read_fault = other refl;
-    write_fault = other refl;
-    out_of_memory = other refl;
-    too_long = other refl;
-    known = omega arith;
-  }
-  table_gave NotBuilt gave = record {
-    done = other refl;
-    refused_input = λ _. inr gave;
+    refused_input = λ _. (text, gave);
     refused_words = other refl;
     read_fault = other refl;
     write_fault = other refl;

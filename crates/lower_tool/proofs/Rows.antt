@@ -23,16 +23,16 @@ and_right false false h = h
 pub neither : (a b : Bool) → a ≡ false → b ≡ false → (a || b) ≡ false
 neither a b e d = rw (e, d)
 
-module _ {i j : Text → Bool} {ms ns : List Text} where
+module _ {steady i j : Text → Bool} {ms ns : List Text} where
   -- a change of one field is a change of the fields, and so for a list
-  pub change_fields : (xs : List NodeField) (n : ℕ) (d y : NodeField) → n < length xs → Change FieldStep i ms (bare_field (plain_field (get_or xs n d))) j ns (bare_field (plain_field y)) →
-      Change FieldsStep i ms (bare_fields (fields (map plain_field xs))) j ns (bare_fields (fields (map plain_field (set xs n y))))
+  pub change_fields : (xs : List NodeField) (n : ℕ) (d y : NodeField) → n < length xs → Change (FieldStep steady) i ms (bare_field (plain_field (get_or xs n d))) j ns (bare_field (plain_field y)) →
+      Change (FieldsStep steady) i ms (bare_fields (fields (map plain_field xs))) j ns (bare_fields (fields (map plain_field (set xs n y))))
   change_fields [] n d y l h = absurd (omega (arith, l))
   change_fields (x ∷ xs) zero d y l h = change_first_field (bare_fields (fields (map plain_field xs))) h
   change_fields (x ∷ xs) (suc n) d y l h = change_later_field (bare_field (plain_field x)) (change_fields xs n d y (omega (arith, l)) h)
 
-  pub change_trees : (xs : List Tree) (n : ℕ) (d y : Tree) → n < length xs → Change TreeStep i ms (bare (get_or xs n d)) j ns (bare y) →
-      Change TreesStep i ms (bare_trees (trees xs)) j ns (bare_trees (trees (set xs n y)))
+  pub change_trees : (xs : List Tree) (n : ℕ) (d y : Tree) → n < length xs → Change (TreeStep steady) i ms (bare (get_or xs n d)) j ns (bare y) →
+      Change (TreesStep steady) i ms (bare_trees (trees xs)) j ns (bare_trees (trees (set xs n y)))
   change_trees [] n d y l h = absurd (omega (arith, l))
   change_trees (x ∷ xs) zero d y l h = change_first_node (bare_trees (trees xs)) h
   change_trees (x ∷ xs) (suc n) d y l h = change_later_node (bare x) (change_trees xs n d y (omega (arith, l)) h)

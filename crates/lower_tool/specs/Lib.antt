@@ -5,3 +5,4 @@ pub mod Memory
 pub mod Run
 pub mod Changes
 pub mod Lowers
+pub mod Refusals

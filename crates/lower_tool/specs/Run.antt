@@ -2,22 +2,28 @@
 use Rattle.std.specs.Prelude.{◌≡◌, ◌⊎◌, ◌+◌, ◌^◌, ◌<◌, ◌≤◌, ℕ, List, [], ◌∷◌, map, length, take, Some, String, string_bytes, codes}
 use Rattle.std.specs.declared.alloc.Global.{Global}
 use Rattle.std.specs.Io.KnownBytes.{append_known}
+use Rattle.es_tree.specs.declared.error.LowerError.{LowerError}
 use Rattle.lower_tool.specs.declared.answer.Answer.{Answer}
-use Rattle.lower_tool.specs.declared.answer.Answer.TheVariants.{Lowered, Json, NotBuilt, Words, ReadFault, TooLong}
+use Rattle.lower_tool.specs.declared.answer.Answer.TheVariants.{Lowered, Refused, Words, ReadFault, TooLong}
 use Rattle.lower_tool.specs.declared.answer.TheConstants.{DONE, REFUSED, WORDS, READ_FAULT, WRITE_FAULT, OUT_OF_MEMORY, TOO_LONG}
-use Rattle.lower_tool.specs.Answer.{output_text, notes_text}
+use Rattle.lower_tool.specs.Answer.{output_text, notes_text, refusal_text}
 use Rattle.lower_tool.specs.Ends.{HasFault, ReadWhole, ReadFront, End}
-use Rattle.lower_tool.specs.Job.{HasReading, IsFirstPath, IsLoweredText}
+use Rattle.lower_tool.specs.Job.{IsCoreSource, IsCause, IsLoweredText}
 
 -- the words are exactly the one word `--nullish`
 abbrev pub AreProper : List (String Global) → Type 0
 AreProper words = map string_bytes words ≡ codes "--nullish" ∷ []
 
+-- an input of these bytes is refused, and this is the line of the cause
+pub record IsRefusedWith (bytes text : List ℕ) : Type 0 where
+  pub error : LowerError
+  pub cause : IsCause bytes error
+  pub line_is : text ≡ refusal_text error
+
 -- the job gives this answer to an input of these bytes
 abbrev pub IsJobAnswer : Answer → List ℕ → Type 0
-IsJobAnswer (Lowered text) bytes = IsFirstPath bytes × IsLoweredText bytes (string_bytes text)
-IsJobAnswer Json bytes = ¬ HasReading bytes
-IsJobAnswer NotBuilt bytes = HasReading bytes × (¬ IsFirstPath bytes)
+IsJobAnswer (Lowered text) bytes = IsCoreSource bytes × IsLoweredText bytes (string_bytes text)
+IsJobAnswer (Refused text) bytes = IsRefusedWith bytes (string_bytes text)
 IsJobAnswer Words bytes = ⊥
 IsJobAnswer ReadFault bytes = ⊥
 IsJobAnswer TooLong bytes = ⊥
@@ -29,8 +35,7 @@ WasWhole old new P = (bytes : List ℕ) × ReadWhole old.bytes new.bytes bytes �
 -- this answer is due to these words and to what was read of the input
 abbrev pub IsDue : Answer → List (String Global) → End → End → Type 0
 IsDue (Lowered text) words old new = AreProper words × WasWhole old new (IsJobAnswer (Lowered text))
-IsDue Json words old new = AreProper words × WasWhole old new (IsJobAnswer Json)
-IsDue NotBuilt words old new = AreProper words × WasWhole old new (IsJobAnswer NotBuilt)
+IsDue (Refused text) words old new = AreProper words × WasWhole old new (IsJobAnswer (Refused text))
 IsDue Words words old new = (¬ AreProper words) × (new ≡ old)
 IsDue ReadFault words old new = AreProper words × HasFault old.faults new.faults
 IsDue TooLong words old new = AreProper words × ReadFront old.bytes new.bytes (2 ^ 26 + 1)
@@ -78,7 +83,7 @@ pub record GaveFront (answer : Answer) (words : List (String Global)) (old new :
 -- The table: what each status says.
 pub record Table (words : List (String Global)) (old new : Ends) (status : ℕ) : Type 0 where
   pub done : status ≡ DONE → (text : String Global) × Gave (Lowered text) words old new
-  pub refused_input : status ≡ REFUSED → Gave Json words old new ⊎ Gave NotBuilt words old new
+  pub refused_input : status ≡ REFUSED → (text : String Global) × Gave (Refused text) words old new
   pub refused_words : status ≡ WORDS → Gave Words words old new
   pub read_fault : status ≡ READ_FAULT → Gave ReadFault words old new
   pub write_fault : status ≡ WRITE_FAULT → (answer : Answer) × GaveFront answer words old new
@@ -103,10 +108,10 @@ pub record Causes (words : List (String Global)) (old new : Ends) (status : ℕ)
   pub refused_words : ¬ AreProper words → (status ≡ WORDS) ⊎ (status ≡ WRITE_FAULT)
   pub too_long : (bytes : List ℕ) → HasInput words old new bytes → 2 ^ 26 < length bytes
       → (status ≡ TOO_LONG) ⊎ ((status ≡ WRITE_FAULT) ⊎ (status ≡ OUT_OF_MEMORY))
-  pub refused_input : (bytes : List ℕ) → HasInput words old new bytes → length bytes ≤ 2 ^ 26 → ¬ IsFirstPath bytes
+  pub refused_input : (bytes : List ℕ) → HasInput words old new bytes → length bytes ≤ 2 ^ 26 → ¬ IsCoreSource bytes
       → (status ≡ REFUSED) ⊎ ((status ≡ WRITE_FAULT) ⊎ (status ≡ OUT_OF_MEMORY))
-  -- without a fault, what the first path takes is done
-  pub done : (bytes : List ℕ) → HasInput words old new bytes → WasWritten old new → length bytes ≤ 2 ^ 26 → IsFirstPath bytes
+  -- without a fault, a core program that keeps the static rules is done
+  pub done : (bytes : List ℕ) → HasInput words old new bytes → WasWritten old new → length bytes ≤ 2 ^ 26 → IsCoreSource bytes
       → (status ≡ DONE) ⊎ (status ≡ OUT_OF_MEMORY)
 
 -- no count of faults falls

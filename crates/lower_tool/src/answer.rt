@@ -22,10 +22,8 @@ pub const TOO_LONG: u8 = 6;
 pub enum Answer {
     /// The text of the lowered program.
     Lowered(String),
-    /// The input has no reading as JSON.
-    Json,
-    /// The input is no program that the first path takes.
-    NotBuilt,
+    /// The input is refused: the line that tells the cause.
+    Refused(String),
     /// The words are refused.
     Words,
     /// The input failed.
@@ -46,13 +44,12 @@ impl Answer {
     }
 
     /// The line for the notes, or nothing.
-    pub fn notes(&self) -> &'static [u8]
+    pub fn notes(&self) -> &[u8]
         ensures { result.now ≡ notes_text self.now }
     {
         match self {
             Answer::Lowered(_) => b"",
-            Answer::Json => b"lower: json\n",
-            Answer::NotBuilt => b"lower: not built\n",
+            Answer::Refused(line) => line.as_bytes(),
             Answer::Words => b"lower: words\n",
             Answer::ReadFault => b"lower: read fault\n",
             Answer::TooLong => b"lower: input too long\n",
@@ -65,7 +62,7 @@ impl Answer {
     {
         match self {
             Answer::Lowered(_) => DONE,
-            Answer::Json | Answer::NotBuilt => REFUSED,
+            Answer::Refused(_) => REFUSED,
             Answer::Words => WORDS,
             Answer::ReadFault => READ_FAULT,
             Answer::TooLong => TOO_LONG,

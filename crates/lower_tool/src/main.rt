@@ -11,6 +11,7 @@ mod mem_sink;
 mod mem_source;
 mod nullish;
 mod reading;
+mod refusal;
 mod run;
 mod std_ends;
 #[cfg(test)]

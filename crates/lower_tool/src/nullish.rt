@@ -1,24 +1,28 @@
 //! The lowering of nullish coalescing (ECMA-262, 13.13): `l ?? r` becomes
-//! `(x = l) !== null && x !== void 0 ? x : r`, with a new name `x`.
-ghost use Rattle.std.specs.Prelude.{IfOk, ◌≡◌, ◌+◌, ◌-◌, ◌*◌, ◌^◌, ◌<◌, ◌≤◌, false, true, map, string_bytes, codes, vec_len};
+//! `(x = l) !== null && x !== void 0 ? x : r` with a new name `x`, and
+//! `l !== null && l !== void 0 ? l : r` where `l` is `this` or a bound name that nothing writes.
+ghost use Rattle.std.specs.Prelude.{IfOk, ◌≡◌, ◌+◌, ◌-◌, ◌*◌, ◌^◌, ◌<◌, ◌≤◌, false, true, Some, [], ◌∷◌, map, string_bytes, codes, vec_len};
 ghost use Rattle.es_expressions.specs.OperationsShapes.{IsLogicalExpression};
 ghost use Rattle.es_tree.specs.Bare.{bare, bare_field, bare_fields, bare_trees};
 ghost use Rattle.es_tree.specs.Constructs.{has_nullish_coalescing, is_nullish_coalescing};
-ghost use Rattle.es_tree.specs.FirstPath.{is_first_path, is_first_path_node};
-ghost use Rattle.es_tree.specs.Tree.{fields_size, field_size, fields_of, kind_of, label_of, tree_size, trees, trees_size};
-ghost use Rattle.es_tree.specs.Views.{plain_field};
+ghost use Rattle.es_tree.specs.Core.{IsCoreProgram};
+ghost use Rattle.es_tree.specs.Scopes.{is_steady};
+ghost use Rattle.es_tree.specs.Words.{Text};
+ghost use Rattle.es_tree.specs.Tree.{Label, field_size, fields_of, fields_size, kind_of, label_of, tree_size, trees, trees_size};
+ghost use Rattle.es_tree.specs.Views.{plain_field, plain_fields};
 ghost use Rattle.es_tree.specs.Walks.{all_in_field, all_in_fields, all_in_trees, all_nodes, any_in_field, any_in_fields, any_in_trees};
 ghost use Rattle.es_runs.specs.Runs.{identifier};
-ghost use Rattle.es_runs.specs.Steps.{IsLowered, declarator_nodes, declare, var_of};
-ghost use Rattle.es_runs.specs.Rules.{binary_node, null_node, tested_by, void_zero_node};
+ghost use Rattle.es_runs.specs.Steps.{IsLowered, declarator_nodes, declare, reads_again, var_of};
+ghost use Rattle.es_runs.specs.Rules.{binary_node, in_place_of, null_node, tested, tested_by, void_zero_node};
 ghost use Rattle.lower_tool.specs.Changes.{FieldStep, FieldsStep, TreeStep, TreesStep, at_span};
-ghost use Rattle.lower_tool.specs.Lowers.{Lowers, plain_fields, reserved};
+ghost use Rattle.lower_tool.specs.Lowers.{IsTable, Lowers, coalesced, is_well_made, reserved, steady_in};
 
 use es_expressions::literals::{new_identifier, new_null_literal, new_numeric_literal};
 use es_expressions::operations::{
     LogicalExpression, new_assignment_expression, new_binary_expression,
     new_conditional_expression, new_logical_expression, new_unary_expression,
 };
+use es_scope::scoping::Scoping;
 use es_scope::uids::UidGenerator;
 use es_statements::program::{Program, new_variable_declaration, new_variable_declarator};
 use es_tree::builder::AstBuilder;
@@ -83,8 +87,35 @@ fn new_undefined_test(ast: &mut AstBuilder, left: Node) -> Result<Node, AllocErr
     Ok(node)
 }
 
-/// `(name = left) !== null && name !== void 0 ? name : right`, with this span.
+/// `first !== null && again !== void 0 ? value : right`, with this span.
 fn new_tested(
+    ast: &mut AstBuilder,
+    span: Span,
+    first: Node,
+    again: Node,
+    value: Node,
+    right: Node,
+) -> Result<Node, AllocError>
+    requires room { ast.old.next + 7 < 2 ^ 32 - 1 }
+    requires same { bare value ≡ bare again }
+    ensures made { IfOk result (λ node. bare node ≡ tested (at_span span) (bare first) (bare again) (bare right)) }
+    ensures counted { ast.new.next ≤ ast.old.next + 7 }
+{
+    let is_not_null = new_null_test(ast, first)?;
+    let is_not_undefined = new_undefined_test(ast, again)?;
+    let test = new_logical_expression(
+        ast,
+        NOWHERE,
+        LogicalOperator::And,
+        is_not_null,
+        is_not_undefined,
+    )?;
+    let node = new_conditional_expression(ast, span, test, value, right)?;
+    Ok(node)
+}
+
+/// `(name = left) !== null && name !== void 0 ? name : right`, with this span.
+fn new_tested_by(
     ast: &mut AstBuilder,
     span: Span,
     name: &str,
@@ -96,25 +127,10 @@ fn new_tested(
     ensures counted { ast.new.next ≤ ast.old.next + 11 }
 {
     let target = new_name(ast, name)?;
-    let assignment = new_assignment_expression(
-        ast,
-        NOWHERE,
-        AssignmentOperator::Assign,
-        target,
-        left,
-    )?;
-    let is_not_null = new_null_test(ast, assignment)?;
-    let tested = new_name(ast, name)?;
-    let is_not_undefined = new_undefined_test(ast, tested)?;
-    let test = new_logical_expression(
-        ast,
-        NOWHERE,
-        LogicalOperator::And,
-        is_not_null,
-        is_not_undefined,
-    )?;
-    let consequent = new_name(ast, name)?;
-    let node = new_conditional_expression(ast, span, test, consequent, right)?;
+    let first = new_assignment_expression(ast, NOWHERE, AssignmentOperator::Assign, target, left)?;
+    let again = new_name(ast, name)?;
+    let value = new_name(ast, name)?;
+    let node = new_tested(ast, span, first, again, value, right)?;
     Ok(node)
 }
 
@@ -138,32 +154,56 @@ fn is_nullish(node: &Node) -> bool
     }
 }
 
-/// Lowers each `??` in the tree. The name of an outer one is made first, then those of its left side,
-/// then those of its right side. Where memory runs out, the tree is of no more use.
+/// Whether the name is bound and nothing writes it.
+fn is_steady(scoping: &Scoping, name: &str) -> bool
+    requires { IsTable scoping.now }
+    ensures { result ≡ steady_in scoping.now name.now }
+{
+    match scoping.find_binding(scoping.root_scope_id(), name) {
+        Some(symbol) => !scoping.symbol_is_mutated(symbol),
+        None => false,
+    }
+}
+
+/// Whether a left side is read twice as it stands: `this`, and a bound name that nothing writes.
+fn reads_again(scoping: &Scoping, node: &Node) -> bool
+    requires { IsTable scoping.now }
+    ensures { result ≡ reads_again (steady_in scoping.now) node.now }
+{
+    match &node.kind {
+        Kind::ThisExpression => true,
+        Kind::Identifier { name, .. } => is_steady(scoping, name.as_str()),
+        _ => false,
+    }
+}
+
+/// Lowers each `??` in the tree. Where memory runs out, the tree is of no more use.
 #[cycle(lower)]
-fn lower_node(node: &mut Node, ctx: &mut Lowering) -> Result<(), AllocError>
-    requires path { all_nodes is_first_path_node node.old ≡ true }
+fn lower_node(node: &mut Node, scoping: &Scoping, ctx: &mut Lowering) -> Result<(), AllocError>
+    requires table { IsTable scoping.now }
+    requires path { all_nodes is_well_made node.old ≡ true }
     requires room { reserved ctx.old + 16 * tree_size node.old < 2 ^ 32 - 1 }
-    ensures lowered { IfOk result (λ _. Lowers TreeStep ctx.old (bare node.old) ctx.new (bare node.new)) }
+    ensures lowered { IfOk result (λ _. Lowers (TreeStep (steady_in scoping.now)) ctx.old (bare node.old) ctx.new (bare node.new)) }
     ensures none { IfOk result (λ _. has_nullish_coalescing node.new ≡ false) }
     ensures counted { IfOk result (λ _. reserved ctx.new ≤ reserved ctx.old + 16 * tree_size node.old) }
 {
     if is_nullish(node) {
         let taken = mem::replace(node, new_placeholder(ctx.ast.alloc));
-        *node = lower_nullish(taken, ctx)?;
+        *node = lower_nullish(taken, scoping, ctx)?;
     } else {
-        lower_fields(&mut node.fields, ctx)?;
+        lower_fields(&mut node.fields, scoping, ctx)?;
     }
     Ok(())
 }
 
 /// The conditional of a `??`, with its sides lowered.
 #[cycle(lower)]
-fn lower_nullish(node: Node, ctx: &mut Lowering) -> Result<Node, AllocError>
+fn lower_nullish(node: Node, scoping: &Scoping, ctx: &mut Lowering) -> Result<Node, AllocError>
+    requires table { IsTable scoping.now }
     requires nullish { is_nullish_coalescing (kind_of node) (label_of node) (fields_of node) ≡ true }
-    requires path { all_nodes is_first_path_node node ≡ true }
+    requires path { all_nodes is_well_made node ≡ true }
     requires room { reserved ctx.old + 16 * tree_size node < 2 ^ 32 - 1 }
-    ensures lowered { IfOk result (λ made. Lowers TreeStep ctx.old (bare node) ctx.new (bare made)) }
+    ensures lowered { IfOk result (λ made. Lowers (TreeStep (steady_in scoping.now)) ctx.old (bare node) ctx.new (bare made)) }
     ensures none { IfOk result (λ made. has_nullish_coalescing made ≡ false) }
     ensures counted { IfOk result (λ _. reserved ctx.new ≤ reserved ctx.old + 16 * tree_size node) }
 {
@@ -171,60 +211,121 @@ fn lower_nullish(node: Node, ctx: &mut Lowering) -> Result<Node, AllocError>
         id: _id,
         span,
         operator: _operator,
-        mut left,
-        mut right,
+        left,
+        right,
     } = LogicalExpression::open(node);
+    let made = if reads_again(scoping, &left) {
+        lower_by_reading(span, left, right, scoping, ctx)?
+    } else {
+        lower_by_temporary(span, left, right, scoping, ctx)?
+    };
+    Ok(made)
+}
+
+/// `left ?? right` where `left` can be read again.
+#[cycle(lower)]
+fn lower_by_reading(
+    span: Span,
+    left: Node,
+    mut right: Node,
+    scoping: &Scoping,
+    ctx: &mut Lowering,
+) -> Result<Node, AllocError>
+    requires table { IsTable scoping.now }
+    requires again { reads_again (steady_in scoping.now) left ≡ true }
+    requires left { all_nodes is_well_made left ≡ true }
+    requires right { all_nodes is_well_made right ≡ true }
+    requires room { reserved ctx.old + 16 * (1 + tree_size right) < 2 ^ 32 - 1 }
+    ensures lowered { IfOk result (λ made. (m : Label) → m.texts ≡ Some (codes "??") ∷ [] → in_place_of m ≡ at_span span →
+        Lowers (TreeStep (steady_in scoping.now)) ctx.old (coalesced m (bare left) (bare right)) ctx.new (bare made)) }
+    ensures none { IfOk result (λ made. has_nullish_coalescing made ≡ false) }
+    ensures counted { IfOk result (λ _. reserved ctx.new ≤ reserved ctx.old + 16 * (1 + tree_size right)) }
+{
+    lower_node(&mut right, scoping, ctx)?;
+    let again = left.clone_in(&mut ctx.ast)?;
+    let value = left.clone_in(&mut ctx.ast)?;
+    let made = new_tested(&mut ctx.ast, span, left, again, value, right)?;
+    Ok(made)
+}
+
+/// `left ?? right` where `left` takes a temporary. Its name is made first, then those of the left
+/// side, then those of the right side.
+#[cycle(lower)]
+fn lower_by_temporary(
+    span: Span,
+    mut left: Node,
+    mut right: Node,
+    scoping: &Scoping,
+    ctx: &mut Lowering,
+) -> Result<Node, AllocError>
+    requires table { IsTable scoping.now }
+    requires again { reads_again (steady_in scoping.now) left ≡ false }
+    requires left { all_nodes is_well_made left ≡ true }
+    requires right { all_nodes is_well_made right ≡ true }
+    requires room { reserved ctx.old + 16 * (1 + tree_size left + tree_size right) < 2 ^ 32 - 1 }
+    ensures lowered { IfOk result (λ made. (m : Label) → m.texts ≡ Some (codes "??") ∷ [] → in_place_of m ≡ at_span span →
+        Lowers (TreeStep (steady_in scoping.now)) ctx.old (coalesced m (bare left) (bare right)) ctx.new (bare made)) }
+    ensures none { IfOk result (λ made. has_nullish_coalescing made ≡ false) }
+    ensures counted { IfOk result (λ _. reserved ctx.new ≤ reserved ctx.old + 16 * (1 + tree_size left + tree_size right)) }
+{
     let name = ctx.uids.generate_from_node(&left)?;
-    lower_node(&mut left, ctx)?;
-    lower_node(&mut right, ctx)?;
-    let made = new_tested(&mut ctx.ast, span, name.as_str(), left, right)?;
+    lower_node(&mut left, scoping, ctx)?;
+    lower_node(&mut right, scoping, ctx)?;
+    let made = new_tested_by(&mut ctx.ast, span, name.as_str(), left, right)?;
     Ok(made)
 }
 
 /// The same in each of these fields.
 #[cycle(lower)]
-fn lower_fields(fields: &mut [Field], ctx: &mut Lowering) -> Result<(), AllocError>
-    requires path { all_in_fields is_first_path_node (plain_fields fields.old) ≡ true }
+fn lower_fields(
+    fields: &mut [Field],
+    scoping: &Scoping,
+    ctx: &mut Lowering,
+) -> Result<(), AllocError>
+    requires table { IsTable scoping.now }
+    requires path { all_in_fields is_well_made (plain_fields fields.old) ≡ true }
     requires room { reserved ctx.old + 16 * fields_size (plain_fields fields.old) < 2 ^ 32 - 1 }
-    ensures lowered { IfOk result (λ _. Lowers FieldsStep ctx.old (bare_fields (plain_fields fields.old)) ctx.new (bare_fields (plain_fields fields.new))) }
+    ensures lowered { IfOk result (λ _. Lowers (FieldsStep (steady_in scoping.now)) ctx.old (bare_fields (plain_fields fields.old)) ctx.new (bare_fields (plain_fields fields.new))) }
     ensures none { IfOk result (λ _. any_in_fields is_nullish_coalescing (plain_fields fields.new) ≡ false) }
     ensures counted { IfOk result (λ _. reserved ctx.new ≤ reserved ctx.old + 16 * fields_size (plain_fields fields.old)) }
 {
     for field in fields {
-        lower_field(field, ctx)?;
+        lower_field(field, scoping, ctx)?;
     }
     Ok(())
 }
 
 /// The same in one field.
 #[cycle(lower)]
-fn lower_field(field: &mut Field, ctx: &mut Lowering) -> Result<(), AllocError>
-    requires path { all_in_field is_first_path_node (plain_field field.old) ≡ true }
+fn lower_field(field: &mut Field, scoping: &Scoping, ctx: &mut Lowering) -> Result<(), AllocError>
+    requires table { IsTable scoping.now }
+    requires path { all_in_field is_well_made (plain_field field.old) ≡ true }
     requires room { reserved ctx.old + 16 * field_size (plain_field field.old) < 2 ^ 32 - 1 }
-    ensures lowered { IfOk result (λ _. Lowers FieldStep ctx.old (bare_field (plain_field field.old)) ctx.new (bare_field (plain_field field.new))) }
+    ensures lowered { IfOk result (λ _. Lowers (FieldStep (steady_in scoping.now)) ctx.old (bare_field (plain_field field.old)) ctx.new (bare_field (plain_field field.new))) }
     ensures none { IfOk result (λ _. any_in_field is_nullish_coalescing (plain_field field.new) ≡ false) }
     ensures counted { IfOk result (λ _. reserved ctx.new ≤ reserved ctx.old + 16 * field_size (plain_field field.old)) }
 {
     match field {
         Field::Missing => {}
-        Field::One(node) => lower_node(node, ctx)?,
-        Field::Many(nodes) => lower_nodes(nodes, ctx)?,
-        Field::Statements(nodes) => lower_nodes(nodes, ctx)?,
+        Field::One(node) => lower_node(node, scoping, ctx)?,
+        Field::Many(nodes) => lower_nodes(nodes, scoping, ctx)?,
+        Field::Statements(nodes) => lower_nodes(nodes, scoping, ctx)?,
     }
     Ok(())
 }
 
 /// The same in each node of a list.
 #[cycle(lower)]
-fn lower_nodes(nodes: &mut [Node], ctx: &mut Lowering) -> Result<(), AllocError>
-    requires path { all_in_trees is_first_path_node (trees nodes.old) ≡ true }
+fn lower_nodes(nodes: &mut [Node], scoping: &Scoping, ctx: &mut Lowering) -> Result<(), AllocError>
+    requires table { IsTable scoping.now }
+    requires path { all_in_trees is_well_made (trees nodes.old) ≡ true }
     requires room { reserved ctx.old + 16 * trees_size (trees nodes.old) < 2 ^ 32 - 1 }
-    ensures lowered { IfOk result (λ _. Lowers TreesStep ctx.old (bare_trees (trees nodes.old)) ctx.new (bare_trees (trees nodes.new))) }
+    ensures lowered { IfOk result (λ _. Lowers (TreesStep (steady_in scoping.now)) ctx.old (bare_trees (trees nodes.old)) ctx.new (bare_trees (trees nodes.new))) }
     ensures none { IfOk result (λ _. any_in_trees is_nullish_coalescing (trees nodes.new) ≡ false) }
     ensures counted { IfOk result (λ _. reserved ctx.new ≤ reserved ctx.old + 16 * trees_size (trees nodes.old)) }
 {
     for node in nodes {
-        lower_node(node, ctx)?;
+        lower_node(node, scoping, ctx)?;
     }
     Ok(())
 }
@@ -267,68 +368,24 @@ fn declare_names(
 }
 
 /// The program with each `??` lowered, and the new names declared by one `var` statement in front of
-/// its body. New nodes have ids from `next` on. Fails where memory runs out.
-pub fn lower_program(alloc: Global, program: Node, next: u32) -> Result<Node, AllocError>
-    requires path { is_first_path program ≡ true }
+/// its body. New nodes have the next ids of `ast`. Fails where memory runs out.
+pub fn lower_program(program: Node, ast: AstBuilder, scoping: &Scoping) -> Result<Node, AllocError>
+    requires core { IsCoreProgram program }
     requires size { tree_size program < 2 ^ 20 }
-    requires next { next ≡ tree_size program }
+    requires next { ast.next ≡ tree_size program }
+    requires table { IsTable scoping.now }
+    requires scoping { (x : Text) → steady_in scoping.now x ≡ is_steady program x }
     ensures lowered { IfOk result (λ q. IsLowered program q) }
     ensures none { IfOk result (λ q. has_nullish_coalescing q ≡ false) }
 {
+    let alloc = ast.alloc;
     let uids = UidGenerator::new(alloc, &program)?;
-    let mut ctx = Lowering {
-        ast: AstBuilder::new(alloc, next),
-        uids,
-    };
+    let mut ctx = Lowering { ast, uids };
     let mut program = Program::open(program);
-    lower_nodes(&mut program.directives, &mut ctx)?;
-    lower_nodes(&mut program.body, &mut ctx)?;
+    lower_nodes(&mut program.directives, scoping, &mut ctx)?;
+    lower_nodes(&mut program.body, scoping, &mut ctx)?;
     let Lowering { mut ast, uids } = ctx;
     declare_names(&mut ast, uids.into_made(), &mut program.body)?;
     let lowered = program.close(alloc)?;
     Ok(lowered)
-}
-
-#[cfg(test)]
-mod tests {
-    use super::*;
-    use es_statements::program::{new_expression_statement, new_program};
-    use es_tree::operators::SourceType;
-    use std::test::Fail;
-
-    /// The statements of a program, or none.
-    fn body(program: &Node) -> &[Node] {
-        match program.fields.last() {
-            Some(Field::Statements(nodes)) => nodes,
-            _ => &[],
-        }
-    }
-
-    // The contracts leave want of memory free, and the ids of new nodes open.
-    #[test]
-    fn lowers_and_declares(rt: HostRuntime) -> Result<(), Fail> {
-        let alloc = rt.alloc();
-        let mut ast = AstBuilder::new(alloc, 0);
-        let left = new_identifier(&mut ast, NOWHERE, String::from_str(alloc, "a")?)?;
-        let right = new_identifier(&mut ast, NOWHERE, String::from_str(alloc, "b")?)?;
-        let span = Span { start: 0, end: 6 };
-        let whole = new_logical_expression(&mut ast, span, LogicalOperator::Coalesce, left, right)?;
-        let statement = new_expression_statement(&mut ast, NOWHERE, whole)?;
-        let statements = Vec::from_array(alloc, [statement])?;
-        let program = new_program(
-            &mut ast,
-            NOWHERE,
-            SourceType::Script,
-            Vec::new(alloc),
-            statements,
-        )?;
-        let lowered = lower_program(alloc, program, ast.next)?;
-        let statements = body(&lowered);
-        assert_eq!(rt; statements.len(), 2);
-        for (i, node) in statements.iter().enumerate() {
-            let is_declaration = matches!(node.kind, Kind::VariableDeclaration { .. });
-            assert_eq!(rt; is_declaration, i == 0);
-        }
-        Ok(())
-    }
 }

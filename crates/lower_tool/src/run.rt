@@ -8,8 +8,8 @@ use crate::answer::{Answer, DONE, OUT_OF_MEMORY, WRITE_FAULT};
 use crate::ends::{Failed, Sink, Source};
 use crate::job::lower_text;
 use crate::reading::{ReadError, read_input};
+use crate::refusal::refusal_line;
 use crate::writing::write_all;
-use es_tree::error::LowerError;
 use std::alloc::{AllocError, Global};
 
 /// Reads the words, then the input, lowers it, and writes the answer: first `output`, then `notes`.
@@ -87,9 +87,7 @@ fn answer_to(alloc: Global, bytes: &[u8]) -> Result<Answer, AllocError>
 {
     match lower_text(alloc, bytes) {
         Ok(text) => Ok(Answer::Lowered(text)),
-        Err(LowerError::Json) => Ok(Answer::Json),
-        Err(LowerError::NotBuilt) => Ok(Answer::NotBuilt),
-        Err(LowerError::OutOfMemory) => Err(AllocError),
+        Err(error) => Ok(Answer::Refused(refusal_line(alloc, error)?)),
     }
 }
 

@@ -1,6 +1,8 @@
 ghost use Rattle.std.specs.Prelude.{◌<◌};
 
 mod cases;
+mod core_cases;
+mod refusals;
 
 use crate::ends::Source;
 use crate::fixed_source::FixedSource;
@@ -108,12 +110,11 @@ fn refused_words_read_nothing(rt: HostRuntime) -> Result<(), Fail> {
 
 #[test]
 fn refused_inputs_have_their_lines(rt: HostRuntime) -> Result<(), Fail> {
-    for (bytes, line) in [
-        (&b"\xff"[..], &b"lower: json\n"[..]),
-        (b"[]", b"lower: not built\n"),
-    ] {
-        let mut input = FixedSource::new(bytes.to_vec(rt.alloc())?);
-        assert_run(&rt, &["--nullish"], &mut input, 1, b"", line)?;
+    let mut input = FixedSource::new(b"\xff".to_vec(rt.alloc())?);
+    assert_run(&rt, &["--nullish"], &mut input, 1, b"", b"lower: json\n")?;
+    for (text, line) in refusals::REFUSALS {
+        let mut input = FixedSource::new(text.as_bytes().to_vec(rt.alloc())?);
+        assert_run(&rt, &["--nullish"], &mut input, 1, b"", line.as_bytes())?;
     }
     Ok(())
 }
@@ -197,18 +198,21 @@ fn pieces_make_no_difference(rt: HostRuntime) -> Result<(), Fail> {
 }
 
 #[test]
-fn later_kinds_are_not_built(rt: HostRuntime) -> Result<(), Fail> {
-    // `a + b;`
-    let sum =
-        r#"{"type":"Program","sourceType":"script","body":[{"type":"ExpressionStatement","expression":{"type":"BinaryExpression","operator":"+","left":{"type":"Identifier","name":"a"},"right":{"type":"Identifier","name":"b"}}}]}"#;
-    let mut input = FixedSource::new(sum.as_bytes().to_vec(rt.alloc())?);
-    assert_run(
-        &rt,
-        &["--nullish"],
-        &mut input,
-        1,
-        b"",
-        b"lower: not built\n",
-    )?;
+fn core_programs_become_what_stands_beside_them(rt: HostRuntime) -> Result<(), Fail> {
+    for (source, written) in [
+        core_cases::DECLARED_TARGET,
+        core_cases::NO_CONSTRUCT,
+        core_cases::ASSIGNED_LET,
+        core_cases::CONSTANT,
+        core_cases::USED_BEFORE_ITS_DECLARATION,
+        core_cases::WRITTEN_AFTER_ITS_USE,
+        core_cases::WRITTEN_IN_PARENTHESES,
+        core_cases::DECLARED_NAME_IS_TAKEN,
+        core_cases::INSIDE_CALLS_AND_CHAINS,
+        core_cases::DIRECTIVE_STAYS_FIRST,
+        core_cases::NAME_OF_AN_EARLIER_DECLARATOR,
+    ] {
+        assert_lowered(&rt, source, written, 65_536)?;
+    }
     Ok(())
 }

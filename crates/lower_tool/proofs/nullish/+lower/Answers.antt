@@ -1,17 +1,18 @@
-use Rattle.std.proofs.Common.{arith, ◌≡◌, sym, ap, subst, true, ℕ, ◌<◌, length, get_or}
+use Rattle.std.proofs.Common.{arith, ◌≡◌, ◌∙◌, sym, ap, subst, true, ℕ, ◌<◌, length, get_or}
 use Rattle.std.proofs.lemmas.List.Sums.{sum_by_more, sum_by_more_le, sum_by-take-le}
 use Rattle.es_tree.specs.Tree.{tree_size, field_size}
-use Rattle.es_tree.specs.Bare.{bare_label}
+use Rattle.es_tree.specs.Bare.{bare, bare_label}
+use Rattle.es_tree.proofs.Renumber.{renumber-bare}
 use Rattle.es_tree.specs.Views.{plain_field}
 use Rattle.es_tree.specs.Heads.{head_of, label}
-use Rattle.es_tree.specs.FirstPath.{is_first_path_node}
+use Rattle.lower_tool.specs.Lowers.{is_well_made, steady_in}
 use Rattle.es_tree.specs.Constructs.{is_nullish_coalescing}
 use Rattle.es_tree.specs.Walks.{all_in_field, all_nodes}
 use Rattle.es_tree.specs.declared.node.Field.{Field as NodeField}
 use Rattle.lower_tool.specs.Changes.{at_span}
 use Rattle.lower_tool.proofs.Items.{so_far_none, so_far_more, written_back}
 use Rattle.lower_tool.proofs.Lifts.{change_none, change_trans, change_one, change_many, change_statements, change_node}
-use Rattle.lower_tool.proofs.Tested.{nullish_lowered, none_lowered}
+use Rattle.lower_tool.proofs.Tested.{lowered_by_reading, lowered_by_temporary, none_by_reading, none_lowered}
 use Rattle.lower_tool.proofs.Rows.{change_fields, change_trees, fields_size-sum, trees_size-sum, all_at_field, all_at_tree, none_in_fields, none_in_trees}
 use Rattle.lower_tool.proofs.nullish.+lower.Goals as goal
 
@@ -44,7 +45,7 @@ lower_fields-lower_field-requires t c =
     let fits = sum_by_more_le size first i x c.loop-field-test.true in
     let whole = fields_size-sum first in
     let here = ap size same in
-    (omega arith, (subst (λ y. all_in_field is_first_path_node (plain_field y) ≡ true) (sym same) (all_at_field is_first_path_node first i x c.loop-field-test.true c.requires.path), omega arith))
+    (omega arith, (c.requires.table, (subst (λ y. all_in_field is_well_made (plain_field y) ≡ true) (sym same) (all_at_field is_well_made first i x c.loop-field-test.true c.requires.path), omega arith)))
 
 pub lower_fields-loop-field-preserved : goal.lower_fields-loop-field-preserved
 lower_fields-loop-field-preserved t c =
@@ -80,7 +81,7 @@ lower_nodes-lower_node-requires t c =
     let fits = sum_by_more_le tree_size first i x c.loop-node-test.true in
     let whole = trees_size-sum first in
     let here = ap tree_size same in
-    (omega arith, (subst (λ y. all_nodes is_first_path_node y ≡ true) (sym same) (all_at_tree is_first_path_node first i x c.loop-node-test.true c.requires.path), omega arith))
+    (omega arith, (c.requires.table, (subst (λ y. all_nodes is_well_made y ≡ true) (sym same) (all_at_tree is_well_made first i x c.loop-node-test.true c.requires.path), omega arith)))
 
 pub lower_nodes-loop-node-preserved : goal.lower_nodes-loop-node-preserved
 lower_nodes-loop-node-preserved t c =
@@ -111,11 +112,25 @@ lower_node-returns-in_ok-lower_fields-clause-lowered t c =
     let back = written_back c.lower_fields.new.fields a.fields.items a.fields.len (omega (arith, c.lower_fields.auto.fields, ap length c.deref_mut.ensures.value, a.fields.ok.0)) in
     rw (← c.node.view_is, back, ← c.deref_mut.ensures.value) (change_node (head_of a.kind).kind (bare_label (label a.id a.span (head_of a.kind))) c.in_ok-lower_fields.ensures.lowered)
 
-pub lower_nullish-returns-clause-lowered : goal.lower_nullish-returns-clause-lowered
-lower_nullish-returns-clause-lowered t c =
-    nullish_lowered c.lower_node.new.node c.lower_node-2.new.node c.in_ok-made.made c.open-operator.result _ c.open-operator.ensures c.requires.nullish c.in_ok-name.ensures.fresh c.in_ok-name.ensures.taken c.in_ok-name.ensures.made
-    c.in_ok-lower_node.ensures.lowered c.in_ok-lower_node-2.ensures.lowered (rw c.as_str.ensures.value at c.in_ok-made.ensures.made)
+-- a `??` whose left side is read again
 
-pub lower_nullish-returns-clause-none : goal.lower_nullish-returns-clause-none
-lower_nullish-returns-clause-none t c =
-    none_lowered (at_span c.open-operator.result.span) _ c.lower_node.new.node c.lower_node-2.new.node c.in_ok-made.made c.in_ok-made.ensures.made c.in_ok-lower_node.ensures.none c.in_ok-lower_node-2.ensures.none
+pub lower_by_reading-returns-clause-lowered : goal.lower_by_reading-returns-clause-lowered
+lower_by_reading-returns-clause-lowered t c = λ m texts place.
+    lowered_by_reading c.args.span c.args.left c.in_ok-again.again c.args.right c.lower_node.new.node c.in_ok-made.made m texts place c.requires.again
+    (ap bare c.in_ok-again.ensures.copy ∙ renumber-bare _ c.args.left) c.in_ok-lower_node.ensures.lowered c.in_ok-made.ensures.made
+
+pub lower_by_reading-returns-clause-none : goal.lower_by_reading-returns-clause-none
+lower_by_reading-returns-clause-none t c =
+    none_by_reading (steady_in c.args.scoping.now) (at_span c.args.span) c.args.left c.in_ok-again.again c.lower_node.new.node c.in_ok-made.made c.requires.again c.requires.left
+    (ap bare c.in_ok-again.ensures.copy ∙ renumber-bare _ c.args.left) c.in_ok-made.ensures.made c.in_ok-lower_node.ensures.none
+
+-- a `??` with a temporary
+
+pub lower_by_temporary-returns-clause-lowered : goal.lower_by_temporary-returns-clause-lowered
+lower_by_temporary-returns-clause-lowered t c = λ m texts place.
+    lowered_by_temporary c.args.span c.args.left c.lower_node.new.node c.args.right c.lower_node-2.new.node c.in_ok-made.made _ m texts place c.requires.again
+    c.in_ok-name.ensures.fresh c.in_ok-name.ensures.taken c.in_ok-name.ensures.made c.in_ok-lower_node.ensures.lowered c.in_ok-lower_node-2.ensures.lowered (rw c.as_str.ensures.value at c.in_ok-made.ensures.made)
+
+pub lower_by_temporary-returns-clause-none : goal.lower_by_temporary-returns-clause-none
+lower_by_temporary-returns-clause-none t c =
+    none_lowered (at_span c.args.span) _ c.lower_node.new.node c.lower_node-2.new.node c.in_ok-made.made c.in_ok-made.ensures.made c.in_ok-lower_node.ensures.none c.in_ok-lower_node-2.ensures.none
