@@ -1,0 +1,2 @@
+const port = config.port ?? 8080;
+let size = port ?? 1, rest = this ?? size;
