@@ -1,5 +1,5 @@
 -- The causes of a refusal and a core source exclude one another.
-use Rattle.std.proofs.Common.{◌≡◌, ℕ, true, false, List, [], Some, sym, ap, ◌∙◌, subst, arith}
+use Rattle.std.proofs.Common.{◌≡◌, ℕ, true, false, List, [], Some, sym, ap, ◌∙◌, subst, arith, ◌++◌, refl, ◌∷◌}
 use Rattle.serde_json.specs.Data.{Data}
 use Rattle.es_tree.specs.Core.{is_core, is_core_node, is_not_core}
 use Rattle.es_tree.specs.StaticRules.{Break, breaks, IsFirstBreak}
@@ -7,14 +7,21 @@ use Rattle.es_tree.specs.Tree.{Tree}
 use Rattle.es_tree.specs.Walks.{first_node}
 use Rattle.es_tree.specs.declared.error.LowerError.{LowerError}
 use Rattle.es_tree.specs.declared.error.LowerError.TheVariants.{Json, TooLarge, TooDeep, Shape, Invalid, Unsupported}
+use Rattle.es_tree.specs.declared.error.Rule.{Rule}
 use Rattle.es_tree.specs.declared.error.UnsupportedKind.TheVariants.{NotBuilt}
+use Rattle.es_tree.specs.declared.ids.NodeId.{NodeId}
 use Rattle.es_tree.specs.declared.table.Sort.TheVariants.{Program as s-Program}
 use Rattle.es_tree.proofs.FirstNode.{is_none, all-first}
 use Rattle.es_json.specs.Faults.{faults, first_path_of}
 use Rattle.es_json.specs.Programs.{IsProgramForm, IsRefusal}
 use Rattle.es_json.proofs.NoFaults.{no_faults}
 use Rattle.es_json.proofs.OneTree.{one_tree_always}
-use Rattle.lower_tool.specs.Job.{IsReading, Reads, IsCoreSource, IsUnread, IsCause}
+use Rattle.std.specs.Prelude.{codes}
+use Rattle.std.specs.Fmt.{decimal}
+use Rattle.es_tree.specs.Causes.{rule_name, unsupported_name}
+use Rattle.es_json.specs.Pointer.{pointer}
+use Rattle.lower_tool.specs.Answer.{line, refusal_text}
+use Rattle.lower_tool.specs.Job.{IsReading, HasReading, Reads, IsCoreSource, IsUnread, IsBeyondCore, IsBroken, IsCause}
 
 -- bytes read as one value, and as one program
 one_value : (bytes : List ℕ) (v w : Data) → IsReading bytes v → IsReading bytes w → v ≡ w
@@ -66,3 +73,82 @@ not_refused bytes (Invalid rule id) cause source =
     let first : IsFirstBreak (breaks source.program) (Invalid rule id) = subst (λ p. IsFirstBreak (breaks p) (Invalid rule id)) same cause.first in
     subst (λ (bs : List Break). IsFirstBreak bs (Invalid rule id)) source.kept first
 not_refused bytes _ cause source = absurd cause
+
+-- ONE CAUSE: an input has at most one line
+
+-- a cause by what is known of the input
+data Known (bytes : List ℕ) : LowerError → Type 0 where
+  no_reading : (HasReading bytes → ⊥) → Known bytes Json
+  unread : {error : LowerError} → IsUnreadError error → IsUnread bytes error → Known bytes error
+  beyond_core : {id : NodeId} → IsBeyondCore bytes id → Known bytes (Unsupported NotBuilt id)
+  broken : {rule : Rule} {id : NodeId} → IsBroken bytes (Invalid rule id) → Known bytes (Invalid rule id)
+
+known : (bytes : List ℕ) (error : LowerError) → IsCause bytes error → Known bytes error
+known bytes Json cause = no_reading cause
+known bytes (TooLarge n) cause = unread tt cause
+known bytes (TooDeep n) cause = unread tt cause
+known bytes (Shape path) cause = unread tt cause
+known bytes (Unsupported NotBuilt id) cause = beyond_core cause
+known bytes (Invalid rule id) cause = broken cause
+known bytes _ cause = absurd cause
+
+unread_line : (v : Data) (e f : LowerError) → IsUnreadError e → IsUnreadError f → IsRefusal v e → IsRefusal v f → refusal_text e ≡ refusal_text f
+unread_line v (TooLarge n) (TooLarge m) _ _ r s = ap (λ k. refusal_text (TooLarge k)) (r.1 ∙ sym s.1)
+unread_line v (TooDeep n) (TooDeep m) _ _ r s = ap (λ k. refusal_text (TooDeep k)) (r.2 ∙ sym s.2)
+unread_line v (Shape p) (Shape q) _ _ r s =
+    let same : Some r.2.path ≡ Some s.2.path = sym r.2.first ∙ s.2.first in
+    let path : r.2.path ≡ s.2.path = cc in
+    ap (λ (text : List ℕ). line (codes "lower: shape " ++ text)) (r.2.pointed ∙ ap pointer path ∙ sym s.2.pointed)
+unread_line v (TooLarge n) (TooDeep m) _ _ r s = absurd (omega (arith, r.0, s.0))
+unread_line v (TooLarge n) (Shape q) _ _ r s = absurd (omega (arith, r.0, s.0))
+unread_line v (TooDeep n) (TooLarge m) _ _ r s = absurd (omega (arith, r.0, s.0))
+unread_line v (TooDeep n) (Shape q) _ _ r s = absurd (omega (arith, r.1, s.1))
+unread_line v (Shape p) (TooLarge m) _ _ r s = absurd (omega (arith, r.0, s.0))
+unread_line v (Shape p) (TooDeep m) _ _ r s = absurd (omega (arith, r.1, s.1))
+unread_line v (TooLarge n) _ _ told r s = absurd told
+unread_line v (TooDeep n) _ _ told r s = absurd told
+unread_line v (Shape p) _ _ told r s = absurd told
+unread_line v _ f told _ r s = absurd told
+
+read_already : (bytes : List ℕ) (error : LowerError) (p : Tree) → IsUnreadError error → IsUnread bytes error → Reads bytes p → ⊥
+read_already bytes error p told u reads =
+    let same = one_value bytes reads.value u.value reads.reading u.reading in
+    no_refusal u.value p error (subst (λ v. IsProgramForm v p) same reads.form) u.refusal told
+
+break_line : (bs : List Break) (r s : Rule) (i j : NodeId) → IsFirstBreak bs (Invalid r i) → IsFirstBreak bs (Invalid s j) → refusal_text (Invalid r i) ≡ refusal_text (Invalid s j)
+break_line [] r s i j h g = absurd h
+break_line (b ∷ bs) r s i j h g = let same : (r, i.0) ≡ (s, j.0) = sym h ∙ g in ap (λ (x : Break). line (codes "lower: invalid " ++ rule_name x.0 ++ codes " at node " ++ decimal x.1)) same
+
+one_line : (bytes : List ℕ) (e f : LowerError) → Known bytes e → Known bytes f → refusal_text e ≡ refusal_text f
+one_line bytes _ _ (no_reading n) (no_reading m) = refl
+one_line bytes _ _ (no_reading n) (unread told u) = absurd (n (record { value = u.value; reading = u.reading }))
+one_line bytes _ _ (no_reading n) (beyond_core b) = absurd (n (record { value = b.reads.value; reading = b.reads.reading }))
+one_line bytes _ _ (no_reading n) (broken b) = absurd (n (record { value = b.reads.value; reading = b.reads.reading }))
+one_line bytes _ _ (unread told u) (no_reading n) = absurd (n (record { value = u.value; reading = u.reading }))
+one_line bytes e f (unread told u) (unread also w) =
+    let same = one_value bytes u.value w.value u.reading w.reading in
+    unread_line w.value e f told also (subst (λ v. IsRefusal v e) same u.refusal) w.refusal
+one_line bytes e _ (unread told u) (beyond_core b) = absurd (read_already bytes e b.program told u b.reads)
+one_line bytes e _ (unread told u) (broken b) = absurd (read_already bytes e b.program told u b.reads)
+one_line bytes _ _ (beyond_core b) (no_reading n) = absurd (n (record { value = b.reads.value; reading = b.reads.reading }))
+one_line bytes _ f (beyond_core b) (unread told u) = absurd (read_already bytes f b.program told u b.reads)
+one_line bytes _ _ (beyond_core {id = i} b) (beyond_core {id = j} d) =
+    let same = one_program bytes b.program d.program b.reads d.reads in
+    let ids : Some i.0 ≡ Some j.0 = sym (subst (λ p. first_node is_not_core p ≡ Some i.0) same b.first) ∙ d.first in
+    let number : i.0 ≡ j.0 = cc in
+    ap (λ (k : ℕ). line (codes "lower: unsupported " ++ unsupported_name NotBuilt ++ codes " at node " ++ decimal k)) number
+one_line bytes _ _ (beyond_core {id = i} b) (broken d) =
+    let same = one_program bytes b.program d.program b.reads d.reads in
+    absurd (core_after_all d.program i.0 d.core (subst (λ p. first_node is_not_core p ≡ Some i.0) same b.first))
+one_line bytes _ _ (broken b) (no_reading n) = absurd (n (record { value = b.reads.value; reading = b.reads.reading }))
+one_line bytes _ f (broken b) (unread told u) = absurd (read_already bytes f b.program told u b.reads)
+one_line bytes _ _ (broken b) (beyond_core {id = j} d) =
+    let same = one_program bytes d.program b.program d.reads b.reads in
+    absurd (core_after_all b.program j.0 b.core (subst (λ p. first_node is_not_core p ≡ Some j.0) same d.first))
+one_line bytes _ _ (broken {rule = r} {id = i} b) (broken {rule = s} {id = j} d) =
+    let same = one_program bytes b.program d.program b.reads d.reads in
+    break_line (breaks d.program) r s i j (subst (λ p. IsFirstBreak (breaks p) (Invalid r i)) same b.first) d.first
+
+-- two causes of one input have one line
+pub one_cause : (bytes : List ℕ) (e f : LowerError) → IsCause bytes e → IsCause bytes f → refusal_text e ≡ refusal_text f
+one_cause bytes e f cause other = one_line bytes e f (known bytes e cause) (known bytes f other)

@@ -4,13 +4,14 @@ use Rattle.std.proofs.lemmas.List.{take_all}
 use Rattle.std.proofs.lemmas.Bool.{eq-eqb}
 use Rattle.std.specs.declared.alloc.Global.{Global}
 use Rattle.std.specs.Io.KnownBytes.{append_known}
+use Rattle.es_tree.specs.declared.error.LowerError.{LowerError}
 use Rattle.lower_tool.specs.declared.answer.Answer.{Answer}
 use Rattle.lower_tool.specs.declared.answer.Answer.TheVariants.{Lowered, Refused, Words, ReadFault, TooLong}
 use Rattle.lower_tool.specs.declared.answer.TheConstants.{DONE, REFUSED, WORDS, TOO_LONG}
-use Rattle.lower_tool.specs.Answer.{output_text, notes_text, status_of}
+use Rattle.lower_tool.specs.Answer.{output_text, notes_text, refusal_text, status_of}
 use Rattle.lower_tool.specs.Ends.{HasFault, ReadWhole, ReadFront, End}
-use Rattle.lower_tool.specs.Job.{IsCoreSource}
-use Rattle.lower_tool.proofs.Causes.{not_refused}
+use Rattle.lower_tool.specs.Job.{IsCoreSource, IsCause}
+use Rattle.lower_tool.proofs.Causes.{not_refused, one_cause}
 use Rattle.lower_tool.specs.Run.{AreProper, WasWhole, IsDue, Took, TookFront, Ends, Gave, Table, HasInput, Causes}
 
 -- What is due, where the input tells its bytes.
@@ -120,11 +121,22 @@ module _ (words : List (String Global)) (old new : Ends) where
     known = omega arith;
   }
 
-  pub causes_gave : (answer : Answer) → IsDue answer words old.input new.input → Causes words old new (status_of answer)
-  causes_gave answer due = record {
+  -- an input that is refused for a cause is given the line of that cause
+  told_cause : (answer : Answer) → Gave answer words old new → (bytes : List ℕ) → HasInput words old new bytes → length bytes ≤ 2 ^ 26 → (error : LowerError) → IsCause bytes error → (status_of answer ≡ REFUSED) × Took old.notes new.notes (refusal_text error)
+  told_cause (Lowered text) gave bytes has short error cause = absurd (not_refused bytes error cause (told_whole old.input new.input bytes has.told gave.due.1).1.0)
+  told_cause (Refused text) gave bytes has short error cause =
+      let with_line = (told_whole old.input new.input bytes has.told gave.due.1).1 in
+      (refl, subst (Took old.notes new.notes) (with_line.line_is ∙ one_cause bytes with_line.error error with_line.cause cause) gave.taken.notes)
+  told_cause Words gave bytes has short error cause = absurd (gave.due.0 has.proper)
+  told_cause ReadFault gave bytes has short error cause = absurd (has.no_fault gave.due.1)
+  told_cause TooLong gave bytes has short error cause = absurd (omega (arith, front_fits old.input.bytes new.input.bytes bytes (2 ^ 26 + 1) has.told gave.due.1))
+
+  pub causes_gave : (answer : Answer) → Gave answer words old new → Causes words old new (status_of answer)
+  causes_gave answer gave = let due = gave.due in record {
     refused_words = λ improper. inl (is_words answer words old.input new.input due improper);
     too_long = λ bytes has long. inl (is_long answer words old new bytes due has long);
     refused_input = λ bytes has short other. inl (is_refused answer words old new bytes due has short other);
+    told = λ bytes has short error cause. inl (told_cause answer gave bytes has short error cause);
     done = λ bytes has _ short first. inl (is_done answer words old new bytes due has short first);
   }
 

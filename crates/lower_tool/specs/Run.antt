@@ -110,6 +110,9 @@ pub record Causes (words : List (String Global)) (old new : Ends) (status : ℕ)
       → (status ≡ TOO_LONG) ⊎ ((status ≡ WRITE_FAULT) ⊎ (status ≡ OUT_OF_MEMORY))
   pub refused_input : (bytes : List ℕ) → HasInput words old new bytes → length bytes ≤ 2 ^ 26 → ¬ IsCoreSource bytes
       → (status ≡ REFUSED) ⊎ ((status ≡ WRITE_FAULT) ⊎ (status ≡ OUT_OF_MEMORY))
+  -- with the line of the cause, whichever holds
+  pub told : (bytes : List ℕ) → HasInput words old new bytes → length bytes ≤ 2 ^ 26 → (error : LowerError) → IsCause bytes error
+      → ((status ≡ REFUSED) × Took old.notes new.notes (refusal_text error)) ⊎ ((status ≡ WRITE_FAULT) ⊎ (status ≡ OUT_OF_MEMORY))
   -- without a fault, a core program that keeps the static rules is done
   pub done : (bytes : List ℕ) → HasInput words old new bytes → WasWritten old new → length bytes ≤ 2 ^ 26 → IsCoreSource bytes
       → (status ≡ DONE) ⊎ (status ≡ OUT_OF_MEMORY)

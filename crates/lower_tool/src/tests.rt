@@ -2,6 +2,7 @@ ghost use Rattle.std.specs.Prelude.{◌<◌};
 
 mod cases;
 mod core_cases;
+mod every_kind;
 mod refusals;
 
 use crate::ends::Source;
@@ -10,6 +11,11 @@ use crate::mem_sink::MemSink;
 use crate::mem_source::MemSource;
 use crate::run::run_tool;
 use crate::std_ends::{StdSink, StdSource};
+use es_json::program::{ReadProgram, read_program};
+use es_json::writer::program_text;
+use es_nodes::count::count_nodes;
+use es_tree::node::Node;
+use serde_json::Value;
 use std::alloc::{AllocError, Global};
 use std::process::Abort;
 use std::test::Fail;
@@ -213,6 +219,33 @@ fn core_programs_become_what_stands_beside_them(rt: HostRuntime) -> Result<(), F
         core_cases::NAME_OF_AN_EARLIER_DECLARATOR,
     ] {
         assert_lowered(&rt, source, written, 65_536)?;
+    }
+    Ok(())
+}
+
+// The tree writes its canonical form.
+fn assert_canonical(rt: &(impl Abort + AllocGlobal), program: &Node) -> Result<(), AllocError> {
+    let text = program_text(rt.alloc(), program)?;
+    assert_eq!(rt; text.as_str(), every_kind::CANONICAL);
+    Ok(())
+}
+
+#[test]
+fn every_kind_is_read_counted_copied_and_written(rt: HostRuntime) -> Result<(), Fail> {
+    let alloc = rt.alloc();
+    for text in [every_kind::SPARSE, every_kind::CANONICAL] {
+        let Ok(value) = Value::from_slice(alloc, text.as_bytes()) else {
+            panic!(rt; "no JSON value");
+        };
+        let Ok(ReadProgram { program, mut ast }) = read_program(alloc, &value) else {
+            panic!(rt; "no program");
+        };
+        assert_eq!(rt; count_nodes(&program), every_kind::NODES);
+        assert_canonical(&rt, &program)?;
+        assert_canonical(&rt, &program.clone_tree(alloc)?)?;
+        let copy = program.clone_in(&mut ast)?;
+        assert_canonical(&rt, &copy)?;
+        assert_eq!(rt; u64::from(copy.id.0), every_kind::NODES);
     }
     Ok(())
 }

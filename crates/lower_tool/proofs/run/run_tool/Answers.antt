@@ -6,4 +6,4 @@ returns-in-Ok-give-clause-table g c =
     rw c.status.ensures (table_gave _ _ _ c.in-Ok.answer (record { due = c.in-Ok.ensures.due; taken = c.in-Ok-give.ensures.all }))
 
 pub returns-in-Ok-give-clause-causes : goal.returns-in-Ok-give-clause-causes
-returns-in-Ok-give-clause-causes g c = rw c.status.ensures (causes_gave _ _ _ c.in-Ok.answer c.in-Ok.ensures.due)
+returns-in-Ok-give-clause-causes g c = rw c.status.ensures (causes_gave _ _ _ c.in-Ok.answer (record { due = c.in-Ok.ensures.due; taken = c.in-Ok-give.ensures.all }))
