@@ -11,6 +11,7 @@ use Rattle.es_tree.specs.Symbols.{symbols, symbol_of, has_use_strict, some_use_s
 use Rattle.es_tree.specs.Tree.{Tree, trees}
 use Rattle.es_tree.specs.declared.node.Field.{Field as NodeField}
 use Rattle.es_tree.specs.declared.node.Field.TheVariants.{Many}
+use Rattle.es_scope.specs.Bindings.{bound_in}
 use Rattle.es_scope.specs.Declarations.{symbol_entry}
 use Rattle.es_scope.specs.Mutations.{mutated_by, writes}
 use Rattle.es_scope.specs.Numbers.{numbers}
@@ -41,7 +42,7 @@ written : (n : ℕ) (rs : List TableReference) → list_any (writes n) rs ≡ li
 written n [] = refl
 written n (r ∷ rs) = ap (λ b. writes n r || b) (written n rs)
 
-within : {X : Type 0} (xs : List X) (n : ℕ) → n < length xs → is_some (slice_get xs n) ≡ true
+pub within : {X : Type 0} (xs : List X) (n : ℕ) → n < length xs → is_some (slice_get xs n) ≡ true
 within [] n l = absurd (omega (arith, l))
 within (x ∷ xs) zero l = refl
 within (x ∷ xs) (suc n) l = within xs n (omega (arith, l))
@@ -94,3 +95,8 @@ scoping_of p s c listed h =
       all_references = sym (length-map s.references.items plain_reference) ∙ ap length h.listed_references;
       each_reference = λ n. sym (slice_get-map plain_reference s.references.items n) ∙ ap (λ rs. slice_get rs n) h.listed_references;
     }
+
+-- what one scope binds, its bindings do
+pub one_scope : (scopes : List Scope) (c : Scope) (find : Text → Option ℕ) → scopes ≡ c ∷ [] → ((x : Text) → numbers c.bindings x ≡ find x) → (n : ℕ) (x : Text) (m : ℕ) → bound_in scopes n x ≡ Some m → find x ≡ Some m
+one_scope scopes c find e h zero x m f = sym (h x) ∙ (ap (λ cs. bound_in cs zero x) (sym e) ∙ f)
+one_scope scopes c find e h (suc n) x m f = absurd (let no : None ≡ Some m = ap (λ cs. bound_in cs (suc n) x) (sym e) ∙ f in cc)

@@ -3,13 +3,14 @@ use Rattle.std.proofs.Common.{◌≡◌, ℕ, ◌+◌, ◌<◌, Bool, true, fals
 use Rattle.std.proofs.lemmas.Map.Text.{hash_map_updates_text}
 use Rattle.std.specs.Cmp.Lexicographic.{bytes_decides}
 use Rattle.std.specs.HashMap.{get_by_text, UpdatesBy, IsUnchanged}
-use Rattle.std.specs.HashSet.{contains_text}
+use Rattle.std.specs.HashSet.{contains_text, UpdatesBy as SetUpdatesBy, IsUnchanged as SetIsUnchanged}
 use Rattle.std.specs.String.{string_eq}
 use Rattle.es_tree.specs.Words.{Text}
 use Rattle.es_tree.specs.Fresh.{also, candidate}
 use Rattle.es_scope.specs.Taken.{AreTaken}
+use Rattle.es_scope.proofs.Among.{also-inserted}
 
-stays : (used : Bool) (b : Bool) → used ≡ true → (used || b) ≡ true
+pub stays : (used : Bool) (b : Bool) → used ≡ true → (used || b) ≡ true
 stays used b e = rw e refl
 
 comes : (used : Bool) → (used || true) ≡ true
@@ -38,3 +39,8 @@ AreTaken-inserted old new in_use base number (Ok a) updated unchanged first take
       rw (← this) (first m (rw e at h))
   at b m false e h = taken b m (rw e at h)
 AreTaken-inserted old new in_use base number (Err a) updated unchanged first taken = λ b m h. taken b m (rw unchanged at h)
+
+-- the candidates stay in use, after an insertion of a name that may fail
+pub AreTaken-inserted_use : {X Y S T A E : Type 0} (numbers : HashMap (String X) ℕ S) (old new : HashSet (String Y) T) (name : Text) (r : Result A E) → OnOk r (SetUpdatesBy string_eq (λ k. bytes_eq name (string_bytes k)) old new true) → OnErr r (SetIsUnchanged old new) → AreTaken numbers old → AreTaken numbers new
+AreTaken-inserted_use numbers old new name (Ok a) updated unchanged taken = AreTaken-also numbers old new name (also-inserted old new name name updated refl) taken
+AreTaken-inserted_use numbers old new name (Err a) updated unchanged taken = λ b m h. rw unchanged (taken b m h)

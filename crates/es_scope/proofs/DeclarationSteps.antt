@@ -46,7 +46,7 @@ numbers_more bindings ss d e h x = at (bytes_eq d.name x) refl where
   at true f = sym (place-last ss d x (sym (ap (declares ss) ((bytes_decides d.name x).0 f)) ∙ e) f)
   at false f = h x ∙ sym (place-kept ss d x f)
 
-symbol-cond : (b : Bool) (o q : Option SymbolId) → symbol (cond b o q) ≡ cond b (symbol o) (symbol q)
+pub symbol-cond : (b : Bool) (o q : Option SymbolId) → symbol (cond b o q) ≡ cond b (symbol o) (symbol q)
 symbol-cond true o q = refl
 symbol-cond false o q = refl
 

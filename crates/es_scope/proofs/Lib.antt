@@ -9,3 +9,8 @@ pub mod MarkedLists
 pub mod DeclarationSteps
 pub mod Built
 pub mod Steady
+pub mod Lasts
+pub mod TableSteps
+pub mod ChangedItems
+pub mod SteadyContexts
+pub mod BoundNames

@@ -2,7 +2,10 @@ pub mod Children
 pub mod Taken
 pub mod Uids
 pub mod Outwards
+pub mod Bindings
 pub mod Tables
+pub mod TableChanges
+pub mod HoistScopes
 pub mod Roles
 pub mod Numbers
 pub mod SymbolFlags
@@ -12,3 +15,6 @@ pub mod Bodies
 pub mod Mutations
 pub mod ProgramFlags
 pub mod ScopingOf
+pub mod Places
+pub mod Contexts
+pub mod MadeNodes

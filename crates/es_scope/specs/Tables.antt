@@ -3,7 +3,7 @@ use Rattle.std.specs.Prelude.{◌≡◌, ℕ, Bool, false, not, Option, Some, No
 use Rattle.es_tree.specs.Words.{Text}
 use Rattle.es_tree.specs.Heads.{scope}
 use Rattle.es_tree.specs.References.{Reference}
-use Rattle.es_scope.specs.Numbers.{numbers}
+use Rattle.es_scope.specs.Bindings.{bound_in}
 use Rattle.es_scope.specs.PlainReferences.{plain_reference}
 use Rattle.es_scope.specs.declared.flags.ScopeFlags.{ScopeFlags}
 use Rattle.es_scope.specs.declared.flags.SymbolFlags.{SymbolFlags}
@@ -23,7 +23,7 @@ scope_flags_of s n = option_map (λ c. c.flags) (slice_get s.scopes.items n)
 
 -- the symbol of a name in a scope alone
 abbrev pub binding_in : Scoping → ℕ → Text → Option ℕ
-binding_in s n x = option_and_then (λ c. numbers c.bindings x) (slice_get s.scopes.items n)
+binding_in s n x = bound_in s.scopes.items n x
 
 -- The symbol of a name in the first scope, from this one outwards, that binds it; none where no scope does.
 pub data Finds (s : Scoping) (x : Text) : ℕ → Option ℕ → Type 0 where

@@ -124,7 +124,7 @@ fn mark_mutated(symbols: &mut [Symbol], references: &[Reference])
 }
 
 /// Notes the symbol that a reference writes, if it writes one.
-fn mutate(symbols: &mut [Symbol], reference: Reference)
+pub(crate) fn mutate(symbols: &mut [Symbol], reference: Reference)
     ensures { (n : ℕ) → slice_get symbols.new n ≡ option_map (mutated_by (writes_symbol n (plain_reference reference))) (slice_get symbols.old n) }
 {
     if !reference.flags.write {

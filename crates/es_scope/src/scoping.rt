@@ -1,8 +1,9 @@
 //! The scope table of a program: its scopes, symbols and references by their numbers (ECMA-262, 8.2 and 9.1).
 //!
 //! An id that is handed to a call must belong to the table. No call of the table takes memory.
-ghost use Rattle.std.specs.Prelude.{◌≡◌, ◌<◌, None, Some, option_map};
+ghost use Rattle.std.specs.Prelude.{◌≡◌, ◌<◌, IfSome, None, Some, option_map, vec_len};
 ghost use Rattle.es_tree.specs.Heads.{scope, symbol};
+ghost use Rattle.es_scope.specs.Bindings.{AreBound};
 ghost use Rattle.es_scope.specs.Outwards.{AreOutwards};
 ghost use Rattle.es_scope.specs.PlainReferences.{plain_reference};
 
@@ -37,13 +38,16 @@ pub(crate) struct Symbol {
 /// The scope table of a program.
 #[derive(Drop)]
 pub struct Scoping {
-    scopes: Vec<Scope>,
-    symbols: Vec<Symbol>,
-    references: Vec<Reference>,
+    pub(crate) scopes: Vec<Scope>,
+    pub(crate) symbols: Vec<Symbol>,
+    pub(crate) references: Vec<Reference>,
     ghost outwards: { AreOutwards scopes },
+    ghost bound: { AreBound scopes symbols },
+    ghost rooted: { 0 < vec_len scopes },
 }
 
 impl Scoping {
+    ghost use Rattle.es_scope.specs.HoistScopes.{HoistsTo, is_hoist_scope};
     ghost use Rattle.es_scope.specs.Tables.{Finds, binding_in, is_mutated, parent_of, reference_at, reference_count, scope_count, scope_flags_of, symbol_count, symbol_flags_of, symbol_scope_of};
 
     /// The table of these scopes, symbols and references.
@@ -52,7 +56,9 @@ impl Scoping {
         symbols: Vec<Symbol>,
         references: Vec<Reference>,
     ) -> Scoping
-        requires { AreOutwards scopes }
+        requires outwards { AreOutwards scopes }
+        requires bound { AreBound scopes symbols }
+        requires rooted { 0 < vec_len scopes }
         ensures scopes { result.scopes ≡ scopes }
         ensures symbols { result.symbols ≡ symbols }
         ensures references { result.references ≡ references }
@@ -87,7 +93,8 @@ impl Scoping {
 
     /// The scope of the program.
     pub fn root_scope_id(&self) -> ScopeId
-        ensures { result.0 ≡ 0 }
+        ensures zero { result.0 ≡ 0 }
+        ensures known { result.0 < scope_count self.now }
     {
         ScopeId(0)
     }
@@ -127,7 +134,8 @@ impl Scoping {
     /// The symbol of a name in this scope alone.
     pub fn get_binding(&self, scope_id: ScopeId, name: &str) -> Option<SymbolId>
         requires { scope_id.0 < scope_count self.now }
-        ensures { symbol result ≡ binding_in self.now scope_id.0 name.now }
+        ensures binding { symbol result ≡ binding_in self.now scope_id.0 name.now }
+        ensures known { IfSome result (λ s. s.0 < symbol_count self.now) }
     {
         let scope = &self.scopes[scope_id.0 as usize];
         scope.bindings.get(name).copied()
@@ -136,7 +144,8 @@ impl Scoping {
     /// The symbol of a name in the first scope, from this one outwards, that binds it.
     pub fn find_binding(&self, scope_id: ScopeId, name: &str) -> Option<SymbolId>
         requires { scope_id.0 < scope_count self.now }
-        ensures { Finds self.now name.now scope_id.0 (symbol result) }
+        ensures found { Finds self.now name.now scope_id.0 (symbol result) }
+        ensures known { IfSome result (λ s. s.0 < symbol_count self.now) }
     {
         let mut scope_id = scope_id;
         loop {
@@ -145,6 +154,31 @@ impl Scoping {
             }
             scope_id = self.scope_parent_id(scope_id)?;
         }
+    }
+
+    /// The first scope, from this one outwards, that is a function's, a static block's or the program's; the
+    /// outermost where there is none.
+    pub fn find_hoist_scope(&self, scope_id: ScopeId) -> ScopeId
+        requires { scope_id.0 < scope_count self.now }
+        ensures scope { HoistsTo self.now scope_id.0 result.0 }
+        ensures known { result.0 < scope_count self.now }
+    {
+        let mut scope_id = scope_id;
+        while !self.is_hoist_scope(scope_id) {
+            let Some(parent) = self.scope_parent_id(scope_id) else {
+                return scope_id;
+            };
+            scope_id = parent;
+        }
+        scope_id
+    }
+
+    fn is_hoist_scope(&self, scope_id: ScopeId) -> bool
+        requires { scope_id.0 < scope_count self.now }
+        ensures { result ≡ is_hoist_scope self.now scope_id.0 }
+    {
+        let flags = self.scope_flags(scope_id);
+        flags.function || flags.class_static_block || flags.top
     }
 
     /// Whether some reference writes a symbol.

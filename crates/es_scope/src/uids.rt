@@ -27,7 +27,7 @@ pub struct UidGenerator {
 }
 
 impl UidGenerator {
-    ghost use Rattle.es_scope.specs.Uids.{made, uses};
+    ghost use Rattle.es_scope.specs.Uids.{StaysInUse, made, uses};
 
     /// A generator for a program, whose names are in use.
     pub fn new(alloc: Global, program: &Node) -> Result<UidGenerator, AllocError>
@@ -49,6 +49,7 @@ impl UidGenerator {
         ensures fresh { IfOk result (λ name. IsFreshName (uses self.old) base.now (string_bytes name)) }
         ensures taken { IfOk result (λ name. (x : Text) → uses self.new x ≡ also (string_bytes name) (uses self.old) x) }
         ensures made { IfOk result (λ name. made self.new ≡ made self.old ++ string_bytes name ∷ []) }
+        ensures kept { StaysInUse self.old self.new }
     {
         let (number, name) = self.first_free(base)?;
         self.take(base, number, name.as_str())?;
@@ -60,6 +61,7 @@ impl UidGenerator {
         ensures fresh { IfOk result (λ name. IsFreshName (uses self.old) (node_base node.now) (string_bytes name)) }
         ensures taken { IfOk result (λ name. (x : Text) → uses self.new x ≡ also (string_bytes name) (uses self.old) x) }
         ensures made { IfOk result (λ name. made self.new ≡ made self.old ++ string_bytes name ∷ []) }
+        ensures kept { StaysInUse self.old self.new }
     {
         let base = base_of_node(self.alloc, node)?;
         self.generate(base.as_str())
@@ -70,9 +72,21 @@ impl UidGenerator {
         ensures fresh { IfOk result (λ name. IsFreshName (uses self.old) (text_base text.now) (string_bytes name)) }
         ensures taken { IfOk result (λ name. (x : Text) → uses self.new x ≡ also (string_bytes name) (uses self.old) x) }
         ensures made { IfOk result (λ name. made self.new ≡ made self.old ++ string_bytes name ∷ []) }
+        ensures kept { StaysInUse self.old self.new }
     {
         let base = base_of_text(self.alloc, text)?;
         self.generate(base.as_str())
+    }
+
+    /// Takes this name into use. It counts as no fresh name.
+    pub fn use_name(&mut self, name: &str) -> Result<(), AllocError>
+        ensures taken { OnOk result ((x : Text) → uses self.new x ≡ also name.now (uses self.old) x) }
+        ensures made { made self.new ≡ made self.old }
+        ensures kept { StaysInUse self.old self.new }
+    {
+        let used = String::from_str(self.alloc, name)?;
+        self.in_use.insert(used)?;
+        Ok(())
     }
 
     /// The names made, in the order made.
@@ -107,6 +121,7 @@ impl UidGenerator {
         requires first { (m : ℕ) → m < number → uses self.old (candidate base.now m) ≡ true }
         ensures taken { OnOk result ((x : Text) → uses self.new x ≡ also name.now (uses self.old) x) }
         ensures made { OnOk result (made self.new ≡ made self.old ++ name.now ∷ []) }
+        ensures kept { StaysInUse self.old self.new }
     {
         let key = String::from_str(self.alloc, base)?;
         let used = String::from_str(self.alloc, name)?;

@@ -11,3 +11,4 @@ pub mod WellMade
 pub mod Causes
 pub mod Marked
 pub mod Reasons
+pub mod TableNames

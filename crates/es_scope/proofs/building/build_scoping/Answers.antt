@@ -1,13 +1,15 @@
-use Rattle.std.proofs.Common.{◌≡◌, length, None, refl, ap, ◌∙◌, arith}
+use Rattle.std.proofs.Common.{◌≡◌, ◌<◌, length, map, None, refl, ap, ◌∙◌, arith}
+use Rattle.std.proofs.lemmas.List.{length-map}
 use Rattle.es_tree.specs.Marks.{with_scope}
 use Rattle.es_tree.specs.References.{references}
 use Rattle.es_tree.specs.Scopes.{declared_of}
-use Rattle.es_tree.specs.Symbols.{symbol_of}
-use Rattle.es_scope.specs.Declarations.{Declares}
+use Rattle.es_tree.specs.Symbols.{symbol_of, symbols}
+use Rattle.es_tree.proofs.SymbolNumbers.{place-within}
+use Rattle.es_scope.specs.Declarations.{Declares, symbol_entry}
 use Rattle.es_scope.specs.Numbers.{numbers}
 use Rattle.es_scope.specs.PlainReferences.{plain_references}
 use Rattle.es_scope.specs.declared.scoping.Scope.{Scope}
-use Rattle.es_scope.proofs.Built.{HasParts, scoping_of}
+use Rattle.es_scope.proofs.Built.{HasParts, one_scope, scoping_of}
 use Rattle.es_scope.proofs.MarkedLists.{written_back}
 use Rattle.es_scope.proofs.building.build_scoping.Goals as goal
 
@@ -38,3 +40,13 @@ returns-clause-marks c =
     let declares : Declares (declared_of p) c.in_ok-of_program.field-0 = c.in_ok-of_program.ensures in
     let find : numbers c.into_parts-bindings.result.0 ≡ symbol_of (declared_of p) = ap (λ r. numbers r.0) c.into_parts-bindings.ensures ∙ (λ i. λ x. declares.bindings x i) in
     c.mark_scope.ensures ∙ ap with_scope (rw (find, c.new-references.ensures.items) at c.in_ok-mark_node.ensures.marked)
+
+pub new-requires-clause-bound : goal.new-requires-clause-bound
+new-requires-clause-bound c = λ n x m e.
+    let p = c.args.program.now in
+    let declares : Declares (declared_of p) c.in_ok-of_program.field-0 = c.in_ok-of_program.ensures in
+    let find : numbers c.into_parts-bindings.result.0 ≡ symbol_of (declared_of p) = ap (λ r. numbers r.0) c.into_parts-bindings.ensures ∙ (λ i. λ y. declares.bindings y i) in
+    let back = written_back c.mark_mutated.new.symbols c.into_parts-bindings.result.1.items c.into_parts-bindings.result.1.len (omega (arith, c.mark_mutated.auto.symbols, ap length c.deref_mut.ensures.value, c.into_parts-bindings.result.1.ok.0)) in
+    let listed : c.into_parts-bindings.result.1.items ≡ map symbol_entry (symbols (declared_of p)) = ap (λ r. r.1.items) c.into_parts-bindings.ensures ∙ declares.symbols in
+    let below : m < length (symbols (declared_of p)) = place-within (symbols (declared_of p)) x m (one_scope c.in_ok-scopes.scopes.items _ (symbol_of (declared_of p)) c.in_ok-scopes.ensures.items (λ y. ap (λ f. f y) find) n x m e) in
+    rw back (omega (arith, below, ap length listed, length-map (symbols (declared_of p)) symbol_entry, c.mark_mutated.auto.symbols, ap length c.deref_mut.ensures.value))

@@ -1,9 +1,9 @@
-use Rattle.std.proofs.Common.{◌≡◌, ◌+◌, ◌<◌, ℕ, true, string_bytes}
+use Rattle.std.proofs.Common.{◌≡◌, ◌+◌, ◌<◌, ℕ, true, bytes_eq, string_bytes, ◌∙◌}
 use Rattle.std.specs.HashSet.{contains_text}
 use Rattle.es_tree.specs.Fresh.{also, candidate}
 use Rattle.es_tree.specs.Words.{Text}
 use Rattle.es_scope.proofs.Among.{also-inserted}
-use Rattle.es_scope.proofs.Candidates.{AreTaken-also, AreTaken-inserted, taken_through}
+use Rattle.es_scope.proofs.Candidates.{stays, AreTaken-also, AreTaken-inserted, taken_through}
 use Rattle.es_scope.proofs.uids.UidGenerator.take.Goals as goal
 
 -- the candidates of the base through this one are in use, whether or not its number is kept
@@ -23,3 +23,11 @@ invariant_of-self-2 c =
 pub returns-clause-taken : goal.returns-clause-taken
 returns-clause-taken c =
     also-inserted c.args.self.now.in_use c.insert.new.self (string_bytes c.in_ok-used.used) c.args.name.now c.in_ok-insert.ensures.updates c.in_ok-used.ensures.ok
+
+pub returns-in_err-insert-2-clause-kept : goal.returns-in_err-insert-2-clause-kept
+returns-in_err-insert-2-clause-kept c = λ x e.
+    also-inserted c.args.self.now.in_use c.insert.new.self (string_bytes c.in_ok-used.used) c.args.name.now c.in_ok-insert.ensures.updates c.in_ok-used.ensures.ok x ∙ stays _ (bytes_eq c.args.name.now x) e
+
+pub returns-clause-kept : goal.returns-clause-kept
+returns-clause-kept c = λ x e.
+    also-inserted c.args.self.now.in_use c.insert.new.self (string_bytes c.in_ok-used.used) c.args.name.now c.in_ok-insert.ensures.updates c.in_ok-used.ensures.ok x ∙ stays _ (bytes_eq c.args.name.now x) e
