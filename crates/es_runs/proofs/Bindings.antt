@@ -16,11 +16,11 @@ use Rattle.es_runs.proofs.Declarations.{is_shaped, step_shaped, program_parts}
 use Rattle.es_runs.proofs.DeclaredNames.{core_shaped}
 use Rattle.es_runs.proofs.Written.{vars, one_of, scope_of-vars}
 
-or_true : (a b : Bool) → a ≡ true → (a || b) ≡ true
+pub or_true : (a b : Bool) → a ≡ true → (a || b) ≡ true
 or_true a b e = rw e
 
 -- a name that is in use is not the one that a step takes
-other_name : (in_use : Text → Bool) (x y : Text) → in_use x ≡ false → in_use y ≡ true → bytes_eq y x ≡ false
+pub other_name : (in_use : Text → Bool) (x y : Text) → in_use x ≡ false → in_use y ≡ true → bytes_eq y x ≡ false
 other_name in_use x y free used = at (bytes_eq y x) refl
   where
     at : (b : Bool) → bytes_eq y x ≡ b → b ≡ false
@@ -42,7 +42,7 @@ still_shaped {steady} (goes {in_use = in_use} {ys = ys} r rest) h =
     let more = still_shaped rest one.0 in
     (more.0, more.1 ∙ one.1)
 
-declared_names_of : (xs : List Text) (t : Tree) → is_shaped t ≡ true → declared_of (declare_in xs t) ≡ vars xs ++ declared_of t
+pub declared_names_of : (xs : List Text) (t : Tree) → is_shaped t ≡ true → declared_of (declare_in xs t) ≡ vars xs ++ declared_of t
 declared_names_of xs t h =
     let parts = program_parts t h in
     let P : Tree → Type 0 = λ u. declared_of (declare_in xs u) ≡ vars xs ++ declared_of u in

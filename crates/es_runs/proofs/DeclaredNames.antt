@@ -51,9 +51,14 @@ declarator_fields l (missing then fs) h c = absurd (cc h)
 declarator_fields l (many ts then fs) h c = absurd (cc h)
 declarator_fields l (statements ts then fs) h c = absurd (cc h)
 
+declarator_kind : (k : AstType) → is_of_sort s-VariableDeclarator k ≡ true → VariableDeclarator ≡ k
+declarator_kind VariableDeclarator h = refl
+declarator_kind _ h = absurd (cc h)
+
 declarator_shaped : (k : AstType) (l : Label) (fs : Fields) → has_form s-VariableDeclarator (node k l fs) ≡ true → all_nodes is_core_node (node k l fs) ≡ true → (is_declarator k && binds_name (bare_fields fs)) ≡ true
-declarator_shaped VariableDeclarator l fs h c = declarator_fields l fs (node_form s-VariableDeclarator VariableDeclarator l fs h).children c
-declarator_shaped _ l fs h c = absurd (cc h)
+declarator_shaped k l fs h c =
+    let P : AstType → Type 0 = λ j. has_form s-VariableDeclarator (node j l fs) ≡ true → all_nodes is_core_node (node j l fs) ≡ true → (is_declarator j && binds_name (bare_fields fs)) ≡ true in
+    subst P (declarator_kind k (node_form s-VariableDeclarator k l fs h).sort) (λ g d. declarator_fields l fs (node_form s-VariableDeclarator VariableDeclarator l fs g).children d) h c
 
 declarators_shaped : (ts : Trees) → trees_form s-VariableDeclarator s-VariableDeclarator ts ≡ true → all_in_trees is_core_node ts ≡ true → declarators (bare_trees ts) ≡ true
 declarators_shaped empty h c = refl
@@ -98,12 +103,14 @@ program_shaped l (missing then fs) h c = absurd (cc h)
 program_shaped l (one t then fs) h c = absurd (cc h)
 program_shaped l (statements ts then fs) h c = absurd (cc h)
 
+pub program_kind : (k : AstType) → is_of_sort s-Program k ≡ true → Program ≡ k
+program_kind Program h = refl
+program_kind _ h = absurd (cc h)
+
 pub core_shaped : (p : Tree) → IsCoreProgram p → is_shaped (bare p) ≡ true
-core_shaped (node k l fs) is = at k is.form is.core
-  where
-    at : (k : AstType) → has_form s-Program (node k l fs) ≡ true → all_nodes is_core_node (node k l fs) ≡ true → is_shaped (bare (node k l fs)) ≡ true
-    at Program h c = program_shaped l fs (node_form s-Program Program l fs h).children c
-    at _ h c = absurd (cc h)
+core_shaped (node k l fs) is =
+    let P : AstType → Type 0 = λ j. has_form s-Program (node j l fs) ≡ true → all_nodes is_core_node (node j l fs) ≡ true → is_shaped (bare (node j l fs)) ≡ true in
+    subst P (program_kind k (node_form s-Program k l fs is.form).sort) (λ h c. program_shaped l fs (node_form s-Program Program l fs h).children c) is.form is.core
 
 -- A BARE CORE TREE IS CORE
 

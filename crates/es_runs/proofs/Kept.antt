@@ -46,7 +46,7 @@ record TreesWithout (y : Text) (ts : Trees) : Type 0 where
 below_names : (counts : Bool) (k : AstType) (l : Label) (fs : Fields) → is_reexport k fs ≡ false → names_if counts (node k l fs) ≡ own_name counts k l ++ names_in_fields (is_name_place k l) fs
 below_names counts k l fs e = rw e
 
-among_both : (xs ys : List Text) (x : Text) → is_among xs x ≡ false → is_among ys x ≡ false → is_among (xs ++ ys) x ≡ false
+pub among_both : (xs ys : List Text) (x : Text) → is_among xs x ≡ false → is_among ys x ≡ false → is_among (xs ++ ys) x ≡ false
 among_both xs ys x e d = rw among-append (or_both (is_among xs x) (is_among ys x) e d)
 
 in_row : (bs cs rs : List Text) (y : Text) → is_among bs y ≡ false → is_among cs y ≡ false → is_among rs y ≡ false → is_among (((bs ++ []) ++ (((cs ++ []) ++ []))) ++ (cs ++ (rs ++ []))) y ≡ false
@@ -140,25 +140,30 @@ module _ (R : Need → Tree → Tree → Type 0) (y : Text) (base : (n : Need) (
           free = among_both (names_if true a) (names_in_trees ys) y (among_first (names_if true a) (names_in_trees xs) y h.free) k.free;
         }
 
-module _ (R : Need → Tree → Tree → Type 0) (base : (n : Need) (a b : Tree) → R n a b → all_nodes is_core_node a ≡ true → all_nodes is_core_node b ≡ true) where
+-- a test of every node that holds of what a rule makes, and sees the kinds of the fields alone, holds after a step
+module _ (test : AstType → Label → Fields → Bool) (R : Need → Tree → Tree → Type 0) (same : (k : AstType) (l : Label) (c : ℕ → Need) (fs gs : Fields) → OneField R c fs gs → test k l fs ≡ true → test k l gs ≡ true)
+    (base : (n : Need) (a b : Tree) → R n a b → all_nodes test a ≡ true → all_nodes test b ≡ true) where
   mutual
-    pub step_core : {n : Need} {t u : Tree} → OnePlace R n t u → all_nodes is_core_node t ≡ true → all_nodes is_core_node u ≡ true
-    step_core (this_place {n = n} {a = a} {b = b} r) h = base n a b r h
-    step_core (below {k = k} {l = l} {fs = fs} {gs = gs} r) h =
-        and_from (is_core_node k l gs) (all_in_fields is_core_node gs) (rw (core_label k l fs gs) (and_left (is_core_node k l fs) (all_in_fields is_core_node fs) h)) (fields_core r (and_right (is_core_node k l fs) (all_in_fields is_core_node fs) h))
+    pub step_all : {n : Need} {t u : Tree} → OnePlace R n t u → all_nodes test t ≡ true → all_nodes test u ≡ true
+    step_all (this_place {n = n} {a = a} {b = b} r) h = base n a b r h
+    step_all (below {k = k} {l = l} {fs = fs} {gs = gs} r) h =
+        and_from (test k l gs) (all_in_fields test gs) (same k l _ fs gs r (and_left (test k l fs) (all_in_fields test fs) h)) (fields_all r (and_right (test k l fs) (all_in_fields test fs) h))
 
-    fields_core : {c : ℕ → Need} {fs gs : Fields} → OneField R c fs gs → all_in_fields is_core_node fs ≡ true → all_in_fields is_core_node gs ≡ true
-    fields_core (first_field {f = f} {g = g} {fs = fs} r) h = and_from (all_in_field is_core_node g) (all_in_fields is_core_node fs) (field_core r (and_left (all_in_field is_core_node f) (all_in_fields is_core_node fs) h)) (and_right (all_in_field is_core_node f) (all_in_fields is_core_node fs) h)
-    fields_core (later_field {f = f} {fs = fs} {gs = gs} r) h = and_from (all_in_field is_core_node f) (all_in_fields is_core_node gs) (and_left (all_in_field is_core_node f) (all_in_fields is_core_node fs) h) (fields_core r (and_right (all_in_field is_core_node f) (all_in_fields is_core_node fs) h))
+    fields_all : {c : ℕ → Need} {fs gs : Fields} → OneField R c fs gs → all_in_fields test fs ≡ true → all_in_fields test gs ≡ true
+    fields_all (first_field {f = f} {g = g} {fs = fs} r) h = and_from (all_in_field test g) (all_in_fields test fs) (field_all r (and_left (all_in_field test f) (all_in_fields test fs) h)) (and_right (all_in_field test f) (all_in_fields test fs) h)
+    fields_all (later_field {f = f} {fs = fs} {gs = gs} r) h = and_from (all_in_field test f) (all_in_fields test gs) (and_left (all_in_field test f) (all_in_fields test fs) h) (fields_all r (and_right (all_in_field test f) (all_in_fields test fs) h))
 
-    field_core : {n : Need} {f g : Field} → InField R n f g → all_in_field is_core_node f ≡ true → all_in_field is_core_node g ≡ true
-    field_core (in_one r) h = step_core r h
-    field_core (in_many r) h = trees_core r h
-    field_core (in_statements r) h = trees_core r h
+    field_all : {n : Need} {f g : Field} → InField R n f g → all_in_field test f ≡ true → all_in_field test g ≡ true
+    field_all (in_one r) h = step_all r h
+    field_all (in_many r) h = trees_all r h
+    field_all (in_statements r) h = trees_all r h
 
-    trees_core : {n : Need} {ts us : Trees} → OneNode R n ts us → all_in_trees is_core_node ts ≡ true → all_in_trees is_core_node us ≡ true
-    trees_core (first_node {a = a} {b = b} {xs = xs} r) h = and_from (all_nodes is_core_node b) (all_in_trees is_core_node xs) (step_core r (and_left (all_nodes is_core_node a) (all_in_trees is_core_node xs) h)) (and_right (all_nodes is_core_node a) (all_in_trees is_core_node xs) h)
-    trees_core (later_node {a = a} {xs = xs} {ys = ys} r) h = and_from (all_nodes is_core_node a) (all_in_trees is_core_node ys) (and_left (all_nodes is_core_node a) (all_in_trees is_core_node xs) h) (trees_core r (and_right (all_nodes is_core_node a) (all_in_trees is_core_node xs) h))
+    pub trees_all : {n : Need} {ts us : Trees} → OneNode R n ts us → all_in_trees test ts ≡ true → all_in_trees test us ≡ true
+    trees_all (first_node {a = a} {b = b} {xs = xs} r) h = and_from (all_nodes test b) (all_in_trees test xs) (step_all r (and_left (all_nodes test a) (all_in_trees test xs) h)) (and_right (all_nodes test a) (all_in_trees test xs) h)
+    trees_all (later_node {a = a} {xs = xs} {ys = ys} r) h = and_from (all_nodes test a) (all_in_trees test ys) (and_left (all_nodes test a) (all_in_trees test xs) h) (trees_all r (and_right (all_nodes test a) (all_in_trees test xs) h))
+
+pub step_core : (R : Need → Tree → Tree → Type 0) → ((n : Need) (a b : Tree) → R n a b → all_nodes is_core_node a ≡ true → all_nodes is_core_node b ≡ true) → {n : Need} {t u : Tree} → OnePlace R n t u → all_nodes is_core_node t ≡ true → all_nodes is_core_node u ≡ true
+step_core R base = step_all is_core_node R (λ k l c fs gs r h. rw (core_label k l fs gs) h) base
 
 -- what a rule says wherever it holds, it says of a step
 module _ (R : Need → Tree → Tree → Type 0) (P : Type 0) (says : (n : Need) (a b : Tree) → R n a b → P) where

@@ -24,3 +24,13 @@ pub mod DeclaredNames
 pub mod LoweredRuns
 pub mod NullishRuns
 pub mod Bindings
+pub mod OpenTrees
+pub mod OpenForm
+pub mod OpenPlaces
+pub mod OpenRuns
+pub mod OpenLaws
+pub mod Weights
+pub mod OpenTests
+pub mod Sides
+pub mod OpenExamples
+pub mod OpenParts

@@ -72,7 +72,7 @@ pub record Known (in_use : Text → Bool) (ds : List Declared) (t : Tree) : Type
 either_false : (a b : Bool) → a ≡ false → b ≡ false → (if a then true else b) ≡ false
 either_false a b e d = rw (e, d)
 
-still_known : (steady in_use : Text → Bool) (ds : List Declared) (ys : List Text) {t u : Tree} → OnePlace (NullishRule steady in_use ys) all_of_it t u → Known in_use ds t → Known (also_all ys in_use) (all_pending ys ds) u
+pub still_known : (steady in_use : Text → Bool) (ds : List Declared) (ys : List Text) {t u : Tree} → OnePlace (NullishRule steady in_use ys) all_of_it t u → Known in_use ds t → Known (also_all ys in_use) (all_pending ys ds) u
 still_known steady in_use ds [] r h = record {
   core = step_core (NullishRule steady in_use []) (rule_core steady in_use []) r h.core;
   shaped = (step_shaped steady in_use r h.shaped).0;
@@ -91,7 +91,7 @@ still_known steady in_use ds (x ∷ y ∷ zs) r h = absurd (somewhere (NullishRu
 -- ONE STEP
 
 module _ (counts steady : Text → Bool) (this : Value) (moves : List Move) where
-  one_step : (in_use : Text → Bool) (ys : List Text) {t u : Tree} (ds : List Declared) → OnePlace (NullishRule steady in_use ys) all_of_it t u → Known in_use ds t → ((y : Text) → counts y ≡ true → is_declared ds y ≡ true) → ((y : Text) → steady y ≡ true → is_declared ds y ≡ true) → (outcome (run_with ds t this moves) ≡ called_uncallable → ⊥) →
+  pub one_step : (in_use : Text → Bool) (ys : List Text) {t u : Tree} (ds : List Declared) → OnePlace (NullishRule steady in_use ys) all_of_it t u → Known in_use ds t → ((y : Text) → counts y ≡ true → is_declared ds y ≡ true) → ((y : Text) → steady y ≡ true → is_declared ds y ≡ true) → (outcome (run_with ds t this moves) ≡ called_uncallable → ⊥) →
       SameRun counts (run_with ds t this moves) (run_with (all_pending ys ds) u this moves)
   one_step in_use [] {t} {u} ds r h ok bound callable =
       reread_step ds t u (step_of (NullishRule steady in_use []) (RereadRow (is_declared ds)) (reread_rule steady in_use (is_declared ds) bound) r) counts this moves callable
@@ -108,11 +108,11 @@ module _ (counts steady : Text → Bool) (this : Value) (moves : List Move) wher
     shaped : is_shaped u ≡ true
     declares_same : declared_of u ≡ declared_of t
 
-  still_bound : (ys : List Text) (ds : List Declared) (y : Text) → is_declared ds y ≡ true → is_declared (all_pending ys ds) y ≡ true
+  pub still_bound : (ys : List Text) (ds : List Declared) (y : Text) → is_declared ds y ≡ true → is_declared (all_pending ys ds) y ≡ true
   still_bound [] ds y e = e
   still_bound (x ∷ xs) ds y e = still_bound xs (pending x ds) y (still_declared x ds y e)
 
-  all_pending-append : (ys xs : List Text) (ds : List Declared) → all_pending (ys ++ xs) ds ≡ all_pending xs (all_pending ys ds)
+  pub all_pending-append : (ys xs : List Text) (ds : List Declared) → all_pending (ys ++ xs) ds ≡ all_pending xs (all_pending ys ds)
   all_pending-append [] xs ds = refl
   all_pending-append (y ∷ ys) xs ds = all_pending-append ys xs (pending y ds)
 
@@ -151,7 +151,7 @@ program_written (x ∷ xs) l ds body this moves =
     declare_in-runs (world_of this es) (x ∷ xs) l ds body (state (cells_of es) moves [])
     ∙ pending_vars (x ∷ xs) (declared_in_body body) whole this moves
 
-written_alike : (xs : List Text) (t : Tree) → is_shaped t ≡ true → (this : Value) (moves : List Move) → run (declare_in xs t) this moves ≡ run_with (all_pending xs (declared_of t)) t this moves
+pub written_alike : (xs : List Text) (t : Tree) → is_shaped t ≡ true → (this : Value) (moves : List Move) → run (declare_in xs t) this moves ≡ run_with (all_pending xs (declared_of t)) t this moves
 written_alike xs t h this moves =
     let parts = program_parts t h in
     let P : Tree → Type 0 = λ v. run (declare_in xs v) this moves ≡ run_with (all_pending xs (declared_of v)) v this moves in

@@ -38,7 +38,7 @@ or_later : {A : Type 0} (a b : Bool) (c d : A) → (if a then c else (if b then 
 or_later true b c d = refl
 or_later false b c d = refl
 
-scope_of-all_pending : (xs : List Text) (ds : List Declared) (y : Text) → scope_of (all_pending xs ds) y ≡ (if one_of xs y then changeable else scope_of ds y)
+pub scope_of-all_pending : (xs : List Text) (ds : List Declared) (y : Text) → scope_of (all_pending xs ds) y ≡ (if one_of xs y then changeable else scope_of ds y)
 scope_of-all_pending [] ds y = refl
 scope_of-all_pending (x ∷ xs) ds y = scope_of-all_pending xs (pending x ds) y ∙ first_or (bytes_eq y x) (one_of xs y) changeable (scope_of ds y)
 

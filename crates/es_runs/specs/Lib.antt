@@ -4,3 +4,8 @@ pub mod Alike
 pub mod Runs
 pub mod Rules
 pub mod Steps
+pub mod Open
+pub mod OpenSteps
+pub mod OpenRules
+pub mod Weights
+pub mod OpenLaws

@@ -4,6 +4,7 @@
 
 ghost use Rattle.es_runs.specs.Runs.{LawPlace, LawFresh};
 ghost use Rattle.es_runs.specs.Steps.{LawBindings, LawLowered};
+ghost use Rattle.es_runs.specs.OpenLaws.{LawOpenRules, LawReached, LawReachedBindings};
 ghost use Rattle.es_runs.specs.Rules.{LawNullish, LawReread, LawOptionalMember, LawCoreRules};
 
 /// Replacing an expression by one that evaluates alike, at what its place takes of it, keeps the runs.
@@ -45,4 +46,20 @@ pub fn law_lowered()
 /// A name of a core program is bound in what it was lowered to exactly where it was bound before.
 pub fn law_bindings()
     ensures { LawBindings }
+{}
+
+/// Whatever steps of the rules of core programs are taken from a core program, at whatever places and in whatever order:
+/// source and open program run alike.
+pub fn law_open_rules()
+    ensures { LawOpenRules }
+{}
+
+/// A core program and what is reached from it run alike.
+pub fn law_reached()
+    ensures { LawReached }
+{}
+
+/// A name of a core program is bound in what is reached from it exactly where it was bound before.
+pub fn law_reached_bindings()
+    ensures { LawReachedBindings }
 {}

@@ -1,0 +1,63 @@
+-- Steps in a row: one row after another, and steps of a part as steps of the whole.
+use Rattle.std.proofs.Common.{ℕ, zero, suc}
+use Rattle.es_tree.specs.Tree.{Label}
+use Rattle.es_tree.specs.declared.ast_type.AstType.{AstType}
+use Rattle.es_runs.specs.Alike.{Need, needs}
+use Rattle.es_runs.specs.Open.{Pending, Open, OpenFields, OpenField, OpenTrees}
+use Rattle.es_runs.specs.Open.Open.{open_node}
+use Rattle.es_runs.specs.Open.OpenFields.{◌and◌}
+use Rattle.es_runs.specs.Open.OpenField.{child, children, list}
+use Rattle.es_runs.specs.Open.OpenTrees.{◌next◌}
+use Rattle.es_runs.specs.OpenSteps.{Whole, Ledger, Spot, Step, FieldsStep, FieldStep, TreesStep, Steps}
+use Rattle.es_runs.specs.OpenSteps.Ledger.{ledger}
+use Rattle.es_runs.specs.OpenSteps.Step.{inside}
+use Rattle.es_runs.specs.OpenSteps.FieldsStep.{in_first, in_later}
+use Rattle.es_runs.specs.OpenSteps.FieldStep.{in_child, in_children, within}
+use Rattle.es_runs.specs.OpenSteps.TreesStep.{in_head, in_tail}
+use Rattle.es_runs.specs.OpenSteps.Steps.{stays, goes}
+use Rattle.es_runs.proofs.OpenPlaces.{whole_in, pending_in}
+
+pub append_steps : {X : Type 0} {S : Ledger → X → Ledger → X → Type 0} {s s' s'' : Ledger} {t u v : X} → Steps S s t s' u → Steps S s' u s'' v → Steps S s t s'' v
+append_steps stays more = more
+append_steps (goes r rest) more = goes r (append_steps rest more)
+
+pub one_step_alone : {X : Type 0} {S : Ledger → X → Ledger → X → Type 0} {s s' : Ledger} {t u : X} → S s t s' u → Steps S s t s' u
+one_step_alone r = goes r stays
+
+-- steps of a part, where each is a step of the whole
+pub map_steps : {X Y : Type 0} {S : Ledger → X → Ledger → X → Type 0} {T : Ledger → Y → Ledger → Y → Type 0} (f : X → Y) → ((s : Ledger) (x : X) (s' : Ledger) (y : X) → S s x s' y → T s (f x) s' (f y)) → {s s' : Ledger} {t u : X} → Steps S s t s' u → Steps T s (f t) s' (f u)
+map_steps f out stays = stays
+map_steps f out (goes {s = s} {s' = s'} {t = t} {u = u} r rest) = goes (out s t s' u r) (map_steps f out rest)
+
+module _ {R : Need → Ledger → Spot → Ledger → Spot → Type 0} where
+  pub steps_inside : {n : Need} {s s' : Ledger} (k : AstType) (l : Label) {fs gs : OpenFields} → Steps (FieldsStep R (needs n k l.texts l.flags)) s fs s' gs → Steps (Step R n) s (open_node k l fs) s' (open_node k l gs)
+  steps_inside k l = map_steps (λ fs. open_node k l fs) (λ s x s' y r. inside r)
+
+  pub steps_in_first : {c : ℕ → Need} {s s' : Ledger} {f g : OpenField} (fs : OpenFields) → Steps (FieldStep R (c zero)) s f s' g → Steps (FieldsStep R c) s (f and fs) s' (g and fs)
+  steps_in_first fs = map_steps (λ f. f and fs) (λ s x s' y r. in_first r)
+
+  pub steps_in_later : {c : ℕ → Need} {s s' : Ledger} {fs gs : OpenFields} (f : OpenField) → Steps (FieldsStep R (λ i. c (suc i))) s fs s' gs → Steps (FieldsStep R c) s (f and fs) s' (f and gs)
+  steps_in_later f = map_steps (λ fs. f and fs) (λ s x s' y r. in_later r)
+
+  pub steps_in_child : {n : Need} {s s' : Ledger} {t u : Open} → Steps (Step R n) s t s' u → Steps (FieldStep R n) s (child t) s' (child u)
+  steps_in_child = map_steps (λ t. child t) (λ s x s' y r. in_child r)
+
+  pub steps_in_children : {n : Need} {s s' : Ledger} {ts us : OpenTrees} → Steps (TreesStep R n) s ts s' us → Steps (FieldStep R n) s (children ts) s' (children us)
+  steps_in_children = map_steps (λ ts. children ts) (λ s x s' y r. in_children r)
+
+  pub steps_in_head : {n : Need} {s s' : Ledger} {t u : Open} (ts : OpenTrees) → Steps (Step R n) s t s' u → Steps (TreesStep R n) s (t next ts) s' (u next ts)
+  steps_in_head ts = map_steps (λ t. t next ts) (λ s x s' y r. in_head r)
+
+  pub steps_in_tail : {n : Need} {s s' : Ledger} {ts us : OpenTrees} (t : Open) → Steps (TreesStep R n) s ts s' us → Steps (TreesStep R n) s (t next ts) s' (t next us)
+  steps_in_tail t = map_steps (λ ts. t next ts) (λ s x s' y r. in_tail r)
+
+  one_within : {n : Need} (s s' : Ledger) (o : Pending) {ts us : OpenTrees} → TreesStep R n s ts s' us → FieldStep R n (ledger (whole_in s) o) (list (pending_in s) ts) (ledger (whole_in s') o) (list (pending_in s') us)
+  one_within (ledger w p) (ledger w' q) o r = within r
+
+  all_within : {n : Need} {s s' : Ledger} (o : Pending) {ts us : OpenTrees} → Steps (TreesStep R n) s ts s' us → Steps (FieldStep R n) (ledger (whole_in s) o) (list (pending_in s) ts) (ledger (whole_in s') o) (list (pending_in s') us)
+  all_within o stays = stays
+  all_within o (goes {s = s} {s' = s'} r rest) = goes (one_within s s' o r) (all_within o rest)
+
+  -- what is pending around stays, and inside it is the list's own
+  pub steps_within : {n : Need} {w w' : Whole} {o p q : Pending} {ts us : OpenTrees} → Steps (TreesStep R n) (ledger w p) ts (ledger w' q) us → Steps (FieldStep R n) (ledger w o) (list p ts) (ledger w' o) (list q us)
+  steps_within {o = o} r = all_within o r
