@@ -1,5 +1,5 @@
 -- The names that the table of a program binds.
-use Rattle.std.proofs.Common.{◌≡◌, ℕ, zero, suc, ◌<◌, true, Option, Some, None, is_some, slice_get, option_and_then, sym, ap, ◌∙◌, arith}
+use Rattle.std.proofs.Common.{◌≡◌, ℕ, zero, suc, true, Some, None, is_some, slice_get, option_and_then, sym, ap, ◌∙◌, arith}
 use Rattle.std.proofs.lemmas.Option.{slice_get_past}
 use Rattle.es_tree.specs.Fresh.{is_among}
 use Rattle.es_tree.specs.Names.{names_of}

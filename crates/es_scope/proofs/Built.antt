@@ -42,7 +42,7 @@ written : (n : ℕ) (rs : List TableReference) → list_any (writes n) rs ≡ li
 written n [] = refl
 written n (r ∷ rs) = ap (λ b. writes n r || b) (written n rs)
 
-pub within : {X : Type 0} (xs : List X) (n : ℕ) → n < length xs → is_some (slice_get xs n) ≡ true
+within : {X : Type 0} (xs : List X) (n : ℕ) → n < length xs → is_some (slice_get xs n) ≡ true
 within [] n l = absurd (omega (arith, l))
 within (x ∷ xs) zero l = refl
 within (x ∷ xs) (suc n) l = within xs n (omega (arith, l))

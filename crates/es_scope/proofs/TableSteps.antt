@@ -1,24 +1,18 @@
 -- The parts of a table after one scope, one binding or one reference more.
-use Rattle.std.proofs.Common.{◌≡◌, ℕ, ◌+◌, ◌<◌, ◌==◌, ◌&&◌, ◌||◌, Bool, true, false, if◌then◌else◌, Option, Some, None, List, [], ◌∷◌, ◌++◌, Vec, length, option_map, option_and_then, slice_get, is_some, unwrap_or, bytes_eq, refl, sym, ap, ◌∙◌, arith, length-append}
+use Rattle.std.proofs.Common.{◌≡◌, ℕ, ◌+◌, ◌<◌, ◌==◌, ◌&&◌, Bool, true, false, if◌then◌else◌, Some, List, [], ◌∷◌, ◌++◌, Vec, length, option_map, option_and_then, slice_get, unwrap_or, bytes_eq, refl, sym, ap, ◌∙◌, arith, length-append}
 use Rattle.std.proofs.lemmas.Bool.{eqb-true}
-use Rattle.std.proofs.lemmas.Option.{slice_get_past}
 use Rattle.es_tree.specs.Heads.{scope}
-use Rattle.es_tree.specs.References.{writes_symbol, is_symbol}
 use Rattle.es_tree.specs.Words.{Text}
 use Rattle.es_tree.specs.declared.ids.ScopeId.{ScopeId}
 use Rattle.es_scope.specs.Bindings.{AreBound, bound_in}
-use Rattle.es_scope.specs.Mutations.{mutated_by}
 use Rattle.es_scope.specs.Numbers.{numbers}
 use Rattle.es_scope.specs.Outwards.{AreOutwards, SameShape}
 use Rattle.es_scope.specs.PlainReferences.{plain_reference}
-use Rattle.es_scope.specs.TableChanges.{SameBindings, SameNames, SameReferences, SameScopes, SameSymbols, HasBindingMore, HasReferenceMore, HasScopeMore, with_last}
-use Rattle.es_scope.specs.declared.flags.ScopeFlags.{ScopeFlags}
-use Rattle.es_scope.specs.declared.scoping.Reference.{Reference as TableReference}
+use Rattle.es_scope.specs.TableChanges.{SameReferences, SameScopes, SameSymbols, HasBindingMore, HasScopeMore}
 use Rattle.es_scope.specs.declared.scoping.Scope.{Scope}
 use Rattle.es_scope.specs.declared.scoping.Scoping.{Scoping}
 use Rattle.es_scope.specs.declared.scoping.Symbol.{Symbol}
 use Rattle.es_scope.proofs.Tables.{parent_below}
-use Rattle.es_scope.proofs.Built.{within}
 use Rattle.es_scope.proofs.Lasts.{slice_get-last, with_last-map, unsaid_last}
 
 same_scopes : (old new : Scoping) → new.scopes.items ≡ old.scopes.items → SameScopes old new

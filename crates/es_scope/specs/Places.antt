@@ -1,5 +1,5 @@
 -- The places of a visit.
-use Rattle.std.specs.Prelude.{◌≡◌, ℕ, ◌<◌, List, [], ◌∷◌, Some, Vec, map, reverse, slice_get, true}
+use Rattle.std.specs.Prelude.{◌≡◌, ℕ, ◌<◌, List, Some, Vec, map, reverse, slice_get, true}
 use Rattle.es_tree.specs.Words.{Text}
 use Rattle.es_scope.specs.Tables.{binding_in, scope_count}
 use Rattle.es_scope.specs.Uids.{uses}

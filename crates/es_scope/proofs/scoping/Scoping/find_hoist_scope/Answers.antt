@@ -1,5 +1,5 @@
-use Rattle.std.proofs.Common.{◌≡◌, ◌<◌, true, false, Some, None, sym, ◌∙◌, arith}
-use Rattle.es_scope.specs.HoistScopes.{hoist_here, hoist_outside, hoist_outermost, is_hoist_scope}
+use Rattle.std.proofs.Common.{◌≡◌, ◌<◌, Some, sym, arith}
+use Rattle.es_scope.specs.HoistScopes.{hoist_here, hoist_outside, hoist_outermost}
 use Rattle.es_scope.specs.Tables.{parent_of}
 use Rattle.es_scope.proofs.Tables.{parent_below}
 use Rattle.es_scope.proofs.scoping.Scoping.find_hoist_scope.Goals as goal

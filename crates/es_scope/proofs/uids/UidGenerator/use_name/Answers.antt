@@ -1,5 +1,4 @@
-use Rattle.std.proofs.Common.{◌≡◌, ◌∙◌, true, bytes_eq, string_bytes}
-use Rattle.std.specs.HashSet.{contains_text}
+use Rattle.std.proofs.Common.{◌∙◌, bytes_eq, string_bytes}
 use Rattle.es_scope.proofs.Among.{also-inserted}
 use Rattle.es_scope.proofs.Candidates.{stays, AreTaken-inserted_use}
 use Rattle.es_scope.proofs.uids.UidGenerator.use_name.Goals as goal
