@@ -3,7 +3,8 @@ use Rattle.std.proofs.Common.{◌≡◌, ℕ, ◌<◌, ◌==◌, ◌&&◌, ◌||
 use Rattle.std.proofs.lemmas.Bool.{and_parts, eqb-true, eq-eqb}
 use Rattle.std.specs.Cmp.Lexicographic.{bytes_decides}
 use Rattle.es_tree.specs.Words.{Text}
-use Rattle.es_scope.specs.Contexts.{AddsScope, Binds, Refers, steady_of, table_of, uses_of}
+use Rattle.es_scope.specs.Contexts.{AddsScope, Binds, Refers, reference_to, steady_of, table_of, uses_of}
+use Rattle.es_scope.specs.TableChanges.{HasBindingMore, HasReferenceMore}
 use Rattle.es_scope.specs.Tables.{binding_in, is_found_steady, is_mutated, symbol_count}
 use Rattle.es_scope.specs.declared.context.TraverseCtx.{TraverseCtx}
 use Rattle.es_scope.specs.declared.flags.ReferenceFlags.{ReferenceFlags}
@@ -56,8 +57,8 @@ steady-bound old new scope name flags b x other =
     unnamed false = refl
 
 -- what is mutated after a binding, and then a reference that writes
-noted : {S : Type 0} (old mid new : TraverseCtx S) (name : Text) (scope : ℕ) (kind : SymbolFlags) (symbol : ℕ) (flags : ReferenceFlags) → Binds old mid scope name kind → Refers mid new (Some symbol) flags → flags.write ≡ true → (m : ℕ) → is_mutated (table_of new) m ≡ (is_mutated (table_of old) m || symbol == m)
-noted old mid new name scope kind symbol flags b r writes m = rw writes at (r.table.mutated m) ∙ ap (λ w. w || symbol == m) (b.table.mutated m)
+noted : (old mid new : Scoping) (name : Text) (scope : ℕ) (kind : SymbolFlags) (symbol node : ℕ) (flags : ReferenceFlags) → HasBindingMore old mid scope name kind → HasReferenceMore mid new (reference_to node (Some symbol) flags) → flags.write ≡ true → (m : ℕ) → is_mutated new m ≡ (is_mutated old m || symbol == m)
+noted old mid new name scope kind symbol node flags b r writes m = rw writes at (r.mutated m) ∙ ap (λ w. w || symbol == m) (b.mutated m)
 
 other_symbol : (was : Bool) (count symbol m : ℕ) → symbol ≡ count → m < count → (was || symbol == m) ≡ was
 other_symbol was count symbol m k l = at (symbol == m) refl where
@@ -65,17 +66,22 @@ other_symbol was count symbol m k l = at (symbol == m) refl where
   at true f = absurd (omega (arith, l, k, eqb-true symbol m f))
   at false f = rw f (or_false was)
 
--- A name that was not in use, bound and then written: the steady names are as they were.
-pub steady-made : {S : Type 0} (old mid new : TraverseCtx S) (name : Text) (scope : ℕ) (kind : SymbolFlags) (symbol : ℕ) (flags : ReferenceFlags) → uses_of old name ≡ false → Binds old mid scope name kind → symbol ≡ symbol_count (table_of old) → Refers mid new (Some symbol) flags → flags.write ≡ true → (x : Text) → steady_of new x ≡ steady_of old x
-steady-made old mid new name scope kind symbol flags unused b k r writes x = at (0 == scope && bytes_eq name x) refl where
+-- A name that was not in use, bound and then written: the steady names are as they were. Of the context between only its
+-- table counts.
+pub steady-declared : {S : Type 0} (old : TraverseCtx S) (mid : Scoping) (new : TraverseCtx S) (name : Text) (scope : ℕ) (kind : SymbolFlags) (symbol node : ℕ) (flags : ReferenceFlags) → uses_of old name ≡ false → HasBindingMore (table_of old) mid scope name kind → symbol ≡ symbol_count (table_of old) → HasReferenceMore mid (table_of new) (reference_to node (Some symbol) flags) → flags.write ≡ true → (x : Text) → steady_of new x ≡ steady_of old x
+steady-declared old mid new name scope kind symbol node flags unused b k r writes x = at (0 == scope && bytes_eq name x) refl where
   at : (same : Bool) → (0 == scope && bytes_eq name x) ≡ same → steady_of new x ≡ steady_of old x
   at true e =
       let this : name ≡ x = (bytes_decides name x).0 (and_parts (0 == scope) (bytes_eq name x) e).1 in
-      let found : binding_in (table_of new) 0 x ≡ Some symbol = r.table.bindings 0 x ∙ (rw e at (b.table.bindings 0 x) ∙ ap Some (sym k)) in
+      let found : binding_in (table_of new) 0 x ≡ Some symbol = r.bindings 0 x ∙ (rw e at (b.bindings 0 x) ∙ ap Some (sym k)) in
       let unbound : binding_in (table_of old) 0 x ≡ None = unused-unbound old 0 x (ap (uses_of old) (sym this) ∙ unused) in
-      let written : is_mutated (table_of new) symbol ≡ true = noted old mid new name scope kind symbol flags b r writes symbol ∙ (ap (λ w. is_mutated (table_of old) symbol || w) (eq-eqb symbol symbol refl) ∙ or_true (is_mutated (table_of old) symbol)) in
+      let written : is_mutated (table_of new) symbol ≡ true = noted (table_of old) mid (table_of new) name scope kind symbol node flags b r writes symbol ∙ (ap (λ w. is_mutated (table_of old) symbol || w) (eq-eqb symbol symbol refl) ∙ or_true (is_mutated (table_of old) symbol)) in
       ap (is_found_steady (table_of new)) found ∙ (ap not written ∙ sym (ap (is_found_steady (table_of old)) unbound))
   at false e =
-      let found : binding_in (table_of new) 0 x ≡ binding_in (table_of old) 0 x = r.table.bindings 0 x ∙ rw e at (b.table.bindings 0 x) in
+      let found : binding_in (table_of new) 0 x ≡ binding_in (table_of old) 0 x = r.bindings 0 x ∙ rw e at (b.bindings 0 x) in
       ap (is_found_steady (table_of new)) found ∙
-      found_same (table_of old) (table_of new) (binding_in (table_of old) 0 x) (λ m f. noted old mid new name scope kind symbol flags b r writes m ∙ other_symbol (is_mutated (table_of old) m) (symbol_count (table_of old)) symbol m k (bound-known (table_of old) 0 x m f))
+      found_same (table_of old) (table_of new) (binding_in (table_of old) 0 x) (λ m f. noted (table_of old) mid (table_of new) name scope kind symbol node flags b r writes m ∙ other_symbol (is_mutated (table_of old) m) (symbol_count (table_of old)) symbol m k (bound-known (table_of old) 0 x m f))
+
+-- the same of three contexts
+pub steady-made : {S : Type 0} (old mid new : TraverseCtx S) (name : Text) (scope : ℕ) (kind : SymbolFlags) (symbol : ℕ) (flags : ReferenceFlags) → uses_of old name ≡ false → Binds old mid scope name kind → symbol ≡ symbol_count (table_of old) → Refers mid new (Some symbol) flags → flags.write ≡ true → (x : Text) → steady_of new x ≡ steady_of old x
+steady-made old mid new name scope kind symbol flags unused b k r writes x = steady-declared old (table_of mid) new name scope kind symbol mid.ast.next flags unused b.table k r.table writes x

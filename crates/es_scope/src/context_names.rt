@@ -47,6 +47,7 @@ impl<S> TraverseCtx<S> {
         ensures made { IfOk result (λ b. MakesName self.old self.new (string_bytes b.name)) }
         ensures bound { IfOk result (λ b. Binds self.old self.new scope.0 (string_bytes b.name) flags) }
         ensures symbol { IfOk result (λ b. b.symbol_id.0 ≡ symbol_count (table_of self.old)) }
+        ensures state { self.new.state ≡ self.old.state }
     {
         let name = self.uids.generate_from_text(base)?;
         let bound = self.bind(name, scope, flags)?;
@@ -65,6 +66,7 @@ impl<S> TraverseCtx<S> {
         ensures made { IfOk result (λ b. MakesName self.old self.new (string_bytes b.name)) }
         ensures bound { IfOk result (λ b. Binds self.old self.new scope.0 (string_bytes b.name) flags) }
         ensures symbol { IfOk result (λ b. b.symbol_id.0 ≡ symbol_count (table_of self.old)) }
+        ensures state { self.new.state ≡ self.old.state }
     {
         let name = self.uids.generate_from_node(node)?;
         let bound = self.bind(name, scope, flags)?;
@@ -80,6 +82,7 @@ impl<S> TraverseCtx<S> {
         ensures made { IfOk result (λ b. MakesName self.old self.new (string_bytes b.name)) }
         ensures bound { IfOk result (λ b. BindsHoisted self.old self.new (string_bytes b.name)) }
         ensures symbol { IfOk result (λ b. b.symbol_id.0 ≡ symbol_count (table_of self.old)) }
+        ensures state { self.new.state ≡ self.old.state }
     {
         let scope = self.current_hoist_scope_id();
         let bound = self.generate_uid(base, scope, FUNCTION_SCOPED)?;
@@ -95,6 +98,7 @@ impl<S> TraverseCtx<S> {
         ensures made { IfOk result (λ b. MakesName self.old self.new (string_bytes b.name)) }
         ensures bound { IfOk result (λ b. BindsHoisted self.old self.new (string_bytes b.name)) }
         ensures symbol { IfOk result (λ b. b.symbol_id.0 ≡ symbol_count (table_of self.old)) }
+        ensures state { self.new.state ≡ self.old.state }
     {
         let scope = self.current_hoist_scope_id();
         let bound = self.generate_uid_based_on_node(node, scope, FUNCTION_SCOPED)?;
@@ -111,6 +115,7 @@ impl<S> TraverseCtx<S> {
         ensures made { IfOk result (λ b. MakesName self.old self.new (string_bytes b.name)) }
         ensures bound { IfOk result (λ b. Binds self.old self.new 0 (string_bytes b.name) flags) }
         ensures symbol { IfOk result (λ b. b.symbol_id.0 ≡ symbol_count (table_of self.old)) }
+        ensures state { self.new.state ≡ self.old.state }
     {
         let scope = self.scoping().root_scope_id();
         let bound = self.generate_uid(base, scope, flags)?;
@@ -129,6 +134,7 @@ impl<S> TraverseCtx<S> {
         ensures taken { OnOk result (TakesName self.old self.new name.now) }
         ensures bound { OnOk result (Binds self.old self.new scope.0 name.now flags) }
         ensures symbol { IfOk result (λ b. b.symbol_id.0 ≡ symbol_count (table_of self.old)) }
+        ensures state { self.new.state ≡ self.old.state }
     {
         let alloc = self.ast.alloc;
         self.uids.use_name(name)?;
@@ -164,6 +170,7 @@ impl<S> TraverseCtx<S> {
         ensures symbol { IfOk result (λ b. b.symbol_id.0 ≡ symbol_count (table_of self.old)) }
         ensures bound { OnOk result (Binds self.old self.new scope.0 (string_bytes name) flags) }
         ensures names { KeepsNames self.old self.new }
+        ensures state { self.new.state ≡ self.old.state }
     {
         let key = String::from_str(self.ast.alloc, name.as_str())?;
         let symbol_id = self.scoping.add_binding(scope, key, flags)?;
