@@ -1,0 +1,26 @@
+use Rattle.std.proofs.Common.{refl}
+use Rattle.es_tree.specs.Bare.{bare_trees}
+use Rattle.es_tree.specs.Tree.{trees}
+use Rattle.es_visit.specs.Moments.{moment}
+use Rattle.es_visit.proofs.BothHooks.{all_ids_both, both_of, exited_parameters_both, first_part, goes_both, passed_up, ready_later, second_part, trees_refused, trees_refused_later}
+use Rattle.es_visit.proofs.both.BothTraverse.exit_formal_parameters.Goals as goal
+
+pub exit_formal_parameters-requires-2 : goal.exit_formal_parameters-requires-2
+exit_formal_parameters-requires-2 g c = let h = c.in_ok-exit_formal_parameters.ensures.exited.changed in record { ready = ready_later g.A.Lowering.suits _ _ h.kept h.lighter c.requires.ready.suited.0 c.requires.ready.room c.requires.ready.inert }
+
+pub returns-clause-exited : goal.returns-clause-exited
+returns-clause-exited g c = let A = g.A.Lowering.profile in let B = g.B.Lowering.profile in exited_parameters_both B A (both_of A B) (second_part A B) (first_part A B) c.in_ok-exit_formal_parameters.ensures.exited c.in_ok-exit_formal_parameters-2.ensures.exited
+
+pub returns-clause-ids : goal.returns-clause-ids
+returns-clause-ids g c = all_ids_both _ _ _ c.in_ok-exit_formal_parameters.ensures.ids c.in_ok-exit_formal_parameters-2.ensures.ids
+
+pub returns-clause-goes : goal.returns-clause-goes
+returns-clause-goes g c = goes_both _ _ g.A.Lowering.suits g.B.Lowering.suits g.A.Lowering.tally g.B.Lowering.tally _ _ _ c.in_ok-exit_formal_parameters.ensures.exited.changed.kept.options refl c.in_ok-exit_formal_parameters-2.ensures.goes c.in_ok-exit_formal_parameters.ensures.goes
+
+pub returns-in_err-exit_formal_parameters-clause-refused : goal.returns-in_err-exit_formal_parameters-clause-refused
+returns-in_err-exit_formal_parameters-clause-refused g c = let A = g.A.Lowering.profile in let B = g.B.Lowering.profile in
+    passed_up c.from_residual.result c.in_err-exit_formal_parameters.field-0.0 _ c.from_residual.ensures.1 (trees_refused B (both_of A B) (second_part A B) (moment g.S.Additions.pending c.args.ctx.now) _ (bare_trees (trees c.args.parameters.now.items)) c.in_err-exit_formal_parameters.ensures.refused)
+
+pub returns-in_err-exit_formal_parameters-2-clause-refused : goal.returns-in_err-exit_formal_parameters-2-clause-refused
+returns-in_err-exit_formal_parameters-2-clause-refused g c = let A = g.A.Lowering.profile in let B = g.B.Lowering.profile in
+    passed_up c.from_residual-in_err-exit_formal_parameters-2.result c.in_err-exit_formal_parameters-2.field-0.0 _ c.from_residual-in_err-exit_formal_parameters-2.ensures.1 (trees_refused_later B A (both_of A B) (second_part A B) (first_part A B) _ (bare_trees (trees c.args.parameters.now.items)) (bare_trees (trees c.exit_formal_parameters.new.parameters.items)) c.in_ok-exit_formal_parameters.ensures.exited.changed c.in_err-exit_formal_parameters-2.ensures.refused)

@@ -1,0 +1,78 @@
+-- What the visit of a part leaves.
+use Rattle.std.specs.Prelude.{◌≡◌, ◌⊎◌, ℕ, ◌+◌, ◌≤◌, Bool, true, false, Option, Some, None}
+use Rattle.es_tree.specs.declared.ast_type.AstType.{AstType}
+use Rattle.es_tree.specs.declared.options.EnvOptions.{EnvOptions}
+use Rattle.es_tree.specs.Tree.{Tree, Fields, Field, Trees, kind_of}
+use Rattle.es_tree.specs.Walks.{any_node, any_in_fields, any_in_field, any_in_trees}
+use Rattle.es_statements.specs.ProgramPlain.{plain_program}
+use Rattle.es_statements.specs.declared.program.Program.{Program}
+use Rattle.es_visit.specs.declared.hook.Hook.{Hook}
+use Rattle.es_visit.specs.declared.hook.Hook.TheVariants.{ArrowFunctionBody, Expression, Statement}
+use Rattle.es_visit.specs.Counts.{just}
+use Rattle.es_visit.specs.Hooks.{hook_of_kind, hook_of_sort, sort_of}
+use Rattle.es_visit.specs.Moments.{Moment, IsFinished}
+use Rattle.es_visit.specs.Changes.{Changed, ChangedFields, ChangedField, ChangedTrees, ChangedProgram}
+use Rattle.es_visit.specs.Laws.{Profile, Once, Still, is_row, one_call, body_of, directives_of}
+
+-- A part was changed by the type's rule, and holds no construct of the type.
+pub record Visited (profile : Profile) (a : Moment) (t : Tree) (b : Moment) (u : Tree) : Type 0 where
+  pub changed : Changed profile.rule a t b u
+  pub free : (h : Hook) → any_node (profile.rows h) u ≡ false
+
+pub record VisitedFields (profile : Profile) (k : AstType) (a : Moment) (fs : Fields) (b : Moment) (gs : Fields) : Type 0 where
+  pub changed : ChangedFields profile.rule k a fs b gs
+  pub free : (h : Hook) → any_in_fields (profile.rows h) gs ≡ false
+
+pub record VisitedField (profile : Profile) (a : Moment) (f : Field) (b : Moment) (g : Field) : Type 0 where
+  pub changed : ChangedField profile.rule a f b g
+  pub free : (h : Hook) → any_in_field (profile.rows h) g ≡ false
+
+pub record VisitedTrees (profile : Profile) (a : Moment) (ts : Trees) (b : Moment) (us : Trees) : Type 0 where
+  pub changed : ChangedTrees profile.rule a ts b us
+  pub free : (h : Hook) → any_in_trees (profile.rows h) us ≡ false
+
+pub record VisitedProgram (profile : Profile) (a : Moment) (x : Program) (b : Moment) (y : Program) : Type 0 where
+  pub changed : ChangedProgram profile.rule a x b y
+  pub directives : directives_of y ≡ directives_of x
+  pub free : (h : Hook) → any_in_trees (profile.rows h) (body_of y) ≡ false
+
+-- The enter hook of a node by its sort: it is no construct that this hook removes.
+pub record EnteredSort (profile : Profile) (a : Moment) (t : Tree) (b : Moment) (u : Tree) : Type 0 where
+  pub changed : Changed profile.rule a t b u
+  pub cleared : (h : Hook) → hook_of_sort (sort_of (kind_of u)) ≡ Some h → is_row (profile.rows h) u ≡ false
+
+-- The enter hook of a node by its kind.
+pub record EnteredKind (profile : Profile) (a : Moment) (t : Tree) (b : Moment) (u : Tree) : Type 0 where
+  pub changed : Changed profile.rule a t b u
+  pub cleared : (h : Hook) → hook_of_kind (kind_of t) ≡ Some h → is_row (profile.rows h) u ≡ false
+  pub order : (u ≡ t) ⊎ profile.writes u
+
+-- All enter hooks of a node: it is no construct any more.
+pub record EnteredNode (profile : Profile) (a : Moment) (t : Tree) (b : Moment) (u : Tree) : Type 0 where
+  pub changed : Changed profile.rule a t b u
+  pub cleared : (h : Hook) → is_row (profile.rows h) u ≡ false
+
+-- A type goes on with its settings, and counts at most so many exit hooks more at the nodes of each id.
+pub record Counted {X : Type 0} (suits : X → EnvOptions → Type 0) (tally : X → Hook → ℕ → ℕ) (o : EnvOptions) (x y : X) (count : ((ℕ → ℕ) → ℕ)) : Type 0 where
+  pub suits_still : suits y o
+  pub calls : (h : Hook) (j : ℕ) → tally y h j ≤ tally x h j + count (just j)
+
+-- one for the hook of a node's kind at this id
+abbrev pub kind_call : Option Hook → ℕ → Hook → ℕ → ℕ
+kind_call None i h j = 0
+kind_call (Some g) i h j = one_call g i h j
+
+-- It counts at most one more exit hook, that of this kind at this node.
+pub record GoesOutByKind {X : Type 0} (suits : X → EnvOptions → Type 0) (tally : X → Hook → ℕ → ℕ) (o : EnvOptions) (k : AstType) (id : ℕ) (x y : X) : Type 0 where
+  pub suits_still : suits y o
+  pub one_exit : (h : Hook) (j : ℕ) → tally y h j ≤ tally x h j + kind_call (hook_of_kind k) id h j
+
+-- It counts at most one more exit hook, that of expressions or that of statements, at this node.
+pub record GoesOutBySort {X : Type 0} (suits : X → EnvOptions → Type 0) (tally : X → Hook → ℕ → ℕ) (o : EnvOptions) (id : ℕ) (x y : X) : Type 0 where
+  pub suits_still : suits y o
+  pub one_exit : (Still (tally x) (tally y)) ⊎ (Once Expression id (tally x) (tally y)) ⊎ (Once Statement id (tally x) (tally y))
+
+-- It counts at most one more exit hook, that of the body of an arrow, at this node.
+pub record GoesOutAtBody {X : Type 0} (suits : X → EnvOptions → Type 0) (tally : X → Hook → ℕ → ℕ) (o : EnvOptions) (id : ℕ) (x y : X) : Type 0 where
+  pub suits_still : suits y o
+  pub one_exit : (Still (tally x) (tally y)) ⊎ (Once ArrowFunctionBody id (tally x) (tally y))
