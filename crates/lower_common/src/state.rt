@@ -1,0 +1,42 @@
+//! The state of a lowering.
+ghost use Rattle.std.specs.Prelude.{◌≡◌, ◌∷◌, [], IfOk};
+ghost use Rattle.es_runs.specs.Open.{no_additions, nothing_pending};
+
+use crate::declarations::VarDeclarationsStore;
+use es_tree::operators::SourceType;
+use es_tree::options::{Assumptions, EnvOptions};
+use es_visit::lowering::Additions;
+use std::alloc::{AllocError, Global};
+
+/// What the hooks of lowerings share during one run.
+#[derive(Drop)]
+pub struct TransformState {
+    pub source_type: SourceType,
+    pub assumptions: Assumptions,
+    pub var_declarations: VarDeclarationsStore,
+}
+
+impl TransformState {
+    /// The state before a run: the assumptions of the options, and nothing to declare. Answers an error only for want
+    /// of memory.
+    pub fn new(
+        alloc: Global,
+        source_type: SourceType,
+        options: &EnvOptions,
+    ) -> Result<TransformState, AllocError>
+        ensures source_type { IfOk result (λ state. state.source_type ≡ source_type) }
+        ensures assumptions { IfOk result (λ state. state.assumptions ≡ options.now.assumptions) }
+        ensures pending { IfOk result (λ state. state.var_declarations ≡ nothing_pending ∷ []) }
+    {
+        let var_declarations = VarDeclarationsStore::new(alloc)?;
+        Ok(TransformState {
+            source_type,
+            assumptions: options.assumptions,
+            var_declarations,
+        })
+    }
+}
+
+impl Additions for TransformState {
+    ghost pending = { λ s. record { lists = s.var_declarations; others = no_additions } };
+}
