@@ -1,0 +1,9 @@
+pub mod WellMade
+pub mod NoneLeft
+pub mod BareNodes
+pub mod Inert
+pub mod Views
+pub mod Takings
+pub mod Copies
+pub mod Entering
+pub mod Switched

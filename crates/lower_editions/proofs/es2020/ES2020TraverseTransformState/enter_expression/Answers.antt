@@ -1,0 +1,14 @@
+use Rattle.std.proofs.Common.{◌≡◌, ◌∙◌, ap, sym}
+use Rattle.es_tree.specs.declared.options.ES2020Options.{ES2020Options}
+use Rattle.lower_editions.proofs.Switched.{off_moved, on_moved}
+use Rattle.lower_editions.proofs.es2020.ES2020TraverseTransformState.enter_expression.Goals.{then-self+in_ok-enter_expression, else-self}
+use Rattle.lower_editions.proofs.es2020.ES2020TraverseTransformState.enter_expression.Goals as goal
+
+pub returns-clause-entered : goal.returns-clause-entered
+returns-clause-entered c =
+    let on = c.args.ctx.now.options.es2020.nullish_coalescing_operator in
+    let held : on ≡ c.args.self.now.options.nullish_coalescing_operator = sym (ap (λ (o : ES2020Options). o.nullish_coalescing_operator) c.requires.ready.suited) in
+    elim c.if-self.branch [
+      | then-self+in_ok-enter_expression w ↦ on_moved on c.args.ctx.now w.enter_expression.new.ctx c.if-self.ctx c.args.node.now w.enter_expression.new.node c.if-self.node (held ∙ w.if-self.true) w.ctx-is w.node-is w.in_ok-enter_expression.ensures.entered
+      | else-self w ↦ off_moved on c.args.ctx.now c.if-self.ctx c.args.node.now c.if-self.node (held ∙ w.if-self.false) w.ctx-is w.node-is
+    ]

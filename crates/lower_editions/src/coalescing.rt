@@ -1,0 +1,161 @@
+//! A `??` as a conditional (ECMA-262, 13.13).
+ghost use Rattle.std.specs.Prelude.{◌≡◌, ◌+◌, ◌-◌, ◌^◌, ◌<◌, IfErr, IfOk, OnOk, length, string_bytes, true};
+ghost use Rattle.es_tree.specs.Bare.{bare};
+ghost use Rattle.es_tree.specs.Constructs.{is_nullish_coalescing};
+ghost use Rattle.es_tree.specs.Tree.{fields_of, kind_of, label_of};
+ghost use Rattle.es_tree.specs.Views.{plain_fields};
+ghost use Rattle.es_scope.specs.Contexts.{table_of};
+ghost use Rattle.es_scope.specs.Tables.{symbol_count};
+ghost use Rattle.es_runs.specs.Rules.{tested, tested_by};
+ghost use Rattle.es_runs.specs.Weights.{weight};
+ghost use Rattle.es_visit.specs.Laws.{Entered};
+ghost use Rattle.es_visit.specs.Moments.{HasRoom};
+ghost use Rattle.es_visit.specs.declared.hook.Hook.TheVariants.{Expression as AnyExpression};
+ghost use Rattle.lower_editions.specs.Coalescings.{at_span, has_no_fields, has_sides, is_leaf_where_read, is_lowerable_coalescing};
+ghost use Rattle.lower_editions.specs.Profiles.{coalescing_profile};
+ghost use Rattle.lower_editions.specs.Takings.{ByTemporary, ReadsMore, WritesOnce, moment_of};
+
+use crate::made_nodes::{NOWHERE, new_tested};
+use crate::readings::{READS, read_once_more, reads_again};
+use es_expressions::operations::{LogicalExpression, new_assignment_expression};
+use es_scope::context::TraverseCtx;
+use es_scope::context_names::BoundIdentifier;
+use es_scope::flags::ReferenceFlags;
+use es_tree::error::LowerError;
+use es_tree::ids::Span;
+use es_tree::kind::Kind;
+use es_tree::node::{Field, Node};
+use es_tree::operators::{AssignmentOperator, LogicalOperator};
+use lower_common::declarations::VarDeclarationsStore;
+use lower_common::state::TransformState;
+use std::alloc::AllocError;
+
+/// A reference that writes its name.
+const WRITES: ReferenceFlags = ReferenceFlags {
+    read: false,
+    write: true,
+};
+
+/// Whether the node is a `??`.
+fn is_coalescing(node: &Node) -> bool
+    ensures { result ≡ is_nullish_coalescing (kind_of node.now) (label_of node.now) (fields_of node.now) }
+{
+    match &node.kind {
+        Kind::LogicalExpression { operator } => matches!(operator, LogicalOperator::Coalesce),
+        _ => false,
+    }
+}
+
+/// Whether the node has no fields, where it is a name or `this`.
+fn is_leaf_where_read(node: &Node) -> bool
+    ensures { result ≡ is_leaf_where_read node.now }
+{
+    match &node.kind {
+        Kind::Identifier { .. } | Kind::ThisExpression => node.fields.is_empty(),
+        _ => true,
+    }
+}
+
+/// Whether the fields are two sides, of which the left one has no fields where it is a name or `this`.
+fn has_sides(fields: &[Field]) -> bool
+    ensures { result ≡ has_sides (plain_fields fields.now) }
+{
+    match fields {
+        [Field::One(left), Field::One(..)] => is_leaf_where_read(left),
+        _ => false,
+    }
+}
+
+/// Whether the node is a `??` that is lowered.
+pub(crate) fn is_lowerable(node: &Node) -> bool
+    ensures { result ≡ is_lowerable_coalescing (kind_of node.now) (label_of node.now) (fields_of node.now) }
+{
+    is_coalescing(node) && has_sides(node.fields.as_slice())
+}
+
+/// `left ?? right` where `left` can be read again: `left !== null && left !== void 0 ? left : right`.
+fn lower_by_reading<S>(
+    span: Span,
+    left: Node,
+    right: Node,
+    ctx: &mut TraverseCtx<S>,
+) -> Result<Node, AllocError>
+    requires alone { has_no_fields (fields_of left) ≡ true }
+    requires room { ctx.old.ast.next + 9 < 2 ^ 32 - 1 }
+    ensures made { IfOk result (λ node. bare node ≡ tested (at_span span) (bare left) (bare left) (bare right)) }
+    ensures reads { OnOk result (ReadsMore 9 ctx.old ctx.new) }
+{
+    let again = read_once_more(&left, ctx)?;
+    let value = read_once_more(&left, ctx)?;
+    let node = new_tested(&mut ctx.ast, span, left, again, value, right)?;
+    Ok(node)
+}
+
+/// `(name = left) !== null && name !== void 0 ? name : right`, with this span.
+fn new_tested_by<S>(
+    span: Span,
+    temporary: &BoundIdentifier,
+    left: Node,
+    right: Node,
+    ctx: &mut TraverseCtx<S>,
+) -> Result<Node, AllocError>
+    requires known { temporary.now.symbol_id.0 < symbol_count (table_of ctx.old) }
+    requires room { ctx.old.ast.next + 11 < 2 ^ 32 - 1 }
+    ensures made { IfOk result (λ node. bare node ≡ tested_by (at_span span) (string_bytes temporary.now.name) (bare left) (bare right)) }
+    ensures writes { OnOk result (WritesOnce temporary.now.symbol_id.0 11 ctx.old ctx.new) }
+{
+    let name = temporary.name.as_str();
+    let symbol = temporary.symbol_id;
+    let target = ctx.create_bound_ident_expr(NOWHERE, name, symbol, WRITES)?;
+    let again = ctx.create_bound_ident_expr(NOWHERE, name, symbol, READS)?;
+    let value = ctx.create_bound_ident_expr(NOWHERE, name, symbol, READS)?;
+    let assign = AssignmentOperator::Assign;
+    let first = new_assignment_expression(&mut ctx.ast, NOWHERE, assign, target, left)?;
+    let node = new_tested(&mut ctx.ast, span, first, again, value, right)?;
+    Ok(node)
+}
+
+/// `left ?? right` where `left` takes a temporary, which is declared in the innermost statement list.
+fn lower_by_temporary(
+    span: Span,
+    left: Node,
+    right: Node,
+    ctx: &mut TraverseCtx<TransformState>,
+) -> Result<Node, AllocError>
+    requires there { 0 < length ctx.old.state.var_declarations }
+    requires room { ctx.old.ast.next + 13 < 2 ^ 32 - 1 }
+    ensures { IfOk result (λ node. ByTemporary ctx.old ctx.new span left right node) }
+{
+    let temporary = VarDeclarationsStore::create_uid_var_based_on_node(&left, ctx)?;
+    let node = new_tested_by(span, &temporary, left, right, ctx)?;
+    Ok(node)
+}
+
+/// The conditional of a `??` that is lowered. Answers an error only for want of memory, or where no
+/// statement list is open that could declare a temporary.
+pub(crate) fn lower_coalescing(
+    node: Node,
+    ctx: &mut TraverseCtx<TransformState>,
+) -> Result<Node, LowerError>
+    requires lowerable { is_lowerable_coalescing (kind_of node) (label_of node) (fields_of node) ≡ true }
+    requires room { HasRoom (moment_of ctx.old) (weight (bare node)) }
+    ensures entered { IfOk result (λ made. Entered coalescing_profile AnyExpression (moment_of ctx.old) (bare node) (moment_of ctx.new) (bare made)) }
+    ensures refused { IfErr result (λ error. error ≡ LowerError.OutOfMemory) }
+{
+    let LogicalExpression {
+        id: _id,
+        span,
+        operator: _operator,
+        left,
+        right,
+    } = LogicalExpression::open(node);
+    if reads_again(&left, ctx) {
+        let made = lower_by_reading(span, left, right, ctx)?;
+        Ok(made)
+    } else if ctx.state.var_declarations.is_empty() {
+        Err(LowerError::OutOfMemory)
+    } else {
+        let made = lower_by_temporary(span, left, right, ctx)?;
+        Ok(made)
+    }
+}

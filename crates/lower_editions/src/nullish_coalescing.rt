@@ -1,0 +1,65 @@
+//! The lowering of nullish coalescing (ECMA-262, 13.13): `l ?? r` becomes
+//! `(x = l) !== null && x !== void 0 ? x : r` with a fresh name `x`, and
+//! `l !== null && l !== void 0 ? l : r` where `l` is `this` or a name that the program's scope binds and no
+//! reference writes.
+ghost use Rattle.std.specs.Prelude.{◌≡◌, false, true};
+ghost use Rattle.lower_editions.specs.Lawful.{coalescing_lawful};
+ghost use Rattle.lower_editions.specs.Profiles.{coalescing_profile};
+
+use crate::coalescing::{is_lowerable, lower_coalescing};
+use crate::made_nodes::new_placeholder;
+use es_scope::context::TraverseCtx;
+use es_tree::error::LowerError;
+use es_tree::sorts::Expression;
+use es_visit::hook::Hook;
+use es_visit::lowering::Lowering;
+use es_visit::traverse::Traverse;
+use lower_common::state::TransformState;
+use std::mem;
+
+/// The lowering of nullish coalescing, where the options ask for it.
+#[derive(Clone, Copy, Debug)]
+pub struct NullishCoalescingOperator;
+
+impl NullishCoalescingOperator {
+    /// The lowering. It takes no memory.
+    pub fn new() -> NullishCoalescingOperator {
+        NullishCoalescingOperator
+    }
+}
+
+impl Lowering for NullishCoalescingOperator {
+    ghost profile = { λ o. coalescing_profile };
+
+    ghost keeps = { false };
+
+    ghost suits = { λ x o. o.es2020.nullish_coalescing_operator ≡ true };
+
+    ghost tally = { λ x h id. 0 };
+
+    fn keeps_pairs(&self) -> bool {
+        false
+    }
+
+    fn acts(&self, hook: Hook) -> bool {
+        matches!(hook, Hook::Expression)
+    }
+}
+
+impl Traverse<TransformState> for NullishCoalescingOperator {
+    /// Lowers a `??` with two sides; its sides are visited afterwards, in the conditional. Answers an error
+    /// only for want of memory.
+    fn enter_expression(
+        &mut self,
+        node: &mut Expression,
+        ctx: &mut TraverseCtx<TransformState>,
+    ) -> Result<(), LowerError> {
+        if is_lowerable(node) {
+            let taken = mem::replace(node, new_placeholder(ctx.ast.alloc));
+            *node = lower_coalescing(taken, ctx)?;
+        }
+        Ok(())
+    }
+
+    ghost lawful = { λ x o. coalescing_lawful };
+}
