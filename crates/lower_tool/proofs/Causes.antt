@@ -21,7 +21,7 @@ use Rattle.std.specs.Fmt.{decimal}
 use Rattle.es_tree.specs.Causes.{rule_name, unsupported_name}
 use Rattle.es_json.specs.Pointer.{pointer}
 use Rattle.lower_tool.specs.Answer.{line, refusal_text}
-use Rattle.lower_tool.specs.Job.{IsReading, HasReading, Reads, IsCoreSource, IsUnread, IsBeyondCore, IsBroken, IsCause}
+use Rattle.lower_driver.specs.Sources.{IsReading, HasReading, Reads, IsCoreSource, IsUnread, IsBeyondCore, IsBroken, IsCause}
 
 -- bytes read as one value, and as one program
 one_value : (bytes : List ℕ) (v w : Data) → IsReading bytes v → IsReading bytes w → v ≡ w

@@ -1,14 +1,4 @@
 pub mod Known
 pub mod Outcome
 pub mod Wordlist
-pub mod Bare
-pub mod Declared
-pub mod Items
-pub mod Lifts
-pub mod Rows
-pub mod Tested
-pub mod WellMade
 pub mod Causes
-pub mod Marked
-pub mod Reasons
-pub mod TableNames

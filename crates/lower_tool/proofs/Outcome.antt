@@ -10,7 +10,7 @@ use Rattle.lower_tool.specs.declared.answer.Answer.TheVariants.{Lowered, Refused
 use Rattle.lower_tool.specs.declared.answer.TheConstants.{DONE, REFUSED, WORDS, TOO_LONG}
 use Rattle.lower_tool.specs.Answer.{output_text, notes_text, refusal_text, status_of}
 use Rattle.lower_tool.specs.Ends.{HasFault, ReadWhole, ReadFront, End}
-use Rattle.lower_tool.specs.Job.{IsCoreSource, IsCause}
+use Rattle.lower_driver.specs.Sources.{IsCoreSource, IsCause}
 use Rattle.lower_tool.proofs.Causes.{not_refused, one_cause}
 use Rattle.lower_tool.specs.Run.{AreProper, WasWhole, IsDue, Took, TookFront, Ends, Gave, Table, HasInput, Causes}
 

@@ -8,7 +8,8 @@ use Rattle.lower_tool.specs.declared.answer.Answer.TheVariants.{Lowered, Refused
 use Rattle.lower_tool.specs.declared.answer.TheConstants.{DONE, REFUSED, WORDS, READ_FAULT, WRITE_FAULT, OUT_OF_MEMORY, TOO_LONG}
 use Rattle.lower_tool.specs.Answer.{output_text, notes_text, refusal_text}
 use Rattle.lower_tool.specs.Ends.{HasFault, ReadWhole, ReadFront, End}
-use Rattle.lower_tool.specs.Job.{IsCoreSource, IsCause, IsLoweredText}
+use Rattle.lower_driver.specs.Sources.{IsCoreSource, IsCause}
+use Rattle.lower_tool.specs.Job.{IsLoweredText}
 
 -- the words are exactly the one word `--nullish`
 abbrev pub AreProper : List (String Global) → Type 0

@@ -1,20 +1,16 @@
 //! The job: from the bytes of an input to the text that goes out.
-ghost use Rattle.std.specs.Prelude.{◌≡◌, ◌<◌, ◌^◌, [], true, IfOk, IfErr, string_bytes};
-ghost use Rattle.serde_json.specs.View.{view};
-ghost use Rattle.es_tree.specs.Core.{is_core};
-ghost use Rattle.es_tree.specs.StaticRules.{breaks};
-ghost use Rattle.es_tree.specs.Tree.{tree_size};
-ghost use Rattle.lower_tool.specs.Job.{IsReading, Reads, IsCoreSource, IsCauseOrMemory, IsLoweredText};
+ghost use Rattle.std.specs.Prelude.{◌≡◌, IfOk, IfErr, None, string_bytes, true};
+ghost use Rattle.es_tree.specs.Options.{first_fault};
+ghost use Rattle.lower_driver.specs.Sources.{IsCoreSource};
+ghost use Rattle.lower_tool.specs.Job.{IsCauseOrMemory, IsLoweredText};
 
-use crate::nullish::lower_program;
-use es_json::program::{ReadProgram, read_program};
-use es_json::writer::program_text;
-use es_nodes::core_grammar::first_not_core;
-use es_nodes::static_rules::check_static;
-use es_scope::building::build_scoping;
-use es_tree::error::{LowerError, UnsupportedKind};
-use serde_json::{Category, Value};
-use std::alloc::Global;
+use es_tree::error::LowerError;
+use es_tree::options::{
+    Assumptions, ES2015Options, ES2016Options, ES2017Options, ES2018Options, ES2019Options,
+    ES2020Options, ES2021Options, ES2026Options, EnvOptions, HelperLoaderOptions,
+};
+use lower_driver::driver::lower_bytes;
+use std::alloc::{AllocError, Global};
 
 /// The text that goes out for an input of these bytes, its newline included: the core program that
 /// they read as, with each `??` lowered.
@@ -28,40 +24,55 @@ pub fn lower_text(alloc: Global, bytes: &[u8]) -> Result<String, LowerError>
     ensures text { IfOk result (λ text. IsLoweredText bytes.now (string_bytes text)) }
     ensures cause { IfErr result (λ error. IsCauseOrMemory bytes.now error) }
 {
-    let ReadProgram { mut program, ast } = read_source(alloc, bytes)?;
-    let scoping = build_scoping(alloc, &mut program)?;
-    let lowered = lower_program(program, ast, &scoping)?;
-    let mut text = program_text(alloc, &lowered)?;
+    let options = nullish_options(alloc)?;
+    let lowered = lower_bytes(alloc, bytes, &options)?;
+    let mut text = lowered.value.to_string(alloc)?;
     text.push_str("\n")?;
     Ok(text)
 }
 
-/// The core program that the bytes read as, which keeps the static rules.
-fn read_source(alloc: Global, bytes: &[u8]) -> Result<ReadProgram, LowerError>
-    ensures reads { IfOk result (λ read. Reads bytes.now read.program) }
-    ensures core { IfOk result (λ read. is_core read.program ≡ true) }
-    ensures kept { IfOk result (λ read. breaks read.program ≡ []) }
-    ensures size { IfOk result (λ read. tree_size read.program < 2 ^ 20) }
-    ensures next { IfOk result (λ read. read.ast.next ≡ tree_size read.program) }
-    ensures cause { IfErr result (λ error. IsCauseOrMemory bytes.now error) }
+/// The options of the word `--nullish`: the lowering of `??`, and no other. Fails only where memory runs out.
+fn nullish_options(alloc: Global) -> Result<EnvOptions, AllocError>
+    ensures asked { IfOk result (λ options. options.es2020.nullish_coalescing_operator ≡ true) }
+    ensures done { IfOk result (λ options. first_fault options ≡ None) }
 {
-    let value = read_value(alloc, bytes)?;
-    let read = read_program(alloc, &value)?;
-    if let Some(node) = first_not_core(&read.program) {
-        return Err(LowerError::Unsupported(UnsupportedKind::NotBuilt, node));
-    }
-    check_static(alloc, &read.program)?;
-    Ok(read)
-}
-
-/// The JSON value that the bytes are.
-fn read_value(alloc: Global, bytes: &[u8]) -> Result<Value, LowerError>
-    ensures reading { IfOk result (λ value. IsReading bytes.now (view value)) }
-    ensures cause { IfErr result (λ error. IsCauseOrMemory bytes.now error) }
-{
-    match Value::from_slice(alloc, bytes) {
-        Ok(value) => Ok(value),
-        Err(error) if error.classify() == Category::Memory => Err(LowerError::OutOfMemory),
-        Err(_error) => Err(LowerError::Json),
-    }
+    let helper_loader = HelperLoaderOptions::new(alloc)?;
+    Ok(EnvOptions {
+        es2015: ES2015Options {
+            arrow_function: None,
+        },
+        es2016: ES2016Options {
+            exponentiation_operator: false,
+        },
+        es2017: ES2017Options {
+            async_to_generator: false,
+        },
+        es2018: ES2018Options {
+            object_rest_spread: None,
+            async_generator_functions: false,
+        },
+        es2019: ES2019Options {
+            optional_catch_binding: false,
+        },
+        es2020: ES2020Options {
+            export_namespace_from: false,
+            nullish_coalescing_operator: true,
+            optional_chaining: false,
+            big_int: false,
+            arbitrary_module_namespace_names: false,
+        },
+        es2021: ES2021Options {
+            logical_assignment_operators: false,
+        },
+        es2026: ES2026Options {
+            explicit_resource_management: false,
+        },
+        assumptions: Assumptions {
+            pure_getters: false,
+            object_rest_no_symbols: false,
+            ignore_function_length: false,
+            no_document_all: false,
+        },
+        helper_loader,
+    })
 }

@@ -9,7 +9,6 @@ mod fixed_source;
 mod job;
 mod mem_sink;
 mod mem_source;
-mod nullish;
 mod reading;
 mod refusal;
 mod run;

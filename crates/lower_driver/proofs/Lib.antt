@@ -1,0 +1,12 @@
+pub mod Unchanged
+pub mod Canonical
+pub mod Rules
+pub mod Causes
+pub mod TableNames
+pub mod Marked
+pub mod OpenedProgram
+pub mod NoRefusals
+pub mod Apart
+pub mod NoneLeft
+pub mod Visits
+pub mod Contexts

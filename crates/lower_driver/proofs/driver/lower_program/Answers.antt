@@ -1,0 +1,64 @@
+use Rattle.std.proofs.Common.{◌≡◌, List, sym, ap, ◌∙◌, subst}
+use Rattle.es_tree.specs.Bare.{bare}
+use Rattle.es_tree.specs.Tree.{Tree}
+use Rattle.es_tree.specs.Words.{Text}
+use Rattle.es_tree.proofs.MarkedTrees.{bare-marked}
+use Rattle.es_scope.specs.Contexts.{made_of}
+use Rattle.es_statements.specs.ProgramPlain.{plain_program}
+use Rattle.es_statements.specs.ProgramShapes.{IsProgram}
+use Rattle.lower_driver.specs.Lowers.{Lowers}
+use Rattle.lower_driver.specs.Visits.{moment_of}
+use Rattle.lower_driver.proofs.Contexts.{first_moment}
+use Rattle.lower_driver.proofs.Marked.{same_core}
+use Rattle.lower_driver.proofs.OpenedProgram.{program_opens}
+use Rattle.lower_driver.proofs.TableNames.{core-binds-names}
+use Rattle.lower_driver.proofs.Visits.{IsFirst, first_room, lowers, lowers_same}
+use Rattle.lower_driver.proofs.driver.lower_program.Goals as goal
+
+pub new_context-requires-clause-kind : goal.new_context-requires-clause-kind
+new_context-requires-clause-kind c =
+    let p = c.args.read.program in
+    let q = c.build_scoping.new.program in
+    let opens : IsProgram q = program_opens q (same_core p q (ap bare c.in_ok-scoping.ensures.marks ∙ bare-marked p) c.requires.core).form in
+    opens.kind
+
+pub new_context-requires-clause-names : goal.new_context-requires-clause-names
+new_context-requires-clause-names c =
+    let p = c.args.read.program in
+    core-binds-names p c.build_scoping.new.program c.in_ok-scoping.scoping c.requires.core (ap bare c.in_ok-scoping.ensures.marks ∙ bare-marked p) c.in_ok-scoping.ensures.table
+
+pub open-program-requires : goal.open-program-requires
+open-program-requires c =
+    let p = c.args.read.program in
+    let q = c.build_scoping.new.program in
+    program_opens q (same_core p q (ap bare c.in_ok-scoping.ensures.marks ∙ bare-marked p) c.requires.core).form
+
+pub visit-requires-clause-room : goal.visit-requires-clause-room
+visit-requires-clause-room c =
+    let p = c.args.read.program in
+    let q = c.build_scoping.new.program in
+    let ctx = c.in_ok-ctx.ctx in
+    let e = c.in_ok-ctx.ensures in
+    let same : bare q ≡ bare p = ap bare c.in_ok-scoping.ensures.marks ∙ bare-marked p in
+    let first : IsFirst p (moment_of ctx) = first_moment p q c.in_ok-scoping.scoping c.args.read.ast ctx same c.in_ok-scoping.ensures.table e.in_use e.none_made e.pending e.ast c.requires.next e.table in
+    first_room p (moment_of ctx) c.open-program.result first (ap bare c.open-program.ensures ∙ same) c.requires.size
+
+pub returns-clause-lowered : goal.returns-clause-lowered
+returns-clause-lowered c =
+    let p = c.args.read.program in
+    let q = c.build_scoping.new.program in
+    let ctx = c.in_ok-ctx.ctx in
+    let after = c.visit.new.ctx in
+    let y = c.visit.new.program in
+    let e = c.in_ok-ctx.ensures in
+    let same : bare q ≡ bare p = ap bare c.in_ok-scoping.ensures.marks ∙ bare-marked p in
+    let first : IsFirst p (moment_of ctx) = first_moment p q c.in_ok-scoping.scoping c.args.read.ast ctx same c.in_ok-scoping.ensures.table e.in_use e.none_made e.pending e.ast c.requires.next e.table in
+    let by_visit : Lowers ctx.options p (plain_program y) (made_of after) =
+    lowers ctx.options p (moment_of ctx) (moment_of after) c.open-program.result y c.requires.core (ap bare c.open-program.ensures ∙ same) first c.in_ok-visit.ensures.visit in
+    let as_asked : Lowers c.args.options.now p (plain_program y) (made_of after) = lowers_same c.args.options.now ctx.options p (plain_program y) (made_of after) e.options by_visit in
+    record {
+      lowers = subst (λ (names : List Text). Lowers c.args.options.now p c.in_ok-program.program names) (sym c.into_uids.ensures)
+          (subst (λ (t : Tree). Lowers c.args.options.now p t (made_of after)) (sym c.in_ok-program.ensures) as_asked);
+      value = c.in_ok-value.ensures;
+      no_warnings = c.new.ensures.items;
+    }

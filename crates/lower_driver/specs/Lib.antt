@@ -1,0 +1,6 @@
+pub mod Copies
+pub mod Lowered
+pub mod Lowers
+pub mod Rules
+pub mod Sources
+pub mod Visits

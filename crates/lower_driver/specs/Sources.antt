@@ -1,0 +1,138 @@
+-- What a run is given: a JSON value, or bytes that read as one, and why it is refused.
+use Rattle.std.specs.Prelude.{◌≡◌, ℕ, List, [], Some, None, true, IsUtf8}
+use Rattle.serde_json.specs.Data.{Data}
+use Rattle.serde_json.specs.Read.{read}
+use Rattle.es_tree.specs.Tree.{Tree}
+use Rattle.es_tree.specs.Order.{IsNumbered, IsUnmarked}
+use Rattle.es_tree.specs.Core.{is_core, is_not_core}
+use Rattle.es_tree.specs.Options.{first_fault}
+use Rattle.es_tree.specs.StaticRules.{breaks, IsFirstBreak}
+use Rattle.es_tree.specs.Walks.{first_node}
+use Rattle.es_tree.specs.declared.error.LowerError.{LowerError}
+use Rattle.es_tree.specs.declared.error.LowerError.TheVariants.{Json, Option as e-Option, TooLarge, TooDeep, Shape, Invalid, Unsupported, OutOfMemory}
+use Rattle.es_tree.specs.declared.error.UnsupportedKind.TheVariants.{NotBuilt}
+use Rattle.es_tree.specs.declared.ids.NodeId.{NodeId}
+use Rattle.es_tree.specs.declared.options.EnvOptions.{EnvOptions}
+use Rattle.es_json.specs.Programs.{IsProgramForm, IsRefusal}
+
+-- VALUES
+
+-- the value is the form of this program, with its nodes numbered in node order and no marks
+pub record IsSource (v : Data) (program : Tree) : Type 0 where
+  pub form : IsProgramForm v program
+  pub order : IsNumbered 0 program
+  pub marks : IsUnmarked program
+
+-- the value is the form of a core program that keeps the static rules
+pub record IsCoreValue (v : Data) : Type 0 where
+  pub program : Tree
+  pub source : IsSource v program
+  pub core : is_core program ≡ true
+  pub kept : breaks program ≡ []
+
+-- the value is the form of a program whose first node, in node order, that no core program has is this
+pub record IsValueBeyondCore (v : Data) (id : NodeId) : Type 0 where
+  pub program : Tree
+  pub source : IsSource v program
+  pub first : first_node is_not_core program ≡ Some id.0
+
+-- the value is the form of a core program that breaks a static rule, first of all this one
+pub record IsBrokenValue (v : Data) (error : LowerError) : Type 0 where
+  pub program : Tree
+  pub source : IsSource v program
+  pub core : is_core program ≡ true
+  pub first : IsFirstBreak (breaks program) error
+
+-- Why a value is refused. Causes are told in this order: too many objects, nested too deep, a place without form, a node
+-- that no core program has, a broken rule.
+abbrev pub IsValueCause : Data → LowerError → Type 0
+IsValueCause v (TooLarge count) = IsRefusal v (TooLarge count)
+IsValueCause v (TooDeep depth) = IsRefusal v (TooDeep depth)
+IsValueCause v (Shape path) = IsRefusal v (Shape path)
+IsValueCause v (Unsupported NotBuilt id) = IsValueBeyondCore v id
+IsValueCause v (Invalid rule id) = IsBrokenValue v (Invalid rule id)
+IsValueCause v _ = ⊥
+
+-- The same where a run has options: what they ask for that isn't done comes first.
+abbrev pub IsValueCauseUnder : EnvOptions → Data → LowerError → Type 0
+IsValueCauseUnder o v (e-Option name) = first_fault o ≡ Some name
+IsValueCauseUnder o v error = (first_fault o ≡ None) × IsValueCause v error
+
+-- the cause of a refusal, or want of memory
+abbrev pub IsValueCauseOrMemory : EnvOptions → Data → LowerError → Type 0
+IsValueCauseOrMemory o v OutOfMemory = Unit {0}
+IsValueCauseOrMemory o v error = IsValueCauseUnder o v error
+
+-- BYTES
+
+-- the bytes read as this JSON value, nested at most 127 deep
+pub record IsReading (bytes : List ℕ) (v : Data) : Type 0 where
+  pub utf8 : IsUtf8 bytes
+  pub reads : read bytes ≡ Some v
+
+-- the bytes read as a JSON value
+pub record HasReading (bytes : List ℕ) : Type 0 where
+  pub value : Data
+  pub reading : IsReading bytes value
+
+-- no value is read for this cause: there is none, or want of memory
+abbrev pub IsNoValue : List ℕ → LowerError → Type 0
+IsNoValue bytes Json = ¬ HasReading bytes
+IsNoValue bytes OutOfMemory = Unit {0}
+IsNoValue bytes _ = ⊥
+
+-- the bytes read as a value that is the form of this program
+pub record Reads (bytes : List ℕ) (program : Tree) : Type 0 where
+  pub value : Data
+  pub reading : IsReading bytes value
+  pub form : IsProgramForm value program
+  pub order : IsNumbered 0 program
+  pub marks : IsUnmarked program
+
+-- the bytes read as a core program that keeps the static rules
+pub record IsCoreSource (bytes : List ℕ) : Type 0 where
+  pub program : Tree
+  pub reads : Reads bytes program
+  pub core : is_core program ≡ true
+  pub kept : breaks program ≡ []
+
+-- the bytes read as a value that the reader of programs refuses for this cause
+pub record IsUnread (bytes : List ℕ) (error : LowerError) : Type 0 where
+  pub value : Data
+  pub reading : IsReading bytes value
+  pub refusal : IsRefusal value error
+
+-- the bytes read as a program whose first node, in node order, that no core program has is this
+pub record IsBeyondCore (bytes : List ℕ) (id : NodeId) : Type 0 where
+  pub program : Tree
+  pub reads : Reads bytes program
+  pub first : first_node is_not_core program ≡ Some id.0
+
+-- the bytes read as a core program that breaks a static rule, first of all this one
+pub record IsBroken (bytes : List ℕ) (error : LowerError) : Type 0 where
+  pub program : Tree
+  pub reads : Reads bytes program
+  pub core : is_core program ≡ true
+  pub first : IsFirstBreak (breaks program) error
+
+-- Why an input of these bytes is refused. Causes are told in this order: no reading as JSON, too many objects, nested
+-- too deep, a place without form, a node that no core program has, a broken rule.
+abbrev pub IsCause : List ℕ → LowerError → Type 0
+IsCause bytes Json = ¬ HasReading bytes
+IsCause bytes (TooLarge count) = IsUnread bytes (TooLarge count)
+IsCause bytes (TooDeep depth) = IsUnread bytes (TooDeep depth)
+IsCause bytes (Shape path) = IsUnread bytes (Shape path)
+IsCause bytes (Unsupported NotBuilt id) = IsBeyondCore bytes id
+IsCause bytes (Invalid rule id) = IsBroken bytes (Invalid rule id)
+IsCause bytes _ = ⊥
+
+-- The same where a run has options: what they ask for that isn't done comes after bytes with no reading, and before all else.
+abbrev pub IsCauseUnder : EnvOptions → List ℕ → LowerError → Type 0
+IsCauseUnder o bytes Json = ¬ HasReading bytes
+IsCauseUnder o bytes (e-Option name) = HasReading bytes × (first_fault o ≡ Some name)
+IsCauseUnder o bytes error = (first_fault o ≡ None) × IsCause bytes error
+
+-- the cause of a refusal, or want of memory
+abbrev pub IsCauseOrMemory : EnvOptions → List ℕ → LowerError → Type 0
+IsCauseOrMemory o bytes OutOfMemory = Unit {0}
+IsCauseOrMemory o bytes error = IsCauseUnder o bytes error

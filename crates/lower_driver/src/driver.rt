@@ -1,0 +1,141 @@
+//! One run: a program is read, checked, visited once by the lowerings that its options ask for, and written.
+ghost use Rattle.std.specs.Prelude.{◌≡◌, ◌<◌, ◌∷◌, ◌^◌, [], IfErr, IfOk, None};
+ghost use Rattle.serde_json.specs.View.{view};
+ghost use Rattle.es_tree.specs.Core.{IsCoreProgram};
+ghost use Rattle.es_tree.specs.Fresh.{is_among};
+ghost use Rattle.es_tree.specs.Names.{names_of};
+ghost use Rattle.es_tree.specs.Options.{first_fault};
+ghost use Rattle.es_tree.specs.Tree.{kind_of, tree_size};
+ghost use Rattle.es_tree.specs.Words.{Text};
+ghost use Rattle.es_tree.specs.declared.ast_type.AstType.TheVariants.{Program as k-Program};
+ghost use Rattle.es_tree.specs.declared.error.LowerError.TheVariants.{OutOfMemory};
+ghost use Rattle.es_runs.specs.Open.{nothing_pending};
+ghost use Rattle.es_scope.specs.Contexts.{BindsNamesOf, around_of, made_of, table_of, uses_of};
+ghost use Rattle.lower_driver.specs.Lowered.{IsLoweredBytes, IsLoweredFrom, IsLoweredValue};
+ghost use Rattle.lower_driver.specs.Sources.{IsCauseOrMemory, IsCoreSource, IsCoreValue, IsValueCauseOrMemory};
+
+use crate::copies::copy_options;
+use crate::reading::{read_source, read_value};
+use crate::visiting::visit;
+use es_json::program::ReadProgram;
+use es_json::writer::write_program;
+use es_scope::building::build_scoping;
+use es_scope::context::TraverseCtx;
+use es_scope::scoping::Scoping;
+use es_statements::program::Program;
+use es_tree::builder::AstBuilder;
+use es_tree::error::LowerError;
+use es_tree::kind::Kind;
+use es_tree::node::Node;
+use es_tree::operators::SourceType;
+use es_tree::options::EnvOptions;
+use lower_common::state::TransformState;
+use lower_common::warning::Warning;
+use serde_json::Value;
+use std::alloc::{AllocError, Global};
+
+/// What a run answers.
+#[derive(Drop)]
+pub struct Lowered {
+    /// The lowered program.
+    pub program: Node,
+    /// The same in the tree form.
+    pub value: Value,
+    pub warnings: Vec<Warning>,
+    /// The fresh names, in the order made.
+    pub temporaries: Vec<String>,
+}
+
+/// Lowers the core program that the value is the form of, as the options ask.
+///
+/// Fails for the first of these causes that holds: `Option` where the options ask for what isn't done;
+/// `TooLarge`, `TooDeep` and `Shape` as `read_program` has them; `Unsupported(NotBuilt, node)` at the
+/// first node that no core program has; `Invalid` as `check_static` has it. It fails with
+/// `OutOfMemory` where memory runs out.
+pub fn lower(alloc: Global, source: &Value, options: &EnvOptions) -> Result<Lowered, LowerError>
+    ensures core { IfOk result (λ _. IsCoreValue (view source.now)) }
+    ensures lowered { IfOk result (λ lowered. IsLoweredValue options.now (view source.now) lowered) }
+    ensures options { IfOk result (λ _. first_fault options.now ≡ None) }
+    ensures cause { IfErr result (λ error. IsValueCauseOrMemory options.now (view source.now) error) }
+{
+    let read = read_source(alloc, source, options)?;
+    let lowered = lower_program(alloc, read, options)?;
+    Ok(lowered)
+}
+
+/// The same for the bytes of a JSON value. Fails with `Json`, before all other causes, where the bytes
+/// have no reading as one.
+pub fn lower_bytes(alloc: Global, bytes: &[u8], options: &EnvOptions) -> Result<Lowered, LowerError>
+    ensures core { IfOk result (λ _. IsCoreSource bytes.now) }
+    ensures lowered { IfOk result (λ lowered. IsLoweredBytes options.now bytes.now lowered) }
+    ensures options { IfOk result (λ _. first_fault options.now ≡ None) }
+    ensures cause { IfErr result (λ error. IsCauseOrMemory options.now bytes.now error) }
+{
+    let value = read_value(alloc, bytes)?;
+    let lowered = lower(alloc, &value, options)?;
+    Ok(lowered)
+}
+
+/// What a core program becomes. Fails only where memory runs out.
+fn lower_program(
+    alloc: Global,
+    read: ReadProgram,
+    options: &EnvOptions,
+) -> Result<Lowered, LowerError>
+    requires core { IsCoreProgram read.program }
+    requires size { tree_size read.program < 2 ^ 20 }
+    requires next { read.ast.next ≡ tree_size read.program }
+    ensures lowered { IfOk result (λ lowered. IsLoweredFrom options.now read.program lowered) }
+    ensures memory { IfErr result (λ error. error ≡ OutOfMemory) }
+{
+    let ReadProgram {
+        program: mut source,
+        ast,
+    } = read;
+    let scoping = build_scoping(alloc, &mut source)?;
+    let mut ctx = new_context(alloc, scoping, &source, ast, options)?;
+    let mut program = Program::open(source);
+    visit(&mut program, &mut ctx)?;
+    let program = program.close(alloc)?;
+    let value = write_program(alloc, &program)?;
+    Ok(Lowered {
+        program,
+        value,
+        warnings: Vec::new(alloc),
+        temporaries: ctx.into_uids(),
+    })
+}
+
+/// The context of the visit of this program, with nothing to declare. Fails only where memory runs out.
+fn new_context(
+    alloc: Global,
+    scoping: Scoping,
+    program: &Node,
+    ast: AstBuilder,
+    options: &EnvOptions,
+) -> Result<TraverseCtx<TransformState>, AllocError>
+    requires kind { kind_of program.now ≡ k-Program }
+    requires names { BindsNamesOf program.now scoping }
+    ensures place { IfOk result (λ ctx. around_of ctx ≡ []) }
+    ensures in_use { IfOk result (λ ctx. (x : Text) → uses_of ctx x ≡ is_among (names_of program.now) x) }
+    ensures none_made { IfOk result (λ ctx. made_of ctx ≡ []) }
+    ensures pending { IfOk result (λ ctx. ctx.state.var_declarations ≡ nothing_pending ∷ []) }
+    ensures ast { IfOk result (λ ctx. ctx.ast ≡ ast) }
+    ensures options { IfOk result (λ ctx. ctx.options.es2020 ≡ options.now.es2020) }
+    ensures table { IfOk result (λ ctx. table_of ctx ≡ scoping) }
+{
+    let state = TransformState::new(alloc, source_type_of(program), options)?;
+    let options = copy_options(alloc, options)?;
+    let ctx = TraverseCtx::new(alloc, scoping, program, state, ast, options)?;
+    Ok(ctx)
+}
+
+/// Whether a program is a script or a module.
+fn source_type_of(program: &Node) -> SourceType
+    requires { kind_of program.now ≡ k-Program }
+{
+    match &program.kind {
+        Kind::Program { source_type, .. } => *source_type,
+        _ => unreachable!(),
+    }
+}

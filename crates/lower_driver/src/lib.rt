@@ -1,0 +1,9 @@
+//! One run: from a JSON value, or from the bytes of one, to the lowered program.
+#![tactic(auto)]
+
+mod copies;
+pub mod driver;
+mod reading;
+#[cfg(test)]
+mod tests;
+mod visiting;

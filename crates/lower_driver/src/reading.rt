@@ -1,0 +1,58 @@
+//! What a run is given, and why it is refused.
+ghost use Rattle.std.specs.Prelude.{◌≡◌, ◌<◌, ◌^◌, [], true, IfOk, IfErr, None};
+ghost use Rattle.serde_json.specs.View.{view};
+ghost use Rattle.es_tree.specs.Core.{is_core};
+ghost use Rattle.es_tree.specs.Options.{first_fault};
+ghost use Rattle.es_tree.specs.StaticRules.{breaks};
+ghost use Rattle.es_tree.specs.Tree.{tree_size};
+ghost use Rattle.lower_driver.specs.Sources.{IsNoValue, IsReading, IsSource, IsValueCauseOrMemory};
+
+use es_json::program::{ReadProgram, read_program};
+use es_nodes::core_grammar::first_not_core;
+use es_nodes::static_rules::check_static;
+use es_tree::error::{LowerError, UnsupportedKind};
+use es_tree::options::{EnvOptions, options_fault};
+use serde_json::{Category, Value};
+use std::alloc::Global;
+
+/// The JSON value that the bytes are. Fails with `Json` where they have no reading.
+pub fn read_value(alloc: Global, bytes: &[u8]) -> Result<Value, LowerError>
+    ensures reading { IfOk result (λ value. IsReading bytes.now (view value)) }
+    ensures cause { IfErr result (λ error. IsNoValue bytes.now error) }
+{
+    match Value::from_slice(alloc, bytes) {
+        Ok(value) => Ok(value),
+        Err(error) if error.classify() == Category::Memory => Err(LowerError::OutOfMemory),
+        Err(_error) => Err(LowerError::Json),
+    }
+}
+
+/// The core program that the value is the form of, which keeps the static rules.
+///
+/// Fails for the first of these causes that holds: `Option` where the options ask for what isn't done;
+/// `TooLarge`, `TooDeep` and `Shape` as `read_program` has them; `Unsupported(NotBuilt, node)` at the
+/// first node that no core program has; `Invalid` as `check_static` has it. It fails with
+/// `OutOfMemory` where memory runs out.
+pub fn read_source(
+    alloc: Global,
+    value: &Value,
+    options: &EnvOptions,
+) -> Result<ReadProgram, LowerError>
+    ensures source { IfOk result (λ read. IsSource (view value.now) read.program) }
+    ensures core { IfOk result (λ read. is_core read.program ≡ true) }
+    ensures kept { IfOk result (λ read. breaks read.program ≡ []) }
+    ensures size { IfOk result (λ read. tree_size read.program < 2 ^ 20) }
+    ensures next { IfOk result (λ read. read.ast.next ≡ tree_size read.program) }
+    ensures done { IfOk result (λ _. first_fault options.now ≡ None) }
+    ensures cause { IfErr result (λ error. IsValueCauseOrMemory options.now (view value.now) error) }
+{
+    if let Some(name) = options_fault(options) {
+        return Err(LowerError::Option(name));
+    }
+    let read = read_program(alloc, value)?;
+    if let Some(node) = first_not_core(&read.program) {
+        return Err(LowerError::Unsupported(UnsupportedKind::NotBuilt, node));
+    }
+    check_static(alloc, &read.program)?;
+    Ok(read)
+}
