@@ -1,5 +1,5 @@
 -- Changes: none, one after the other, and a part's as the whole's.
-use Rattle.std.proofs.Common.{◌≡◌, ◌∙◌, ◌≤◌, ◌+◌, refl, sym, subst, arith, List}
+use Rattle.std.proofs.Common.{◌∙◌, refl, sym, subst, arith, List}
 use Rattle.es_runs.specs.OpenSteps.{Ledger, Steps, stays, goes, Spot}
 use Rattle.es_runs.specs.Alike.{Need}
 use Rattle.es_tree.specs.Tree.{Trees}

@@ -1,14 +1,11 @@
 -- A visit from a program with nothing pending to one with nothing pending reaches that program.
-use Rattle.std.proofs.Common.{◌≡◌, ◌∷◌, [], refl, sym, ap, subst}
-use Rattle.es_tree.specs.Fresh.{is_among}
-use Rattle.es_tree.specs.Names.{names_of}
-use Rattle.es_tree.specs.Scopes.{is_steady}
+use Rattle.std.proofs.Common.{◌≡◌, refl, ap, subst}
 use Rattle.es_tree.specs.Tree.{Tree}
 use Rattle.es_statements.specs.ProgramPlain.{plain_program}
 use Rattle.es_statements.specs.declared.program.Program.{Program}
 use Rattle.es_runs.specs.Alike.{Need, all_of_it}
 use Rattle.es_runs.specs.Open.{nothing_pending}
-use Rattle.es_runs.specs.OpenSteps.{Whole, Ledger, ledger, Spot, Step, Steps, Reached, whole_of}
+use Rattle.es_runs.specs.OpenSteps.{Ledger, ledger, Spot, Step, Steps, Reached, whole_of}
 use Rattle.es_visit.specs.Moments.{Moment, IsFinished, top, whole_at}
 use Rattle.es_visit.specs.Changes.{ChangedProgram, open_program}
 use Rattle.es_visit.specs.Starts.{IsStart}

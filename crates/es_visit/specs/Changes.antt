@@ -1,9 +1,9 @@
 -- What a hook or a visit does to a part of the tree: steps, and the weight doesn't rise.
-use Rattle.std.specs.Prelude.{◌≡◌, ℕ, ◌+◌, ◌≤◌, Bool, List, [], ◌∷◌}
+use Rattle.std.specs.Prelude.{ℕ, ◌+◌, ◌≤◌}
 use Rattle.es_tree.specs.declared.ast_type.AstType.{AstType}
 use Rattle.es_tree.specs.declared.ast_type.AstType.TheVariants.{Program as k-Program}
 use Rattle.es_tree.specs.Bare.{bare_label, bare_trees}
-use Rattle.es_tree.specs.Tree.{Tree, Fields, Field, Trees, Label, tree_size, fields_size, field_size, trees_size, trees, label_of}
+use Rattle.es_tree.specs.Tree.{Tree, Fields, Field, Trees, tree_size, fields_size, field_size, trees_size, trees, label_of}
 use Rattle.es_statements.specs.ProgramPlain.{plain_program}
 use Rattle.es_statements.specs.declared.program.Program.{Program}
 use Rattle.es_runs.specs.Alike.{Need, all_of_it}

@@ -3,14 +3,14 @@ use Rattle.std.specs.Prelude.{◌≡◌, ◌⊎◌, ◌&&◌, ℕ, ◌+◌, ◌�
 use Rattle.es_tree.specs.declared.ast_type.AstType.{AstType}
 use Rattle.es_tree.specs.declared.error.LowerError.{LowerError}
 use Rattle.es_tree.specs.declared.options.EnvOptions.{EnvOptions}
-use Rattle.es_tree.specs.Bare.{bare, bare_trees}
-use Rattle.es_tree.specs.Tree.{Tree, node, Label, Fields, Trees, trees, kind_of, label_of, fields_of}
+use Rattle.es_tree.specs.Bare.{bare_trees}
+use Rattle.es_tree.specs.Tree.{Tree, Label, Fields, Trees, trees, kind_of, label_of, fields_of}
 use Rattle.es_tree.specs.Walks.{any_node, any_in_trees}
 use Rattle.es_scope.specs.declared.ancestor.Ancestor.{Ancestor}
 use Rattle.es_runs.specs.Alike.{Need}
-use Rattle.es_runs.specs.Open.{Pending, nothing_pending, OpenFields, opened_fields, closed_fields}
+use Rattle.es_runs.specs.Open.{nothing_pending, OpenFields, closed_fields}
 use Rattle.es_runs.specs.OpenRules.{either_rule}
-use Rattle.es_runs.specs.OpenSteps.{Ledger, Spot, FieldsStep, Steps}
+use Rattle.es_runs.specs.OpenSteps.{Ledger, Spot, FieldsStep}
 use Rattle.es_statements.specs.ProgramPlain.{plain_program}
 use Rattle.es_statements.specs.declared.program.Program.{Program}
 use Rattle.es_visit.specs.declared.hook.Hook.{Hook}

@@ -1,5 +1,5 @@
 -- When a visit refuses: for want of memory, or where steps lead to a tree with a node at which the type refuses so.
-use Rattle.std.specs.Prelude.{◌≡◌, ◌⊎◌, List, [], ◌∷◌}
+use Rattle.std.specs.Prelude.{◌≡◌, ◌⊎◌}
 use Rattle.es_tree.specs.declared.error.LowerError.{LowerError}
 use Rattle.es_tree.specs.declared.error.LowerError.TheVariants.{OutOfMemory}
 use Rattle.es_tree.specs.declared.ast_type.AstType.{AstType}

@@ -1,16 +1,15 @@
 -- What the visit of a part leaves.
-use Rattle.std.specs.Prelude.{◌≡◌, ◌⊎◌, ℕ, ◌+◌, ◌≤◌, Bool, true, false, Option, Some, None}
+use Rattle.std.specs.Prelude.{◌≡◌, ◌⊎◌, ℕ, ◌+◌, ◌≤◌, false, Option, Some, None}
 use Rattle.es_tree.specs.declared.ast_type.AstType.{AstType}
 use Rattle.es_tree.specs.declared.options.EnvOptions.{EnvOptions}
 use Rattle.es_tree.specs.Tree.{Tree, Fields, Field, Trees, kind_of}
 use Rattle.es_tree.specs.Walks.{any_node, any_in_fields, any_in_field, any_in_trees}
-use Rattle.es_statements.specs.ProgramPlain.{plain_program}
 use Rattle.es_statements.specs.declared.program.Program.{Program}
 use Rattle.es_visit.specs.declared.hook.Hook.{Hook}
 use Rattle.es_visit.specs.declared.hook.Hook.TheVariants.{ArrowFunctionBody, Expression, Statement}
 use Rattle.es_visit.specs.Counts.{just}
 use Rattle.es_visit.specs.Hooks.{hook_of_kind, hook_of_sort, sort_of}
-use Rattle.es_visit.specs.Moments.{Moment, IsFinished}
+use Rattle.es_visit.specs.Moments.{Moment}
 use Rattle.es_visit.specs.Changes.{Changed, ChangedFields, ChangedField, ChangedTrees, ChangedProgram}
 use Rattle.es_visit.specs.Laws.{Profile, Once, Still, is_row, one_call, body_of, directives_of}
 

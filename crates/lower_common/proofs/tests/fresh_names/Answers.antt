@@ -1,4 +1,4 @@
-use Rattle.std.proofs.Common.{arith, ◌≡◌, ◌<◌, ◌+◌, ap, sym, subst, length}
+use Rattle.std.proofs.Common.{arith, ◌<◌, ap, sym, subst, length}
 use Rattle.lower_common.specs.Stacks.{top_of}
 use Rattle.lower_common.specs.declared.state.TransformState.{TransformState}
 use Rattle.lower_common.proofs.UidLemmas.{declares-there, declares_with-there, declarations_written-le}

@@ -1,0 +1,4 @@
+pub mod Removals
+pub mod OpenLists
+pub mod Apart
+pub mod Pendings

@@ -1,0 +1,6 @@
+//! A lowering that is no part of the tool, written against `Traverse` alone: `debugger;` becomes `;`.
+#![tactic(auto)]
+
+pub mod debugger_removal;
+pub mod open_lists;
+pub mod removal;
