@@ -1,15 +1,17 @@
--- Ids and marks mean nothing: a bare tree has the meaning, the declared names and the names of the tree.
+-- Ids and marks mean nothing: a bare tree has the meaning, the declared names, the names and the written names of the tree.
 use Rattle.std.proofs.Common.{◌≡◌, ℕ, zero, suc, refl, ap, ◌∙◌, List, [], ◌∷◌, ◌++◌}
-use Rattle.std.specs.Prelude.{Bool, true, false, if◌then◌else◌}
+use Rattle.std.specs.Prelude.{Bool, true, false, ◌&&◌, ◌||◌, if◌then◌else◌}
 use Rattle.es_tree.specs.Words.{Text}
 use Rattle.es_tree.specs.Bare.{bare, bare_label, bare_fields, bare_field, bare_trees}
+use Rattle.es_tree.specs.Fresh.{is_among}
 use Rattle.es_tree.specs.Names.{first_text, names_if, names_in_fields, names_in_field, names_in_trees, own_name, is_name_place, is_reexport, third_stands}
 use Rattle.es_tree.specs.Tree.{Tree, node, Label, Fields, done, ◌then◌, Field, missing, one, many, statements, Trees, empty, ◌before◌}
+use Rattle.es_tree.specs.Walks.{all_nodes, all_in_fields, all_in_field, all_in_trees, any_in_fields, any_in_field, any_in_trees}
 use Rattle.es_tree.specs.declared.ast_type.AstType.{AstType}
-use Rattle.es_tree.specs.declared.ast_type.AstType.TheVariants.{VariableDeclaration, ExportNamedDeclaration, Identifier, MemberExpression}
+use Rattle.es_tree.specs.declared.ast_type.AstType.TheVariants.{AssignmentExpression, VariableDeclaration, ExportNamedDeclaration, Identifier, MemberExpression, ParenthesizedExpression, UpdateExpression}
 use Rattle.es_runs.specs.Machine.{Value, Move}
 use Rattle.es_runs.specs.Core.{World, meaning, meanings, part, parts, meaning_of, single, several}
-use Rattle.es_tree.specs.Scopes.{Declared, declared_of, program_names, declared_in_body, declared_by, declared_in, declared_names, declarator_name, name_in}
+use Rattle.es_tree.specs.Scopes.{Declared, declared_of, program_names, declared_in_body, declared_by, declared_in, declared_names, declarator_name, is_written, name_in, target_names, writes, written_by}
 use Rattle.es_runs.specs.Runs.{run, run_with}
 
 mutual
@@ -120,3 +122,66 @@ mutual
   names_in_trees-bare : (ts : Trees) → names_in_trees (bare_trees ts) ≡ names_in_trees ts
   names_in_trees-bare empty = refl
   names_in_trees-bare (t before ts) = λ i. names-bare true t i ++ names_in_trees-bare ts i
+
+-- A BARE TREE PASSES AS THE TREE DOES
+
+module _ (test : AstType → Label → Fields → Bool) (same : (k : AstType) (l : Label) (fs : Fields) → test k (bare_label l) (bare_fields fs) ≡ test k l fs) where
+  mutual
+    pub all-bare : (t : Tree) → all_nodes test (bare t) ≡ all_nodes test t
+    all-bare (node k l fs) = λ i. same k l fs i && all-bare-fields fs i
+
+    all-bare-fields : (fs : Fields) → all_in_fields test (bare_fields fs) ≡ all_in_fields test fs
+    all-bare-fields done = refl
+    all-bare-fields (f then fs) = λ i. all-bare-field f i && all-bare-fields fs i
+
+    all-bare-field : (f : Field) → all_in_field test (bare_field f) ≡ all_in_field test f
+    all-bare-field missing = refl
+    all-bare-field (one t) = all-bare t
+    all-bare-field (many ts) = all-bare-trees ts
+    all-bare-field (statements ts) = all-bare-trees ts
+
+    all-bare-trees : (ts : Trees) → all_in_trees test (bare_trees ts) ≡ all_in_trees test ts
+    all-bare-trees empty = refl
+    all-bare-trees (t before ts) = λ i. all-bare t i && all-bare-trees ts i
+
+-- WRITTEN NAMES
+
+target_names-bare : (t : Tree) → target_names (bare t) ≡ target_names t
+target_names-bare (node Identifier l fs) = refl
+target_names-bare (node ParenthesizedExpression l (one t then fs)) = target_names-bare t
+target_names-bare (node ParenthesizedExpression l done) = refl
+target_names-bare (node ParenthesizedExpression l (missing then fs)) = refl
+target_names-bare (node ParenthesizedExpression l (many ts then fs)) = refl
+target_names-bare (node ParenthesizedExpression l (statements ts then fs)) = refl
+target_names-bare (node _ l fs) = refl
+
+written_by-bare : (k : AstType) (fs : Fields) → written_by k (bare_fields fs) ≡ written_by k fs
+written_by-bare AssignmentExpression (one t then fs) = target_names-bare t
+written_by-bare AssignmentExpression done = refl
+written_by-bare AssignmentExpression (missing then fs) = refl
+written_by-bare AssignmentExpression (many ts then fs) = refl
+written_by-bare AssignmentExpression (statements ts then fs) = refl
+written_by-bare UpdateExpression (one t then fs) = target_names-bare t
+written_by-bare UpdateExpression done = refl
+written_by-bare UpdateExpression (missing then fs) = refl
+written_by-bare UpdateExpression (many ts then fs) = refl
+written_by-bare UpdateExpression (statements ts then fs) = refl
+written_by-bare _ fs = refl
+
+mutual
+  pub written-bare : (y : Text) (t : Tree) → is_written y (bare t) ≡ is_written y t
+  written-bare y (node k l fs) = λ i. is_among (written_by-bare k fs i) y || written_in_fields-bare y fs i
+
+  written_in_fields-bare : (y : Text) (fs : Fields) → any_in_fields (writes y) (bare_fields fs) ≡ any_in_fields (writes y) fs
+  written_in_fields-bare y done = refl
+  written_in_fields-bare y (f then fs) = λ i. written_in_field-bare y f i || written_in_fields-bare y fs i
+
+  written_in_field-bare : (y : Text) (f : Field) → any_in_field (writes y) (bare_field f) ≡ any_in_field (writes y) f
+  written_in_field-bare y missing = refl
+  written_in_field-bare y (one t) = written-bare y t
+  written_in_field-bare y (many ts) = written_in_trees-bare y ts
+  written_in_field-bare y (statements ts) = written_in_trees-bare y ts
+
+  written_in_trees-bare : (y : Text) (ts : Trees) → any_in_trees (writes y) (bare_trees ts) ≡ any_in_trees (writes y) ts
+  written_in_trees-bare y empty = refl
+  written_in_trees-bare y (t before ts) = λ i. written-bare y t i || written_in_trees-bare y ts i

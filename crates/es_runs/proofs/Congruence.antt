@@ -13,7 +13,7 @@ use Rattle.es_runs.specs.Core.AssignClass.{plainly, logically, compound}
 use Rattle.es_runs.specs.Core.Binding.{free, changeable, constant}
 use Rattle.es_runs.specs.Core.Form.{null_form, void_zero}
 use Rattle.es_runs.specs.Alike.{Frame, Same, Alike, Equal, SameReference, SameTarget, SameWorld, Level, Need, Like, LikeAt, the_value, the_target, value_and_form, unary_need}
-use Rattle.es_runs.specs.Alike.Level.{no_evaluation, value_alone, whole_reference, a_callee, a_target}
+use Rattle.es_runs.specs.Alike.Level.{no_evaluation, value_alone, an_operand_of_typeof, whole_reference, a_callee, a_target}
 use Rattle.es_runs.specs.Alike.LikeCallee.{by_reference}
 use Rattle.es_runs.specs.Alike.SameTarget.{target_plain}
 use Rattle.es_runs.specs.Alike.Same.{both_give, both_stop, outside}
@@ -32,10 +32,22 @@ module _ (F : Frame) (w v : World) (same : SameWorld F.hidden w v) where
   pub weak_alike : {m k : M Reference} → Alike F (SameTarget F) m k → Alike F (SameReference F) m k
   weak_alike h s t g = weak_same (h s t g)
 
+  typeof_name_alike : (x : Text) → F.hidden x ≡ false → (b : Binding) → Alike F Equal (typeof_name x b) (typeof_name x b)
+  typeof_name_alike x e free = ask_alike F (typeof_read x)
+  typeof_name_alike x e changeable = then_alike F (read_name_alike F x e changeable) (λ u. ask_alike F (operator (codes "typeof") (u and none)))
+  typeof_name_alike x e constant = then_alike F (read_name_alike F x e constant) (λ u. ask_alike F (operator (codes "typeof") (u and none)))
+
+  -- what `typeof` takes of its operand
+  pub typeof_alike : (r q : Reference) → SameReference F r q → Alike F Equal (typeof_value w r) (typeof_value v q)
+  typeof_alike _ _ (same_name {x = x} e) = rw (same.scope x e) (typeof_name_alike x e (w.scope x))
+  typeof_alike _ _ (same_property {o = o} {k = k}) = then_alike F (ask_alike F (get o k)) (λ u. ask_alike F (operator (codes "typeof") (u and none)))
+  typeof_alike _ _ (same_plain {v = u}) = then_alike F (return_alike F u) (λ u. ask_alike F (operator (codes "typeof") (u and none)))
+
   -- an evaluation to a reference, at whatever level the place takes it
   pub at_level : (level : Level) (a b : Meaning) → Alike F (SameTarget F) a.reference b.reference → LikeAt F w v level a b
   at_level no_evaluation a b h = tt
   at_level value_alone a b h = value_alike F w v same a b (weak_alike h)
+  at_level an_operand_of_typeof a b h = bind_alike F (weak_alike h) typeof_alike
   at_level whole_reference a b h = weak_alike h
   at_level a_callee a b h = by_reference (weak_alike h)
   at_level a_target a b h = h
@@ -86,17 +98,7 @@ module _ (F : Frame) (w v : World) (same : SameWorld F.hidden w v) where
   not_alike : {m k : M Value} → Alike F Equal m k → Alike F Equal (m >>= (λ u. return (boolean (not (is_true u))))) (k >>= (λ u. return (boolean (not (is_true u)))))
   not_alike h = then_alike F h (λ u. return_alike F (boolean (not (is_true u))))
 
-  typeof_name_alike : (x : Text) → F.hidden x ≡ false → (b : Binding) → Alike F Equal (typeof_name x b) (typeof_name x b)
-  typeof_name_alike x e free = ask_alike F (typeof_read x)
-  typeof_name_alike x e changeable = then_alike F (read_name_alike F x e changeable) (λ u. ask_alike F (operator (codes "typeof") (u and none)))
-  typeof_name_alike x e constant = then_alike F (read_name_alike F x e constant) (λ u. ask_alike F (operator (codes "typeof") (u and none)))
-
-  typeof_alike : (r q : Reference) → SameReference F r q → Alike F Equal (typeof_value w r) (typeof_value v q)
-  typeof_alike _ _ (same_name {x = x} e) = rw (same.scope x e) (typeof_name_alike x e (w.scope x))
-  typeof_alike _ _ (same_property {o = o} {k = k}) = then_alike F (ask_alike F (get o k)) (λ u. ask_alike F (operator (codes "typeof") (u and none)))
-  typeof_alike _ _ (same_plain {v = u}) = then_alike F (return_alike F u) (λ u. ask_alike F (operator (codes "typeof") (u and none)))
-
-  delete_alike : (r q : Reference) → SameReference F r q → Alike F Equal (delete_value w r) (delete_value v q)
+  pub delete_alike : (r q : Reference) → SameReference F r q → Alike F Equal (delete_value w r) (delete_value v q)
   delete_alike _ _ (same_name {x = x} e) = then_alike F (get_alike F w v same (same_name e)) (λ u. return_alike F (boolean true))
   delete_alike _ _ (same_property {o = o} {k = k}) = ask_alike F (delete o k)
   delete_alike _ _ (same_plain {v = u}) = then_alike F (return_alike F u) (λ u. return_alike F (boolean true))
@@ -105,7 +107,7 @@ module _ (F : Frame) (w v : World) (same : SameWorld F.hidden w v) where
   void_evaluation level a b h = at_level level (unary_by w void_class [] a) (unary_by v void_class [] b) (then_alike F h (λ u. as_plain_alike undefined))
 
   unary_by_like : (n : Need) (c : UnaryClass) (op : Text) (a b : Meaning) → Like F w v (unary_need n.form c) a b → Like F w v n (unary_by w c op a) (unary_by v c op b)
-  unary_by_like n typeof_class op a b h = plain_like n _ _ (bind_alike F h.evaluation typeof_alike)
+  unary_by_like n typeof_class op a b h = plain_like n _ _ h.evaluation
   unary_by_like n delete_class op a b h = plain_like n _ _ (bind_alike F h.evaluation delete_alike)
   unary_by_like n void_class op a b h = record { evaluation = void_evaluation n.level a b h.evaluation; form = λ e. ap void_form (h.form e) }
   unary_by_like n not_class op a b h = plain_like n _ _ (not_alike h.evaluation)

@@ -1,10 +1,10 @@
--- Core programs that have form: what they declare, and that steps of the rule of `??` keep it.
-use Rattle.std.proofs.Common.{◌≡◌, ℕ, refl, ap, List, ◌∷◌, ◌++◌}
+-- Core programs that have form: what they declare, and that steps of rows keep it.
+use Rattle.std.proofs.Common.{◌≡◌, ℕ, refl, sym, ap, ◌∙◌, [], ◌∷◌, ◌++◌}
 use Rattle.std.proofs.lemmas.Bool.{and_from}
 use Rattle.std.specs.Prelude.{Bool, true, false, ◌&&◌, if◌then◌else◌}
 use Rattle.es_tree.specs.Words.{Text}
 use Rattle.es_tree.specs.Scopes.{declared_of, program_names, declared_in_body, declared_by, declared_in, declared_names, name_in}
-use Rattle.es_tree.specs.Tree.{Tree, node, Label, Fields, done, ◌then◌, Field, missing, one, many, statements, Trees, empty, ◌before◌}
+use Rattle.es_tree.specs.Tree.{Tree, node, Label, Fields, done, ◌then◌, Field, missing, one, many, statements, Trees, empty, ◌before◌, kind_of}
 use Rattle.es_tree.specs.declared.ast_type.AstType.{AstType}
 use Rattle.es_tree.specs.declared.ast_type.AstType.TheVariants.{Program, VariableDeclaration, VariableDeclarator, Identifier}
 use Rattle.es_runs.specs.Alike.{Need}
@@ -13,9 +13,9 @@ use Rattle.es_runs.specs.Rules.OnePlace.{this_place, below}
 use Rattle.es_runs.specs.Rules.OneField.{first_field, later_field}
 use Rattle.es_runs.specs.Rules.InField.{in_one, in_many, in_statements}
 use Rattle.es_runs.specs.Rules.OneNode.{first_node, later_node}
-use Rattle.es_runs.specs.Steps.{NullishRule}
-use Rattle.es_runs.specs.Steps.NullishRule.{with_temporary, reading_again}
 use Rattle.es_runs.proofs.Named.{and_left, and_right}
+use Rattle.es_runs.proofs.RowFacts.{is_row_kind}
+use Rattle.es_runs.proofs.RowKinds.{is_left_kind, RowKinds}
 
 -- THE SHAPE OF DECLARATIONS
 
@@ -94,13 +94,35 @@ record Kept {A : Type 0} (test : Bool) (first then_it : A) : Type 0 where
   shaped : test ≡ true
   same : then_it ≡ first
 
-module _ (steady in_use : Text → Bool) where
-  abbrev R : List Text → Need → Tree → Tree → Type 0
-  R ys = NullishRule steady in_use ys
+-- what a row acts on is no name, no declarator and no program, and what it puts there declares nothing
+not_name : (a : Tree) → is_row_kind (kind_of a) ≡ true → names_field (one a) ≡ false
+not_name (node Identifier l fs) h = absurd (cc h)
+not_name (node _ l fs) h = refl
 
-  name_kept : {ys : List Text} {c : ℕ → Need} {fs gs : Fields} → OneField (R ys) c fs gs → binds_name fs ≡ true → Kept (binds_name gs) (name_in fs) (name_in gs)
-  name_kept (first_field (in_one (this_place (with_temporary texts again fresh)))) h = absurd (cc h)
-  name_kept (first_field (in_one (this_place (reading_again texts again)))) h = absurd (cc h)
+not_declarator : (k : AstType) → is_row_kind k ≡ true → is_declarator k ≡ false
+not_declarator VariableDeclarator h = absurd (cc h)
+not_declarator _ h = refl
+
+not_program : (k : AstType) → is_row_kind k ≡ true → is_program_kind k ≡ false
+not_program Program h = absurd (cc h)
+not_program _ h = refl
+
+-- a statement that declares nothing
+record Undeclared (t : Tree) : Type 0 where
+  fits : statement t ≡ true
+  none : declared_by t ≡ []
+
+acted_undeclared : (a : Tree) → is_row_kind (kind_of a) ≡ true → Undeclared a
+acted_undeclared (node VariableDeclaration l fs) h = absurd (cc h)
+acted_undeclared (node _ l fs) h = record { fits = refl; none = refl }
+
+left_undeclared : (a : Tree) → is_left_kind (kind_of a) ≡ true → Undeclared a
+left_undeclared (node VariableDeclaration l fs) h = absurd (cc h)
+left_undeclared (node _ l fs) h = record { fits = refl; none = refl }
+
+module _ (R : Need → Tree → Tree → Type 0) (kinds : (n : Need) (a b : Tree) → R n a b → RowKinds a b) where
+  name_kept : {c : ℕ → Need} {fs gs : Fields} → OneField R c fs gs → binds_name fs ≡ true → Kept (binds_name gs) (name_in fs) (name_in gs)
+  name_kept (first_field (in_one (this_place {n = n} {a = a} {b = b} r))) h = absurd (cc (not_name a (kinds n a b r).acted, h))
   name_kept (first_field (in_one (below r))) h = record { shaped = h; same = refl }
   name_kept (first_field (in_many r)) h = absurd (cc h)
   name_kept (first_field (in_statements r)) h = absurd (cc h)
@@ -109,9 +131,10 @@ module _ (steady in_use : Text → Bool) where
   name_kept (later_field {f = many ts} r) h = absurd (cc h)
   name_kept (later_field {f = statements ts} r) h = absurd (cc h)
 
-  declarators_kept : {ys : List Text} {n : Need} {ds es : Trees} (kind : Text) → OneNode (R ys) n ds es → declarators ds ≡ true → Kept (declarators es) (declared_names kind ds) (declared_names kind es)
-  declarators_kept kind (first_node (this_place (with_temporary texts again fresh))) h = absurd (cc h)
-  declarators_kept kind (first_node (this_place (reading_again texts again))) h = absurd (cc h)
+  declarators_kept : {n : Need} {ds es : Trees} (kind : Text) → OneNode R n ds es → declarators ds ≡ true → Kept (declarators es) (declared_names kind ds) (declared_names kind es)
+  declarators_kept kind (first_node {xs = xs} (this_place {n = n} {a = node k l fs} {b = b} r)) h =
+      let own = and_left (is_declarator k) (binds_name fs) (and_left (is_declarator k && binds_name fs) (declarators xs) h) in
+      absurd (cc (not_declarator k (kinds n (node k l fs) b r).acted, own))
   declarators_kept kind (first_node {xs = xs} (below {k = k} {l = l} {fs = fs} {gs = gs} r)) h =
       let own = and_left (is_declarator k && binds_name fs) (declarators xs) h in
       let found = name_kept r (and_right (is_declarator k) (binds_name fs) own) in
@@ -126,7 +149,7 @@ module _ (steady in_use : Text → Bool) where
         same = ap (λ ds. record { name = name_in fs; kind = kind } ∷ ds) found.same;
       }
 
-  list_kept : {ys : List Text} {c : ℕ → Need} {fs gs : Fields} (kind : Text) → OneField (R ys) c fs gs → declares_names fs ≡ true → Kept (declares_names gs) (declared_in VariableDeclaration kind fs) (declared_in VariableDeclaration kind gs)
+  list_kept : {c : ℕ → Need} {fs gs : Fields} (kind : Text) → OneField R c fs gs → declares_names fs ≡ true → Kept (declares_names gs) (declared_in VariableDeclaration kind fs) (declared_in VariableDeclaration kind gs)
   list_kept kind (first_field (in_many r)) h = let found = declarators_kept kind r h in record { shaped = found.shaped; same = found.same }
   list_kept kind (first_field (in_one r)) h = absurd (cc h)
   list_kept kind (first_field (in_statements r)) h = absurd (cc h)
@@ -135,13 +158,15 @@ module _ (steady in_use : Text → Bool) where
   list_kept kind (later_field {f = one t} r) h = absurd (cc h)
   list_kept kind (later_field {f = statements ts} r) h = absurd (cc h)
 
-  statement_kept : {ys : List Text} {n : Need} {s u : Tree} → OnePlace (R ys) n s u → statement s ≡ true → Kept (statement u) (declared_by s) (declared_by u)
-  statement_kept (this_place (with_temporary texts again fresh)) h = record { shaped = refl; same = refl }
-  statement_kept (this_place (reading_again texts again)) h = record { shaped = refl; same = refl }
+  statement_kept : {n : Need} {s u : Tree} → OnePlace R n s u → statement s ≡ true → Kept (statement u) (declared_by s) (declared_by u)
+  statement_kept (this_place {n = n} {a = a} {b = b} r) h =
+      let both = kinds n a b r in
+      let now = left_undeclared b both.left in
+      record { shaped = now.fits; same = now.none ∙ sym (acted_undeclared a both.acted).none }
   statement_kept (below {k = VariableDeclaration} {l = l} r) h = let found = list_kept _ r h in record { shaped = found.shaped; same = found.same }
   statement_kept (below {k = _} r) h = record { shaped = h; same = refl }
 
-  body_kept : {ys : List Text} {n : Need} {ts us : Trees} → OneNode (R ys) n ts us → body_of ts ≡ true → Kept (body_of us) (declared_in_body ts) (declared_in_body us)
+  body_kept : {n : Need} {ts us : Trees} → OneNode R n ts us → body_of ts ≡ true → Kept (body_of us) (declared_in_body ts) (declared_in_body us)
   body_kept (first_node {a = a} {b = b} {xs = xs} r) h =
       let found = statement_kept r (and_left (statement a) (body_of xs) h) in
       record {
@@ -155,7 +180,7 @@ module _ (steady in_use : Text → Bool) where
         same = ap (λ ds. declared_by a ++ ds) found.same;
       }
 
-  last_kept : {ys : List Text} {c : ℕ → Need} {fs gs : Fields} (f : Field) → OneField (R ys) c fs gs → last_of fs ≡ true → Kept (last_of gs) (program_names (f then fs)) (program_names (f then gs))
+  last_kept : {c : ℕ → Need} {fs gs : Fields} (f : Field) → OneField R c fs gs → last_of fs ≡ true → Kept (last_of gs) (program_names (f then fs)) (program_names (f then gs))
   last_kept f (first_field {fs = fs} (in_statements {xs = xs} {ys = zs} r)) h =
       let found = body_kept r (and_left (body_of xs) (is_done fs) h) in
       record { shaped = and_from (body_of zs) (is_done fs) found.shaped (and_right (body_of xs) (is_done fs) h); same = found.same }
@@ -171,7 +196,7 @@ module _ (steady in_use : Text → Bool) where
   other_first f g (one t then fs) = refl
   other_first f g (many ts then fs) = refl
 
-  fields_kept : {ys : List Text} {c : ℕ → Need} {fs gs : Fields} → OneField (R ys) c fs gs → program_fields fs ≡ true → Kept (program_fields gs) (program_names fs) (program_names gs)
+  fields_kept : {c : ℕ → Need} {fs gs : Fields} → OneField R c fs gs → program_fields fs ≡ true → Kept (program_fields gs) (program_names fs) (program_names gs)
   fields_kept (first_field {f = f} {g = g} {fs = fs} (in_many r)) h = record { shaped = h; same = other_first f g fs }
   fields_kept (first_field (in_one r)) h = absurd (cc h)
   fields_kept (first_field (in_statements r)) h = absurd (cc h)
@@ -179,9 +204,8 @@ module _ (steady in_use : Text → Bool) where
       let found = last_kept f r (and_right (is_list f) (last_of fs) h) in
       record { shaped = and_from (is_list f) (last_of gs) (and_left (is_list f) (last_of fs) h) found.shaped; same = found.same }
 
-  pub step_shaped : {ys : List Text} {n : Need} {t u : Tree} → OnePlace (R ys) n t u → is_shaped t ≡ true → (is_shaped u ≡ true) × (declared_of u ≡ declared_of t)
-  step_shaped (this_place (with_temporary texts again fresh)) h = absurd (cc h)
-  step_shaped (this_place (reading_again texts again)) h = absurd (cc h)
+  pub step_shaped : {n : Need} {t u : Tree} → OnePlace R n t u → is_shaped t ≡ true → (is_shaped u ≡ true) × (declared_of u ≡ declared_of t)
+  step_shaped (this_place {n = n} {a = node k l fs} {b = b} r) h = absurd (cc (not_program k (kinds n (node k l fs) b r).acted, and_left (is_program_kind k) (program_fields fs) h))
   step_shaped (below {k = k} {fs = fs} {gs = gs} r) h =
       let found = fields_kept r (and_right (is_program_kind k) (program_fields fs) h) in
       (and_from (is_program_kind k) (program_fields gs) (and_left (is_program_kind k) (program_fields fs) h) found.shaped, found.same)

@@ -13,7 +13,7 @@ use Rattle.es_runs.specs.Core.{World, Meaning, value, literal, name, Part, secon
 use Rattle.es_runs.specs.Core.Part.{absent, single, several}
 use Rattle.es_runs.specs.Core.Form.{other, null_form}
 use Rattle.es_runs.specs.Alike.{Frame, SameWorld, Level, Need, Like, LikeAt, needs, bad_names, is_bad, Near, NearFields, NearField, NearNodes}
-use Rattle.es_runs.specs.Alike.Level.{no_evaluation, value_alone, whole_reference, a_callee, a_target}
+use Rattle.es_runs.specs.Alike.Level.{no_evaluation, value_alone, an_operand_of_typeof, whole_reference, a_callee, a_target}
 use Rattle.es_runs.specs.Alike.LikeCallee.{by_reference}
 use Rattle.es_runs.specs.Alike.SameTarget.{target_name}
 use Rattle.es_runs.specs.Alike.Same.{both_give}
@@ -22,7 +22,8 @@ use Rattle.es_runs.specs.Alike.Near.{here, within}
 use Rattle.es_runs.specs.Alike.NearFields.{near_done, near_then}
 use Rattle.es_runs.specs.Alike.NearField.{near_missing, near_one, near_many, near_statements}
 use Rattle.es_runs.specs.Alike.NearNodes.{near_empty, near_before}
-use Rattle.es_runs.proofs.Congruence.{like, plain_like, nothing_like, literal_like, unary_like, update_like, binary_like, logical_like, conditional_like, assignment_like}
+use Rattle.es_runs.specs.Core.Reference.{named}
+use Rattle.es_runs.proofs.Congruence.{typeof_alike, like, plain_like, nothing_like, literal_like, unary_like, update_like, binary_like, logical_like, conditional_like, assignment_like}
 use Rattle.es_runs.proofs.Lists.{AllLike, sequence_like, new_like, call_like, member_like, chain_like, parenthesized_like, declarator_like, declared_alike, in_order_alike}
 use Rattle.es_runs.proofs.Lists.AllLike.{no_more, one_more}
 use Rattle.es_runs.proofs.Basic.{value_alike}
@@ -64,6 +65,7 @@ module _ (F : Frame) (w v : World) (same : SameWorld F.hidden w v) where
   name_alike : (level : Level) (x : Text) → bad level x ≡ false → LikeAt F w v level (name x) (name x)
   name_alike no_evaluation x e = tt
   name_alike value_alone x e = value_alike F w v same (name x) (name x) (λ s t g. both_give (same_name e) g)
+  name_alike an_operand_of_typeof x e = typeof_alike F w v same (named x) (named x) (same_name e)
   name_alike whole_reference x e = λ s t g. both_give (same_name e) g
   name_alike a_callee x e = by_reference (λ s t g. both_give (same_name e) g)
   name_alike a_target x e = λ s t g. both_give (target_name (or_left (F.hidden x) (F.frozen x) e) (or_right (F.hidden x) (F.frozen x) e)) g

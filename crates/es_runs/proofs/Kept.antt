@@ -1,24 +1,22 @@
--- What a step of the rule of `??` keeps: a core tree stays one, and its names are those before and the one taken.
-use Rattle.std.proofs.Common.{◌≡◌, ℕ, zero, suc, refl, List, [], ◌∷◌, ◌++◌}
+-- What a rule keeps at its own place, a step keeps: that a tree is core, that a name isn't among its names, that each node
+-- passes a test.
+use Rattle.std.proofs.Common.{◌≡◌, ℕ, zero, suc, refl, List, ◌++◌}
 use Rattle.std.proofs.lemmas.Bool.{and_from}
-use Rattle.std.specs.Prelude.{Bool, true, false, ◌&&◌, if◌then◌else◌}
+use Rattle.std.specs.Prelude.{Bool, true, false}
 use Rattle.es_tree.specs.Words.{Text}
 use Rattle.es_tree.specs.Names.{names_if, names_in_fields, names_in_field, names_in_trees, own_name, is_name_place, is_reexport}
 use Rattle.es_tree.specs.Fresh.{is_among}
 use Rattle.es_tree.specs.Walks.{all_nodes, all_in_fields, all_in_field, all_in_trees}
 use Rattle.es_tree.specs.Core.{is_core_node}
-use Rattle.es_tree.specs.Tree.{Tree, node, Label, Fields, done, ◌then◌, Field, one, Trees}
+use Rattle.es_tree.specs.Tree.{Tree, node, Label, Fields, Field, Trees}
 use Rattle.es_tree.specs.declared.ast_type.AstType.{AstType}
-use Rattle.es_tree.specs.declared.ast_type.AstType.TheVariants.{VariableDeclaration, LogicalExpression}
+use Rattle.es_tree.specs.declared.ast_type.AstType.TheVariants.{VariableDeclaration}
 use Rattle.es_runs.specs.Alike.{Need}
-use Rattle.es_runs.specs.Runs.{identifier}
-use Rattle.es_runs.specs.Rules.{OnePlace, OneField, InField, OneNode, assign_node, tested}
+use Rattle.es_runs.specs.Rules.{OnePlace, OneField, InField, OneNode}
 use Rattle.es_runs.specs.Rules.OnePlace.{this_place, below}
 use Rattle.es_runs.specs.Rules.OneField.{first_field, later_field}
 use Rattle.es_runs.specs.Rules.InField.{in_one, in_many, in_statements}
 use Rattle.es_runs.specs.Rules.OneNode.{first_node, later_node}
-use Rattle.es_runs.specs.Steps.{NullishRule}
-use Rattle.es_runs.specs.Steps.NullishRule.{with_temporary, reading_again}
 use Rattle.es_runs.proofs.Named.{and_left, and_right, or_both, among-append, among_first, among_second, core_exports}
 
 -- whether a node is core doesn't depend on its fields
@@ -43,55 +41,11 @@ record TreesWithout (y : Text) (ts : Trees) : Type 0 where
   core : all_in_trees is_core_node ts ≡ true
   free : is_among (names_in_trees ts) y ≡ false
 
-below_names : (counts : Bool) (k : AstType) (l : Label) (fs : Fields) → is_reexport k fs ≡ false → names_if counts (node k l fs) ≡ own_name counts k l ++ names_in_fields (is_name_place k l) fs
+pub below_names : (counts : Bool) (k : AstType) (l : Label) (fs : Fields) → is_reexport k fs ≡ false → names_if counts (node k l fs) ≡ own_name counts k l ++ names_in_fields (is_name_place k l) fs
 below_names counts k l fs e = rw e
 
 pub among_both : (xs ys : List Text) (x : Text) → is_among xs x ≡ false → is_among ys x ≡ false → is_among (xs ++ ys) x ≡ false
 among_both xs ys x e d = rw among-append (or_both (is_among xs x) (is_among ys x) e d)
-
-in_row : (bs cs rs : List Text) (y : Text) → is_among bs y ≡ false → is_among cs y ≡ false → is_among rs y ≡ false → is_among (((bs ++ []) ++ (((cs ++ []) ++ []))) ++ (cs ++ (rs ++ []))) y ≡ false
-in_row bs cs rs y db da dr =
-    among_both ((bs ++ []) ++ ((cs ++ []) ++ [])) (cs ++ (rs ++ [])) y
-    (among_both (bs ++ []) ((cs ++ []) ++ []) y (among_both bs [] y db refl) (among_both (cs ++ []) [] y (among_both cs [] y da refl) refl))
-    (among_both cs (rs ++ []) y da (among_both rs [] y dr refl))
-
--- the names of a made conditional are those of its parts
-made_names : (m : Label) (begin again r : Tree) (y : Text) (counts : Bool) → is_among (names_if true begin) y ≡ false → is_among (names_if true again) y ≡ false → is_among (names_if true r) y ≡ false →
-    is_among (names_if counts (tested m begin again r)) y ≡ false
-made_names m begin again r y true db da dr = in_row (names_if true begin) (names_if true again) (names_if true r) y db da dr
-made_names m begin again r y false db da dr = in_row (names_if true begin) (names_if true again) (names_if true r) y db da dr
-
--- what the rule of `??` keeps at its own place
-module _ (steady in_use : Text → Bool) (y : Text) where
-  sides : (c : Bool) (m : Label) (l r : Tree) → is_among (names_if c (node LogicalExpression m (one l then (one r then done)))) y ≡ false → is_among (names_if true l ++ (names_if true r ++ [])) y ≡ false
-  sides true m l r h = h
-  sides false m l r h = h
-
-  pub rule_without : {ys : List Text} → is_among ys y ≡ false → (n : Need) (a b : Tree) (counts : Bool) → NullishRule steady in_use ys n a b → Without y counts a → Without y counts b
-  rule_without other n _ _ counts (with_temporary {m = m} {l = l} {r = r} {x = x} texts again fresh) h =
-      let core_both : (all_nodes is_core_node l && (all_nodes is_core_node r && true)) ≡ true = h.core in
-      let free_both = sides counts m l r h.free in
-      let free_l = among_first (names_if true l) (names_if true r ++ []) y free_both in
-      let free_r = among_first (names_if true r) [] y (among_second (names_if true l) (names_if true r ++ []) y free_both) in
-      record {
-        core = simp (and_left (all_nodes is_core_node l) (all_nodes is_core_node r && true) core_both, and_left (all_nodes is_core_node r) true (and_right (all_nodes is_core_node l) (all_nodes is_core_node r && true) core_both));
-        free = made_names m (assign_node (identifier x) l) (identifier x) r y counts (among_both (x ∷ []) (names_if true l ++ []) y other (among_both (names_if true l) [] y free_l refl)) other free_r;
-      }
-  rule_without other n _ _ counts (reading_again {m = m} {l = l} {r = r} texts again) h =
-      let core_both : (all_nodes is_core_node l && (all_nodes is_core_node r && true)) ≡ true = h.core in
-      let free_both = sides counts m l r h.free in
-      let free_l = among_first (names_if true l) (names_if true r ++ []) y free_both in
-      let free_r = among_first (names_if true r) [] y (among_second (names_if true l) (names_if true r ++ []) y free_both) in
-      record {
-        core = simp (and_left (all_nodes is_core_node l) (all_nodes is_core_node r && true) core_both, and_left (all_nodes is_core_node r) true (and_right (all_nodes is_core_node l) (all_nodes is_core_node r && true) core_both));
-        free = made_names m l l r y counts free_l free_l free_r;
-      }
-
-  pub rule_core : {ys : List Text} (n : Need) (a b : Tree) → NullishRule steady in_use ys n a b → all_nodes is_core_node a ≡ true → all_nodes is_core_node b ≡ true
-  rule_core n _ _ (with_temporary {l = l} {r = r} texts again fresh) h =
-      simp (and_left (all_nodes is_core_node l) (all_nodes is_core_node r && true) h, and_left (all_nodes is_core_node r) true (and_right (all_nodes is_core_node l) (all_nodes is_core_node r && true) h))
-  rule_core n _ _ (reading_again {l = l} {r = r} texts again) h =
-      simp (and_left (all_nodes is_core_node l) (all_nodes is_core_node r && true) h, and_left (all_nodes is_core_node r) true (and_right (all_nodes is_core_node l) (all_nodes is_core_node r && true) h))
 
 -- what a rule keeps at its own place, a step keeps
 module _ (R : Need → Tree → Tree → Type 0) (y : Text) (base : (n : Need) (a b : Tree) (counts : Bool) → R n a b → Without y counts a → Without y counts b) where
@@ -184,23 +138,3 @@ module _ (R : Need → Tree → Tree → Type 0) (P : Type 0) (says : (n : Need)
     somewhere_in_trees : {n : Need} {ts us : Trees} → OneNode R n ts us → P
     somewhere_in_trees (first_node r) = somewhere r
     somewhere_in_trees (later_node r) = somewhere_in_trees r
-
--- a step of one rule is a step of another that holds wherever it does
-module _ (R S : Need → Tree → Tree → Type 0) (to : (n : Need) (a b : Tree) → R n a b → S n a b) where
-  mutual
-    pub step_of : {n : Need} {t u : Tree} → OnePlace R n t u → OnePlace S n t u
-    step_of (this_place {n = n} {a = a} {b = b} r) = this_place (to n a b r)
-    step_of (below r) = below (step_of_fields r)
-
-    step_of_fields : {c : ℕ → Need} {fs gs : Fields} → OneField R c fs gs → OneField S c fs gs
-    step_of_fields (first_field r) = first_field (step_of_field r)
-    step_of_fields (later_field r) = later_field (step_of_fields r)
-
-    step_of_field : {n : Need} {f g : Field} → InField R n f g → InField S n f g
-    step_of_field (in_one r) = in_one (step_of r)
-    step_of_field (in_many r) = in_many (step_of_trees r)
-    step_of_field (in_statements r) = in_statements (step_of_trees r)
-
-    step_of_trees : {n : Need} {ts us : Trees} → OneNode R n ts us → OneNode S n ts us
-    step_of_trees (first_node r) = first_node (step_of r)
-    step_of_trees (later_node r) = later_node (step_of_trees r)

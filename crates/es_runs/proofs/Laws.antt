@@ -4,14 +4,14 @@ use Rattle.std.specs.Prelude.{Bool, true, false, bytes_eq, codes, ◌||◌}
 use Rattle.es_tree.specs.Words.{Text}
 use Rattle.es_tree.specs.Tree.{Tree, Trees, Label}
 use Rattle.es_tree.specs.Tree.{◌before◌}
-use Rattle.es_runs.specs.Machine.{Value, M, State, Stop, Result, Move}
+use Rattle.es_runs.specs.Machine.{Value, M, ◌>>=◌, State, Stop, Result, Move}
 use Rattle.es_runs.specs.Machine.State.{state}
 use Rattle.es_runs.specs.Machine.Stop.{throws, waits, uncallable, cut, unknown}
 use Rattle.es_runs.specs.Machine.Result.{gives, stops}
-use Rattle.es_runs.specs.Core.{World, Reference, value, meaning, meanings, in_order}
+use Rattle.es_runs.specs.Core.{World, Reference, value, typeof_value, meaning, meanings, in_order}
 use Rattle.es_runs.specs.Core.Reference.{named, property, plain}
 use Rattle.es_runs.specs.Alike.{Frame, set_cells, Agree, Same, Alike, Equal, SameReference, SameWorld, Level, Need, Like, LikeAt, the_value, SameTarget, touches_nodes, bad_names}
-use Rattle.es_runs.specs.Alike.Level.{no_evaluation, value_alone, whole_reference, a_callee, a_target}
+use Rattle.es_runs.specs.Alike.Level.{no_evaluation, value_alone, an_operand_of_typeof, whole_reference, a_callee, a_target}
 use Rattle.es_runs.specs.Alike.LikeCallee.{by_reference}
 use Rattle.es_runs.specs.Alike.SameTarget.{target_name, target_property, target_plain}
 use Rattle.es_runs.specs.Alike.Agree.{agree}
@@ -79,6 +79,7 @@ targets_agree m k h s t g = rw (same_states g, h s) (same_target_self (m s))
 evaluation_agrees : (level : Level) (e d : Tree) → EvaluateAlike level e d → (w : World) → LikeAt no_frame w w level (meaning w e) (meaning w d)
 evaluation_agrees no_evaluation e d h w = tt
 evaluation_agrees value_alone e d h w = values_agree (value w (meaning w e)) (value w (meaning w d)) (h w)
+evaluation_agrees an_operand_of_typeof e d h w = values_agree ((meaning w e).reference >>= typeof_value w) ((meaning w d).reference >>= typeof_value w) (h w)
 evaluation_agrees whole_reference e d h w = references_agree (meaning w e).reference (meaning w d).reference (h w)
 evaluation_agrees a_callee e d h w = by_reference (references_agree (meaning w e).reference (meaning w d).reference (h w))
 evaluation_agrees a_target e d h w = targets_agree (meaning w e).reference (meaning w d).reference (h w)

@@ -16,8 +16,8 @@ use Rattle.es_runs.specs.Core.{World, Binding, Reference, Meaning, Form, value, 
 use Rattle.es_runs.specs.Core.Binding.{free, changeable, constant}
 use Rattle.es_runs.specs.Core.Reference.{named, property, plain}
 use Rattle.es_runs.specs.Core.Form.{word, math_pow, member_call, member_bind}
-use Rattle.es_runs.specs.Alike.{Frame, Same, Alike, Equal, SameReference, SameTarget, SameWorld, Level, Need, Like, LikeAt, the_value, the_target, value_and_form, member_needs}
-use Rattle.es_runs.specs.Alike.Level.{no_evaluation, value_alone, whole_reference, a_callee, a_target}
+use Rattle.es_runs.specs.Alike.{Frame, Same, Alike, Equal, SameReference, SameTarget, SameWorld, Level, Need, Like, LikeAt, content_level, the_value, the_target, value_and_form, member_needs}
+use Rattle.es_runs.specs.Alike.Level.{no_evaluation, value_alone, an_operand_of_typeof, whole_reference, a_callee, a_target}
 use Rattle.es_runs.specs.Alike.{LikeCallee, SameCalled, the_callee}
 use Rattle.es_runs.specs.Alike.LikeCallee.{by_reference, by_call}
 use Rattle.es_runs.specs.Alike.SameCalled.{same_called, bound_called}
@@ -29,7 +29,7 @@ use Rattle.es_runs.specs.Alike.Same.{both_give, both_stop, outside}
 use Rattle.es_runs.specs.Alike.Equal.{equal}
 use Rattle.es_runs.specs.Alike.SameReference.{same_name, same_property, same_plain}
 use Rattle.es_runs.proofs.Basic.{onward_same, bind_alike, then_alike, return_alike, stop_alike, ask_alike, set_alike, call_alike, get_alike}
-use Rattle.es_runs.proofs.Congruence.{at_level, plain_like, choice_alike}
+use Rattle.es_runs.proofs.Congruence.{at_level, plain_like, choice_alike, typeof_alike}
 
 pub data AllLike (F : Frame) (w v : World) (n : Need) : List Meaning → List Meaning → Type 0 where
   no_more : AllLike F w v n [] []
@@ -80,7 +80,7 @@ module _ (F : Frame) (w v : World) (same : SameWorld F.hidden w v) where
   member_same false optional f (word p) = static_same optional f p
   member_same false optional f _ = refl
 
-  member_form_like : (computed optional : Bool) (a a' b b' : Meaning) → a'.form ≡ a.form → Like F w v (member_needs true computed 1) b b' → member_form v computed optional a'.form b'.form ≡ member_form w computed optional a.form b.form
+  pub member_form_like : (computed optional : Bool) (a a' b b' : Meaning) → a'.form ≡ a.form → Like F w v (member_needs true computed 1) b b' → member_form v computed optional a'.form b'.form ≡ member_form w computed optional a.form b.form
   member_form_like true optional a a' b b' e h = refl
   member_form_like false optional a a' b b' e h = rw (e, h.form refl) (member_same false optional a.form b.form)
 
@@ -92,7 +92,7 @@ module _ (F : Frame) (w v : World) (same : SameWorld F.hidden w v) where
 
   -- calls
 
-  run_alike : (b : Bool) (f r : Value) (xs ys : List Meaning) → AllLike F w v the_value xs ys → Alike F Equal (run_call w b xs f r) (run_call v b ys f r)
+  pub run_alike : (b : Bool) (f r : Value) (xs ys : List Meaning) → AllLike F w v the_value xs ys → Alike F Equal (run_call w b xs f r) (run_call v b ys f r)
   run_alike true f r xs ys h = then_alike F (values_alike h) (call_alike F f r)
   run_alike false f r xs ys h = stop_alike F uncallable
 
@@ -173,6 +173,7 @@ module _ (F : Frame) (w v : World) (same : SameWorld F.hidden w v) where
   parentheses_alike : (level : Level) (a b : Meaning) → LikeAt F w v level a b → LikeAt F w v level (parenthesized a) (parenthesized b)
   parentheses_alike no_evaluation a b h = tt
   parentheses_alike value_alone a b h = h
+  parentheses_alike an_operand_of_typeof a b h = h
   parentheses_alike whole_reference a b h = h
   parentheses_alike a_callee a b (by_reference h) = by_reference h
   parentheses_alike a_callee a b (by_call e h) = by_call refl h
@@ -319,13 +320,14 @@ module _ (F : Frame) (w v : World) (same : SameWorld F.hidden w v) where
   call_chain : (a b : Meaning) → Alike F SameCalled (a.reference >>= callee_from w) (b.reference >>= callee_from v) → Alike F SameCalled ((chain a).reference >>= callee_from w) ((chain b).reference >>= callee_from v)
   call_chain a b h s t g = rw (closed_call w (a.reference s), closed_call v (b.reference t)) (called_closed (h s t g))
 
-  chain_alike : (level : Level) (a b : Meaning) → LikeAt F w v level a b → LikeAt F w v level (chain a) (chain b)
+  chain_alike : (level : Level) (a b : Meaning) → LikeAt F w v (content_level level) a b → LikeAt F w v level (chain a) (chain b)
   chain_alike no_evaluation a b h = tt
   chain_alike value_alone a b h = value_chain a b h
+  chain_alike an_operand_of_typeof a b h = bind_alike F (reference_chain a b h) (typeof_alike F w v same)
   chain_alike whole_reference a b h = reference_chain a b h
   chain_alike a_callee a b (by_reference h) = by_reference (reference_chain a b h)
   chain_alike a_callee a b (by_call e h) = by_call refl (call_chain a b h)
   chain_alike a_target a b h = target_chain a b h
 
-  pub chain_like : (n : Need) (a b : Meaning) → Like F w v (record { level = n.level; form = false }) a b → Like F w v n (chain a) (chain b)
+  pub chain_like : (n : Need) (a b : Meaning) → Like F w v (record { level = content_level n.level; form = false }) a b → Like F w v n (chain a) (chain b)
   chain_like n a b h = record { evaluation = chain_alike n.level a b h.evaluation; form = λ e. refl }

@@ -364,3 +364,13 @@ module _ (w : World) where
   -- the value of a node without stray marks is never cut short
   pub value_uncut : (a : Tree) → strays false a ≡ false → NeverCut (value w (meaning w a))
   value_uncut a h s = back (value w (meaning w a) s) (has_value (meaning w a) (node_sound a false h) s)
+
+  -- nor is its reference, nor what is done with one
+  pub reference_uncut : (a : Tree) → strays false a ≡ false → NeverCut (meaning w a).reference
+  reference_uncut a h s = back ((meaning w a).reference s) (node_sound a false h s)
+
+  pub typeof_uncut : (r : Reference) → NeverCut (typeof_value w r)
+  typeof_uncut r s = back (typeof_value w r s) (typeof_steady r s)
+
+  pub delete_uncut : (r : Reference) → NeverCut (delete_value w r)
+  delete_uncut r s = back (delete_value w r s) (delete_steady r s)

@@ -24,7 +24,7 @@ use Rattle.es_runs.proofs.Temporary.{put_temporary, get_temporary, plain_again, 
 abbrev strictly_not : World → Meaning → Meaning → Meaning
 strictly_not v a b = binary v (codes "!==") a b
 
-abbrev tested_meaning : World → Meaning → Meaning → Meaning → Meaning
+abbrev pub tested_meaning : World → Meaning → Meaning → Meaning → Meaning
 tested_meaning v begin again r = conditional v (logical v (codes "&&") (strictly_not v begin (literal null null_form)) (strictly_not v again (unary v (codes "void") (literal (number (codes "0")) zero_form)))) again r
 
 abbrev stored : World → Text → Meaning → Meaning

@@ -9,20 +9,22 @@ use Rattle.es_runs.specs.Machine.Values.{none, ◌and◌}
 use Rattle.es_runs.specs.Machine.Value.{undefined, null, boolean, text, number}
 use Rattle.es_runs.specs.Machine.Question.{read, write, put, operator}
 use Rattle.es_runs.specs.Machine.Move.{answer, throw}
-use Rattle.es_runs.specs.Runs.{Outcome, made, identifier, program, run, asked, state_of, outcome, cells}
+use Rattle.es_runs.specs.Runs.{Outcome, made, identifier, program, var_statement, run, asked, state_of, outcome, cells}
 use Rattle.es_runs.specs.Runs.Outcome.{finished, threw, waiting}
 use Rattle.es_runs.specs.Machine.Cell.{holds}
 use Rattle.es_runs.specs.Rules.{assign_node, binary_node, member_node, tested_by}
-use Rattle.es_runs.specs.Steps.{declare_in}
+
+abbrev statement : Tree → Tree
+statement e = node ExpressionStatement (made [] []) (one e then done)
 
 abbrev script : Tree → Tree
-script e = program (made [] []) empty (node ExpressionStatement (made [] []) (one e then done) before empty)
+script e = program (made [] []) empty (statement e before empty)
 
 abbrev source : Tree
 source = script (assign_node (identifier (codes "r")) (node LogicalExpression (made (Some (codes "??") ∷ []) []) (one (identifier (codes "a")) then (one (identifier (codes "b")) then done))))
 
 abbrev lowered : Tree
-lowered = declare_in (codes "_a" ∷ []) (script (assign_node (identifier (codes "r")) (tested_by (made [] []) (codes "_a") (identifier (codes "a")) (identifier (codes "b")))))
+lowered = program (made [] []) empty (var_statement (codes "_a") before statement (assign_node (identifier (codes "r")) (tested_by (made [] []) (codes "_a") (identifier (codes "a")) (identifier (codes "b")))) before empty)
 
 abbrev questions_of : Tree → List Move → List Question
 questions_of p moves = asked (state_of (run p undefined moves))

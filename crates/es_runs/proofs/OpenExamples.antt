@@ -22,7 +22,7 @@ use Rattle.es_runs.specs.OpenSteps.FieldStep.{in_child, within, acts_on_list}
 use Rattle.es_runs.specs.OpenSteps.TreesStep.{in_head}
 use Rattle.es_runs.specs.OpenSteps.Steps.{stays, goes}
 use Rattle.es_runs.specs.OpenRules.{with_names, CoreRule}
-use Rattle.es_runs.specs.OpenRules.Coalescing.{coalesces}
+use Rattle.es_runs.specs.OpenRules.Replacing.{replaces}
 use Rattle.es_runs.specs.OpenRules.Writing.{writes}
 
 abbrev operator : Label
@@ -61,7 +61,7 @@ abbrev between : Open
 between = open_node Program (made [] []) (children nil and (list (with_vars names nothing_pending) (opened_trees (statement conditional before empty)) and ends))
 
 coalesced : Step CoreRule all_of_it (ledger (whole_of source) nothing_pending) (opened source) (ledger after nothing_pending) between
-coalesced = inside (in_later (in_first (within (in_head (inside (in_first (in_child (acts coalescing conditional (inr (coalesces names (with_temporary refl refl fresh)))))))))))
+coalesced = inside (in_later (in_first (within (in_head (inside (in_first (in_child (acts coalescing conditional (inr (inr (inl (replaces names (with_temporary refl refl fresh)))))))))))))
 
 declares : Step CoreRule all_of_it (ledger after nothing_pending) between (ledger after nothing_pending) (opened lowered)
 declares = inside (in_later (in_first (acts_on_list (statement conditional before empty) (var_statement (codes "_a$b") before statement conditional before empty) (inl writes))))

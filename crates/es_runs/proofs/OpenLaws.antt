@@ -14,14 +14,14 @@ use Rattle.es_runs.specs.Open.Open.{open_node}
 use Rattle.es_runs.specs.Open.OpenFields.{ends, ◌and◌}
 use Rattle.es_runs.specs.Open.OpenField.{gap, child, children, list}
 use Rattle.es_runs.specs.OpenSteps.{whole_of}
-use Rattle.es_runs.specs.OpenLaws.{declared_by_pending, pending_of, run_open, LawOpenRules, LawReached, LawReachedBindings}
+use Rattle.es_runs.specs.OpenLaws.{declared_by_pending, pending_of, run_open, LawCoreRules, LawReached, LawReachedBindings}
 use Rattle.es_runs.proofs.BareTrees.{declared_of-bare, run-bare}
-use Rattle.es_runs.proofs.Written.{vars, pending_vars}
-use Rattle.es_runs.proofs.LoweredRuns.{source_known, steady_declared}
+use Rattle.es_runs.proofs.Written.{vars, pending_vars, plain}
+use Rattle.es_runs.proofs.KnownPrograms.{source_known}
 use Rattle.es_runs.proofs.OpenTrees.{closed-opened}
 use Rattle.es_runs.proofs.OpenForm.{core_lists}
 use Rattle.es_runs.proofs.OpenPlaces.{own_pending}
-use Rattle.es_runs.proofs.OpenRuns.{plain, with_pending, IsOpenProgram, all_go}
+use Rattle.es_runs.proofs.OpenRuns.{with_pending, IsOpenProgram, all_go}
 
 -- WHERE STEPS BEGIN
 
@@ -33,7 +33,7 @@ opened_pending (f then (one t then fs)) = refl
 opened_pending (f then (many ts then fs)) = refl
 opened_pending (f then (statements ts then fs)) = refl
 
-nothing_opened : (t : Tree) → own_pending (opened t) ≡ nothing_pending
+pub nothing_opened : (t : Tree) → own_pending (opened t) ≡ nothing_pending
 nothing_opened (node k l fs) = opened_pending fs
 
 same_declared : (t : Tree) → declared_of (closed (opened (bare t))) ≡ declared_of t
@@ -48,7 +48,6 @@ source_open p is =
       pending = nothing_opened (bare p);
       one_list = rw same (core_lists p is);
       known = rw same (source_known p is);
-      steady = λ y e. rw (same_declared p) (steady_declared p y e);
     }
 
 -- WHERE THEY END
@@ -80,9 +79,9 @@ opened_run t this moves = ap (λ u. run u this moves) (closed-opened (bare t)) �
 
 -- THE LAWS
 
-pub law_open_rules_proof : LawOpenRules
+pub law_core_rules_proof : LawCoreRules
 unfolding source_open
-law_open_rules_proof p s o is steps this moves callable =
+law_core_rules_proof p s o is steps this moves callable =
     let start = opened_run p this moves in
     let found = all_go steps (source_open p is) in
     let alike = found.same (is_declared (declared_of p)) (λ y e. rw (same_declared p) e) this moves (λ e. callable (ap outcome (sym start) ∙ e)) in
@@ -90,7 +89,7 @@ law_open_rules_proof p s o is steps this moves callable =
 
 pub law_reached_proof : LawReached
 law_reached_proof p q names is reached this moves callable =
-    let alike = law_open_rules_proof p _ (opened (bare q)) is reached.steps this moves callable in
+    let alike = law_core_rules_proof p _ (opened (bare q)) is reached.steps this moves callable in
     let target : run_open (opened (bare q)) this moves ≡ run q this moves = open_run [] (opened (bare q)) (nothing_opened (bare q)) this moves ∙ opened_run q this moves in
     rw (← target) alike
 

@@ -8,14 +8,13 @@ use Rattle.es_runs.specs.Open.Open.{open_node}
 use Rattle.es_runs.specs.Open.OpenFields.{◌and◌}
 use Rattle.es_runs.specs.Open.OpenField.{child, children, list}
 use Rattle.es_runs.specs.Open.OpenTrees.{◌next◌}
-use Rattle.es_runs.specs.OpenSteps.{Whole, Ledger, Spot, Step, FieldsStep, FieldStep, TreesStep, Steps}
+use Rattle.es_runs.specs.OpenSteps.{Whole, Ledger, whole_in, pending_in, Spot, Step, FieldsStep, FieldStep, TreesStep, Steps}
 use Rattle.es_runs.specs.OpenSteps.Ledger.{ledger}
 use Rattle.es_runs.specs.OpenSteps.Step.{inside}
 use Rattle.es_runs.specs.OpenSteps.FieldsStep.{in_first, in_later}
 use Rattle.es_runs.specs.OpenSteps.FieldStep.{in_child, in_children, within}
 use Rattle.es_runs.specs.OpenSteps.TreesStep.{in_head, in_tail}
 use Rattle.es_runs.specs.OpenSteps.Steps.{stays, goes}
-use Rattle.es_runs.proofs.OpenPlaces.{whole_in, pending_in}
 
 pub append_steps : {X : Type 0} {S : Ledger → X → Ledger → X → Type 0} {s s' s'' : Ledger} {t u v : X} → Steps S s t s' u → Steps S s' u s'' v → Steps S s t s'' v
 append_steps stays more = more

@@ -1,58 +1,71 @@
 -- Steps of the core rules on open programs, as steps at one place of the trees.
 use Rattle.std.proofs.Common.{◌≡◌, ℕ, refl, ap, inl, inr, List}
 use Rattle.std.proofs.lemmas.Bool.{and_from}
-use Rattle.std.specs.Prelude.{Bool, true, ◌&&◌}
+use Rattle.std.specs.Prelude.{true, false, ◌&&◌}
 use Rattle.es_tree.specs.Words.{Text}
 use Rattle.es_tree.specs.Walks.{all_nodes, all_in_fields, all_in_field, all_in_trees}
-use Rattle.es_tree.specs.Tree.{Tree, node, Label, Fields, ◌then◌, statements, Trees, empty, ◌before◌}
+use Rattle.es_tree.specs.Tree.{Tree, node, Label, Fields, done, ◌then◌, statements, Trees, empty, ◌before◌, kind_of, fields_of}
 use Rattle.es_tree.specs.declared.ast_type.AstType.{AstType}
+use Rattle.es_tree.specs.declared.ast_type.AstType.TheVariants.{Program}
 use Rattle.es_runs.specs.Alike.{Need, all_of_it}
+use Rattle.es_runs.specs.Doubling.{has_no_fields}
 use Rattle.es_runs.specs.Rules.{OnePlace, OneField, InField, OneNode}
 use Rattle.es_runs.specs.Rules.OnePlace.{this_place, below}
 use Rattle.es_runs.specs.Rules.OneField.{first_field, later_field}
 use Rattle.es_runs.specs.Rules.InField.{in_one, in_many, in_statements}
 use Rattle.es_runs.specs.Rules.OneNode.{first_node, later_node}
-use Rattle.es_runs.specs.Steps.{NullishRule}
-use Rattle.es_runs.specs.Steps.NullishRule.{with_temporary, reading_again}
 use Rattle.es_runs.specs.Open.{Pending, nothing_pending, Open, OpenFields, OpenField, OpenTrees, closed, closed_fields, closed_field, closed_trees, written, with_vars}
 use Rattle.es_runs.specs.Open.Open.{open_node}
 use Rattle.es_runs.specs.Open.OpenFields.{◌and◌}
 use Rattle.es_runs.specs.Open.OpenField.{list}
-use Rattle.es_runs.specs.OpenSteps.{Whole, Ledger, Step, FieldsStep, FieldStep, TreesStep}
+use Rattle.es_runs.specs.OpenSteps.{Whole, Ledger, whole_in, pending_in, Step, FieldsStep, FieldStep, TreesStep}
 use Rattle.es_runs.specs.OpenSteps.Ledger.{ledger}
+use Rattle.es_runs.specs.OpenSteps.Spot.{at_node}
 use Rattle.es_runs.specs.OpenSteps.Step.{acts, inside}
 use Rattle.es_runs.specs.OpenSteps.FieldsStep.{in_first, in_later}
 use Rattle.es_runs.specs.OpenSteps.FieldStep.{in_child, in_children, within, acts_on_list}
 use Rattle.es_runs.specs.OpenSteps.TreesStep.{in_head, in_tail}
 use Rattle.es_runs.specs.OpenRules.{with_names, CoreRule}
-use Rattle.es_runs.specs.OpenRules.Coalescing.{coalesces}
+use Rattle.es_runs.specs.OpenRules.Replacing.{replaces}
 use Rattle.es_runs.specs.OpenRules.Writing.{writes}
 use Rattle.es_runs.proofs.Named.{and_left, and_right}
 use Rattle.es_runs.proofs.Kept.{trees_all}
+use Rattle.es_runs.proofs.CoreRows.{core_row}
+use Rattle.es_runs.proofs.RowFacts.{is_row_kind}
+use Rattle.es_runs.proofs.RowKinds.{row_kind}
+use Rattle.es_runs.proofs.RowKeeps.{row_unlisted}
 use Rattle.es_runs.proofs.Declarations.{is_program_kind, is_done}
 use Rattle.es_runs.proofs.OpenTrees.{closed-opened, closed-opened-trees}
 use Rattle.es_runs.proofs.OpenForm.{is_no_list, no_list, unlisted, childless, is_childless, is_unlisted, last_unlisted, one_list, has_one_list}
 
 -- the names that a step takes, the ledger afterwards, and the step of the closed tree
-pub record Coalesced (w : Whole) (p : Pending) (s' : Ledger) (P : List Text → Type 0) : Type 0 where
+pub record Takes (w : Whole) (p : Pending) (s' : Ledger) (P : List Text → Type 0) : Type 0 where
   pub names : List Text
   pub after : s' ≡ ledger (with_names names w) (with_vars names p)
   pub step : P names
 
 abbrev pub RuleOf : Whole → List Text → Need → Tree → Tree → Type 0
-RuleOf w ys = NullishRule w.steady w.in_use ys
+RuleOf w ys = core_row w ys
+
+-- at a node the rules are those of the rows
+node_takes : (w : Whole) (p : Pending) (n : Need) (s' : Ledger) (t u : Tree) → CoreRule n (ledger w p) (at_node t) s' (at_node u) → Takes w p s' (λ ys. RuleOf w ys n t u)
+node_takes w p n s' t u (inl r) = elim r [ ]
+node_takes w p n s' t u (inr (inl (replaces xs r))) = record { names = xs; after = refl; step = inl r }
+node_takes w p n s' t u (inr (inr (inl (replaces xs r)))) = record { names = xs; after = refl; step = inr (inl r) }
+node_takes w p n s' t u (inr (inr (inr (replaces xs r)))) = record { names = xs; after = refl; step = inr (inr r) }
 
 module _ (w : Whole) (p : Pending) where
   mutual
-    -- where no statement list stands, each step is one of `??`
-    place_step : {n : Need} {s' : Ledger} {o u : Open} → Step CoreRule n (ledger w p) o s' u → all_nodes unlisted (closed o) ≡ true → Coalesced w p s' (λ ys. OnePlace (RuleOf w ys) n (closed o) (closed u))
-    place_step (acts t u (inl r)) h = elim r [ ]
-    place_step (acts t u (inr (coalesces xs r))) h = record { names = xs; after = refl; step = rw (closed-opened t, closed-opened u) (this_place r) }
+    -- where no statement list stands, each step is one of a row
+    place_step : {n : Need} {s' : Ledger} {o u : Open} → Step CoreRule n (ledger w p) o s' u → all_nodes unlisted (closed o) ≡ true → Takes w p s' (λ ys. OnePlace (RuleOf w ys) n (closed o) (closed u))
+    place_step (acts {n = n} {s' = s'} t u r) h =
+        let k = node_takes w p n s' t u r in
+        record { names = k.names; after = k.after; step = rw (closed-opened t, closed-opened u) (this_place k.step) }
     place_step (inside {fs = fs} r) h =
         let k = fields_step r (and_left (no_list (closed_fields fs)) (all_in_fields unlisted (closed_fields fs)) h) (and_right (no_list (closed_fields fs)) (all_in_fields unlisted (closed_fields fs)) h) in
         record { names = k.names; after = k.after; step = below k.step }
 
-    fields_step : {c : ℕ → Need} {s' : Ledger} {fs gs : OpenFields} → FieldsStep CoreRule c (ledger w p) fs s' gs → no_list (closed_fields fs) ≡ true → all_in_fields unlisted (closed_fields fs) ≡ true → Coalesced w p s' (λ ys. OneField (RuleOf w ys) c (closed_fields fs) (closed_fields gs))
+    fields_step : {c : ℕ → Need} {s' : Ledger} {fs gs : OpenFields} → FieldsStep CoreRule c (ledger w p) fs s' gs → no_list (closed_fields fs) ≡ true → all_in_fields unlisted (closed_fields fs) ≡ true → Takes w p s' (λ ys. OneField (RuleOf w ys) c (closed_fields fs) (closed_fields gs))
     fields_step (in_first {f = f} {fs = fs} r) g h =
         let k = field_step r (and_left (is_no_list (closed_field f)) (no_list (closed_fields fs)) g) (and_left (all_in_field unlisted (closed_field f)) (all_in_fields unlisted (closed_fields fs)) h) in
         record { names = k.names; after = k.after; step = first_field k.step }
@@ -60,13 +73,13 @@ module _ (w : Whole) (p : Pending) where
         let k = fields_step r (and_right (is_no_list (closed_field f)) (no_list (closed_fields fs)) g) (and_right (all_in_field unlisted (closed_field f)) (all_in_fields unlisted (closed_fields fs)) h) in
         record { names = k.names; after = k.after; step = later_field k.step }
 
-    field_step : {n : Need} {s' : Ledger} {f g : OpenField} → FieldStep CoreRule n (ledger w p) f s' g → is_no_list (closed_field f) ≡ true → all_in_field unlisted (closed_field f) ≡ true → Coalesced w p s' (λ ys. InField (RuleOf w ys) n (closed_field f) (closed_field g))
+    field_step : {n : Need} {s' : Ledger} {f g : OpenField} → FieldStep CoreRule n (ledger w p) f s' g → is_no_list (closed_field f) ≡ true → all_in_field unlisted (closed_field f) ≡ true → Takes w p s' (λ ys. InField (RuleOf w ys) n (closed_field f) (closed_field g))
     field_step (in_child r) g h = let k = place_step r h in record { names = k.names; after = k.after; step = in_one k.step }
     field_step (in_children r) g h = let k = trees_step r h in record { names = k.names; after = k.after; step = in_many k.step }
     field_step (within r) g h = absurd (cc g)
     field_step (acts_on_list ts us r) g h = absurd (cc g)
 
-    trees_step : {n : Need} {s' : Ledger} {ts us : OpenTrees} → TreesStep CoreRule n (ledger w p) ts s' us → all_in_trees unlisted (closed_trees ts) ≡ true → Coalesced w p s' (λ ys. OneNode (RuleOf w ys) n (closed_trees ts) (closed_trees us))
+    trees_step : {n : Need} {s' : Ledger} {ts us : OpenTrees} → TreesStep CoreRule n (ledger w p) ts s' us → all_in_trees unlisted (closed_trees ts) ≡ true → Takes w p s' (λ ys. OneNode (RuleOf w ys) n (closed_trees ts) (closed_trees us))
     trees_step (in_head {t = t} {ts = ts} r) h =
         let k = place_step r (and_left (all_nodes unlisted (closed t)) (all_in_trees unlisted (closed_trees ts)) h) in
         record { names = k.names; after = k.after; step = first_node k.step }
@@ -82,10 +95,18 @@ none_in_fields (in_later r) h = absurd (cc h)
 childless_first : (t : Tree) (ts : Trees) → childless (t before ts) ≡ true → childless (t before empty) ≡ true
 childless_first (node k l fs) ts h = and_from (is_done fs) true (and_left (is_done fs) (childless ts) h) refl
 
+row_parts : (w : Whole) (p : Pending) (n : Need) (s' : Ledger) (t u : Tree) → CoreRule n (ledger w p) (at_node t) s' (at_node u) → has_no_fields (fields_of t) ≡ false
+row_parts w p n s' t u r = (row_kind w (node_takes w p n s' t u r).step).parts
+
+alone_parts : (t : Tree) → childless (t before empty) ≡ true → has_no_fields (fields_of t) ≡ true
+alone_parts (node k l done) h = refl
+alone_parts (node k l (f then fs)) h = absurd (cc h)
+
+none_acts : {n : Need} (s s' : Ledger) (t u : Tree) → CoreRule n s (at_node t) s' (at_node u) → childless (t before empty) ≡ true → ⊥
+none_acts {n} (ledger w p) s' t u r h = absurd (cc (row_parts w p n s' t u r, alone_parts t h))
+
 none_alone : {n : Need} {s s' : Ledger} {o u : Open} → Step CoreRule n s o s' u → childless (closed o before empty) ≡ true → ⊥
-none_alone (acts t u (inl r)) h = elim r [ ]
-none_alone (acts _ _ (inr (coalesces xs (with_temporary texts again fresh)))) h = absurd (cc h)
-none_alone (acts _ _ (inr (coalesces xs (reading_again texts again)))) h = absurd (cc h)
+none_alone (acts {s = s} {s' = s'} t u r) h = none_acts s s' t u r (rw (closed-opened t) at h)
 none_alone (inside {fs = fs} r) h = none_in_fields r (and_left (is_done (closed_fields fs)) true h)
 
 later_childless : (t : Tree) (ts : Trees) → childless (t before ts) ≡ true → childless ts ≡ true
@@ -104,22 +125,10 @@ same_lists (first_field (in_many r)) h = h
 same_lists (first_field (in_statements r)) h = h
 same_lists (later_field {f = f} {fs = fs} {gs = gs} r) h = and_from (is_no_list f) (no_list gs) (and_left (is_no_list f) (no_list fs) h) (same_lists r (and_right (is_no_list f) (no_list fs) h))
 
-rule_unlisted : (steady in_use : Text → Bool) (ys : List Text) (n : Need) (a b : Tree) → NullishRule steady in_use ys n a b → all_nodes unlisted a ≡ true → all_nodes unlisted b ≡ true
-rule_unlisted steady in_use ys n _ _ (with_temporary {l = l} {r = r} texts again fresh) h =
-    simp (and_left (all_nodes unlisted l) (all_nodes unlisted r && true) h, and_left (all_nodes unlisted r) true (and_right (all_nodes unlisted l) (all_nodes unlisted r && true) h))
-rule_unlisted steady in_use ys n _ _ (reading_again {l = l} {r = r} texts again) h =
-    simp (and_left (all_nodes unlisted l) (all_nodes unlisted r && true) h, and_left (all_nodes unlisted r) true (and_right (all_nodes unlisted l) (all_nodes unlisted r && true) h))
-
 still_unlisted : (w : Whole) (ys : List Text) {n : Need} {ts us : Trees} → OneNode (RuleOf w ys) n ts us → all_in_trees unlisted ts ≡ true → all_in_trees unlisted us ≡ true
-still_unlisted w ys = trees_all unlisted (RuleOf w ys) (λ k l c fs gs r h. same_lists r h) (rule_unlisted w.steady w.in_use ys)
+still_unlisted w ys = trees_all unlisted (RuleOf w ys) (λ k l c fs gs r h. same_lists r h) (λ n a b r h. row_unlisted w r h)
 
 -- ONE STEP OF A PROGRAM
-
-abbrev pub whole_in : Ledger → Whole
-whole_in (ledger w p) = w
-
-abbrev pub pending_in : Ledger → Pending
-pending_in (ledger w p) = p
 
 -- what is pending for the program's own list
 abbrev fields_pending : OpenFields → Pending
@@ -137,10 +146,15 @@ written_fields p fs = fs
 abbrev pub written_in : Pending → Tree → Tree
 written_in p (node k l fs) = node k l (written_fields p fs)
 
--- A step of a program: one of `??` at a place of its tree, or its declarators are written.
+-- A step of a program: one of a row at a place of its tree, or its declarators are written.
 pub data ProgramStep (w : Whole) (o : Open) (s' : Ledger) (u : Open) : Type 0 where
-  coalesced : (ys : List Text) → OnePlace (RuleOf w ys) all_of_it (closed o) (closed u) → has_one_list (closed u) ≡ true → whole_in s' ≡ with_names ys w → own_pending u ≡ with_vars ys (own_pending o) → ProgramStep w o s' u
+  replaced : (ys : List Text) → OnePlace (RuleOf w ys) all_of_it (closed o) (closed u) → has_one_list (closed u) ≡ true → whole_in s' ≡ with_names ys w → own_pending u ≡ with_vars ys (own_pending o) → ProgramStep w o s' u
   wrote : closed u ≡ written_in (own_pending o) (closed o) → whole_in s' ≡ w → own_pending u ≡ nothing_pending → ProgramStep w o s' u
+
+-- no row acts on a program
+program_kind : (t : Tree) → has_one_list t ≡ true → is_row_kind (kind_of t) ≡ false
+program_kind (node Program l fs) h = refl
+program_kind (node _ l fs) h = absurd (cc h)
 
 module _ (w : Whole) (p : Pending) where
   last_step : {c : ℕ → Need} {s' : Ledger} {k : AstType} {l : Label} {d : OpenField} {fs gs : OpenFields} → ((ys : List Text) → OneField (RuleOf w ys) c (closed_fields fs) (closed_fields gs) → OnePlace (RuleOf w ys) all_of_it (node k l (closed_field d then closed_fields fs)) (node k l (closed_field d then closed_fields gs))) →
@@ -149,9 +163,11 @@ module _ (w : Whole) (p : Pending) where
       let body = and_left (all_in_trees unlisted (closed_trees ts)) (is_done (closed_fields fs)) h in
       let found = trees_step w o r body in
       let lists = and_from (all_in_trees unlisted (closed_trees us)) (is_done (closed_fields fs)) (still_unlisted w found.names found.step body) (and_right (all_in_trees unlisted (closed_trees ts)) (is_done (closed_fields fs)) h) in
-      coalesced found.names (out found.names (first_field (in_statements found.step))) (and_from (is_program_kind k) (is_childless (closed_field d) && (all_in_trees unlisted (closed_trees us) && is_done (closed_fields fs))) e (and_from (is_childless (closed_field d)) (all_in_trees unlisted (closed_trees us) && is_done (closed_fields fs)) g lists)) (ap whole_in found.after) (ap pending_in found.after)
+      replaced found.names (out found.names (first_field (in_statements found.step))) (and_from (is_program_kind k) (is_childless (closed_field d) && (all_in_trees unlisted (closed_trees us) && is_done (closed_fields fs))) e (and_from (is_childless (closed_field d)) (all_in_trees unlisted (closed_trees us) && is_done (closed_fields fs)) g lists)) (ap whole_in found.after) (ap pending_in found.after)
   last_step out e g (in_first (acts_on_list ts us (inl writes))) h = wrote (rw (closed-opened-trees ts, closed-opened-trees (written _ ts)) refl) refl refl
-  last_step out e g (in_first (acts_on_list ts us (inr r))) h = elim r [ ]
+  last_step out e g (in_first (acts_on_list ts us (inr (inl r)))) h = elim r [ ]
+  last_step out e g (in_first (acts_on_list ts us (inr (inr (inl r))))) h = elim r [ ]
+  last_step out e g (in_first (acts_on_list ts us (inr (inr (inr r))))) h = elim r [ ]
   last_step out e g (in_first (in_child r)) h = absurd (cc h)
   last_step out e g (in_first (in_children r)) h = absurd (cc h)
   last_step out e g (in_later {f = f} r) h = absurd (none_in_fields r (and_right (is_unlisted (closed_field f)) (is_done (closed_fields _)) h))
@@ -165,7 +181,5 @@ module _ (w : Whole) (p : Pending) where
   parts_step out e (in_later {f = f} {fs = fs} r) h = last_step (λ ys k. out ys (later_field k)) e (and_left (is_childless (closed_field f)) (last_unlisted (closed_fields fs)) h) r (and_right (is_childless (closed_field f)) (last_unlisted (closed_fields fs)) h)
 
   pub program_step : {s' : Ledger} {o u : Open} → Step CoreRule all_of_it (ledger w p) o s' u → has_one_list (closed o) ≡ true → ProgramStep w o s' u
-  program_step (acts t u (inl r)) h = elim r [ ]
-  program_step (acts _ _ (inr (coalesces xs (with_temporary texts again fresh)))) h = absurd (cc h)
-  program_step (acts _ _ (inr (coalesces xs (reading_again texts again)))) h = absurd (cc h)
+  program_step (acts {n = n} {s' = s'} t u r) h = absurd (cc ((row_kind w (node_takes w p n s' t u r).step).acted, program_kind t (rw (closed-opened t) at h)))
   program_step (inside {k = k} {fs = fs} r) h = parts_step (λ ys q. below q) (and_left (is_program_kind k) (one_list (closed_fields fs)) h) r (and_right (is_program_kind k) (one_list (closed_fields fs)) h)

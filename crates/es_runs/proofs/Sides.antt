@@ -1,26 +1,28 @@
 -- A tree of which each `??` has two sides keeps that by steps of the core rules.
 use Rattle.std.proofs.Common.{◌≡◌, ℕ, refl, sym, ◌∙◌, inl, inr, List, [], ◌∷◌, ◌++◌, map}
 use Rattle.std.proofs.lemmas.Bool.{and_from}
-use Rattle.std.specs.Prelude.{Bool, true, false, ◌&&◌, if◌then◌else◌, codes}
+use Rattle.std.specs.Prelude.{Bool, true, false, ◌&&◌, if◌then◌else◌, bytes_eq, codes}
 use Rattle.es_tree.specs.Words.{Text}
+use Rattle.es_tree.specs.Names.{first_text}
 use Rattle.es_tree.specs.Bare.{bare, bare_label, bare_fields}
 use Rattle.es_tree.specs.Constructs.{is_nullish_coalescing, has_nullish_coalescing}
 use Rattle.es_tree.specs.Walks.{all_nodes, all_in_fields, all_in_field, all_in_trees, any_node, any_in_fields, any_in_field, any_in_trees}
 use Rattle.es_tree.specs.Tree.{Tree, node, Label, Fields, done, ◌then◌, Field, missing, one, many, statements, Trees, empty, ◌before◌, trees}
 use Rattle.es_tree.specs.declared.ast_type.AstType.{AstType}
-use Rattle.es_tree.specs.declared.ast_type.AstType.TheVariants.{LogicalExpression}
+use Rattle.es_tree.specs.declared.ast_type.AstType.TheVariants.{LogicalExpression, MemberExpression, ParenthesizedExpression}
 use Rattle.es_runs.specs.Alike.{Need}
-use Rattle.es_runs.specs.Steps.{NullishRule}
-use Rattle.es_runs.specs.Steps.NullishRule.{with_temporary, reading_again}
-use Rattle.es_runs.specs.Open.{Open, OpenFields, closed, closed_fields, declarator_node, declared}
+use Rattle.es_runs.specs.Open.{Pending, Open, OpenFields, closed, closed_fields, declarator_node, declared, with_vars}
 use Rattle.es_runs.specs.Open.OpenFields.{ends, ◌and◌}
 use Rattle.es_runs.specs.Open.OpenField.{gap, child, children, list}
-use Rattle.es_runs.specs.OpenSteps.{Ledger, Spot, Step, FieldsStep, Reached}
+use Rattle.es_runs.specs.OpenSteps.{Whole, Ledger, Spot, Step, FieldsStep, Reached}
 use Rattle.es_runs.specs.OpenSteps.FieldsStep.{in_first, in_later}
 use Rattle.es_runs.specs.OpenSteps.FieldStep.{in_child, in_children, within, acts_on_list}
-use Rattle.es_runs.specs.OpenRules.{CoreRule}
-use Rattle.es_runs.specs.OpenRules.Coalescing.{coalesces}
+use Rattle.es_runs.specs.OpenSteps.Ledger.{ledger}
+use Rattle.es_runs.specs.OpenRules.{with_names, CoreRule}
+use Rattle.es_runs.specs.OpenRules.Replacing.{replaces}
 use Rattle.es_runs.specs.OpenRules.Writing.{writes}
+use Rattle.es_runs.proofs.CoreRows.{core_row}
+use Rattle.es_runs.proofs.RowFacts.{Each, PassesOn, row_good}
 use Rattle.es_runs.proofs.Named.{and_left, and_right, or_both, or_first, or_second}
 use Rattle.es_runs.proofs.OpenTests.{all-bare, all-opened, all-closed, pending_all, open_all, Passes, spot_all, step_passes, steps_pass}
 
@@ -89,7 +91,7 @@ module _ {R : Need → Ledger → Spot → Ledger → Spot → Type 0} where
       at a false e g = refl
       at false true e g = absurd (cc e)
 
--- THE RULES
+-- WHAT IS PENDING
 
 append_all : (test : AstType → Label → Fields → Bool) (ds es : List Tree) → all_in_trees test (trees ds) ≡ true → all_in_trees test (trees es) ≡ true → all_in_trees test (trees (ds ++ es)) ≡ true
 append_all test [] es h g = g
@@ -103,11 +105,66 @@ declared_sided : (kind : Text) (ds : List Tree) (ts : Trees) → all_in_trees si
 declared_sided kind [] ts h g = g
 declared_sided kind (d ∷ ds) ts h g = and_from (all_in_trees sided (trees (d ∷ ds)) && true) (all_in_trees sided ts) (and_from (all_in_trees sided (trees (d ∷ ds))) true h refl) g
 
--- both sides of a logical expression
-sides_sided : (m : Label) (l r : Tree) → all_nodes sided (node LogicalExpression m (one l then (one r then done))) ≡ true → (all_nodes sided l ≡ true) × (all_nodes sided r ≡ true)
-sides_sided m l r h =
-    let both : (all_nodes sided l && (all_nodes sided r && true)) ≡ true = and_right (sided LogicalExpression m (one l then (one r then done))) (all_nodes sided l && (all_nodes sided r && true)) h in
-    (and_left (all_nodes sided l) (all_nodes sided r && true) both, and_left (all_nodes sided r) true (and_right (all_nodes sided l) (all_nodes sided r && true) both))
+-- THE ROWS
+
+if_either : (b : Bool) → (if b then true else true) ≡ true
+if_either true = refl
+if_either false = refl
+
+-- a node passes where its parts do, be it `??` or not
+logical_sided : (m : Label) (l r : Tree) → all_nodes sided l ≡ true → all_nodes sided r ≡ true → all_nodes sided (node LogicalExpression m (one l then (one r then done))) ≡ true
+logical_sided m l r h g = rw (if_either (bytes_eq (first_text m.texts) (codes "??")), h, g) refl
+
+below_sided : (k : AstType) (l : Label) (fs : Fields) → all_nodes sided (node k l fs) ≡ true → all_in_fields sided fs ≡ true
+below_sided k l fs h = and_right (sided k l fs) (all_in_fields sided fs) h
+
+first_sided : (k : AstType) (l : Label) (t : Tree) (fs : Fields) → all_nodes sided (node k l (one t then fs)) ≡ true → all_nodes sided t ≡ true
+first_sided k l t fs h = and_left (all_nodes sided t) (all_in_fields sided fs) (below_sided k l (one t then fs) h)
+
+second_sided : (k : AstType) (l : Label) (t u : Tree) (fs : Fields) → all_nodes sided (node k l (one t then (one u then fs))) ≡ true → all_nodes sided u ≡ true
+second_sided k l t u fs h = and_left (all_nodes sided u) (all_in_fields sided fs) (and_right (all_nodes sided t) (all_nodes sided u && all_in_fields sided fs) (below_sided k l (one t then (one u then fs)) h))
+
+abbrev Sided : Tree → Type 0
+Sided t = all_nodes sided t ≡ true
+
+trees_sided : (fs : List Tree) → Each Sided fs → all_in_trees sided (trees fs) ≡ true
+trees_sided [] h = refl
+trees_sided (f ∷ fs) h = and_from (all_nodes sided f) (all_in_trees sided (trees fs)) h.0 (trees_sided fs h.1)
+
+sided_passes_on : PassesOn Sided (λ x. Unit {0})
+sided_passes_on = record {
+  inside = λ l t fs h. first_sided ParenthesizedExpression l t fs h;
+  left = λ k m l r e h. first_sided k m l (one r then done) h;
+  right = λ k m l r e h. second_sided k m l r done h;
+  object = λ l o k h. first_sided MemberExpression l o (one k then done) h;
+  key = λ l o k e h. second_sided MemberExpression l o k done h;
+  logical = logical_sided;
+  tests = λ m begin again r b a h. rw (b, a, h) refl;
+  name = λ x fine. refl;
+  takes = λ x e fine h. rw h refl;
+  to_name = λ m n l t r q h e g. rw g refl;
+  to_member = λ n l o k q h g. and_from (all_nodes sided (node MemberExpression l (one o then (one k then done)))) (all_nodes sided q && true) h (rw g refl);
+  static_member = λ k o h. rw h refl;
+  private_member = λ l k o q h g. rw g refl;
+  computed_member = λ o k h g. rw (h, g) refl;
+  string = λ x. refl;
+  power = λ m l r h g. rw (h, g) refl;
+  sequence = λ m fs h. rw (trees_sided fs h) refl;
+}
+
+none_asked : (xs : List Text) → Each (λ x. Unit {0}) xs
+none_asked [] = tt
+none_asked (x ∷ xs) = (tt, none_asked xs)
+
+-- what is pending passes with more names
+more_sided : (xs : List Text) (p : Pending) → pending_all sided p ≡ true → pending_all sided (with_vars xs p) ≡ true
+more_sided xs p h =
+    and_from (all_in_trees sided (trees (p.vars ++ map declarator_node xs))) (all_in_trees sided (trees p.lets))
+    (append_all sided p.vars (map declarator_node xs) (and_left (all_in_trees sided (trees p.vars)) (all_in_trees sided (trees p.lets)) h) (made_sided xs))
+    (and_right (all_in_trees sided (trees p.vars)) (all_in_trees sided (trees p.lets)) h)
+
+row_sided : (w : Whole) (p : Pending) (xs : List Text) (n : Need) (t u : Tree) → core_row w xs n t u → Passes sided (ledger w p) (all_nodes sided t) → Passes sided (ledger (with_names xs w) (with_vars xs p)) (all_nodes sided u)
+row_sided w p xs n t u r h = record { around = more_sided xs p h.around; here = row_good Sided (λ x. Unit {0}) sided_passes_on w r (none_asked xs) h.here }
 
 rule_sided : (n : Need) (s : Ledger) (x : Spot) (s' : Ledger) (y : Spot) → CoreRule n s x s' y → Passes sided s (spot_all sided x) → Passes sided s' (spot_all sided y)
 rule_sided n s _ _ _ (inl (writes {p = p} {ts = ts})) h =
@@ -117,14 +174,9 @@ rule_sided n s _ _ _ (inl (writes {p = p} {ts = ts})) h =
       here = declared_sided (codes "var") p.vars (declared (codes "let") p.lets ts) (and_left (all_in_trees sided (trees p.vars)) (all_in_trees sided (trees p.lets)) pending)
           (declared_sided (codes "let") p.lets ts (and_right (all_in_trees sided (trees p.vars)) (all_in_trees sided (trees p.lets)) pending) (and_right (pending_all sided p) (all_in_trees sided ts) h.here));
     }
-rule_sided n _ _ _ _ (inr (coalesces {w = w} {p = p} xs r)) h = record { around = around; here = made r h.here }
-  where
-    around : pending_all sided (record p { vars = p.vars ++ map declarator_node xs }) ≡ true
-    around = and_from (all_in_trees sided (trees (p.vars ++ map declarator_node xs))) (all_in_trees sided (trees p.lets)) (append_all sided p.vars (map declarator_node xs) (and_left (all_in_trees sided (trees p.vars)) (all_in_trees sided (trees p.lets)) h.around) (made_sided xs)) (and_right (all_in_trees sided (trees p.vars)) (all_in_trees sided (trees p.lets)) h.around)
-
-    made : {steady in_use : Text → Bool} {ys : List Text} {m : Need} {t u : Tree} → NullishRule steady in_use ys m t u → all_nodes sided t ≡ true → all_nodes sided u ≡ true
-    made (with_temporary {m = m} {l = l} {r = r} texts again fresh) g = let k = sides_sided m l r g in simp (k.0, k.1)
-    made (reading_again {m = m} {l = l} {r = r} texts again) g = let k = sides_sided m l r g in simp (k.0, k.1)
+rule_sided n _ _ _ _ (inr (inl (replaces {w = w} {p = p} {t = t} {u = u} xs r))) h = row_sided w p xs n t u (inl r) h
+rule_sided n _ _ _ _ (inr (inr (inl (replaces {w = w} {p = p} {t = t} {u = u} xs r)))) h = row_sided w p xs n t u (inr (inl r)) h
+rule_sided n _ _ _ _ (inr (inr (inr (replaces {w = w} {p = p} {t = t} {u = u} xs r)))) h = row_sided w p xs n t u (inr (inr r)) h
 
 -- STEPS
 

@@ -1,25 +1,24 @@
 -- Weights and sizes: of a bare tree, of what the row of `??` makes, and of what is pending, before and after it is written.
 use Rattle.std.proofs.Common.{◌≡◌, ℕ, ◌+◌, ◌*◌, ◌≤◌, suc, refl, ap, List, [], ◌∷◌, ◌++◌, append-nil, arith}
-use Rattle.std.specs.Prelude.{Bool, true, false, if◌then◌else◌, Some, codes}
+use Rattle.std.specs.Prelude.{Bool, true, false, if◌then◌else◌, Some, bytes_eq, codes}
 use Rattle.es_tree.specs.Words.{Text}
 use Rattle.es_tree.specs.Bare.{bare, bare_label, bare_fields, bare_field, bare_trees}
 use Rattle.es_tree.specs.Names.{first_text}
-use Rattle.es_tree.specs.Constructs.{is_nullish_coalescing}
 use Rattle.es_tree.specs.Tree.{Tree, node, Label, Fields, done, ◌then◌, Field, missing, one, many, statements, Trees, empty, ◌before◌, trees, tree_size, fields_size, field_size, trees_size}
 use Rattle.es_tree.specs.declared.ast_type.AstType.{AstType}
-use Rattle.es_tree.specs.declared.ast_type.AstType.TheVariants.{LogicalExpression}
+use Rattle.es_tree.specs.declared.ast_type.AstType.TheVariants.{AssignmentExpression, BinaryExpression, LogicalExpression}
 use Rattle.es_runs.specs.Rules.{tested, tested_by}
 use Rattle.es_runs.specs.Open.{Pending, declarator_node, written, declared, with_vars}
+use Rattle.es_runs.specs.LogicalAssignment.{is_assigning}
 use Rattle.es_runs.specs.Weights.{own_weight, weight, fields_weight, field_weight, trees_weight, declarators_weight, declarators_size, pending_weight, pending_size}
 
 -- BARE TREES
 
-nullish-bare : (k : AstType) (l : Label) (fs gs : Fields) → is_nullish_coalescing k (bare_label l) gs ≡ is_nullish_coalescing k l fs
-nullish-bare LogicalExpression l fs gs = refl
-nullish-bare _ l fs gs = refl
-
 own_weight-bare : (k : AstType) (l : Label) (fs gs : Fields) → own_weight k (bare_label l) gs ≡ own_weight k l fs
-own_weight-bare k l fs gs = ap (λ b. if b then 28 else 0) (nullish-bare k l fs gs)
+own_weight-bare LogicalExpression l fs gs = refl
+own_weight-bare BinaryExpression l fs gs = refl
+own_weight-bare AssignmentExpression l fs gs = refl
+own_weight-bare _ l fs gs = refl
 
 mutual
   pub weight-bare : (t : Tree) → weight (bare t) ≡ weight t
@@ -59,12 +58,16 @@ mutual
 
 -- WEIGHT AND SIZE
 
-own_bound : (k : AstType) (l : Label) (fs : Fields) → own_weight k l fs ≤ 28
-own_bound k l fs = at (is_nullish_coalescing k l fs)
-  where
-    at : (b : Bool) → (if b then 28 else 0) ≤ 28
-    at true = omega arith
-    at false = omega arith
+if_bound : (b : Bool) (m n k : ℕ) → m ≤ k → n ≤ k → (if b then m else n) ≤ k
+if_bound true m n k h g = h
+if_bound false m n k h g = g
+
+own_bound : (k : AstType) (l : Label) (fs : Fields) → own_weight k l fs ≤ 60
+own_bound LogicalExpression l fs = if_bound (bytes_eq (first_text l.texts) (codes "??")) 28 0 60 (omega arith) (omega arith)
+own_bound BinaryExpression l fs = if_bound (bytes_eq (first_text l.texts) (codes "**")) 8 0 60 (omega arith) (omega arith)
+own_bound AssignmentExpression l fs =
+    if_bound (bytes_eq (first_text l.texts) (codes "**=")) 44 (if is_assigning (first_text l.texts) then 60 else 0) 60 (omega arith) (if_bound (is_assigning (first_text l.texts)) 60 0 60 (omega arith) (omega arith))
+own_bound _ l fs = omega arith
 
 -- a tree weighs no less than it has nodes
 mutual
@@ -85,22 +88,22 @@ mutual
   trees_size-weight empty = omega arith
   trees_size-weight (t before ts) = let h = size-weight t in let g = trees_size-weight ts in omega arith
 
--- and at most 29 times as much
+-- and at most 61 times as much
 mutual
-  pub weight-size : (t : Tree) → weight t ≤ 29 * tree_size t
+  pub weight-size : (t : Tree) → weight t ≤ 61 * tree_size t
   weight-size (node k l fs) = let h = fields_weight-size fs in let g = own_bound k l fs in omega arith
 
-  pub fields_weight-size : (fs : Fields) → fields_weight fs ≤ 29 * fields_size fs
+  pub fields_weight-size : (fs : Fields) → fields_weight fs ≤ 61 * fields_size fs
   fields_weight-size done = omega arith
   fields_weight-size (f then fs) = let h = field_weight-size f in let g = fields_weight-size fs in omega arith
 
-  pub field_weight-size : (f : Field) → field_weight f ≤ 29 * field_size f
+  pub field_weight-size : (f : Field) → field_weight f ≤ 61 * field_size f
   field_weight-size missing = omega arith
   field_weight-size (one t) = weight-size t
   field_weight-size (many ts) = trees_weight-size ts
   field_weight-size (statements ts) = trees_weight-size ts
 
-  pub trees_weight-size : (ts : Trees) → trees_weight ts ≤ 29 * trees_size ts
+  pub trees_weight-size : (ts : Trees) → trees_weight ts ≤ 61 * trees_size ts
   trees_weight-size empty = omega arith
   trees_weight-size (t before ts) = let h = weight-size t in let g = trees_weight-size ts in omega arith
 

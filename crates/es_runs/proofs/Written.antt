@@ -1,10 +1,10 @@
 -- Declarators in front of a body that declares nothing: they are cells that are undefined, and do nothing when they run.
-use Rattle.std.proofs.Common.{◌≡◌, refl, sym, ◌∙◌, ap, List, [], ◌∷◌, ◌++◌}
-use Rattle.std.specs.Prelude.{Bool, true, false, ◌||◌, bytes_eq, codes, if◌then◌else◌}
+use Rattle.std.proofs.Common.{◌≡◌, refl, sym, ◌∙◌, ap, List, [], ◌∷◌, ◌++◌, map}
+use Rattle.std.specs.Prelude.{Bool, true, false, ◌||◌, Some, bytes_eq, codes, if◌then◌else◌}
 use Rattle.std.specs.List.{list_any}
 use Rattle.es_tree.specs.Words.{Text}
-use Rattle.es_tree.specs.Tree.{Tree, node, Label, done, ◌then◌, many, statements, Trees}
-use Rattle.es_tree.specs.declared.ast_type.AstType.TheVariants.{Program}
+use Rattle.es_tree.specs.Tree.{Tree, node, Label, done, ◌then◌, many, statements, Trees, trees}
+use Rattle.es_tree.specs.declared.ast_type.AstType.TheVariants.{Program, VariableDeclaration}
 use Rattle.es_runs.specs.Machine.{Value, Move, State, Cell, Result}
 use Rattle.es_runs.specs.Machine.Value.{undefined}
 use Rattle.es_runs.specs.Machine.State.{state}
@@ -13,14 +13,21 @@ use Rattle.es_runs.specs.Machine.Result.{gives}
 use Rattle.es_runs.specs.Core.{World, Binding, value, meaning, meanings, declared}
 use Rattle.es_runs.specs.Core.Binding.{changeable}
 use Rattle.es_tree.specs.Scopes.{Declared, declared_names}
-use Rattle.es_runs.specs.Runs.{scope_of, cells_of, run_with}
+use Rattle.es_runs.specs.Runs.{made, scope_of, cells_of, run_with}
 use Rattle.es_runs.specs.Rules.{pending}
-use Rattle.es_runs.specs.Steps.{declarator_nodes, var_of, declare_in}
+use Rattle.es_runs.specs.Open.{Pending, declarator_node, written}
 
 -- the declarators of these names are pending, the first of them the longest
 abbrev pub all_pending : List Text → List Declared → List Declared
 all_pending [] ds = ds
 all_pending (x ∷ xs) ds = all_pending xs (pending x ds)
+
+abbrev pub declarator_nodes : List Text → Trees
+declarator_nodes xs = trees (map declarator_node xs)
+
+-- `var` declarators of these names are pending
+abbrev pub plain : List Text → Pending
+plain xs = record { vars = map declarator_node xs; lets = [] }
 
 abbrev pub vars : List Text → List Declared
 vars xs = declared_names (codes "var") (declarator_nodes xs)
@@ -46,7 +53,7 @@ pub scope_of-vars : (xs : List Text) (ds : List Declared) (y : Text) → scope_o
 scope_of-vars [] ds y = refl
 scope_of-vars (x ∷ xs) ds y = ap (λ (b : Binding). if bytes_eq y x then changeable else b) (scope_of-vars xs ds y) ∙ or_later (bytes_eq y x) (one_of xs y) changeable (scope_of ds y)
 
-cells_of-all_pending : (xs : List Text) (ds : List Declared) (y : Text) → cells_of (all_pending xs ds) y ≡ (if one_of xs y then holds undefined else cells_of ds y)
+pub cells_of-all_pending : (xs : List Text) (ds : List Declared) (y : Text) → cells_of (all_pending xs ds) y ≡ (if one_of xs y then holds undefined else cells_of ds y)
 cells_of-all_pending [] ds y = refl
 cells_of-all_pending (x ∷ xs) ds y = cells_of-all_pending xs (pending x ds) y ∙ first_or (bytes_eq y x) (one_of xs y) (holds undefined) (cells_of ds y)
 
@@ -70,10 +77,10 @@ declares_nothing : (w : World) (xs : List Text) (s : State) → declared false (
 declares_nothing w [] s = refl
 declares_nothing w (x ∷ xs) s = declares_nothing w xs s
 
-var_of-runs : (w : World) (xs : List Text) (s : State) → value w (meaning w (var_of xs)) s ≡ gives undefined s
-var_of-runs w xs s = rw (declares_nothing w xs s)
+var_runs : (w : World) (xs : List Text) (s : State) → value w (meaning w (node VariableDeclaration (made (Some (codes "var") ∷ []) []) (many (declarator_nodes xs) then done))) s ≡ gives undefined s
+var_runs w xs s = rw (declares_nothing w xs s)
 
 -- the program with the declarators in front runs as the program
-pub declare_in-runs : (w : World) (xs : List Text) (l : Label) (ds body : Trees) (s : State) → value w (meaning w (declare_in xs (node Program l (many ds then (statements body then done))))) s ≡ value w (meaning w (node Program l (many ds then (statements body then done)))) s
-declare_in-runs w [] l ds body s = refl
-declare_in-runs w (x ∷ xs) l ds body s = rw (var_of-runs w (x ∷ xs) s)
+pub written_runs : (w : World) (xs : List Text) (l : Label) (ds body : Trees) (s : State) → value w (meaning w (node Program l (many ds then (statements (written (plain xs) body) then done)))) s ≡ value w (meaning w (node Program l (many ds then (statements body then done)))) s
+written_runs w [] l ds body s = refl
+written_runs w (x ∷ xs) l ds body s = rw (var_runs w (x ∷ xs) s)

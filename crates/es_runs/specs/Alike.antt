@@ -17,7 +17,7 @@ use Rattle.es_runs.specs.Machine.State.{state}
 use Rattle.es_runs.specs.Machine.Stop.{uncallable}
 use Rattle.es_runs.specs.Machine.Result.{gives, stops}
 use Rattle.es_tree.specs.Names.{first_text as first}
-use Rattle.es_runs.specs.Core.{World, Reference, Meaning, value, flag, is_equality, UnaryClass, unary_class, Called, callee_from}
+use Rattle.es_runs.specs.Core.{World, Reference, Meaning, value, flag, is_equality, typeof_value, UnaryClass, unary_class, Called, callee_from}
 use Rattle.es_runs.specs.Core.UnaryClass.{typeof_class, delete_class, void_class}
 use Rattle.es_runs.specs.Core.Reference.{named, property, plain}
 
@@ -72,7 +72,7 @@ pub record SameWorld (hidden : Text → Bool) (w v : World) : Type 0 where
 
 -- What a place takes of the node that stands there: no evaluation, its value, or its reference; and its form or not.
 pub data Level : Type 0 where
-  no_evaluation value_alone whole_reference a_callee a_target : Level
+  no_evaluation value_alone an_operand_of_typeof whole_reference a_callee a_target : Level
 
 pub record Need : Type 0 where
   pub level : Level
@@ -90,6 +90,7 @@ pub data LikeCallee (F : Frame) (w v : World) (a b : Meaning) : Type 0 where
 abbrev pub LikeAt : (F : Frame) → World → World → Level → Meaning → Meaning → Type 0
 LikeAt F w v Level.no_evaluation a b = Unit {0}
 LikeAt F w v Level.value_alone a b = Alike F Equal (value w a) (value v b)
+LikeAt F w v Level.an_operand_of_typeof a b = Alike F Equal (a.reference >>= typeof_value w) (b.reference >>= typeof_value v)
 LikeAt F w v Level.whole_reference a b = Alike F (SameReference F) a.reference b.reference
 LikeAt F w v Level.a_callee a b = LikeCallee F w v a b
 LikeAt F w v Level.a_target a b = Alike F (SameTarget F) a.reference b.reference
@@ -110,6 +111,9 @@ the_operand = record { level = Level.value_alone; form = true }
 abbrev pub the_reference : Need
 the_reference = record { level = Level.whole_reference; form = false }
 
+abbrev pub the_operand_of_typeof : Need
+the_operand_of_typeof = record { level = Level.an_operand_of_typeof; form = false }
+
 abbrev pub the_target : Need
 the_target = record { level = Level.a_target; form = true }
 
@@ -129,7 +133,7 @@ member_needs form true (suc i) = the_value
 member_needs form false (suc i) = the_label
 
 abbrev pub unary_need : Bool → UnaryClass → Need
-unary_need form typeof_class = the_reference
+unary_need form typeof_class = the_operand_of_typeof
 unary_need form delete_class = the_reference
 unary_need form void_class = value_and_form form
 unary_need form _ = the_value
@@ -142,6 +146,11 @@ abbrev pub callee_then_values : Need → ℕ → Need
 callee_then_values n zero = n
 callee_then_values n (suc i) = the_value
 
+-- what a chain takes of its content: `typeof` of a chain takes the reference of what stands in it
+abbrev pub content_level : Level → Level
+content_level Level.an_operand_of_typeof = Level.whole_reference
+content_level n = n
+
 -- what a node takes of its field with this number, where its own place takes need of it
 abbrev pub needs : Need → AstType → List (Option Text) → List Bool → ℕ → Need
 needs need UnaryExpression ts fs i = unary_need need.form (unary_class (first ts))
@@ -150,7 +159,7 @@ needs need BinaryExpression ts fs i = binary_needs (first ts) i
 needs need AssignmentExpression ts fs i = callee_then_values the_target i
 needs need MemberExpression ts fs i = member_needs need.form (flag fs) i
 needs need CallExpression ts fs i = callee_then_values (the_callee (flag fs)) i
-needs need ChainExpression ts fs i = record { level = need.level; form = false }
+needs need ChainExpression ts fs i = record { level = content_level need.level; form = false }
 needs need ParenthesizedExpression ts fs i = record { level = need.level; form = false }
 needs need VariableDeclarator ts fs i = callee_then_values the_target i
 needs need VariableDeclaration ts fs i = record { level = Level.a_target; form = false }
@@ -183,6 +192,7 @@ abbrev mutual
 abbrev pub bad_names : (Text → Bool) → (Text → Bool) → Level → Text → Bool
 bad_names hidden frozen Level.no_evaluation x = false
 bad_names hidden frozen Level.value_alone x = hidden x
+bad_names hidden frozen Level.an_operand_of_typeof x = hidden x
 bad_names hidden frozen Level.whole_reference x = hidden x
 bad_names hidden frozen Level.a_callee x = hidden x
 bad_names hidden frozen Level.a_target x = hidden x || frozen x

@@ -4,8 +4,13 @@ pub mod Alike
 pub mod Runs
 pub mod Rules
 pub mod Steps
+pub mod Doubling
+pub mod LogicalAssignment
+pub mod Exponentiation
+pub mod OptionalChaining
 pub mod Open
 pub mod OpenSteps
 pub mod OpenRules
 pub mod Weights
 pub mod OpenLaws
+pub mod StaticLaws

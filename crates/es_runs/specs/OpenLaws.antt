@@ -32,8 +32,8 @@ abbrev pub run_open : Open → Value → List Move → Result Value
 run_open o = run_with (pending_of o ++ declared_of (closed o)) (closed o)
 
 -- Whatever steps are taken from a core program, at whatever places and in whatever order: source and open program run alike.
-abbrev pub LawOpenRules : Type 0
-LawOpenRules = (p : Tree) (s : Ledger) (o : Open) → IsCoreProgram p → Steps (Step CoreRule all_of_it) (ledger (whole_of p) nothing_pending) (opened (bare p)) s o → (this : Value) (moves : List Move) → (outcome (run p this moves) ≡ called_uncallable → ⊥) → SameRun (is_declared (declared_of p)) (run p this moves) (run_open o this moves)
+abbrev pub LawCoreRules : Type 0
+LawCoreRules = (p : Tree) (s : Ledger) (o : Open) → IsCoreProgram p → Steps (Step CoreRule all_of_it) (ledger (whole_of p) nothing_pending) (opened (bare p)) s o → (this : Value) (moves : List Move) → (outcome (run p this moves) ≡ called_uncallable → ⊥) → SameRun (is_declared (declared_of p)) (run p this moves) (run_open o this moves)
 
 -- A core program and what is reached from it run alike.
 abbrev pub LawReached : Type 0

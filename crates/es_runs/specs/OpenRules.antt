@@ -1,19 +1,53 @@
--- The rules: nullish coalescing, and writing what is pending.
-use Rattle.std.specs.Prelude.{◌⊎◌, List, ◌++◌}
+-- The rules: those of the rows, each at a node, and writing what is pending.
+use Rattle.std.specs.Prelude.{◌≡◌, ◌⊎◌, ◌||◌, Bool, true, false, List, ◌++◌, codes}
+use Rattle.es_tree.specs.Fresh.{is_among}
+use Rattle.es_tree.specs.declared.options.EnvOptions.{EnvOptions}
 use Rattle.es_tree.specs.Words.{Text}
 use Rattle.es_tree.specs.Tree.{Tree, Trees}
 use Rattle.es_runs.specs.Alike.{Need}
 use Rattle.es_runs.specs.Open.{Pending, nothing_pending, written, with_vars}
 use Rattle.es_runs.specs.OpenSteps.{Whole, Ledger, ledger, Spot, at_node, at_list}
 use Rattle.es_runs.specs.Steps.{NullishRule, also_all}
+use Rattle.es_runs.specs.Exponentiation.{ExponentiationRule}
+use Rattle.es_runs.specs.LogicalAssignment.{LogicalAssignmentRule}
 
 -- these fresh names more
 abbrev pub with_names : List Text → Whole → Whole
 with_names xs w = record w { in_use = also_all xs w.in_use; made = w.made ++ xs }
 
--- `??` at a node becomes a conditional; its temporary, if it takes one, is declared in the innermost list around
-pub data Coalescing : Need → Ledger → Spot → Ledger → Spot → Type 0 where
-  coalesces : {n : Need} {w : Whole} {p : Pending} {t u : Tree} (xs : List Text) → NullishRule w.steady w.in_use xs n t u → Coalescing n (ledger w p) (at_node t) (ledger (with_names xs w) (with_vars xs p)) (at_node u)
+-- A rule of nodes: what is known of the whole, the names that it takes, what the place takes of the node, and the node before
+-- and after.
+abbrev pub NodeRule : Type 1
+NodeRule = Whole → List Text → Need → Tree → Tree → Type 0
+
+-- A node is replaced; the temporaries that it takes are declared in the innermost list around.
+pub data Replacing (R : Whole → List Text → Need → Tree → Tree → Type 0) : Need → Ledger → Spot → Ledger → Spot → Type 0 where
+  replaces : {n : Need} {w : Whole} {p : Pending} {t u : Tree} (xs : List Text) → R w xs n t u → Replacing R n (ledger w p) (at_node t) (ledger (with_names xs w) (with_vars xs p)) (at_node u)
+
+-- `??`
+abbrev pub coalescing_row : Whole → List Text → Need → Tree → Tree → Type 0
+coalescing_row w = NullishRule w.steady w.in_use
+
+abbrev pub Coalescing : Need → Ledger → Spot → Ledger → Spot → Type 0
+Coalescing = Replacing coalescing_row
+
+-- `||=`, `&&=` and `??=`
+abbrev pub assigning_row : Whole → List Text → Need → Tree → Tree → Type 0
+assigning_row w = LogicalAssignmentRule w.steady w.in_use
+
+abbrev pub Assigning : Need → Ledger → Spot → Ledger → Spot → Type 0
+Assigning = Replacing assigning_row
+
+-- names that may stand again: those that the source binds, and fresh ones
+abbrev pub is_bound_in : Whole → Text → Bool
+is_bound_in w x = w.bound x || is_among w.made x
+
+-- `**` and `**=`, where the name `Math` isn't bound
+pub data raising_row (w : Whole) (xs : List Text) (n : Need) (t u : Tree) : Type 0 where
+  raises : is_bound_in w (codes "Math") ≡ false → ExponentiationRule (is_bound_in w) w.in_use xs n t u → raising_row w xs n t u
+
+abbrev pub Raising : Need → Ledger → Spot → Ledger → Spot → Type 0
+Raising = Replacing raising_row
 
 -- what is pending for a list is written at its top
 pub data Writing : Need → Ledger → Spot → Ledger → Spot → Type 0 where
@@ -23,6 +57,15 @@ pub data Writing : Need → Ledger → Spot → Ledger → Spot → Type 0 where
 abbrev pub either_rule : (Need → Ledger → Spot → Ledger → Spot → Type 0) → (Need → Ledger → Spot → Ledger → Spot → Type 0) → Need → Ledger → Spot → Ledger → Spot → Type 0
 either_rule Q R n s x s' y = Q n s x s' y ⊎ R n s x s' y
 
+-- a rule where it is on
+abbrev pub where_on : Bool → (Need → Ledger → Spot → Ledger → Spot → Type 0) → (Need → Ledger → Spot → Ledger → Spot → Type 0)
+where_on true R = R
+where_on false R = λ n s x s' y. ⊥
+
 -- the rules of core programs
 abbrev pub CoreRule : Need → Ledger → Spot → Ledger → Spot → Type 0
-CoreRule = either_rule Writing Coalescing
+CoreRule = either_rule Writing (either_rule Assigning (either_rule Coalescing Raising))
+
+-- those that options ask for
+abbrev pub rule_under : EnvOptions → Need → Ledger → Spot → Ledger → Spot → Type 0
+rule_under o = either_rule Writing (either_rule (where_on o.es2021.logical_assignment_operators Assigning) (either_rule (where_on o.es2020.nullish_coalescing_operator Coalescing) (where_on o.es2016.exponentiation_operator Raising)))

@@ -4,16 +4,17 @@ use Rattle.es_tree.specs.Words.{Text}
 use Rattle.es_tree.specs.Bare.{bare}
 use Rattle.es_tree.specs.Names.{names_of}
 use Rattle.es_tree.specs.Fresh.{is_among}
-use Rattle.es_tree.specs.Scopes.{is_steady}
+use Rattle.es_tree.specs.Scopes.{declared_of, declares, is_steady}
 use Rattle.es_tree.specs.declared.ast_type.AstType.{AstType}
 use Rattle.es_tree.specs.Tree.{Tree, Trees, Label}
 use Rattle.es_runs.specs.Alike.{Need, needs, all_of_it}
 use Rattle.es_runs.specs.Open.{Pending, nothing_pending, Additions, no_additions, Open, open_node, OpenFields, ◌and◌, OpenField, child, children, list, OpenTrees, ◌next◌, opened, opened_trees}
 
--- What is known of the program as a whole: the names in use, those that are bound and that nothing writes, the fresh
--- names in the order made, and what is to be written at its top.
+-- What is known of the program as a whole: the names in use, those that the source binds, those of them that nothing
+-- writes, the fresh names in the order made, and what is to be written at its top.
 pub record Whole : Type 0 where
   pub in_use : Text → Bool
+  pub bound : Text → Bool
   pub steady : Text → Bool
   pub made : List Text
   pub others : Additions
@@ -21,6 +22,12 @@ pub record Whole : Type 0 where
 -- beside a part of an open program: what is known of the whole, and what is pending for the innermost list around
 pub data Ledger : Type 0 where
   ledger : Whole → Pending → Ledger
+
+abbrev pub whole_in : Ledger → Whole
+whole_in (ledger w p) = w
+
+abbrev pub pending_in : Ledger → Pending
+pending_in (ledger w p) = p
 
 -- where a rule acts: at a node, or at a statement list with what is pending for it
 pub data Spot : Type 0 where
@@ -59,7 +66,7 @@ pub data Steps {X : Type 0} (S : Ledger → X → Ledger → X → Type 0) : Led
 
 -- the ledger of a program before the first step: its own names are in use, and nothing is pending
 abbrev pub whole_of : Tree → Whole
-whole_of p = record { in_use = is_among (names_of p); steady = is_steady p; made = []; others = no_additions }
+whole_of p = record { in_use = is_among (names_of p); bound = declares (declared_of p); steady = is_steady p; made = []; others = no_additions }
 
 -- From p with nothing pending steps of the rule lead to q with nothing pending, and these are the names that they make,
 -- in their order. Ids and marks are no part of it.

@@ -3,13 +3,12 @@ use Rattle.std.specs.Prelude.{◌≡◌, ℕ, zero, suc, bytes_eq, ◌&&◌, ◌
 use Rattle.es_tree.specs.Words.{Text}
 use Rattle.es_tree.specs.declared.ast_type.AstType.{AstType}
 use Rattle.es_tree.specs.Tree.{Tree, Fields, Field, Trees, Label}
-use Rattle.es_tree.specs.declared.ast_type.AstType.TheVariants.{UnaryExpression, BinaryExpression, LogicalExpression, ConditionalExpression, AssignmentExpression, ChainExpression, ParenthesizedExpression, NullLiteral, NumericLiteral, MemberExpression, CallExpression, Identifier, ThisExpression}
+use Rattle.es_tree.specs.declared.ast_type.AstType.TheVariants.{UnaryExpression, BinaryExpression, LogicalExpression, ConditionalExpression, AssignmentExpression, ChainExpression, ParenthesizedExpression, NullLiteral, NumericLiteral, MemberExpression, CallExpression}
 use Rattle.es_tree.specs.Tree.{node}
 use Rattle.es_tree.specs.Tree.{done, ◌then◌}
 use Rattle.es_tree.specs.Tree.{missing, one, many, statements}
 use Rattle.es_tree.specs.Tree.{empty, ◌before◌}
 use Rattle.es_runs.specs.Machine.{Value, Move}
-use Rattle.es_tree.specs.Names.{first_text as first}
 use Rattle.es_runs.specs.Core.{flag, flag_after}
 use Rattle.es_runs.specs.Alike.{Need, needs, all_of_it, value_and_form}
 use Rattle.es_tree.specs.Scopes.{Declared, declared_of}
@@ -73,15 +72,6 @@ mutual
     first_node : {n : Need} {a b : Tree} {xs : Trees} → OnePlace R n a b → OneNode R n (a before xs) (b before xs)
     later_node : {n : Need} {a : Tree} {xs ys : Trees} → OneNode R n xs ys → OneNode R n (a before xs) (a before ys)
 
--- the row of `??` with a temporary x
-pub data NullishRow (x : Text) : Need → Tree → Tree → Type 0 where
-  nullish_row : {n : Need} {m : Label} {l r : Tree} → m.texts ≡ Some (codes "??") ∷ [] → NullishRow x n (node LogicalExpression m (one l then one r then done)) (tested_by m x l r)
-
--- the row of `??` with a left side that is a bound name, or `this`
-pub data RereadRow (bound : Text → Bool) : Need → Tree → Tree → Type 0 where
-  name_row : {n : Need} {m o : Label} {fs : Fields} {r : Tree} → m.texts ≡ Some (codes "??") ∷ [] → bound (first o.texts) ≡ true → RereadRow bound n (node LogicalExpression m (one (node Identifier o fs) then one r then done)) (tested m (node Identifier o fs) (node Identifier o fs) r)
-  this_row : {n : Need} {m o : Label} {fs : Fields} {r : Tree} → m.texts ≡ Some (codes "??") ∷ [] → RereadRow bound n (node LogicalExpression m (one (node ThisExpression o fs) then one r then done)) (tested m (node ThisExpression o fs) (node ThisExpression o fs) r)
-
 -- An open program runs with one more cell for the pending declarator of x.
 abbrev pub pending : Text → List Declared → List Declared
 pending x ds = record { name = x; kind = codes "var" } ∷ ds
@@ -91,13 +81,6 @@ OpenAlike x p q = (this : Value) (moves : List Move) → (outcome (run p this mo
 
 abbrev pub IsFresh : Text → Tree → Type 0
 IsFresh x p = (stands x p ≡ false) × (bytes_eq (codes "Math") x ≡ false) × (is_declared (declared_of p) x ≡ false)
-
--- A step of nullish coalescing keeps the runs, at any place of any program.
-abbrev pub LawNullish : Type 0
-LawNullish = (x : Text) (p q : Tree) → IsFresh x p → OnePlace (NullishRow x) all_of_it p q → OpenAlike x p q
-
-abbrev pub LawReread : Type 0
-LawReread = (p q : Tree) → OnePlace (RereadRow (is_declared (declared_of p))) all_of_it p q → (this : Value) (moves : List Move) → (outcome (run p this moves) ≡ called_uncallable → ⊥) → SameRun (is_declared (declared_of p)) (run p this moves) (run_with (declared_of p) q this moves)
 
 -- OPTIONAL MARKS
 
@@ -148,19 +131,3 @@ pub data OptionalMemberRow (x : Text) : Need → Tree → Tree → Type 0 where
 -- A step of optional chaining at a chain of one optional member keeps the runs.
 abbrev pub LawOptionalMember : Type 0
 LawOptionalMember = (x : Text) (p q : Tree) → IsFresh x p → OnePlace (OptionalMemberRow x) all_of_it p q → OpenAlike x p q
-
--- MANY STEPS
-
-abbrev pub IsFreshFor : List Declared → Text → Tree → Type 0
-IsFreshFor ds x p = (stands x p ≡ false) × (bytes_eq (codes "Math") x ≡ false) × (is_declared ds x ≡ false)
-
--- From a program with these declared names, by steps, to another with more.
-pub data Reaches : List Declared → Tree → List Declared → Tree → Type 0 where
-  reached : {ds : List Declared} {p : Tree} → Reaches ds p ds p
-  by_nullish : {ds es : List Declared} {p q r : Tree} {x : Text} → IsFreshFor ds x p → OnePlace (NullishRow x) all_of_it p q → Reaches (pending x ds) q es r → Reaches ds p es r
-  by_reread : {ds es : List Declared} {p q r : Tree} → OnePlace (RereadRow (is_declared ds)) all_of_it p q → Reaches ds q es r → Reaches ds p es r
-  by_optional_member : {ds es : List Declared} {p q r : Tree} {x : Text} → IsFreshFor ds x p → OnePlace (OptionalMemberRow x) all_of_it p q → Reaches (pending x ds) q es r → Reaches ds p es r
-
--- Whatever steps are taken, source and result run alike, where the result has a cell for each pending declarator.
-abbrev pub LawCoreRules : Type 0
-LawCoreRules = (p r : Tree) (es : List Declared) → Reaches (declared_of p) p es r → (this : Value) (moves : List Move) → (outcome (run p this moves) ≡ called_uncallable → ⊥) → SameRun (is_declared (declared_of p)) (run p this moves) (run_with es r this moves)

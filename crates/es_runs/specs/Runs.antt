@@ -3,17 +3,17 @@ use Rattle.std.specs.Prelude.{◌≡◌, Bool, true, false, List, [], ◌∷◌,
 use Rattle.es_tree.specs.Words.{Text}
 use Rattle.es_tree.specs.declared.ast_type.AstType.TheVariants.{Program, Identifier, VariableDeclaration, VariableDeclarator}
 use Rattle.es_tree.specs.Tree.{Tree, node, Label, done, ◌then◌, missing, one, many, statements, Trees, empty, ◌before◌}
-use Rattle.es_runs.specs.Machine.{Value, Question, Move, Cell, State, Result}
+use Rattle.es_runs.specs.Machine.{Value, ◌>>=◌, Question, Move, Cell, State, Result}
 use Rattle.es_runs.specs.Machine.Value.{undefined}
 use Rattle.es_runs.specs.Machine.Cell.{unset, holds}
 use Rattle.es_runs.specs.Machine.State.{state}
 use Rattle.es_runs.specs.Machine.Stop.{throws, waits, uncallable}
 use Rattle.es_runs.specs.Machine.Result.{gives, stops}
 use Rattle.es_tree.specs.Scopes.{Declared, declared_of}
-use Rattle.es_runs.specs.Core.{World, Binding, value, meaning, is_free}
+use Rattle.es_runs.specs.Core.{World, Binding, value, meaning, is_free, typeof_value}
 use Rattle.es_runs.specs.Core.Binding.{free, changeable, constant}
 use Rattle.es_runs.specs.Alike.{Level, Need, all_of_it, Near, touches, bad_names}
-use Rattle.es_runs.specs.Alike.Level.{no_evaluation, value_alone, whole_reference, a_callee, a_target}
+use Rattle.es_runs.specs.Alike.Level.{no_evaluation, value_alone, an_operand_of_typeof, whole_reference, a_callee, a_target}
 
 -- DECLARED NAMES AS CELLS
 
@@ -116,6 +116,7 @@ LawFresh = (x : Text) (l : Label) (ds body : Trees) → stands x (program l ds b
 abbrev pub EvaluateAlike : Level → Tree → Tree → Type 0
 EvaluateAlike no_evaluation e d = Unit {0}
 EvaluateAlike value_alone e d = (w : World) (s : State) → value w (meaning w d) s ≡ value w (meaning w e) s
+EvaluateAlike an_operand_of_typeof e d = (w : World) (s : State) → ((meaning w d).reference >>= typeof_value w) s ≡ ((meaning w e).reference >>= typeof_value w) s
 EvaluateAlike a_target e d = (w : World) (s : State) → (meaning w d).reference s ≡ (meaning w e).reference s
 EvaluateAlike a_callee e d = (w : World) (s : State) → (meaning w d).reference s ≡ (meaning w e).reference s
 EvaluateAlike whole_reference e d = (w : World) (s : State) → (meaning w d).reference s ≡ (meaning w e).reference s

@@ -1,15 +1,26 @@
 -- The weight of a tree: more than the sum of its parts', and a bound on the nodes and ids that lowering it can still make.
 -- Each node counts one; each construct of a row adds twice the number of nodes that the row makes, what it declares and
 -- the statement that declares it included: a made node takes one id, and has a weight of its own.
-use Rattle.std.specs.Prelude.{ℕ, ◌+◌, suc, List, [], ◌∷◌, if◌then◌else◌}
+use Rattle.std.specs.Prelude.{ℕ, ◌+◌, suc, List, [], ◌∷◌, if◌then◌else◌, bytes_eq, codes}
 use Rattle.es_tree.specs.declared.ast_type.AstType.{AstType}
 use Rattle.es_tree.specs.Tree.{Tree, node, Label, Fields, done, ◌then◌, Field, missing, one, many, statements, Trees, empty, ◌before◌, tree_size}
-use Rattle.es_tree.specs.Constructs.{is_nullish_coalescing}
+use Rattle.es_tree.specs.Names.{first_text}
+use Rattle.es_tree.specs.Words.{Text}
+use Rattle.es_tree.specs.declared.ast_type.AstType.TheVariants.{AssignmentExpression, BinaryExpression, LogicalExpression}
+use Rattle.es_runs.specs.LogicalAssignment.{is_assigning}
 use Rattle.es_runs.specs.Open.{Pending, Additions, Import}
 
--- `??` makes eleven nodes, a declarator of two, and a statement: fourteen
+-- `t **= r` makes sixteen nodes and two declarators of two with their statements, `t op= r` ten, `??` not counted, and two
+-- such declarators
+abbrev pub assignment_weight : Text → ℕ
+assignment_weight op = if bytes_eq op (codes "**=") then 44 else (if is_assigning op then 60 else 0)
+
+-- `??` makes eleven nodes, a declarator of two, and a statement: fourteen; `l ** r` makes four
 abbrev pub own_weight : AstType → Label → Fields → ℕ
-own_weight k l fs = if is_nullish_coalescing k l fs then 28 else 0
+own_weight LogicalExpression l fs = if bytes_eq (first_text l.texts) (codes "??") then 28 else 0
+own_weight BinaryExpression l fs = if bytes_eq (first_text l.texts) (codes "**") then 8 else 0
+own_weight AssignmentExpression l fs = assignment_weight (first_text l.texts)
+own_weight _ l fs = 0
 
 abbrev mutual
   pub weight : Tree → ℕ

@@ -1,4 +1,4 @@
-use Rattle.es_runs.proofs.CoreRules.{law_core_rules_proof}
+use Rattle.es_runs.proofs.OpenLaws.{law_core_rules_proof}
 use Rattle.es_runs.proofs.law_core_rules.Goals as goal
 
 pub returns : goal.returns

@@ -1,0 +1,17 @@
+-- The rows of core programs as one rule of nodes, and names that are fresh one after the other.
+use Rattle.std.proofs.Common.{◌≡◌, List, [], ◌∷◌, ◌⊎◌}
+use Rattle.std.specs.Prelude.{Bool, false, bytes_eq, codes}
+use Rattle.es_tree.specs.Words.{Text}
+use Rattle.es_tree.specs.Fresh.{also}
+use Rattle.es_tree.specs.Tree.{Tree}
+use Rattle.es_runs.specs.Alike.{Need}
+use Rattle.es_runs.specs.OpenRules.{assigning_row, coalescing_row, raising_row}
+use Rattle.es_runs.specs.OpenSteps.{Whole}
+
+abbrev pub core_row : Whole → List Text → Need → Tree → Tree → Type 0
+core_row w xs n t u = assigning_row w xs n t u ⊎ coalescing_row w xs n t u ⊎ raising_row w xs n t u
+
+-- none of the names is in use, nor the same as an earlier one, nor `Math`
+pub data FreshInTurn : (Text → Bool) → List Text → Type 0 where
+  no_more : {in_use : Text → Bool} → FreshInTurn in_use []
+  one_more : {in_use : Text → Bool} {x : Text} {xs : List Text} → in_use x ≡ false → bytes_eq (codes "Math") x ≡ false → FreshInTurn (also x in_use) xs → FreshInTurn in_use (x ∷ xs)

@@ -1,0 +1,56 @@
+-- The kinds of nodes on which the rows of core programs act, and of those that they put there.
+use Rattle.std.proofs.Common.{◌≡◌, refl, inl, inr, List, [], ◌∷◌}
+use Rattle.std.specs.Prelude.{Bool, true, false}
+use Rattle.es_tree.specs.Words.{Text}
+use Rattle.es_tree.specs.Tree.{Tree, Label, kind_of, fields_of}
+use Rattle.es_tree.specs.declared.ast_type.AstType.{AstType}
+use Rattle.es_tree.specs.declared.ast_type.AstType.TheVariants.{AssignmentExpression, CallExpression, ConditionalExpression, LogicalExpression, SequenceExpression}
+use Rattle.es_runs.specs.Alike.{Need}
+use Rattle.es_runs.specs.Doubling.{has_no_fields}
+use Rattle.es_runs.specs.Exponentiation.{ExponentiationRule, assigned_power}
+use Rattle.es_runs.specs.Exponentiation.ExponentiationRule.{power, power_assignment}
+use Rattle.es_runs.specs.LogicalAssignment.{LogicalAssignmentRule}
+use Rattle.es_runs.specs.LogicalAssignment.LogicalAssignmentRule.{to_name, to_static_member, to_computed_member}
+use Rattle.es_runs.specs.OpenRules.raising_row.{raises}
+use Rattle.es_runs.specs.OpenSteps.{Whole}
+use Rattle.es_runs.specs.Steps.{NullishRule}
+use Rattle.es_runs.specs.Steps.NullishRule.{with_temporary, reading_again}
+use Rattle.es_runs.proofs.CoreRows.{core_row}
+use Rattle.es_runs.proofs.RowFacts.{is_row_kind}
+
+-- the kinds of nodes that a row leaves in the place of the one on which it acts
+abbrev pub is_left_kind : AstType → Bool
+is_left_kind AssignmentExpression = true
+is_left_kind CallExpression = true
+is_left_kind ConditionalExpression = true
+is_left_kind LogicalExpression = true
+is_left_kind SequenceExpression = true
+is_left_kind _ = false
+
+-- a row acts on an operator with its operands
+pub record RowKinds (a b : Tree) : Type 0 where
+  pub acted : is_row_kind (kind_of a) ≡ true
+  pub parts : has_no_fields (fields_of a) ≡ false
+  pub left : is_left_kind (kind_of b) ≡ true
+
+assigned_kind : (m : Label) (fs : List Tree) (target read r : Tree) → is_left_kind (kind_of (assigned_power m fs target read r)) ≡ true
+assigned_kind m [] target read r = refl
+assigned_kind m (f ∷ fs) target read r = refl
+
+coalescing_kinds : {steady in_use : Text → Bool} {xs : List Text} {n : Need} {a b : Tree} → NullishRule steady in_use xs n a b → RowKinds a b
+coalescing_kinds (with_temporary texts again fresh) = record { acted = refl; parts = refl; left = refl }
+coalescing_kinds (reading_again texts again) = record { acted = refl; parts = refl; left = refl }
+
+assigning_kinds : {steady in_use : Text → Bool} {xs : List Text} {n : Need} {a b : Tree} → LogicalAssignmentRule steady in_use xs n a b → RowKinds a b
+assigning_kinds (to_name texts op target) = record { acted = refl; parts = refl; left = refl }
+assigning_kinds (to_static_member texts op target flags object) = record { acted = refl; parts = refl; left = refl }
+assigning_kinds (to_computed_member texts op target flags object key) = record { acted = refl; parts = refl; left = refl }
+
+raising_kinds : {bound in_use : Text → Bool} {xs : List Text} {n : Need} {a b : Tree} → ExponentiationRule bound in_use xs n a b → RowKinds a b
+raising_kinds (power texts left right) = record { acted = refl; parts = refl; left = refl }
+raising_kinds (power_assignment {m = m} {r = r} {target = target} {read = read} {fs = fs} texts right twice) = record { acted = refl; parts = refl; left = assigned_kind m fs target read r }
+
+pub row_kind : (w : Whole) {xs : List Text} {n : Need} {a b : Tree} → core_row w xs n a b → RowKinds a b
+row_kind w (inl r) = assigning_kinds r
+row_kind w (inr (inl r)) = coalescing_kinds r
+row_kind w (inr (inr (raises math r))) = raising_kinds r
