@@ -13,6 +13,10 @@ use Rattle.es_scope.specs.ScopingOf.{IsScopingOf}
 use Rattle.es_scope.specs.Tables.{binding_in}
 use Rattle.es_scope.specs.declared.scoping.Scoping.{Scoping}
 
+-- the program's scope binds what the program declares
+pub table-bound : (p : Tree) (s : Scoping) → IsScopingOf p s → (x : Text) → is_some (binding_in s 0 x) ≡ declares (declared_of p) x
+table-bound p s h x = ap is_some (h.bindings x) ∙ symbol-some (declared_of p) x
+
 -- a name that a table binds is declared
 pub bound-declared : (p : Tree) (s : Scoping) → IsScopingOf p s → (n : ℕ) (x : Text) (m : ℕ) → binding_in s n x ≡ Some m → declares (declared_of p) x ≡ true
 bound-declared p s h zero x m e = sym (symbol-some (declared_of p) x) ∙ ap is_some (sym (h.bindings x) ∙ e)

@@ -1,13 +1,15 @@
 -- The candidates in use, as names are taken.
-use Rattle.std.proofs.Common.{◌≡◌, ℕ, ◌+◌, ◌<◌, Bool, true, false, ◌||◌, cond, Some, Result, Ok, Err, OnOk, OnErr, unwrap_or, bytes_eq, string_bytes, below_more, String, HashMap, HashSet, refl, ◌∙◌}
+use Rattle.std.proofs.Common.{◌≡◌, ℕ, zero, suc, ◌+◌, ◌<◌, List, [], ◌∷◌, ◌++◌, map, Bool, true, false, ◌||◌, cond, Some, Result, Ok, Err, OnOk, OnErr, unwrap_or, bytes_eq, string_bytes, below_more, String, HashMap, HashSet, refl, sym, ap, ◌∙◌}
+use Rattle.std.proofs.lemmas.List.{map-append}
+use Rattle.std.proofs.lemmas.List.Folds.{list_any-append}
 use Rattle.std.proofs.lemmas.Map.Text.{hash_map_updates_text}
 use Rattle.std.specs.Cmp.Lexicographic.{bytes_decides}
 use Rattle.std.specs.HashMap.{get_by_text, UpdatesBy, IsUnchanged}
 use Rattle.std.specs.HashSet.{contains_text, UpdatesBy as SetUpdatesBy, IsUnchanged as SetIsUnchanged}
 use Rattle.std.specs.String.{string_eq}
 use Rattle.es_tree.specs.Words.{Text}
-use Rattle.es_tree.specs.Fresh.{also, candidate}
-use Rattle.es_scope.specs.Taken.{AreTaken}
+use Rattle.es_tree.specs.Fresh.{also, candidate, is_among}
+use Rattle.es_scope.specs.Taken.{AreTaken, AreUnderscored, is_underscored}
 use Rattle.es_scope.proofs.Among.{also-inserted}
 
 pub stays : (used : Bool) (b : Bool) → used ≡ true → (used || b) ≡ true
@@ -44,3 +46,19 @@ AreTaken-inserted old new in_use base number (Err a) updated unchanged first tak
 pub AreTaken-inserted_use : {X Y S T A E : Type 0} (numbers : HashMap (String X) ℕ S) (old new : HashSet (String Y) T) (name : Text) (r : Result A E) → OnOk r (SetUpdatesBy string_eq (λ k. bytes_eq name (string_bytes k)) old new true) → OnErr r (SetIsUnchanged old new) → AreTaken numbers old → AreTaken numbers new
 AreTaken-inserted_use numbers old new name (Ok a) updated unchanged taken = AreTaken-also numbers old new name (also-inserted old new name name updated refl) taken
 AreTaken-inserted_use numbers old new name (Err a) updated unchanged taken = λ b m h. rw unchanged (taken b m h)
+
+-- a candidate begins with `_`
+pub candidate-underscored : (base : Text) (number : ℕ) → is_underscored (candidate base number) ≡ true
+candidate-underscored base zero = refl
+candidate-underscored base (suc n) = refl
+
+-- a candidate more among the names made
+pub AreUnderscored-pushed : {X : Type 0} (old new : List (String X)) (name : String X) (base : Text) (number : ℕ) → string_bytes name ≡ candidate base number → new ≡ old ++ name ∷ [] → AreUnderscored old → AreUnderscored new
+AreUnderscored-pushed old new name base number n e known = λ x h. at x (is_among (map string_bytes old) x) refl (bytes_eq (string_bytes name) x) refl (sym (among x) ∙ h) where
+  among : (x : Text) → is_among (map string_bytes new) x ≡ (is_among (map string_bytes old) x || (bytes_eq (string_bytes name) x || false))
+  among x = rw (e, map-append string_bytes old (name ∷ [])) (list_any-append (λ y. bytes_eq y x) (map string_bytes old) (string_bytes name ∷ []))
+
+  at : (x : Text) (was : Bool) → is_among (map string_bytes old) x ≡ was → (same : Bool) → bytes_eq (string_bytes name) x ≡ same → (is_among (map string_bytes old) x || (bytes_eq (string_bytes name) x || false)) ≡ true → is_underscored x ≡ true
+  at x true f same g h = known x f
+  at x false f true g h = ap is_underscored (sym ((bytes_decides (string_bytes name) x).0 g) ∙ n) ∙ candidate-underscored base number
+  at x false f false g h = absurd (let no : false ≡ true = rw (f, g) at h in cc)

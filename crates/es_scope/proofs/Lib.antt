@@ -14,3 +14,4 @@ pub mod TableSteps
 pub mod ChangedItems
 pub mod SteadyContexts
 pub mod BoundNames
+pub mod BoundContexts

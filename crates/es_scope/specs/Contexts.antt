@@ -1,5 +1,5 @@
 -- What a context holds, and what a call keeps and adds of it.
-use Rattle.std.specs.Prelude.{◌≡◌, ℕ, ◌+◌, ◌<◌, List, [], ◌∷◌, ◌++◌, Bool, true, false, Option, Some}
+use Rattle.std.specs.Prelude.{◌≡◌, ℕ, ◌+◌, ◌<◌, List, [], ◌∷◌, ◌++◌, Bool, true, false, ◌&&◌, not, is_some, Option, Some}
 use Rattle.es_tree.specs.Fresh.{also, is_among}
 use Rattle.es_tree.specs.Names.{names_of}
 use Rattle.es_tree.specs.References.{Reference}
@@ -50,6 +50,10 @@ scope_at ctx = first_scope (scopes_around ctx)
 -- whether the program's scope binds a name and no reference writes it
 abbrev pub steady_of : {S : Type 0} → TraverseCtx S → Text → Bool
 steady_of ctx x = is_found_steady (table_of ctx) (binding_in (table_of ctx) 0 x)
+
+-- whether the program's scope binds a name that is no fresh one
+abbrev pub bound_of : {S : Type 0} → TraverseCtx S → Text → Bool
+bound_of ctx x = is_some (binding_in (table_of ctx) 0 x) && not (is_among (made_of ctx) x)
 
 -- the names that a table binds are names of the program
 abbrev pub BindsNamesOf : Tree → Scoping → Type 0

@@ -3,7 +3,7 @@ ghost use Rattle.std.specs.Prelude.{◌≡◌, ◌++◌, ◌∷◌, ◌<◌, [],
 ghost use Rattle.es_tree.specs.Fresh.{IsFreshName, also, candidate, is_among, node_base, text_base};
 ghost use Rattle.es_tree.specs.Names.{names_of};
 ghost use Rattle.es_tree.specs.Words.{Text};
-ghost use Rattle.es_scope.specs.Taken.{AreTaken};
+ghost use Rattle.es_scope.specs.Taken.{AreTaken, AreUnderscored};
 
 use crate::base::{base_of_node, base_of_text};
 use crate::names::insert_names;
@@ -24,6 +24,7 @@ pub struct UidGenerator {
     taken: HashMap<String, u32>,
     made: Vec<String>,
     ghost counted: { AreTaken taken in_use },
+    ghost underscored: { AreUnderscored made.items },
 }
 
 impl UidGenerator {

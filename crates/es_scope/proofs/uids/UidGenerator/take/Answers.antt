@@ -3,7 +3,7 @@ use Rattle.std.specs.HashSet.{contains_text}
 use Rattle.es_tree.specs.Fresh.{also, candidate}
 use Rattle.es_tree.specs.Words.{Text}
 use Rattle.es_scope.proofs.Among.{also-inserted}
-use Rattle.es_scope.proofs.Candidates.{stays, AreTaken-also, AreTaken-inserted, taken_through}
+use Rattle.es_scope.proofs.Candidates.{stays, AreTaken-also, AreTaken-inserted, taken_through, AreUnderscored-pushed}
 use Rattle.es_scope.proofs.uids.UidGenerator.take.Goals as goal
 
 -- the candidates of the base through this one are in use, whether or not its number is kept
@@ -18,6 +18,7 @@ invariant_of-self-2 c =
     rw c.in_ok-key.ensures.ok (taken_through old new name adds c.args.base.now c.args.number c.requires.name c.requires.first) in
     record {
       counted = AreTaken-inserted c.args.self.now.taken c.insert-2.new.self new (string_bytes c.in_ok-key.key) (c.args.number + 1) c.insert-2.result c.insert-2.ensures.updates c.insert-2.ensures.err first (AreTaken-also c.args.self.now.taken old new name adds c.args.self.now.counted);
+      underscored = AreUnderscored-pushed c.args.self.now.made.items c.push.new.self.items c.in_ok-from_str.field-0 c.args.base.now c.args.number (c.in_ok-from_str.ensures.ok ∙ c.requires.name) c.in_ok-push.ensures.items c.args.self.now.underscored;
     }
 
 pub returns-clause-taken : goal.returns-clause-taken
