@@ -8,7 +8,7 @@ use Rattle.es_tree.specs.declared.options.EnvOptions.{EnvOptions}
 use Rattle.es_statements.specs.declared.program.Program.{Program}
 use Rattle.es_runs.specs.Alike.{Need}
 use Rattle.es_runs.specs.Open.{nothing_pending}
-use Rattle.es_runs.specs.OpenSteps.{Ledger, Spot, Steps}
+use Rattle.es_runs.specs.OpenSteps.{Whole, Ledger, Spot, Steps}
 use Rattle.es_scope.specs.declared.ancestor.Ancestor.{Ancestor}
 use Rattle.es_visit.specs.declared.hook.Hook.{Hook}
 use Rattle.es_visit.specs.Changes.{Part, ChangedBy, Changed, ChangedTrees, ChangedProgram, Listed}
@@ -39,17 +39,17 @@ module _ {Q R : Need → Ledger → Spot → Ledger → Spot → Type 0} (into :
 
 -- REFUSALS
 
-leads_into : {X : Type 0} {S T : Ledger → X → Ledger → X → Type 0} {some also : X → Type 0} {s : Ledger} {x : X} → ((s : Ledger) (u : X) (s' : Ledger) (v : X) → S s u s' v → T s u s' v) → ((u : X) → some u → also u) → Leads S some s x → Leads T also s x
-leads_into into there g = record { after = g.after; shape = g.shape; steps = steps_into into g.steps; there = there _ g.there }
+leads_into : {X : Type 0} {S T : Ledger → X → Ledger → X → Type 0} {some also : Whole → X → Type 0} {s : Ledger} {x : X} → ((s : Ledger) (u : X) (s' : Ledger) (v : X) → S s u s' v → T s u s' v) → ((w : Whole) (u : X) → some w u → also w u) → Leads S some s x → Leads T also s x
+leads_into into there g = record { after = g.after; shape = g.shape; steps = steps_into into g.steps; there = there _ _ g.there }
 
-leads_after : {X : Type 0} {S : Ledger → X → Ledger → X → Type 0} {some : X → Type 0} {s s' : Ledger} {x y : X} → Steps S s x s' y → Leads S some s' y → Leads S some s x
+leads_after : {X : Type 0} {S : Ledger → X → Ledger → X → Type 0} {some : Whole → X → Type 0} {s s' : Ledger} {x y : X} → Steps S s x s' y → Leads S some s' y → Leads S some s x
 leads_after h g = record { after = g.after; shape = g.shape; steps = steps_trans h g.steps; there = g.there }
 
-refused_into : {I X : Type 0} {S T : I → Ledger → X → Ledger → X → Type 0} {fits : I → Type 0} {some also : X → Type 0} {e : LowerError} (a : Moment) {x : X} → ((i : I) (s : Ledger) (u : X) (s' : Ledger) (v : X) → S i s u s' v → T i s u s' v) → ((u : X) → some u → also u) → RefusedBy S fits some e a x → RefusedBy T fits also e a x
+refused_into : {I X : Type 0} {S T : I → Ledger → X → Ledger → X → Type 0} {fits : I → Type 0} {some also : Whole → X → Type 0} {e : LowerError} (a : Moment) {x : X} → ((i : I) (s : Ledger) (u : X) (s' : Ledger) (v : X) → S i s u s' v → T i s u s' v) → ((w : Whole) (u : X) → some w u → also w u) → RefusedBy S fits some e a x → RefusedBy T fits also e a x
 refused_into a into there (inl h) = inl h
 refused_into a into there (inr f) = inr (λ i k. leads_into (into i) there (f i k))
 
-refused_then : {I X : Type 0} {S : I → Ledger → X → Ledger → X → Type 0} (F : List Ancestor → I → Type 0) {some : X → Type 0} {e : LowerError} {a b : Moment} {x y : Part X} → ChangedBy S (F a.around) a x b y → RefusedBy S (F b.around) some e b y.shape → RefusedBy S (F a.around) some e a x.shape
+refused_then : {I X : Type 0} {S : I → Ledger → X → Ledger → X → Type 0} (F : List Ancestor → I → Type 0) {some : Whole → X → Type 0} {e : LowerError} {a b : Moment} {x y : Part X} → ChangedBy S (F a.around) a x b y → RefusedBy S (F b.around) some e b y.shape → RefusedBy S (F a.around) some e a x.shape
 refused_then F g (inl h) = inl h
 refused_then F g (inr f) = inr (λ i k. leads_after (g.steps i k) (f i (subst (λ xs. F xs i) (sym g.kept.around) k)))
 
@@ -59,17 +59,17 @@ refused_then F g (inr f) = inr (λ i k. leads_after (g.steps i k) (f i (subst (�
 pub record IsPart (p r : Profile) : Type 0 where
   pub rule : (n : Need) (s : Ledger) (x : Spot) (s' : Ledger) (y : Spot) → p.rule n s x s' y → r.rule n s x s' y
   pub writes : (t : Tree) → p.writes t → r.writes t
-  pub refuses : (e : LowerError) (t : Tree) → p.refuses e t → r.refuses e t
+  pub refuses : (e : LowerError) (w : Whole) (t : Tree) → p.refuses e w t → r.refuses e w t
 
 -- two types together, under all options
 abbrev pub both_of : (EnvOptions → Profile) → (EnvOptions → Profile) → EnvOptions → Profile
 both_of P Q o = both_profile (P o) (Q o)
 
 pub first_part : (P Q : EnvOptions → Profile) (o : EnvOptions) → IsPart (P o) (both_of P Q o)
-first_part P Q o = record { rule = λ n s x s' y h. inl h; writes = λ t h. inl h; refuses = λ e t h. inl h }
+first_part P Q o = record { rule = λ n s x s' y h. inl h; writes = λ t h. inl h; refuses = λ e w t h. inl h }
 
 pub second_part : (P Q : EnvOptions → Profile) (o : EnvOptions) → IsPart (Q o) (both_of P Q o)
-second_part P Q o = record { rule = λ n s x s' y h. inr h; writes = λ t h. inr h; refuses = λ e t h. inr h }
+second_part P Q o = record { rule = λ n s x s' y h. inr h; writes = λ t h. inr h; refuses = λ e w t h. inr h }
 
 -- the same options later
 later : (C : EnvOptions → Type 0) {a b : Moment} → Kept a b → C b.options → C a.options
@@ -153,18 +153,18 @@ passed_up (Err y) e P h k = subst P (sym h) k
 -- by the first
 module _ (P R : EnvOptions → Profile) (part : (o : EnvOptions) → IsPart (P o) (R o)) (a : Moment) (e : LowerError) where
   pub tree_refused : (t : Tree) → RefusedTree (P a.options).rule (P a.options).refuses e a t → RefusedTree (R a.options).rule (R a.options).refuses e a t
-  tree_refused t = refused_into a (λ n s x s' y h. step_into (part a.options).rule h) (some_node ((part a.options).refuses e))
+  tree_refused t = refused_into a (λ n s x s' y h. step_into (part a.options).rule h) (λ w. some_node ((part a.options).refuses e w))
 
   pub trees_refused : (ts : Trees) → RefusedTrees (P a.options).rule (P a.options).refuses e a ts → RefusedTrees (R a.options).rule (R a.options).refuses e a ts
-  trees_refused ts = refused_into a (λ n s x s' y h. trees_step_into (part a.options).rule h) (some_in_trees ((part a.options).refuses e))
+  trees_refused ts = refused_into a (λ n s x s' y h. trees_step_into (part a.options).rule h) (λ w. some_in_trees ((part a.options).refuses e w))
 
   pub list_refused : (ts : Trees) → RefusedList (P a.options).rule (P a.options).refuses e a ts → RefusedList (R a.options).rule (R a.options).refuses e a ts
   list_refused ts (inl h) = inl h
-  list_refused ts (inr f) = inr (λ n k o. leads_into (λ s x s' y h. field_step_into (part a.options).rule h) (some_in_field ((part a.options).refuses e)) (f n k o))
+  list_refused ts (inr f) = inr (λ n k o. leads_into (λ s x s' y h. field_step_into (part a.options).rule h) (λ w. some_in_field ((part a.options).refuses e w)) (f n k o))
 
   pub program_refused : (x : Program) → RefusedProgram (P a.options).rule (P a.options).refuses e a x → RefusedProgram (R a.options).rule (R a.options).refuses e a x
   program_refused x (inl h) = inl h
-  program_refused x (inr f) = inr (leads_into (λ s x s' y h. step_into (part a.options).rule h) (some_node ((part a.options).refuses e)) f)
+  program_refused x (inr f) = inr (leads_into (λ s x s' y h. step_into (part a.options).rule h) (λ w. some_node ((part a.options).refuses e w)) f)
 
 -- by the second, after the steps of the first
 module _ (P Q R : EnvOptions → Profile) (p-part : (o : EnvOptions) → IsPart (P o) (R o)) (q-part : (o : EnvOptions) → IsPart (Q o) (R o)) {a b : Moment} (e : LowerError) where
@@ -198,7 +198,7 @@ module _ (P Q : EnvOptions → Profile) (apart : (o : EnvOptions) → AreApart (
       let same : (v ≡ u) → (v ≡ t) ⊎ (both_of P Q a.options).makes v = λ i. elim g.order [ inl j ↦ inl (i ∙ j) | inr m ↦ inr (inl (subst p.makes (sym i) m)) ] in
       record {
         changed = changed_both P Q (both_of P Q) (first_part P Q) (second_part P Q) _ _ _ g.changed h.changed;
-        sort = h.sort ∙ g.sort;
+        sort = λ i s. elim (h.sort i s) [ inl before ↦ g.sort i before | inr this ↦ inr this ];
         cleared = neither (is_row (p.rows hook) v) (is_row (q.rows hook) v) (elim k.order [ inl i ↦ subst (λ w. is_row (p.rows hook) w ≡ false) (sym i) g.cleared | inr m ↦ (apart a.options).makes hook v m ]) k.cleared;
         order = elim k.order [ inl i ↦ same i | inr m ↦ inr (inr m) ];
       }

@@ -69,7 +69,7 @@ module _ (p : Profile) where
   pub entered_sort : (site : Site) (r : Role) {a b : Moment} (t u : Tree) → role_at (sort_of (kind_of t)) site ≡ r → Entered p (hook_of_role r) a t b u → EnteredSort p a t b u
   entered_sort site r t u e h = record {
     changed = h.changed;
-    cleared = λ g s. subst (λ i. is_row (p.rows i) u ≡ false) (sym (only_role _ site g (sym (ap hook_of_sort h.sort) ∙ s) ∙ ap hook_of_role e)) h.cleared;
+    cleared = λ g s. subst (λ i. is_row (p.rows i) u ≡ false) (sym (elim (h.sort g s) [ inl before ↦ only_role _ site g before ∙ ap hook_of_role e | inr this ↦ this ])) h.cleared;
   }
 
   pub entered_no_sort : (site : Site) (a : Moment) (t : Tree) → role_at (sort_of (kind_of t)) site ≡ Nothing → EnteredSort p a t a t

@@ -1,7 +1,8 @@
 -- The moments of a place, and the loops over fields and lists.
-use Rattle.std.proofs.Common.{◌≡◌, ◌∙◌, ◌≤◌, ◌<◌, ◌+◌, refl, sym, ap, subst, arith, ℕ, suc, length, List, [], ◌∷◌, get_or, set, drop, true, false, ◌||◌, Bool}
+use Rattle.std.proofs.Common.{◌≡◌, ◌∙◌, ◌≤◌, ◌<◌, ◌+◌, refl, sym, ap, subst, arith, ℕ, suc, length, List, [], ◌∷◌, get_or, set, drop, true, false, ◌||◌, ◌&&◌, not, is_some, Bool}
 use Rattle.std.proofs.lemmas.List.Sums.{get_or-le-sum_by}
 use Rattle.es_tree.specs.Bare.{bare, bare_field, bare_fields, bare_trees}
+use Rattle.es_tree.specs.Fresh.{is_among}
 use Rattle.es_tree.specs.Tree.{Tree, trees}
 use Rattle.es_tree.specs.Views.{plain_field, plain_fields}
 use Rattle.es_tree.specs.Walks.{any_node, any_in_fields, any_in_field, any_in_trees}
@@ -29,6 +30,7 @@ module _ {S : Type 0} (pending : S → Pendings) (old new : TraverseCtx S) (x : 
   pub moment_inside : around_of new ≡ x ∷ around_of old → new.state ≡ old.state → new.ast ≡ old.ast → new.options ≡ old.options → table_of new ≡ table_of old → KeepsNames old new → moment pending new ≡ inside_of x (moment pending old)
   moment_inside around state ast options table names = λ i. record {
     in_use = λ y. names.used y i;
+    bound = λ y. is_some (binding_in (table i) 0 y) && not (is_among (names.made_is i) y);
     steady = λ y. is_found_steady (table i) (binding_in (table i) 0 y);
     made = names.made_is i;
     next = (ast i).next;
@@ -45,6 +47,7 @@ module _ {S : Type 0} (pending : S → Pendings) (old new : TraverseCtx S) (x : 
       let left : around_of old ≡ x ∷ around_of new = here ∙ sym (ap (λ ys. x ∷ ys) (around ∙ ap (λ ys. drop 1 ys) here)) in
       λ i. record {
         in_use = λ y. sym (names.used y) i;
+        bound = λ y. is_some (binding_in (sym table i) 0 y) && not (is_among (sym names.made_is i) y);
         steady = λ y. is_found_steady (sym table i) (binding_in (sym table i) 0 y);
         made = sym names.made_is i;
         next = (sym ast i).next;

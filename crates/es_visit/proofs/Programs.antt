@@ -11,7 +11,7 @@ use Rattle.es_statements.specs.ProgramPlain.{plain_program}
 use Rattle.es_statements.specs.declared.program.Program.{Program}
 use Rattle.es_runs.specs.Alike.{Need, needs, all_of_it}
 use Rattle.es_runs.specs.Open.{Pending, nothing_pending, open_node, ends, ◌and◌, OpenField, children, list, opened_trees}
-use Rattle.es_runs.specs.OpenSteps.{Ledger, ledger, Spot, Step, inside, in_first, in_later, Steps}
+use Rattle.es_runs.specs.OpenSteps.{Whole, whole_in, Ledger, ledger, Spot, Step, inside, in_first, in_later, Steps}
 use Rattle.es_runs.specs.Weights.{weight, trees_weight}
 use Rattle.es_runs.proofs.Weights.{trees_weight-bare, trees_size-bare}
 use Rattle.es_scope.specs.declared.ancestor.Ancestor.{Ancestor}
@@ -101,8 +101,8 @@ visited_whole P keeps {a = a} {b = b} {c = c} {d = d} x y z w law e v' h' =
 -- REFUSALS
 
 module _ (p : Profile) {e : LowerError} where
-  some_in_program : (q : Pending) (x : Program) (f : OpenField) → SomeInField (p.refuses e) f → SomeNode (p.refuses e) (open_node k-Program (bare_label (label_of (plain_program x))) (children (opened_trees (directives_of x)) and f and ends))
-  some_in_program q x f there = inr (inr (inl there))
+  some_in_program : (w : Whole) (x : Program) (f : OpenField) → SomeInField (p.refuses e w) f → SomeNode (p.refuses e w) (open_node k-Program (bare_label (label_of (plain_program x))) (children (opened_trees (directives_of x)) and f and ends))
+  some_in_program w x f there = inr (inr (inl there))
 
   pub refused_program : (place : NodeId) (x : Program) (a : Moment) → a.around ≡ [] → RefusedList p.rule p.refuses e (inside_of (program_place place) a) (body_of x) → RefusedProgram p.rule p.refuses e a x
   refused_program place x a top (inl m) = inl m
@@ -112,7 +112,7 @@ module _ (p : Profile) {e : LowerError} where
         after = k.after;
         shape = open_node k-Program (bare_label (label_of (plain_program x))) (children (opened_trees (directives_of x)) and k.shape and ends);
         steps = steps_map (λ f. open_node k-Program (bare_label (label_of (plain_program x))) (children (opened_trees (directives_of x)) and f and ends)) (λ s s' f g r. inside (in_later (in_first r))) k.steps;
-        there = some_in_program nothing_pending x k.shape k.there;
+        there = some_in_program (whole_in k.after) x k.shape k.there;
       })
 
 pub refused_program_after : (P : EnvOptions → Profile) {e : LowerError} {a b : Moment} (x y : Program) → ChangedProgram (P a.options).rule a x b y → RefusedProgram (P b.options).rule (P b.options).refuses e b y → RefusedProgram (P a.options).rule (P a.options).refuses e a x

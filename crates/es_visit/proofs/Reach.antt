@@ -1,17 +1,16 @@
 -- Changes of a part as changes of the whole.
 use Rattle.std.proofs.Common.{◌≡◌, ◌<◌, ◌&&◌, refl, sym, ap, subst, arith, ℕ, zero, suc, length, List, [], ◌∷◌, get_or, set, Bool, true, false}
-use Rattle.std.specs.Prelude.{not, cond, if◌then◌else◌}
+use Rattle.std.specs.Prelude.{not, cond}
 use Rattle.std.proofs.lemmas.List.Sums.{sum_by-set}
 use Rattle.es_tree.specs.Bare.{bare, bare_fields, bare_field, bare_trees}
-use Rattle.es_tree.specs.Constructs.{is_nullish_coalescing}
 use Rattle.es_tree.specs.Tree.{Tree, node, Label, Fields, one, many, statements, Trees, trees}
 use Rattle.es_tree.specs.Views.{plain_field, plain_fields}
 use Rattle.es_tree.specs.declared.ast_type.AstType.{AstType}
-use Rattle.es_tree.specs.declared.ast_type.AstType.TheVariants.{LogicalExpression}
+use Rattle.es_tree.specs.declared.ast_type.AstType.TheVariants.{AssignmentExpression, BinaryExpression, LogicalExpression}
 use Rattle.es_tree.specs.declared.node.Field.{Field as NodeField}
 use Rattle.es_runs.specs.Alike.{Need, needs}
 use Rattle.es_runs.specs.Open.{Pending, nothing_pending, open_node, ◌and◌, child, children, list, OpenTrees, ◌next◌, opened, opened_fields, opened_field, opened_trees}
-use Rattle.es_runs.specs.OpenSteps.{Whole, Ledger, ledger, Spot, Step, inside, FieldsStep, in_first, in_later, FieldStep, in_child, in_children, within, TreesStep, in_head, in_tail, Steps, stays, goes}
+use Rattle.es_runs.specs.OpenSteps.{whole_in, pending_in, Ledger, ledger, Spot, Step, inside, FieldsStep, in_first, in_later, FieldStep, in_child, in_children, within, TreesStep, in_head, in_tail, Steps, stays, goes}
 use Rattle.es_runs.specs.Weights.{own_weight}
 use Rattle.es_scope.specs.declared.ancestor.Ancestor.{Ancestor}
 use Rattle.es_visit.specs.Moments.{Moment, Kept, Fits, in_field, FitsFields, in_node, inside_of, with_lists, top, below, whole_at, ledger_at}
@@ -22,12 +21,11 @@ use Rattle.es_visit.proofs.Sums.{bare_weight, bare_size, fields_weight-sum, fiel
 
 -- PLACES
 
-same_coalescing : (k : AstType) (l : Label) (fs gs : Fields) → is_nullish_coalescing k l fs ≡ is_nullish_coalescing k l gs
-same_coalescing LogicalExpression l fs gs = refl
-same_coalescing _ l fs gs = refl
-
 own_same : (k : AstType) (l : Label) (fs gs : Fields) → own_weight k l fs ≡ own_weight k l gs
-own_same k l fs gs = ap (λ b. if b then 28 else 0) (same_coalescing k l fs gs)
+own_same LogicalExpression l fs gs = refl
+own_same BinaryExpression l fs gs = refl
+own_same AssignmentExpression l fs gs = refl
+own_same _ l fs gs = refl
 
 -- the place of a field of a node
 pub fits_at : (x : Ancestor) {xs : List Ancestor} {k : AstType} {c : ℕ → Need} → x.kind ≡ k → FitsFields xs k c → Fits (x ∷ xs) (c x.field)
@@ -41,12 +39,6 @@ pub kept_outside : (x : Ancestor) {a b : Moment} → Kept (inside_of x a) (insid
 kept_outside x h = record { level = h.level; around = ap rest h.around; options = h.options; counted = h.counted; inert = h.inert }
 
 -- STEPS
-
-abbrev pub pending_of : Ledger → Pending
-pending_of (ledger w p) = p
-
-abbrev pub known_of : Ledger → Whole
-known_of (ledger w p) = w
 
 module _ {R : Need → Ledger → Spot → Ledger → Spot → Type 0} where
   -- one field after the other
@@ -62,11 +54,11 @@ module _ {R : Need → Ledger → Spot → Ledger → Spot → Type 0} where
   steps_trees (x ∷ xs) zero d y l h = steps_map (λ t. t next opened_trees (bare_trees (trees xs))) (λ s s' t u r. in_head r) h
   steps_trees (x ∷ xs) (suc i) d y l h = steps_map (λ ts. opened (bare x) next ts) (λ s s' ts us r. in_tail r) (steps_trees xs i d y (omega (arith, l)) h)
 
-  step_within : {n : Need} (o : Pending) (s s' : Ledger) (ts us : OpenTrees) → TreesStep R n s ts s' us → FieldStep R n (ledger (known_of s) o) (list (pending_of s) ts) (ledger (known_of s') o) (list (pending_of s') us)
+  step_within : {n : Need} (o : Pending) (s s' : Ledger) (ts us : OpenTrees) → TreesStep R n s ts s' us → FieldStep R n (ledger (whole_in s) o) (list (pending_in s) ts) (ledger (whole_in s') o) (list (pending_in s') us)
   step_within o (ledger w p) (ledger w' q) ts us r = within r
 
   -- steps in a statement list change its own pair
-  pub steps_within : {n : Need} (o : Pending) {s s' : Ledger} {ts us : OpenTrees} → Steps (TreesStep R n) s ts s' us → Steps (FieldStep R n) (ledger (known_of s) o) (list (pending_of s) ts) (ledger (known_of s') o) (list (pending_of s') us)
+  pub steps_within : {n : Need} (o : Pending) {s s' : Ledger} {ts us : OpenTrees} → Steps (TreesStep R n) s ts s' us → Steps (FieldStep R n) (ledger (whole_in s) o) (list (pending_in s) ts) (ledger (whole_in s') o) (list (pending_in s') us)
   steps_within o stays = stays
   steps_within o (goes r h) = goes (step_within o _ _ _ _ r) (steps_within o h)
 

@@ -11,7 +11,7 @@ use Rattle.es_visit.specs.Changes.{ChangedProgram, open_program}
 use Rattle.es_visit.specs.Starts.{IsStart}
 
 whole_at_start : (p : Tree) (a : Moment) → IsStart p a → whole_at a ≡ whole_of p
-whole_at_start p a s = λ i. record { in_use = λ x. s.in_use x i; steady = λ x. s.steady x i; made = s.made i; others = s.others i }
+whole_at_start p a s = λ i. record { in_use = λ x. s.in_use x i; bound = λ x. s.bound x i; steady = λ x. s.steady x i; made = s.made i; others = s.others i }
 
 pub reached_whole : {R : Need → Ledger → Spot → Ledger → Spot → Type 0} {a b : Moment} (x y : Program) → ChangedProgram R a x b y → IsStart (plain_program x) a → IsFinished b → Reached R (plain_program x) b.made (plain_program y)
 reached_whole {R = R} {a = a} {b = b} x y h s f =

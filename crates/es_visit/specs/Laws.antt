@@ -1,5 +1,5 @@
 -- What a lawful type states of itself, and what its hooks promise.
-use Rattle.std.specs.Prelude.{◌≡◌, ◌⊎◌, ◌&&◌, ℕ, ◌+◌, ◌≤◌, ◌==◌, ◌||◌, nat_le, Bool, true, false, not, cond, List, [], ◌∷◌, if◌then◌else◌}
+use Rattle.std.specs.Prelude.{◌≡◌, ◌⊎◌, ◌&&◌, ℕ, ◌+◌, ◌≤◌, ◌==◌, ◌||◌, nat_le, Bool, true, false, not, cond, Some, List, [], ◌∷◌, if◌then◌else◌}
 use Rattle.es_tree.specs.declared.ast_type.AstType.{AstType}
 use Rattle.es_tree.specs.declared.error.LowerError.{LowerError}
 use Rattle.es_tree.specs.declared.options.EnvOptions.{EnvOptions}
@@ -10,11 +10,11 @@ use Rattle.es_scope.specs.declared.ancestor.Ancestor.{Ancestor}
 use Rattle.es_runs.specs.Alike.{Need}
 use Rattle.es_runs.specs.Open.{nothing_pending, OpenFields, closed_fields}
 use Rattle.es_runs.specs.OpenRules.{either_rule}
-use Rattle.es_runs.specs.OpenSteps.{Ledger, Spot, FieldsStep}
+use Rattle.es_runs.specs.OpenSteps.{Whole, Ledger, Spot, FieldsStep}
 use Rattle.es_statements.specs.ProgramPlain.{plain_program}
 use Rattle.es_statements.specs.declared.program.Program.{Program}
 use Rattle.es_visit.specs.declared.hook.Hook.{Hook}
-use Rattle.es_visit.specs.Hooks.{sort_of, hook_number, IsHooked}
+use Rattle.es_visit.specs.Hooks.{hook_of_sort, sort_of, hook_number, IsHooked}
 use Rattle.es_visit.specs.Counts.{count_ids, count_ids_among, just, hooks_in, hooks_in_trees}
 use Rattle.es_visit.specs.Moments.{Moment, with_lists, HasRoom, is_inert, IsFinished}
 use Rattle.es_visit.specs.Changes.{Changed, ChangedTrees, ChangedProgram, Listed}
@@ -26,7 +26,7 @@ pub record Profile : Type 1 where
   pub rows : Hook → AstType → Label → Fields → Bool
   pub makes : Tree → Type 0
   pub writes : Tree → Type 0
-  pub refuses : LowerError → Tree → Type 0
+  pub refuses : LowerError → Whole → Tree → Type 0
 
 -- whether a node is a construct
 abbrev pub is_row : (AstType → Label → Fields → Bool) → Tree → Bool
@@ -58,10 +58,14 @@ pub record IsLawful (profile : Profile) : Type 0 where
 
 -- HOOKS ON NODES
 
+-- The hook that a node gets by its sort wherever it stands is this one, or one that the node before it got so.
+abbrev pub KeepsSort : Hook → Tree → Tree → Type 0
+KeepsSort hook t u = (h : Hook) → hook_of_sort (sort_of (kind_of u)) ≡ Some h → (hook_of_sort (sort_of (kind_of t)) ≡ Some h) ⊎ (h ≡ hook)
+
 -- before the children of a node, by its sort
 pub record Entered (profile : Profile) (hook : Hook) (a : Moment) (t : Tree) (b : Moment) (u : Tree) : Type 0 where
   pub changed : Changed profile.rule a t b u
-  pub sort : sort_of (kind_of u) ≡ sort_of (kind_of t)
+  pub sort : KeepsSort hook t u
   pub cleared : is_row (profile.rows hook) u ≡ false
   pub order : (u ≡ t) ⊎ profile.makes u
 
@@ -180,7 +184,7 @@ both_profile p q = record {
   rows = λ h k l fs. p.rows h k l fs || q.rows h k l fs;
   makes = λ t. p.makes t ⊎ q.makes t;
   writes = λ t. p.writes t ⊎ q.writes t;
-  refuses = λ e t. p.refuses e t ⊎ q.refuses e t;
+  refuses = λ e w t. p.refuses e w t ⊎ q.refuses e w t;
 }
 
 -- The second type makes no construct of the first, neither writes one of the other, and the steps of neither make a node

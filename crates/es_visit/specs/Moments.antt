@@ -20,7 +20,7 @@ use Rattle.es_tree.specs.Names.{first_text}
 use Rattle.es_tree.specs.Tree.{Tree, Label, Fields}
 use Rattle.es_tree.specs.Walks.{all_nodes}
 use Rattle.es_tree.specs.declared.options.EnvOptions.{EnvOptions}
-use Rattle.es_scope.specs.Contexts.{uses_of, steady_of, made_of, around_of}
+use Rattle.es_scope.specs.Contexts.{uses_of, bound_of, steady_of, made_of, around_of}
 use Rattle.es_scope.specs.declared.ancestor.Ancestor.{Ancestor}
 use Rattle.es_scope.specs.declared.context.TraverseCtx.{TraverseCtx}
 use Rattle.es_runs.specs.Alike.{Need, needs, all_of_it}
@@ -36,6 +36,7 @@ pub record Pendings : Type 0 where
 
 pub record Moment : Type 0 where
   pub in_use : Text → Bool
+  pub bound : Text → Bool
   pub steady : Text → Bool
   pub made : List Text
   pub next : ℕ
@@ -48,6 +49,7 @@ pub record Moment : Type 0 where
 abbrev pub moment : {S : Type 0} → (S → Pendings) → TraverseCtx S → Moment
 moment pending ctx = record {
   in_use = uses_of ctx;
+  bound = bound_of ctx;
   steady = steady_of ctx;
   made = made_of ctx;
   next = ctx.ast.next;
@@ -67,7 +69,7 @@ below [] = []
 below (p ∷ ps) = ps
 
 abbrev pub whole_at : Moment → Whole
-whole_at a = record { in_use = a.in_use; steady = a.steady; made = a.made; others = a.others }
+whole_at a = record { in_use = a.in_use; bound = a.bound; steady = a.steady; made = a.made; others = a.others }
 
 abbrev pub ledger_at : Moment → Ledger
 ledger_at a = ledger (whole_at a) (top a.lists)

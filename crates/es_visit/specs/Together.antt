@@ -15,7 +15,7 @@ module _ {Q R : Need → Ledger → Spot → Ledger → Spot → Type 0} where
     split_step (acts t u (inr h)) = inr (acts t u h)
     split_step (inside h) = elim (split_fields h) [ inl a ↦ inl (inside a) | inr b ↦ inr (inside b) ]
 
-    split_fields : {c : ℕ → Need} {s s' : Ledger} {fs gs : OpenFields} → FieldsStep (either_rule Q R) c s fs s' gs → FieldsStep Q c s fs s' gs ⊎ FieldsStep R c s fs s' gs
+    pub split_fields : {c : ℕ → Need} {s s' : Ledger} {fs gs : OpenFields} → FieldsStep (either_rule Q R) c s fs s' gs → FieldsStep Q c s fs s' gs ⊎ FieldsStep R c s fs s' gs
     split_fields (in_first h) = elim (split_field h) [ inl a ↦ inl (in_first a) | inr b ↦ inr (in_first b) ]
     split_fields (in_later h) = elim (split_fields h) [ inl a ↦ inl (in_later a) | inr b ↦ inr (in_later b) ]
 

@@ -18,14 +18,14 @@ entered_removed a (node DebuggerStatement l fs) e = record {
     lighter = omega arith;
     nodes = omega arith;
   };
-  sort = refl;
+  sort = λ h s. inl s;
   cleared = refl;
   order = inr refl;
 }
 entered_removed a (node _ l fs) e = absurd (cc e)
 
 pub entered_kept : (a : Moment) (t : Tree) → is_debugger (kind_of t) (label_of t) (fields_of t) ≡ false → Entered removal Statement a t a t
-entered_kept a t e = record { changed = changed_none a _; sort = refl; cleared = e; order = inl refl }
+entered_kept a t e = record { changed = changed_none a _; sort = λ h s. inl s; cleared = e; order = inl refl }
 
 pub bare_test : (t : Tree) → is_debugger (kind_of (bare t)) (label_of (bare t)) (fields_of (bare t)) ≡ is_debugger (kind_of t) (label_of t) (fields_of t)
 bare_test (node DebuggerStatement l fs) = refl

@@ -10,7 +10,7 @@ quiet = record {
   rows = λ h k l fs. false;
   makes = λ t. ⊥;
   writes = λ t. ⊥;
-  refuses = λ e t. ⊥;
+  refuses = λ e w t. ⊥;
 }
 
 pub quiet_lawful : IsLawful quiet

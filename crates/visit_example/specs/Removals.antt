@@ -33,7 +33,7 @@ removal = record {
   rows = debugger_rows;
   makes = λ t. kind_of t ≡ EmptyStatement;
   writes = λ t. ⊥;
-  refuses = λ e t. ⊥;
+  refuses = λ e w t. ⊥;
 }
 
 pub kept_kind : (h : Hook) (k : AstType) (l : Label) (fs gs : Fields) → debugger_rows h k l fs ≡ false → debugger_rows h k l gs ≡ false
