@@ -1,4 +1,4 @@
--- A declared name and the steady names.
+-- A declared name, and the bound and the steady names.
 use Rattle.std.proofs.Common.{◌≡◌, ℕ, ◌<◌, ◌≤◌, true, false, refl, ap, List, [], ◌∷◌, length, Some, arith}
 use Rattle.es_tree.specs.Tree.{Tree}
 use Rattle.es_runs.specs.Open.{Pending, with_vars}
@@ -6,10 +6,11 @@ use Rattle.lower_common.specs.Declarators.{declarations_for, declarator_with}
 use Rattle.lower_common.specs.Stacks.{declarations_written, with_top, with_var}
 use Rattle.lower_common.specs.UidVars.{Declares, DeclaresVar, DeclaresVarWith}
 use Rattle.es_tree.specs.Words.{Text}
-use Rattle.es_scope.specs.Contexts.{Binds, Refers, function_scoped, steady_of, table_of, uses_of}
+use Rattle.es_scope.specs.Contexts.{Binds, Refers, bound_of, function_scoped, steady_of, table_of, uses_of}
 use Rattle.es_scope.specs.Tables.{symbol_count}
 use Rattle.es_scope.specs.declared.context.TraverseCtx.{TraverseCtx}
 use Rattle.es_scope.specs.declared.flags.ReferenceFlags.{ReferenceFlags}
+use Rattle.es_scope.proofs.BoundContexts.{bound-made}
 use Rattle.es_scope.proofs.SteadyContexts.{steady-made}
 use Rattle.lower_common.specs.declared.state.TransformState.{TransformState}
 
@@ -29,6 +30,10 @@ declares-binds old new name ps d = record {
 pub steady-declared : (old mid new : TraverseCtx TransformState) (name : Text) (ps : List Pending) (symbol : ℕ) (flags : ReferenceFlags) → Declares old mid name ps → uses_of old name ≡ false → symbol ≡ symbol_count (table_of old) → Refers mid new (Some symbol) flags → flags.write ≡ true → (x : Text) → steady_of new x ≡ steady_of old x
 steady-declared old mid new name ps symbol flags d unused k r writes =
     steady-made (beside old mid) mid new name d.binds.scope function_scoped symbol flags unused (declares-binds old mid name ps d) k r writes
+
+-- a declared name leaves all bound names so, and binds none: it is a fresh one
+pub bound-declared : (old new : TraverseCtx TransformState) (name : Text) (ps : List Pending) → Declares old new name ps → uses_of old name ≡ false → (x : Text) → bound_of new x ≡ bound_of old x
+bound-declared old new name ps d unused = bound-made old new name d.binds.scope function_scoped unused d.makes d.binds.table
 
 -- THE PAIRS
 

@@ -20,7 +20,7 @@ common_profile = record {
   rows = λ h k l fs. false;
   makes = λ t. ⊥;
   writes = MayBeWritten;
-  refuses = λ e t. ⊥;
+  refuses = λ e w t. ⊥;
 }
 
 -- what a state holds to be written later

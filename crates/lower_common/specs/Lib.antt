@@ -3,3 +3,8 @@ pub mod Stacks
 pub mod Store
 pub mod UidVars
 pub mod CommonLaws
+pub mod Takings
+pub mod Duplicates
+pub mod TemplateParts
+pub mod FurtherUses
+pub mod Replacings

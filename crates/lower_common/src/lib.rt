@@ -1,9 +1,13 @@
 //! What all lowerings share: the declarators that are to be written at the heads of statement lists, fresh names that
-//! are declared there, and the lowering that writes them.
+//! are declared there, expressions that are read more than once, and the lowering that writes the declarators.
 #![tactic(auto)]
 
 pub mod common;
 pub mod declarations;
+#[cfg(test)]
+mod doubling_tests;
+pub mod duplicate;
+pub mod readings;
 pub mod state;
 #[cfg(test)]
 mod tests;

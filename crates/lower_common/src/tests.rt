@@ -20,7 +20,7 @@ use es_tree::options::{
 use std::alloc::{AllocError, Global};
 use std::test::Fail;
 
-const NOWHERE: Span = Span { start: 0, end: 0 };
+pub(crate) const NOWHERE: Span = Span { start: 0, end: 0 };
 
 fn bound(alloc: Global, name: &str) -> Result<BoundIdentifier, AllocError> {
     Ok(BoundIdentifier {
@@ -29,7 +29,7 @@ fn bound(alloc: Global, name: &str) -> Result<BoundIdentifier, AllocError> {
     })
 }
 
-fn identifier(alloc: Global, name: &str) -> Result<Node, AllocError> {
+pub(crate) fn identifier(alloc: Global, name: &str) -> Result<Node, AllocError> {
     let kind = Kind::Identifier {
         name: String::from_str(alloc, name)?,
         reference: None,
@@ -62,11 +62,12 @@ fn one(ast: &mut AstBuilder) -> Result<Node, AllocError>
     Ok(node)
 }
 
-/// A name, or a number as it was written.
-fn leaf(node: &Node) -> &str {
+/// A name, a number as it was written, or `this`.
+pub(crate) fn leaf(node: &Node) -> &str {
     match &node.kind {
         Kind::Identifier { name, .. } => name.as_str(),
         Kind::NumericLiteral { raw, .. } => raw.as_str(),
+        Kind::ThisExpression => "this",
         _ => "?",
     }
 }
@@ -98,7 +99,7 @@ fn show_declarators(text: &mut String, declarators: &[Node]) -> Result<(), Alloc
 }
 
 /// A declaration as text.
-fn shown(alloc: Global, statement: Option<Node>) -> Result<String, AllocError> {
+pub(crate) fn shown(alloc: Global, statement: Option<Node>) -> Result<String, AllocError> {
     let mut text = String::new(alloc);
     let Some(node) = statement else {
         return Ok(text);
@@ -163,7 +164,7 @@ fn no_options(alloc: Global) -> Result<EnvOptions, AllocError> {
 }
 
 /// The context of an empty script.
-fn context(alloc: Global) -> Result<TraverseCtx<TransformState>, AllocError>
+pub(crate) fn context(alloc: Global) -> Result<TraverseCtx<TransformState>, AllocError>
     ensures there { IfOk result (λ ctx. length ctx.state.var_declarations ≡ 1) }
     ensures next { IfOk result (λ ctx. ctx.ast.next ≡ 10) }
 {
