@@ -5,15 +5,12 @@ use Rattle.es_tree.specs.Tree.{Tree, node, Label, Fields, done, ◌then◌, one}
 use Rattle.es_tree.specs.declared.ast_type.AstType.{AstType}
 use Rattle.es_tree.specs.declared.ast_type.AstType.TheVariants.{Identifier, LogicalExpression, ThisExpression, ConditionalExpression}
 use Rattle.es_tree.specs.declared.ids.Span.{Span}
+use Rattle.es_runs.specs.Doubling.{has_no_fields}
 use Rattle.es_runs.specs.Runs.{made}
 
 -- the label of a made node with this span
 abbrev pub at_span : Span → Label
 at_span s = record (made [] []) { start = s.start; stop = s.end }
-
-abbrev pub has_no_fields : Fields → Bool
-has_no_fields done = true
-has_no_fields _ = false
 
 -- whether a node has no fields, where it is a name or `this`
 abbrev pub is_leaf_where_read : Tree → Bool
@@ -34,16 +31,3 @@ is_lowerable_coalescing k l fs = is_nullish_coalescing k l fs && has_sides fs
 abbrev pub is_conditional : AstType → Bool
 is_conditional ConditionalExpression = true
 is_conditional _ = false
-
--- WELL MADE NODES
-
-abbrev pub has_two_children : Fields → Bool
-has_two_children (one a then (one b then done)) = true
-has_two_children _ = false
-
--- What the lowering of `??` asks of a node's fields: a logical expression has its two sides, a name and `this` have none.
-abbrev pub is_well_made : AstType → Label → Fields → Bool
-is_well_made LogicalExpression l fs = has_two_children fs
-is_well_made Identifier l fs = has_no_fields fs
-is_well_made ThisExpression l fs = has_no_fields fs
-is_well_made _ l fs = true

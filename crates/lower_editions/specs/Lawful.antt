@@ -1,37 +1,88 @@
--- The laws of the lowering of nullish coalescing.
-use Rattle.std.proofs.Common.{Bool, ◌≡◌, refl, inl}
+-- The laws of the lowerings.
+use Rattle.std.proofs.Common.{Bool, ◌≡◌, refl, sym, ◌∙◌, inl}
 use Rattle.std.specs.Prelude.{true, false}
-use Rattle.es_tree.specs.Tree.{Label, Fields}
+use Rattle.es_tree.specs.Tree.{Tree, Label, Fields}
 use Rattle.es_tree.specs.declared.ast_type.AstType.{AstType}
-use Rattle.es_tree.specs.declared.ast_type.AstType.TheVariants.{LogicalExpression}
+use Rattle.es_tree.specs.declared.ast_type.AstType.TheVariants.{AssignmentExpression, BinaryExpression, LogicalExpression}
 use Rattle.es_tree.specs.declared.options.EnvOptions.{EnvOptions}
-use Rattle.es_runs.specs.OpenRules.{Coalescing}
+use Rattle.es_runs.specs.Alike.{Need}
+use Rattle.es_runs.specs.OpenRules.{Assigning, Coalescing, Raising}
+use Rattle.es_runs.specs.OpenSteps.{Ledger, Spot}
 use Rattle.es_visit.specs.declared.hook.Hook.{Hook}
 use Rattle.es_visit.specs.declared.hook.Hook.TheVariants.{Expression}
 use Rattle.es_visit.specs.Hooks.{IsHooked}
-use Rattle.es_visit.specs.Laws.{IsLawful, IsStable}
+use Rattle.es_visit.specs.Laws.{IsLawful, IsStable, Profile}
+use Rattle.lower_editions.specs.Assignings.{is_lowerable_assignment}
 use Rattle.lower_editions.specs.Coalescings.{is_lowerable_coalescing}
-use Rattle.lower_editions.specs.Profiles.{coalescing_profile, coalescing_rows, es2020_profile, switched_profile}
-use Rattle.lower_editions.specs.Stable.{coalescing_calm, lowerable_stable}
+use Rattle.lower_editions.specs.Powers.{is_lowerable_power}
+use Rattle.lower_editions.specs.Profiles.{assigning_profile, assigning_rows, coalescing_profile, coalescing_rows, es2016_profile, es2020_profile, es2021_profile, raising_profile, raising_rows, switched}
+use Rattle.lower_editions.specs.Stable.{AreKept, IsCalm, assigning_calm, assignment_kept, coalescing_calm, coalescing_kept, power_kept, raising_calm}
 
-stable : (h : Hook) → IsStable Coalescing (coalescing_rows h)
-stable Expression = lowerable_stable Coalescing coalescing_calm
-stable _ = λ c s s' k l fs gs r e. refl
+-- STEPS OF CALM RULES
 
-hooked : (k : AstType) (l : Label) (fs : Fields) → is_lowerable_coalescing k l fs ≡ true → IsHooked Expression k
-hooked LogicalExpression l fs e = inl refl
-hooked _ l fs e = absurd (cc e)
+kept_stable : (R : Need → Ledger → Spot → Ledger → Spot → Type 0) (rows : AstType → Label → Fields → Bool) → ((k : AstType) (l : Label) → AreKept R (rows k l)) → IsStable R rows
+kept_stable R rows kept c s s' k l fs gs r e = sym (kept k l c s s' fs gs r) ∙ e
 
-placed : (h : Hook) (k : AstType) (l : Label) (fs : Fields) → coalescing_rows h k l fs ≡ true → IsHooked h k
-placed Expression k l fs e = hooked k l fs e
-placed _ k l fs e = absurd (cc e)
+pub coalescing_stable : (R : Need → Ledger → Spot → Ledger → Spot → Type 0) → IsCalm R → (h : Hook) → IsStable R (coalescing_rows h)
+coalescing_stable R calm Expression = kept_stable R is_lowerable_coalescing (coalescing_kept R calm)
+coalescing_stable R calm _ = λ c s s' k l fs gs r e. refl
+
+pub assigning_stable : (R : Need → Ledger → Spot → Ledger → Spot → Type 0) → IsCalm R → (h : Hook) → IsStable R (assigning_rows h)
+assigning_stable R calm Expression = kept_stable R is_lowerable_assignment (assignment_kept R calm)
+assigning_stable R calm _ = λ c s s' k l fs gs r e. refl
+
+pub raising_stable : (R : Need → Ledger → Spot → Ledger → Spot → Type 0) → IsCalm R → (h : Hook) → IsStable R (raising_rows h)
+raising_stable R calm Expression = kept_stable R is_lowerable_power (power_kept R calm)
+raising_stable R calm _ = λ c s s' k l fs gs r e. refl
+
+-- WHERE THE CONSTRUCTS STAND
+
+coalescing_hooked : (k : AstType) (l : Label) (fs : Fields) → is_lowerable_coalescing k l fs ≡ true → IsHooked Expression k
+coalescing_hooked LogicalExpression l fs e = inl refl
+coalescing_hooked _ l fs e = absurd (cc e)
+
+coalescing_placed : (h : Hook) (k : AstType) (l : Label) (fs : Fields) → coalescing_rows h k l fs ≡ true → IsHooked h k
+coalescing_placed Expression k l fs e = coalescing_hooked k l fs e
+coalescing_placed _ k l fs e = absurd (cc e)
+
+assigning_hooked : (k : AstType) (l : Label) (fs : Fields) → is_lowerable_assignment k l fs ≡ true → IsHooked Expression k
+assigning_hooked AssignmentExpression l fs e = inl refl
+assigning_hooked _ l fs e = absurd (cc e)
+
+assigning_placed : (h : Hook) (k : AstType) (l : Label) (fs : Fields) → assigning_rows h k l fs ≡ true → IsHooked h k
+assigning_placed Expression k l fs e = assigning_hooked k l fs e
+assigning_placed _ k l fs e = absurd (cc e)
+
+raising_hooked : (k : AstType) (l : Label) (fs : Fields) → is_lowerable_power k l fs ≡ true → IsHooked Expression k
+raising_hooked BinaryExpression l fs e = inl refl
+raising_hooked AssignmentExpression l fs e = inl refl
+raising_hooked _ l fs e = absurd (cc e)
+
+raising_placed : (h : Hook) (k : AstType) (l : Label) (fs : Fields) → raising_rows h k l fs ≡ true → IsHooked h k
+raising_placed Expression k l fs e = raising_hooked k l fs e
+raising_placed _ k l fs e = absurd (cc e)
+
+-- THE LAWS
 
 pub coalescing_lawful : IsLawful coalescing_profile
-coalescing_lawful = record { stable = stable; placed = placed; own = λ h t e. absurd e }
+coalescing_lawful = record { stable = coalescing_stable Coalescing coalescing_calm; placed = coalescing_placed; own = λ h t e. absurd e }
 
-switched_lawful : (on : Bool) → IsLawful (switched_profile on)
-switched_lawful true = coalescing_lawful
-switched_lawful false = record { stable = λ h c s s' k l fs gs r e. refl; placed = λ h k l fs e. absurd (cc e); own = λ h t e. absurd e }
+pub assigning_lawful : IsLawful assigning_profile
+assigning_lawful = record { stable = assigning_stable Assigning assigning_calm; placed = assigning_placed; own = λ h t e. absurd e }
+
+pub raising_lawful : IsLawful raising_profile
+raising_lawful = record { stable = raising_stable Raising raising_calm; placed = raising_placed; own = λ h t e. absurd e }
+
+-- where it is off, nothing is a construct
+pub switched_lawful : (on : Bool) (p : Profile) → IsLawful p → IsLawful (switched on p)
+switched_lawful true p lawful = record { stable = lawful.stable; placed = lawful.placed; own = λ h t w. lawful.own h t w.1 }
+switched_lawful false p lawful = record { stable = λ h c s s' k l fs gs r e. refl; placed = λ h k l fs e. absurd (cc e); own = λ h t w. refl }
+
+pub es2016_lawful : (o : EnvOptions) → IsLawful (es2016_profile o)
+es2016_lawful o = switched_lawful o.es2016.exponentiation_operator raising_profile raising_lawful
 
 pub es2020_lawful : (o : EnvOptions) → IsLawful (es2020_profile o)
-es2020_lawful o = switched_lawful o.es2020.nullish_coalescing_operator
+es2020_lawful o = switched_lawful o.es2020.nullish_coalescing_operator coalescing_profile coalescing_lawful
+
+pub es2021_lawful : (o : EnvOptions) → IsLawful (es2021_profile o)
+es2021_lawful o = switched_lawful o.es2021.logical_assignment_operators assigning_profile assigning_lawful

@@ -1,57 +1,16 @@
--- What is between two moments where a node was lowered, and what a context adds for it.
-use Rattle.std.specs.Prelude.{◌≡◌, ℕ, ◌+◌, ◌++◌, List, [], ◌∷◌, Some, true, false}
+-- A `??` that was lowered by a temporary.
+use Rattle.std.specs.Prelude.{◌≡◌, [], ◌∷◌}
 use Rattle.es_tree.specs.Bare.{bare}
 use Rattle.es_tree.specs.Fresh.{IsFreshName, node_base}
 use Rattle.es_tree.specs.Tree.{Tree}
 use Rattle.es_tree.specs.Words.{Text}
 use Rattle.es_tree.specs.declared.ids.Span.{Span}
-use Rattle.es_scope.specs.Contexts.{KeepsNames, KeptBeside, Refers, steady_of, uses_of}
+use Rattle.es_scope.specs.Contexts.{uses_of}
 use Rattle.es_scope.specs.declared.context.TraverseCtx.{TraverseCtx}
-use Rattle.es_scope.specs.declared.flags.ReferenceFlags.{ReferenceFlags}
-use Rattle.es_runs.specs.Open.{no_additions, with_vars}
 use Rattle.es_runs.specs.Rules.{tested_by}
-use Rattle.es_runs.specs.Steps.{also_all}
-use Rattle.es_visit.specs.Moments.{Moment, Pendings, moment}
-use Rattle.lower_common.specs.Stacks.{with_top}
+use Rattle.lower_common.specs.Takings.{Takes, moment_of}
 use Rattle.lower_common.specs.declared.state.TransformState.{TransformState}
 use Rattle.lower_editions.specs.Coalescings.{at_span}
-
--- These fresh names more, declared by `var` in the innermost list, and so many ids: all else is as before.
-pub record Takes (names : List Text) (ids : ℕ) (a b : Moment) : Type 0 where
-  pub used : (x : Text) → b.in_use x ≡ also_all names a.in_use x
-  pub steady_is : (x : Text) → b.steady x ≡ a.steady x
-  pub made_is : b.made ≡ a.made ++ names
-  pub next_is : b.next ≡ a.next + ids
-  pub lists_are : b.lists ≡ with_top (with_vars names) a.lists
-  pub others_are : b.others ≡ a.others
-  pub around_is : b.around ≡ a.around
-  pub options_are : b.options ≡ a.options
-
--- So many ids more, and no name: references that read may be added.
-pub record ReadsMore {S : Type 0} (ids : ℕ) (old new : TraverseCtx S) : Type 0 where
-  pub names : KeepsNames old new
-  pub steady_is : (x : Text) → steady_of new x ≡ steady_of old x
-  pub next_is : new.ast.next ≡ old.ast.next + ids
-  pub kept : KeptBeside old new
-
-abbrev pub writing : ReferenceFlags
-writing = record { read = false; write = true }
-
--- So many ids more, and no name: this symbol gets a reference that writes it, and others may get some that read.
-pub record WritesOnce {S : Type 0} (symbol ids : ℕ) (old new : TraverseCtx S) : Type 0 where
-  pub names : KeepsNames old new
-  pub written : TraverseCtx S
-  pub refers : Refers old written (Some symbol) writing
-  pub steady_is : (x : Text) → steady_of new x ≡ steady_of written x
-  pub next_is : new.ast.next ≡ old.ast.next + ids
-  pub kept : KeptBeside old new
-
--- what a state holds to be written later
-abbrev pub pending_in : TransformState → Pendings
-pending_in s = record { lists = s.var_declarations; others = no_additions }
-
-abbrev pub moment_of : TraverseCtx TransformState → Moment
-moment_of ctx = moment pending_in ctx
 
 -- A `??` became a conditional by the temporary of this name.
 pub record ByTemporary (old new : TraverseCtx TransformState) (span : Span) (left right made : Tree) : Type 0 where

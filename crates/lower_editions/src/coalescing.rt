@@ -4,37 +4,32 @@ ghost use Rattle.es_tree.specs.Bare.{bare};
 ghost use Rattle.es_tree.specs.Constructs.{is_nullish_coalescing};
 ghost use Rattle.es_tree.specs.Tree.{fields_of, kind_of, label_of};
 ghost use Rattle.es_tree.specs.Views.{plain_fields};
-ghost use Rattle.es_scope.specs.Contexts.{table_of};
+ghost use Rattle.es_scope.specs.Contexts.{steady_of, table_of};
 ghost use Rattle.es_scope.specs.Tables.{symbol_count};
+ghost use Rattle.es_runs.specs.Doubling.{has_no_fields};
+ghost use Rattle.es_runs.specs.OpenRules.{coalescing_row};
 ghost use Rattle.es_runs.specs.Rules.{tested, tested_by};
+ghost use Rattle.es_runs.specs.Steps.{reads_again};
 ghost use Rattle.es_runs.specs.Weights.{weight};
-ghost use Rattle.es_visit.specs.Laws.{Entered};
 ghost use Rattle.es_visit.specs.Moments.{HasRoom};
-ghost use Rattle.es_visit.specs.declared.hook.Hook.TheVariants.{Expression as AnyExpression};
-ghost use Rattle.lower_editions.specs.Coalescings.{at_span, has_no_fields, has_sides, is_leaf_where_read, is_lowerable_coalescing};
-ghost use Rattle.lower_editions.specs.Profiles.{coalescing_profile};
-ghost use Rattle.lower_editions.specs.Takings.{ByTemporary, ReadsMore, WritesOnce, moment_of};
+ghost use Rattle.lower_common.specs.Replacings.{Replaces};
+ghost use Rattle.lower_common.specs.Takings.{ReadsMore, WritesOnce, moment_of};
+ghost use Rattle.lower_editions.specs.Coalescings.{at_span, has_sides, is_leaf_where_read, is_lowerable_coalescing};
+ghost use Rattle.lower_editions.specs.Takings.{ByTemporary};
 
 use crate::made_nodes::{NOWHERE, new_tested};
-use crate::readings::{READS, read_once_more, reads_again};
 use es_expressions::operations::{LogicalExpression, new_assignment_expression};
 use es_scope::context::TraverseCtx;
 use es_scope::context_names::BoundIdentifier;
-use es_scope::flags::ReferenceFlags;
 use es_tree::error::LowerError;
 use es_tree::ids::Span;
 use es_tree::kind::Kind;
 use es_tree::node::{Field, Node};
 use es_tree::operators::{AssignmentOperator, LogicalOperator};
 use lower_common::declarations::VarDeclarationsStore;
+use lower_common::readings::{READS, WRITES, is_steady, read_once_more};
 use lower_common::state::TransformState;
 use std::alloc::AllocError;
-
-/// A reference that writes its name.
-const WRITES: ReferenceFlags = ReferenceFlags {
-    read: false,
-    write: true,
-};
 
 /// Whether the node is a `??`.
 fn is_coalescing(node: &Node) -> bool
@@ -71,6 +66,18 @@ pub(crate) fn is_lowerable(node: &Node) -> bool
     ensures { result ≡ is_lowerable_coalescing (kind_of node.now) (label_of node.now) (fields_of node.now) }
 {
     is_coalescing(node) && has_sides(node.fields.as_slice())
+}
+
+/// Whether a left side can be read twice as it stands: `this`, and a name that the program's scope binds and
+/// no reference writes.
+fn reads_again<S>(left: &Node, ctx: &TraverseCtx<S>) -> bool
+    ensures { result ≡ reads_again (steady_of ctx.now) left.now }
+{
+    match &left.kind {
+        Kind::ThisExpression => true,
+        Kind::Identifier { name, .. } => is_steady(name.as_str(), ctx),
+        _ => false,
+    }
 }
 
 /// `left ?? right` where `left` can be read again: `left !== null && left !== void 0 ? left : right`.
@@ -131,15 +138,15 @@ fn lower_by_temporary(
     Ok(node)
 }
 
-/// The conditional of a `??` that is lowered. Answers an error only for want of memory, or where no
-/// statement list is open that could declare a temporary.
+/// The conditional of a `??` that is lowered. Answers an error only for want of memory.
 pub(crate) fn lower_coalescing(
     node: Node,
     ctx: &mut TraverseCtx<TransformState>,
 ) -> Result<Node, LowerError>
     requires lowerable { is_lowerable_coalescing (kind_of node) (label_of node) (fields_of node) ≡ true }
     requires room { HasRoom (moment_of ctx.old) (weight (bare node)) }
-    ensures entered { IfOk result (λ made. Entered coalescing_profile AnyExpression (moment_of ctx.old) (bare node) (moment_of ctx.new) (bare made)) }
+    requires there { 0 < length ctx.old.state.var_declarations }
+    ensures replaced { IfOk result (λ made. Replaces coalescing_row ctx.old ctx.new (bare node) (bare made)) }
     ensures refused { IfErr result (λ error. error ≡ LowerError.OutOfMemory) }
 {
     let LogicalExpression {
@@ -152,8 +159,6 @@ pub(crate) fn lower_coalescing(
     if reads_again(&left, ctx) {
         let made = lower_by_reading(span, left, right, ctx)?;
         Ok(made)
-    } else if ctx.state.var_declarations.is_empty() {
-        Err(LowerError::OutOfMemory)
     } else {
         let made = lower_by_temporary(span, left, right, ctx)?;
         Ok(made)

@@ -2,6 +2,17 @@
 //! `(x = l) !== null && x !== void 0 ? x : r` with a fresh name `x`, and
 //! `l !== null && l !== void 0 ? l : r` where `l` is `this` or a name that the program's scope binds and no
 //! reference writes.
+//!
+//! Before:
+//!
+//!     const port = config.port ?? 8080;
+//!     let size = port ?? 1;
+//!
+//! After:
+//!
+//!     var _config$port;
+//!     const port = (_config$port = config.port) !== null && _config$port !== void 0 ? _config$port : 8080;
+//!     let size = port !== null && port !== void 0 ? port : 1;
 ghost use Rattle.std.specs.Prelude.{◌≡◌, false, true};
 ghost use Rattle.lower_editions.specs.Lawful.{coalescing_lawful};
 ghost use Rattle.lower_editions.specs.Profiles.{coalescing_profile};
@@ -48,13 +59,16 @@ impl Lowering for NullishCoalescingOperator {
 
 impl Traverse<TransformState> for NullishCoalescingOperator {
     /// Lowers a `??` with two sides; its sides are visited afterwards, in the conditional. Answers an error
-    /// only for want of memory.
+    /// only for want of memory, or where no statement list is open that could declare a temporary.
     fn enter_expression(
         &mut self,
         node: &mut Expression,
         ctx: &mut TraverseCtx<TransformState>,
     ) -> Result<(), LowerError> {
         if is_lowerable(node) {
+            if ctx.state.var_declarations.is_empty() {
+                return Err(LowerError::OutOfMemory);
+            }
             let taken = mem::replace(node, new_placeholder(ctx.ast.alloc));
             *node = lower_coalescing(taken, ctx)?;
         }

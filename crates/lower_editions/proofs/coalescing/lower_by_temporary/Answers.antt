@@ -1,5 +1,5 @@
 use Rattle.std.proofs.Common.{string_bytes}
-use Rattle.lower_editions.proofs.Takings.{takes_one}
+use Rattle.lower_common.proofs.Takings.{takes_one}
 use Rattle.lower_editions.proofs.coalescing.lower_by_temporary.Goals as goal
 
 pub returns : goal.returns
