@@ -1,31 +1,25 @@
--- The two lowerings of a run may stand together.
-use Rattle.std.proofs.Common.{◌≡◌, refl}
-use Rattle.std.specs.Prelude.{true, false}
-use Rattle.es_tree.specs.Tree.{Tree, node}
-use Rattle.es_tree.specs.declared.ast_type.AstType.TheVariants.{LogicalExpression}
-use Rattle.es_runs.specs.OpenRules.{Writing}
-use Rattle.es_visit.specs.declared.hook.Hook.{Hook}
-use Rattle.es_visit.specs.declared.hook.Hook.TheVariants.{Expression}
-use Rattle.es_visit.specs.Laws.{AreApart, IsStable, is_row}
-use Rattle.es_visit.specs.Moments.{is_inert_node}
+-- The lowerings of the one visit may stand together, each on or off.
+use Rattle.std.specs.Prelude.{Bool}
+use Rattle.es_tree.specs.declared.options.EnvOptions.{EnvOptions}
+use Rattle.es_visit.specs.Laws.{AreApart, Profile, both_profile}
 use Rattle.lower_common.specs.CommonLaws.{common_profile}
-use Rattle.lower_editions.specs.Profiles.{coalescing_profile, coalescing_rows}
-use Rattle.lower_editions.specs.Stable.{lowerable_stable, writing_calm}
+use Rattle.lower_editions.specs.Apart.{apart_of_both, assigning_coalescing, assigning_raising, coalescing_raising, common_assigning, common_coalescing, common_raising, switched_first, switched_second}
+use Rattle.lower_editions.specs.Profiles.{assigning_profile, coalescing_profile, es2016_profile, es2020_profile, es2021_profile, raising_profile, switched}
 
-no_construct : (h : Hook) (t : Tree) → is_row is_inert_node t ≡ true → is_row (coalescing_rows h) t ≡ false
-no_construct Expression (node LogicalExpression l fs) w = absurd (cc w)
-no_construct Expression (node _ l fs) w = refl
-no_construct _ t w = refl
+both_switched : (on off : Bool) (p q : Profile) → AreApart p q → AreApart (switched on p) (switched off q)
+both_switched on off p q apart = switched_first on p (switched off q) (switched_second off p q apart)
 
-rows_stable : (h : Hook) → IsStable Writing (coalescing_rows h)
-rows_stable Expression = λ c s s' k l fs gs r none. lowerable_stable Writing writing_calm c s s' k l fs gs r none
-rows_stable _ = λ c s s' k l fs gs r none. refl
+module _ (o : EnvOptions) where
+  pub later_apart : AreApart (es2020_profile o) (es2016_profile o)
+  later_apart = both_switched o.es2020.nullish_coalescing_operator o.es2016.exponentiation_operator coalescing_profile raising_profile coalescing_raising
 
-pub are_apart : AreApart common_profile coalescing_profile
-are_apart = record {
-  makes = λ h t made. refl;
-  first_writes = no_construct;
-  second_writes = λ h t w. refl;
-  first_stable = λ h c s s' k l fs gs r none. refl;
-  second_stable = rows_stable;
-}
+  pub editions_apart : AreApart (es2021_profile o) (both_profile (es2020_profile o) (es2016_profile o))
+  editions_apart =
+      apart_of_both (es2021_profile o) (es2020_profile o) (es2016_profile o) (both_switched o.es2021.logical_assignment_operators o.es2020.nullish_coalescing_operator assigning_profile coalescing_profile assigning_coalescing)
+      (both_switched o.es2021.logical_assignment_operators o.es2016.exponentiation_operator assigning_profile raising_profile assigning_raising)
+
+  pub all_apart : AreApart common_profile (both_profile (es2021_profile o) (both_profile (es2020_profile o) (es2016_profile o)))
+  all_apart =
+      apart_of_both common_profile (es2021_profile o) (both_profile (es2020_profile o) (es2016_profile o)) (switched_second o.es2021.logical_assignment_operators common_profile assigning_profile common_assigning)
+      (apart_of_both common_profile (es2020_profile o) (es2016_profile o) (switched_second o.es2020.nullish_coalescing_operator common_profile coalescing_profile common_coalescing)
+      (switched_second o.es2016.exponentiation_operator common_profile raising_profile common_raising))

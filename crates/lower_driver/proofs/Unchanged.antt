@@ -1,41 +1,33 @@
--- Without a construct and with nothing pending no step leads anywhere else.
-use Rattle.std.proofs.Common.{◌≡◌, ℕ, refl, sym, ap, ◌∙◌, subst, inl, inr, List, [], ◌∷◌, Some}
-use Rattle.std.specs.Prelude.{Bool, true, false, codes, bytes_eq}
-use Rattle.es_tree.specs.Words.{Text}
-use Rattle.es_tree.specs.Bare.{bare, bare_label, bare_fields, bare_field, bare_trees}
-use Rattle.es_tree.specs.Names.{first_text}
+-- Where a rule acts at no node of a tree and nothing is pending, no step leads anywhere else.
+use Rattle.std.proofs.Common.{◌≡◌, ℕ, refl, sym, ap, ◌∙◌, subst}
+use Rattle.std.specs.Prelude.{Bool, true, false, ◌||◌}
 use Rattle.es_tree.specs.Walks.{any_node, any_in_fields, any_in_field, any_in_trees}
 use Rattle.es_tree.specs.Tree.{Tree, node, Label, Fields, done, ◌then◌, Field, missing, one, many, statements, Trees, empty, ◌before◌}
 use Rattle.es_tree.specs.declared.ast_type.AstType.{AstType}
-use Rattle.es_tree.specs.declared.ast_type.AstType.TheVariants.{LogicalExpression}
 use Rattle.es_runs.specs.Alike.{Need}
-use Rattle.es_runs.specs.Steps.{NullishRule}
-use Rattle.es_runs.specs.Steps.NullishRule.{with_temporary, reading_again}
-use Rattle.es_runs.specs.Open.{Pending, nothing_pending, written, Open, OpenFields, OpenField, OpenTrees, opened, opened_fields, opened_field, opened_trees}
+use Rattle.es_runs.specs.Open.{Pending, nothing_pending, Open, OpenFields, OpenField, OpenTrees, opened, opened_fields, opened_field, opened_trees, closed_fields}
 use Rattle.es_runs.specs.Open.Open.{open_node}
 use Rattle.es_runs.specs.Open.OpenFields.{ends, ◌and◌}
 use Rattle.es_runs.specs.Open.OpenField.{gap, child, children, list}
 use Rattle.es_runs.specs.Open.OpenTrees.{nil, ◌next◌}
-use Rattle.es_runs.specs.OpenSteps.{Whole, Ledger, ledger, Spot, Step, FieldsStep, FieldStep, TreesStep, Steps}
+use Rattle.es_runs.specs.OpenSteps.{Ledger, ledger, whole_in, pending_in, Spot, Step, FieldsStep, FieldStep, TreesStep, Steps}
 use Rattle.es_runs.specs.OpenSteps.Spot.{at_node, at_list}
 use Rattle.es_runs.specs.OpenSteps.Step.{acts, inside}
 use Rattle.es_runs.specs.OpenSteps.FieldsStep.{in_first, in_later}
 use Rattle.es_runs.specs.OpenSteps.FieldStep.{in_child, in_children, within, acts_on_list}
 use Rattle.es_runs.specs.OpenSteps.TreesStep.{in_head, in_tail}
 use Rattle.es_runs.specs.OpenSteps.Steps.{stays, goes}
-use Rattle.es_runs.specs.OpenRules.{CoreRule, Writing}
-use Rattle.es_runs.specs.OpenRules.Coalescing.{coalesces}
-use Rattle.es_runs.specs.OpenRules.Writing.{writes}
 use Rattle.es_runs.proofs.Named.{or_first, or_second}
-use Rattle.es_runs.proofs.OpenPlaces.{pending_in}
+use Rattle.es_runs.proofs.OpenTrees.{closed-opened-fields}
+use Rattle.es_visit.specs.Laws.{is_row}
 
 -- CLEAR TREES
 
--- no node of the tree is a construct, and nothing is pending
-module _ (test : AstType → Label → Bool) where
+module _ (test : AstType → Label → Fields → Bool) where
+  -- no node of the tree passes, and nothing is pending
   abbrev mutual
     pub Clear : Open → Type 0
-    Clear (open_node k l fs) = (test k l ≡ false) × ClearFields fs
+    Clear (open_node k l fs) = (test k l (closed_fields fs) ≡ false) × ClearFields fs
 
     pub ClearFields : OpenFields → Type 0
     ClearFields ends = Unit {0}
@@ -51,28 +43,23 @@ module _ (test : AstType → Label → Bool) where
     ClearTrees nil = Unit {0}
     ClearTrees (t next ts) = Clear t × ClearTrees ts
 
-abbrev pub label_test : (AstType → Label → Bool) → AstType → Label → Fields → Bool
-label_test test k l fs = test k l
-
--- the test looks at no id and no mark
-module _ (test : AstType → Label → Bool) (same : (k : AstType) (l : Label) → test k (bare_label l) ≡ test k l) where
   mutual
-    pub clear-opened : (t : Tree) → any_node (label_test test) t ≡ false → Clear test (opened (bare t))
-    clear-opened (node k l fs) h = (same k l ∙ or_first (test k l) (any_in_fields (label_test test) fs) h, clear-fields fs (or_second (test k l) (any_in_fields (label_test test) fs) h))
+    pub clear-opened : (t : Tree) → any_node test t ≡ false → Clear (opened t)
+    clear-opened (node k l fs) h = (ap (test k l) (closed-opened-fields fs) ∙ or_first (test k l fs) (any_in_fields test fs) h, clear-fields fs (or_second (test k l fs) (any_in_fields test fs) h))
 
-    clear-fields : (fs : Fields) → any_in_fields (label_test test) fs ≡ false → ClearFields test (opened_fields (bare_fields fs))
+    clear-fields : (fs : Fields) → any_in_fields test fs ≡ false → ClearFields (opened_fields fs)
     clear-fields done h = tt
-    clear-fields (f then fs) h = (clear-field f (or_first (any_in_field (label_test test) f) (any_in_fields (label_test test) fs) h), clear-fields fs (or_second (any_in_field (label_test test) f) (any_in_fields (label_test test) fs) h))
+    clear-fields (f then fs) h = (clear-field f (or_first (any_in_field test f) (any_in_fields test fs) h), clear-fields fs (or_second (any_in_field test f) (any_in_fields test fs) h))
 
-    clear-field : (f : Field) → any_in_field (label_test test) f ≡ false → ClearField test (opened_field (bare_field f))
+    clear-field : (f : Field) → any_in_field test f ≡ false → ClearField (opened_field f)
     clear-field missing h = tt
     clear-field (one t) h = clear-opened t h
     clear-field (many ts) h = clear-trees ts h
     clear-field (statements ts) h = (refl, clear-trees ts h)
 
-    clear-trees : (ts : Trees) → any_in_trees (label_test test) ts ≡ false → ClearTrees test (opened_trees (bare_trees ts))
+    clear-trees : (ts : Trees) → any_in_trees test ts ≡ false → ClearTrees (opened_trees ts)
     clear-trees empty h = tt
-    clear-trees (t before ts) h = (clear-opened t (or_first (any_node (label_test test) t) (any_in_trees (label_test test) ts) h), clear-trees ts (or_second (any_node (label_test test) t) (any_in_trees (label_test test) ts) h))
+    clear-trees (t before ts) h = (clear-opened t (or_first (any_node test t) (any_in_trees test ts) h), clear-trees ts (or_second (any_node test t) (any_in_trees test ts) h))
 
 -- STEPS
 
@@ -81,19 +68,20 @@ pub record Same {X : Type 0} (s : Ledger) (x : X) (s' : Ledger) (y : X) : Type 0
   pub beside : s' ≡ s
   pub part : y ≡ x
 
--- what is known of the whole
-abbrev pub whole_in : Ledger → Whole
-whole_in (ledger w p) = w
-
--- A rule that acts at a node only where it is a construct, and leaves a list with nothing pending as it is.
-pub record IsIdle (test : AstType → Label → Bool) (R : Need → Ledger → Spot → Ledger → Spot → Type 0) : Type 0 where
-  pub node : (n : Need) (s s' : Ledger) (k : AstType) (l : Label) (fs : Fields) (u : Tree) → R n s (at_node (node k l fs)) s' (at_node u) → test k l ≡ true
+-- A rule that acts at a node only where it passes a test, and leaves a list with nothing pending as it is.
+pub record IsIdle (test : AstType → Label → Fields → Bool) (R : Need → Ledger → Spot → Ledger → Spot → Type 0) : Type 0 where
+  pub nodes : (n : Need) (s s' : Ledger) (t u : Tree) → R n s (at_node t) s' (at_node u) → is_row test t ≡ true
   pub lists : (n : Need) (s s' : Ledger) (p q : Pending) (ts us : Trees) → R n s (at_list p ts) s' (at_list q us) → p ≡ nothing_pending → (s' ≡ s) × (q ≡ nothing_pending) × (us ≡ ts)
 
-module _ (test : AstType → Label → Bool) (R : Need → Ledger → Spot → Ledger → Spot → Type 0) (idle : IsIdle test R) where
+module _ (test : AstType → Label → Fields → Bool) (R : Need → Ledger → Spot → Ledger → Spot → Type 0) (idle : IsIdle test R) where
+  no_act : (n : Need) (s s' : Ledger) (t u : Tree) → R n s (at_node t) s' (at_node u) → Clear test (opened t) → ⊥
+  no_act n s s' (node k l fs) u r h =
+      let none : test k l fs ≡ false = ap (test k l) (sym (closed-opened-fields fs)) ∙ h.0 in
+      absurd (cc (none, idle.nodes n s s' (node k l fs) u r))
+
   mutual
-    pub step_stays : {n : Need} {s s' : Ledger} {o u : Open} → Step R n s o s' u → Clear test o → Same s o s' u
-    step_stays (acts {n = n} {s = s} {s' = s'} (node k l fs) u r) h = absurd (cc (h.0, idle.node n s s' k l fs u r))
+    step_stays : {n : Need} {s s' : Ledger} {o u : Open} → Step R n s o s' u → Clear test o → Same s o s' u
+    step_stays (acts {n = n} {s = s} {s' = s'} t u r) h = absurd (no_act n s s' t u r h)
     step_stays (inside {k = k} {l = l} r) h = let f = fields_stay r h.1 in record { beside = f.beside; part = ap (λ (gs : OpenFields). open_node k l gs) f.part }
 
     fields_stay : {c : ℕ → Need} {s s' : Ledger} {fs gs : OpenFields} → FieldsStep R c s fs s' gs → ClearFields test fs → Same s fs s' gs
@@ -120,44 +108,3 @@ module _ (test : AstType → Label → Bool) (R : Need → Ledger → Spot → L
       let f = step_stays r h in
       let g = steps_stay rest (subst (Clear test) (sym f.part) h) in
       record { beside = g.beside ∙ f.beside; part = g.part ∙ f.part }
-
--- THE RULES
-
--- where a list has nothing pending, writing leaves it as it is
-writing_lists : (n : Need) (s s' : Ledger) (p q : Pending) (ts us : Trees) → Writing n s (at_list p ts) s' (at_list q us) → p ≡ nothing_pending → (s' ≡ s) × (q ≡ nothing_pending) × (us ≡ ts)
-writing_lists n s s' p q ts us (writes) h = (refl, refl, ap (λ o. written o ts) h)
-
-abbrev pub is_never : AstType → Label → Bool
-is_never k l = false
-
-pub writing_idle : IsIdle is_never Writing
-writing_idle = record { node = λ n s s' k l fs u r. at n s s' (node k l fs) u r; lists = writing_lists }
-  where
-    at : (n : Need) (s s' : Ledger) (t u : Tree) → Writing n s (at_node t) s' (at_node u) → false ≡ true
-    at n s s' t u r = elim r [ ]
-
--- whether a node is `??` doesn't depend on its fields
-abbrev pub is_coalescing : AstType → Label → Bool
-is_coalescing LogicalExpression l = bytes_eq (first_text l.texts) (codes "??")
-is_coalescing _ l = false
-
-by_name : (m : Label) → m.texts ≡ Some (codes "??") ∷ [] → bytes_eq (first_text m.texts) (codes "??") ≡ true
-by_name m e = ap (λ texts. bytes_eq (first_text texts) (codes "??")) e
-
-abbrev kind_and_label : Tree → Bool
-kind_and_label (node k l fs) = is_coalescing k l
-
-nullish_node : {steady in_use : Text → Bool} {xs : List Text} {n : Need} {t u : Tree} → NullishRule steady in_use xs n t u → kind_and_label t ≡ true
-nullish_node (with_temporary {m = m} texts again fresh) = by_name m texts
-nullish_node (reading_again {m = m} texts again) = by_name m texts
-
-pub core_idle : IsIdle is_coalescing CoreRule
-core_idle = record { node = λ n s s' k l fs u r. at n s s' (node k l fs) u r; lists = lists }
-  where
-    at : (n : Need) (s s' : Ledger) (t u : Tree) → CoreRule n s (at_node t) s' (at_node u) → kind_and_label t ≡ true
-    at n s s' t u (inl r) = elim r [ ]
-    at n s s' t u (inr (coalesces xs r)) = nullish_node r
-
-    lists : (n : Need) (s s' : Ledger) (p q : Pending) (ts us : Trees) → CoreRule n s (at_list p ts) s' (at_list q us) → p ≡ nothing_pending → (s' ≡ s) × (q ≡ nothing_pending) × (us ≡ ts)
-    lists n s s' p q ts us (inl r) h = writing_lists n s s' p q ts us r h
-    lists n s s' p q ts us (inr r) h = elim r [ ]

@@ -1,139 +1,116 @@
 -- From the one visit of a run to what the source becomes.
 use Rattle.std.proofs.Common.{◌≡◌, ◌*◌, ◌≤◌, ◌<◌, ◌^◌, refl, sym, ap, ◌∙◌, subst, List, [], ◌∷◌, arith}
-use Rattle.std.specs.Prelude.{Bool, true, false, ◌&&◌}
+use Rattle.std.specs.Prelude.{Bool, true, false, ◌&&◌, ◌||◌}
 use Rattle.es_tree.specs.Words.{Text}
 use Rattle.es_tree.specs.Bare.{bare}
-use Rattle.es_tree.specs.Constructs.{has_nullish_coalescing}
 use Rattle.es_tree.specs.Core.{IsCoreProgram}
-use Rattle.es_tree.specs.Fresh.{is_among}
-use Rattle.es_tree.specs.Names.{names_of}
-use Rattle.es_tree.specs.Scopes.{is_steady}
-use Rattle.es_tree.specs.Tree.{Tree, tree_size}
+use Rattle.es_tree.specs.StaticRules.{breaks}
+use Rattle.es_tree.specs.Tree.{Tree, Label, Fields, tree_size}
+use Rattle.es_tree.specs.Walks.{any_node, any_in_trees}
+use Rattle.es_tree.specs.declared.ast_type.AstType.{AstType}
 use Rattle.es_tree.specs.declared.options.EnvOptions.{EnvOptions}
-use Rattle.es_tree.specs.declared.options.ES2020Options.{ES2020Options}
-use Rattle.es_tree.proofs.BareForm.{tree_size-bare}
 use Rattle.es_statements.specs.ProgramPlain.{plain_program}
 use Rattle.es_statements.specs.declared.program.Program.{Program}
 use Rattle.es_runs.specs.Alike.{Need, all_of_it}
-use Rattle.es_runs.specs.Open.{nothing_pending, no_additions, Open, opened}
+use Rattle.es_runs.specs.Open.{nothing_pending, Open, opened}
+use Rattle.es_runs.specs.OpenRules.{rule_under}
 use Rattle.es_runs.specs.OpenSteps.{Whole, Ledger, ledger, whole_of, Spot, Step, Steps, Reached}
 use Rattle.es_runs.specs.Weights.{weight}
-use Rattle.es_runs.proofs.Weights.{size-weight, weight-size}
-use Rattle.es_visit.specs.Changes.{ChangedProgram, open_program}
-use Rattle.es_visit.specs.Moments.{Moment, IsFinished, top, whole_at, heft, is_inert, HasRoom}
 use Rattle.es_runs.proofs.OpenLaws.{law_reached_proof, law_reached_bindings_proof}
-use Rattle.es_visit.specs.declared.hook.Hook.TheVariants.{Expression}
-use Rattle.es_visit.specs.Laws.{both_profile}
+use Rattle.es_runs.proofs.StaticLaws.{law_reached_rules_proof}
+use Rattle.es_runs.proofs.Weights.{size-weight, weight-size}
+use Rattle.es_visit.specs.Laws.{body_of}
+use Rattle.es_visit.specs.Moments.{Moment, IsFinished, heft, is_inert, HasRoom}
 use Rattle.es_visit.specs.Visits.{VisitedProgram}
-use Rattle.lower_common.specs.CommonLaws.{common_profile}
-use Rattle.lower_editions.specs.Profiles.{coalescing_profile}
-use Rattle.lower_driver.specs.Rules.{built_rule, rule_of}
+use Rattle.es_visit.specs.declared.hook.Hook.TheVariants.{Expression}
+use Rattle.es_visit.proofs.Whole.{reached_whole}
+use Rattle.lower_editions.specs.Assignings.{is_lowerable_assignment}
+use Rattle.lower_editions.specs.Coalescings.{is_lowerable_coalescing}
+use Rattle.lower_editions.specs.Powers.{is_lowerable_power}
+use Rattle.lower_driver.specs.Copies.{IsCopy}
 use Rattle.lower_driver.specs.Lowers.{Lowers}
-use Rattle.lower_driver.specs.Visits.{IsVisit}
+use Rattle.lower_driver.specs.Rules.{is_built_construct, is_lowered_under}
+use Rattle.lower_driver.specs.Visits.{IsVisit, visit_profile}
 use Rattle.lower_driver.proofs.Canonical.{same_canonical}
+use Rattle.lower_driver.proofs.Contexts.{IsFirst, start_same}
+use Rattle.lower_driver.proofs.Marked.{same_size, same_whole}
+use Rattle.lower_editions.proofs.NoneLeft.{settled_reached}
 use Rattle.lower_driver.proofs.NoneLeft.{none_written}
-use Rattle.lower_driver.proofs.Rules.{reached_core, unchanged}
-
--- a program with nothing pending
-program_opened : (x : Program) → open_program nothing_pending x ≡ opened (bare (plain_program x))
-program_opened x = refl
-
--- The first moment of a run: the names of the source are in use, its steady ones known, no name made and nothing pending.
-pub record IsFirst (p : Tree) (a : Moment) : Type 0 where
-  pub in_use : (x : Text) → a.in_use x ≡ is_among (names_of p) x
-  pub steady : (x : Text) → a.steady x ≡ is_steady p x
-  pub none_made : a.made ≡ []
-  pub nothing : a.lists ≡ nothing_pending ∷ []
-  pub others : a.others ≡ no_additions
-  pub next : a.next ≡ tree_size p
-
-first_whole : (p : Tree) (a : Moment) → IsFirst p a → whole_at a ≡ whole_of p
-first_whole p a first = λ i. record { in_use = λ x. first.in_use x i; steady = λ x. first.steady x i; made = first.none_made i; others = first.others i }
-
-module _ (R : Need → Ledger → Spot → Ledger → Spot → Type 0) (p : Tree) (a b : Moment) (x y : Program) (same : bare (plain_program x) ≡ bare p) (first : IsFirst p a) (changed : ChangedProgram R a x b y) (finished : IsFinished b) where
-  pub reached_all : Reached R p b.made (plain_program y)
-  reached_all =
-      let own : top a.lists ≡ nothing_pending = ap top first.nothing in
-      let start : open_program (top a.lists) x ≡ opened (bare p) = ap (λ q. open_program q x) own ∙ program_opened x ∙ ap opened same in
-      let end : open_program (top b.lists) y ≡ opened (bare (plain_program y)) = ap (λ q. open_program q y) finished.own ∙ program_opened y in
-      record {
-        whole = whole_at b;
-        steps = subst (λ (w : Whole). Steps (Step R all_of_it) (ledger w nothing_pending) (opened (bare p)) (ledger (whole_at b) nothing_pending) (opened (bare (plain_program y)))) (first_whole p a first)
-            (subst (λ (o : Open). Steps (Step R all_of_it) (ledger (whole_at a) nothing_pending) o (ledger (whole_at b) nothing_pending) (opened (bare (plain_program y)))) start
-            (subst (λ (o : Open). Steps (Step R all_of_it) (ledger (whole_at a) nothing_pending) (open_program (top a.lists) x) (ledger (whole_at b) nothing_pending) o) end changed.steps));
-        made = refl;
-        others = finished.others;
-      }
-
--- the weight of the program that the visit begins with
-first_weight : (p : Tree) (x : Program) → bare (plain_program x) ≡ bare p → weight (plain_program x) ≤ 29 * tree_size p
-first_weight p x same =
-    let w = weight-size (plain_program x) in
-    let s : tree_size (plain_program x) ≡ tree_size p = sym (tree_size-bare (plain_program x)) ∙ ap tree_size same ∙ tree_size-bare p in
-    omega arith
-
-first_heft : (p : Tree) (a : Moment) → IsFirst p a → heft a ≡ tree_size p
-first_heft p a first = rw (first.nothing, first.others, first.next) (omega arith)
+use Rattle.lower_driver.proofs.Rules.{reached_under, unchanged}
 
 -- WHAT A LOWERING MAY COUNT ON
 
+-- the weight of the program that the visit begins with
+first_weight : (p : Tree) (x : Program) → bare (plain_program x) ≡ bare p → weight (plain_program x) ≤ 61 * tree_size p
+first_weight p x same = let w = weight-size (plain_program x) in let s = same_size p (plain_program x) same in omega (arith, w, s)
+
+first_heft : (p : Tree) (a : Moment) → IsFirst p a → heft a ≡ tree_size p
+first_heft p a first = rw (first.start.lists, first.start.others, first.next) (omega arith)
+
 pub first_room : (p : Tree) (a : Moment) (x : Program) → IsFirst p a → bare (plain_program x) ≡ bare p → tree_size p < 2 ^ 20 → HasRoom a (weight (plain_program x))
-first_room p a x first same small = let h = first_heft p a first in let w = first_weight p x same in omega arith
+first_room p a x first same small = let h = first_heft p a first in let w = first_weight p x same in omega (arith, h, w, small)
 
 pub first_inert : (p : Tree) (a : Moment) → IsFirst p a → is_inert a ≡ true
-first_inert p a first = rw (first.nothing, first.others) refl
+first_inert p a first = rw (first.start.lists, first.start.others) refl
 
 -- WHAT THE SOURCE BECOMES
 
-pub lowers : (o : EnvOptions) (p : Tree) (a b : Moment) (x y : Program) → IsCoreProgram p → bare (plain_program x) ≡ bare p → IsFirst p a → IsVisit o a x b y → Lowers o p (plain_program y) b.made
-lowers o p a b x y core same first visit =
-    let reached : Reached (built_rule o) p b.made (plain_program y) = reached_all (built_rule o) p a b x y same first visit.changed visit.finished in
-    let by_core = reached_core o.es2020.nullish_coalescing_operator p (plain_program y) b.made reached in
+-- what is reached from a source is reached from one that is equal but for ids and marks
+reached_same : (R : Need → Ledger → Spot → Ledger → Spot → Type 0) (p q r : Tree) (names : List Text) → bare q ≡ bare p → Reached R q names r → Reached R p names r
+reached_same R p q r names same h = record {
+  whole = h.whole;
+  steps = subst (λ (w : Whole). Steps (Step R all_of_it) (ledger w nothing_pending) (opened (bare p)) (ledger h.whole nothing_pending) (opened (bare r))) (same_whole p q same)
+      (subst (λ (t : Tree). Steps (Step R all_of_it) (ledger (whole_of q) nothing_pending) (opened t) (ledger h.whole nothing_pending) (opened (bare r))) same h.steps);
+  made = h.made;
+  others = h.others;
+}
+
+pub lowers : (o : EnvOptions) (p : Tree) (a b : Moment) (x y : Program) → IsCoreProgram p → breaks p ≡ [] → bare (plain_program x) ≡ bare p → IsFirst p a → IsVisit o a x b y → Lowers o p (plain_program y) b.made
+lowers o p a b x y core kept same first visit =
+    let begun = reached_whole x y visit.changed (start_same p (plain_program x) a same first.start) visit.finished in
+    let reached : Reached (rule_under o) p b.made (plain_program y) = reached_same (rule_under o) p (plain_program x) (plain_program y) b.made same begun in
+    let by_core = reached_under o p (plain_program y) b.made reached in
+    let keeps : breaks (plain_program y) ≡ [] = law_reached_rules_proof p (plain_program y) b.made core kept by_core in
     record {
       reached = reached;
-      none = λ on. none_written p x y b.made core same by_core visit.directives (visit.free on);
+      none = none_written o p x y core same (settled_reached p (plain_program y) b.made core kept by_core) visit.directives visit.free;
       alike = law_reached_proof p (plain_program y) b.made core by_core;
       bindings = law_reached_bindings_proof p (plain_program y) b.made core by_core;
+      kept = keeps;
       unchanged = λ asked.
-          let u = unchanged o.es2020.nullish_coalescing_operator p (plain_program y) b.made reached asked in
+          let u = unchanged o p (plain_program y) b.made core.core reached asked in
           record { same = same_canonical p (plain_program y) u.tree; no_names = u.none_made };
       size =
           let s = size-weight (plain_program y) in
           let l = visit.changed.lighter in
           let h = first_heft p a first in
           let w = first_weight p x same in
-          omega arith;
+          omega (arith, s, l, h, w);
     }
 
--- BY TYPE
+or_assoc : (a b c : Bool) → (a || b || c) ≡ (a || (b || c))
+or_assoc true b c = refl
+or_assoc false b c = refl
 
--- the visit of both lowerings
-pub visit_of_both : (o : EnvOptions) (a b : Moment) (x y : Program) → o.es2020.nullish_coalescing_operator ≡ true → VisitedProgram (both_profile common_profile coalescing_profile) a x b y → IsFinished b → IsVisit o a x b y
-visit_of_both o a b x y on visited finished = record {
-  changed = subst (λ (v : Bool). ChangedProgram (rule_of v) a x b y) (sym on) visited.changed;
-  directives = visited.directives;
-  free = λ _. visited.free Expression;
-  finished = finished;
-}
+-- what the visit by its type leaves no node of
+lowered_rows : (o : EnvOptions) → is_lowered_under o ≡ (visit_profile o).rows Expression
+lowered_rows o = λ i k l fs. or_assoc (o.es2021.logical_assignment_operators && is_lowerable_assignment k l fs) (o.es2020.nullish_coalescing_operator && is_lowerable_coalescing k l fs) (o.es2016.exponentiation_operator && is_lowerable_power k l fs) i
 
--- that of the one that writes what is pending
-pub visit_of_one : (o : EnvOptions) (a b : Moment) (x y : Program) → o.es2020.nullish_coalescing_operator ≡ false → VisitedProgram common_profile a x b y → IsFinished b → IsVisit o a x b y
-visit_of_one o a b x y off visited finished = record {
-  changed = subst (λ (v : Bool). ChangedProgram (rule_of v) a x b y) (sym off) visited.changed;
-  directives = visited.directives;
-  free = λ on. absurd (let no : true ≡ false = sym on ∙ off in cc);
-  finished = finished;
-}
+-- the visit by its type
+pub visit_by_type : (o : EnvOptions) (a b : Moment) (x y : Program) → VisitedProgram (visit_profile o) a x b y → IsFinished b → IsVisit o a x b y
+visit_by_type o a b x y visited finished = record { changed = visited.changed; directives = visited.directives; free = ap (λ (test : AstType → Label → Fields → Bool). any_in_trees test (body_of y)) (lowered_rows o) ∙ visited.free Expression; finished = finished }
 
--- only one setting counts
-pub lowers_same : (o o' : EnvOptions) (p q : Tree) (names : List Text) → o'.es2020 ≡ o.es2020 → Lowers o' p q names → Lowers o p q names
-lowers_same o o' p q names same h =
-    let e : o'.es2020.nullish_coalescing_operator ≡ o.es2020.nullish_coalescing_operator = ap (λ (x : ES2020Options). x.nullish_coalescing_operator) same in
+-- options that are the same
+pub lowers_same : (o c : EnvOptions) (p q : Tree) (names : List Text) → IsCopy o c → Lowers c p q names → Lowers o p q names
+lowers_same o c p q names copy h =
+    let rule : rule_under c ≡ rule_under o = λ i. rule_under (record c { es2016 = copy.es2016 i; es2020 = copy.es2020 i; es2021 = copy.es2021 i }) in
+    let built : (t : Tree) → any_node (is_built_construct c) t ≡ any_node (is_built_construct o) t = λ t i. any_node (is_built_construct (record c { es2016 = copy.es2016 i; es2020 = copy.es2020 i; es2021 = copy.es2021 i })) t in
     record {
-      reached = subst (λ (b : Bool). Reached (rule_of b) p names q) e h.reached;
-      none = λ on. h.none (e ∙ on);
+      reached = subst (λ (R : Need → Ledger → Spot → Ledger → Spot → Type 0). Reached R p names q) rule h.reached;
+      none = sym (built q) ∙ h.none;
       alike = h.alike;
       bindings = h.bindings;
-      unchanged = λ asked. h.unchanged (ap (λ b. b && has_nullish_coalescing p) e ∙ asked);
+      kept = h.kept;
+      unchanged = λ asked. h.unchanged (built p ∙ asked);
       size = h.size;
     }

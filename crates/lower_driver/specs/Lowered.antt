@@ -1,5 +1,5 @@
 -- What a run answers.
-use Rattle.std.specs.Prelude.{◌≡◌, [], true, map, string_bytes}
+use Rattle.std.specs.Prelude.{◌≡◌, [], None, true, map, string_bytes}
 use Rattle.serde_json.specs.Data.{Data}
 use Rattle.serde_json.specs.View.{view}
 use Rattle.es_tree.specs.Core.{is_core}
@@ -9,6 +9,7 @@ use Rattle.es_tree.specs.Words.{Text}
 use Rattle.es_tree.specs.declared.options.EnvOptions.{EnvOptions}
 use Rattle.es_json.specs.Canonical.{canonical}
 use Rattle.lower_driver.specs.Lowers.{Lowers}
+use Rattle.lower_driver.specs.Shapes.{first_math_bound}
 use Rattle.lower_driver.specs.Sources.{IsSource, Reads}
 use Rattle.lower_driver.specs.declared.driver.Lowered.{Lowered}
 
@@ -17,6 +18,8 @@ pub record IsLoweredFrom (o : EnvOptions) (source : Tree) (l : Lowered) : Type 0
   pub lowers : Lowers o source l.program (map string_bytes l.temporaries.items)
   pub value : view l.value ≡ canonical l.program
   pub no_warnings : l.warnings.items ≡ []
+  -- no shape stands in the source that the lowerings don't take
+  pub taken : first_math_bound o source ≡ None
 
 -- the same for a value
 pub record IsLoweredValue (o : EnvOptions) (v : Data) (l : Lowered) : Type 0 where

@@ -10,9 +10,10 @@ use Rattle.es_tree.specs.StaticRules.{breaks, IsFirstBreak}
 use Rattle.es_tree.specs.Walks.{first_node}
 use Rattle.es_tree.specs.declared.error.LowerError.{LowerError}
 use Rattle.es_tree.specs.declared.error.LowerError.TheVariants.{Json, Option as e-Option, TooLarge, TooDeep, Shape, Invalid, Unsupported, OutOfMemory}
-use Rattle.es_tree.specs.declared.error.UnsupportedKind.TheVariants.{NotBuilt}
+use Rattle.es_tree.specs.declared.error.UnsupportedKind.TheVariants.{MathBound, NotBuilt}
 use Rattle.es_tree.specs.declared.ids.NodeId.{NodeId}
 use Rattle.es_tree.specs.declared.options.EnvOptions.{EnvOptions}
+use Rattle.lower_driver.specs.Shapes.{first_math_bound}
 use Rattle.es_json.specs.Programs.{IsProgramForm, IsRefusal}
 
 -- VALUES
@@ -43,6 +44,15 @@ pub record IsBrokenValue (v : Data) (error : LowerError) : Type 0 where
   pub core : is_core program ≡ true
   pub first : IsFirstBreak (breaks program) error
 
+-- the value is the form of a core program that keeps the static rules, and these options ask to lower an exponentiation where it
+-- binds `Math`, first of all at this node
+pub record IsValueWithMath (o : EnvOptions) (v : Data) (id : NodeId) : Type 0 where
+  pub program : Tree
+  pub source : IsSource v program
+  pub core : is_core program ≡ true
+  pub kept : breaks program ≡ []
+  pub first : first_math_bound o program ≡ Some id.0
+
 -- Why a value is refused. Causes are told in this order: too many objects, nested too deep, a place without form, a node
 -- that no core program has, a broken rule.
 abbrev pub IsValueCause : Data → LowerError → Type 0
@@ -53,9 +63,11 @@ IsValueCause v (Unsupported NotBuilt id) = IsValueBeyondCore v id
 IsValueCause v (Invalid rule id) = IsBrokenValue v (Invalid rule id)
 IsValueCause v _ = ⊥
 
--- The same where a run has options: what they ask for that isn't done comes first.
+-- The same where a run has options: what they ask for that isn't done comes first, and a shape that their lowerings don't
+-- take comes last.
 abbrev pub IsValueCauseUnder : EnvOptions → Data → LowerError → Type 0
 IsValueCauseUnder o v (e-Option name) = first_fault o ≡ Some name
+IsValueCauseUnder o v (Unsupported MathBound id) = (first_fault o ≡ None) × IsValueWithMath o v id
 IsValueCauseUnder o v error = (first_fault o ≡ None) × IsValueCause v error
 
 -- the cause of a refusal, or want of memory
@@ -115,6 +127,15 @@ pub record IsBroken (bytes : List ℕ) (error : LowerError) : Type 0 where
   pub core : is_core program ≡ true
   pub first : IsFirstBreak (breaks program) error
 
+-- the bytes read as a core program that keeps the static rules, and these options ask to lower an exponentiation where it binds
+-- `Math`, first of all at this node
+pub record IsWithMath (o : EnvOptions) (bytes : List ℕ) (id : NodeId) : Type 0 where
+  pub program : Tree
+  pub reads : Reads bytes program
+  pub core : is_core program ≡ true
+  pub kept : breaks program ≡ []
+  pub first : first_math_bound o program ≡ Some id.0
+
 -- Why an input of these bytes is refused. Causes are told in this order: no reading as JSON, too many objects, nested
 -- too deep, a place without form, a node that no core program has, a broken rule.
 abbrev pub IsCause : List ℕ → LowerError → Type 0
@@ -126,10 +147,12 @@ IsCause bytes (Unsupported NotBuilt id) = IsBeyondCore bytes id
 IsCause bytes (Invalid rule id) = IsBroken bytes (Invalid rule id)
 IsCause bytes _ = ⊥
 
--- The same where a run has options: what they ask for that isn't done comes after bytes with no reading, and before all else.
+-- The same where a run has options: what they ask for that isn't done comes after bytes with no reading, and before all
+-- else; a shape that their lowerings don't take comes last.
 abbrev pub IsCauseUnder : EnvOptions → List ℕ → LowerError → Type 0
 IsCauseUnder o bytes Json = ¬ HasReading bytes
 IsCauseUnder o bytes (e-Option name) = HasReading bytes × (first_fault o ≡ Some name)
+IsCauseUnder o bytes (Unsupported MathBound id) = (first_fault o ≡ None) × IsWithMath o bytes id
 IsCauseUnder o bytes error = (first_fault o ≡ None) × IsCause bytes error
 
 -- the cause of a refusal, or want of memory

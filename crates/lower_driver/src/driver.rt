@@ -5,17 +5,20 @@ ghost use Rattle.es_tree.specs.Core.{IsCoreProgram};
 ghost use Rattle.es_tree.specs.Fresh.{is_among};
 ghost use Rattle.es_tree.specs.Names.{names_of};
 ghost use Rattle.es_tree.specs.Options.{first_fault};
+ghost use Rattle.es_tree.specs.StaticRules.{breaks};
 ghost use Rattle.es_tree.specs.Tree.{kind_of, tree_size};
 ghost use Rattle.es_tree.specs.Words.{Text};
 ghost use Rattle.es_tree.specs.declared.ast_type.AstType.TheVariants.{Program as k-Program};
-ghost use Rattle.es_tree.specs.declared.error.LowerError.TheVariants.{OutOfMemory};
 ghost use Rattle.es_runs.specs.Open.{nothing_pending};
 ghost use Rattle.es_scope.specs.Contexts.{BindsNamesOf, around_of, made_of, table_of, uses_of};
+ghost use Rattle.lower_driver.specs.Copies.{IsCopy};
 ghost use Rattle.lower_driver.specs.Lowered.{IsLoweredBytes, IsLoweredFrom, IsLoweredValue};
+ghost use Rattle.lower_driver.specs.Shapes.{IsShapeOrMemory};
 ghost use Rattle.lower_driver.specs.Sources.{IsCauseOrMemory, IsCoreSource, IsCoreValue, IsValueCauseOrMemory};
 
 use crate::copies::copy_options;
 use crate::reading::{read_source, read_value};
+use crate::unsupported::find_unsupported;
 use crate::visiting::visit;
 use es_json::program::ReadProgram;
 use es_json::writer::write_program;
@@ -50,7 +53,8 @@ pub struct Lowered {
 ///
 /// Fails for the first of these causes that holds: `Option` where the options ask for what isn't done;
 /// `TooLarge`, `TooDeep` and `Shape` as `read_program` has them; `Unsupported(NotBuilt, node)` at the
-/// first node that no core program has; `Invalid` as `check_static` has it. It fails with
+/// first node that no core program has; `Invalid` as `check_static` has it; `Unsupported(MathBound, node)`
+/// at the first exponentiation that would be lowered, where the program binds `Math`. It fails with
 /// `OutOfMemory` where memory runs out.
 pub fn lower(alloc: Global, source: &Value, options: &EnvOptions) -> Result<Lowered, LowerError>
     ensures core { IfOk result (λ _. IsCoreValue (view source.now)) }
@@ -76,23 +80,28 @@ pub fn lower_bytes(alloc: Global, bytes: &[u8], options: &EnvOptions) -> Result<
     Ok(lowered)
 }
 
-/// What a core program becomes. Fails only where memory runs out.
+/// What a core program that keeps the static rules becomes. Fails where it has a shape that no lowering
+/// takes, and where memory runs out.
 fn lower_program(
     alloc: Global,
     read: ReadProgram,
     options: &EnvOptions,
 ) -> Result<Lowered, LowerError>
     requires core { IsCoreProgram read.program }
+    requires kept { breaks read.program ≡ [] }
     requires size { tree_size read.program < 2 ^ 20 }
     requires next { read.ast.next ≡ tree_size read.program }
     ensures lowered { IfOk result (λ lowered. IsLoweredFrom options.now read.program lowered) }
-    ensures memory { IfErr result (λ error. error ≡ OutOfMemory) }
+    ensures cause { IfErr result (λ error. IsShapeOrMemory options.now read.program error) }
 {
     let ReadProgram {
         program: mut source,
         ast,
     } = read;
     let scoping = build_scoping(alloc, &mut source)?;
+    if let Some((kind, node)) = find_unsupported(&source, &scoping, options) {
+        return Err(LowerError::Unsupported(kind, node));
+    }
     let mut ctx = new_context(alloc, scoping, &source, ast, options)?;
     let mut program = Program::open(source);
     visit(&mut program, &mut ctx)?;
@@ -121,7 +130,7 @@ fn new_context(
     ensures none_made { IfOk result (λ ctx. made_of ctx ≡ []) }
     ensures pending { IfOk result (λ ctx. ctx.state.var_declarations ≡ nothing_pending ∷ []) }
     ensures ast { IfOk result (λ ctx. ctx.ast ≡ ast) }
-    ensures options { IfOk result (λ ctx. ctx.options.es2020 ≡ options.now.es2020) }
+    ensures options { IfOk result (λ ctx. IsCopy options.now ctx.options) }
     ensures table { IfOk result (λ ctx. table_of ctx ≡ scoping) }
 {
     let state = TransformState::new(alloc, source_type_of(program), options)?;

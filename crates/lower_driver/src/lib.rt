@@ -6,4 +6,5 @@ pub mod driver;
 mod reading;
 #[cfg(test)]
 mod tests;
+mod unsupported;
 mod visiting;

@@ -1,4 +1,6 @@
+mod assignments;
 mod cases;
+mod powers;
 
 use crate::driver::{Lowered, lower, lower_bytes};
 use es_tree::error::{LowerError, OptionName, Rule, UnsupportedKind};
@@ -32,6 +34,20 @@ fn no_options(alloc: Global) -> Result<EnvOptions, AllocError> {
 fn nullish_options(alloc: Global) -> Result<EnvOptions, AllocError> {
     let mut options = no_options(alloc)?;
     options.es2020.nullish_coalescing_operator = true;
+    Ok(options)
+}
+
+/// Options that ask for the lowering of exponentiation.
+fn power_options(alloc: Global) -> Result<EnvOptions, AllocError> {
+    let mut options = no_options(alloc)?;
+    options.es2016.exponentiation_operator = true;
+    Ok(options)
+}
+
+/// Options that ask for the lowering of logical assignment.
+fn logical_options(alloc: Global) -> Result<EnvOptions, AllocError> {
+    let mut options = no_options(alloc)?;
+    options.es2021.logical_assignment_operators = true;
     Ok(options)
 }
 
@@ -74,6 +90,73 @@ fn sources_become_what_stands_beside_them(rt: HostRuntime) -> Result<(), Fail> {
     assert_lowered(&rt, source, &options, written, &["_ref", "_a", "_a2"])?;
     let (source, written) = cases::BOUND_NAME;
     assert_lowered(&rt, source, &options, written, &[])?;
+    Ok(())
+}
+
+#[test]
+fn exponentiation_calls_math_pow(rt: HostRuntime) -> Result<(), Fail> {
+    let options = power_options(rt.alloc())?;
+    let (source, written) = powers::UNBOUND_NAME;
+    assert_lowered(&rt, source, &options, written, &["_left"])?;
+    let (source, written) = powers::UNBOUND_MEMBER;
+    assert_lowered(&rt, source, &options, written, &["_obj$foo$bar", "_qux"])?;
+    let (source, written) = powers::KEY_THAT_IS_CALLED;
+    assert_lowered(&rt, source, &options, written, &["_o", "_g"])?;
+    let (source, written) = powers::BIG_INT_SIDES;
+    assert_lowered(&rt, source, &options, written, &[])?;
+    let (source, written) = powers::BOUND_NAME;
+    assert_lowered(&rt, source, &options, written, &[])?;
+    let (source, written) = powers::IN_PARENTHESES;
+    assert_lowered(&rt, source, &options, written, &["_a", "_this"])?;
+    Ok(())
+}
+
+#[test]
+fn exponentiation_is_refused_where_math_is_bound(rt: HostRuntime) -> Result<(), Fail> {
+    let alloc = rt.alloc();
+    assert!(rt;
+        matches!(
+            lower_bytes(alloc, powers::BOUND_MATH.as_bytes(), &power_options(alloc)?),
+            Err(LowerError::Unsupported(UnsupportedKind::MathBound, NodeId(6)))
+        )
+    );
+    let options = nullish_options(alloc)?;
+    assert_lowered(&rt, powers::BOUND_MATH, &options, powers::BOUND_MATH, &[])?;
+    Ok(())
+}
+
+#[test]
+fn logical_assignment_reads_and_writes_in_turn(rt: HostRuntime) -> Result<(), Fail> {
+    let alloc = rt.alloc();
+    let options = logical_options(alloc)?;
+    let (source, written) = assignments::TAKEN_NAME;
+    assert_lowered(&rt, source, &options, written, &["_obj$a2"])?;
+    let (source, written) = assignments::STEADY_OBJECT;
+    assert_lowered(&rt, source, &options, written, &[])?;
+    let (source, written) = assignments::WRITTEN_OBJECT;
+    assert_lowered(&rt, source, &options, written, &["_o", "_k"])?;
+    let (source, written) = assignments::IN_PARENTHESES;
+    assert_lowered(&rt, source, &options, written, &["_a"])?;
+    Ok(())
+}
+
+#[test]
+fn one_visit_lowers_from_outside_in(rt: HostRuntime) -> Result<(), Fail> {
+    let mut options = logical_options(rt.alloc())?;
+    options.es2020.nullish_coalescing_operator = true;
+    let (source, written) = assignments::NULLISH_TARGETS;
+    assert_lowered(
+        &rt,
+        source,
+        &options,
+        written,
+        &["_a", "_obj$a", "_obj$a$b"],
+    )?;
+    let (source, written) = assignments::OUTSIDE_IN;
+    assert_lowered(&rt, source, &options, written, &["_a$b", "_c", "_e$f"])?;
+    options.es2016.exponentiation_operator = true;
+    let (source, written) = assignments::ALL_THREE;
+    assert_lowered(&rt, source, &options, written, &["_a", "_a$b"])?;
     Ok(())
 }
 

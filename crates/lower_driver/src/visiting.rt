@@ -1,6 +1,5 @@
 //! The one visit of a run.
-ghost use Rattle.std.specs.Prelude.{◌≡◌, ◌<◌, true, false, [], IfErr, IfOk};
-ghost use Rattle.es_tree.specs.declared.error.LowerError.TheVariants.{OutOfMemory};
+ghost use Rattle.std.specs.Prelude.{◌≡◌, ◌<◌, true, [], IfErr, IfOk};
 ghost use Rattle.es_runs.specs.Weights.{weight};
 ghost use Rattle.es_scope.specs.Contexts.{around_of};
 ghost use Rattle.es_statements.specs.ProgramPlain.{plain_program};
@@ -8,7 +7,7 @@ ghost use Rattle.es_visit.specs.Laws.{IsReady};
 ghost use Rattle.es_visit.specs.Moments.{HasRoom, IsFinished, is_inert, moment};
 ghost use Rattle.es_visit.specs.Refusals.{RefusedProgram};
 ghost use Rattle.es_visit.specs.Visits.{VisitedProgram};
-ghost use Rattle.lower_driver.specs.Visits.{IsVisit, moment_of};
+ghost use Rattle.lower_driver.specs.Visits.{IsVisit, moment_of, visit_profile};
 
 use es_scope::context::TraverseCtx;
 use es_statements::program::Program;
@@ -20,58 +19,29 @@ use es_visit::traverse::Traverse;
 use es_visit::walk::traverse;
 use lower_common::common::Common;
 use lower_common::state::TransformState;
-use lower_editions::nullish_coalescing::NullishCoalescingOperator;
+use lower_editions::es2016::ES2016;
+use lower_editions::es2020::ES2020;
+use lower_editions::es2021::ES2021;
 use std::marker::Brand;
 use std::sync::ledger::{Blank, Ledger};
 
-/// Visits a program, its own lists pending, by the lowerings that the context's options ask for. Fails
-/// only where memory runs out, and the program is then in no stated shape.
+/// Visits a program, its own lists pending, by the lowerings that the context's options ask for.
+///
+/// Fails where memory runs out, or where one of them refuses a node that its steps lead to. The program is
+/// then in no stated shape.
 pub fn visit(program: &mut Program, ctx: &mut TraverseCtx<TransformState>) -> Result<(), LowerError>
     requires top { around_of ctx.old ≡ [] }
     requires room { HasRoom (moment_of ctx.old) (weight (plain_program program.old)) }
     requires inert { is_inert (moment_of ctx.old) ≡ true }
     ensures visit { IfOk result (λ _. IsVisit ctx.old.options (moment_of ctx.old) program.old (moment_of ctx.new) program.new) }
-    ensures memory { IfErr result (λ error. error ≡ OutOfMemory) }
-{
-    if ctx.options.es2020.nullish_coalescing_operator {
-        visit_with_coalescing(program, ctx)
-    } else {
-        visit_alone(program, ctx)
-    }
-}
-
-/// The visit where the options ask for nullish coalescing.
-fn visit_with_coalescing(
-    program: &mut Program,
-    ctx: &mut TraverseCtx<TransformState>,
-) -> Result<(), LowerError>
-    requires asked { ctx.old.options.es2020.nullish_coalescing_operator ≡ true }
-    requires top { around_of ctx.old ≡ [] }
-    requires room { HasRoom (moment_of ctx.old) (weight (plain_program program.old)) }
-    requires inert { is_inert (moment_of ctx.old) ≡ true }
-    ensures visit { IfOk result (λ _. IsVisit ctx.old.options (moment_of ctx.old) program.old (moment_of ctx.new) program.new) }
-    ensures memory { IfErr result (λ error. error ≡ OutOfMemory) }
+    ensures refused { IfErr result (λ error. RefusedProgram (visit_profile ctx.old.options).rule (visit_profile ctx.old.options).refuses error (moment_of ctx.old) program.old) }
 {
     let common = Common::new(&ctx.options);
-    let mut both = Both::new(common, NullishCoalescingOperator::new());
-    visit_by::<_, _, Brand>(&mut both, program, ctx, Blank::new(1))?;
-    Ok(())
-}
-
-/// The visit where they don't.
-fn visit_alone(
-    program: &mut Program,
-    ctx: &mut TraverseCtx<TransformState>,
-) -> Result<(), LowerError>
-    requires asked { ctx.old.options.es2020.nullish_coalescing_operator ≡ false }
-    requires top { around_of ctx.old ≡ [] }
-    requires room { HasRoom (moment_of ctx.old) (weight (plain_program program.old)) }
-    requires inert { is_inert (moment_of ctx.old) ≡ true }
-    ensures visit { IfOk result (λ _. IsVisit ctx.old.options (moment_of ctx.old) program.old (moment_of ctx.new) program.new) }
-    ensures memory { IfErr result (λ error. error ≡ OutOfMemory) }
-{
-    let mut common = Common::new(&ctx.options);
-    visit_by::<_, _, Brand>(&mut common, program, ctx, Blank::new(1))?;
+    let es2021 = ES2021::new(ctx.options.es2021);
+    let es2020 = ES2020::new(ctx.options.es2020);
+    let es2016 = ES2016::new(ctx.options.es2016);
+    let mut all = Both::new(common, Both::new(es2021, Both::new(es2020, es2016)));
+    visit_by::<_, _, Brand>(&mut all, program, ctx, Blank::new(1))?;
     Ok(())
 }
 

@@ -1,5 +1,7 @@
 use Rattle.std.proofs.Common.{◌≡◌, List, sym, ap, ◌∙◌, subst}
+use Rattle.std.proofs.lemmas.Result.{err_from_is_err_and}
 use Rattle.es_tree.specs.Bare.{bare}
+use Rattle.es_tree.specs.Scopes.{declared_of, declares}
 use Rattle.es_tree.specs.Tree.{Tree}
 use Rattle.es_tree.specs.Words.{Text}
 use Rattle.es_tree.proofs.MarkedTrees.{bare-marked}
@@ -8,11 +10,13 @@ use Rattle.es_statements.specs.ProgramPlain.{plain_program}
 use Rattle.es_statements.specs.ProgramShapes.{IsProgram}
 use Rattle.lower_driver.specs.Lowers.{Lowers}
 use Rattle.lower_driver.specs.Visits.{moment_of}
-use Rattle.lower_driver.proofs.Contexts.{first_moment}
+use Rattle.lower_driver.proofs.Contexts.{IsFirst, first_moment}
 use Rattle.lower_driver.proofs.Marked.{same_core}
 use Rattle.lower_driver.proofs.OpenedProgram.{program_opens}
+use Rattle.lower_driver.proofs.NoRefusals.{memory_alone}
+use Rattle.lower_driver.proofs.Shapes.{copied-shape, found-shape, marked-shape, memory-shape, table-declared}
 use Rattle.lower_driver.proofs.TableNames.{core-binds-names}
-use Rattle.lower_driver.proofs.Visits.{IsFirst, first_room, lowers, lowers_same}
+use Rattle.lower_driver.proofs.Visits.{first_inert, first_room, lowers, lowers_same}
 use Rattle.lower_driver.proofs.driver.lower_program.Goals as goal
 
 pub new_context-requires-clause-kind : goal.new_context-requires-clause-kind
@@ -33,6 +37,15 @@ open-program-requires c =
     let q = c.build_scoping.new.program in
     program_opens q (same_core p q (ap bare c.in_ok-scoping.ensures.marks ∙ bare-marked p) c.requires.core).form
 
+pub find_unsupported-requires : goal.find_unsupported-requires
+find_unsupported-requires c =
+    record { table = table-declared c.args.read.program c.build_scoping.new.program c.in_ok-scoping.scoping (ap bare c.in_ok-scoping.ensures.marks ∙ bare-marked c.args.read.program) c.in_ok-scoping.ensures.table }
+
+pub returns-in-Some-clause-cause : goal.returns-in-Some-clause-cause
+returns-in-Some-clause-cause c =
+    let p = c.args.read.program in
+    found-shape c.args.options.now p c.in-Some.kind c.in-Some.node c.in-Some.ensures.kind (sym (marked-shape c.args.options.now p c.build_scoping.new.program c.in_ok-scoping.ensures.marks) ∙ sym c.in-Some.ensures.first)
+
 pub visit-requires-clause-room : goal.visit-requires-clause-room
 visit-requires-clause-room c =
     let p = c.args.read.program in
@@ -40,8 +53,22 @@ visit-requires-clause-room c =
     let ctx = c.in_ok-ctx.ctx in
     let e = c.in_ok-ctx.ensures in
     let same : bare q ≡ bare p = ap bare c.in_ok-scoping.ensures.marks ∙ bare-marked p in
-    let first : IsFirst p (moment_of ctx) = first_moment p q c.in_ok-scoping.scoping c.args.read.ast ctx same c.in_ok-scoping.ensures.table e.in_use e.none_made e.pending e.ast c.requires.next e.table in
+    let first : IsFirst p (moment_of ctx) = first_moment p q c.in_ok-scoping.scoping c.args.read.ast ctx same c.in_ok-scoping.ensures.table e.place e.in_use e.none_made e.pending e.ast c.requires.next e.table in
     first_room p (moment_of ctx) c.open-program.result first (ap bare c.open-program.ensures ∙ same) c.requires.size
+
+pub returns-in_err-visit-clause-cause : goal.returns-in_err-visit-clause-cause
+returns-in_err-visit-clause-cause c =
+    let failed = err_from_is_err_and c.from_residual-in_err-visit.result c.from_residual-in_err-visit.ensures.1 in
+    let p = c.args.read.program in
+    let q = c.build_scoping.new.program in
+    let ctx = c.in_ok-ctx.ctx in
+    let e = c.in_ok-ctx.ensures in
+    let o = c.args.options.now in
+    let same : bare q ≡ bare p = ap bare c.in_ok-scoping.ensures.marks ∙ bare-marked p in
+    let first : IsFirst p (moment_of ctx) = first_moment p q c.in_ok-scoping.scoping c.args.read.ast ctx same c.in_ok-scoping.ensures.table e.place e.in_use e.none_made e.pending e.ast c.requires.next e.table in
+    let none = copied-shape o ctx.options p e.options ∙ (sym (marked-shape o p q c.in_ok-scoping.ensures.marks) ∙ sym c.in_default.ensures.first) in
+    let error = c.in_err-visit.field-0.0 in
+    rw (failed.1, failed.2) (memory-shape o p error (memory_alone ctx.options p (moment_of ctx) c.open-program.result (ap bare c.open-program.ensures ∙ same) first.start error none c.in_err-visit.ensures.refused))
 
 pub returns-clause-lowered : goal.returns-clause-lowered
 returns-clause-lowered c =
@@ -52,13 +79,14 @@ returns-clause-lowered c =
     let y = c.visit.new.program in
     let e = c.in_ok-ctx.ensures in
     let same : bare q ≡ bare p = ap bare c.in_ok-scoping.ensures.marks ∙ bare-marked p in
-    let first : IsFirst p (moment_of ctx) = first_moment p q c.in_ok-scoping.scoping c.args.read.ast ctx same c.in_ok-scoping.ensures.table e.in_use e.none_made e.pending e.ast c.requires.next e.table in
+    let first : IsFirst p (moment_of ctx) = first_moment p q c.in_ok-scoping.scoping c.args.read.ast ctx same c.in_ok-scoping.ensures.table e.place e.in_use e.none_made e.pending e.ast c.requires.next e.table in
     let by_visit : Lowers ctx.options p (plain_program y) (made_of after) =
-    lowers ctx.options p (moment_of ctx) (moment_of after) c.open-program.result y c.requires.core (ap bare c.open-program.ensures ∙ same) first c.in_ok-visit.ensures.visit in
+    lowers ctx.options p (moment_of ctx) (moment_of after) c.open-program.result y c.requires.core c.requires.kept (ap bare c.open-program.ensures ∙ same) first c.in_ok-visit.ensures.visit in
     let as_asked : Lowers c.args.options.now p (plain_program y) (made_of after) = lowers_same c.args.options.now ctx.options p (plain_program y) (made_of after) e.options by_visit in
     record {
       lowers = subst (λ (names : List Text). Lowers c.args.options.now p c.in_ok-program.program names) (sym c.into_uids.ensures)
           (subst (λ (t : Tree). Lowers c.args.options.now p t (made_of after)) (sym c.in_ok-program.ensures) as_asked);
       value = c.in_ok-value.ensures;
       no_warnings = c.new.ensures.items;
+      taken = sym (marked-shape c.args.options.now p q c.in_ok-scoping.ensures.marks) ∙ sym c.in_default.ensures.first;
     }

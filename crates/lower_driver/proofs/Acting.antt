@@ -1,0 +1,209 @@
+-- The rules act at constructs that they lower, and at no other nodes.
+use Rattle.std.proofs.Common.{◌≡◌, ℕ, refl, sym, ap, ◌∙◌, inl, inr, List, [], ◌∷◌, Some}
+use Rattle.std.proofs.lemmas.Bool.{and_from}
+use Rattle.std.specs.Prelude.{Bool, true, false, ◌&&◌, ◌||◌, not, codes, bytes_eq}
+use Rattle.es_tree.specs.Words.{Text}
+use Rattle.es_tree.specs.Bare.{bare_label, bare_fields}
+use Rattle.es_tree.specs.Constructs.{field_at, is_big_int, is_child, is_exponentiation, is_logical_assignment, is_nullish_coalescing, is_private_member, is_private_name}
+use Rattle.es_tree.specs.Core.{is_core_node}
+use Rattle.es_tree.specs.Names.{first_text}
+use Rattle.es_tree.specs.Parens.{without_parens}
+use Rattle.es_tree.specs.Walks.{all_nodes, all_in_fields, all_in_field, any_node}
+use Rattle.es_tree.specs.Tree.{Tree, node, Label, Fields, done, ◌then◌, missing, one, many, statements, Trees, kind_of, fields_of}
+use Rattle.es_tree.specs.declared.ast_type.AstType.{AstType}
+use Rattle.es_tree.specs.declared.ast_type.AstType.TheVariants.{AssignmentExpression, BinaryExpression, Identifier, LogicalExpression, MemberExpression, PrivateIdentifier}
+use Rattle.es_tree.specs.declared.options.EnvOptions.{EnvOptions}
+use Rattle.es_runs.specs.Alike.{Need}
+use Rattle.es_runs.specs.Exponentiation.{ExponentiationRule, TargetTwice}
+use Rattle.es_runs.specs.Exponentiation.ExponentiationRule.{power, power_assignment}
+use Rattle.es_runs.specs.Exponentiation.TargetTwice.{bound_name, other_name, static_member, private_member, literal_key, other_key}
+use Rattle.es_runs.specs.LogicalAssignment.{LogicalAssignmentRule, is_assigning}
+use Rattle.es_runs.specs.LogicalAssignment.LogicalAssignmentRule.{to_name, to_static_member, to_computed_member}
+use Rattle.es_runs.specs.Open.{Pending, nothing_pending, written}
+use Rattle.es_runs.specs.OpenSteps.{Ledger, Spot, Whole, at_node, at_list}
+use Rattle.es_runs.specs.OpenRules.{Assigning, Coalescing, Raising, Replacing, Writing, rule_under, where_on}
+use Rattle.es_runs.specs.OpenRules.Replacing.{replaces}
+use Rattle.es_runs.specs.OpenRules.raising_row.{raises}
+use Rattle.es_runs.specs.OpenRules.Writing.{writes}
+use Rattle.es_runs.specs.Steps.{NullishRule}
+use Rattle.es_runs.specs.Steps.NullishRule.{with_temporary, reading_again}
+use Rattle.es_runs.proofs.Named.{and_left, and_right, or_both, or_first, or_second}
+use Rattle.es_runs.proofs.Stripped.{stripped_core}
+use Rattle.es_visit.specs.Laws.{is_row}
+use Rattle.lower_editions.specs.Assignings.{is_doubled_target, is_lowerable_assignment}
+use Rattle.lower_editions.specs.Powers.{has_power_key, is_lowerable_power, is_power_target}
+use Rattle.lower_editions.proofs.BareNodes.{assignment-bare, power-bare}
+use Rattle.lower_driver.specs.Rules.{has_built_construct, is_built_construct}
+use Rattle.lower_driver.proofs.Unchanged.{IsIdle}
+use Rattle.lower_driver.proofs.Walked.{none_follows}
+
+-- ROWS
+
+-- the text of a label that has one
+by_text : (P : Text → Bool) (m : Label) (x : Text) → m.texts ≡ Some x ∷ [] → P x ≡ true → P (first_text m.texts) ≡ true
+by_text P m x e h = ap (λ texts. P (first_text texts)) e ∙ h
+
+coalescing_acts : {steady in_use : Text → Bool} {xs : List Text} {n : Need} {t u : Tree} → NullishRule steady in_use xs n t u → is_row is_nullish_coalescing t ≡ true
+coalescing_acts (with_temporary {m = m} texts again fresh) = by_text (λ x. bytes_eq x (codes "??")) m (codes "??") texts refl
+coalescing_acts (reading_again {m = m} texts again) = by_text (λ x. bytes_eq x (codes "??")) m (codes "??") texts refl
+
+-- the target of an assignment
+at_target : (m : Label) (t s : Tree) (op : Text) → m.texts ≡ Some op ∷ [] → is_assigning op ≡ true → without_parens t ≡ s → is_doubled_target s ≡ true → (is_assigning (first_text m.texts) && is_doubled_target (without_parens t)) ≡ true
+at_target m t s op texts assigning target doubled = and_from (is_assigning (first_text m.texts)) (is_doubled_target (without_parens t)) (by_text is_assigning m op texts assigning) (ap is_doubled_target target ∙ doubled)
+
+assignment_acts : {steady in_use : Text → Bool} {xs : List Text} {n : Need} {t u : Tree} → LogicalAssignmentRule steady in_use xs n t u → is_row is_lowerable_assignment t ≡ true
+assignment_acts (to_name {m = m} {l = l} {t = t} {op = op} texts assigning target) = at_target m t (node Identifier l done) op texts assigning target refl
+assignment_acts (to_static_member {m = m} {l = l} {k = k} {t = t} {o = o} {op = op} texts assigning target flags object) =
+    at_target m t (node MemberExpression l (one o then (one (node Identifier k done) then done))) op texts assigning target (rw flags refl)
+assignment_acts (to_computed_member {m = m} {l = l} {t = t} {o = o} {k = k} {op = op} texts assigning target flags object key) =
+    at_target m t (node MemberExpression l (one o then (one k then done))) op texts assigning target (rw flags refl)
+
+target_lowerable : {bound in_use : Text → Bool} {xs : List Text} {fs : List Tree} {s target read : Tree} → TargetTwice bound in_use xs fs s target read → is_power_target s ≡ true
+target_lowerable (bound_name h) = refl
+target_lowerable (other_name fresh) = refl
+target_lowerable (static_member flags object) = rw flags refl
+target_lowerable (private_member flags object) = rw flags refl
+target_lowerable (literal_key flags key object) = rw flags refl
+target_lowerable (other_key flags key object fresh) = rw flags refl
+
+pub power_acts : {bound in_use : Text → Bool} {xs : List Text} {n : Need} {t u : Tree} → ExponentiationRule bound in_use xs n t u → is_row is_lowerable_power t ≡ true
+power_acts (power {m = m} {l = l} {r = r} texts left right) =
+    and_from (bytes_eq (first_text m.texts) (codes "**") && not (is_big_int (kind_of l))) (not (is_big_int (kind_of r)))
+    (and_from (bytes_eq (first_text m.texts) (codes "**")) (not (is_big_int (kind_of l))) (by_text (λ x. bytes_eq x (codes "**")) m (codes "**") texts refl) (ap not left)) (ap not right)
+power_acts (power_assignment {m = m} {t = t} {r = r} texts right target) =
+    and_from (bytes_eq (first_text m.texts) (codes "**=") && not (is_big_int (kind_of r))) (is_power_target (without_parens t))
+    (and_from (bytes_eq (first_text m.texts) (codes "**=")) (not (is_big_int (kind_of r))) (by_text (λ x. bytes_eq x (codes "**=")) m (codes "**=") texts refl) (ap not right)) (target_lowerable target)
+
+-- THE RULES THAT OPTIONS ASK FOR
+
+-- a rule that is on or off takes a step only where it is on
+pub where_it_is_on : (on : Bool) (R : Need → Ledger → Spot → Ledger → Spot → Type 0) (n : Need) (s : Ledger) (x : Spot) (s' : Ledger) (y : Spot) → where_on on R n s x s' y → (on ≡ true) × R n s x s' y
+where_it_is_on true R n s x s' y r = (refl, r)
+where_it_is_on false R n s x s' y r = absurd r
+
+-- the nodes at which they act
+abbrev pub is_acted_on : EnvOptions → AstType → Label → Fields → Bool
+is_acted_on o k l fs =
+    (o.es2021.logical_assignment_operators && is_lowerable_assignment k l fs)
+    || (o.es2020.nullish_coalescing_operator && is_nullish_coalescing k l fs)
+    || (o.es2016.exponentiation_operator && is_lowerable_power k l fs)
+
+or_left : (a b : Bool) → a ≡ true → (a || b) ≡ true
+or_left a b e = rw e refl
+
+or_right : (a b : Bool) → b ≡ true → (a || b) ≡ true
+or_right true b e = refl
+or_right false b e = e
+
+writing_lists : (n : Need) (s s' : Ledger) (p q : Pending) (ts us : Trees) → Writing n s (at_list p ts) s' (at_list q us) → p ≡ nothing_pending → (s' ≡ s) × (q ≡ nothing_pending) × (us ≡ ts)
+writing_lists n s s' p q ts us (writes) h = (refl, refl, ap (λ o. written o ts) h)
+
+-- no row acts on a list
+no_list : {R : Whole → List Text → Need → Tree → Tree → Type 0} (n : Need) (s s' : Ledger) (p q : Pending) (ts us : Trees) → Replacing R n s (at_list p ts) s' (at_list q us) → ⊥
+no_list n s s' p q ts us r = elim r [ ]
+
+assigning_nodes : (n : Need) (s s' : Ledger) (t u : Tree) → Assigning n s (at_node t) s' (at_node u) → is_row is_lowerable_assignment t ≡ true
+assigning_nodes n _ _ t u (replaces xs r) = assignment_acts r
+
+coalescing_nodes : (n : Need) (s s' : Ledger) (t u : Tree) → Coalescing n s (at_node t) s' (at_node u) → is_row is_nullish_coalescing t ≡ true
+coalescing_nodes n _ _ t u (replaces xs r) = coalescing_acts r
+
+raising_nodes : (n : Need) (s s' : Ledger) (t u : Tree) → Raising n s (at_node t) s' (at_node u) → is_row is_lowerable_power t ≡ true
+raising_nodes n _ _ t u (replaces xs (raises free r)) = power_acts r
+
+less_where_on : (on a b : Bool) → (a ≡ false → b ≡ false) → (on && a) ≡ false → (on && b) ≡ false
+less_where_on true a b f h = f h
+less_where_on false a b f h = refl
+
+-- a test that holds where one of three settings is on
+module _ (on_a a on_b b on_c c : Bool) where
+  by_first : on_a ≡ true → a ≡ true → (on_a && a || on_b && b || on_c && c) ≡ true
+  by_first f h = or_left (on_a && a || on_b && b) (on_c && c) (or_left (on_a && a) (on_b && b) (and_from on_a a f h))
+
+  by_second : on_b ≡ true → b ≡ true → (on_a && a || on_b && b || on_c && c) ≡ true
+  by_second f h = or_left (on_a && a || on_b && b) (on_c && c) (or_right (on_a && a) (on_b && b) (and_from on_b b f h))
+
+  by_third : on_c ≡ true → c ≡ true → (on_a && a || on_b && b || on_c && c) ≡ true
+  by_third f h = or_right (on_a && a || on_b && b) (on_c && c) (and_from on_c c f h)
+
+  -- and fails where others fail of which it follows
+  pub less : (a' b' c' : Bool) → (a ≡ false → a' ≡ false) → (b ≡ false → b' ≡ false) → (c ≡ false → c' ≡ false) → (on_a && a || on_b && b || on_c && c) ≡ false → (on_a && a' || on_b && b' || on_c && c') ≡ false
+  less a' b' c' f g e h =
+      let early = or_first (on_a && a || on_b && b) (on_c && c) h in
+      or_both (on_a && a' || on_b && b') (on_c && c')
+      (or_both (on_a && a') (on_b && b') (less_where_on on_a a a' f (or_first (on_a && a) (on_b && b) early)) (less_where_on on_b b b' g (or_second (on_a && a) (on_b && b) early)))
+      (less_where_on on_c c c' e (or_second (on_a && a || on_b && b) (on_c && c) h))
+
+module _ (o : EnvOptions) where
+  acting_nodes : (n : Need) (s s' : Ledger) (t u : Tree) → rule_under o n s (at_node t) s' (at_node u) → is_row (is_acted_on o) t ≡ true
+  acting_nodes n s s' t u (inl r) = elim r [ ]
+  acting_nodes n s s' t u (inr (inl r)) =
+      let on = where_it_is_on o.es2021.logical_assignment_operators Assigning n s (at_node t) s' (at_node u) r in
+      by_first o.es2021.logical_assignment_operators (is_row is_lowerable_assignment t) o.es2020.nullish_coalescing_operator (is_row is_nullish_coalescing t) o.es2016.exponentiation_operator (is_row is_lowerable_power t) on.0 (assigning_nodes n s s' t u on.1)
+  acting_nodes n s s' t u (inr (inr (inl r))) =
+      let on = where_it_is_on o.es2020.nullish_coalescing_operator Coalescing n s (at_node t) s' (at_node u) r in
+      by_second o.es2021.logical_assignment_operators (is_row is_lowerable_assignment t) o.es2020.nullish_coalescing_operator (is_row is_nullish_coalescing t) o.es2016.exponentiation_operator (is_row is_lowerable_power t) on.0 (coalescing_nodes n s s' t u on.1)
+  acting_nodes n s s' t u (inr (inr (inr r))) =
+      let on = where_it_is_on o.es2016.exponentiation_operator Raising n s (at_node t) s' (at_node u) r in
+      by_third o.es2021.logical_assignment_operators (is_row is_lowerable_assignment t) o.es2020.nullish_coalescing_operator (is_row is_nullish_coalescing t) o.es2016.exponentiation_operator (is_row is_lowerable_power t) on.0 (raising_nodes n s s' t u on.1)
+
+  acting_lists : (n : Need) (s s' : Ledger) (p q : Pending) (ts us : Trees) → rule_under o n s (at_list p ts) s' (at_list q us) → p ≡ nothing_pending → (s' ≡ s) × (q ≡ nothing_pending) × (us ≡ ts)
+  acting_lists n s s' p q ts us (inl r) h = writing_lists n s s' p q ts us r h
+  acting_lists n s s' p q ts us (inr (inl r)) h = absurd (no_list n s s' p q ts us (where_it_is_on o.es2021.logical_assignment_operators Assigning n s (at_list p ts) s' (at_list q us) r).1)
+  acting_lists n s s' p q ts us (inr (inr (inl r))) h = absurd (no_list n s s' p q ts us (where_it_is_on o.es2020.nullish_coalescing_operator Coalescing n s (at_list p ts) s' (at_list q us) r).1)
+  acting_lists n s s' p q ts us (inr (inr (inr r))) h = absurd (no_list n s s' p q ts us (where_it_is_on o.es2016.exponentiation_operator Raising n s (at_list p ts) s' (at_list q us) r).1)
+
+  pub acting_idle : IsIdle (is_acted_on o) (rule_under o)
+  acting_idle = record { nodes = acting_nodes; lists = acting_lists }
+
+-- WHERE NO CONSTRUCT IS
+
+nullish-bare : (k : AstType) (l : Label) (fs : Fields) → is_nullish_coalescing k (bare_label l) (bare_fields fs) ≡ is_nullish_coalescing k l fs
+nullish-bare LogicalExpression l fs = refl
+nullish-bare _ l fs = refl
+
+pub acted-bare : (o : EnvOptions) (k : AstType) (l : Label) (fs : Fields) → is_acted_on o k (bare_label l) (bare_fields fs) ≡ is_acted_on o k l fs
+acted-bare o k l fs = λ i.
+    (o.es2021.logical_assignment_operators && assignment-bare k l fs i)
+    || (o.es2020.nullish_coalescing_operator && nullish-bare k l fs i)
+    || (o.es2016.exponentiation_operator && power-bare k l fs i)
+
+-- a core node is no member with a private name
+core_public : (t : Tree) → all_nodes is_core_node t ≡ true → is_private_member (kind_of t) (fields_of t) ≡ false
+core_public (node MemberExpression l fs) h = at fs h
+  where
+    at : (fs : Fields) → all_in_fields is_core_node fs ≡ true → is_child is_private_name (field_at 1 fs) ≡ false
+    at (f then (one (node PrivateIdentifier m gs) then hs)) h = absurd (cc (and_right (all_in_field is_core_node f) false h))
+    at _ h = refl
+core_public (node _ l fs) h = refl
+
+not_left : (a b : Bool) → b ≡ true → (a && b) ≡ false → a ≡ false
+not_left true b h g = absurd (cc (h, g))
+not_left false b h g = refl
+
+also_less : (a b : Bool) → a ≡ false → (a && b) ≡ false
+also_less a b h = rw h refl
+
+no_assignment : (k : AstType) (l : Label) (fs : Fields) → all_in_fields is_core_node fs ≡ true → is_logical_assignment k l fs ≡ false → is_lowerable_assignment k l fs ≡ false
+no_assignment AssignmentExpression l (one t then (one r then done)) core h =
+    let public : is_private_member (kind_of (without_parens t)) (fields_of (without_parens t)) ≡ false = core_public (without_parens t) (stripped_core t (and_left (all_nodes is_core_node t) (all_nodes is_core_node r && true) core)) in
+    let none = not_left (is_assigning (first_text l.texts)) (not (is_private_member (kind_of (without_parens t)) (fields_of (without_parens t)))) (ap not public) h in
+    ap (λ b. b && is_doubled_target (without_parens t)) none
+no_assignment AssignmentExpression l _ core h = refl
+no_assignment _ l fs core h = refl
+
+no_power : (k : AstType) (l : Label) (fs : Fields) → is_exponentiation k l fs ≡ false → is_lowerable_power k l fs ≡ false
+no_power BinaryExpression l (one a then (one b then done)) h = h
+no_power BinaryExpression l _ h = refl
+no_power AssignmentExpression l (one t then (one r then done)) h = also_less (bytes_eq (first_text l.texts) (codes "**=") && not (is_big_int (kind_of r))) (is_power_target (without_parens t)) h
+no_power AssignmentExpression l _ h = refl
+no_power _ l fs h = refl
+
+none_acted_on : (o : EnvOptions) (k : AstType) (l : Label) (fs : Fields) → is_core_node k l fs ≡ true → all_in_fields is_core_node fs ≡ true → is_built_construct o k l fs ≡ false → is_acted_on o k l fs ≡ false
+none_acted_on o k l fs own core h =
+    less o.es2021.logical_assignment_operators (is_logical_assignment k l fs) o.es2020.nullish_coalescing_operator (is_nullish_coalescing k l fs) o.es2016.exponentiation_operator (is_exponentiation k l fs)
+    (is_lowerable_assignment k l fs) (is_nullish_coalescing k l fs) (is_lowerable_power k l fs) (no_assignment k l fs core) (λ e. e) (no_power k l fs) h
+
+-- where a core program has no construct, no rule acts at any of its nodes
+pub none_acts : (o : EnvOptions) (p : Tree) → all_nodes is_core_node p ≡ true → has_built_construct o p ≡ false → any_node (is_acted_on o) p ≡ false
+none_acts o p core none = none_follows is_core_node (is_built_construct o) (is_acted_on o) (none_acted_on o) p core none

@@ -1,0 +1,119 @@
+-- Where no exponentiation that is lowered stands, no step makes one.
+use Rattle.std.proofs.Common.{◌≡◌, ℕ, refl, sym, subst, ap, ◌∙◌, inl, inr, List, [], ◌∷◌, ◌++◌, map}
+use Rattle.std.proofs.lemmas.Bool.{and_from}
+use Rattle.std.specs.Prelude.{Bool, true, false, ◌&&◌, not, codes}
+use Rattle.es_tree.specs.Words.{Text}
+use Rattle.es_tree.specs.Parens.{without_parens}
+use Rattle.es_tree.specs.Walks.{all_nodes, all_in_fields, all_in_trees}
+use Rattle.es_tree.specs.Tree.{Tree, node, Label, Fields, done, ◌then◌, one, Trees, trees}
+use Rattle.es_tree.specs.declared.ast_type.AstType.{AstType}
+use Rattle.es_tree.specs.declared.ast_type.AstType.TheVariants.{AssignmentExpression, Identifier, LogicalExpression, MemberExpression, ParenthesizedExpression}
+use Rattle.es_runs.specs.Alike.{Need}
+use Rattle.es_runs.specs.Doubling.{Doubles}
+use Rattle.es_runs.specs.Doubling.Doubles.{read_again, by_temporary}
+use Rattle.es_runs.specs.LogicalAssignment.{LogicalAssignmentRule}
+use Rattle.es_runs.specs.LogicalAssignment.LogicalAssignmentRule.{to_name, to_static_member, to_computed_member}
+use Rattle.es_runs.specs.Open.{Pending, Open, OpenFields, closed_fields, declarator_node, declared, with_vars}
+use Rattle.es_runs.specs.OpenSteps.{Ledger, ledger, Whole, Spot, at_node, at_list, FieldsStep, Step, Steps}
+use Rattle.es_runs.specs.OpenRules.{Assigning, Coalescing, CoreRule, Raising, Writing, either_rule}
+use Rattle.es_runs.specs.OpenRules.Replacing.{replaces}
+use Rattle.es_runs.specs.OpenRules.raising_row.{raises}
+use Rattle.es_runs.specs.OpenRules.Writing.{writes}
+use Rattle.es_runs.specs.Steps.{NullishRule, also_all}
+use Rattle.es_runs.specs.Steps.NullishRule.{with_temporary, reading_again}
+use Rattle.es_runs.proofs.Named.{and_left, and_right}
+use Rattle.es_runs.proofs.OpenTests.{open_all, pending_all, Passes, spot_all, steps_pass}
+use Rattle.es_runs.proofs.RowFacts.{below_parens}
+use Rattle.es_visit.specs.Laws.{is_row}
+use Rattle.lower_editions.specs.Powers.{is_lowerable_power}
+use Rattle.lower_editions.specs.Stable.{assigning_calm, coalescing_calm, either_calm, IsCalm, power_kept, raising_calm, writing_calm}
+use Rattle.lower_driver.proofs.Acting.{power_acts}
+
+abbrev pub no_power : AstType → Label → Fields → Bool
+no_power k l fs = not (is_lowerable_power k l fs)
+
+-- A STEP AMONG THE FIELDS OF A NODE
+
+core_calm : IsCalm CoreRule
+core_calm = either_calm Writing (either_rule Assigning (either_rule Coalescing Raising)) writing_calm (either_calm Assigning (either_rule Coalescing Raising) assigning_calm (either_calm Coalescing Raising coalescing_calm raising_calm))
+
+fields_kept : (k : AstType) (l : Label) (c : ℕ → Need) (s s' : Ledger) (fs gs : OpenFields) → FieldsStep CoreRule c s fs s' gs → no_power k l (closed_fields fs) ≡ true → no_power k l (closed_fields gs) ≡ true
+fields_kept k l c s s' fs gs r h = ap not (sym (power_kept CoreRule core_calm k l c s s' fs gs r)) ∙ h
+
+-- THE ROWS
+
+-- no node of the tree is one
+abbrev Powerless : Tree → Type 0
+Powerless t = all_nodes no_power t ≡ true
+
+first_powerless : (k : AstType) (l : Label) (t : Tree) (fs : Fields) → Powerless (node k l (one t then fs)) → Powerless t
+first_powerless k l t fs h = and_left (all_nodes no_power t) (all_in_fields no_power fs) (and_right (no_power k l (one t then fs)) (all_nodes no_power t && all_in_fields no_power fs) h)
+
+second_powerless : (k : AstType) (l : Label) (t u : Tree) (fs : Fields) → Powerless (node k l (one t then (one u then fs))) → Powerless u
+second_powerless k l t u fs h =
+    and_left (all_nodes no_power u) (all_in_fields no_power fs)
+    (and_right (all_nodes no_power t) (all_nodes no_power u && all_in_fields no_power fs) (and_right (no_power k l (one t then (one u then fs))) (all_nodes no_power t && (all_nodes no_power u && all_in_fields no_power fs)) h))
+
+below_powerless : (t s : Tree) → without_parens t ≡ s → Powerless t → Powerless s
+below_powerless t s e h = subst Powerless e (below_parens Powerless (λ l u fs g. first_powerless ParenthesizedExpression l u fs g) t h)
+
+doubles_powerless : {again in_use : Text → Bool} {xs : List Text} {e e1 e2 : Tree} → Doubles again in_use xs e e1 e2 → Powerless e → Powerless e1 × Powerless e2
+doubles_powerless (read_again h) g = (g, g)
+doubles_powerless (by_temporary h fresh) g = (rw g refl, refl)
+
+assignment_powerless : {steady in_use : Text → Bool} {xs : List Text} {n : Need} {a b : Tree} → LogicalAssignmentRule steady in_use xs n a b → Powerless a → Powerless b
+assignment_powerless (to_name {m = m} {t = t} {r = r} texts assigning target) h = rw (second_powerless AssignmentExpression m t r done h) refl
+assignment_powerless (to_static_member {m = m} {l = l} {k = k} {t = t} {r = r} {o = o} texts assigning target flags object) h =
+    let member = below_powerless t (node MemberExpression l (one o then (one (node Identifier k done) then done))) target (first_powerless AssignmentExpression m t (one r then done) h) in
+    let objects = doubles_powerless object (first_powerless MemberExpression l o (one (node Identifier k done) then done) member) in
+    rw (objects.0, objects.1, second_powerless AssignmentExpression m t r done h) refl
+assignment_powerless (to_computed_member {m = m} {l = l} {t = t} {r = r} {o = o} {k = k} texts assigning target flags object key) h =
+    let member = below_powerless t (node MemberExpression l (one o then (one k then done))) target (first_powerless AssignmentExpression m t (one r then done) h) in
+    let objects = doubles_powerless object (first_powerless MemberExpression l o (one k then done) member) in
+    let keys = doubles_powerless key (second_powerless MemberExpression l o k done member) in
+    rw (objects.0, keys.0, objects.1, keys.1, second_powerless AssignmentExpression m t r done h) refl
+
+coalescing_powerless : {steady in_use : Text → Bool} {xs : List Text} {n : Need} {a b : Tree} → NullishRule steady in_use xs n a b → Powerless a → Powerless b
+coalescing_powerless (with_temporary {m = m} {l = l} {r = r} texts again fresh) h = rw (first_powerless LogicalExpression m l (one r then done) h, second_powerless LogicalExpression m l r done h) refl
+coalescing_powerless (reading_again {m = m} {l = l} {r = r} texts again) h = simp (first_powerless LogicalExpression m l (one r then done) h, second_powerless LogicalExpression m l r done h)
+
+-- a row of exponentiation acts at none
+own_power : (t : Tree) → Powerless t → is_row is_lowerable_power t ≡ true → ⊥
+own_power (node k l fs) h acts = let none = and_left (no_power k l fs) (all_in_fields no_power fs) h in absurd (cc (acts, none))
+
+-- THE RULES
+
+append_all : (ds es : List Tree) → all_in_trees no_power (trees ds) ≡ true → all_in_trees no_power (trees es) ≡ true → all_in_trees no_power (trees (ds ++ es)) ≡ true
+append_all [] es h g = g
+append_all (d ∷ ds) es h g = and_from (all_nodes no_power d) (all_in_trees no_power (trees (ds ++ es))) (and_left (all_nodes no_power d) (all_in_trees no_power (trees ds)) h) (append_all ds es (and_right (all_nodes no_power d) (all_in_trees no_power (trees ds)) h) g)
+
+made_powerless : (xs : List Text) → all_in_trees no_power (trees (map declarator_node xs)) ≡ true
+made_powerless [] = refl
+made_powerless (x ∷ xs) = made_powerless xs
+
+declared_powerless : (kind : Text) (ds : List Tree) (ts : Trees) → all_in_trees no_power (trees ds) ≡ true → all_in_trees no_power ts ≡ true → all_in_trees no_power (declared kind ds ts) ≡ true
+declared_powerless kind [] ts h g = g
+declared_powerless kind (d ∷ ds) ts h g = and_from (all_in_trees no_power (trees (d ∷ ds)) && true) (all_in_trees no_power ts) (and_from (all_in_trees no_power (trees (d ∷ ds))) true h refl) g
+
+-- what is pending is none with more names
+more_powerless : (xs : List Text) (p : Pending) → pending_all no_power p ≡ true → pending_all no_power (with_vars xs p) ≡ true
+more_powerless xs p h =
+    and_from (all_in_trees no_power (trees (p.vars ++ map declarator_node xs))) (all_in_trees no_power (trees p.lets))
+    (append_all p.vars (map declarator_node xs) (and_left (all_in_trees no_power (trees p.vars)) (all_in_trees no_power (trees p.lets)) h) (made_powerless xs))
+    (and_right (all_in_trees no_power (trees p.vars)) (all_in_trees no_power (trees p.lets)) h)
+
+rule_powerless : (n : Need) (s : Ledger) (x : Spot) (s' : Ledger) (y : Spot) → CoreRule n s x s' y → Passes no_power s (spot_all no_power x) → Passes no_power s' (spot_all no_power y)
+rule_powerless n s _ _ _ (inl (writes {p = p} {ts = ts})) h =
+    let pending = and_left (pending_all no_power p) (all_in_trees no_power ts) h.here in
+    record {
+      around = h.around;
+      here = declared_powerless (codes "var") p.vars (declared (codes "let") p.lets ts) (and_left (all_in_trees no_power (trees p.vars)) (all_in_trees no_power (trees p.lets)) pending)
+          (declared_powerless (codes "let") p.lets ts (and_right (all_in_trees no_power (trees p.vars)) (all_in_trees no_power (trees p.lets)) pending) (and_right (pending_all no_power p) (all_in_trees no_power ts) h.here));
+    }
+rule_powerless n _ _ _ _ (inr (inl (replaces {p = p} xs r))) h = record { around = more_powerless xs p h.around; here = assignment_powerless r h.here }
+rule_powerless n _ _ _ _ (inr (inr (inl (replaces {p = p} xs r)))) h = record { around = more_powerless xs p h.around; here = coalescing_powerless r h.here }
+rule_powerless n _ _ _ _ (inr (inr (inr (replaces {t = t} xs (raises free r))))) h = absurd (own_power t h.here (power_acts r))
+
+-- steps of the rules of core programs make none
+pub still_powerless : {n : Need} {s s' : Ledger} {o u : Open} → Steps (Step CoreRule n) s o s' u → Passes no_power s (open_all no_power o) → Passes no_power s' (open_all no_power u)
+still_powerless = steps_pass no_power CoreRule fields_kept rule_powerless
