@@ -1,5 +1,5 @@
 -- A logical assignment that became a logical expression, as a row that replaced it.
-use Rattle.std.proofs.Common.{◌≡◌, ◌<◌, ◌≤◌, ◌+◌, ◌*◌, ℕ, List, [], ◌∷◌, ◌++◌, length, length-append, refl, sym, ap, subst, ◌∙◌, arith, Option, Some, codes}
+use Rattle.std.proofs.Common.{inl, ◌≡◌, ◌<◌, ◌≤◌, ◌+◌, ◌*◌, ℕ, List, [], ◌∷◌, ◌++◌, length, length-append, refl, sym, ap, subst, ◌∙◌, arith, Option, Some, codes}
 use Rattle.std.specs.Prelude.{Bool, true, false, ◌&&◌, bytes_eq, if◌then◌else◌}
 use Rattle.es_tree.specs.Bare.{bare, bare_label, bare_fields}
 use Rattle.es_tree.specs.Heads.{head_of, label}
@@ -27,8 +27,7 @@ use Rattle.es_runs.specs.Rules.{member_node}
 use Rattle.es_runs.specs.Steps.{also_all}
 use Rattle.es_runs.specs.Weights.{assignment_weight, weight}
 use Rattle.es_visit.specs.declared.hook.Hook.TheVariants.{Expression as h-Expression}
-use Rattle.es_visit.specs.Hooks.{sort_of}
-use Rattle.es_visit.specs.Laws.{Entered, is_row}
+use Rattle.es_visit.specs.Laws.{Entered, KeepsSort, is_row}
 use Rattle.lower_common.proofs.Takings.{takes_none, takes_reads}
 use Rattle.lower_common.specs.Duplicates.{Duplicates}
 use Rattle.lower_common.specs.Replacings.{Replaces}
@@ -196,10 +195,10 @@ replaced_assignment old mid new t target read written made e o opened lowerable 
 -- THE HOOK
 
 -- what the row is of, and what it makes
-assigning_kinds : {steady in_use : Text → Bool} {xs : List Text} {n : Need} {t u : Tree} → LogicalAssignmentRule steady in_use xs n t u → (sort_of (kind_of u) ≡ sort_of (kind_of t)) × (is_row is_lowerable_assignment u ≡ false) × (kind_of u ≡ LogicalExpression)
-assigning_kinds (to_name texts op target) = (refl, refl, refl)
-assigning_kinds (to_static_member texts op target flags d) = (refl, refl, refl)
-assigning_kinds (to_computed_member texts op target flags d k) = (refl, refl, refl)
+assigning_kinds : {steady in_use : Text → Bool} {xs : List Text} {n : Need} {t u : Tree} → LogicalAssignmentRule steady in_use xs n t u → KeepsSort h-Expression t u × (is_row is_lowerable_assignment u ≡ false) × (kind_of u ≡ LogicalExpression)
+assigning_kinds (to_name texts op target) = (λ h s. inl s, refl, refl)
+assigning_kinds (to_static_member texts op target flags d) = (λ h s. inl s, refl, refl)
+assigning_kinds (to_computed_member texts op target flags d k) = (λ h s. inl s, refl, refl)
 
 pub entered_assigned : (old new : TraverseCtx TransformState) (t u : Tree) → 0 < length old.state.var_declarations → Replaces assigning_row old new (bare t) (bare u) → Entered assigning_profile h-Expression (moment_of old) (bare t) (moment_of new) (bare u)
 entered_assigned old new t u there r =

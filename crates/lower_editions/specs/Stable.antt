@@ -272,7 +272,7 @@ module _ (R : Need → Ledger → Spot → Ledger → Spot → Type 0) (calm : I
       own MemberExpression l = said_kept R (λ fs. is_power_target (node MemberExpression l fs)) (on_two (λ o k. has_power_key l.flags k)) (power_member l) (two_kept R (λ o k. has_power_key l.flags k) (λ b n s s' o u r. refl) (λ a. power_key_kept l.flags))
       own _ l = λ c s s' fs gs r. refl
 
--- THE CONSTRUCTS
+  -- THE CONSTRUCTS
 
   pub coalescing_kept : (k : AstType) (l : Label) → AreKept R (is_lowerable_coalescing k l)
   coalescing_kept LogicalExpression l = λ c s s' fs gs r. ap (λ b. is_nullish_coalescing LogicalExpression l done && b) (sides c s s' fs gs r)

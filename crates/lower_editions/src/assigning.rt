@@ -101,8 +101,14 @@ fn double_computed(
     let (object, object_again) = double(object, ctx)?;
     let (key, key_again) = double(key, ctx)?;
     let read = new_member_expression(&mut ctx.ast, NOWHERE, true, false, object, key)?;
-    let written =
-        new_member_expression(&mut ctx.ast, NOWHERE, true, false, object_again, key_again)?;
+    let written = new_member_expression(
+        &mut ctx.ast,
+        NOWHERE,
+        true,
+        false,
+        object_again,
+        key_again,
+    )?;
     Ok((read, written))
 }
 

@@ -15,7 +15,7 @@ returns-clause-entered c =
     let held : on ≡ c.args.self.now.options.nullish_coalescing_operator = sym (ap (λ (o : ES2020Options). o.nullish_coalescing_operator) c.requires.ready.suited) in
     elim c.if-self.branch [
       | then-self+in_ok-enter_expression w ↦
-        on_moved on coalescing_profile Expression c.args.ctx.now w.enter_expression.new.ctx c.if-self.ctx c.args.node.now w.enter_expression.new.node c.if-self.node (held ∙ w.if-self.true) w.ctx-is w.node-is w.in_ok-enter_expression.ensures.entered
+          on_moved on coalescing_profile Expression c.args.ctx.now w.enter_expression.new.ctx c.if-self.ctx c.args.node.now w.enter_expression.new.node c.if-self.node (held ∙ w.if-self.true) w.ctx-is w.node-is w.in_ok-enter_expression.ensures.entered
       | else-self w ↦ off_moved on coalescing_profile Expression c.args.ctx.now c.if-self.ctx c.args.node.now c.if-self.node (held ∙ w.if-self.false) w.ctx-is w.node-is
     ]
 
