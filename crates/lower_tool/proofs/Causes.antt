@@ -1,15 +1,17 @@
--- The causes of a refusal and a core source exclude one another.
-use Rattle.std.proofs.Common.{◌≡◌, ℕ, true, false, List, [], Some, sym, ap, ◌∙◌, subst, arith, ◌++◌, refl, ◌∷◌}
+-- The causes of a refusal and a source that is taken exclude one another.
+use Rattle.std.proofs.Common.{◌≡◌, ℕ, Bool, true, false, List, [], Option, Some, None, ◌&&◌, if◌then◌else◌, sym, ap, ◌∙◌, subst, arith, ◌++◌, refl, ◌∷◌}
 use Rattle.serde_json.specs.Data.{Data}
 use Rattle.es_tree.specs.Core.{is_core, is_core_node, is_not_core}
+use Rattle.es_tree.specs.Options.{first_fault}
 use Rattle.es_tree.specs.StaticRules.{Break, breaks, IsFirstBreak}
 use Rattle.es_tree.specs.Tree.{Tree}
 use Rattle.es_tree.specs.Walks.{first_node}
 use Rattle.es_tree.specs.declared.error.LowerError.{LowerError}
-use Rattle.es_tree.specs.declared.error.LowerError.TheVariants.{Json, TooLarge, TooDeep, Shape, Invalid, Unsupported}
+use Rattle.es_tree.specs.declared.error.LowerError.TheVariants.{Json, Option as e-Option, TooLarge, TooDeep, Shape, Invalid, Unsupported}
 use Rattle.es_tree.specs.declared.error.Rule.{Rule}
-use Rattle.es_tree.specs.declared.error.UnsupportedKind.TheVariants.{NotBuilt}
+use Rattle.es_tree.specs.declared.error.UnsupportedKind.TheVariants.{MathBound, NotBuilt}
 use Rattle.es_tree.specs.declared.ids.NodeId.{NodeId}
+use Rattle.es_tree.specs.declared.options.EnvOptions.{EnvOptions}
 use Rattle.es_tree.specs.declared.table.Sort.TheVariants.{Program as s-Program}
 use Rattle.es_tree.proofs.FirstNode.{is_none, all-first}
 use Rattle.es_json.specs.Faults.{faults, first_path_of}
@@ -21,7 +23,13 @@ use Rattle.std.specs.Fmt.{decimal}
 use Rattle.es_tree.specs.Causes.{rule_name, unsupported_name}
 use Rattle.es_json.specs.Pointer.{pointer}
 use Rattle.lower_tool.specs.Answer.{line, refusal_text}
-use Rattle.lower_driver.specs.Sources.{IsReading, HasReading, Reads, IsCoreSource, IsUnread, IsBeyondCore, IsBroken, IsCause}
+use Rattle.lower_driver.specs.Shapes.{first_math_bound}
+use Rattle.lower_driver.specs.Sources.{IsReading, HasReading, Reads, IsUnread, IsBeyondCore, IsBroken, IsWithMath, IsCauseUnder}
+use Rattle.lower_tool.specs.Job.{IsTakenSource}
+
+-- the two ask for the same as far as shapes go that aren't taken
+abbrev pub SameShapes : EnvOptions → EnvOptions → Type 0
+SameShapes o q = o.es2016.exponentiation_operator ≡ q.es2016.exponentiation_operator
 
 -- bytes read as one value, and as one program
 one_value : (bytes : List ℕ) (v w : Data) → IsReading bytes v → IsReading bytes w → v ≡ w
@@ -49,48 +57,53 @@ no_refusal v p (Shape path) form refused _ =
     cc
 no_refusal v p _ form refused told = absurd told
 
-read_anyway : (bytes : List ℕ) (error : LowerError) → IsUnreadError error → IsUnread bytes error → IsCoreSource bytes → ⊥
-read_anyway bytes error told unread source =
-    let same = one_value bytes source.reads.value unread.value source.reads.reading unread.reading in
-    no_refusal unread.value source.program error (subst (λ v. IsProgramForm v source.program) same source.reads.form) unread.refusal told
-
 core_after_all : (p : Tree) (n : ℕ) → is_core p ≡ true → first_node is_not_core p ≡ Some n → ⊥
 core_after_all p n core first =
     let none : is_core p ≡ false = all-first is_core_node p ∙ ap is_none first in
     cc
 
--- a core source is refused for no cause
-pub not_refused : (bytes : List ℕ) (error : LowerError) → IsCause bytes error → IsCoreSource bytes → ⊥
-not_refused bytes Json cause source = cause (record { value = source.reads.value; reading = source.reads.reading })
-not_refused bytes (TooLarge n) cause source = read_anyway bytes (TooLarge n) tt cause source
-not_refused bytes (TooDeep n) cause source = read_anyway bytes (TooDeep n) tt cause source
-not_refused bytes (Shape path) cause source = read_anyway bytes (Shape path) tt cause source
-not_refused bytes (Unsupported NotBuilt id) cause source =
-    let same = one_program bytes cause.program source.program cause.reads source.reads in
-    core_after_all source.program id.0 source.core (subst (λ p. first_node is_not_core p ≡ Some id.0) same cause.first)
-not_refused bytes (Invalid rule id) cause source =
-    let same = one_program bytes cause.program source.program cause.reads source.reads in
-    let first : IsFirstBreak (breaks source.program) (Invalid rule id) = subst (λ p. IsFirstBreak (breaks p) (Invalid rule id)) same cause.first in
-    subst (λ (bs : List Break). IsFirstBreak bs (Invalid rule id)) source.kept first
-not_refused bytes _ cause source = absurd cause
+same_if : (b c d : Bool) (x y : Option ℕ) → b ≡ c → (if b && d then x else y) ≡ (if c && d then x else y)
+same_if b c d x y same = ap (λ (e : Bool). if e && d then x else y) same
+
+-- which shape isn't taken hangs on one of the options
+same_shape : (o q : EnvOptions) (t : Tree) → SameShapes o q → first_math_bound o t ≡ first_math_bound q t
+same_shape o q t same = same_if o.es2016.exponentiation_operator q.es2016.exponentiation_operator _ _ _ same
+
+pub taken_as : (o q : EnvOptions) (bytes : List ℕ) → SameShapes o q → IsTakenSource o bytes → IsTakenSource q bytes
+taken_as o q bytes same source = record {
+  program = source.program;
+  reads = source.reads;
+  core = source.core;
+  kept = source.kept;
+  taken = sym (same_shape o q source.program same) ∙ source.taken;
+}
 
 -- ONE CAUSE: an input has at most one line
 
 -- a cause by what is known of the input
-data Known (bytes : List ℕ) : LowerError → Type 0 where
-  no_reading : (HasReading bytes → ⊥) → Known bytes Json
-  unread : {error : LowerError} → IsUnreadError error → IsUnread bytes error → Known bytes error
-  beyond_core : {id : NodeId} → IsBeyondCore bytes id → Known bytes (Unsupported NotBuilt id)
-  broken : {rule : Rule} {id : NodeId} → IsBroken bytes (Invalid rule id) → Known bytes (Invalid rule id)
+data Known (o : EnvOptions) (bytes : List ℕ) : LowerError → Type 0 where
+  no_reading : (HasReading bytes → ⊥) → Known o bytes Json
+  unread : {error : LowerError} → IsUnreadError error → IsUnread bytes error → Known o bytes error
+  beyond_core : {id : NodeId} → IsBeyondCore bytes id → Known o bytes (Unsupported NotBuilt id)
+  broken : {rule : Rule} {id : NodeId} → IsBroken bytes (Invalid rule id) → Known o bytes (Invalid rule id)
+  with_math : {id : NodeId} → IsWithMath o bytes id → Known o bytes (Unsupported MathBound id)
 
-known : (bytes : List ℕ) (error : LowerError) → IsCause bytes error → Known bytes error
-known bytes Json cause = no_reading cause
-known bytes (TooLarge n) cause = unread tt cause
-known bytes (TooDeep n) cause = unread tt cause
-known bytes (Shape path) cause = unread tt cause
-known bytes (Unsupported NotBuilt id) cause = beyond_core cause
-known bytes (Invalid rule id) cause = broken cause
-known bytes _ cause = absurd cause
+known : (o q : EnvOptions) (bytes : List ℕ) (error : LowerError) → SameShapes o q → first_fault o ≡ None → IsCauseUnder o bytes error → Known q bytes error
+known o q bytes Json same none cause = no_reading cause
+known o q bytes (e-Option name) same none cause = let both : Some name ≡ None = sym cause.1 ∙ none in absurd (cc)
+known o q bytes (TooLarge n) same none cause = unread tt cause.1
+known o q bytes (TooDeep n) same none cause = unread tt cause.1
+known o q bytes (Shape path) same none cause = unread tt cause.1
+known o q bytes (Unsupported NotBuilt id) same none cause = beyond_core cause.1
+known o q bytes (Unsupported MathBound id) same none cause = with_math (record {
+  program = cause.1.program;
+  reads = cause.1.reads;
+  core = cause.1.core;
+  kept = cause.1.kept;
+  first = sym (same_shape o q cause.1.program same) ∙ cause.1.first;
+})
+known o q bytes (Invalid rule id) same none cause = broken cause.1
+known o q bytes _ same none cause = absurd cause.1
 
 unread_line : (v : Data) (e f : LowerError) → IsUnreadError e → IsUnreadError f → IsRefusal v e → IsRefusal v f → refusal_text e ≡ refusal_text f
 unread_line v (TooLarge n) (TooLarge m) _ _ r s = ap (λ k. refusal_text (TooLarge k)) (r.1 ∙ sym s.1)
@@ -119,36 +132,77 @@ break_line : (bs : List Break) (r s : Rule) (i j : NodeId) → IsFirstBreak bs (
 break_line [] r s i j h g = absurd h
 break_line (b ∷ bs) r s i j h g = let same : (r, i.0) ≡ (s, j.0) = sym h ∙ g in ap (λ (x : Break). line (codes "lower: invalid " ++ rule_name x.0 ++ codes " at node " ++ decimal x.1)) same
 
-one_line : (bytes : List ℕ) (e f : LowerError) → Known bytes e → Known bytes f → refusal_text e ≡ refusal_text f
-one_line bytes _ _ (no_reading n) (no_reading m) = refl
-one_line bytes _ _ (no_reading n) (unread told u) = absurd (n (record { value = u.value; reading = u.reading }))
-one_line bytes _ _ (no_reading n) (beyond_core b) = absurd (n (record { value = b.reads.value; reading = b.reads.reading }))
-one_line bytes _ _ (no_reading n) (broken b) = absurd (n (record { value = b.reads.value; reading = b.reads.reading }))
-one_line bytes _ _ (unread told u) (no_reading n) = absurd (n (record { value = u.value; reading = u.reading }))
-one_line bytes e f (unread told u) (unread also w) =
+broken_anyway : (bytes : List ℕ) (rule : Rule) (id : NodeId) (p : Tree) → IsBroken bytes (Invalid rule id) → Reads bytes p → breaks p ≡ [] → ⊥
+broken_anyway bytes rule id p b reads kept =
+    let same = one_program bytes b.program p b.reads reads in
+    let first : IsFirstBreak (breaks p) (Invalid rule id) = subst (λ t. IsFirstBreak (breaks t) (Invalid rule id)) same b.first in
+    subst (λ (bs : List Break). IsFirstBreak bs (Invalid rule id)) kept first
+
+one_line : (o : EnvOptions) (bytes : List ℕ) (e f : LowerError) → Known o bytes e → Known o bytes f → refusal_text e ≡ refusal_text f
+one_line o bytes _ _ (no_reading n) (no_reading m) = refl
+one_line o bytes _ _ (no_reading n) (unread told u) = absurd (n (record { value = u.value; reading = u.reading }))
+one_line o bytes _ _ (no_reading n) (beyond_core b) = absurd (n (record { value = b.reads.value; reading = b.reads.reading }))
+one_line o bytes _ _ (no_reading n) (broken b) = absurd (n (record { value = b.reads.value; reading = b.reads.reading }))
+one_line o bytes _ _ (unread told u) (no_reading n) = absurd (n (record { value = u.value; reading = u.reading }))
+one_line o bytes e f (unread told u) (unread also w) =
     let same = one_value bytes u.value w.value u.reading w.reading in
     unread_line w.value e f told also (subst (λ v. IsRefusal v e) same u.refusal) w.refusal
-one_line bytes e _ (unread told u) (beyond_core b) = absurd (read_already bytes e b.program told u b.reads)
-one_line bytes e _ (unread told u) (broken b) = absurd (read_already bytes e b.program told u b.reads)
-one_line bytes _ _ (beyond_core b) (no_reading n) = absurd (n (record { value = b.reads.value; reading = b.reads.reading }))
-one_line bytes _ f (beyond_core b) (unread told u) = absurd (read_already bytes f b.program told u b.reads)
-one_line bytes _ _ (beyond_core {id = i} b) (beyond_core {id = j} d) =
+one_line o bytes e _ (unread told u) (beyond_core b) = absurd (read_already bytes e b.program told u b.reads)
+one_line o bytes e _ (unread told u) (broken b) = absurd (read_already bytes e b.program told u b.reads)
+one_line o bytes _ _ (beyond_core b) (no_reading n) = absurd (n (record { value = b.reads.value; reading = b.reads.reading }))
+one_line o bytes _ f (beyond_core b) (unread told u) = absurd (read_already bytes f b.program told u b.reads)
+one_line o bytes _ _ (beyond_core {id = i} b) (beyond_core {id = j} d) =
     let same = one_program bytes b.program d.program b.reads d.reads in
     let ids : Some i.0 ≡ Some j.0 = sym (subst (λ p. first_node is_not_core p ≡ Some i.0) same b.first) ∙ d.first in
     let number : i.0 ≡ j.0 = cc in
     ap (λ (k : ℕ). line (codes "lower: unsupported " ++ unsupported_name NotBuilt ++ codes " at node " ++ decimal k)) number
-one_line bytes _ _ (beyond_core {id = i} b) (broken d) =
+one_line o bytes _ _ (beyond_core {id = i} b) (broken d) =
     let same = one_program bytes b.program d.program b.reads d.reads in
     absurd (core_after_all d.program i.0 d.core (subst (λ p. first_node is_not_core p ≡ Some i.0) same b.first))
-one_line bytes _ _ (broken b) (no_reading n) = absurd (n (record { value = b.reads.value; reading = b.reads.reading }))
-one_line bytes _ f (broken b) (unread told u) = absurd (read_already bytes f b.program told u b.reads)
-one_line bytes _ _ (broken b) (beyond_core {id = j} d) =
+one_line o bytes _ _ (broken b) (no_reading n) = absurd (n (record { value = b.reads.value; reading = b.reads.reading }))
+one_line o bytes _ f (broken b) (unread told u) = absurd (read_already bytes f b.program told u b.reads)
+one_line o bytes _ _ (broken b) (beyond_core {id = j} d) =
     let same = one_program bytes d.program b.program d.reads b.reads in
     absurd (core_after_all b.program j.0 b.core (subst (λ p. first_node is_not_core p ≡ Some j.0) same d.first))
-one_line bytes _ _ (broken {rule = r} {id = i} b) (broken {rule = s} {id = j} d) =
+one_line o bytes _ _ (broken {rule = r} {id = i} b) (broken {rule = s} {id = j} d) =
     let same = one_program bytes b.program d.program b.reads d.reads in
     break_line (breaks d.program) r s i j (subst (λ p. IsFirstBreak (breaks p) (Invalid r i)) same b.first) d.first
 
+one_line o bytes _ _ (no_reading n) (with_math b) = absurd (n (record { value = b.reads.value; reading = b.reads.reading }))
+one_line o bytes _ _ (with_math b) (no_reading n) = absurd (n (record { value = b.reads.value; reading = b.reads.reading }))
+one_line o bytes e _ (unread told u) (with_math b) = absurd (read_already bytes e b.program told u b.reads)
+one_line o bytes _ f (with_math b) (unread told u) = absurd (read_already bytes f b.program told u b.reads)
+one_line o bytes _ _ (beyond_core {id = i} b) (with_math d) =
+    let same = one_program bytes b.program d.program b.reads d.reads in
+    absurd (core_after_all d.program i.0 d.core (subst (λ p. first_node is_not_core p ≡ Some i.0) same b.first))
+one_line o bytes _ _ (with_math b) (beyond_core {id = j} d) =
+    let same = one_program bytes d.program b.program d.reads b.reads in
+    absurd (core_after_all b.program j.0 b.core (subst (λ p. first_node is_not_core p ≡ Some j.0) same d.first))
+one_line o bytes _ _ (broken {rule = r} {id = i} b) (with_math d) = absurd (broken_anyway bytes r i d.program b d.reads d.kept)
+one_line o bytes _ _ (with_math b) (broken {rule = r} {id = i} d) = absurd (broken_anyway bytes r i b.program d b.reads b.kept)
+one_line o bytes _ _ (with_math {id = i} b) (with_math {id = j} d) =
+    let same = one_program bytes b.program d.program b.reads d.reads in
+    let ids : Some i.0 ≡ Some j.0 = sym (subst (λ p. first_math_bound o p ≡ Some i.0) same b.first) ∙ d.first in
+    let number : i.0 ≡ j.0 = cc in
+    ap (λ (k : ℕ). line (codes "lower: unsupported " ++ unsupported_name MathBound ++ codes " at node " ++ decimal k)) number
+
 -- two causes of one input have one line
-pub one_cause : (bytes : List ℕ) (e f : LowerError) → IsCause bytes e → IsCause bytes f → refusal_text e ≡ refusal_text f
-one_cause bytes e f cause other = one_line bytes e f (known bytes e cause) (known bytes f other)
+pub one_cause : (o q : EnvOptions) (bytes : List ℕ) (e f : LowerError) → SameShapes o q → first_fault o ≡ None → first_fault q ≡ None
+    → IsCauseUnder q bytes e → IsCauseUnder o bytes f → refusal_text e ≡ refusal_text f
+one_cause o q bytes e f same none done cause other = one_line q bytes e f (known q q bytes e refl done cause) (known o q bytes f same none other)
+
+-- a source that is taken is refused for no cause
+not_taken : (o : EnvOptions) (bytes : List ℕ) (error : LowerError) → Known o bytes error → IsTakenSource o bytes → ⊥
+not_taken o bytes _ (no_reading n) source = n (record { value = source.reads.value; reading = source.reads.reading })
+not_taken o bytes error (unread told u) source = read_already bytes error source.program told u source.reads
+not_taken o bytes _ (beyond_core {id = i} b) source =
+    let same = one_program bytes b.program source.program b.reads source.reads in
+    core_after_all source.program i.0 source.core (subst (λ p. first_node is_not_core p ≡ Some i.0) same b.first)
+not_taken o bytes _ (broken {rule = r} {id = i} b) source = broken_anyway bytes r i source.program b source.reads source.kept
+not_taken o bytes _ (with_math {id = i} b) source =
+    let same = one_program bytes b.program source.program b.reads source.reads in
+    let both : Some i.0 ≡ None = sym (subst (λ p. first_math_bound o p ≡ Some i.0) same b.first) ∙ source.taken in
+    cc
+
+pub not_refused : (o q : EnvOptions) (bytes : List ℕ) (error : LowerError) → SameShapes o q → first_fault o ≡ None → IsCauseUnder o bytes error → IsTakenSource q bytes → ⊥
+not_refused o q bytes error same none cause source = not_taken q bytes error (known o q bytes error same none cause) source

@@ -1,4 +1,4 @@
 pub mod Known
 pub mod Outcome
-pub mod Wordlist
+pub mod Flags
 pub mod Causes

@@ -10,9 +10,12 @@ use Rattle.lower_tool.specs.declared.answer.Answer.TheVariants.{Lowered, Refused
 use Rattle.lower_tool.specs.declared.answer.TheConstants.{DONE, REFUSED, WORDS, TOO_LONG}
 use Rattle.lower_tool.specs.Answer.{output_text, notes_text, refusal_text, status_of}
 use Rattle.lower_tool.specs.Ends.{HasFault, ReadWhole, ReadFront, End}
-use Rattle.lower_driver.specs.Sources.{IsCoreSource, IsCause}
-use Rattle.lower_tool.proofs.Causes.{not_refused, one_cause}
-use Rattle.lower_tool.specs.Run.{AreProper, WasWhole, IsDue, Took, TookFront, Ends, Gave, Table, HasInput, Causes}
+use Rattle.es_tree.specs.declared.options.EnvOptions.{EnvOptions}
+use Rattle.lower_driver.specs.Sources.{IsCauseUnder}
+use Rattle.lower_tool.specs.Job.{IsTakenSource}
+use Rattle.lower_tool.specs.Words.{AreProper, Asks}
+use Rattle.lower_tool.proofs.Causes.{SameShapes, taken_as, not_refused, one_cause}
+use Rattle.lower_tool.specs.Run.{IsJobAnswer, WasWhole, WasAnswered, IsDue, Took, TookFront, Ends, Gave, Table, HasInput, Causes}
 
 -- What is due, where the input tells its bytes.
 
@@ -30,6 +33,22 @@ front_fits told (Some left) bytes count is front =
     let same : bytes ≡ front.0 ++ left = cc (is, front.2) in
     omega (arith, ap length same, length-append front.0 left, front.1)
 
+-- what the job gave for bytes that the input tells
+told_answer : (answer : Answer) (words : List (String Global)) (old new : End) (bytes : List ℕ) → old.bytes ≡ Some bytes → (w : WasAnswered answer words old new) → (length bytes ≤ 2 ^ 26) × IsJobAnswer w.options answer bytes
+told_answer answer words old new bytes told w = told_whole {P = IsJobAnswer w.options answer} old new bytes told w.whole
+
+same_shapes : (words : List (String Global)) (o q : EnvOptions) → Asks words o → Asks words q → SameShapes o q
+same_shapes words o q a b = a.exponentiation ∙ sym b.exponentiation
+
+-- the answer of the job to what was read is due
+pub is_due : (o : EnvOptions) (answer : Answer) (words : List (String Global)) (old new : End) (bytes : List ℕ) → AreProper words → Asks words o
+    → ReadWhole old.bytes new.bytes bytes → length bytes ≤ 2 ^ 26 → IsJobAnswer o answer bytes → IsDue answer words old new
+is_due o (Lowered text) words old new bytes proper asked read short job = (proper, record { options = o; asked = asked; whole = (bytes, read, short, job) })
+is_due o (Refused text) words old new bytes proper asked read short job = (proper, record { options = o; asked = asked; whole = (bytes, read, short, job) })
+is_due o Words words old new bytes proper asked read short job = absurd job
+is_due o ReadFault words old new bytes proper asked read short job = absurd job
+is_due o TooLong words old new bytes proper asked read short job = absurd job
+
 -- The status is the one that has to come.
 
 is_words : (answer : Answer) (words : List (String Global)) (old new : End) → IsDue answer words old new → ¬ AreProper words → status_of answer ≡ WORDS
@@ -41,27 +60,31 @@ is_words TooLong words old new due improper = absurd (improper due.0)
 
 is_long : (answer : Answer) (words : List (String Global)) (old new : Ends) (bytes : List ℕ) → IsDue answer words old.input new.input
     → HasInput words old new bytes → 2 ^ 26 < length bytes → status_of answer ≡ TOO_LONG
-is_long (Lowered text) words old new bytes due has long = absurd (omega (arith, (told_whole old.input new.input bytes has.told due.1).0))
-is_long (Refused text) words old new bytes due has long = absurd (omega (arith, (told_whole old.input new.input bytes has.told due.1).0))
+is_long (Lowered text) words old new bytes due has long = absurd (omega (arith, (told_answer _ words old.input new.input bytes has.told due.1).0))
+is_long (Refused text) words old new bytes due has long = absurd (omega (arith, (told_answer _ words old.input new.input bytes has.told due.1).0))
 is_long Words words old new bytes due has long = absurd (due.0 has.proper)
 is_long ReadFault words old new bytes due has long = absurd (has.no_fault due.1)
 is_long TooLong words old new bytes due has long = refl
 
-is_refused : (answer : Answer) (words : List (String Global)) (old new : Ends) (bytes : List ℕ) → IsDue answer words old.input new.input
-    → HasInput words old new bytes → length bytes ≤ 2 ^ 26 → ¬ IsCoreSource bytes → status_of answer ≡ REFUSED
-is_refused (Lowered text) words old new bytes due has short other = absurd (other (told_whole old.input new.input bytes has.told due.1).1.0)
-is_refused (Refused text) words old new bytes due has short other = refl
-is_refused Words words old new bytes due has short other = absurd (due.0 has.proper)
-is_refused ReadFault words old new bytes due has short other = absurd (has.no_fault due.1)
-is_refused TooLong words old new bytes due has short other = absurd (omega (arith, front_fits old.input.bytes new.input.bytes bytes (2 ^ 26 + 1) has.told due.1))
+is_refused : (o : EnvOptions) (answer : Answer) (words : List (String Global)) (old new : Ends) (bytes : List ℕ) → IsDue answer words old.input new.input
+    → Asks words o → HasInput words old new bytes → length bytes ≤ 2 ^ 26 → ¬ IsTakenSource o bytes → status_of answer ≡ REFUSED
+is_refused o (Lowered text) words old new bytes due asked has short other =
+    let source = (told_answer (Lowered text) words old.input new.input bytes has.told due.1).1.0 in
+    absurd (other (taken_as due.1.options o bytes (same_shapes words due.1.options o due.1.asked asked) source))
+is_refused o (Refused text) words old new bytes due asked has short other = refl
+is_refused o Words words old new bytes due asked has short other = absurd (due.0 has.proper)
+is_refused o ReadFault words old new bytes due asked has short other = absurd (has.no_fault due.1)
+is_refused o TooLong words old new bytes due asked has short other = absurd (omega (arith, front_fits old.input.bytes new.input.bytes bytes (2 ^ 26 + 1) has.told due.1))
 
-is_done : (answer : Answer) (words : List (String Global)) (old new : Ends) (bytes : List ℕ) → IsDue answer words old.input new.input
-    → HasInput words old new bytes → length bytes ≤ 2 ^ 26 → IsCoreSource bytes → status_of answer ≡ DONE
-is_done (Lowered text) words old new bytes due has short first = refl
-is_done (Refused text) words old new bytes due has short first = let with_line = (told_whole old.input new.input bytes has.told due.1).1 in absurd (not_refused bytes with_line.error with_line.cause first)
-is_done Words words old new bytes due has short first = absurd (due.0 has.proper)
-is_done ReadFault words old new bytes due has short first = absurd (has.no_fault due.1)
-is_done TooLong words old new bytes due has short first = absurd (omega (arith, front_fits old.input.bytes new.input.bytes bytes (2 ^ 26 + 1) has.told due.1))
+is_done : (o : EnvOptions) (answer : Answer) (words : List (String Global)) (old new : Ends) (bytes : List ℕ) → IsDue answer words old.input new.input
+    → Asks words o → HasInput words old new bytes → length bytes ≤ 2 ^ 26 → IsTakenSource o bytes → status_of answer ≡ DONE
+is_done o (Lowered text) words old new bytes due asked has short source = refl
+is_done o (Refused text) words old new bytes due asked has short source =
+    let with_line = (told_answer (Refused text) words old.input new.input bytes has.told due.1).1 in
+    absurd (not_refused due.1.options o bytes with_line.error (same_shapes words due.1.options o due.1.asked asked) due.1.asked.rest.no_fault with_line.cause source)
+is_done o Words words old new bytes due asked has short source = absurd (due.0 has.proper)
+is_done o ReadFault words old new bytes due asked has short source = absurd (has.no_fault due.1)
+is_done o TooLong words old new bytes due asked has short source = absurd (omega (arith, front_fits old.input.bytes new.input.bytes bytes (2 ^ 26 + 1) has.told due.1))
 
 -- one number is no other
 other : {P : Type 0} {m n : ℕ} → nat_eq m n ≡ false → m ≡ n → P
@@ -122,22 +145,26 @@ module _ (words : List (String Global)) (old new : Ends) where
   }
 
   -- an input that is refused for a cause is given the line of that cause
-  told_cause : (answer : Answer) → Gave answer words old new → (bytes : List ℕ) → HasInput words old new bytes → length bytes ≤ 2 ^ 26 → (error : LowerError) → IsCause bytes error → (status_of answer ≡ REFUSED) × Took old.notes new.notes (refusal_text error)
-  told_cause (Lowered text) gave bytes has short error cause = absurd (not_refused bytes error cause (told_whole old.input new.input bytes has.told gave.due.1).1.0)
-  told_cause (Refused text) gave bytes has short error cause =
-      let with_line = (told_whole old.input new.input bytes has.told gave.due.1).1 in
-      (refl, subst (Took old.notes new.notes) (with_line.line_is ∙ one_cause bytes with_line.error error with_line.cause cause) gave.taken.notes)
-  told_cause Words gave bytes has short error cause = absurd (gave.due.0 has.proper)
-  told_cause ReadFault gave bytes has short error cause = absurd (has.no_fault gave.due.1)
-  told_cause TooLong gave bytes has short error cause = absurd (omega (arith, front_fits old.input.bytes new.input.bytes bytes (2 ^ 26 + 1) has.told gave.due.1))
+  told_cause : (o : EnvOptions) (answer : Answer) → Gave answer words old new → Asks words o → (bytes : List ℕ) → HasInput words old new bytes → length bytes ≤ 2 ^ 26 → (error : LowerError) → IsCauseUnder o bytes error → (status_of answer ≡ REFUSED) × Took old.notes new.notes (refusal_text error)
+  told_cause o (Lowered text) gave asked bytes has short error cause =
+      let due = gave.due.1 in
+      absurd (not_refused o due.options bytes error (same_shapes words o due.options asked due.asked) asked.rest.no_fault cause (told_answer (Lowered text) words old.input new.input bytes has.told due).1.0)
+  told_cause o (Refused text) gave asked bytes has short error cause =
+      let due = gave.due.1 in
+      let with_line = (told_answer (Refused text) words old.input new.input bytes has.told due).1 in
+      let one = one_cause o due.options bytes with_line.error error (same_shapes words o due.options asked due.asked) asked.rest.no_fault due.asked.rest.no_fault with_line.cause cause in
+      (refl, subst (Took old.notes new.notes) (with_line.line_is ∙ one) gave.taken.notes)
+  told_cause o Words gave asked bytes has short error cause = absurd (gave.due.0 has.proper)
+  told_cause o ReadFault gave asked bytes has short error cause = absurd (has.no_fault gave.due.1)
+  told_cause o TooLong gave asked bytes has short error cause = absurd (omega (arith, front_fits old.input.bytes new.input.bytes bytes (2 ^ 26 + 1) has.told gave.due.1))
 
   pub causes_gave : (answer : Answer) → Gave answer words old new → Causes words old new (status_of answer)
   causes_gave answer gave = let due = gave.due in record {
     refused_words = λ improper. inl (is_words answer words old.input new.input due improper);
     too_long = λ bytes has long. inl (is_long answer words old new bytes due has long);
-    refused_input = λ bytes has short other. inl (is_refused answer words old new bytes due has short other);
-    told = λ bytes has short error cause. inl (told_cause answer gave bytes has short error cause);
-    done = λ bytes has _ short first. inl (is_done answer words old new bytes due has short first);
+    refused_input = λ o asked bytes has short other. inl (is_refused o answer words old new bytes due asked has short other);
+    told = λ o asked bytes has short error cause. inl (told_cause o answer gave asked bytes has short error cause);
+    done = λ o asked bytes has _ short source. inl (is_done o answer words old new bytes due asked has short source);
   }
 
 -- the output took all, and a fault left the notes with the front of their text

@@ -4,3 +4,4 @@ pub mod Answer
 pub mod Memory
 pub mod Run
 pub mod Refusals
+pub mod Words

@@ -1,5 +1,5 @@
 -- What a run of the tool does: the table of its statuses.
-use Rattle.std.specs.Prelude.{◌≡◌, ◌⊎◌, ◌+◌, ◌^◌, ◌<◌, ◌≤◌, ℕ, List, [], ◌∷◌, map, length, take, Some, String, string_bytes, codes}
+use Rattle.std.specs.Prelude.{◌≡◌, ◌⊎◌, ◌+◌, ◌^◌, ◌<◌, ◌≤◌, ℕ, List, length, take, Some, String, string_bytes}
 use Rattle.std.specs.declared.alloc.Global.{Global}
 use Rattle.std.specs.Io.KnownBytes.{append_known}
 use Rattle.es_tree.specs.declared.error.LowerError.{LowerError}
@@ -8,35 +8,39 @@ use Rattle.lower_tool.specs.declared.answer.Answer.TheVariants.{Lowered, Refused
 use Rattle.lower_tool.specs.declared.answer.TheConstants.{DONE, REFUSED, WORDS, READ_FAULT, WRITE_FAULT, OUT_OF_MEMORY, TOO_LONG}
 use Rattle.lower_tool.specs.Answer.{output_text, notes_text, refusal_text}
 use Rattle.lower_tool.specs.Ends.{HasFault, ReadWhole, ReadFront, End}
-use Rattle.lower_driver.specs.Sources.{IsCoreSource, IsCause}
-use Rattle.lower_tool.specs.Job.{IsLoweredText}
+use Rattle.es_tree.specs.declared.options.EnvOptions.{EnvOptions}
+use Rattle.lower_driver.specs.Sources.{IsCauseUnder}
+use Rattle.lower_tool.specs.Job.{IsLoweredText, IsTakenSource}
+use Rattle.lower_tool.specs.Words.{AreProper, Asks}
 
--- the words are exactly the one word `--nullish`
-abbrev pub AreProper : List (String Global) → Type 0
-AreProper words = map string_bytes words ≡ codes "--nullish" ∷ []
-
--- an input of these bytes is refused, and this is the line of the cause
-pub record IsRefusedWith (bytes text : List ℕ) : Type 0 where
+-- an input of these bytes is refused under these options, and this is the line of the cause
+pub record IsRefusedWith (o : EnvOptions) (bytes text : List ℕ) : Type 0 where
   pub error : LowerError
-  pub cause : IsCause bytes error
+  pub cause : IsCauseUnder o bytes error
   pub line_is : text ≡ refusal_text error
 
 -- the job gives this answer to an input of these bytes
-abbrev pub IsJobAnswer : Answer → List ℕ → Type 0
-IsJobAnswer (Lowered text) bytes = IsCoreSource bytes × IsLoweredText bytes (string_bytes text)
-IsJobAnswer (Refused text) bytes = IsRefusedWith bytes (string_bytes text)
-IsJobAnswer Words bytes = ⊥
-IsJobAnswer ReadFault bytes = ⊥
-IsJobAnswer TooLong bytes = ⊥
+abbrev pub IsJobAnswer : EnvOptions → Answer → List ℕ → Type 0
+IsJobAnswer o (Lowered text) bytes = IsTakenSource o bytes × IsLoweredText o bytes (string_bytes text)
+IsJobAnswer o (Refused text) bytes = IsRefusedWith o bytes (string_bytes text)
+IsJobAnswer o Words bytes = ⊥
+IsJobAnswer o ReadFault bytes = ⊥
+IsJobAnswer o TooLong bytes = ⊥
 
 -- the input was read to its end within 2^26 bytes, and P holds of them
 abbrev pub WasWhole : End → End → (List ℕ → Type 0) → Type 0
 WasWhole old new P = (bytes : List ℕ) × ReadWhole old.bytes new.bytes bytes × (length bytes ≤ 2 ^ 26) × P bytes
 
+-- the job gave this answer to an input that was read to its end, under the options that the words ask for
+pub record WasAnswered (answer : Answer) (words : List (String Global)) (old new : End) : Type 0 where
+  pub options : EnvOptions
+  pub asked : Asks words options
+  pub whole : WasWhole old new (IsJobAnswer options answer)
+
 -- this answer is due to these words and to what was read of the input
 abbrev pub IsDue : Answer → List (String Global) → End → End → Type 0
-IsDue (Lowered text) words old new = AreProper words × WasWhole old new (IsJobAnswer (Lowered text))
-IsDue (Refused text) words old new = AreProper words × WasWhole old new (IsJobAnswer (Refused text))
+IsDue (Lowered text) words old new = AreProper words × WasAnswered (Lowered text) words old new
+IsDue (Refused text) words old new = AreProper words × WasAnswered (Refused text) words old new
 IsDue Words words old new = (¬ AreProper words) × (new ≡ old)
 IsDue ReadFault words old new = AreProper words × HasFault old.faults new.faults
 IsDue TooLong words old new = AreProper words × ReadFront old.bytes new.bytes (2 ^ 26 + 1)
@@ -88,7 +92,7 @@ pub record Table (words : List (String Global)) (old new : Ends) (status : ℕ) 
   pub refused_words : status ≡ WORDS → Gave Words words old new
   pub read_fault : status ≡ READ_FAULT → Gave ReadFault words old new
   pub write_fault : status ≡ WRITE_FAULT → (answer : Answer) × GaveFront answer words old new
-  pub out_of_memory : status ≡ OUT_OF_MEMORY → AreProper words × (new.output ≡ old.output) × (new.notes ≡ old.notes)
+  pub out_of_memory : status ≡ OUT_OF_MEMORY → (new.output ≡ old.output) × (new.notes ≡ old.notes)
   pub too_long : status ≡ TOO_LONG → Gave TooLong words old new
   -- there is no other
   pub known : status ≤ 6
@@ -104,18 +108,18 @@ pub record WasWritten (old new : Ends) : Type 0 where
   pub output : ¬ HasFault old.output.faults new.output.faults
   pub notes : ¬ HasFault old.notes.faults new.notes.faults
 
--- When a status has to come. Only a fault of writing and, once the words are found proper, want of memory take its place.
+-- When a status has to come. Only a fault of writing and want of memory take its place.
 pub record Causes (words : List (String Global)) (old new : Ends) (status : ℕ) : Type 0 where
-  pub refused_words : ¬ AreProper words → (status ≡ WORDS) ⊎ (status ≡ WRITE_FAULT)
+  pub refused_words : ¬ AreProper words → (status ≡ WORDS) ⊎ ((status ≡ WRITE_FAULT) ⊎ (status ≡ OUT_OF_MEMORY))
   pub too_long : (bytes : List ℕ) → HasInput words old new bytes → 2 ^ 26 < length bytes
       → (status ≡ TOO_LONG) ⊎ ((status ≡ WRITE_FAULT) ⊎ (status ≡ OUT_OF_MEMORY))
-  pub refused_input : (bytes : List ℕ) → HasInput words old new bytes → length bytes ≤ 2 ^ 26 → ¬ IsCoreSource bytes
+  pub refused_input : (o : EnvOptions) → Asks words o → (bytes : List ℕ) → HasInput words old new bytes → length bytes ≤ 2 ^ 26 → ¬ IsTakenSource o bytes
       → (status ≡ REFUSED) ⊎ ((status ≡ WRITE_FAULT) ⊎ (status ≡ OUT_OF_MEMORY))
   -- with the line of the cause, whichever holds
-  pub told : (bytes : List ℕ) → HasInput words old new bytes → length bytes ≤ 2 ^ 26 → (error : LowerError) → IsCause bytes error
+  pub told : (o : EnvOptions) → Asks words o → (bytes : List ℕ) → HasInput words old new bytes → length bytes ≤ 2 ^ 26 → (error : LowerError) → IsCauseUnder o bytes error
       → ((status ≡ REFUSED) × Took old.notes new.notes (refusal_text error)) ⊎ ((status ≡ WRITE_FAULT) ⊎ (status ≡ OUT_OF_MEMORY))
-  -- without a fault, a core program that keeps the static rules is done
-  pub done : (bytes : List ℕ) → HasInput words old new bytes → WasWritten old new → length bytes ≤ 2 ^ 26 → IsCoreSource bytes
+  -- without a fault, a core program that keeps the static rules and has no shape that isn't taken is done
+  pub done : (o : EnvOptions) → Asks words o → (bytes : List ℕ) → HasInput words old new bytes → WasWritten old new → length bytes ≤ 2 ^ 26 → IsTakenSource o bytes
       → (status ≡ DONE) ⊎ (status ≡ OUT_OF_MEMORY)
 
 -- no count of faults falls

@@ -15,18 +15,21 @@ mod run;
 mod std_ends;
 #[cfg(test)]
 mod tests;
+mod words;
 mod writing;
 
 use answer::OUT_OF_MEMORY;
 use run::run_tool;
+use std::alloc::AllocError;
 use std::env;
 use std::io::{self, ErrorKind};
 use std::process::ExitCode;
 use std::rt::Env;
 use std_ends::{StdSink, StdSource};
+use words::refused_words;
 
 /// The words after the program's name. `InvalidData` says that one of them isn't UTF-8.
-fn read_words(rt: &(impl Env + AllocGlobal)) -> io::Result<Vec<String>> {
+fn given_words(rt: &(impl Env + AllocGlobal)) -> io::Result<Vec<String>> {
     let words = env::args(rt)?.skip(1).collect(rt.alloc())?;
     Ok(words)
 }
@@ -35,13 +38,16 @@ fn main(rt: HostRuntime) -> ExitCode {
     let mut input = StdSource::new(rt.stdin());
     let mut output = StdSink::new(rt.stdout());
     let mut notes = StdSink::new(rt.stderr());
-    let words = match read_words(&rt) {
+    let words = match given_words(&rt) {
         Ok(words) => words,
         Err(error) if error.kind() == ErrorKind::OutOfMemory => {
             return ExitCode::from(OUT_OF_MEMORY);
         }
-        // A word that isn't UTF-8 is none of the command's: no words at all are refused in the same way.
-        Err(_) => Vec::new(rt.alloc()),
+        // A word that isn't UTF-8 is none of the command's.
+        Err(_) => match refused_words(rt.alloc()) {
+            Ok(words) => words,
+            Err(AllocError) => return ExitCode::from(OUT_OF_MEMORY),
+        },
     };
     let status = run_tool(rt.alloc(), &words, &mut input, &mut output, &mut notes);
     ExitCode::from(status)

@@ -1,21 +1,24 @@
 //! A run of the tool, from its words and its input to its output and its notes.
-ghost use Rattle.std.specs.Prelude.{◌≡◌, ◌≢◌, ◌⊎◌, ◌↔◌, ◌≤◌, [], IsTrue, IfOk, OnOk, OnErr};
+ghost use Rattle.std.specs.Prelude.{◌≡◌, ◌≢◌, ◌⊎◌, ◌≤◌, [], IfOk, OnOk, OnErr};
 ghost use Rattle.lower_tool.specs.Answer.{output_text, notes_text};
 ghost use Rattle.lower_tool.specs.Ends.{end_of};
-ghost use Rattle.lower_tool.specs.Run.{AreProper, IsJobAnswer, IsDue, TookAll, TookFront, Table, Causes, FaultsStay, ends};
+ghost use Rattle.lower_tool.specs.Words.{AreProper};
+ghost use Rattle.lower_tool.specs.Run.{IsJobAnswer, IsDue, TookAll, TookFront, Table, Causes, FaultsStay, ends};
 
 use crate::answer::{Answer, DONE, OUT_OF_MEMORY, WRITE_FAULT};
 use crate::ends::{Failed, Sink, Source};
 use crate::job::lower_text;
 use crate::reading::{ReadError, read_input};
 use crate::refusal::refusal_line;
+use crate::words::{WordsFault, read_words};
 use crate::writing::write_all;
+use es_tree::options::EnvOptions;
 use std::alloc::{AllocError, Global};
 
 /// Reads the words, then the input, lowers it, and writes the answer: first `output`, then `notes`.
 /// The result is one of the statuses of `answer`.
 ///
-/// All memory is taken before the first byte goes out. Want of memory may come once the words are found proper.
+/// All memory is taken before the first byte goes out.
 pub fn run_tool<S: Source, O: Sink, E: Sink>(
     alloc: Global,
     words: &[String],
@@ -56,36 +59,27 @@ fn find_answer<S: Source>(
     input: &mut S,
 ) -> Result<Answer, AllocError>
     ensures due { IfOk result (λ answer. IsDue answer words.now (end_of S.left S.faults input.old) (end_of S.left S.faults input.new)) }
-    ensures memory { OnErr result (AreProper words.now) }
     ensures unread { ¬ AreProper words.now → input.new ≡ input.old }
     ensures rises { S.faults input.old ≤ S.faults input.new }
 {
-    if !are_proper(words) {
-        return Ok(Answer::Words);
-    }
+    let command = match read_words(alloc, words) {
+        Ok(command) => command,
+        Err(WordsFault::Refused) => return Ok(Answer::Words),
+        Err(WordsFault::OutOfMemory) => return Err(AllocError),
+    };
     match read_input(alloc, input) {
-        Ok(bytes) => answer_to(alloc, &bytes),
+        Ok(bytes) => answer_to(alloc, &bytes, &command.options),
         Err(ReadError::Fault) => Ok(Answer::ReadFault),
         Err(ReadError::TooLong) => Ok(Answer::TooLong),
         Err(ReadError::OutOfMemory) => Err(AllocError),
     }
 }
 
-/// Whether the words are exactly `--nullish`.
-fn are_proper(words: &[String]) -> bool
-    ensures { IsTrue result ↔ AreProper words.now }
+/// The job's answer to an input of these bytes, under these options.
+fn answer_to(alloc: Global, bytes: &[u8], options: &EnvOptions) -> Result<Answer, AllocError>
+    ensures { IfOk result (λ answer. IsJobAnswer options.now answer bytes.now) }
 {
-    match words {
-        [word] => word.as_str() == "--nullish",
-        _ => false,
-    }
-}
-
-/// The job's answer to an input of these bytes.
-fn answer_to(alloc: Global, bytes: &[u8]) -> Result<Answer, AllocError>
-    ensures { IfOk result (λ answer. IsJobAnswer answer bytes.now) }
-{
-    match lower_text(alloc, bytes) {
+    match lower_text(alloc, bytes, options) {
         Ok(text) => Ok(Answer::Lowered(text)),
         Err(error) => Ok(Answer::Refused(refusal_line(alloc, error)?)),
     }

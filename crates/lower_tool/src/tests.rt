@@ -3,6 +3,7 @@ ghost use Rattle.std.specs.Prelude.{◌<◌};
 mod cases;
 mod core_cases;
 mod every_kind;
+mod flags;
 mod refusals;
 
 use crate::ends::Source;
@@ -102,7 +103,19 @@ fn a_failing_input_is_a_read_fault(rt: HostRuntime) -> Result<(), Fail> {
 
 #[test]
 fn refused_words_read_nothing(rt: HostRuntime) -> Result<(), Fail> {
-    for texts in [&["--frobnicate"][..], &["--nullish", "--nullish"], &[]] {
+    for texts in [
+        &["--frobnicate"][..],
+        &["--nullish", "--nullish"],
+        &["--generate=0"],
+        &["--helpers=none"],
+        &["--nullish=true"],
+        &["--help"],
+        &["-h"],
+        &["--version"],
+        &["nullish"],
+        &["--logical", "--null"],
+        &[""],
+    ] {
         let mut input = FixedSource::new(PROGRAM.as_bytes().to_vec(rt.alloc())?);
         assert_run(&rt, texts, &mut input, 2, b"", b"lower: words\n")?;
         let mut rest = [0u8; 1024];
@@ -163,6 +176,7 @@ fn a_writer_that_takes_nothing_is_a_write_fault(rt: HostRuntime) -> Result<(), F
 // The text of this source, given in pieces of at most so many bytes, becomes the written text and a newline.
 fn assert_lowered(
     rt: &(impl Abort + AllocGlobal),
+    texts: &[&str],
     source: &str,
     written: &str,
     piece: usize,
@@ -173,7 +187,7 @@ fn assert_lowered(
     let mut expected = written.as_bytes().to_vec(alloc)?;
     expected.push(b'\n')?;
     let mut input = MemSource::new(source.as_bytes().to_vec(alloc)?, piece, Vec::new(alloc));
-    assert_run(rt, &["--nullish"], &mut input, 0, &expected, b"")
+    assert_run(rt, texts, &mut input, 0, &expected, b"")
 }
 
 #[test]
@@ -190,7 +204,7 @@ fn sources_become_what_stands_beside_them(rt: HostRuntime) -> Result<(), Fail> {
         cases::THIS_AND_LITERALS,
         cases::EMPTY_SCRIPT,
     ] {
-        assert_lowered(&rt, source, written, 65_536)?;
+        assert_lowered(&rt, &["--nullish"], source, written, 65_536)?;
     }
     Ok(())
 }
@@ -198,8 +212,46 @@ fn sources_become_what_stands_beside_them(rt: HostRuntime) -> Result<(), Fail> {
 #[test]
 fn pieces_make_no_difference(rt: HostRuntime) -> Result<(), Fail> {
     let (source, written) = cases::TAKEN_NAME;
-    assert_lowered(&rt, source, written, 1)?;
-    assert_lowered(&rt, source, written, 64)?;
+    assert_lowered(&rt, &["--nullish"], source, written, 1)?;
+    assert_lowered(&rt, &["--nullish"], source, written, 64)?;
+    Ok(())
+}
+
+#[test]
+fn no_words_give_the_source_back(rt: HostRuntime) -> Result<(), Fail> {
+    let (source, _) = flags::STEADY_OBJECT;
+    assert_lowered(&rt, &[], source, source, 65_536)?;
+    assert_lowered(&rt, &["--"], source, source, 65_536)?;
+    Ok(())
+}
+
+#[test]
+fn each_word_asks_for_its_lowering(rt: HostRuntime) -> Result<(), Fail> {
+    let (source, written) = flags::STEADY_OBJECT;
+    assert_lowered(&rt, &["--logical"], source, written, 65_536)?;
+    assert_lowered(&rt, &["--exponentiation", "--nullish"], source, source, 65_536)?;
+    let (source, written) = flags::NULLISH_TARGETS;
+    assert_lowered(&rt, &["--logical", "--nullish"], source, written, 65_536)?;
+    assert_lowered(&rt, &["--nullish", "--logical"], source, written, 65_536)?;
+    let (source, written) = flags::BOUND_NAME;
+    assert_lowered(&rt, &["--exponentiation"], source, written, 65_536)?;
+    assert_lowered(&rt, &["--logical", "--nullish"], source, source, 65_536)?;
+    Ok(())
+}
+
+#[test]
+fn an_exponentiation_where_math_is_bound_is_refused(rt: HostRuntime) -> Result<(), Fail> {
+    let source = flags::BOUND_MATH;
+    let mut input = FixedSource::new(source.as_bytes().to_vec(rt.alloc())?);
+    assert_run(
+        &rt,
+        &["--exponentiation"],
+        &mut input,
+        1,
+        b"",
+        b"lower: unsupported MathBound at node 6\n",
+    )?;
+    assert_lowered(&rt, &["--nullish"], source, source, 65_536)?;
     Ok(())
 }
 
@@ -218,7 +270,7 @@ fn core_programs_become_what_stands_beside_them(rt: HostRuntime) -> Result<(), F
         core_cases::DIRECTIVE_STAYS_FIRST,
         core_cases::NAME_OF_AN_EARLIER_DECLARATOR,
     ] {
-        assert_lowered(&rt, source, written, 65_536)?;
+        assert_lowered(&rt, &["--nullish"], source, written, 65_536)?;
     }
     Ok(())
 }

@@ -1,0 +1,3 @@
+const o = p;
+o.x &&= y;
+a.b ||= c;
