@@ -8,7 +8,6 @@ pub mod AssigningParts
 pub mod Stable
 pub mod Lawful
 pub mod Apart
-pub mod Parenthesized
 pub mod PowerParts
 pub mod PowerTargets
 pub mod Editions
