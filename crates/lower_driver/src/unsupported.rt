@@ -11,7 +11,7 @@ use es_tree::error::UnsupportedKind;
 use es_tree::ids::NodeId;
 use es_tree::node::{Field, Node};
 use es_tree::options::EnvOptions;
-use lower_editions::exponentiation_operator::is_lowered;
+use lower_editions::power_tests::is_lowerable;
 
 /// The first node, in node order, that no lowering takes which the options ask for, and why; none where they
 /// take all. The table is that of the program. It takes no memory.
@@ -45,7 +45,7 @@ fn binds(scoping: &Scoping, name: &str) -> bool
 fn first_power(node: &Node) -> Option<NodeId>
     ensures { option_map (λ id. id.0) result ≡ first_node is_lowerable_power node.now }
 {
-    if is_lowered(node) {
+    if is_lowerable(node) {
         return Some(node.id);
     }
     for field in &node.fields {

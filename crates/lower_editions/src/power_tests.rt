@@ -123,7 +123,7 @@ fn has_sides(fields: &[Field]) -> bool
 }
 
 /// Whether the node is an exponentiation that is lowered.
-pub(crate) fn is_lowerable(node: &Node) -> bool
+pub fn is_lowerable(node: &Node) -> bool
     ensures { result ≡ is_lowerable_power (kind_of node.now) (label_of node.now) (fields_of node.now) }
 {
     match &node.kind {

@@ -167,7 +167,6 @@ one_line o bytes _ _ (broken b) (beyond_core {id = j} d) =
 one_line o bytes _ _ (broken {rule = r} {id = i} b) (broken {rule = s} {id = j} d) =
     let same = one_program bytes b.program d.program b.reads d.reads in
     break_line (breaks d.program) r s i j (subst (λ p. IsFirstBreak (breaks p) (Invalid r i)) same b.first) d.first
-
 one_line o bytes _ _ (no_reading n) (with_math b) = absurd (n (record { value = b.reads.value; reading = b.reads.reading }))
 one_line o bytes _ _ (with_math b) (no_reading n) = absurd (n (record { value = b.reads.value; reading = b.reads.reading }))
 one_line o bytes e _ (unread told u) (with_math b) = absurd (read_already bytes e b.program told u b.reads)

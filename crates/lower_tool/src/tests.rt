@@ -229,7 +229,13 @@ fn no_words_give_the_source_back(rt: HostRuntime) -> Result<(), Fail> {
 fn each_word_asks_for_its_lowering(rt: HostRuntime) -> Result<(), Fail> {
     let (source, written) = flags::STEADY_OBJECT;
     assert_lowered(&rt, &["--logical"], source, written, 65_536)?;
-    assert_lowered(&rt, &["--exponentiation", "--nullish"], source, source, 65_536)?;
+    assert_lowered(
+        &rt,
+        &["--exponentiation", "--nullish"],
+        source,
+        source,
+        65_536,
+    )?;
     let (source, written) = flags::NULLISH_TARGETS;
     assert_lowered(&rt, &["--logical", "--nullish"], source, written, 65_536)?;
     assert_lowered(&rt, &["--nullish", "--logical"], source, written, 65_536)?;

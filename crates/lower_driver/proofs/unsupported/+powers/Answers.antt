@@ -16,7 +16,7 @@ first_power-returns-in-Some t c =
     sym (first_found (λ fs. first_in_fields is_lowerable_power (fields (map plain_field fs))) (λ f. first_in_field is_lowerable_power (plain_field f)) refl (λ f fs. refl)
     c.deref-field-items.result.now c.loop-field.field-index c.field-item.result c.in-Some.id.0 c.loop-field-test.true c.field-item.is c.loop-field.invariant (sym c.in-Some.ensures)) in
     let inner : first_in_fields is_lowerable_power (fields_of c.args.node.now) ≡ Some c.in-Some.id.0 = rw (← c.node.view_is, ← c.deref-field-items.ensures.value) (sym found) in
-    sym (below_node c.args.node.now (Some c.in-Some.id.0) (sym c.if-is_lowered.ensures) inner)
+    sym (below_node c.args.node.now (Some c.in-Some.id.0) (sym c.if-is_lowerable.ensures) inner)
 
 pub first_power-loop-field-preserved : goal.first_power-loop-field-preserved
 first_power-loop-field-preserved t c =
