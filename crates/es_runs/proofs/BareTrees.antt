@@ -12,7 +12,7 @@ use Rattle.es_tree.specs.declared.ast_type.AstType.TheVariants.{AssignmentExpres
 use Rattle.es_runs.specs.Machine.{Value, Move}
 use Rattle.es_runs.specs.Core.{World, meaning, meanings, part, parts, meaning_of, single, several}
 use Rattle.es_tree.specs.Scopes.{Declared, declared_of, program_names, declared_in_body, declared_by, declared_in, declared_names, declarator_name, is_written, name_in, target_names, writes, written_by}
-use Rattle.es_runs.specs.Runs.{run, run_with}
+use Rattle.es_runs.specs.Runs.{run_where}
 
 mutual
   pub meaning-bare : (w : World) (t : Tree) → meaning w (bare t) ≡ meaning w t
@@ -72,11 +72,11 @@ program_names-bare (f then (statements ts then fs)) = declared_in_body-bare ts
 pub declared_of-bare : (t : Tree) → declared_of (bare t) ≡ declared_of t
 declared_of-bare (node k l fs) = program_names-bare fs
 
-pub run_with-bare : (ds : List Declared) (t : Tree) (this : Value) (moves : List Move) → run_with ds (bare t) this moves ≡ run_with ds t this moves
-run_with-bare ds t this moves = rw meaning-bare
+pub run_where-bare : (loose : Bool) (ds : List Declared) (t : Tree) (this : Value) (moves : List Move) → run_where loose ds (bare t) this moves ≡ run_where loose ds t this moves
+run_where-bare loose ds t this moves = rw meaning-bare
 
-pub run-bare : (t : Tree) (this : Value) (moves : List Move) → run (bare t) this moves ≡ run t this moves
-run-bare t this moves = ap (λ ds. run_with ds (bare t) this moves) (declared_of-bare t) ∙ run_with-bare (declared_of t) t this moves
+pub run-bare : (loose : Bool) (t : Tree) (this : Value) (moves : List Move) → run_where loose (declared_of (bare t)) (bare t) this moves ≡ run_where loose (declared_of t) t this moves
+run-bare loose t this moves = ap (λ ds. run_where loose ds (bare t) this moves) (declared_of-bare t) ∙ run_where-bare loose (declared_of t) t this moves
 
 third_stands-bare : (fs : Fields) → third_stands (bare_fields fs) ≡ third_stands fs
 third_stands-bare done = refl

@@ -1,13 +1,13 @@
 -- A fact of nodes that goes from a node to its parts, and from parts to what the rows of optional chaining make of them, is
 -- kept by these rows; and the names that they take are fresh, one after the other.
-use Rattle.std.proofs.Common.{◌≡◌, refl, subst, ap, List, [], ◌∷◌, ◌++◌, Some}
-use Rattle.std.specs.Prelude.{Bool, true, false, codes}
+use Rattle.std.proofs.Common.{◌≡◌, refl, subst, List, [], ◌∷◌, ◌++◌}
+use Rattle.std.specs.Prelude.{Bool, true, false, Option, Some, None, codes}
 use Rattle.es_tree.specs.Words.{Text}
 use Rattle.es_tree.specs.Parens.{without_parens}
-use Rattle.es_tree.specs.Tree.{Tree, node, Label, Fields, done, ◌then◌, one, many, Trees, empty, ◌before◌, kind_of}
+use Rattle.es_tree.specs.Tree.{Tree, node, Label, Fields, done, ◌then◌, one, many, Trees, empty, ◌before◌}
 use Rattle.es_tree.specs.declared.ast_type.AstType.TheVariants.{CallExpression, ChainExpression, MemberExpression, ParenthesizedExpression, UnaryExpression}
 use Rattle.es_runs.specs.Alike.{Need}
-use Rattle.es_runs.specs.OptionalChaining.{Way, Receives, Tested, Called, Walked, Continued, BoundCallee, OptionalChainingRule, call_at, call_method, delete_node, has_tests, joined_by_or, member_at, stored_call, tests_of, this_node, true_node, where_short}
+use Rattle.es_runs.specs.OptionalChaining.{Way, Receives, Tested, Called, Walked, Continued, BoundCallee, OptionalChainingRule, call_at, call_method, delete_node, joined_by_or, member_at, stored_call, tests_of, this_node, true_node, where_short}
 use Rattle.es_runs.specs.OptionalChaining.Receives.{by_this, by_name as receives_name, by_temporary}
 use Rattle.es_runs.specs.OptionalChaining.Tested.{as_name, in_holder, in_temporary}
 use Rattle.es_runs.specs.OptionalChaining.Called.{by_name, by_value, by_first_member, by_later_member}
@@ -20,63 +20,48 @@ use Rattle.es_runs.specs.Runs.{made, identifier}
 use Rattle.es_runs.specs.Steps.{also_all}
 use Rattle.es_runs.proofs.CoreRows.{FreshInTurn}
 use Rattle.es_runs.proofs.CoreRows.FreshInTurn.{no_more, one_more}
-use Rattle.es_runs.proofs.FreshNames.{not_math}
+use Rattle.es_runs.proofs.FreshNames.{fresh_both, fresh_one, not_math}
 use Rattle.es_runs.proofs.RowFacts.{Each, below_parens, each_both, each_first, each_second}
-use Rattle.es_runs.proofs.RowKeeps.{fresh_both, fresh_one}
-use Rattle.es_runs.proofs.RowKinds.{is_left_kind}
-use Rattle.es_runs.proofs.WalksMarked.{some_text}
 
 -- FRESH NAMES
 
-module _ (bound steady in_use : Text → Bool) where
-  receives_fresh : {to_this : Tree → Bool} {used : Text → Bool} {taken xs : List Text} {o o1 r : Tree} → Receives to_this steady used taken xs o o1 r → FreshInTurn used xs
+module _ (no_all : Bool) (bound source steady in_use : Text → Bool) where
+  receives_fresh : {to_this : Tree → Bool} {used : Text → Bool} {holder : Option Text} {xs : List Text} {o o1 r : Tree} → Receives to_this steady used holder xs o o1 r → FreshInTurn used xs
   receives_fresh (by_this h) = no_more
   receives_fresh (receives_name h e) = no_more
   receives_fresh {used = used} (by_temporary {r = r} h e fresh) = fresh_one used _ r fresh
 
-  tested_fresh : {w u : Way} → Tested bound in_use w u → FreshInTurn in_use w.taken → FreshInTurn in_use u.taken
+  tested_fresh : {w u : Way} → Tested no_all bound source in_use w u → FreshInTurn in_use w.taken → FreshInTurn in_use u.taken
   tested_fresh (as_name none again) h = h
   tested_fresh (in_holder held) h = h
   tested_fresh (in_temporary {w = w} {x = x} again none fresh) h = fresh_both h (fresh_one (also_all w.taken in_use) _ x fresh)
 
-  called_fresh : {l : Label} {ts : Trees} {w u : Way} → Called bound steady in_use l ts w u → FreshInTurn in_use w.taken → FreshInTurn in_use u.taken
+  called_fresh : {l : Label} {ts : Trees} {w u : Way} → Called no_all bound source steady in_use l ts w u → FreshInTurn in_use w.taken → FreshInTurn in_use u.taken
   called_fresh (by_name none again) h = h
   called_fresh (by_value {w = w} {c = c} again member fresh) h = fresh_both h (fresh_one (also_all w.taken in_use) _ c fresh)
   called_fresh (by_first_member {w = w} {c = c} none member flags fresh receives) h = fresh_both h (one_more fresh.free (not_math (also_all w.taken in_use) _ c fresh) (receives_fresh receives))
   called_fresh (by_later_member {w = w} {c = c} {xs = xs} some member flags receives fresh) h = fresh_both h (fresh_both (receives_fresh receives) (fresh_one (also_all xs (also_all w.taken in_use)) _ c fresh))
 
   mutual
-    walked_fresh : {e : Tree} {w : Way} → Walked bound steady in_use e w → FreshInTurn in_use w.taken
+    walked_fresh : {e : Tree} {w : Way} → Walked no_all bound source steady in_use e w → FreshInTurn in_use w.taken
     walked_fresh (base link) = no_more
     walked_fresh (plain_member flags below) = walked_fresh below
     walked_fresh (plain_call flags below) = walked_fresh below
     walked_fresh (marked_member flags below test) = tested_fresh test (continued_fresh below)
     walked_fresh (marked_call flags below called) = called_fresh called (continued_fresh below)
 
-    continued_fresh : {e : Tree} {w : Way} → Continued bound steady in_use e w → FreshInTurn in_use w.taken
+    continued_fresh : {e : Tree} {w : Way} → Continued no_all bound source steady in_use e w → FreshInTurn in_use w.taken
     continued_fresh (same_spine h walked) = walked_fresh walked
     continued_fresh (inner_spine link inner walked) = walked_fresh walked
 
-  bound_fresh : {used : Text → Bool} {taken xs : List Text} {e d : Tree} → BoundCallee steady used taken xs e d → FreshInTurn used xs
+  bound_fresh : {used : Text → Bool} {holder : Option Text} {xs : List Text} {e d : Tree} → BoundCallee steady used holder xs e d → FreshInTurn used xs
   bound_fresh (no_member h) = no_more
   bound_fresh (to_object flags receives) = receives_fresh receives
 
-  pub chaining_fresh : {xs : List Text} {n : Need} {a b : Tree} → OptionalChainingRule bound steady in_use xs n a b → FreshInTurn in_use xs
+  pub chaining_fresh : {xs : List Text} {n : Need} {a b : Tree} → OptionalChainingRule no_all bound source steady in_use xs n a b → FreshInTurn in_use xs
   chaining_fresh (by_tests level walked tested) = walked_fresh walked
   chaining_fresh (as_callee level walked tested callee) = fresh_both (walked_fresh walked) (bound_fresh callee)
   chaining_fresh (in_delete texts inner walked tested) = walked_fresh walked
-
--- KINDS
-
--- a row leaves a conditional
-short_kind : (m : Label) (ts : List Tree) (short long : Tree) → has_tests ts ≡ true → is_left_kind (kind_of (where_short m ts short long)) ≡ true
-short_kind m [] short long h = absurd (cc h)
-short_kind m (t ∷ ts) short long h = refl
-
-pub chaining_left : {bound steady in_use : Text → Bool} {xs : List Text} {n : Need} {a b : Tree} → OptionalChainingRule bound steady in_use xs n a b → is_left_kind (kind_of b) ≡ true
-chaining_left (by_tests {m = m} {w = w} level walked tested) = short_kind m w.tests void_zero_node w.current tested
-chaining_left (as_callee {m = m} {d = d} {w = w} level walked tested callee) = short_kind m w.tests void_zero_node d tested
-chaining_left (in_delete {m = m} {w = w} texts inner walked tested) = short_kind m w.tests true_node (delete_node w.current) tested
 
 -- FACTS
 
@@ -102,6 +87,7 @@ pub record ChainPassesOn (Good : Tree → Type 0) (Fine : Text → Type 0) : Typ
   pub void_zero : Good void_zero_node
   pub truth : Good true_node
   pub equals : (l r : Tree) → Good l → Good r → Good (binary_node (codes "===") l r)
+  pub loosely_equals : (l r : Tree) → Good l → Good r → Good (binary_node (codes "==") l r)
   pub or : (l r : Tree) → Good l → Good r → Good (logical_node (codes "||") l r)
   pub choice : (m : Label) (t a b : Tree) → Good t → Good a → Good b → Good (conditional_at (in_place_of m) t a b)
   pub deletes : (e : Tree) → Good e → Good (delete_node e)
@@ -116,31 +102,36 @@ module _ (Good : Tree → Type 0) (Fine : Text → Type 0) (on : ChainPassesOn G
     current : Good w.current
     holder : (x : Text) → w.holder ≡ Some x → Fine x
 
-  tests_good : (e again : Tree) → Good e → Good again → Each Good (tests_of e again)
-  tests_good e again h g = (on.equals e null_node h on.null, (on.equals again void_zero_node g on.void_zero, tt))
-
-  more_tests_good : (ts : List Tree) (e again : Tree) → Each Good ts → Good e → Good again → Each Good (ts ++ tests_of e again)
-  more_tests_good ts e again k h g = each_both Good ts (tests_of e again) k (tests_good e again h g)
-
   -- a name that is held
-  held_fine : (x : Text) → Fine x → (y : Text) → Some x ≡ Some y → Fine y
-  held_fine x h y e = subst Fine (ap some_text e) h
+  abbrev Held : Option Text → Type 0
+  Held None = Unit {0}
+  Held (Some x) = Fine x
 
-  module _ (bound steady in_use : Text → Bool) where
-    receives_good : {to_this : Tree → Bool} {used : Text → Bool} {taken xs : List Text} {o o1 r : Tree} → Receives to_this steady used taken xs o o1 r → Each Fine xs → Good o → Good o1 × Good r
+  held_fine : (x : Text) → Fine x → (y : Text) → Some x ≡ Some y → Fine y
+  held_fine x h y e = subst Held e h
+
+  tests_good : (no_all : Bool) (e again : Tree) → Good e → Good again → Each Good (tests_of no_all e again)
+  tests_good true e again h g = (on.loosely_equals e null_node h on.null, tt)
+  tests_good false e again h g = (on.equals e null_node h on.null, (on.equals again void_zero_node g on.void_zero, tt))
+
+  module _ (no_all : Bool) (bound source steady in_use : Text → Bool) where
+    more_tests_good : (ts : List Tree) (e again : Tree) → Each Good ts → Good e → Good again → Each Good (ts ++ tests_of no_all e again)
+    more_tests_good ts e again k h g = each_both Good ts (tests_of no_all e again) k (tests_good no_all e again h g)
+
+    receives_good : {to_this : Tree → Bool} {used : Text → Bool} {holder : Option Text} {xs : List Text} {o o1 r : Tree} → Receives to_this steady used holder xs o o1 r → Each Fine xs → Good o → Good o1 × Good r
     receives_good (by_this h) fine good = (good, on.this)
     receives_good (receives_name h e) fine good = (good, good)
     receives_good (by_temporary {o = o} {r = r} h e fresh) fine good = (on.takes r o fine.0 good, on.name r fine.0)
 
-    tested_first : {w u : Way} → Tested bound in_use w u → Each Fine u.taken → Each Fine w.taken
+    tested_first : {w u : Way} → Tested no_all bound source in_use w u → Each Fine u.taken → Each Fine w.taken
     tested_first (as_name none again) fine = fine
     tested_first (in_holder held) fine = fine
     tested_first (in_temporary {w = w} {x = x} again none fresh) fine = each_first Fine w.taken (x ∷ []) fine
 
-    tested_good : {w u : Way} → Tested bound in_use w u → Each Fine u.taken → GoodWay w → GoodWay u
+    tested_good : {w u : Way} → Tested no_all bound source in_use w u → Each Fine u.taken → GoodWay w → GoodWay u
     tested_good (as_name {w = w} none again) fine h =
         let e = stripped_good w.current (without_parens w.current) refl h.current in
-        record { tests = tests_good (without_parens w.current) (without_parens w.current) e e; current = e; holder = h.holder }
+        record { tests = tests_good no_all (without_parens w.current) (without_parens w.current) e e; current = e; holder = h.holder }
     tested_good (in_holder {w = w} {x = x} held) fine h =
         let e = stripped_good w.current (without_parens w.current) refl h.current in
         let x_fine = h.holder x held in
@@ -150,7 +141,7 @@ module _ (Good : Tree → Type 0) (Fine : Text → Type 0) (on : ChainPassesOn G
         let x_fine = (each_second Fine w.taken (x ∷ []) fine).0 in
         record { tests = more_tests_good w.tests _ (identifier x) h.tests (on.takes x (without_parens w.current) x_fine e) (on.name x x_fine); current = on.name x x_fine; holder = held_fine x x_fine }
 
-    called_first : {l : Label} {ts : Trees} {w u : Way} → Called bound steady in_use l ts w u → Each Fine u.taken → Each Fine w.taken
+    called_first : {l : Label} {ts : Trees} {w u : Way} → Called no_all bound source steady in_use l ts w u → Each Fine u.taken → Each Fine w.taken
     called_first (by_name none again) fine = fine
     called_first (by_value {w = w} {c = c} again member fresh) fine = each_first Fine w.taken (c ∷ []) fine
     called_first (by_first_member {w = w} {c = c} {xs = xs} none member flags fresh receives) fine = each_first Fine w.taken (c ∷ xs) fine
@@ -158,17 +149,17 @@ module _ (Good : Tree → Type 0) (Fine : Text → Type 0) (on : ChainPassesOn G
 
     -- a member that is stored beside its receiver, and called
     stored_good : (l : Label) (f : Tree) (ts : Trees) → Good (node CallExpression l (one f then many ts then done)) → (w : Way) (names : List Text) (k : Label) (computed : Bool) (o o1 p r : Tree) (c : Text) → k.flags ≡ computed ∷ false ∷ [] → Fine c →
-        Good (node MemberExpression k (one o then one p then done)) → Good o1 → Good r → GoodWay w → GoodWay (stored_call l ts w names c (member_at k computed o1 p) r)
+        Good (node MemberExpression k (one o then one p then done)) → Good o1 → Good r → GoodWay w → GoodWay (stored_call no_all l ts w names c (member_at k computed o1 p) r)
     stored_good l f ts whole w names k computed o o1 p r c flags c_fine e begin again h = record {
       tests = more_tests_good w.tests _ (identifier c) h.tests (on.takes c (member_at k computed o1 p) c_fine (on.member k computed false o o1 p flags e begin)) (on.name c c_fine);
       current = on.call_with l f (call_method (identifier c)) r ts whole (on.static_member (identifier c) (codes "call") (on.name c c_fine)) again;
       holder = held_fine c c_fine;
     }
 
-    called_good : (l : Label) (f : Tree) (ts : Trees) → Good (node CallExpression l (one f then many ts then done)) → {w u : Way} → Called bound steady in_use l ts w u → Each Fine u.taken → GoodWay w → GoodWay u
+    called_good : (l : Label) (f : Tree) (ts : Trees) → Good (node CallExpression l (one f then many ts then done)) → {w u : Way} → Called no_all bound source steady in_use l ts w u → Each Fine u.taken → GoodWay w → GoodWay u
     called_good l f ts whole (by_name {w = w} none again) fine h =
         let e = stripped_good w.current (without_parens w.current) refl h.current in
-        record { tests = tests_good (without_parens w.current) (without_parens w.current) e e; current = on.call l f (without_parens w.current) ts whole e; holder = h.holder }
+        record { tests = tests_good no_all (without_parens w.current) (without_parens w.current) e e; current = on.call l f (without_parens w.current) ts whole e; holder = h.holder }
     called_good l f ts whole (by_value {w = w} {c = c} again member fresh) fine h =
         let e = stripped_good w.current (without_parens w.current) refl h.current in
         let c_fine = (each_second Fine w.taken (c ∷ []) fine).0 in
@@ -185,7 +176,7 @@ module _ (Good : Tree → Type 0) (Fine : Text → Type 0) (on : ChainPassesOn G
         stored_good l f ts whole w (xs ++ c ∷ []) k computed o o1 p r c flags (each_second Fine xs (c ∷ []) names).0 e objects.0 objects.1 h
 
     mutual
-      walked_good : {e : Tree} {w : Way} → Walked bound steady in_use e w → Each Fine w.taken → Good e → GoodWay w
+      walked_good : {e : Tree} {w : Way} → Walked no_all bound source steady in_use e w → Each Fine w.taken → Good e → GoodWay w
       walked_good (base link) fine h = record { tests = tt; current = h; holder = λ x k. absurd (cc k) }
       walked_good (plain_member {l = l} {computed = computed} {o = o} {p = p} {w = w} flags below) fine h =
           let b = walked_good below fine (on.object l o p h) in
@@ -199,7 +190,7 @@ module _ (Good : Tree → Type 0) (Fine : Text → Type 0) (on : ChainPassesOn G
       walked_good (marked_call {l = l} {f = f} {arguments = ts} flags below called) fine h =
           called_good l f ts h called fine (continued_good below (called_first called fine) (on.callee l f ts h))
 
-      continued_good : {e : Tree} {w : Way} → Continued bound steady in_use e w → Each Fine w.taken → Good e → GoodWay w
+      continued_good : {e : Tree} {w : Way} → Continued no_all bound source steady in_use e w → Each Fine w.taken → Good e → GoodWay w
       continued_good (same_spine k walked) fine h = walked_good walked fine h
       continued_good (inner_spine {e = e} {c = c} {l = l} link inner walked) fine h = walked_good walked fine (on.content l c (stripped_good e (node ChainExpression l (one c then done)) inner h))
 
@@ -211,14 +202,14 @@ module _ (Good : Tree → Type 0) (Fine : Text → Type 0) (on : ChainPassesOn G
     short_good m [] short long h a b = b
     short_good m (t ∷ ts) short long h a b = on.choice m (joined_by_or t ts) short long (joined_good t ts h.0 h.1) a b
 
-    bound_good : {used : Text → Bool} {taken xs : List Text} {e d : Tree} → BoundCallee steady used taken xs e d → Each Fine xs → Good e → Good d
+    bound_good : {used : Text → Bool} {holder : Option Text} {xs : List Text} {e d : Tree} → BoundCallee steady used holder xs e d → Each Fine xs → Good e → Good d
     bound_good (no_member k) fine h = h
     bound_good (to_object {k = k} {computed = computed} {o = o} {o1 = o1} {p = p} {r = r} flags receives) fine h =
         let objects = receives_good receives fine (on.object k o p h) in
         let bound_one = on.member k computed false o o1 p flags h objects.0 in
         on.call_one (member_node false (member_at k computed o1 p) (identifier (codes "bind"))) r (on.static_member (member_at k computed o1 p) (codes "bind") bound_one) objects.1
 
-    pub chaining_good : {xs : List Text} {n : Need} {a b : Tree} → OptionalChainingRule bound steady in_use xs n a b → Each Fine xs → Good a → Good b
+    pub chaining_good : {xs : List Text} {n : Need} {a b : Tree} → OptionalChainingRule no_all bound source steady in_use xs n a b → Each Fine xs → Good a → Good b
     chaining_good (by_tests {m = m} {e = e} {w = w} level walked tested) fine h =
         let way = walked_good walked fine (on.content m e h) in
         short_good m w.tests void_zero_node w.current way.tests on.void_zero way.current

@@ -5,6 +5,7 @@ use Rattle.std.proofs.Common.{◌≡◌, refl, List, [], ◌∷◌, arith}
 use Rattle.std.specs.Prelude.{Bool, true, false, codes}
 use Rattle.es_tree.specs.Fresh.{IsFreshName, is_among}
 use Rattle.es_tree.specs.Names.{names_of}
+use Rattle.es_tree.specs.Scopes.{declared_of}
 use Rattle.es_tree.specs.Tree.{Tree, node, done, ◌then◌, one, many, Trees, empty, ◌before◌}
 use Rattle.es_tree.specs.Words.{Text}
 use Rattle.es_tree.specs.declared.ast_type.AstType.TheVariants.{CallExpression, ChainExpression, ExpressionStatement, MemberExpression}
@@ -21,11 +22,11 @@ use Rattle.es_runs.specs.OptionalChaining.Called.{by_value, by_first_member}
 use Rattle.es_runs.specs.OptionalChaining.Continued.{same_spine}
 use Rattle.es_runs.specs.OptionalChaining.OptionalChainingRule.{by_tests, as_callee, in_delete}
 use Rattle.es_runs.specs.OptionalChaining.Receives.{by_name, by_temporary}
-use Rattle.es_runs.specs.OptionalChaining.Tested.{in_temporary}
+use Rattle.es_runs.specs.OptionalChaining.Tested.{as_name, in_temporary}
 use Rattle.es_runs.specs.OptionalChaining.Walked.{base, plain_member, marked_member, marked_call}
 use Rattle.es_runs.specs.Rules.{assign_node, binary_node, conditional_node, logical_node, member_node, null_node, parenthesized_node, void_zero_node}
 use Rattle.es_runs.specs.Steps.{also_all}
-use Rattle.es_runs.specs.Runs.{Outcome, made, identifier, none_hidden, program, var_statement, run, asked, state_of, outcome, cells}
+use Rattle.es_runs.specs.Runs.{Outcome, made, identifier, none_hidden, only, program, var_statement, run, run_where, asked, state_of, outcome, cells}
 use Rattle.es_runs.specs.Runs.Outcome.{finished, threw, called_uncallable}
 
 abbrev statement : Tree → Tree
@@ -246,7 +247,7 @@ asks_all_too = refl
 
 -- no name of these programs is bound
 abbrev Becomes : Tree → List Text → Tree → Tree → Type 0
-Becomes p xs e d = OptionalChainingRule none_hidden none_hidden (is_among (names_of (script p))) xs the_value e d
+Becomes p xs e d = OptionalChainingRule false none_hidden none_hidden none_hidden (is_among (names_of (script p))) xs the_value e d
 
 method_row : Becomes method (codes "_a$b" ∷ codes "_a" ∷ []) method method_lowered
 method_row =
@@ -293,7 +294,7 @@ bound_calls_too = refl
 bound_null : outcome_of (script bound_call) (answer null ∷ []) ≡ called_uncallable
 bound_null = refl
 
-bound_row : OptionalChainingRule none_hidden none_hidden (is_among (names_of (script bound_call))) (codes "_a" ∷ []) (the_callee false) inner inner_bound
+bound_row : OptionalChainingRule false none_hidden none_hidden none_hidden (is_among (names_of (script bound_call))) (codes "_a" ∷ []) (the_callee false) inner inner_bound
 bound_row =
     as_callee refl
     (marked_member refl (same_spine refl (base refl)) (in_temporary (λ e. refl) refl (record { number = 0; name = refl; free = refl; first = λ m h. absurd (omega arith) }))) refl
@@ -322,3 +323,42 @@ deletion_row : Becomes deletion (codes "_a" ∷ []) deletion deletion_lowered
 deletion_row =
     in_delete refl refl
     (marked_member refl (same_spine refl (base refl)) (in_temporary (λ e. refl) refl (record { number = 0; name = refl; free = refl; first = λ m h. absurd (omega arith) }))) refl
+
+-- WHERE NO VALUE IS `document.all`
+
+-- `a == null ? void 0 : a.b`
+abbrev inner_loose : Tree
+inner_loose = conditional_node (binary_node (codes "==") a null_node) void_zero_node (member_node false a (identifier (codes "b")))
+
+-- a name that is bound is read again
+loose_row : OptionalChainingRule true (only (codes "a")) (only (codes "a")) none_hidden (is_among (names_of (script inner))) [] the_value inner inner_loose
+loose_row = by_tests refl (marked_member refl (same_spine refl (base refl)) (as_name refl refl)) refl
+
+-- `var a; a = c; e`
+abbrev with_a : Tree → Tree
+with_a e = program (made [] []) empty (var_statement (codes "a") before statement (assign_node a (identifier (codes "c"))) before statement e before empty)
+
+abbrev questions_where : Bool → Tree → List Move → List Question
+questions_where counts p moves = asked (state_of (run_where counts (declared_of p) p undefined moves))
+
+loose_asks : questions_where false (with_a inner) (answer object ∷ answer null ∷ []) ≡ get object (text (codes "b")) ∷ read (codes "c") ∷ []
+loose_asks = refl
+
+loose_asks_too : questions_where false (with_a inner_loose) (answer object ∷ answer null ∷ []) ≡ get object (text (codes "b")) ∷ read (codes "c") ∷ []
+loose_asks_too = refl
+
+loose_null : questions_where false (with_a inner) (answer null ∷ []) ≡ read (codes "c") ∷ []
+loose_null = refl
+
+loose_null_too : questions_where false (with_a inner_loose) (answer null ∷ []) ≡ read (codes "c") ∷ []
+loose_null_too = refl
+
+-- where `document.all` counts, the two differ at it: it isn't nullish, and `== null` holds of it
+abbrev all : Value
+all = host 4 true false true
+
+all_asks : questions_where true (with_a inner) (answer all ∷ answer null ∷ []) ≡ get all (text (codes "b")) ∷ read (codes "c") ∷ []
+all_asks = refl
+
+all_is_cut : questions_where true (with_a inner_loose) (answer all ∷ answer null ∷ []) ≡ read (codes "c") ∷ []
+all_is_cut = refl

@@ -1,6 +1,6 @@
 -- The rows of optional chaining leave no optional mark outside a chain, where none was.
 use Rattle.std.proofs.Common.{◌≡◌, refl, List, [], ◌∷◌, ◌++◌}
-use Rattle.std.specs.Prelude.{Bool, true, false, ◌&&◌, ◌||◌, codes}
+use Rattle.std.specs.Prelude.{Bool, true, false, Option, ◌&&◌, ◌||◌, codes}
 use Rattle.es_tree.specs.Words.{Text}
 use Rattle.es_tree.specs.Parens.{without_parens}
 use Rattle.es_tree.specs.Tree.{Tree, node, Label, done, ◌then◌, one, Trees, ◌before◌}
@@ -40,35 +40,35 @@ member_parts k o p h =
     let both : strays false o || (strays false p || false) ≡ false = or_right (flag_after k.flags && true) (strays false o || (strays false p || false)) h in
     record { object = or_left (strays false o) (strays false p || false) both; key = or_left (strays false p) false (or_right (strays false o) (strays false p || false) both) }
 
-stored_tests_tidy : (ts : List Tree) (x : Text) (e : Tree) → AllTidy ts → Tidy e → AllTidy (ts ++ tests_of (assign_node (identifier x) e) (identifier x))
-stored_tests_tidy ts x e h g = tidy_more ts (tests_of (assign_node (identifier x) e) (identifier x)) h (tidy_tests (assign_node (identifier x) e) (identifier x) (tidy_store x e g) refl)
+stored_tests_tidy : (no_all : Bool) (ts : List Tree) (x : Text) (e : Tree) → AllTidy ts → Tidy e → AllTidy (ts ++ tests_of no_all (assign_node (identifier x) e) (identifier x))
+stored_tests_tidy no_all ts x e h g = tidy_more ts (tests_of no_all (assign_node (identifier x) e) (identifier x)) h (tidy_tests no_all (assign_node (identifier x) e) (identifier x) (tidy_store x e g) refl)
 
 -- what a chain holds stands on a spine
 content_tidy : (l : Label) (c : Tree) → Tidy (node ChainExpression l (one c then done)) → strays true c ≡ false
 content_tidy l c h = or_left (strays true c) false h
 
-module _ (bound steady in_use : Text → Bool) where
-  receives_tidy : {to_this : Tree → Bool} {used : Text → Bool} {taken xs : List Text} {o o1 r : Tree} → Receives to_this steady used taken xs o o1 r → Tidy o → Tidy o1 × Tidy r
+module _ (no_all : Bool) (bound source steady in_use : Text → Bool) where
+  receives_tidy : {to_this : Tree → Bool} {used : Text → Bool} {holder : Option Text} {xs : List Text} {o o1 r : Tree} → Receives to_this steady used holder xs o o1 r → Tidy o → Tidy o1 × Tidy r
   receives_tidy (by_this h) tidy = (tidy, refl)
   receives_tidy (receives_name h e) tidy = (tidy, tidy)
   receives_tidy (by_temporary {o = o} {r = r} h e fresh) tidy = (tidy_store r o tidy, refl)
 
-  tested_tidy : {w u : Way} → Tested bound in_use w u → TidyWay w → TidyWay u
-  tested_tidy (as_name {w = w} none again) h = let e = tidy_stripped w.current h.current in record { tests = tidy_tests (without_parens w.current) (without_parens w.current) e e; current = e }
-  tested_tidy (in_holder {w = w} {x = x} held) h = record { tests = stored_tests_tidy w.tests x (without_parens w.current) h.tests (tidy_stripped w.current h.current); current = refl }
-  tested_tidy (in_temporary {w = w} {x = x} again none fresh) h = record { tests = stored_tests_tidy w.tests x (without_parens w.current) h.tests (tidy_stripped w.current h.current); current = refl }
+  tested_tidy : {w u : Way} → Tested no_all bound source in_use w u → TidyWay w → TidyWay u
+  tested_tidy (as_name {w = w} none again) h = let e = tidy_stripped w.current h.current in record { tests = tidy_tests no_all (without_parens w.current) (without_parens w.current) e e; current = e }
+  tested_tidy (in_holder {w = w} {x = x} held) h = record { tests = stored_tests_tidy no_all w.tests x (without_parens w.current) h.tests (tidy_stripped w.current h.current); current = refl }
+  tested_tidy (in_temporary {w = w} {x = x} again none fresh) h = record { tests = stored_tests_tidy no_all w.tests x (without_parens w.current) h.tests (tidy_stripped w.current h.current); current = refl }
 
-  stored_tidy : (l : Label) (ts : Trees) → strays_nodes false ts ≡ false → (w : Way) (names : List Text) (c : Text) (k : Label) (computed : Bool) (o1 p r : Tree) → Tidy o1 → Tidy p → Tidy r → TidyWay w → TidyWay (stored_call l ts w names c (member_at k computed o1 p) r)
+  stored_tidy : (l : Label) (ts : Trees) → strays_nodes false ts ≡ false → (w : Way) (names : List Text) (c : Text) (k : Label) (computed : Bool) (o1 p r : Tree) → Tidy o1 → Tidy p → Tidy r → TidyWay w → TidyWay (stored_call no_all l ts w names c (member_at k computed o1 p) r)
   stored_tidy l ts args w names c k computed o1 p r begin key again h = record {
-    tests = stored_tests_tidy w.tests c (member_at k computed o1 p) h.tests (tidy_member k computed o1 p begin key);
+    tests = stored_tests_tidy no_all w.tests c (member_at k computed o1 p) h.tests (tidy_member k computed o1 p begin key);
     current = tidy_call l (call_method (identifier c)) (r before ts) refl (or_both (strays false r) (strays_nodes false ts) again args);
   }
 
-  called_tidy : (l : Label) (ts : Trees) → strays_nodes false ts ≡ false → {w u : Way} → Called bound steady in_use l ts w u → TidyWay w → TidyWay u
+  called_tidy : (l : Label) (ts : Trees) → strays_nodes false ts ≡ false → {w u : Way} → Called no_all bound source steady in_use l ts w u → TidyWay w → TidyWay u
   called_tidy l ts args (by_name {w = w} none again) h =
       let e = tidy_stripped w.current h.current in
-      record { tests = tidy_tests (without_parens w.current) (without_parens w.current) e e; current = tidy_call l (without_parens w.current) ts e args }
-  called_tidy l ts args (by_value {w = w} {c = c} again member fresh) h = record { tests = stored_tests_tidy w.tests c (without_parens w.current) h.tests (tidy_stripped w.current h.current); current = tidy_call l (identifier c) ts refl args }
+      record { tests = tidy_tests no_all (without_parens w.current) (without_parens w.current) e e; current = tidy_call l (without_parens w.current) ts e args }
+  called_tidy l ts args (by_value {w = w} {c = c} again member fresh) h = record { tests = stored_tests_tidy no_all w.tests c (without_parens w.current) h.tests (tidy_stripped w.current h.current); current = tidy_call l (identifier c) ts refl args }
   called_tidy l ts args (by_first_member {w = w} {k = k} {computed = computed} {o = o} {o1 = o1} {p = p} {r = r} {c = c} {xs = xs} none member flags fresh receives) h =
       let whole : Tidy (node MemberExpression k (one o then one p then done)) = rw member at (tidy_stripped w.current h.current) in
       let inside = member_parts k o p whole in
@@ -81,7 +81,7 @@ module _ (bound steady in_use : Text → Bool) where
       stored_tidy l ts args w (xs ++ c ∷ []) c k computed o1 p r objects.0 inside.key objects.1 h
 
   mutual
-    walked_tidy : {e : Tree} {w : Way} → Walked bound steady in_use e w → strays true e ≡ false → TidyWay w
+    walked_tidy : {e : Tree} {w : Way} → Walked no_all bound source steady in_use e w → strays true e ≡ false → TidyWay w
     walked_tidy (base {e = e} link) h = record { tests = tt; current = tidy_base e link h }
     walked_tidy (plain_member {l = l} {computed = computed} {o = o} {p = p} {w = w} flags below) h =
         let b = walked_tidy below (tidy_object l o p h) in
@@ -94,7 +94,7 @@ module _ (bound steady in_use : Text → Bool) where
         record { tests = b.tests; current = tidy_member l computed u.current p b.current (tidy_key l o p h) }
     walked_tidy (marked_call {l = l} {f = f} {arguments = ts} flags below called) h = called_tidy l ts (tidy_arguments l f ts h) called (continued_tidy below (tidy_callee l f ts h))
 
-    continued_tidy : {e : Tree} {w : Way} → Continued bound steady in_use e w → strays true e ≡ false → TidyWay w
+    continued_tidy : {e : Tree} {w : Way} → Continued no_all bound source steady in_use e w → strays true e ≡ false → TidyWay w
     continued_tidy (same_spine k walked) h = walked_tidy walked h
     continued_tidy (inner_spine {e = e} {c = c} {l = l} link inner walked) h = walked_tidy walked (content_tidy l c (rw inner at (tidy_stripped e (tidy_base e link h))))
 
@@ -107,14 +107,14 @@ module _ (bound steady in_use : Text → Bool) where
   short_tidy m (t ∷ ts) short long h a b =
       or_both (strays false (joined_by_or t ts)) (strays false short || (strays false long || false)) (joined_tidy t ts h.0 h.1) (or_both (strays false short) (strays false long || false) a (or_both (strays false long) false b refl))
 
-  bound_tidy : {used : Text → Bool} {taken xs : List Text} {e d : Tree} → BoundCallee steady used taken xs e d → Tidy e → Tidy d
+  bound_tidy : {used : Text → Bool} {holder : Option Text} {xs : List Text} {e d : Tree} → BoundCallee steady used holder xs e d → Tidy e → Tidy d
   bound_tidy (no_member k) h = h
   bound_tidy (to_object {k = k} {computed = computed} {o = o} {o1 = o1} {p = p} {r = r} flags receives) h =
       let inside = member_parts k o p h in
       let objects = receives_tidy receives inside.object in
       tidy_bound (member_at k computed o1 p) r (tidy_member k computed o1 p objects.0 inside.key) objects.1
 
-  pub chaining_tidy : {xs : List Text} {n : Need} {a b : Tree} → OptionalChainingRule bound steady in_use xs n a b → strays false a ≡ false → strays false b ≡ false
+  pub chaining_tidy : {xs : List Text} {n : Need} {a b : Tree} → OptionalChainingRule no_all bound source steady in_use xs n a b → strays false a ≡ false → strays false b ≡ false
   chaining_tidy (by_tests {m = m} {e = e} {w = w} level walked tested) h =
       let way = walked_tidy walked (content_tidy m e h) in
       short_tidy m w.tests void_zero_node w.current way.tests refl way.current

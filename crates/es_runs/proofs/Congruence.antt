@@ -2,12 +2,12 @@
 use Rattle.std.proofs.Common.{◌≡◌, refl, [], ap}
 use Rattle.std.specs.Prelude.{Bool, true, false, if◌then◌else◌, codes, not}
 use Rattle.es_tree.specs.Words.{Text}
-use Rattle.es_runs.specs.Machine.{Value, Result, M, ◌>>=◌, return, is_true}
+use Rattle.es_runs.specs.Machine.{Value, Result, M, ◌>>=◌, return, is_null, is_true, is_undefined}
 use Rattle.es_runs.specs.Machine.Value.{undefined, boolean}
 use Rattle.es_runs.specs.Machine.Values.{none, ◌and◌}
 use Rattle.es_runs.specs.Machine.Question.{typeof_read, get, delete, operator}
 use Rattle.es_runs.specs.Machine.Stop.{unknown}
-use Rattle.es_runs.specs.Core.{World, Binding, Reference, Meaning, Form, value, put_value, gives_value, as_plain, nothing, literal, conditional, logical, goes_right, binary, equality, asked_binary, is_equality, typeof_name, typeof_value, delete_value, void_form, UnaryClass, unary_by, unary_class, unary, update, update_at, AssignClass, assigned, assign_class, assignment, without_last}
+use Rattle.es_runs.specs.Core.{World, Binding, Reference, Meaning, Form, value, put_value, gives_value, as_plain, nothing, literal, conditional, logical, goes_right, binary, compared, equality, asked_binary, is_equality, typeof_name, typeof_value, delete_value, void_form, UnaryClass, unary_by, unary_class, unary, update, update_at, AssignClass, assigned, assign_class, assignment, without_last}
 use Rattle.es_runs.specs.Core.UnaryClass.{typeof_class, delete_class, void_class, not_class, asked_class}
 use Rattle.es_runs.specs.Core.AssignClass.{plainly, logically, compound}
 use Rattle.es_runs.specs.Core.Binding.{free, changeable, constant}
@@ -84,8 +84,8 @@ module _ (F : Frame) (w v : World) (same : SameWorld F.hidden w v) where
   silent_alike f h = then_alike F h (λ u. return_alike F (boolean (f u)))
 
   equality_alike : (op : Text) (a a' b b' : Meaning) (f : Form) → Alike F Equal (value w a) (value v a') → Alike F Equal (value w b) (value v b') → Alike F Equal (equality w op a b f) (equality v op a' b' f)
-  equality_alike op a a' b b' null_form h g = silent_alike _ h
-  equality_alike op a a' b b' void_zero h g = silent_alike _ h
+  equality_alike op a a' b b' null_form h g = rw same.counts (silent_alike (compared w.counts_all op is_null) h)
+  equality_alike op a a' b b' void_zero h g = rw same.counts (silent_alike (compared w.counts_all op is_undefined) h)
   equality_alike op a a' b b' _ h g = asked_binary_alike op a a' b b' h g
 
   binary_value : (b : Bool) (op : Text) (a a' c c' : Meaning) → Like F w v the_value a a' → Like F w v (value_and_form b) c c' → Alike F Equal (if b then equality w op a c c.form else asked_binary w op a c) (if b then equality v op a' c' c'.form else asked_binary v op a' c')

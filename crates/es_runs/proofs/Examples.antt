@@ -1,6 +1,7 @@
 -- Two runs, computed.
 use Rattle.std.proofs.Common.{◌≡◌, refl, List, [], ◌∷◌}
 use Rattle.std.specs.Prelude.{true, false, codes}
+use Rattle.es_tree.specs.Words.{Text}
 use Rattle.es_tree.specs.Tree.{Tree}
 use Rattle.es_tree.specs.declared.ast_type.AstType.TheVariants.{ExpressionStatement, CallExpression, ChainExpression}
 use Rattle.es_tree.specs.Tree.{node}
@@ -13,7 +14,7 @@ use Rattle.es_runs.specs.Machine.Values.{none, ◌and◌}
 use Rattle.es_runs.specs.Machine.Question.{read, get, call}
 use Rattle.es_runs.specs.Machine.Move.{answer}
 use Rattle.es_runs.specs.Runs.{made, identifier, program, run, asked, state_of, run_with}
-use Rattle.es_runs.specs.Rules.{pending, tests_node, member_node, conditional_node, void_zero_node, assign_node}
+use Rattle.es_runs.specs.Rules.{pending, member_node, conditional_node, void_zero_node, null_node, assign_node, binary_node, logical_node}
 
 abbrev script : Tree → Tree
 script e = program (made [] []) empty (node ExpressionStatement (made [] []) (one e then done) before empty)
@@ -31,6 +32,10 @@ asks_four = refl
 -- cut short: two questions
 asks_two : asked (state_of (run (script optional_call) undefined (answer (host 1 false true false) ∷ answer null ∷ []))) ≡ get (host 1 false true false) (text (codes "b")) ∷ read (codes "a") ∷ []
 asks_two = refl
+
+-- `(x = e) === null || x === void 0`
+abbrev tests_node : Text → Tree → Tree
+tests_node x e = logical_node (codes "||") (binary_node (codes "===") (assign_node (identifier x) e) null_node) (binary_node (codes "===") (identifier x) void_zero_node)
 
 -- and what it becomes
 abbrev lowered : Tree

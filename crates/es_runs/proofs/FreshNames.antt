@@ -1,5 +1,5 @@
 -- Names that are fresh in turn: none is in use, nor `Math`, and they are the only ones that are in use more.
-use Rattle.std.proofs.Common.{◌≡◌, ℕ, zero, suc, refl, sym, subst, ◌∙◌, List, [], ◌∷◌}
+use Rattle.std.proofs.Common.{◌≡◌, ℕ, zero, suc, refl, sym, subst, ◌∙◌, List, [], ◌∷◌, ◌++◌}
 use Rattle.std.specs.Prelude.{Bool, true, false, ◌||◌, bytes_eq, codes}
 use Rattle.es_tree.specs.Words.{Text}
 use Rattle.es_tree.specs.Fresh.{IsFreshName, candidate, also}
@@ -17,6 +17,13 @@ candidate_not_math b (suc n) = refl
 
 pub not_math : (in_use : Text → Bool) (base x : Text) → IsFreshName in_use base x → bytes_eq (codes "Math") x ≡ false
 not_math in_use base x fresh = rw fresh.name (candidate_not_math base fresh.number)
+
+pub fresh_one : (in_use : Text → Bool) (base x : Text) → IsFreshName in_use base x → FreshInTurn in_use (x ∷ [])
+fresh_one in_use base x h = one_more h.free (not_math in_use base x h) no_more
+
+pub fresh_both : {in_use : Text → Bool} {xs ys : List Text} → FreshInTurn in_use xs → FreshInTurn (also_all xs in_use) ys → FreshInTurn in_use (xs ++ ys)
+fresh_both no_more g = g
+fresh_both (one_more free math h) g = one_more free math (fresh_both h g)
 
 or_true : (a b : Bool) → a ≡ true → (a || b) ≡ true
 or_true a b e = rw e

@@ -15,8 +15,8 @@ use Rattle.es_runs.specs.Core.Binding.{changeable}
 use Rattle.es_runs.specs.Machine.{Value, Move}
 use Rattle.es_runs.specs.OpenRules.{is_bound_in, with_names}
 use Rattle.es_runs.specs.OpenSteps.{Whole, whole_of}
-use Rattle.es_runs.specs.Rules.{OnePlace}
-use Rattle.es_runs.specs.Runs.{SameRun, is_declared, none_hidden, outcome, run_with, scope_of}
+use Rattle.es_runs.specs.Rules.{OnePlace, strays}
+use Rattle.es_runs.specs.Runs.{SameRun, is_declared, none_hidden, outcome, run_where, scope_of}
 use Rattle.es_runs.specs.Runs.Outcome.{called_uncallable}
 use Rattle.es_runs.proofs.BareTrees.{declared_of-bare, names-bare, written-bare}
 use Rattle.es_runs.proofs.CoreAlike.{core_alike}
@@ -33,8 +33,10 @@ use Rattle.es_runs.proofs.RowKeeps.{row_core, row_fresh}
 use Rattle.es_runs.proofs.RowKinds.{RowKinds, row_kind}
 use Rattle.es_runs.proofs.RowNames.{row_unwritten, row_without}
 use Rattle.es_runs.proofs.Temporary.{bytes_eq-flip}
+use Rattle.es_runs.proofs.TidyPlaces.{tidy_place}
 use Rattle.es_runs.proofs.Undeclaring.{step_undeclaring, undeclaring}
 use Rattle.es_runs.proofs.Untouched.{untouched}
+use Rattle.es_runs.proofs.WalksRows.{WhereTidy}
 use Rattle.es_runs.proofs.WrittenNames.{step_unwritten}
 use Rattle.es_runs.proofs.Written.{all_pending, one_of, scope_of-all_pending}
 
@@ -88,37 +90,43 @@ negated false b e = rw (← e) refl
 
 -- ONE STEP
 
-module _ (w : Whole) (xs : List Text) where
+module _ (no_all : Bool) (w : Whole) (xs : List Text) where
   abbrev Row : Need → Tree → Tree → Type 0
-  Row n a b = core_row w xs n a b
+  Row n a b = core_row no_all w xs n a b
 
   kinds : (n : Need) (a b : Tree) → Row n a b → RowKinds a b
-  kinds n a b r = row_kind w r
+  kinds n a b r = row_kind no_all w r
+
+  abbrev TidyRow : Need → Tree → Tree → Type 0
+  TidyRow = WhereTidy Row
+
+  tidy_kinds : (n : Need) (a b : Tree) → TidyRow n a b → RowKinds a b
+  tidy_kinds n a b r = kinds n a b r.0
 
   fresh_names : {n : Need} {t u : Tree} → OnePlace Row n t u → FreshInTurn w.in_use xs
-  fresh_names r = somewhere Row (FreshInTurn w.in_use xs) (λ n a b k. row_fresh w k) r
+  fresh_names r = somewhere Row (FreshInTurn w.in_use xs) (λ n a b k. row_fresh no_all w k) r
 
-  pub shaped_step : {n : Need} {t u : Tree} → OnePlace (core_row w xs) n t u → is_shaped t ≡ true → (is_shaped u ≡ true) × (declared_of u ≡ declared_of t)
+  pub shaped_step : {n : Need} {t u : Tree} → OnePlace (core_row no_all w xs) n t u → is_shaped t ≡ true → (is_shaped u ≡ true) × (declared_of u ≡ declared_of t)
   shaped_step r h = step_shaped Row kinds r h
 
   -- names in use keep their bindings
-  pub same_binding : {t u : Tree} (ds : List Declared) → OnePlace (core_row w xs) all_of_it t u → (y : Text) → w.in_use y ≡ true → is_declared (all_pending xs ds) y ≡ is_declared ds y
+  pub same_binding : {t u : Tree} (ds : List Declared) → OnePlace (core_row no_all w xs) all_of_it t u → (y : Text) → w.in_use y ≡ true → is_declared (all_pending xs ds) y ≡ is_declared ds y
   same_binding ds r y e = declared-all_pending xs ds y ∙ ap (λ b. b || is_declared ds y) (fresh_unused (fresh_names r) y e)
 
-  module _ (ds : List Declared) (t u : Tree) (h : Known w ds t) (r : OnePlace (core_row w xs) all_of_it t u) where
+  module _ (ds : List Declared) (t u : Tree) (h : Known w ds t) (r : OnePlace (core_row no_all w xs) all_of_it t u) where
     used_steady : (y : Text) → w.steady y ≡ true → w.in_use y ≡ true
     used_steady y e = used_where (w.in_use y) (λ free. absurd (cc (h.declared y free, h.bound y, h.steady y e)))
 
     pub still_known : Known (with_names xs w) (all_pending xs ds) u
     still_known = record {
-      core = step_core Row (λ n a b. row_core w) r h.core;
+      core = step_core Row (λ n a b. row_core no_all w) r h.core;
       shaped = (step_shaped Row kinds r h.shaped).0;
-      placed = step_undeclaring w xs r h.placed;
-      names = λ y e math. (step_without Row y (λ n a b counts. row_without w y (not_taken xs w.in_use y e) math counts) true r (record { core = h.core; free = h.names y (free_before xs w.in_use y e) math })).free;
+      placed = step_undeclaring no_all w xs r h.placed;
+      names = λ y e math. (step_without Row y (λ n a b counts. row_without no_all w y (not_taken xs w.in_use y e) math counts) true r (record { core = h.core; free = h.names y (free_before xs w.in_use y e) math })).free;
       declared = λ y e. declared-all_pending xs ds y ∙ or_both (one_of xs y) (is_declared ds y) (not_taken xs w.in_use y e) (h.declared y (free_before xs w.in_use y e));
       bound = λ y. declared-all_pending xs ds y ∙ ap (λ b. one_of xs y || b) (h.bound y) ∙ sym (bound_with w xs y);
       steady = λ y e. bound_with w xs y ∙ or_later (one_of xs y) (is_bound_in w y) (h.steady y e);
-      unwritten = λ y e. step_unwritten y Row kinds (λ n a b. row_unwritten w y (fresh_unused (fresh_names r) y (used_steady y e))) r (h.unwritten y e);
+      unwritten = λ y e. step_unwritten y Row kinds (λ n a b. row_unwritten no_all w y (fresh_unused (fresh_names r) y (used_steady y e))) r (h.unwritten y e);
     }
 
     facts : NodeFacts (one_of xs) w.steady true t
@@ -133,23 +141,23 @@ module _ (w : Whole) (xs : List Text) where
       math : one_of xs (codes "Math") ≡ false
       math = fresh_not_math (fresh_names r)
 
-      base : (n : Need) (a b : Tree) → Placed (one_of xs) w.steady Row kinds n a b → touches (bad_names (one_of xs) none_hidden) n a ≡ false → Like (set_cells (one_of xs)) (before xs ds this math) (after xs ds this math) n (meaning (before xs ds this math) a) (meaning (after xs ds this math) b)
-      base n a b (row, known) free = core_alike w xs (before xs ds this math) (after xs ds this math) n a b (record {
-        same = names_more xs ds this math;
-        cells = are_vars xs ds this math;
+      base : (n : Need) (a b : Tree) → Placed (one_of xs) w.steady TidyRow tidy_kinds n a b → touches (bad_names (one_of xs) none_hidden) n a ≡ false → Like (set_cells (one_of xs)) (before (not no_all) xs ds this math) (after (not no_all) xs ds this math) n (meaning (before (not no_all) xs ds this math) a) (meaning (after (not no_all) xs ds this math) b)
+      base n a b (row, known) free = core_alike no_all w xs (before (not no_all) xs ds this math) (after (not no_all) xs ds this math) n a b refl (record {
+        same = names_more (not no_all) xs ds this math;
+        cells = are_vars (not no_all) xs ds this math;
         binds = λ y. negated (is_free (scope_of ds y)) (is_bound_in w y) (h.bound y);
         steady_bound = h.steady;
         core = known.core_nodes;
         placed = known.placed_nodes;
-        untouched = untouched (one_of xs) w.steady n a (row_kind w row).acted known.core_nodes known.placed_nodes known.unnamed known.unwritten;
+        untouched = untouched (one_of xs) w.steady n a (row_kind no_all w row.0).acted known.core_nodes known.placed_nodes known.unnamed known.unwritten;
       }) row
 
-      pub one_step : (counts : Text → Bool) → ((y : Text) → counts y ≡ true → is_declared ds y ≡ true) → (moves : List Move) → (outcome (run_with ds t this moves) ≡ called_uncallable → ⊥) → SameRun counts (run_with ds t this moves) (run_with (all_pending xs ds) u this moves)
-      one_step counts ok moves callable =
-          place_run xs ds this math (Placed (one_of xs) w.steady Row kinds) base counts
+      pub one_step : (counts : Text → Bool) → ((y : Text) → counts y ≡ true → is_declared ds y ≡ true) → (moves : List Move) → strays false t ≡ false → (outcome (run_where (not no_all) ds t this moves) ≡ called_uncallable → ⊥) → SameRun counts (run_where (not no_all) ds t this moves) (run_where (not no_all) (all_pending xs ds) u this moves)
+      one_step counts ok moves tidy callable =
+          place_run (not no_all) xs ds this math (Placed (one_of xs) w.steady TidyRow tidy_kinds) base counts
           (λ y e. fresh_unused (fresh_names r) y (used_where (w.in_use y) (λ free. absurd (cc (h.declared y free, ok y e))))) t u
           (node_free (one_of xs) t all_of_it true h.core facts.unnamed (λ e. absurd (cc e)))
-          (placed (one_of xs) w.steady Row kinds true r facts) moves callable
+          (placed (one_of xs) w.steady TidyRow tidy_kinds true (tidy_place Row kinds false r tidy) facts) moves callable
 
 -- THE SOURCE
 

@@ -1,6 +1,6 @@
 -- The laws of place and of fresh names.
-use Rattle.std.proofs.Common.{◌≡◌, refl, List, [], ap, rules}
-use Rattle.std.specs.Prelude.{Bool, true, false, bytes_eq, codes, ◌||◌}
+use Rattle.std.proofs.Common.{◌≡◌, refl, List, [], ap, ◌∙◌, rules}
+use Rattle.std.specs.Prelude.{Bool, true, false, bytes_eq, codes, not, ◌||◌}
 use Rattle.es_tree.specs.Words.{Text}
 use Rattle.es_tree.specs.Tree.{Tree, Trees, Label}
 use Rattle.es_tree.specs.Tree.{◌before◌}
@@ -22,6 +22,7 @@ use Rattle.es_tree.specs.Scopes.{Declared, declared_of}
 use Rattle.es_runs.specs.Runs.{cells_of, world_of, outcome, SameRun, is_declared, stands, only, var_statement, program, LawFresh, EvaluateAlike, Swaps, none_hidden, Swapped, LawPlace}
 use Rattle.es_runs.specs.Runs.Outcome.{called_uncallable}
 use Rattle.es_runs.specs.Runs.Swaps.{swaps}
+use Rattle.es_runs.proofs.WithoutAll.{run_assumed}
 use Rattle.es_runs.proofs.Basic.{value_alike}
 use Rattle.es_runs.proofs.Everywhere.{near_like, near_meanings}
 use Rattle.es_runs.proofs.Lists.{in_order_alike}
@@ -76,30 +77,33 @@ references_agree m k h s t g = rw (same_states g, h s) (same_reference_self (m s
 targets_agree : (m k : M Reference) → ((s : State) → k s ≡ m s) → Alike no_frame (SameTarget no_frame) m k
 targets_agree m k h s t g = rw (same_states g, h s) (same_target_self (m s))
 
-evaluation_agrees : (level : Level) (e d : Tree) → EvaluateAlike level e d → (w : World) → LikeAt no_frame w w level (meaning w e) (meaning w d)
-evaluation_agrees no_evaluation e d h w = tt
-evaluation_agrees value_alone e d h w = values_agree (value w (meaning w e)) (value w (meaning w d)) (h w)
-evaluation_agrees an_operand_of_typeof e d h w = values_agree ((meaning w e).reference >>= typeof_value w) ((meaning w d).reference >>= typeof_value w) (h w)
-evaluation_agrees whole_reference e d h w = references_agree (meaning w e).reference (meaning w d).reference (h w)
-evaluation_agrees a_callee e d h w = by_reference (references_agree (meaning w e).reference (meaning w d).reference (h w))
-evaluation_agrees a_target e d h w = targets_agree (meaning w e).reference (meaning w d).reference (h w)
+evaluation_agrees : (no_all : Bool) (level : Level) (e d : Tree) → EvaluateAlike no_all level e d → (w : World) → w.counts_all ≡ not no_all → LikeAt no_frame w w level (meaning w e) (meaning w d)
+evaluation_agrees no_all no_evaluation e d h w c = tt
+evaluation_agrees no_all value_alone e d h w c = values_agree (value w (meaning w e)) (value w (meaning w d)) (h w c)
+evaluation_agrees no_all an_operand_of_typeof e d h w c = values_agree ((meaning w e).reference >>= typeof_value w) ((meaning w d).reference >>= typeof_value w) (h w c)
+evaluation_agrees no_all whole_reference e d h w c = references_agree (meaning w e).reference (meaning w d).reference (h w c)
+evaluation_agrees no_all a_callee e d h w c = by_reference (references_agree (meaning w e).reference (meaning w d).reference (h w c))
+evaluation_agrees no_all a_target e d h w c = targets_agree (meaning w e).reference (meaning w d).reference (h w c)
 
 same_world : (w : World) → SameWorld none_hidden w w
-same_world w = record { scope = λ x e. refl; this = refl; math = refl }
+same_world w = record { scope = λ x e. refl; this = refl; math = refl; counts = refl }
 
-module _ (need : Need) (e d : Tree) (alike : EvaluateAlike need.level e d) (form : (w : World) → need.form ≡ true → (meaning w d).form ≡ (meaning w e).form) where
-  swaps_like : (w : World) (n : Need) (a b : Tree) → Swaps need e d n a b → Like no_frame w w n (meaning w a) (meaning w b)
-  swaps_like w n a b swaps = record { evaluation = evaluation_agrees need.level e d alike w; form = form w }
+module _ (no_all : Bool) (need : Need) (e d : Tree) (alike : EvaluateAlike no_all need.level e d) (form : (w : World) → need.form ≡ true → (meaning w d).form ≡ (meaning w e).form) where
+  swaps_like : (w : World) → w.counts_all ≡ not no_all → (n : Need) (a b : Tree) → Swaps need e d n a b → Like no_frame w w n (meaning w a) (meaning w b)
+  swaps_like w c n a b swaps = record { evaluation = evaluation_agrees no_all need.level e d alike w c; form = form w }
 
-  swapped_alike : (w : World) (p q : Tree) → Swapped need e d p q → Alike no_frame Equal (value w (meaning w p)) (value w (meaning w q))
-  swapped_alike w p q h = value_alike no_frame w w (same_world w) (meaning w p) (meaning w q) (near_like no_frame w w (same_world w) (Swaps need e d) (swaps_like w) h).evaluation
+  swapped_alike : (w : World) → w.counts_all ≡ not no_all → (p q : Tree) → Swapped need e d p q → Alike no_frame Equal (value w (meaning w p)) (value w (meaning w q))
+  swapped_alike w c p q h = value_alike no_frame w w (same_world w) (meaning w p) (meaning w q) (near_like no_frame w w (same_world w) (Swaps need e d) (swaps_like w c) h).evaluation
 
 agree_self : (s : State) → Agree no_frame s s
 agree_self (state c ms qs) = agree (λ x e. refl) (λ x e. cc) (λ x e. cc)
 
 pub law_place_proof : LawPlace
-law_place_proof need e d p q h alike form names this moves callable =
-    rw names (same_run no_frame (is_declared (declared_of p)) (λ x k. refl) callable (swapped_alike need e d alike form (world_of this (declared_of p)) p q h _ _ (agree_self (state (cells_of (declared_of p)) moves []))))
+law_place_proof no_all need e d p q h alike form names this moves assumed callable =
+    let ds : List Declared = declared_of p in
+    let source = run_assumed no_all ds p this moves assumed in
+    let target = run_assumed no_all ds q this moves assumed in
+    rw (names, source, target) (same_run no_frame (is_declared ds) (λ x k. refl) (λ k. callable (ap outcome source ∙ k)) (swapped_alike no_all need e d alike form (world_of (not no_all) this ds) refl p q h _ _ (agree_self (state (cells_of ds) moves []))))
 
 -- FRESH NAMES
 
@@ -114,13 +118,13 @@ module _ (x : Text) (l : Label) (ds body : Trees) (nowhere : stands x (program l
   new_names = declared_of (program l ds (var_statement x before body))
 
   abbrev old_world : World
-  old_world = world_of this old_names
+  old_world = world_of true this old_names
 
   abbrev new_world : World
-  new_world = world_of this new_names
+  new_world = world_of true this new_names
 
   fresh_world : SameWorld (only x) old_world new_world
-  fresh_world = record { scope = λ y e. rw e; this = refl; math = not_math }
+  fresh_world = record { scope = λ y e. rw e; this = refl; math = not_math; counts = refl }
 
   abbrev bad_here : Level → Text → Bool
   bad_here = bad_names (only x) none_hidden
@@ -145,5 +149,5 @@ module _ (x : Text) (l : Label) (ds body : Trees) (nowhere : stands x (program l
       not_same true h = let k : y ≡ x = bytes_eq-equal y x h in cc
 
 pub law_fresh_proof : LawFresh
-law_fresh_proof x l ds body nowhere not_math undeclared this moves callable =
+law_fresh_proof x l ds body nowhere not_math undeclared this moves assumed callable =
     same_run (set_cells (only x)) (is_declared (declared_of (program l ds body))) (counted_hides x l ds body nowhere not_math this undeclared) callable (program_alike x l ds body nowhere not_math this _ _ (first_cells x l ds body nowhere not_math this moves))

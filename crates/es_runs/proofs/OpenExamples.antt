@@ -1,6 +1,6 @@
 -- `a.b ?? c`, lowered by two steps: `var _a$b; (_a$b = a.b) !== null && _a$b !== void 0 ? _a$b : c`.
 use Rattle.std.proofs.Common.{refl, inl, inr, List, [], ◌∷◌, arith}
-use Rattle.std.specs.Prelude.{false, Some, codes}
+use Rattle.std.specs.Prelude.{Bool, false, Some, codes}
 use Rattle.es_tree.specs.Words.{Text}
 use Rattle.es_tree.specs.Fresh.{node_base, IsFreshName}
 use Rattle.es_tree.specs.Tree.{Tree, node, Label, done, ◌then◌, one, empty, ◌before◌}
@@ -60,11 +60,11 @@ fresh = record { number = 0; name = refl; free = refl; first = λ m h. absurd (o
 abbrev between : Open
 between = open_node Program (made [] []) (children nil and (list (with_vars names nothing_pending) (opened_trees (statement conditional before empty)) and ends))
 
-coalesced : Step CoreRule all_of_it (ledger (whole_of source) nothing_pending) (opened source) (ledger after nothing_pending) between
-coalesced = inside (in_later (in_first (within (in_head (inside (in_first (in_child (acts coalescing conditional (inr (inr (inl (replaces names (with_temporary refl refl fresh)))))))))))))
+coalesced : (no_all : Bool) → Step (CoreRule no_all) all_of_it (ledger (whole_of source) nothing_pending) (opened source) (ledger after nothing_pending) between
+coalesced no_all = inside (in_later (in_first (within (in_head (inside (in_first (in_child (acts coalescing conditional (inr (inr (inl (inl (replaces names (with_temporary refl refl fresh))))))))))))))
 
-declares : Step CoreRule all_of_it (ledger after nothing_pending) between (ledger after nothing_pending) (opened lowered)
-declares = inside (in_later (in_first (acts_on_list (statement conditional before empty) (var_statement (codes "_a$b") before statement conditional before empty) (inl writes))))
+declares : (no_all : Bool) → Step (CoreRule no_all) all_of_it (ledger after nothing_pending) between (ledger after nothing_pending) (opened lowered)
+declares no_all = inside (in_later (in_first (acts_on_list (statement conditional before empty) (var_statement (codes "_a$b") before statement conditional before empty) (inl writes))))
 
-lowered_reached : Reached CoreRule source names lowered
-lowered_reached = record { whole = after; steps = goes coalesced (goes declares stays); made = refl; others = refl }
+lowered_reached : (no_all : Bool) → Reached (CoreRule no_all) source names lowered
+lowered_reached no_all = record { whole = after; steps = goes (coalesced no_all) (goes (declares no_all) stays); made = refl; others = refl }

@@ -1,11 +1,12 @@
--- A fact of nodes that goes from a node to its parts, and from parts to what rows make of them, is kept by the rows.
-use Rattle.std.proofs.Common.{◌≡◌, refl, subst, List, [], ◌∷◌, ◌++◌, inl, inr}
+-- A fact of nodes that goes from a node to its parts, and from parts to what rows make of them, is kept by the rows of
+-- operators.
+use Rattle.std.proofs.Common.{◌≡◌, refl, subst, List, [], ◌∷◌, ◌++◌}
 use Rattle.std.specs.Prelude.{Bool, true, false}
 use Rattle.es_tree.specs.Words.{Text}
 use Rattle.es_tree.specs.Parens.{without_parens}
 use Rattle.es_tree.specs.Tree.{Tree, node, Label, Fields, done, ◌then◌, missing, one, many, statements, trees}
 use Rattle.es_tree.specs.declared.ast_type.AstType.{AstType}
-use Rattle.es_tree.specs.declared.ast_type.AstType.TheVariants.{AssignmentExpression, BinaryExpression, Identifier, LogicalExpression, MemberExpression, ParenthesizedExpression, PrivateIdentifier, SequenceExpression}
+use Rattle.es_tree.specs.declared.ast_type.AstType.TheVariants.{AssignmentExpression, BinaryExpression, ChainExpression, Identifier, LogicalExpression, MemberExpression, ParenthesizedExpression, PrivateIdentifier, SequenceExpression, UnaryExpression}
 use Rattle.es_runs.specs.Alike.{Need}
 use Rattle.es_runs.specs.Doubling.{Doubles}
 use Rattle.es_runs.specs.Doubling.Doubles.{read_again, by_temporary}
@@ -15,19 +16,25 @@ use Rattle.es_runs.specs.Exponentiation.TargetTwice.{bound_name, other_name, sta
 use Rattle.es_runs.specs.Exponentiation.ExponentiationRule.{power, power_assignment}
 use Rattle.es_runs.specs.LogicalAssignment.{LogicalAssignmentRule}
 use Rattle.es_runs.specs.LogicalAssignment.LogicalAssignmentRule.{to_name, to_static_member, to_computed_member}
-use Rattle.es_runs.specs.OpenRules.raising_row.{raises}
-use Rattle.es_runs.specs.OpenSteps.{Whole}
 use Rattle.es_runs.specs.Rules.{assign_node, member_node, tested}
 use Rattle.es_runs.specs.Runs.{made, identifier}
 use Rattle.es_runs.specs.Steps.{NullishRule, also_all}
 use Rattle.es_runs.specs.Steps.NullishRule.{with_temporary, reading_again}
-use Rattle.es_runs.proofs.CoreRows.{core_row}
+
+-- the kinds of operators with two sides on which a row acts
+abbrev pub is_operator_kind : AstType → Bool
+is_operator_kind LogicalExpression = true
+is_operator_kind BinaryExpression = true
+is_operator_kind AssignmentExpression = true
+is_operator_kind _ = false
 
 -- the kinds of nodes on which a row acts
 abbrev pub is_row_kind : AstType → Bool
 is_row_kind LogicalExpression = true
 is_row_kind BinaryExpression = true
 is_row_kind AssignmentExpression = true
+is_row_kind ChainExpression = true
+is_row_kind UnaryExpression = true
 is_row_kind _ = false
 
 -- P holds of each
@@ -47,6 +54,10 @@ pub each_both : {A : Type 0} (P : A → Type 0) (xs ys : List A) → Each P xs �
 each_both P [] ys h g = g
 each_both P (x ∷ xs) ys h g = (h.0, each_both P xs ys h.1 g)
 
+pub none_asked : (xs : List Text) → Each (λ x. Unit {0}) xs
+none_asked [] = tt
+none_asked (x ∷ xs) = (tt, none_asked xs)
+
 -- what a tree has from the parentheses around it
 pub below_parens : (Good : Tree → Type 0) → ((l : Label) (t : Tree) (fs : Fields) → Good (node ParenthesizedExpression l (one t then fs)) → Good t) → (t : Tree) → Good t → Good (without_parens t)
 below_parens Good inside (node ParenthesizedExpression l (one t then fs)) h = below_parens Good inside t (inside l t fs h)
@@ -60,8 +71,8 @@ below_parens Good inside (node _ l fs) h = h
 pub record PassesOn (Good : Tree → Type 0) (Fine : Text → Type 0) : Type 0 where
   -- from a node to its parts
   pub inside : (l : Label) (t : Tree) (fs : Fields) → Good (node ParenthesizedExpression l (one t then fs)) → Good t
-  pub left : (k : AstType) (m : Label) (l r : Tree) → is_row_kind k ≡ true → Good (node k m (one l then one r then done)) → Good l
-  pub right : (k : AstType) (m : Label) (l r : Tree) → is_row_kind k ≡ true → Good (node k m (one l then one r then done)) → Good r
+  pub left : (k : AstType) (m : Label) (l r : Tree) → is_operator_kind k ≡ true → Good (node k m (one l then one r then done)) → Good l
+  pub right : (k : AstType) (m : Label) (l r : Tree) → is_operator_kind k ≡ true → Good (node k m (one l then one r then done)) → Good r
   pub object : (l : Label) (o k : Tree) → Good (node MemberExpression l (one o then one k then done)) → Good o
   pub key : (l : Label) (o k : Tree) → l.flags ≡ true ∷ false ∷ [] → Good (node MemberExpression l (one o then one k then done)) → Good k
   -- from parts to what is made of them
@@ -86,7 +97,7 @@ module _ (Good : Tree → Type 0) (Fine : Text → Type 0) (on : PassesOn Good F
   doubles_good again in_use (read_again h) fine good = (good, good)
   doubles_good again in_use (by_temporary {e = e} {x = x} h fresh) fine good = (on.takes x e fine.0 good, on.name x fine.0)
 
-  assignment_good : (steady in_use : Text → Bool) {xs : List Text} {n : Need} {a b : Tree} → LogicalAssignmentRule steady in_use xs n a b → Each Fine xs → Good a → Good b
+  pub assignment_good : (steady in_use : Text → Bool) {xs : List Text} {n : Need} {a b : Tree} → LogicalAssignmentRule steady in_use xs n a b → Each Fine xs → Good a → Good b
   assignment_good steady in_use (to_name {m = m} {l = l} {t = t} {r = r} {op = op} texts assigning target) fine h =
       on.logical _ (node Identifier l done) (assign_node (node Identifier l done) r) (stripped t (node Identifier l done) target (on.left AssignmentExpression m t r refl h)) (on.to_name m _ l t r r h target (on.right AssignmentExpression m t r refl h))
   assignment_good steady in_use (to_static_member {m = m} {l = l} {k = k} {t = t} {r = r} {o = o} {o1 = o1} {o2 = o2} {op = op} texts assigning target flags object) fine h =
@@ -99,7 +110,7 @@ module _ (Good : Tree → Type 0) (Fine : Text → Type 0) (on : PassesOn Good F
       let keys = doubles_good steady (also_all xs in_use) key (each_second Fine xs ys fine) (on.key l o k flags member) in
       on.logical _ _ _ (on.computed_member o1 k1 objects.0 keys.0) (on.to_member _ _ o2 k2 r (on.computed_member o2 k2 objects.1 keys.1) (on.right AssignmentExpression m t r refl h))
 
-  coalescing_good : (steady in_use : Text → Bool) {xs : List Text} {n : Need} {a b : Tree} → NullishRule steady in_use xs n a b → Each Fine xs → Good a → Good b
+  pub coalescing_good : (steady in_use : Text → Bool) {xs : List Text} {n : Need} {a b : Tree} → NullishRule steady in_use xs n a b → Each Fine xs → Good a → Good b
   coalescing_good steady in_use (with_temporary {m = m} {l = l} {r = r} {x = x} texts again fresh) fine h =
       on.tests m _ _ r (on.takes x l fine.0 (on.left LogicalExpression m l r refl h)) (on.name x fine.0) (on.right LogicalExpression m l r refl h)
   coalescing_good steady in_use (reading_again {m = m} {l = l} {r = r} texts again) fine h =
@@ -148,13 +159,8 @@ module _ (Good : Tree → Type 0) (Fine : Text → Type 0) (on : PassesOn Good F
   assigned_good m [] target read r h g = h.written _ (power_node read r) (on.power (made [] []) read r h.reads g)
   assigned_good m (f ∷ fs) target read r h g = on.sequence _ ((f ∷ fs) ++ assign_node target (power_node read r) ∷ []) (each_both Good (f ∷ fs) (assign_node target (power_node read r) ∷ []) h.front (h.written _ (power_node read r) (on.power (made [] []) read r h.reads g), tt))
 
-  power_good : (bound in_use : Text → Bool) {xs : List Text} {n : Need} {a b : Tree} → ExponentiationRule bound in_use xs n a b → Each Fine xs → Good a → Good b
+  pub power_good : (bound in_use : Text → Bool) {xs : List Text} {n : Need} {a b : Tree} → ExponentiationRule bound in_use xs n a b → Each Fine xs → Good a → Good b
   power_good bound in_use (power {m = m} {l = l} {r = r} texts left right) fine h = on.power m l r (on.left BinaryExpression m l r refl h) (on.right BinaryExpression m l r refl h)
   power_good bound in_use (power_assignment {m = m} {t = t} {r = r} {target = target} {read = read} {fs = fs} texts right twice) fine h =
       let below = below_parens Good on.inside t (on.left AssignmentExpression m t r refl h) in
       assigned_good m fs target read r (target_good bound in_use m t r twice refl fine h below) (on.right AssignmentExpression m t r refl h)
-
-  pub row_good : (w : Whole) {xs : List Text} {n : Need} {a b : Tree} → core_row w xs n a b → Each Fine xs → Good a → Good b
-  row_good w (inl r) fine h = assignment_good w.steady w.in_use r fine h
-  row_good w (inr (inl r)) fine h = coalescing_good w.steady w.in_use r fine h
-  row_good w (inr (inr (raises math r))) fine h = power_good _ w.in_use r fine h

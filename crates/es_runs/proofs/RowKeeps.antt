@@ -1,11 +1,10 @@
 -- What the rows of core programs keep of a node.
-use Rattle.std.proofs.Common.{◌≡◌, refl, List, [], ◌∷◌, ◌++◌, inl, inr}
+use Rattle.std.proofs.Common.{◌≡◌, refl, List, [], ◌∷◌, inl, inr}
 use Rattle.std.proofs.lemmas.Bool.{and_from}
 use Rattle.std.specs.Prelude.{Bool, true, false, ◌&&◌, codes, Some}
 use Rattle.es_tree.specs.Words.{Text}
-use Rattle.es_tree.specs.Fresh.{IsFreshName}
 use Rattle.es_tree.specs.Core.{is_core_node}
-use Rattle.es_tree.specs.Tree.{Tree, node, Label, Fields, done, ◌then◌, missing, one, many, statements, trees, kind_of}
+use Rattle.es_tree.specs.Tree.{Tree, node, Label, Fields, done, ◌then◌, missing, one, many, statements, Trees, empty, ◌before◌, trees, kind_of}
 use Rattle.es_tree.specs.Walks.{all_nodes, all_in_fields, all_in_trees}
 use Rattle.es_tree.specs.declared.ast_type.AstType.{AstType}
 use Rattle.es_tree.specs.declared.ast_type.AstType.TheVariants.{AssignmentExpression, BinaryExpression, BooleanLiteral, CallExpression, ChainExpression, ConditionalExpression, Identifier, LogicalExpression, MemberExpression, NullLiteral, NumericLiteral, ParenthesizedExpression, PrivateIdentifier, SequenceExpression, StringLiteral, ThisExpression, UnaryExpression}
@@ -18,6 +17,7 @@ use Rattle.es_runs.specs.Exponentiation.TargetTwice.{bound_name, other_name, sta
 use Rattle.es_runs.specs.Exponentiation.ExponentiationRule.{power, power_assignment}
 use Rattle.es_runs.specs.LogicalAssignment.{LogicalAssignmentRule}
 use Rattle.es_runs.specs.LogicalAssignment.LogicalAssignmentRule.{to_name, to_static_member, to_computed_member}
+use Rattle.es_runs.specs.OpenRules.{is_bound_in}
 use Rattle.es_runs.specs.OpenRules.raising_row.{raises}
 use Rattle.es_runs.specs.OpenSteps.{Whole}
 use Rattle.es_runs.specs.Rules.{in_place_of, null_node, void_zero_node}
@@ -25,21 +25,15 @@ use Rattle.es_runs.specs.Runs.{made, identifier}
 use Rattle.es_runs.specs.Steps.{NullishRule, also_all}
 use Rattle.es_runs.specs.Steps.NullishRule.{with_temporary, reading_again}
 use Rattle.es_runs.proofs.CoreRows.{core_row, FreshInTurn}
-use Rattle.es_runs.proofs.CoreRows.FreshInTurn.{no_more, one_more}
-use Rattle.es_runs.proofs.FreshNames.{not_math}
+use Rattle.es_runs.proofs.CoreRows.FreshInTurn.{no_more}
+use Rattle.es_runs.proofs.ChainFacts.{ChainPassesOn, chaining_fresh, chaining_good}
+use Rattle.es_runs.proofs.FreshNames.{fresh_both, fresh_one}
 use Rattle.es_runs.proofs.Named.{and_left, and_right}
 use Rattle.es_runs.proofs.OpenForm.{no_list, unlisted}
-use Rattle.es_runs.proofs.RowFacts.{is_row_kind, Each, PassesOn, row_good}
+use Rattle.es_runs.proofs.RowFacts.{is_operator_kind, is_row_kind, Each, PassesOn, none_asked, assignment_good, coalescing_good, power_good}
 use Rattle.es_runs.proofs.RowKinds.{row_kind}
 
 -- FRESH NAMES
-
-pub fresh_one : (in_use : Text → Bool) (base x : Text) → IsFreshName in_use base x → FreshInTurn in_use (x ∷ [])
-fresh_one in_use base x h = one_more h.free (not_math in_use base x h) no_more
-
-pub fresh_both : {in_use : Text → Bool} {xs ys : List Text} → FreshInTurn in_use xs → FreshInTurn (also_all xs in_use) ys → FreshInTurn in_use (xs ++ ys)
-fresh_both no_more g = g
-fresh_both (one_more free math h) g = one_more free math (fresh_both h g)
 
 doubles_fresh : (again in_use : Text → Bool) {xs : List Text} {e e1 e2 : Tree} → Doubles again in_use xs e e1 e2 → FreshInTurn in_use xs
 doubles_fresh again in_use (read_again h) = no_more
@@ -71,10 +65,20 @@ power_fresh bound in_use (power texts left right) = no_more
 power_fresh bound in_use (power_assignment texts right target) = target_fresh bound in_use target
 
 -- the names that a row takes are fresh, one after the other
-pub row_fresh : (w : Whole) {xs : List Text} {n : Need} {a b : Tree} → core_row w xs n a b → FreshInTurn w.in_use xs
-row_fresh w (inl r) = assignment_fresh w.steady w.in_use r
-row_fresh w (inr (inl r)) = coalescing_fresh w.steady w.in_use r
-row_fresh w (inr (inr (raises math r))) = power_fresh _ w.in_use r
+pub row_fresh : (no_all : Bool) (w : Whole) {xs : List Text} {n : Need} {a b : Tree} → core_row no_all w xs n a b → FreshInTurn w.in_use xs
+row_fresh no_all w (inl r) = assignment_fresh w.steady w.in_use r
+row_fresh no_all w (inr (inl (inl r))) = coalescing_fresh w.steady w.in_use r
+row_fresh no_all w (inr (inl (inr r))) = chaining_fresh no_all (is_bound_in w) w.bound w.steady w.in_use r
+row_fresh no_all w (inr (inr (raises math r))) = power_fresh (is_bound_in w) w.in_use r
+
+-- FACTS OF NODES
+
+-- a fact that goes from a node to its parts, and from parts to what rows make of them, is kept by a row
+pub row_good : (Good : Tree → Type 0) (Fine : Text → Type 0) → PassesOn Good Fine → ChainPassesOn Good Fine → (no_all : Bool) (w : Whole) {xs : List Text} {n : Need} {a b : Tree} → core_row no_all w xs n a b → Each Fine xs → Good a → Good b
+row_good Good Fine on chains no_all w (inl r) fine h = assignment_good Good Fine on w.steady w.in_use r fine h
+row_good Good Fine on chains no_all w (inr (inl (inl r))) fine h = coalescing_good Good Fine on w.steady w.in_use r fine h
+row_good Good Fine on chains no_all w (inr (inl (inr r))) fine h = chaining_good Good Fine chains no_all (is_bound_in w) w.bound w.steady w.in_use r fine h
+row_good Good Fine on chains no_all w (inr (inr (raises math r))) fine h = power_good Good Fine on (is_bound_in w) w.in_use r fine h
 
 -- A TEST OF EVERY NODE
 
@@ -132,6 +136,9 @@ pub record Allows (test : AstType → Label → Fields → Bool) (part : AstType
   pub assignment : (l : Label) (t q : Tree) → part (kind_of t) ≡ true → part (kind_of q) ≡ true → test AssignmentExpression l (one t then (one q then done)) ≡ true
   pub call : (l : Label) (c : Tree) (ts : List Tree) → part (kind_of c) ≡ true → all_parts part ts ≡ true → test CallExpression l (one c then (many (trees ts) then done)) ≡ true
   pub sequence : (l : Label) (ts : List Tree) → all_parts part ts ≡ true → test SequenceExpression l (many (trees ts) then done) ≡ true
+  -- a call with another callee, and one with a further argument in front
+  pub recalled : (l m : Label) (f q : Tree) (ts : Trees) → test CallExpression l (one f then (many ts then done)) ≡ true → part (kind_of q) ≡ true → test CallExpression m (one q then (many ts then done)) ≡ true
+  pub received : (l m : Label) (f q r : Tree) (ts : Trees) → test CallExpression l (one f then (many ts then done)) ≡ true → part (kind_of q) ≡ true → part (kind_of r) ≡ true → test CallExpression m (one q then (many (r before ts) then done)) ≡ true
 
 module _ (test : AstType → Label → Fields → Bool) (part : AstType → Bool) (allows : Allows test part) where
   -- a part whose nodes pass
@@ -178,11 +185,11 @@ module _ (test : AstType → Label → Fields → Bool) (part : AstType → Bool
         all = and_left (all_nodes test u) (all_in_fields test fs) (and_right (all_nodes test t) (all_nodes test u && all_in_fields test fs) below);
       }
 
-  opened_row : (k : AstType) → is_row_kind k ≡ true → is_opened_kind k ≡ true
-  opened_row LogicalExpression e = refl
-  opened_row BinaryExpression e = refl
-  opened_row AssignmentExpression e = refl
-  opened_row _ e = absurd (cc e)
+  opened_operator : (k : AstType) → is_operator_kind k ≡ true → is_opened_kind k ≡ true
+  opened_operator LogicalExpression e = refl
+  opened_operator BinaryExpression e = refl
+  opened_operator AssignmentExpression e = refl
+  opened_operator _ e = absurd (cc e)
 
   pub named : (x : Text) → Passing (identifier x)
   named x = makes_passing Identifier _ refl [] tt
@@ -196,8 +203,8 @@ module _ (test : AstType → Label → Fields → Bool) (part : AstType → Bool
   test_passes_on : PassesOn Passing (λ x. Unit {0})
   test_passes_on = record {
     inside = λ l t fs h. first_passing ParenthesizedExpression l t fs refl h;
-    left = λ k m l r e h. first_passing k m l (one r then done) (opened_row k e) h;
-    right = λ k m l r e h. second_passing k m l r done (opened_row k e) h;
+    left = λ k m l r e h. first_passing k m l (one r then done) (opened_operator k e) h;
+    right = λ k m l r e h. second_passing k m l r done (opened_operator k e) h;
     object = λ l o k h. first_passing MemberExpression l o (one k then done) refl h;
     key = λ l o k e h. second_passing MemberExpression l o k done refl h;
     logical = λ m l r g h. makes_passing LogicalExpression m refl (l ∷ r ∷ []) (g, (h, tt));
@@ -218,13 +225,47 @@ module _ (test : AstType → Label → Fields → Bool) (part : AstType → Bool
     sequence = λ m fs h. record { kind = allows.sequence_kind; all = and_from (test SequenceExpression m (many (trees fs) then done)) (all_in_trees test (trees fs) && true) (allows.sequence m fs (each_kind fs h)) (and_from (all_in_trees test (trees fs)) true (each_tree fs h) refl) };
   }
 
-  pub none_asked : (xs : List Text) → Each (λ x. Unit {0}) xs
-  none_asked [] = tt
-  none_asked (x ∷ xs) = (tt, none_asked xs)
+  -- a call whose arguments pass
+  arguments_pass : (l : Label) (f : Tree) (ts : Trees) → all_nodes test (node CallExpression l (one f then (many ts then done))) ≡ true → all_in_trees test ts ≡ true
+  arguments_pass l f ts h = and_left (all_in_trees test ts) true (and_right (all_nodes test f) (all_in_trees test ts && true) (and_right (test CallExpression l (one f then (many ts then done))) (all_nodes test f && (all_in_trees test ts && true)) h))
 
-  pub row_passes : (w : Whole) {xs : List Text} {n : Need} {a b : Tree} → core_row w xs n a b → all_nodes test a ≡ true → all_nodes test b ≡ true
-  row_passes w {xs} {n} {a} {b} r h =
-      let found : Passing b = row_good Passing (λ x. Unit {0}) test_passes_on w r (none_asked xs) (record { kind = allows.row_kinds (kind_of a) (row_kind w r).acted; all = h }) in
+  call_passes : (l : Label) (q : Tree) (ts : Trees) → test CallExpression l (one q then (many ts then done)) ≡ true → Passing q → all_in_trees test ts ≡ true → Passing (node CallExpression l (one q then (many ts then done)))
+  call_passes l q ts own h g = record {
+    kind = allows.call_kind;
+    all = and_from (test CallExpression l (one q then (many ts then done))) (all_nodes test q && (all_in_trees test ts && true)) own (and_from (all_nodes test q) (all_in_trees test ts && true) h.all (and_from (all_in_trees test ts) true g refl));
+  }
+
+  own_passes : (l : Label) (f : Tree) (ts : Trees) → all_nodes test (node CallExpression l (one f then (many ts then done))) ≡ true → test CallExpression l (one f then (many ts then done)) ≡ true
+  own_passes l f ts h = and_left (test CallExpression l (one f then (many ts then done))) (all_nodes test f && (all_in_trees test ts && true)) h
+
+  chain_test_passes_on : ChainPassesOn Passing (λ x. Unit {0})
+  chain_test_passes_on = record {
+    inside = λ l t fs h. first_passing ParenthesizedExpression l t fs refl h;
+    content = λ l t h. first_passing ChainExpression l t done refl h;
+    operand = λ l t h. first_passing UnaryExpression l t done refl h;
+    object = λ l o p h. first_passing MemberExpression l o (one p then done) refl h;
+    callee = λ l f ts h. first_passing CallExpression l f (many ts then done) refl h;
+    member = λ l computed optional o q p e h g. makes_passing MemberExpression _ refl (q ∷ p ∷ []) (g, (second_passing MemberExpression l o p done refl h, tt));
+    call = λ l f q ts h g. call_passes _ q ts (allows.recalled l _ f q ts (own_passes l f ts h.all) g.kind) g (arguments_pass l f ts h.all);
+    call_with = λ l f q r ts h g k. call_passes _ q (r before ts) (allows.received l _ f q r ts (own_passes l f ts h.all) g.kind k.kind) g (and_from (all_nodes test r) (all_in_trees test ts) k.all (arguments_pass l f ts h.all));
+    name = λ x fine. named x;
+    takes = λ x e fine h. assigns (made (Some (codes "=") ∷ []) []) (identifier x) e (named x) h;
+    static_member = λ c y h. makes_passing MemberExpression _ refl (c ∷ identifier y ∷ []) (h, (named y, tt));
+    call_one = λ c r h g. call_passes _ c (r before empty) (allows.call _ c (r ∷ []) h.kind (and_from (part (kind_of r)) true g.kind refl)) h (and_from (all_nodes test r) true g.all refl);
+    this = makes_passing ThisExpression _ refl [] tt;
+    null = null_passing;
+    void_zero = zero_passing;
+    truth = makes_passing BooleanLiteral _ refl [] tt;
+    equals = λ l r h g. makes_passing BinaryExpression _ refl (l ∷ r ∷ []) (h, (g, tt));
+    loosely_equals = λ l r h g. makes_passing BinaryExpression _ refl (l ∷ r ∷ []) (h, (g, tt));
+    or = λ l r h g. makes_passing LogicalExpression _ refl (l ∷ r ∷ []) (h, (g, tt));
+    choice = λ m t a b h g k. makes_passing ConditionalExpression (in_place_of m) refl (t ∷ a ∷ b ∷ []) (h, (g, (k, tt)));
+    deletes = λ e h. makes_passing UnaryExpression _ refl (e ∷ []) (h, tt);
+  }
+
+  pub row_passes : (no_all : Bool) (w : Whole) {xs : List Text} {n : Need} {a b : Tree} → core_row no_all w xs n a b → all_nodes test a ≡ true → all_nodes test b ≡ true
+  row_passes no_all w {xs} {n} {a} {b} r h =
+      let found : Passing b = row_good Passing (λ x. Unit {0}) test_passes_on chain_test_passes_on no_all w r (none_asked xs) (record { kind = allows.row_kinds (kind_of a) (row_kind no_all w r).acted; all = h }) in
       found.all
 
 -- CORE NODES, AND STATEMENT LISTS
@@ -264,9 +305,11 @@ core_allows = record {
   assignment = λ l t q h g. refl;
   call = λ l c ts h g. refl;
   sequence = λ l ts h. refl;
+  recalled = λ l m f q ts h g. refl;
+  received = λ l m f q r ts h g k. refl;
 }
 
-pub row_core : (w : Whole) {xs : List Text} {n : Need} {a b : Tree} → core_row w xs n a b → all_nodes is_core_node a ≡ true → all_nodes is_core_node b ≡ true
+pub row_core : (no_all : Bool) (w : Whole) {xs : List Text} {n : Need} {a b : Tree} → core_row no_all w xs n a b → all_nodes is_core_node a ≡ true → all_nodes is_core_node b ≡ true
 row_core = row_passes is_core_node any_kind core_allows
 
 no_list-one_each : (ts : List Tree) → no_list (one_each ts) ≡ true
@@ -284,7 +327,9 @@ unlisted_allows = record {
   assignment = λ l t q h g. refl;
   call = λ l c ts h g. refl;
   sequence = λ l ts h. refl;
+  recalled = λ l m f q ts h g. refl;
+  received = λ l m f q r ts h g k. refl;
 }
 
-pub row_unlisted : (w : Whole) {xs : List Text} {n : Need} {a b : Tree} → core_row w xs n a b → all_nodes unlisted a ≡ true → all_nodes unlisted b ≡ true
+pub row_unlisted : (no_all : Bool) (w : Whole) {xs : List Text} {n : Need} {a b : Tree} → core_row no_all w xs n a b → all_nodes unlisted a ≡ true → all_nodes unlisted b ≡ true
 row_unlisted = row_passes unlisted any_kind unlisted_allows

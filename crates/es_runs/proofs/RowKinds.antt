@@ -13,6 +13,9 @@ use Rattle.es_runs.specs.LogicalAssignment.{LogicalAssignmentRule}
 use Rattle.es_runs.specs.LogicalAssignment.LogicalAssignmentRule.{to_name, to_static_member, to_computed_member}
 use Rattle.es_runs.specs.OpenRules.raising_row.{raises}
 use Rattle.es_runs.specs.OpenSteps.{Whole}
+use Rattle.es_runs.specs.OptionalChaining.{OptionalChainingRule, delete_node, has_tests, true_node, where_short}
+use Rattle.es_runs.specs.OptionalChaining.OptionalChainingRule.{by_tests, as_callee, in_delete}
+use Rattle.es_runs.specs.Rules.{void_zero_node}
 use Rattle.es_runs.specs.Steps.{NullishRule}
 use Rattle.es_runs.specs.Steps.NullishRule.{with_temporary, reading_again}
 use Rattle.es_runs.proofs.CoreRows.{core_row}
@@ -27,7 +30,7 @@ is_left_kind LogicalExpression = true
 is_left_kind SequenceExpression = true
 is_left_kind _ = false
 
--- a row acts on an operator with its operands
+-- a row acts on an operator with its operands, on a chain, or on what deletes one
 pub record RowKinds (a b : Tree) : Type 0 where
   pub acted : is_row_kind (kind_of a) ≡ true
   pub parts : has_no_fields (fields_of a) ≡ false
@@ -50,7 +53,18 @@ raising_kinds : {bound in_use : Text → Bool} {xs : List Text} {n : Need} {a b 
 raising_kinds (power texts left right) = record { acted = refl; parts = refl; left = refl }
 raising_kinds (power_assignment {m = m} {r = r} {target = target} {read = read} {fs = fs} texts right twice) = record { acted = refl; parts = refl; left = assigned_kind m fs target read r }
 
-pub row_kind : (w : Whole) {xs : List Text} {n : Need} {a b : Tree} → core_row w xs n a b → RowKinds a b
-row_kind w (inl r) = assigning_kinds r
-row_kind w (inr (inl r)) = coalescing_kinds r
-row_kind w (inr (inr (raises math r))) = raising_kinds r
+-- where there are tests a conditional is left
+short_kind : (m : Label) (ts : List Tree) (short long : Tree) → has_tests ts ≡ true → is_left_kind (kind_of (where_short m ts short long)) ≡ true
+short_kind m [] short long h = absurd (cc h)
+short_kind m (t ∷ ts) short long h = refl
+
+chaining_kinds : {no_all : Bool} {bound source steady in_use : Text → Bool} {xs : List Text} {n : Need} {a b : Tree} → OptionalChainingRule no_all bound source steady in_use xs n a b → RowKinds a b
+chaining_kinds (by_tests {m = m} {w = w} level walked tested) = record { acted = refl; parts = refl; left = short_kind m w.tests void_zero_node w.current tested }
+chaining_kinds (as_callee {m = m} {d = d} {w = w} level walked tested callee) = record { acted = refl; parts = refl; left = short_kind m w.tests void_zero_node d tested }
+chaining_kinds (in_delete {m = m} {w = w} texts inner walked tested) = record { acted = refl; parts = refl; left = short_kind m w.tests true_node (delete_node w.current) tested }
+
+pub row_kind : (no_all : Bool) (w : Whole) {xs : List Text} {n : Need} {a b : Tree} → core_row no_all w xs n a b → RowKinds a b
+row_kind no_all w (inl r) = assigning_kinds r
+row_kind no_all w (inr (inl (inl r))) = coalescing_kinds r
+row_kind no_all w (inr (inl (inr r))) = chaining_kinds r
+row_kind no_all w (inr (inr (raises math r))) = raising_kinds r

@@ -6,20 +6,22 @@ use Rattle.es_tree.specs.Fresh.{is_among}
 use Rattle.es_tree.specs.Names.{first_text, flag_at, names_if, names_in_fields, names_in_trees, own_name, is_name_place}
 use Rattle.es_tree.specs.Parens.{without_parens}
 use Rattle.es_tree.specs.Scopes.{is_written, target_names, writes}
-use Rattle.es_tree.specs.Tree.{Tree, node, Label, Fields, done, ◌then◌, one, trees, kind_of}
+use Rattle.es_tree.specs.Tree.{Tree, node, Label, Fields, done, ◌then◌, one, many, Trees, empty, ◌before◌, trees, kind_of}
 use Rattle.es_tree.specs.Walks.{any_node, any_in_fields, any_in_trees}
 use Rattle.es_tree.specs.declared.ast_type.AstType.{AstType}
-use Rattle.es_tree.specs.declared.ast_type.AstType.TheVariants.{AssignmentExpression, BinaryExpression, Identifier, LogicalExpression, MemberExpression, ParenthesizedExpression}
+use Rattle.es_tree.specs.declared.ast_type.AstType.TheVariants.{AssignmentExpression, BinaryExpression, CallExpression, ChainExpression, Identifier, LogicalExpression, MemberExpression, ParenthesizedExpression, UnaryExpression}
 use Rattle.es_runs.specs.Alike.{Need}
 use Rattle.es_runs.specs.OpenSteps.{Whole}
+use Rattle.es_runs.specs.OptionalChaining.{member_at}
 use Rattle.es_runs.specs.Rules.{binary_node, logical_node, null_node, void_zero_node}
 use Rattle.es_runs.specs.Runs.{made, identifier}
+use Rattle.es_runs.proofs.ChainFacts.{ChainPassesOn}
 use Rattle.es_runs.proofs.CoreRows.{core_row}
 use Rattle.es_runs.proofs.Declarations.{is_name}
 use Rattle.es_runs.proofs.Kept.{Without, among_both}
 use Rattle.es_runs.proofs.Named.{or_both, or_first, or_second, among_first, among_second}
-use Rattle.es_runs.proofs.RowFacts.{is_row_kind, Each, below_parens, PassesOn, row_good}
-use Rattle.es_runs.proofs.RowKeeps.{row_core}
+use Rattle.es_runs.proofs.RowFacts.{is_operator_kind, is_row_kind, Each, below_parens, PassesOn}
+use Rattle.es_runs.proofs.RowKeeps.{row_core, row_good}
 use Rattle.es_runs.proofs.RowKinds.{is_left_kind, row_kind}
 use Rattle.es_runs.proofs.Temporary.{bytes_eq-flip}
 use Rattle.es_runs.proofs.Written.{one_of}
@@ -50,7 +52,7 @@ module _ (y : Text) where
   pub name_free : (x : Text) → bytes_eq x y ≡ false → Free (identifier x)
   name_free x e = or_both (bytes_eq x y) false e refl
 
-  sides_free : (k : AstType) (m : Label) (l r : Tree) → is_row_kind k ≡ true → Free (node k m (one l then (one r then done))) → is_among (names_if true l ++ (names_if true r ++ [])) y ≡ false
+  sides_free : (k : AstType) (m : Label) (l r : Tree) → is_operator_kind k ≡ true → Free (node k m (one l then (one r then done))) → is_among (names_if true l ++ (names_if true r ++ [])) y ≡ false
   sides_free LogicalExpression m l r e h = h
   sides_free BinaryExpression m l r e h = h
   sides_free AssignmentExpression m l r e h = h
@@ -60,6 +62,44 @@ module _ (y : Text) where
   key_free l o k e h =
       let below : is_among (names_if (flag_at 0 l.flags) k) y ≡ false = among_first (names_if (flag_at 0 l.flags) k) [] y (among_second (names_if true o) (names_if (flag_at 0 l.flags) k ++ []) y h) in
       rw e at below
+
+  -- of a call
+  call_free : (q : Tree) (ts : Trees) → Free q → is_among (names_in_trees ts) y ≡ false → is_among (names_if true q ++ (names_in_trees ts ++ [])) y ≡ false
+  call_free q ts h g = among_both (names_if true q) (names_in_trees ts ++ []) y h (among_both (names_in_trees ts) [] y g refl)
+
+  arguments_free : (l : Label) (f : Tree) (ts : Trees) → Free (node CallExpression l (one f then (many ts then done))) → is_among (names_in_trees ts) y ≡ false
+  arguments_free l f ts h = among_first (names_in_trees ts) [] y (among_second (names_if true f) (names_in_trees ts ++ []) y h)
+
+  -- a step of a chain that keeps its key
+  step_free : (l : Label) (computed optional : Bool) (o q p : Tree) → l.flags ≡ computed ∷ optional ∷ [] → Free (node MemberExpression l (one o then (one p then done))) → Free q → Free (member_at l computed q p)
+  step_free l computed optional o q p e h g =
+      let key : is_among (names_if (flag_at 0 l.flags) p ++ []) y ≡ false = among_second (names_if true o) (names_if (flag_at 0 l.flags) p ++ []) y h in
+      among_both (names_if true q) (names_if computed p ++ []) y g (rw e at key)
+
+  free_in_chains : ChainPassesOn Free (λ x. bytes_eq x y ≡ false)
+  free_in_chains = record {
+    inside = λ l t fs h. among_first (names_if true t) (names_in_fields (λ n. is_name_place ParenthesizedExpression l (suc n)) fs) y h;
+    content = λ l t h. among_first (names_if true t) [] y h;
+    operand = λ l t h. among_first (names_if true t) [] y h;
+    object = λ l o p h. among_first (names_if true o) (names_if (flag_at 0 l.flags) p ++ []) y h;
+    callee = λ l f ts h. among_first (names_if true f) (names_in_trees ts ++ []) y h;
+    member = step_free;
+    call = λ l f q ts h g. call_free q ts g (arguments_free l f ts h);
+    call_with = λ l f q r ts h g k. call_free q (r before ts) g (among_both (names_if true r) (names_in_trees ts) y k (arguments_free l f ts h));
+    name = name_free;
+    takes = λ x e fine h. each_free (identifier x ∷ e ∷ []) (name_free x fine, (h, tt));
+    static_member = λ c z h. each_free (c ∷ []) (h, tt);
+    call_one = λ c r h g. call_free c (r before empty) h (among_both (names_if true r) [] y g refl);
+    this = refl;
+    null = refl;
+    void_zero = refl;
+    truth = refl;
+    equals = λ l r h g. each_free (l ∷ r ∷ []) (h, (g, tt));
+    loosely_equals = λ l r h g. each_free (l ∷ r ∷ []) (h, (g, tt));
+    or = λ l r h g. each_free (l ∷ r ∷ []) (h, (g, tt));
+    choice = λ m t a b h g k. each_free (t ∷ a ∷ b ∷ []) (h, (g, (k, tt)));
+    deletes = λ e h. each_free (e ∷ []) (h, tt);
+  }
 
   module _ (math : bytes_eq (codes "Math") y ≡ false) where
     free_passes_on : PassesOn Free (λ x. bytes_eq x y ≡ false)
@@ -104,13 +144,13 @@ pub left_no_name : (k : AstType) → is_left_kind k ≡ true → is_name k ≡ f
 left_no_name Identifier e = absurd (cc e)
 left_no_name _ e = refl
 
-pub row_without : (w : Whole) {xs : List Text} (y : Text) → one_of xs y ≡ false → bytes_eq (codes "Math") y ≡ false → {n : Need} {a b : Tree} (counts : Bool) → core_row w xs n a b → Without y counts a → Without y counts b
-row_without w {xs} y other math {n} {a} {b} counts r h =
-    let kinds = row_kind w r in
-    let before : is_among (names_if true a) y ≡ false = rw (same_names counts a (row_no_name (kind_of a) kinds.acted)) at h.free in
+pub row_without : (no_all : Bool) (w : Whole) {xs : List Text} (y : Text) → one_of xs y ≡ false → bytes_eq (codes "Math") y ≡ false → {n : Need} {a b : Tree} (counts : Bool) → core_row no_all w xs n a b → Without y counts a → Without y counts b
+row_without no_all w {xs} y other math {n} {a} {b} counts r h =
+    let kinds = row_kind no_all w r in
+    let free_before : is_among (names_if true a) y ≡ false = rw (same_names counts a (row_no_name (kind_of a) kinds.acted)) at h.free in
     record {
-      core = row_core w r h.core;
-      free = rw (same_names counts b (left_no_name (kind_of b) kinds.left)) (row_good (Free y) (λ x. bytes_eq x y ≡ false) (free_passes_on y math) w r (others xs y other) before);
+      core = row_core no_all w r h.core;
+      free = rw (same_names counts b (left_no_name (kind_of b) kinds.left)) (row_good (Free y) (λ x. bytes_eq x y ≡ false) (free_passes_on y math) (free_in_chains y) no_all w r (others xs y other) free_before);
     }
 
 -- NAMES THAT ARE WRITTEN
@@ -174,5 +214,36 @@ module _ (y : Text) where
     sequence = λ m fs h. or_both (any_in_trees (writes y) (trees fs)) false (trees_unwritten fs h) refl;
   }
 
-pub row_unwritten : (w : Whole) {xs : List Text} (y : Text) → one_of xs y ≡ false → {n : Need} {a b : Tree} → core_row w xs n a b → is_written y a ≡ false → is_written y b ≡ false
-row_unwritten w {xs} y other r h = row_good (Unwritten y) (λ x. bytes_eq x y ≡ false) (unwritten_passes_on y) w r (others xs y other) h
+  call_unwritten : (q : Tree) (ts : Trees) → Unwritten q → any_in_trees (writes y) ts ≡ false → (any_node (writes y) q || (any_in_trees (writes y) ts || false)) ≡ false
+  call_unwritten q ts h g = or_both (any_node (writes y) q) (any_in_trees (writes y) ts || false) h (or_both (any_in_trees (writes y) ts) false g refl)
+
+  arguments_unwritten : (l : Label) (f : Tree) (ts : Trees) → Unwritten (node CallExpression l (one f then (many ts then done))) → any_in_trees (writes y) ts ≡ false
+  arguments_unwritten l f ts h = or_first (any_in_trees (writes y) ts) false (or_second (any_node (writes y) f) (any_in_trees (writes y) ts || false) h)
+
+  unwritten_in_chains : ChainPassesOn Unwritten (λ x. bytes_eq x y ≡ false)
+  unwritten_in_chains = record {
+    inside = λ l t fs h. first_unwritten ParenthesizedExpression l t fs h;
+    content = λ l t h. first_unwritten ChainExpression l t done h;
+    operand = λ l t h. first_unwritten UnaryExpression l t done h;
+    object = λ l o p h. first_unwritten MemberExpression l o (one p then done) h;
+    callee = λ l f ts h. first_unwritten CallExpression l f (many ts then done) h;
+    member = λ l computed optional o q p e h g. each_unwritten (q ∷ p ∷ []) (g, (second_unwritten MemberExpression l o p h, tt));
+    call = λ l f q ts h g. call_unwritten q ts g (arguments_unwritten l f ts h);
+    call_with = λ l f q r ts h g k. call_unwritten q (r before ts) g (or_both (any_node (writes y) r) (any_in_trees (writes y) ts) k (arguments_unwritten l f ts h));
+    name = λ x fine. refl;
+    takes = λ x e fine h. assigns (made (Some (codes "=") ∷ []) []) (identifier x) e (or_both (bytes_eq x y) false fine refl) refl h;
+    static_member = λ c z h. each_unwritten (c ∷ identifier z ∷ []) (h, (refl, tt));
+    call_one = λ c r h g. call_unwritten c (r before empty) h (or_both (any_node (writes y) r) false g refl);
+    this = refl;
+    null = refl;
+    void_zero = refl;
+    truth = refl;
+    equals = λ l r h g. each_unwritten (l ∷ r ∷ []) (h, (g, tt));
+    loosely_equals = λ l r h g. each_unwritten (l ∷ r ∷ []) (h, (g, tt));
+    or = λ l r h g. each_unwritten (l ∷ r ∷ []) (h, (g, tt));
+    choice = λ m t a b h g k. each_unwritten (t ∷ a ∷ b ∷ []) (h, (g, (k, tt)));
+    deletes = λ e h. each_unwritten (e ∷ []) (h, tt);
+  }
+
+pub row_unwritten : (no_all : Bool) (w : Whole) {xs : List Text} (y : Text) → one_of xs y ≡ false → {n : Need} {a b : Tree} → core_row no_all w xs n a b → is_written y a ≡ false → is_written y b ≡ false
+row_unwritten no_all w {xs} y other r h = row_good (Unwritten y) (λ x. bytes_eq x y ≡ false) (unwritten_passes_on y) (unwritten_in_chains y) no_all w r (others xs y other) h

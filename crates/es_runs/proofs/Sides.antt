@@ -9,7 +9,7 @@ use Rattle.es_tree.specs.Constructs.{is_nullish_coalescing, has_nullish_coalesci
 use Rattle.es_tree.specs.Walks.{all_nodes, all_in_fields, all_in_field, all_in_trees, any_node, any_in_fields, any_in_field, any_in_trees}
 use Rattle.es_tree.specs.Tree.{Tree, node, Label, Fields, done, ◌then◌, Field, missing, one, many, statements, Trees, empty, ◌before◌, trees}
 use Rattle.es_tree.specs.declared.ast_type.AstType.{AstType}
-use Rattle.es_tree.specs.declared.ast_type.AstType.TheVariants.{LogicalExpression, MemberExpression, ParenthesizedExpression}
+use Rattle.es_tree.specs.declared.ast_type.AstType.TheVariants.{CallExpression, ChainExpression, LogicalExpression, MemberExpression, ParenthesizedExpression, UnaryExpression}
 use Rattle.es_runs.specs.Alike.{Need}
 use Rattle.es_runs.specs.Open.{Pending, Open, OpenFields, closed, closed_fields, declarator_node, declared, with_vars}
 use Rattle.es_runs.specs.Open.OpenFields.{ends, ◌and◌}
@@ -21,8 +21,10 @@ use Rattle.es_runs.specs.OpenSteps.Ledger.{ledger}
 use Rattle.es_runs.specs.OpenRules.{with_names, CoreRule}
 use Rattle.es_runs.specs.OpenRules.Replacing.{replaces}
 use Rattle.es_runs.specs.OpenRules.Writing.{writes}
+use Rattle.es_runs.proofs.ChainFacts.{ChainPassesOn}
 use Rattle.es_runs.proofs.CoreRows.{core_row}
-use Rattle.es_runs.proofs.RowFacts.{Each, PassesOn, row_good}
+use Rattle.es_runs.proofs.RowFacts.{Each, PassesOn, none_asked}
+use Rattle.es_runs.proofs.RowKeeps.{row_good}
 use Rattle.es_runs.proofs.Named.{and_left, and_right, or_both, or_first, or_second}
 use Rattle.es_runs.proofs.OpenTests.{all-bare, all-opened, all-closed, pending_all, open_all, Passes, spot_all, step_passes, steps_pass}
 
@@ -152,9 +154,34 @@ sided_passes_on = record {
   sequence = λ m fs h. rw (trees_sided fs h) refl;
 }
 
-none_asked : (xs : List Text) → Each (λ x. Unit {0}) xs
-none_asked [] = tt
-none_asked (x ∷ xs) = (tt, none_asked xs)
+-- of a call
+arguments_sided : (l : Label) (f : Tree) (ts : Trees) → Sided (node CallExpression l (one f then (many ts then done))) → all_in_trees sided ts ≡ true
+arguments_sided l f ts h = and_left (all_in_trees sided ts) true (and_right (all_nodes sided f) (all_in_trees sided ts && true) (below_sided CallExpression l (one f then (many ts then done)) h))
+
+sided_in_chains : ChainPassesOn Sided (λ x. Unit {0})
+sided_in_chains = record {
+  inside = λ l t fs h. first_sided ParenthesizedExpression l t fs h;
+  content = λ l t h. first_sided ChainExpression l t done h;
+  operand = λ l t h. first_sided UnaryExpression l t done h;
+  object = λ l o p h. first_sided MemberExpression l o (one p then done) h;
+  callee = λ l f ts h. first_sided CallExpression l f (many ts then done) h;
+  member = λ l computed optional o q p e h g. rw (g, second_sided MemberExpression l o p done h) refl;
+  call = λ l f q ts h g. rw (g, arguments_sided l f ts h) refl;
+  call_with = λ l f q r ts h g k. rw (g, k, arguments_sided l f ts h) refl;
+  name = λ x fine. refl;
+  takes = λ x e fine h. rw h refl;
+  static_member = λ c y h. rw h refl;
+  call_one = λ c r h g. rw (h, g) refl;
+  this = refl;
+  null = refl;
+  void_zero = refl;
+  truth = refl;
+  equals = λ l r h g. rw (h, g) refl;
+  loosely_equals = λ l r h g. rw (h, g) refl;
+  or = λ l r h g. rw (h, g) refl;
+  choice = λ m t a b h g k. rw (h, g, k) refl;
+  deletes = λ e h. rw h refl;
+}
 
 -- what is pending passes with more names
 more_sided : (xs : List Text) (p : Pending) → pending_all sided p ≡ true → pending_all sided (with_vars xs p) ≡ true
@@ -163,34 +190,35 @@ more_sided xs p h =
     (append_all sided p.vars (map declarator_node xs) (and_left (all_in_trees sided (trees p.vars)) (all_in_trees sided (trees p.lets)) h) (made_sided xs))
     (and_right (all_in_trees sided (trees p.vars)) (all_in_trees sided (trees p.lets)) h)
 
-row_sided : (w : Whole) (p : Pending) (xs : List Text) (n : Need) (t u : Tree) → core_row w xs n t u → Passes sided (ledger w p) (all_nodes sided t) → Passes sided (ledger (with_names xs w) (with_vars xs p)) (all_nodes sided u)
-row_sided w p xs n t u r h = record { around = more_sided xs p h.around; here = row_good Sided (λ x. Unit {0}) sided_passes_on w r (none_asked xs) h.here }
+row_sided : (no_all : Bool) (w : Whole) (p : Pending) (xs : List Text) (n : Need) (t u : Tree) → core_row no_all w xs n t u → Passes sided (ledger w p) (all_nodes sided t) → Passes sided (ledger (with_names xs w) (with_vars xs p)) (all_nodes sided u)
+row_sided no_all w p xs n t u r h = record { around = more_sided xs p h.around; here = row_good Sided (λ x. Unit {0}) sided_passes_on sided_in_chains no_all w r (none_asked xs) h.here }
 
-rule_sided : (n : Need) (s : Ledger) (x : Spot) (s' : Ledger) (y : Spot) → CoreRule n s x s' y → Passes sided s (spot_all sided x) → Passes sided s' (spot_all sided y)
-rule_sided n s _ _ _ (inl (writes {p = p} {ts = ts})) h =
+rule_sided : (no_all : Bool) (n : Need) (s : Ledger) (x : Spot) (s' : Ledger) (y : Spot) → CoreRule no_all n s x s' y → Passes sided s (spot_all sided x) → Passes sided s' (spot_all sided y)
+rule_sided no_all n s _ _ _ (inl (writes {p = p} {ts = ts})) h =
     let pending = and_left (pending_all sided p) (all_in_trees sided ts) h.here in
     record {
       around = h.around;
       here = declared_sided (codes "var") p.vars (declared (codes "let") p.lets ts) (and_left (all_in_trees sided (trees p.vars)) (all_in_trees sided (trees p.lets)) pending)
           (declared_sided (codes "let") p.lets ts (and_right (all_in_trees sided (trees p.vars)) (all_in_trees sided (trees p.lets)) pending) (and_right (pending_all sided p) (all_in_trees sided ts) h.here));
     }
-rule_sided n _ _ _ _ (inr (inl (replaces {w = w} {p = p} {t = t} {u = u} xs r))) h = row_sided w p xs n t u (inl r) h
-rule_sided n _ _ _ _ (inr (inr (inl (replaces {w = w} {p = p} {t = t} {u = u} xs r)))) h = row_sided w p xs n t u (inr (inl r)) h
-rule_sided n _ _ _ _ (inr (inr (inr (replaces {w = w} {p = p} {t = t} {u = u} xs r)))) h = row_sided w p xs n t u (inr (inr r)) h
+rule_sided no_all n _ _ _ _ (inr (inl (replaces {w = w} {p = p} {t = t} {u = u} xs r))) h = row_sided no_all w p xs n t u (inl r) h
+rule_sided no_all n _ _ _ _ (inr (inr (inl (inl (replaces {w = w} {p = p} {t = t} {u = u} xs r))))) h = row_sided no_all w p xs n t u (inr (inl (inl r))) h
+rule_sided no_all n _ _ _ _ (inr (inr (inl (inr (replaces {w = w} {p = p} {t = t} {u = u} xs r))))) h = row_sided no_all w p xs n t u (inr (inl (inr r))) h
+rule_sided no_all n _ _ _ _ (inr (inr (inr (replaces {w = w} {p = p} {t = t} {u = u} xs r)))) h = row_sided no_all w p xs n t u (inr (inr r)) h
 
 -- STEPS
 
 -- with what is pending, whatever is reached by a step has its sides
-pub step_sided : {n : Need} {s s' : Ledger} {o u : Open} → Step CoreRule n s o s' u → Passes sided s (open_all sided o) → Passes sided s' (open_all sided u)
-step_sided = step_passes sided CoreRule fields_sided rule_sided
+pub step_sided : (no_all : Bool) {n : Need} {s s' : Ledger} {o u : Open} → Step (CoreRule no_all) n s o s' u → Passes sided s (open_all sided o) → Passes sided s' (open_all sided u)
+step_sided no_all = step_passes sided (CoreRule no_all) fields_sided (rule_sided no_all)
 
 -- the same of the tree alone
 pub closed_sided : (o : Open) → open_all sided o ≡ true → all_nodes sided (closed o) ≡ true
 closed_sided = all-closed sided
 
-pub reached_sided : (p q : Tree) (names : List Text) → Reached CoreRule p names q → all_nodes sided p ≡ true → all_nodes sided q ≡ true
-reached_sided p q names reached h =
-    let found = steps_pass sided CoreRule fields_sided rule_sided reached.steps (record { around = refl; here = all-opened sided (bare p) ∙ all-bare sided sided-bare p ∙ h }) in
+pub reached_sided : (no_all : Bool) (p q : Tree) (names : List Text) → Reached (CoreRule no_all) p names q → all_nodes sided p ≡ true → all_nodes sided q ≡ true
+reached_sided no_all p q names reached h =
+    let found = steps_pass sided (CoreRule no_all) fields_sided (rule_sided no_all) reached.steps (record { around = refl; here = all-opened sided (bare p) ∙ all-bare sided sided-bare p ∙ h }) in
     sym (all-bare sided sided-bare q) ∙ sym (all-opened sided (bare q)) ∙ found.here
 
 -- NO `??` IS LEFT

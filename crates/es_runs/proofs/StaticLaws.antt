@@ -126,9 +126,9 @@ written_static w o h =
     ap breaks tree ∙ none-keep [] (visits Other t) (both_keep [] (visits Other t) keeps (subst (λ ns. Agree [] ns) (sym (program_names t found.known.shaped found.known.placed)) agree))
 
 pub law_static_rules_proof : LawStaticRules
-law_static_rules_proof p s o is kept steps = written_static (whole_in s) o (all_static steps (source_static p is kept))
+law_static_rules_proof no_all p s o is kept steps = written_static (whole_in s) o (all_static no_all steps (source_static p is kept))
 
 pub law_reached_rules_proof : LawReachedRules
-law_reached_rules_proof p q names is kept reached =
-    let none = law_static_rules_proof p _ (opened (bare q)) is kept reached.steps in
+law_reached_rules_proof no_all p q names is kept reached =
+    let none = law_static_rules_proof no_all p _ (opened (bare q)) is kept reached.steps in
     bare_breaks q (keep-none [] (visits Other (bare q)) (ap breaks (sym (written_opened (bare q))) ∙ none))

@@ -142,23 +142,23 @@ each_of P (x ∷ xs) h = (h x (rw (bytes_eq-self x) refl), each_of P xs (λ y e.
     later true b e = refl
     later false b e = e
 
-module _ (w : Whole) (o u : Open) (h : IsStatic w o) where
+module _ (no_all : Bool) (w : Whole) (o u : Open) (h : IsStatic w o) where
   -- names that aren't in use aren't declared
   fresh_apart : (y : Text) → w.in_use y ≡ false → declares (declared_of (closed o)) y ≡ false
   fresh_apart y e =
       let none : (one_of h.program.names y || is_declared (declared_of (closed o)) y) ≡ false = sym (declared-all_pending h.program.names (declared_of (closed o)) y) ∙ h.program.known.declared y e in
       sym (is_declared-declares (declared_of (closed o)) y) ∙ or_second (one_of h.program.names y) (is_declared (declared_of (closed o)) y) none
 
-  static_row : (ys : List Text) → OnePlace (RuleOf w ys) all_of_it (closed o) (closed u) → own_pending u ≡ with_vars ys (own_pending o) → IsOpenProgram (with_names ys w) u → IsStatic (with_names ys w) u
+  static_row : (ys : List Text) → OnePlace (RuleOf no_all w ys) all_of_it (closed o) (closed u) → own_pending u ≡ with_vars ys (own_pending o) → IsOpenProgram (with_names ys w) u → IsStatic (with_names ys w) u
   static_row ys r pending after =
-      let same : declared_of (closed u) ≡ declared_of (closed o) = (shaped_step w ys r h.program.known.shaped).1 in
+      let same : declared_of (closed u) ≡ declared_of (closed o) = (shaped_step no_all w ys r h.program.known.shaped).1 in
       let P : Text → Type 0 = λ x. declares (declared_of (closed u)) x ≡ false in
-      let fresh : FreshInTurn w.in_use ys = somewhere (RuleOf w ys) (FreshInTurn w.in_use ys) (λ n a b k. row_fresh w k) r in
+      let fresh : FreshInTurn w.in_use ys = somewhere (RuleOf no_all w ys) (FreshInTurn w.in_use ys) (λ n a b k. row_fresh no_all w k) r in
       let earlier : Each P h.program.names = subst (λ ds. Each (λ x. declares ds x ≡ false) h.program.names) (sym same) (h.apart h.program.names h.program.pending) in
       let now : own_pending u ≡ plain (h.program.names ++ ys) = pending ∙ ap (λ p. with_vars ys p) h.program.pending ∙ ap (λ ds. record { vars = ds; lets = [] }) (sym (map-append declarator_node h.program.names ys)) in
       record {
         program = after;
-        keeps = step_keeps (RuleOf w ys) (λ n a b k. row_kind w k) (λ n a b k p. row_keeps w k p) Other r h.keeps;
+        keeps = step_keeps (RuleOf no_all w ys) (λ n a b k. row_kind no_all w k) (λ n a b k p. row_keeps no_all w k p) Other r h.keeps;
         agree = subst (λ ds. Agree [] (map to_name ds)) (sym same) h.agree;
         apart = λ xs e. subst (λ zs. Each P zs) (plain_names (h.program.names ++ ys) xs (sym now ∙ e)) (each_both P h.program.names ys earlier (each_of P ys (λ y d. ap (λ ds. declares ds y) same ∙ fresh_apart y (fresh_free fresh y d))));
       }
@@ -175,13 +175,13 @@ module _ (w : Whole) (o u : Open) (h : IsStatic w o) where
         apart = λ xs d. subst (λ zs. Each (λ x. declares (declared_of (closed u)) x ≡ false) zs) (plain_names [] xs (sym pending ∙ d)) tt;
       }
 
-one_static : (s s' : Ledger) (o u : Open) → Step CoreRule all_of_it s o s' u → IsStatic (whole_in s) o → IsStatic (whole_in s') u
-one_static (ledger w p) s' o u r h = at (program_step w p r h.program.one_list) (one_goes (ledger w p) s' o u r h.program).after
+one_static : (no_all : Bool) (s s' : Ledger) (o u : Open) → Step (CoreRule no_all) all_of_it s o s' u → IsStatic (whole_in s) o → IsStatic (whole_in s') u
+one_static no_all (ledger w p) s' o u r h = at (program_step no_all w p r h.program.one_list) (one_goes no_all (ledger w p) s' o u r h.program).after
   where
-    at : ProgramStep w o s' u → IsOpenProgram (whole_in s') u → IsStatic (whole_in s') u
-    at (replaced ys k lists e pending) after = subst (λ v. IsStatic v u) (sym e) (static_row w o u h ys k pending (subst (λ v. IsOpenProgram v u) e after))
-    at (wrote tree e pending) after = subst (λ v. IsStatic v u) (sym e) (static_writing w o u h tree pending (subst (λ v. IsOpenProgram v u) e after))
+    at : ProgramStep no_all w o s' u → IsOpenProgram (whole_in s') u → IsStatic (whole_in s') u
+    at (replaced ys k lists e pending) after = subst (λ v. IsStatic v u) (sym e) (static_row no_all w o u h ys k pending (subst (λ v. IsOpenProgram v u) e after))
+    at (wrote tree e pending) after = subst (λ v. IsStatic v u) (sym e) (static_writing no_all w o u h tree pending (subst (λ v. IsOpenProgram v u) e after))
 
-pub all_static : {s s' : Ledger} {o u : Open} → Steps (Step CoreRule all_of_it) s o s' u → IsStatic (whole_in s) o → IsStatic (whole_in s') u
-all_static stays h = h
-all_static (goes {s = s} {s' = s'} {t = t} {u = u} r rest) h = all_static rest (one_static s s' t u r h)
+pub all_static : (no_all : Bool) {s s' : Ledger} {o u : Open} → Steps (Step (CoreRule no_all) all_of_it) s o s' u → IsStatic (whole_in s) o → IsStatic (whole_in s') u
+all_static no_all stays h = h
+all_static no_all (goes {s = s} {s' = s'} {t = t} {u = u} r rest) h = all_static no_all rest (one_static no_all s s' t u r h)

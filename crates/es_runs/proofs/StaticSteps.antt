@@ -29,6 +29,8 @@ acted_simple : (a : Tree) → is_row_kind (kind_of a) ≡ true → is_simple_tar
 acted_simple (node LogicalExpression l fs) h = refl
 acted_simple (node BinaryExpression l fs) h = refl
 acted_simple (node AssignmentExpression l fs) h = refl
+acted_simple (node ChainExpression l fs) h = refl
+acted_simple (node UnaryExpression l fs) h = refl
 acted_simple (node _ l fs) h = absurd (cc h)
 
 acted_optional : (a : Tree) → is_row_kind (kind_of a) ≡ true → has_optional a ≡ false

@@ -1,7 +1,7 @@
 -- What is never cut short.
-use Rattle.std.proofs.Common.{◌≡◌, refl, List, [], ◌∷◌}
+use Rattle.std.proofs.Common.{List, [], ◌∷◌}
 use Rattle.es_tree.specs.Words.{Text}
-use Rattle.es_runs.specs.Machine.{Value, M, ◌>>=◌, onward, State, Result, Cell, Move, Question, next, ask}
+use Rattle.es_runs.specs.Machine.{M, ◌>>=◌, onward, State, Result, Cell, Move, Question, next, ask}
 use Rattle.es_runs.specs.Machine.State.{state}
 use Rattle.es_runs.specs.Machine.Move.{answer, throw}
 use Rattle.es_runs.specs.Machine.Stop.{cut, uncallable, throws, waits, unknown}
@@ -10,7 +10,6 @@ use Rattle.es_runs.specs.Machine.Result.{gives, stops}
 use Rattle.es_runs.specs.Core.{World, Binding, Reference, get_value, read_name, read_cell}
 use Rattle.es_runs.specs.Core.Binding.{free, changeable, constant}
 use Rattle.es_runs.specs.Core.Reference.{named, property, plain}
-use Rattle.es_runs.proofs.Lists.{closed_value}
 
 -- a result that isn't cut short
 abbrev pub Goes : {A : Type 0} → Result A → Type 0
@@ -30,14 +29,6 @@ onward_goes (stops unknown s) k h g = tt
 
 pub bind_uncut : {A B : Type 0} (m : M A) (k : A → M B) → NeverCut m → ((a : A) → NeverCut (k a)) → NeverCut (m >>= k)
 bind_uncut m k h g s = onward_goes (m s) k (h s) g
-
-pub goes_closed : (r : Result Value) → Goes r → closed_value r ≡ r
-goes_closed (gives a s) h = refl
-goes_closed (stops (throws u) s) h = refl
-goes_closed (stops waits s) h = refl
-goes_closed (stops uncallable s) h = refl
-goes_closed (stops cut s) h = absurd h
-goes_closed (stops unknown s) h = refl
 
 next_goes : (c : Text → Cell) (ms : List Move) (qs : List Question) → Goes (next c ms qs)
 next_goes c [] qs = tt

@@ -172,6 +172,16 @@ made_formed ChainExpression fs e = absurd (cc e)
 made_formed AssignmentExpression fs e = absurd (cc e)
 made_formed _ fs e = refl
 
+-- a call by its callee and its arguments
+call_stands : (l : Label) (f : Tree) (ts : Trees) → is_part (kind_of f) ≡ true → trees_stand CallExpression ts ≡ true → undeclaring CallExpression l (one f then (many ts then done)) ≡ true
+call_stands l f ts h g =
+    and_from (may_stand CallExpression (kind_of f) && (trees_stand CallExpression ts && true)) true
+    (and_from (may_stand CallExpression (kind_of f)) (trees_stand CallExpression ts && true) (part_stands CallExpression (kind_of f) refl h) (and_from (trees_stand CallExpression ts) true g refl)) refl
+
+arguments_stand : (l : Label) (f : Tree) (ts : Trees) → undeclaring CallExpression l (one f then (many ts then done)) ≡ true → trees_stand CallExpression ts ≡ true
+arguments_stand l f ts h =
+    and_left (trees_stand CallExpression ts) true (and_right (may_stand CallExpression (kind_of f)) (trees_stand CallExpression ts && true) (and_left (fields_stand CallExpression (one f then (many ts then done))) true h))
+
 pub undeclaring_allows : Allows undeclaring is_part
 undeclaring_allows = record {
   parts = λ k l fs e h. parts_below k fs (opened_expression k e) (and_left (fields_stand k fs) (is_formed k fs) h);
@@ -181,18 +191,20 @@ undeclaring_allows = record {
   sequence_kind = refl;
   makes = λ k l ts e h. and_from (fields_stand k (one_each ts)) (is_formed k (one_each ts)) (each_stands k ts (made_no_chain k e) h) (made_formed k (one_each ts) e);
   assignment = λ l t q h g. and_from (fields_stand AssignmentExpression (one_each (t ∷ q ∷ []))) true (each_stands AssignmentExpression (t ∷ q ∷ []) refl (and_from (is_part (kind_of t)) (is_part (kind_of q) && true) h (and_from (is_part (kind_of q)) true g refl))) refl;
-  call = λ l c ts h g. and_from (may_stand CallExpression (kind_of c) && (trees_stand CallExpression (trees ts) && true)) true (and_from (may_stand CallExpression (kind_of c)) (trees_stand CallExpression (trees ts) && true) (part_stands CallExpression (kind_of c) refl h) (and_from (trees_stand CallExpression (trees ts)) true (listed_stand CallExpression ts refl g) refl)) refl;
+  call = λ l c ts h g. call_stands l c (trees ts) h (listed_stand CallExpression ts refl g);
   sequence = λ l ts h. and_from (trees_stand SequenceExpression (trees ts) && true) true (and_from (trees_stand SequenceExpression (trees ts)) true (listed_stand SequenceExpression ts refl h) refl) refl;
+  recalled = λ l m f q ts h g. call_stands m q ts g (arguments_stand l f ts h);
+  received = λ l m f q r ts h g k. call_stands m q (r before ts) g (and_from (may_stand CallExpression (kind_of r)) (trees_stand CallExpression ts) (part_stands CallExpression (kind_of r) refl k) (arguments_stand l f ts h));
 }
 
-pub row_undeclaring : (w : Whole) {xs : List Text} {n : Need} {a b : Tree} → core_row w xs n a b → all_nodes undeclaring a ≡ true → all_nodes undeclaring b ≡ true
+pub row_undeclaring : (no_all : Bool) (w : Whole) {xs : List Text} {n : Need} {a b : Tree} → core_row no_all w xs n a b → all_nodes undeclaring a ≡ true → all_nodes undeclaring b ≡ true
 row_undeclaring = row_passes undeclaring is_part undeclaring_allows
 
 -- STEPS OF ROWS
 
-module _ (w : Whole) (xs : List Text) where
+module _ (no_all : Bool) (w : Whole) (xs : List Text) where
   abbrev Row : Need → Tree → Tree → Type 0
-  Row n a b = core_row w xs n a b
+  Row n a b = core_row no_all w xs n a b
 
   -- where a node stands, what a row leaves in its place may stand
   row_stands : (k j i : AstType) → is_row_kind j ≡ true → is_left_kind i ≡ true → may_stand k j ≡ true → may_stand k i ≡ true
@@ -208,7 +220,7 @@ module _ (w : Whole) (xs : List Text) where
       at true e = let linked : is_linked k j ≡ true = and_right (is_placed k j) (is_linked k j) h in absurd (no_link j acted (rw e at linked))
 
   place_stands : (k : AstType) {n : Need} {t u : Tree} → OnePlace Row n t u → may_stand k (kind_of t) ≡ true → may_stand k (kind_of u) ≡ true
-  place_stands k (this_place {a = a} {b = b} r) h = let kinds = row_kind w r in row_stands k (kind_of a) (kind_of b) kinds.acted kinds.left h
+  place_stands k (this_place {a = a} {b = b} r) h = let kinds = row_kind no_all w r in row_stands k (kind_of a) (kind_of b) kinds.acted kinds.left h
   place_stands k (below r) h = h
 
   trees_still : (k : AstType) {n : Need} {ts us : Trees} → OneNode Row n ts us → trees_stand k ts ≡ true → trees_stand k us ≡ true
@@ -249,9 +261,9 @@ module _ (w : Whole) (xs : List Text) where
   formed-same _ r = refl
 
   -- a node above the place passes as before
-  pub undeclaring_above : (k : AstType) (l : Label) (c : ℕ → Need) (fs gs : Fields) → OneField (core_row w xs) c fs gs → undeclaring k l fs ≡ true → undeclaring k l gs ≡ true
+  pub undeclaring_above : (k : AstType) (l : Label) (c : ℕ → Need) (fs gs : Fields) → OneField (core_row no_all w xs) c fs gs → undeclaring k l fs ≡ true → undeclaring k l gs ≡ true
   undeclaring_above k l c fs gs r h =
       and_from (fields_stand k gs) (is_formed k gs) (fields_still k r (and_left (fields_stand k fs) (is_formed k fs) h)) (formed-same k r ∙ and_right (fields_stand k fs) (is_formed k fs) h)
 
-  pub step_undeclaring : {n : Need} {t u : Tree} → OnePlace (core_row w xs) n t u → all_nodes undeclaring t ≡ true → all_nodes undeclaring u ≡ true
-  step_undeclaring r h = step_all undeclaring (core_row w xs) undeclaring_above (λ n a b. row_undeclaring w) r h
+  pub step_undeclaring : {n : Need} {t u : Tree} → OnePlace (core_row no_all w xs) n t u → all_nodes undeclaring t ≡ true → all_nodes undeclaring u ≡ true
+  step_undeclaring r h = step_all undeclaring (core_row no_all w xs) undeclaring_above (λ n a b. row_undeclaring no_all w) r h

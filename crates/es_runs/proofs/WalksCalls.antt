@@ -96,19 +96,19 @@ module _ (hidden steady : Text → Bool) (w v : World) (same : SameWorld hidden 
             (as_plain_same (onward_same F (values_alike F w v same arguments s t g) (argument_step f u)))))
 
     -- the callee is asked for, stored and tested
-    module _ (c : Text) (c_hidden : hidden c ≡ true) (r : Meaning) (names : Text → Bool) (kept : (z : Text) → names z ≡ true → (hidden z ≡ true) ⊎ (steady z ≡ true)) (others : (z : Text) → names z ≡ true → bytes_eq z c ≡ false) where
+    module _ (no_all : Bool) (c : Text) (c_hidden : hidden c ≡ true) (r : Meaning) (names : Text → Bool) (kept : (z : Text) → names z ≡ true → (hidden z ≡ true) ⊎ (steady z ≡ true)) (others : (z : Text) → names z ≡ true → bytes_eq z c ≡ false) where
       keyed : (u : Value) (d : Text → Cell) → AllSet hidden d → ((t : State) → ((z : Text) → names z ≡ true → cells t z ≡ d z) → value v r t ≡ gives u t) → {m q : Result Value} → Same (K d) Equal m q →
-          Same F (SameReference F) (onward (onward (onward m (λ k. return (property u k))) (plain_call w true es)) as_plain) (onward (onward (onward q (λ k. return (property u k))) (get_value v)) (store_and_test v c (made_call c r)))
+          Same F (SameReference F) (onward (onward (onward m (λ k. return (property u k))) (plain_call w true es)) as_plain) (onward (onward (onward q (λ k. return (property u k))) (get_value v)) (store_and_test no_all v c (made_call c r)))
       keyed u d set again (both_give {a = k} {s = s} {t = t} equal g) =
           rw (finish_after u (ask (get u k) s))
-          (kept_store hidden steady w v same vars c c_hidden d set (ask_alike (K d) (get u k) s t g) (finishes u) (made_call c r)
+          (kept_store hidden steady w v same vars no_all c c_hidden d set (ask_alike (K d) (get u k) s t g) (finishes u) (made_call c r)
           (λ f s2 t2 a e same_cells. member_called c c_hidden r f u s2 t2 a e (again t2 (λ z i. same_cells z (kept z i) (others z i)))))
       keyed u d set again (both_stop g) = both_stop (kept_agree hidden steady d set _ _ g)
       keyed u d set again outside = outside
 
       pub from_object : (computed : Bool) (p p' : Meaning) → ((d : Text → Cell) → Like (K d) w v (member_needs true computed 1) p p') → {m q : Result Value} → Held hidden v r names m q →
           Same F (SameReference F) (onward (onward (onward m (λ u. key w computed p >>= λ k. return (property u k))) (plain_call w true es)) as_plain)
-          (onward (onward (onward q (λ u. key v computed p' >>= λ k. return (property u k))) (get_value v)) (store_and_test v c (made_call c r)))
+          (onward (onward (onward q (λ u. key v computed p' >>= λ k. return (property u k))) (get_value v)) (store_and_test no_all v c (made_call c r)))
       from_object computed p p' keys (held {s = s} {t = t} u again g) = keyed u (cells t) (now_set hidden steady s t g) again (key_alike (K (cells t)) w v same true computed p p' (keys (cells t)) s t (now_kept hidden steady s t g))
       from_object computed p p' keys (neither g) = both_stop g
       from_object computed p p' keys not_called = outside

@@ -18,7 +18,7 @@ use Rattle.es_runs.specs.Core.Reference.{property}
 use Rattle.es_runs.specs.Machine.{Value, M, ◌>>=◌, onward, return, State, Result, is_nullish}
 use Rattle.es_runs.specs.Machine.Stop.{throws, waits, uncallable, cut, unknown}
 use Rattle.es_runs.specs.Machine.Result.{gives, stops}
-use Rattle.es_runs.specs.OptionalChaining.{Way, is_chain_kind, is_eval, is_link, is_member, is_name_among, or_taken, has_tests, member_at, call_method, tests_of, Tested, Walked}
+use Rattle.es_runs.specs.OptionalChaining.{Way, is_chain_kind, is_eval, is_link, is_member, is_name_among, has_tests, member_at, call_method, tests_of, Tested, Walked}
 use Rattle.es_runs.specs.OptionalChaining.Tested.{as_name, in_holder, in_temporary}
 use Rattle.es_runs.specs.OptionalChaining.Called.{by_name, by_value, by_first_member, by_later_member}
 use Rattle.es_runs.specs.OptionalChaining.Walked.{base, plain_member, plain_call, marked_member, marked_call}
@@ -67,13 +67,13 @@ some_text None = []
 
 -- TESTS
 
-pub more_tests : (ts : List Tree) (u : Tree) (us : List Tree) → ts ++ u ∷ us ≡ [] → ⊥
-more_tests [] u us e = absurd (cc e)
-more_tests (t ∷ ts) u us e = absurd (cc e)
+more_has : (ts : List Tree) (no_all : Bool) (e again : Tree) → has_tests (ts ++ tests_of no_all e again) ≡ true
+more_has [] true e again = refl
+more_has [] false e again = refl
+more_has (t ∷ ts) no_all e again = refl
 
-pub more_has : (ts : List Tree) (u : Tree) (us : List Tree) → has_tests (ts ++ u ∷ us) ≡ true
-more_has [] u us = refl
-more_has (t ∷ ts) u us = refl
+pub more_tests : (ts : List Tree) (no_all : Bool) (e again : Tree) → ts ++ tests_of no_all e again ≡ [] → ⊥
+more_tests ts no_all e again k = let has : has_tests (ts ++ tests_of no_all e again) ≡ true = more_has ts no_all e again in absurd (cc (rw k at has))
 
 -- A CHAIN THAT IS GONE ON WITH
 
@@ -111,7 +111,7 @@ cut_return {A} k (gives u s) = at (is_nullish u)
 cut_return k (stops n s) = refl
 
 -- what a spine becomes gives a member only where it is one
-pub spine_receives : (v : World) {bound steady in_use : Text → Bool} {e : Tree} {way : Way} → Walked bound steady in_use e way → (is_link e || not (is_chain_kind (kind_of (without_parens e)))) ≡ true → is_declarator (kind_of e) ≡ false → all_nodes undeclaring e ≡ true →
+pub spine_receives : (v : World) {no_all : Bool} {bound in_source steady in_use : Text → Bool} {e : Tree} {way : Way} → Walked no_all bound in_source steady in_use e way → (is_link e || not (is_chain_kind (kind_of (without_parens e)))) ≡ true → is_declarator (kind_of e) ≡ false → all_nodes undeclaring e ≡ true →
     is_member (without_parens way.current) ≡ false → (s : State) → NoProperty ((meaning v way.current).reference s)
 spine_receives v (base {e = e} link) h d u m s = unreceived v e m (not_chain (is_link e) (is_chain_kind (kind_of (without_parens e))) link h) d u s
   where
@@ -127,7 +127,7 @@ spine_receives v (marked_call {l = l} {arguments = ts} flags below (by_value {c 
 spine_receives v (marked_call {l = l} {arguments = ts} flags below (by_first_member {r = r} {c = c} none member k fresh receives)) h d u m s = call_plain v l (call_method (identifier c)) (r before ts) s
 spine_receives v (marked_call {l = l} {arguments = ts} flags below (by_later_member {r = r} {c = c} some member k receives fresh)) h d u m s = call_plain v l (call_method (identifier c)) (r before ts) s
 
-module _ (hidden steady bound in_use : Text → Bool) (w v : World) (same : SameWorld hidden w v) (vars : (y : Text) → hidden y ≡ true → v.scope y ≡ changeable) (steady_bound : (y : Text) → steady y ≡ true → is_free (w.scope y) ≡ false) (binds : (y : Text) → bound y ≡ true → is_free (w.scope y) ≡ false) where
+module _ (no_all : Bool) (hidden steady bound in_source in_use : Text → Bool) (w v : World) (counts : v.counts_all ≡ not no_all) (same : SameWorld hidden w v) (vars : (y : Text) → hidden y ≡ true → v.scope y ≡ changeable) (steady_bound : (y : Text) → steady y ≡ true → is_free (w.scope y) ≡ false) (binds : (y : Text) → bound y ≡ true → is_free (w.scope y) ≡ false) where
   abbrev F : Frame
   F = set_cells hidden
 
@@ -150,7 +150,7 @@ module _ (hidden steady bound in_use : Text → Bool) (w v : World) (same : Same
     pub as_value : (k : Value → M Reference) (s : State) → onward (value w (meaning w e) s) (λ u. cut_where (is_nullish u) (k u)) ≡ onward (value w source s) (λ u. cut_where (is_nullish u) (k u))
     pub as_callee : (es : List Meaning) (s : State) → onward ((meaning w e).reference s) (run_plain w true es) ≡ onward (source.reference s) (run_plain w true es)
 
-  pub continues_same : {e : Tree} {way : Way} → (is_link e || not (is_chain_kind (kind_of (without_parens e)))) ≡ true → is_declarator (kind_of e) ≡ false → SeenHere e → Walked bound steady in_use e way → FollowsHere (meaning w e) way → Continues e way
+  pub continues_same : {e : Tree} {way : Way} → (is_link e || not (is_chain_kind (kind_of (without_parens e)))) ≡ true → is_declarator (kind_of e) ≡ false → SeenHere e → Walked no_all bound in_source steady in_use e way → FollowsHere (meaning w e) way → Continues e way
   continues_same {e} h d seen walked follows = record {
     source = meaning w e;
     follows = follows;
@@ -185,7 +185,7 @@ module _ (hidden steady bound in_use : Text → Bool) (w v : World) (same : Same
   link_declares (node CallExpression l fs) e = refl
   link_declares (node k l fs) e = absurd (cc e)
 
-  pub continues_inner : {e c : Tree} {l : Label} {way : Way} → SeenHere e → without_parens e ≡ node ChainExpression l (one c then done) → SeenHere c → is_link c ≡ true → Walked bound steady in_use c way → FollowsHere (meaning w c) way → Continues e way
+  pub continues_inner : {e c : Tree} {l : Label} {way : Way} → SeenHere e → without_parens e ≡ node ChainExpression l (one c then done) → SeenHere c → is_link c ≡ true → Walked no_all bound in_source steady in_use c way → FollowsHere (meaning w c) way → Continues e way
   continues_inner {e} {c} {l} outer inner seen link walked follows =
       let same_reference : (meaning w e).reference ≡ (chain (meaning w c)).reference = stripped_reference w e outer.formed ∙ ap (λ t. (meaning w t).reference) inner in
       record {
@@ -218,18 +218,14 @@ module _ (hidden steady bound in_use : Text → Bool) (w v : World) (same : Same
     pub seen : hidden y ≡ false
     pub bound_name : is_free (v.scope y) ≡ false
 
-  pub bound_name_of : {source : Meaning} {way : Way} → Covers hidden way.taken → FollowsHere source way → way.tests ≡ [] → (l : Label) (fs : Fields) → without_parens way.current ≡ node Identifier l fs → is_name_among (or_taken way.taken bound) (node Identifier l fs) ≡ true → BoundName (first_text l.texts)
-  bound_name_of {source} {way} cover follows none l fs here named_one =
+  pub bound_name_of : {source : Meaning} {way : Way} → FollowsHere source way → way.tests ≡ [] → (l : Label) (fs : Fields) → without_parens way.current ≡ node Identifier l fs → is_name_among bound (node Identifier l fs) ≡ true → BoundName (first_text l.texts)
+  bound_name_of {source} {way} follows none l fs here named_one =
       let y : Text = first_text l.texts in
       let below : StrippedFree bad Level.whole_reference way.current = stripped_free bad Level.whole_reference true way.current (follows.untouched none) in
       let free : touches bad (record { level = Level.whole_reference; form = below.form }) (node Identifier l fs) ≡ false = rw here at below.free in
       let seen : hidden y ≡ false = or_left (hidden y) (touches_fields bad (needs (record { level = Level.whole_reference; form = below.form }) Identifier l.texts l.flags) fs) free in
-      let among : or_taken way.taken bound y ≡ true = and_right (has_no_fields fs) (or_taken way.taken bound y) (and_left (has_no_fields fs && or_taken way.taken bound y) (not (is_eval y)) named_one) in
-      record { seen = seen; bound_name = seen_bound hidden steady w v same vars steady_bound y seen (binds y (bound_one y seen (is_among way.taken y) refl among)) }
-    where
-      bound_one : (y : Text) → hidden y ≡ false → (b : Bool) → is_among way.taken y ≡ b → (b || bound y) ≡ true → bound y ≡ true
-      bound_one y seen false e h = h
-      bound_one y seen true e h = let i : hidden y ≡ true = cover y e in absurd (cc (seen, i))
+      let among : bound y ≡ true = and_right (has_no_fields fs) (bound y) (and_left (has_no_fields fs && bound y) (not (is_eval y)) named_one) in
+      record { seen = seen; bound_name = seen_bound hidden steady w v same vars steady_bound y seen (binds y among) }
 
   -- its value, in the source
   pub name_value : {source : Meaning} {way : Way} → FollowsHere source way → way.tests ≡ [] → (l : Label) (fs : Fields) → without_parens way.current ≡ node Identifier l fs → Alike F Equal (value w source) (value v (name (first_text l.texts)))
@@ -237,53 +233,53 @@ module _ (hidden steady bound in_use : Text → Bool) (w v : World) (same : Same
       let same_value : value v (meaning v way.current) ≡ value v (name (first_text l.texts)) = sym (stripped_value v way.current follows.single) ∙ ap (λ t. value v (meaning v t)) here in
       subst (Alike F Equal (value w source)) (ap (λ ts. passes v ts (value v (meaning v way.current))) none ∙ same_value) (value_follows hidden steady w v same steady_bound follows)
 
-  after_name : {source : Meaning} {way : Way} → Covers hidden way.taken → FollowsHere source way → way.tests ≡ [] → (t : Tree) → without_parens way.current ≡ t → is_name_among (or_taken way.taken bound) t ≡ true → AfterTest source (record way { tests = tests_of t t; current = t })
-  after_name {source} {way} cover follows none (node Identifier l fs) here named_one =
+  after_name : {source : Meaning} {way : Way} → FollowsHere source way → way.tests ≡ [] → (t : Tree) → without_parens way.current ≡ t → is_name_among bound t ≡ true → AfterTest source (record way { tests = tests_of no_all t t; current = t })
+  after_name {source} {way} follows none (node Identifier l fs) here named_one =
       let y : Text = first_text l.texts in
-      let known_name : BoundName y = bound_name_of cover follows none l fs here named_one in
+      let known_name : BoundName y = bound_name_of follows none l fs here named_one in
       let tidy : strays false (node Identifier l fs) ≡ false = rw here at (tidy_stripped way.current follows.tidy) in
       record {
         name = y;
-        alike = name_alike hidden steady w v same vars l fs known_name.bound_name return (value w source) (value v (name y)) (name_value follows none l fs here) (λ u s t g e. rw (name_gives hidden steady w v same vars l fs known_name.bound_name u t e) (both_give equal g));
+        alike = name_alike hidden steady w v same vars l fs known_name.bound_name no_all counts return (value w source) (value v (name y)) (name_value follows none l fs here) (λ u s t g e. rw (name_gives hidden steady w v same vars l fs known_name.bound_name u t e) (both_give equal g));
         form = refl;
         bound_name = known_name.bound_name;
         known = inl known_name.seen;
         tidy = tidy;
-        tests_tidy = tidy_tests (node Identifier l fs) (node Identifier l fs) tidy tidy;
-        tested = refl;
+        tests_tidy = tidy_tests no_all (node Identifier l fs) (node Identifier l fs) tidy tidy;
+        tested = more_has [] no_all (node Identifier l fs) (node Identifier l fs);
         holder = follows.holder;
       }
-  after_name cover follows none (node _ l fs) here named_one = absurd (cc named_one)
+  after_name follows none (node _ l fs) here named_one = absurd (cc named_one)
 
   -- what is stored, in the source
   pub stored_follows : {source : Meaning} {way : Way} → FollowsHere source way → Alike F Equal (value w source) (passes v way.tests (value v (meaning v (without_parens way.current))))
   stored_follows {source} {way} follows = subst (λ m. Alike F Equal (value w source) (passes v way.tests m)) (sym (stripped_value v way.current follows.single)) (value_follows hidden steady w v same steady_bound follows)
 
   after_store : {source : Meaning} {way : Way} (x : Text) (taken : List Text) (held : Option Text) → hidden x ≡ true → is_among taken x ≡ true → ((y : Text) → held ≡ Some y → is_among taken y ≡ true) → FollowsHere source way →
-      AfterTest source (record { tests = way.tests ++ tests_of (assign_node (identifier x) (without_parens way.current)) (identifier x); current = identifier x; holder = held; taken = taken })
+      AfterTest source (record { tests = way.tests ++ tests_of no_all (assign_node (identifier x) (without_parens way.current)) (identifier x); current = identifier x; holder = held; taken = taken })
   after_store {source} {way} x taken held x_hidden mine holder follows =
       let e : Tree = without_parens way.current in
       let tidy : strays false e ≡ false = tidy_stripped way.current follows.tidy in
       let x_bound : is_free (v.scope x) ≡ false = hidden_bound hidden steady w v same vars steady_bound x x_hidden in
       record {
         name = x;
-        alike = stored_alike hidden steady w v same vars x x_hidden way.tests e return (value w source) (value v (name x)) (stored_follows follows) (λ u s t g k. rw (name_gives hidden steady w v same vars (made (Some x ∷ []) []) done x_bound u t k) (both_give equal g));
+        alike = stored_alike hidden steady w v same vars no_all x x_hidden counts way.tests e return (value w source) (value v (name x)) (stored_follows follows) (λ u s t g k. rw (name_gives hidden steady w v same vars (made (Some x ∷ []) []) done x_bound u t k) (both_give equal g));
         form = refl;
         bound_name = x_bound;
         known = inr mine;
         tidy = refl;
-        tests_tidy = tidy_more way.tests (tests_of (assign_node (identifier x) e) (identifier x)) follows.tests_tidy (tidy_tests (assign_node (identifier x) e) (identifier x) (tidy_store x e tidy) refl);
-        tested = more_has way.tests _ _;
+        tests_tidy = tidy_more way.tests (tests_of no_all (assign_node (identifier x) e) (identifier x)) follows.tests_tidy (tidy_tests no_all (assign_node (identifier x) e) (identifier x) (tidy_store x e tidy) refl);
+        tested = more_has way.tests no_all (assign_node (identifier x) e) (identifier x);
         holder = holder;
       }
 
-  pub tested_covers : {way next : Way} → Tested bound in_use way next → Covers hidden next.taken → Covers hidden way.taken
+  pub tested_covers : {way next : Way} → Tested no_all bound in_source in_use way next → Covers hidden next.taken → Covers hidden way.taken
   tested_covers (as_name none named_one) cover = cover
   tested_covers (in_holder held) cover = cover
   tested_covers (in_temporary {w = way} {x = x} name none fresh) cover = covers_first hidden way.taken (x ∷ []) cover
 
-  after_test : {source : Meaning} {way next : Way} → Tested bound in_use way next → Covers hidden next.taken → FollowsHere source way → AfterTest source next
-  after_test (as_name {w = way} none named_one) cover follows = after_name cover follows none (without_parens way.current) refl named_one
+  after_test : {source : Meaning} {way next : Way} → Tested no_all bound in_source in_use way next → Covers hidden next.taken → FollowsHere source way → AfterTest source next
+  after_test (as_name {w = way} none named_one) cover follows = after_name follows none (without_parens way.current) refl named_one
   after_test (in_holder {w = way} {x = x} held) cover follows = after_store x way.taken way.holder (cover x (follows.holder x held)) (follows.holder x held) follows.holder follows
   after_test (in_temporary {w = way} {x = x} name none fresh) cover follows =
       let mine : is_among (way.taken ++ x ∷ []) x ≡ true = among_later way.taken (x ∷ []) x (among_self x []) in
@@ -291,7 +287,7 @@ module _ (hidden steady bound in_use : Text → Bool) (w v : World) (same : Same
 
   -- A MARKED MEMBER
 
-  pub follows_marked : (l : Label) (computed : Bool) (o p : Tree) (way next : Way) → l.flags ≡ computed ∷ true ∷ [] → SeenHere (node MemberExpression l (one o then one p then done)) → (from : Continues o way) → Tested bound in_use way next → Covers hidden next.taken →
+  pub follows_marked : (l : Label) (computed : Bool) (o p : Tree) (way next : Way) → l.flags ≡ computed ∷ true ∷ [] → SeenHere (node MemberExpression l (one o then one p then done)) → (from : Continues o way) → Tested no_all bound in_source in_use way next → Covers hidden next.taken →
       FollowsHere (meaning w (node MemberExpression l (one o then one p then done))) (record next { current = member_at l computed next.current p })
   follows_marked l computed o p way next flags seen from test cover =
       let after : AfterTest from.source next = after_test test cover from.follows in

@@ -1,5 +1,5 @@
 -- The object of a member whose call has it as receiver: it is evaluated once, and read again.
-use Rattle.std.proofs.Common.{◌≡◌, refl, List, [], ◌∷◌, ap, subst, sym, ◌∙◌, ◌⊎◌, inl, inr}
+use Rattle.std.proofs.Common.{◌≡◌, refl, List, [], ◌∷◌, Option, Some, None, ap, subst, sym, ◌∙◌, ◌⊎◌, inl, inr}
 use Rattle.std.specs.Prelude.{Bool, true, false, bytes_eq, if◌then◌else◌, ◌||◌, ◌&&◌, not}
 use Rattle.es_tree.specs.Words.{Text}
 use Rattle.es_tree.specs.Fresh.{is_among}
@@ -19,7 +19,7 @@ use Rattle.es_runs.specs.Machine.State.{state}
 use Rattle.es_runs.specs.Machine.Cell.{unset, holds}
 use Rattle.es_runs.specs.Machine.Stop.{uncallable, cut}
 use Rattle.es_runs.specs.Machine.Result.{gives, stops}
-use Rattle.es_runs.specs.OptionalChaining.{Receives, is_eval, is_this_or_super, or_taken, this_node}
+use Rattle.es_runs.specs.OptionalChaining.{Receives, is_eval, is_this_or_super, or_held, this_node}
 use Rattle.es_runs.specs.OptionalChaining.Receives.{by_this, by_name, by_temporary}
 use Rattle.es_runs.specs.Doubling.{has_no_fields}
 use Rattle.es_runs.specs.Rules.{strays}
@@ -124,12 +124,12 @@ module _ (hidden steady : Text → Bool) (w v : World) (same : SameWorld hidden 
 
   -- WHAT RECEIVES
 
-  name_kept : (taken : List Text) → Covers hidden taken → (y : Text) → (hidden y ≡ false) ⊎ (is_among taken y ≡ true) → or_taken taken steady y ≡ true → KeptName y
-  name_kept taken cover y (inr t) h = inl (cover y t)
-  name_kept taken cover y (inl seen) h = at (is_among taken y) refl h
+  name_kept : (holder : Option Text) → ((y : Text) → holder ≡ Some y → hidden y ≡ true) → (y : Text) → or_held holder steady y ≡ true → KeptName y
+  name_kept None stored y h = inr h
+  name_kept (Some x) stored y h = at (bytes_eq y x) refl h
     where
-      at : (b : Bool) → is_among taken y ≡ b → (b || steady y) ≡ true → KeptName y
-      at true e k = let seen' : hidden y ≡ true = cover y e in absurd (cc (seen, seen'))
+      at : (b : Bool) → bytes_eq y x ≡ b → (b || steady y) ≡ true → KeptName y
+      at true e k = let i : y ≡ x = bytes_eq-equal y x e in inl (rw i (stored x refl))
       at false e k = inr k
 
   kept_bound : (y : Text) → KeptName y → is_free (v.scope y) ≡ false
@@ -146,31 +146,31 @@ module _ (hidden steady : Text → Bool) (w v : World) (same : SameWorld hidden 
     pub tidy_object : strays false o1 ≡ false
     pub tidy_receiver : strays false r ≡ false
 
-  pub received : {to_this : Tree → Bool} {in_use : Text → Bool} {taken xs : List Text} {o o1 r : Tree} → ((e : Tree) → to_this e ≡ true → is_this_or_super e ≡ true) → Receives to_this steady in_use taken xs o o1 r → Covers hidden taken → Covers hidden xs → Known hidden taken o → strays false o ≡ false → Received o o1 r
-  received thises (by_this {o = node ThisExpression l fs} h) cover own known tidy = record {
+  pub received : {to_this : Tree → Bool} {in_use : Text → Bool} {holder : Option Text} {xs : List Text} {o o1 r : Tree} → ((e : Tree) → to_this e ≡ true → is_this_or_super e ≡ true) → Receives to_this steady in_use holder xs o o1 r → ((y : Text) → holder ≡ Some y → hidden y ≡ true) → Covers hidden xs → strays false o ≡ false → Received o o1 r
+  received thises (by_this {o = node ThisExpression l fs} h) stored own tidy = record {
     kept = λ z e. absurd (cc e);
     held = λ ts m a s t g. held_this other ts t _ refl (a s t g);
     tidy_object = tidy;
     tidy_receiver = refl;
   }
-  received thises (by_this {o = node Super l fs} h) cover own known tidy = record {
+  received thises (by_this {o = node Super l fs} h) stored own tidy = record {
     kept = λ z e. absurd (cc e);
     held = λ ts m a s t g. held_nothing (meaning v this_node) ts t _ refl (a s t g);
     tidy_object = tidy;
     tidy_receiver = refl;
   }
-  received thises (by_this {o = node k l fs} h) cover own known tidy = absurd (cc (thises (node k l fs) h))
-  received {taken = taken} thises (by_name {o = node Identifier l fs} h e) cover own known tidy =
+  received thises (by_this {o = node k l fs} h) stored own tidy = absurd (cc (thises (node k l fs) h))
+  received {holder = holder} thises (by_name {o = node Identifier l fs} h e) stored own tidy =
       let y : Text = first_text l.texts in
-      let stays : KeptName y = name_kept taken cover y known (and_right (has_no_fields fs) (or_taken taken steady y) (and_left (has_no_fields fs && or_taken taken steady y) (not (is_eval y)) e)) in
+      let stays : KeptName y = name_kept holder stored y (and_right (has_no_fields fs) (or_held holder steady y) (and_left (has_no_fields fs && or_held holder steady y) (not (is_eval y)) e)) in
       record {
         kept = λ z k. let i : z ≡ y = bytes_eq-equal z y k in subst KeptName (sym i) stays;
         held = λ ts m a s t g. held_name y (kept_bound y stays) ts t _ refl (a s t g);
         tidy_object = tidy;
         tidy_receiver = tidy;
       }
-  received thises (by_name {o = node k l fs} h e) cover own known tidy = absurd (cc e)
-  received thises (by_temporary {o = o} {r = x} h e fresh) cover own known tidy =
+  received thises (by_name {o = node k l fs} h e) stored own tidy = absurd (cc e)
+  received thises (by_temporary {o = o} {r = x} h e fresh) stored own tidy =
       let mine : hidden x ≡ true = own x (rw (bytes_eq-self x) refl) in
       record {
         kept = λ z k. let i : z ≡ x = bytes_eq-equal z x k in subst KeptName (sym i) (inl mine);
@@ -180,10 +180,10 @@ module _ (hidden steady : Text → Bool) (w v : World) (same : SameWorld hidden 
       }
 
   -- a name that is read again isn't the one that holds the callee
-  pub apart : {to_this : Tree → Bool} {in_use : Text → Bool} {taken xs : List Text} {o o1 r : Tree} (c : Text) → hidden c ≡ true → Receives to_this steady in_use taken xs o o1 r → Known hidden taken o →
+  pub apart : {to_this : Tree → Bool} {in_use : Text → Bool} {holder : Option Text} {xs : List Text} {o o1 r : Tree} (taken : List Text) (c : Text) → hidden c ≡ true → Receives to_this steady in_use holder xs o o1 r → Known hidden taken o →
       ((y : Text) → is_among taken y ≡ true → bytes_eq y c ≡ false) → ((y : Text) → is_among xs y ≡ true → bytes_eq y c ≡ false) → (z : Text) → read_names r z ≡ true → bytes_eq z c ≡ false
-  apart c h (by_this e) known taken_apart own_apart z k = absurd (cc k)
-  apart {taken = taken} c h (by_name {o = node Identifier l fs} e i) known taken_apart own_apart z k = let j : z ≡ first_text l.texts = bytes_eq-equal z (first_text l.texts) k in rw j (known_apart known)
+  apart taken c h (by_this e) known taken_apart own_apart z k = absurd (cc k)
+  apart taken c h (by_name {o = node Identifier l fs} e i) known taken_apart own_apart z k = let j : z ≡ first_text l.texts = bytes_eq-equal z (first_text l.texts) k in rw j (known_apart known)
     where
       known_apart : (hidden (first_text l.texts) ≡ false) ⊎ (is_among taken (first_text l.texts) ≡ true) → bytes_eq (first_text l.texts) c ≡ false
       known_apart (inr t) = taken_apart (first_text l.texts) t
@@ -192,5 +192,5 @@ module _ (hidden steady : Text → Bool) (w v : World) (same : SameWorld hidden 
           other : (b : Bool) → bytes_eq (first_text l.texts) c ≡ b → b ≡ false
           other true m = let n : first_text l.texts ≡ c = bytes_eq-equal (first_text l.texts) c m in let q : hidden (first_text l.texts) ≡ true = rw n h in absurd (cc (seen, q))
           other false m = refl
-  apart c h (by_name {o = node q l fs} e i) known taken_apart own_apart z k = absurd (cc i)
-  apart c h (by_temporary {r = x} e i fresh) known taken_apart own_apart z k = let j : z ≡ x = bytes_eq-equal z x k in rw j (own_apart x (rw (bytes_eq-self x) refl))
+  apart taken c h (by_name {o = node q l fs} e i) known taken_apart own_apart z k = absurd (cc i)
+  apart taken c h (by_temporary {r = x} e i fresh) known taken_apart own_apart z k = let j : z ≡ x = bytes_eq-equal z x k in rw j (own_apart x (rw (bytes_eq-self x) refl))

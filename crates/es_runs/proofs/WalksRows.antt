@@ -1,7 +1,7 @@
 -- The rows of optional chaining: a chain, a chain that is called, a chain whose member is deleted, and what they become, are
 -- alike.
 use Rattle.std.proofs.Common.{◌≡◌, refl, List, [], ◌∷◌, ◌++◌, ap, subst, sym, ◌∙◌, ◌⊎◌, inl, inr}
-use Rattle.std.specs.Prelude.{Bool, true, false, ◌||◌, codes, if◌then◌else◌}
+use Rattle.std.specs.Prelude.{Bool, true, false, ◌||◌, codes, if◌then◌else◌, not}
 use Rattle.es_tree.specs.Words.{Text}
 use Rattle.es_tree.specs.Fresh.{is_among}
 use Rattle.es_tree.specs.Names.{first_text}
@@ -12,7 +12,7 @@ use Rattle.es_tree.specs.declared.ast_type.AstType.TheVariants.{ChainExpression,
 use Rattle.es_runs.specs.Alike.{Frame, set_cells, kept_cells, Agree, Same, Alike, Equal, Level, Like, LikeAt, Need, SameCalled, SameReference, SameWorld, all_of_it, bad_names, content_level, member_needs, the_reference, touches, unary_need}
 use Rattle.es_runs.specs.Alike.Agree.{agree}
 use Rattle.es_runs.specs.Alike.Equal.{equal}
-use Rattle.es_runs.specs.Alike.Level.{value_alone, an_operand_of_typeof}
+use Rattle.es_runs.specs.Alike.Level.{no_evaluation, value_alone, an_operand_of_typeof}
 use Rattle.es_runs.specs.Alike.LikeCallee.{by_call}
 use Rattle.es_runs.specs.Alike.Same.{both_give, both_stop, outside}
 use Rattle.es_runs.specs.Alike.SameCalled.{same_called, bound_called}
@@ -38,7 +38,7 @@ use Rattle.es_runs.proofs.Fresh.{or_left}
 use Rattle.es_runs.proofs.Lists.{key_alike}
 use Rattle.es_runs.proofs.Named.{or_both}
 use Rattle.es_runs.proofs.NoStray.{delete_uncut, typeof_uncut, value_uncut}
-use Rattle.es_runs.proofs.RowPlaces.{RowPlace, IsRowAlike}
+use Rattle.es_runs.proofs.RowPlaces.{RowPlace, IsRowAlikeWhere}
 use Rattle.es_runs.proofs.Stripped.{StrippedFree, stripped_free, stripped_reference}
 use Rattle.es_runs.proofs.Temporary.{bytes_eq-flip, onward_onward, plain_again}
 use Rattle.es_runs.proofs.Uncut.{NeverCut, bind_uncut, get_uncut}
@@ -68,6 +68,11 @@ tidy_bound e r h g =
 super_receives : (e : Tree) → is_super e ≡ true → is_this_or_super e ≡ true
 super_receives (node Super l fs) h = h
 super_receives (node k l fs) h = absurd (cc h)
+
+-- a conditional has no form that a silent meaning asks for
+short_form : (v : World) (m : Label) (ts : List Tree) (short long : Tree) → has_tests ts ≡ true → (meaning v (where_short m ts short long)).form ≡ other
+short_form v m [] short long h = absurd (cc h)
+short_form v m (t ∷ ts) short long h = refl
 
 -- WHAT IS DONE WITH A REFERENCE
 
@@ -102,7 +107,7 @@ module _ (F : Frame) (w v : World) (same : SameWorld F.hidden w v) where
   callee_alike _ _ (same_property {o = o} {k = k}) = then_alike F (ask_alike F (get o k)) (λ f. tested_alike (is_callable f) f o)
   callee_alike _ _ (same_plain {v = u}) = tested_alike (is_callable u) u undefined
 
-module _ (hidden steady bound in_use : Text → Bool) (w v : World) (same : SameWorld hidden w v) (vars : (y : Text) → hidden y ≡ true → v.scope y ≡ changeable) (steady_bound : (y : Text) → steady y ≡ true → is_free (w.scope y) ≡ false) (binds : (y : Text) → bound y ≡ true → is_free (w.scope y) ≡ false) where
+module _ (no_all : Bool) (hidden steady bound in_source in_use : Text → Bool) (w v : World) (counts : v.counts_all ≡ not no_all) (same : SameWorld hidden w v) (vars : (y : Text) → hidden y ≡ true → v.scope y ≡ changeable) (steady_bound : (y : Text) → steady y ≡ true → is_free (w.scope y) ≡ false) (binds : (y : Text) → bound y ≡ true → is_free (w.scope y) ≡ false) where
   abbrev H : Frame
   H = set_cells hidden
 
@@ -207,14 +212,14 @@ module _ (hidden steady bound in_use : Text → Bool) (w v : World) (same : Same
         (from_held computed p r (key_like hidden steady w v same steady_bound computed p parts.keys) receives.kept (receives.held way.tests parts.object parts.alike s t g)))))
 
     -- whether it is a member or not
-    chain_called : {in_use' : Text → Bool} {ys : List Text} {d : Tree} (c : Tree) → way.current ≡ c → BoundCallee steady in_use' way.taken ys c d → Covers hidden way.taken → Covers hidden ys →
+    chain_called : {in_use' : Text → Bool} {ys : List Text} {d : Tree} (c : Tree) → way.current ≡ c → BoundCallee steady in_use' way.holder ys c d → Covers hidden way.taken → Covers hidden ys →
         Alike H SameCalled ((chain source).reference >>= callee_from w) ((after d).reference >>= callee_from v)
     chain_called c here (no_member unbound) cover own =
         subst (λ e. Alike H SameCalled ((chain source).reference >>= callee_from w) ((after e).reference >>= callee_from v)) here (chain_callee (subst (λ e. is_member e ≡ false) (sym here) unbound))
     chain_called _ here (to_object {k = k} {computed = computed} {o = o} {o1 = o1} {p = p} {r = r} member_flags receives) cover own =
         let found : flag_after k.flags ≡ false → ObjectParts hidden steady w v same steady_bound source.reference way (flag k.flags) o p = subst (λ e. ObjectOf hidden steady w v same steady_bound source.reference way (without_parens e)) here follows.object in
         let parts : ObjectParts hidden steady w v same steady_bound source.reference way computed o p = subst (λ b. ObjectParts hidden steady w v same steady_bound source.reference way b o p) (ap flag member_flags) (found (ap flag_after member_flags)) in
-        chain_bound k computed o o1 p r (received hidden steady w v same vars steady_bound super_receives receives cover own parts.known parts.tidy) parts
+        chain_bound k computed o o1 p r (received hidden steady w v same vars steady_bound super_receives receives (λ y held. cover y (follows.holder y held)) own parts.tidy) parts
 
     -- A MEMBER THAT IS DELETED
 
@@ -231,13 +236,10 @@ module _ (hidden steady bound in_use : Text → Bool) (w v : World) (same : Same
     -- AT ITS PLACE
 
     by_level : (level : Level) → takes_value level ≡ true → LikeAt H w v level (chain source) (after way.current)
+    by_level no_evaluation e = tt
     by_level value_alone e = chain_value
     by_level an_operand_of_typeof e = chain_typeof
     by_level _ e = absurd (cc e)
-
-    short_form : (ts : List Tree) (short long : Tree) → has_tests ts ≡ true → (meaning v (where_short m ts short long)).form ≡ other
-    short_form [] short long h = absurd (cc h)
-    short_form (t ∷ ts) short long h = refl
 
     short_like : (n : Need) (a : M Value) (ts : List Tree) (short long : Tree) → has_tests ts ≡ true → Alike H Equal a (value v (meaning v (where_short m ts short long))) → Like H w v n (gives_value a) (meaning v (where_short m ts short long))
     short_like n a [] short long h e = absurd (cc h)
@@ -247,7 +249,7 @@ module _ (hidden steady bound in_use : Text → Bool) (w v : World) (same : Same
 
 -- THE ROWS
 
-module _ (bound steady in_use : Text → Bool) where
+module _ (no_all : Bool) (bound in_source steady in_use : Text → Bool) where
   among_one : (xs : List Text) (y : Text) → is_among xs y ≡ one_of xs y
   among_one [] y = refl
   among_one (x ∷ xs) y = λ i. bytes_eq-flip x y i || among_one xs y i
@@ -273,33 +275,39 @@ module _ (bound steady in_use : Text → Bool) where
       formed = (chain_content m e formed).1;
     }
 
-  value_evaluates : (level : Level) → takes_value level ≡ true → evaluates (content_level level) ≡ true
-  value_evaluates value_alone e = refl
-  value_evaluates an_operand_of_typeof e = refl
-  value_evaluates _ e = absurd (cc e)
+  pub chaining_like : (xs : List Text) → IsRowAlikeWhere no_all bound steady xs (WhereTidy (OptionalChainingRule no_all bound in_source steady in_use xs))
+  chaining_like xs w v n _ _ counts place (by_tests {m = m} {e = e} {w = way} level walked tested, tidy) = record {
+    evaluation = at n.level refl level;
+    form = λ k. short_form v m way.tests void_zero_node way.current tested;
+  }
+    where
+      whole : Tree
+      whole = node ChainExpression m (one e then done)
 
-  pub chaining_like : (xs : List Text) → IsRowAlike bound steady xs (WhereTidy (OptionalChainingRule bound steady in_use xs))
-  chaining_like xs w v n _ _ place (by_tests {m = m} {e = e} {w = way} level walked tested, tidy) =
-      let whole : Tree = node ChainExpression m (one e then done) in
-      let seen : Seen (one_of xs) steady w v place.same (steady_here xs w v n whole place) e = seen_chain xs w v n whole place m e (content_level n.level) (value_evaluates n.level level) place.untouched tidy place.placed in
-      let follows : Follows (one_of xs) steady w v place.same (steady_here xs w v n whole place) (meaning w e) way = walks (one_of xs) steady bound in_use w v place.same place.cells (steady_here xs w v n whole place) (bound_here xs w v n whole place) seen (covers_all xs) walked in
-      record {
-        evaluation = by_level (one_of xs) steady bound in_use w v place.same place.cells (steady_here xs w v n whole place) (bound_here xs w v n whole place) (meaning w e) way follows m tested (tested_link walked tested) n.level level;
-        form = λ k. short_form (one_of xs) steady bound in_use w v place.same place.cells (steady_here xs w v n whole place) (bound_here xs w v n whole place) (meaning w e) way follows m tested (tested_link walked tested) way.tests void_zero_node way.current tested;
-      }
-  chaining_like _ w v n _ _ place (as_callee {m = m} {e = e} {d = d} {w = way} {xs = ys} level walked tested callee, tidy) =
+      evaluated : (k : Level) → n.level ≡ k → evaluates (content_level k) ≡ true → takes_value k ≡ true → LikeAt (set_cells (one_of xs)) w v k (chain (meaning w e)) (meaning v (where_short m way.tests void_zero_node way.current))
+      evaluated k here is takes =
+          let seen : Seen (one_of xs) steady w v place.same (steady_here xs w v n whole place) e = seen_chain xs w v n whole place m e (content_level n.level) (rw here is) place.untouched tidy place.placed in
+          let follows : Follows (one_of xs) steady w v place.same (steady_here xs w v n whole place) (meaning w e) way = walks no_all (one_of xs) steady bound in_source in_use w v (place.same.counts ∙ counts) place.same place.cells (steady_here xs w v n whole place) (bound_here xs w v n whole place) seen (covers_all xs) walked in
+          by_level no_all (one_of xs) steady bound in_source in_use w v (place.same.counts ∙ counts) place.same place.cells (steady_here xs w v n whole place) (bound_here xs w v n whole place) (meaning w e) way follows m tested (tested_link walked tested) k takes
+
+      at : (k : Level) → n.level ≡ k → takes_value k ≡ true → LikeAt (set_cells (one_of xs)) w v k (chain (meaning w e)) (meaning v (where_short m way.tests void_zero_node way.current))
+      at no_evaluation here takes = tt
+      at value_alone here takes = evaluated value_alone here refl takes
+      at an_operand_of_typeof here takes = evaluated an_operand_of_typeof here refl takes
+      at _ here takes = absurd (cc takes)
+  chaining_like _ w v n _ _ counts place (as_callee {m = m} {e = e} {d = d} {w = way} {xs = ys} level walked tested callee, tidy) =
       let xs : List Text = way.taken ++ ys in
       let whole : Tree = node ChainExpression m (one e then done) in
       let evaluated : evaluates (content_level n.level) ≡ true = rw level refl in
       let seen : Seen (one_of xs) steady w v place.same (steady_here xs w v n whole place) e = seen_chain xs w v n whole place m e (content_level n.level) evaluated place.untouched tidy place.placed in
       let cover : Covers (one_of xs) way.taken = covers_first (one_of xs) way.taken ys (covers_all xs) in
-      let follows : Follows (one_of xs) steady w v place.same (steady_here xs w v n whole place) (meaning w e) way = walks (one_of xs) steady bound in_use w v place.same place.cells (steady_here xs w v n whole place) (bound_here xs w v n whole place) seen cover walked in
+      let follows : Follows (one_of xs) steady w v place.same (steady_here xs w v n whole place) (meaning w e) way = walks no_all (one_of xs) steady bound in_source in_use w v (place.same.counts ∙ counts) place.same place.cells (steady_here xs w v n whole place) (bound_here xs w v n whole place) seen cover walked in
       record {
         evaluation = subst (λ k. LikeAt (set_cells (one_of xs)) w v k (chain (meaning w e)) (meaning v (where_short m way.tests void_zero_node d))) (sym level)
-            (by_call refl (chain_called (one_of xs) steady bound in_use w v place.same place.cells (steady_here xs w v n whole place) (bound_here xs w v n whole place) (meaning w e) way follows m tested (tested_link walked tested) way.current refl callee cover (covers_second (one_of xs) way.taken ys (covers_all xs))));
-        form = λ k. short_form (one_of xs) steady bound in_use w v place.same place.cells (steady_here xs w v n whole place) (bound_here xs w v n whole place) (meaning w e) way follows m tested (tested_link walked tested) way.tests void_zero_node d tested;
+            (by_call refl (chain_called no_all (one_of xs) steady bound in_source in_use w v (place.same.counts ∙ counts) place.same place.cells (steady_here xs w v n whole place) (bound_here xs w v n whole place) (meaning w e) way follows m tested (tested_link walked tested) way.current refl callee cover (covers_second (one_of xs) way.taken ys (covers_all xs))));
+        form = λ k. short_form v m way.tests void_zero_node d tested;
       }
-  chaining_like xs w v n _ _ place (in_delete {m = m} {l = l} {t = t} {e = e} {w = way} texts inner walked tested, tidy) =
+  chaining_like xs w v n _ _ counts place (in_delete {m = m} {l = l} {t = t} {e = e} {w = way} texts inner walked tested, tidy) =
       let bad : Level → Text → Bool = bad_names (one_of xs) steady in
       let whole : Tree = node UnaryExpression m (one t then done) in
       let deleted : unary_need n.form (unary_class (first_text m.texts)) ≡ the_reference = rw texts refl in
@@ -309,8 +317,8 @@ module _ (bound steady in_use : Text → Bool) where
       let tidy_chain : strays false (node ChainExpression l (one e then done)) ≡ false = rw inner at (tidy_stripped t (or_left (strays false t) false tidy)) in
       let formed_chain : all_nodes undeclaring (node ChainExpression l (one e then done)) ≡ true = rw inner at (formed_stripped t (first_part UnaryExpression m t done refl place.placed).1) in
       let seen : Seen (one_of xs) steady w v place.same (steady_here xs w v n whole place) e = seen_chain xs w v n whole place l e Level.whole_reference refl free_chain tidy_chain formed_chain in
-      let follows : Follows (one_of xs) steady w v place.same (steady_here xs w v n whole place) (meaning w e) way = walks (one_of xs) steady bound in_use w v place.same place.cells (steady_here xs w v n whole place) (bound_here xs w v n whole place) seen (covers_all xs) walked in
+      let follows : Follows (one_of xs) steady w v place.same (steady_here xs w v n whole place) (meaning w e) way = walks no_all (one_of xs) steady bound in_source in_use w v (place.same.counts ∙ counts) place.same place.cells (steady_here xs w v n whole place) (bound_here xs w v n whole place) seen (covers_all xs) walked in
       let same_reference : (meaning w t).reference ≡ (chain (meaning w e)).reference = stripped_reference w t (first_part UnaryExpression m t done refl place.placed).1 ∙ ap (λ c. (meaning w c).reference) inner in
       rw (ap first_text texts)
-      (short_like (one_of xs) steady bound in_use w v place.same place.cells (steady_here xs w v n whole place) (bound_here xs w v n whole place) (meaning w e) way follows m tested (tested_link walked tested) n ((meaning w t).reference >>= delete_value w) way.tests true_node (delete_node way.current) tested
-      (chain_deleted (one_of xs) steady bound in_use w v place.same place.cells (steady_here xs w v n whole place) (bound_here xs w v n whole place) (meaning w e) way follows m tested (tested_link walked tested) (meaning w t) same_reference))
+      (short_like no_all (one_of xs) steady bound in_source in_use w v (place.same.counts ∙ counts) place.same place.cells (steady_here xs w v n whole place) (bound_here xs w v n whole place) (meaning w e) way follows m tested (tested_link walked tested) n ((meaning w t).reference >>= delete_value w) way.tests true_node (delete_node way.current) tested
+      (chain_deleted no_all (one_of xs) steady bound in_source in_use w v (place.same.counts ∙ counts) place.same place.cells (steady_here xs w v n whole place) (bound_here xs w v n whole place) (meaning w e) way follows m tested (tested_link walked tested) (meaning w t) same_reference))

@@ -3,7 +3,7 @@ use Rattle.std.proofs.Common.{◌≡◌, refl, List, [], ◌∷◌, ◌++◌, ap
 use Rattle.std.specs.Prelude.{Bool, true, false, codes, if◌then◌else◌, not}
 use Rattle.es_tree.specs.Words.{Text}
 use Rattle.es_tree.specs.Tree.{Tree}
-use Rattle.es_runs.specs.Machine.{Value, M, ◌>>=◌, onward, return, stop, State, Result, Cell, Move, Question, with_cell, is_set, is_null, is_nullish, is_true, is_undefined}
+use Rattle.es_runs.specs.Machine.{Value, M, ◌>>=◌, onward, return, stop, State, Result, Cell, Move, Question, with_cell, is_loosely_nullish, is_set, is_null, is_nullish, is_true, is_undefined}
 use Rattle.es_runs.specs.Machine.Value.{undefined, null, boolean}
 use Rattle.es_runs.specs.Machine.State.{state}
 use Rattle.es_runs.specs.Machine.Stop.{cut}
@@ -67,43 +67,63 @@ joined_tries v t (u ∷ us) short long s =
 
 -- THE TESTS OF A VALUE
 
--- whether it is null, and whether it is undefined when it is read again
-abbrev pub twice_tested : World → Tree → {A : Type 0} → M A → M A → Value → M A
-twice_tested v again short long u = if is_null u then short else (value v (meaning v again) >>= λ x. if is_undefined x then short else long)
+-- whether it is null or undefined, at once where `==` tells, and else it is read again
+abbrev pub value_tested : Bool → World → Tree → {A : Type 0} → M A → M A → Value → M A
+value_tested true v again short long u = if is_nullish u then short else long
+value_tested false v again short long u = if is_null u then short else (value v (meaning v again) >>= λ x. if is_undefined x then short else long)
 
-by_undefined : (v : World) {A : Type 0} (short long : M A) (r : Result Value) → choice short long (onward (onward (onward r (λ x. return (boolean (compared (codes "===") is_undefined x)))) as_plain) (get_value v)) ≡ onward r (λ x. if is_undefined x then short else long)
+by_undefined : (v : World) {A : Type 0} (short long : M A) (r : Result Value) → choice short long (onward (onward (onward r (λ x. return (boolean (compared v.counts_all (codes "===") is_undefined x)))) as_plain) (get_value v)) ≡ onward r (λ x. if is_undefined x then short else long)
 by_undefined v short long (gives u s) = refl
 by_undefined v short long (stops m s) = refl
 
-by_null : (v : World) {A : Type 0} (short long : M A) (r : Result Value) → choice short long (onward (onward (onward r (λ x. return (boolean (compared (codes "===") is_null x)))) as_plain) (get_value v)) ≡ onward r (λ x. if is_null x then short else long)
+by_null : (v : World) {A : Type 0} (short long : M A) (r : Result Value) → choice short long (onward (onward (onward r (λ x. return (boolean (compared v.counts_all (codes "===") is_null x)))) as_plain) (get_value v)) ≡ onward r (λ x. if is_null x then short else long)
 by_null v short long (gives u s) = refl
 by_null v short long (stops m s) = refl
 
-pub tests_value : (v : World) (e again : Tree) {A : Type 0} (short long : M A) → tries v (tests_of e again) short long ≡ (value v (meaning v e) >>= twice_tested v again short long)
-tests_value v e again {A} short long =
-    λ i s. (ap (λ m. choice short m (onward (onward (onward (value v (meaning v e) s) (λ x. return (boolean (compared (codes "===") is_null x)))) as_plain) (get_value v))) (λ j z. by_undefined v short long (value v (meaning v again) z) j)
+-- where `document.all` doesn't count, loosely nullish is nullish
+loose_is_nullish : (u : Value) → is_loosely_nullish false u ≡ is_nullish u
+loose_is_nullish undefined = refl
+loose_is_nullish null = refl
+loose_is_nullish u = refl
+
+by_nullish : (v : World) → v.counts_all ≡ false → {A : Type 0} (short long : M A) (r : Result Value) → choice short long (onward (onward (onward r (λ x. return (boolean (compared v.counts_all (codes "==") is_null x)))) as_plain) (get_value v)) ≡ onward r (λ x. if is_nullish x then short else long)
+by_nullish v counts short long (gives u s) = rw (counts, loose_is_nullish u) refl
+by_nullish v counts short long (stops m s) = refl
+
+pub tests_value : (no_all : Bool) (v : World) → v.counts_all ≡ not no_all → (e again : Tree) {A : Type 0} (short long : M A) → tries v (tests_of no_all e again) short long ≡ (value v (meaning v e) >>= value_tested no_all v again short long)
+tests_value true v counts e again short long = λ i s. by_nullish v counts short long (value v (meaning v e) s) i
+tests_value false v counts e again short long =
+    λ i s. (ap (λ m. choice short m (onward (onward (onward (value v (meaning v e) s) (λ x. return (boolean (compared v.counts_all (codes "===") is_null x)))) as_plain) (get_value v))) (λ j z. by_undefined v short long (value v (meaning v again) z) j)
     ∙ by_null v short (value v (meaning v again) >>= λ x. if is_undefined x then short else long) (value v (meaning v e) s)) i
 
 -- STORING
 
 -- a value is stored in x and tested
-abbrev pub store_and_test : World → Text → {A : Type 0} → M A → Value → M A
-store_and_test v x long u = put_value v (named x) u >>= twice_tested v (identifier x) (stop cut) long
+abbrev pub store_and_test : Bool → World → Text → {A : Type 0} → M A → Value → M A
+store_and_test no_all v x long u = put_value v (named x) u >>= value_tested no_all v (identifier x) (stop cut) long
 
 pub stores_value : (v : World) (x : Text) (e : Tree) → value v (meaning v (assign_node (identifier x) e)) ≡ (value v (meaning v e) >>= put_value v (named x))
 stores_value v x e = λ i s. plain_again v (onward (value v (meaning v e) s) (put_value v (named x))) i
 
 -- the tests so far, and those of a value that is stored
-pub stored_tests : (v : World) (ts : List Tree) (x : Text) (e : Tree) {A : Type 0} (m : M A) → passes v (ts ++ tests_of (assign_node (identifier x) e) (identifier x)) m ≡ (passes v ts (value v (meaning v e)) >>= store_and_test v x m)
-stored_tests v ts x e m =
-    tries_more v ts (tests_of (assign_node (identifier x) e) (identifier x)) (stop cut) m
-    ∙ (ap (passes v ts) (tests_value v (assign_node (identifier x) e) (identifier x) (stop cut) m
-    ∙ (ap (λ n. n >>= twice_tested v (identifier x) (stop cut) m) (stores_value v x e)
-    ∙ (λ i s. onward_onward (value v (meaning v e) s) (put_value v (named x)) (twice_tested v (identifier x) (stop cut) m) i)))
-    ∙ sym (passes_then v ts (value v (meaning v e)) (store_and_test v x m)))
+pub stored_tests : (no_all : Bool) (v : World) → v.counts_all ≡ not no_all → (ts : List Tree) (x : Text) (e : Tree) {A : Type 0} (m : M A) →
+    passes v (ts ++ tests_of no_all (assign_node (identifier x) e) (identifier x)) m ≡ (passes v ts (value v (meaning v e)) >>= store_and_test no_all v x m)
+stored_tests no_all v counts ts x e m =
+    tries_more v ts (tests_of no_all (assign_node (identifier x) e) (identifier x)) (stop cut) m
+    ∙ (ap (passes v ts) (tests_value no_all v counts (assign_node (identifier x) e) (identifier x) (stop cut) m
+    ∙ (ap (λ n. n >>= value_tested no_all v (identifier x) (stop cut) m) (stores_value v x e)
+    ∙ (λ i s. onward_onward (value v (meaning v e) s) (put_value v (named x)) (value_tested no_all v (identifier x) (stop cut) m) i)))
+    ∙ sym (passes_then v ts (value v (meaning v e)) (store_and_test no_all v x m)))
 
 -- the temporary is written, and the value decides
-pub stored_value : (v : World) (x : Text) {A : Type 0} (m : M A) (u : Value) (d : Text → Cell) (ms : List Move) (qs : List Question) → v.scope x ≡ changeable → is_set (d x) ≡ true → store_and_test v x m u (state d ms qs) ≡ cut_where (is_nullish u) m (state (with_cell x u d) ms qs)
-stored_value v x m undefined d ms qs e s = rw (put_temporary v x undefined d ms qs e s) (rw (get_temporary v x undefined d ms qs e))
-stored_value v x m null d ms qs e s = rw (put_temporary v x null d ms qs e s)
-stored_value v x m u d ms qs e s = rw (put_temporary v x u d ms qs e s) (rw (get_temporary v x u d ms qs e))
+pub stored_value : (no_all : Bool) (v : World) (x : Text) {A : Type 0} (m : M A) (u : Value) (d : Text → Cell) (ms : List Move) (qs : List Question) → v.scope x ≡ changeable → is_set (d x) ≡ true →
+    store_and_test no_all v x m u (state d ms qs) ≡ cut_where (is_nullish u) m (state (with_cell x u d) ms qs)
+stored_value no_all v x m null d ms qs e s = rw (put_temporary v x null d ms qs e s) (null_tested no_all)
+  where
+    null_tested : (b : Bool) → value_tested b v (identifier x) (stop cut) m null (state (with_cell x null d) ms qs) ≡ stop cut (state (with_cell x null d) ms qs)
+    null_tested true = refl
+    null_tested false = refl
+stored_value true v x m undefined d ms qs e s = rw (put_temporary v x undefined d ms qs e s)
+stored_value false v x m undefined d ms qs e s = rw (put_temporary v x undefined d ms qs e s) (rw (get_temporary v x undefined d ms qs e))
+stored_value true v x m u d ms qs e s = rw (put_temporary v x u d ms qs e s)
+stored_value false v x m u d ms qs e s = rw (put_temporary v x u d ms qs e s) (rw (get_temporary v x u d ms qs e))

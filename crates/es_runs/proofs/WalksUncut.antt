@@ -21,8 +21,9 @@ pub tidy_more : (ts us : List Tree) → AllTidy ts → AllTidy us → AllTidy (t
 tidy_more [] us h g = g
 tidy_more (t ∷ ts) us h g = (h.0, tidy_more ts us h.1 g)
 
-pub tidy_tests : (e again : Tree) → strays false e ≡ false → strays false again ≡ false → AllTidy (tests_of e again)
-tidy_tests e again h g = (or_both (strays false e) false h refl, (or_both (strays false again) false g refl, tt))
+pub tidy_tests : (no_all : Bool) (e again : Tree) → strays false e ≡ false → strays false again ≡ false → AllTidy (tests_of no_all e again)
+tidy_tests true e again h g = (or_both (strays false e) false h refl, tt)
+tidy_tests false e again h g = (or_both (strays false e) false h refl, (or_both (strays false again) false g refl, tt))
 
 pub tidy_store : (x : Text) (e : Tree) → strays false e ≡ false → strays false (assign_node (identifier x) e) ≡ false
 tidy_store x e h = or_both (strays false e) false h refl

@@ -6,8 +6,8 @@ use Rattle.es_tree.specs.Bare.{bare, bare_label, bare_fields, bare_field, bare_t
 use Rattle.es_tree.specs.Names.{first_text}
 use Rattle.es_tree.specs.Tree.{Tree, node, Label, Fields, done, ◌then◌, Field, missing, one, many, statements, Trees, empty, ◌before◌, trees, tree_size, fields_size, field_size, trees_size}
 use Rattle.es_tree.specs.declared.ast_type.AstType.{AstType}
-use Rattle.es_tree.specs.declared.ast_type.AstType.TheVariants.{AssignmentExpression, BinaryExpression, LogicalExpression}
-use Rattle.es_runs.specs.Rules.{tested, tested_by}
+use Rattle.es_tree.specs.declared.ast_type.AstType.TheVariants.{AssignmentExpression, BinaryExpression, CallExpression, LogicalExpression, MemberExpression}
+use Rattle.es_runs.specs.Rules.{is_marked, tested, tested_by}
 use Rattle.es_runs.specs.Open.{Pending, declarator_node, written, declared, with_vars}
 use Rattle.es_runs.specs.LogicalAssignment.{is_assigning}
 use Rattle.es_runs.specs.Weights.{own_weight, weight, fields_weight, field_weight, trees_weight, declarators_weight, declarators_size, pending_weight, pending_size}
@@ -67,6 +67,8 @@ own_bound LogicalExpression l fs = if_bound (bytes_eq (first_text l.texts) (code
 own_bound BinaryExpression l fs = if_bound (bytes_eq (first_text l.texts) (codes "**")) 8 0 60 (omega arith) (omega arith)
 own_bound AssignmentExpression l fs =
     if_bound (bytes_eq (first_text l.texts) (codes "**=")) 44 (if is_assigning (first_text l.texts) then 60 else 0) 60 (omega arith) (if_bound (is_assigning (first_text l.texts)) 60 0 60 (omega arith) (omega arith))
+own_bound MemberExpression l fs = if_bound (is_marked MemberExpression l.flags) 28 0 60 (omega arith) (omega arith)
+own_bound CallExpression l fs = if_bound (is_marked CallExpression l.flags) 44 0 60 (omega arith) (omega arith)
 own_bound _ l fs = omega arith
 
 -- a tree weighs no less than it has nodes

@@ -13,7 +13,7 @@ use Rattle.es_runs.specs.Machine.Result.{gives}
 use Rattle.es_runs.specs.Core.{World, Binding, value, meaning, meanings, declared}
 use Rattle.es_runs.specs.Core.Binding.{changeable}
 use Rattle.es_tree.specs.Scopes.{Declared, declared_names}
-use Rattle.es_runs.specs.Runs.{made, scope_of, cells_of, run_with}
+use Rattle.es_runs.specs.Runs.{made, scope_of, cells_of, run_where}
 use Rattle.es_runs.specs.Rules.{pending}
 use Rattle.es_runs.specs.Open.{Pending, declarator_node, written}
 
@@ -62,14 +62,14 @@ cells_of-vars [] ds y = refl
 cells_of-vars (x ∷ xs) ds y = ap (λ (b : Cell). if bytes_eq y x then holds undefined else b) (cells_of-vars xs ds y) ∙ or_later (bytes_eq y x) (one_of xs y) (holds undefined) (cells_of ds y)
 
 -- a run depends on the declared names by their bindings and cells alone
-same_names : (ds es : List Declared) (p : Tree) (this : Value) (moves : List Move) → ((y : Text) → scope_of es y ≡ scope_of ds y) → ((y : Text) → cells_of es y ≡ cells_of ds y) → run_with es p this moves ≡ run_with ds p this moves
-same_names ds es p this moves h g =
-    let after : (Text → Binding) → (Text → Cell) → Result Value = λ scope cells. let w : World = record { scope = scope; this = this } in value w (meaning w p) (state cells moves []) in
+same_names : (loose : Bool) (ds es : List Declared) (p : Tree) (this : Value) (moves : List Move) → ((y : Text) → scope_of es y ≡ scope_of ds y) → ((y : Text) → cells_of es y ≡ cells_of ds y) → run_where loose es p this moves ≡ run_where loose ds p this moves
+same_names loose ds es p this moves h g =
+    let after : (Text → Binding) → (Text → Cell) → Result Value = λ scope cells. let w : World = record { scope = scope; this = this; counts_all = loose } in value w (meaning w p) (state cells moves []) in
     λ i. after (λ y. h y i) (λ y. g y i)
 
-pub pending_vars : (xs : List Text) (ds : List Declared) (p : Tree) (this : Value) (moves : List Move) → run_with (vars xs ++ ds) p this moves ≡ run_with (all_pending xs ds) p this moves
-pending_vars xs ds p this moves =
-    same_names (all_pending xs ds) (vars xs ++ ds) p this moves
+pub pending_vars : (loose : Bool) (xs : List Text) (ds : List Declared) (p : Tree) (this : Value) (moves : List Move) → run_where loose (vars xs ++ ds) p this moves ≡ run_where loose (all_pending xs ds) p this moves
+pending_vars loose xs ds p this moves =
+    same_names loose (all_pending xs ds) (vars xs ++ ds) p this moves
     (λ y. scope_of-vars xs ds y ∙ sym (scope_of-all_pending xs ds y))
     (λ y. cells_of-vars xs ds y ∙ sym (cells_of-all_pending xs ds y))
 

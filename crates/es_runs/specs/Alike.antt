@@ -69,6 +69,7 @@ pub record SameWorld (hidden : Text → Bool) (w v : World) : Type 0 where
   pub scope : (x : Text) → hidden x ≡ false → v.scope x ≡ w.scope x
   pub this : v.this ≡ w.this
   pub math : hidden (codes "Math") ≡ false
+  pub counts : v.counts_all ≡ w.counts_all
 
 -- What a place takes of the node that stands there: no evaluation, its value, or its reference; and its form or not.
 pub data Level : Type 0 where

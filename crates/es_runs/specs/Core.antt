@@ -20,10 +20,12 @@ use Rattle.es_runs.specs.Machine.Result.{gives, stops}
 pub data Binding : Type 0 where
   free changeable constant : Binding
 
--- What doesn't change in a run: how each name is bound, and the value of `this`.
+-- What doesn't change in a run: how each name is bound, the value of `this`, and whether `document.all` counts as null for
+-- `==`. It does (ECMA-262, B.3.6.2); where no value is `document.all`, both machines do the same.
 pub record World : Type 0 where
   pub scope : Text → Binding
   pub this : Value
+  pub counts_all : Bool
 
 -- A reference is a name, or an object with a key; anything else is a plain value (ECMA-262, 6.2.5).
 pub data Reference : Type 0 where
@@ -257,18 +259,18 @@ unary w op e = unary_by w (unary_class op) op e
 abbrev pub is_equality : Text → Bool
 is_equality op = bytes_eq op (codes "===") || bytes_eq op (codes "!==") || bytes_eq op (codes "==") || bytes_eq op (codes "!=")
 
-abbrev pub compared : Text → (Value → Bool) → Value → Bool
-compared op strictly v =
+abbrev pub compared : Bool → Text → (Value → Bool) → Value → Bool
+compared counts op strictly v =
     if bytes_eq op (codes "===") then strictly v
     else (if bytes_eq op (codes "!==") then not (strictly v)
-    else (if bytes_eq op (codes "==") then is_loosely_nullish v else not (is_loosely_nullish v)))
+    else (if bytes_eq op (codes "==") then is_loosely_nullish counts v else not (is_loosely_nullish counts v)))
 
 abbrev pub asked_binary : World → Text → Meaning → Meaning → M Value
 asked_binary w op l r = value w l >>= λ x. value w r >>= λ y. ask (operator op (x and y and none))
 
 abbrev pub equality : World → Text → Meaning → Meaning → Form → M Value
-equality w op l r null_form = value w l >>= λ v. return (boolean (compared op is_null v))
-equality w op l r void_zero = value w l >>= λ v. return (boolean (compared op is_undefined v))
+equality w op l r null_form = value w l >>= λ v. return (boolean (compared w.counts_all op is_null v))
+equality w op l r void_zero = value w l >>= λ v. return (boolean (compared w.counts_all op is_undefined v))
 equality w op l r _ = asked_binary w op l r
 
 abbrev pub binary : World → Text → Meaning → Meaning → Meaning

@@ -12,5 +12,6 @@ pub mod Open
 pub mod OpenSteps
 pub mod OpenRules
 pub mod Weights
+pub mod ChainWeights
 pub mod OpenLaws
 pub mod StaticLaws

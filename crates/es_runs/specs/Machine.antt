@@ -115,12 +115,12 @@ is_callable (host n callable truthy all) = callable
 is_callable (bound f r vs) = true
 is_callable _ = false
 
--- undefined, null and `document.all` (ECMA-262, 7.2.14 and B.3.6.2)
-abbrev pub is_loosely_nullish : Value → Bool
-is_loosely_nullish undefined = true
-is_loosely_nullish null = true
-is_loosely_nullish (host n callable truthy all) = all
-is_loosely_nullish _ = false
+-- undefined, null and, where it counts, `document.all` (ECMA-262, 7.2.14 and B.3.6.2)
+abbrev pub is_loosely_nullish : Bool → Value → Bool
+is_loosely_nullish counts undefined = true
+is_loosely_nullish counts null = true
+is_loosely_nullish counts (host n callable truthy all) = counts && all
+is_loosely_nullish counts _ = false
 
 abbrev pub is_undefined : Value → Bool
 is_undefined undefined = true

@@ -1,5 +1,5 @@
 -- How an open program runs, and the laws of the rules of core programs.
-use Rattle.std.specs.Prelude.{◌≡◌, true, List, [], ◌++◌, codes}
+use Rattle.std.specs.Prelude.{◌≡◌, Bool, true, List, [], ◌++◌, codes}
 use Rattle.es_tree.specs.Words.{Text}
 use Rattle.es_tree.specs.Bare.{bare}
 use Rattle.es_tree.specs.Names.{names_of}
@@ -9,7 +9,8 @@ use Rattle.es_tree.specs.Scopes.{Declared, declared_of, declared_names}
 use Rattle.es_tree.specs.Tree.{Tree, trees}
 use Rattle.es_runs.specs.Machine.{Value, Move, Result}
 use Rattle.es_runs.specs.Alike.{all_of_it}
-use Rattle.es_runs.specs.Runs.{run, run_with, outcome, SameRun, RunAlike, is_declared}
+use Rattle.es_runs.specs.Rules.{IsTidy}
+use Rattle.es_runs.specs.Runs.{run, run_with, outcome, SameRun, RunAlike, IsAssumed, is_declared}
 use Rattle.es_runs.specs.Runs.Outcome.{called_uncallable}
 use Rattle.es_runs.specs.Open.{Pending, nothing_pending, Open, open_node, OpenFields, ◌and◌, list, opened, closed}
 use Rattle.es_runs.specs.OpenSteps.{Ledger, ledger, Step, Steps, Reached, whole_of}
@@ -31,14 +32,15 @@ pending_of (open_node k l fs) = pending_names fs
 abbrev pub run_open : Open → Value → List Move → Result Value
 run_open o = run_with (pending_of o ++ declared_of (closed o)) (closed o)
 
--- Whatever steps are taken from a core program, at whatever places and in whatever order: source and open program run alike.
+-- Whatever steps are taken from a core program without optional marks outside chains, at whatever places and in whatever
+-- order: source and open program run alike.
 abbrev pub LawCoreRules : Type 0
-LawCoreRules = (p : Tree) (s : Ledger) (o : Open) → IsCoreProgram p → Steps (Step CoreRule all_of_it) (ledger (whole_of p) nothing_pending) (opened (bare p)) s o → (this : Value) (moves : List Move) → (outcome (run p this moves) ≡ called_uncallable → ⊥) → SameRun (is_declared (declared_of p)) (run p this moves) (run_open o this moves)
+LawCoreRules = (no_all : Bool) (p : Tree) (s : Ledger) (o : Open) → IsCoreProgram p → IsTidy p → Steps (Step (CoreRule no_all) all_of_it) (ledger (whole_of p) nothing_pending) (opened (bare p)) s o → (this : Value) (moves : List Move) → IsAssumed no_all this moves → (outcome (run p this moves) ≡ called_uncallable → ⊥) → SameRun (is_declared (declared_of p)) (run p this moves) (run_open o this moves)
 
--- A core program and what is reached from it run alike.
+-- Such a program and what is reached from it run alike.
 abbrev pub LawReached : Type 0
-LawReached = (p q : Tree) (names : List Text) → IsCoreProgram p → Reached CoreRule p names q → RunAlike p q
+LawReached = (no_all : Bool) (p q : Tree) (names : List Text) → IsCoreProgram p → IsTidy p → Reached (CoreRule no_all) p names q → RunAlike no_all p q
 
--- A name of the source is bound in what is reached from it exactly where it is bound in the source.
+-- A name of a core program is bound in what is reached from it exactly where it is bound in the source.
 abbrev pub LawReachedBindings : Type 0
-LawReachedBindings = (p q : Tree) (names : List Text) → IsCoreProgram p → Reached CoreRule p names q → (x : Text) → is_among (names_of p) x ≡ true → is_declared (declared_of q) x ≡ is_declared (declared_of p) x
+LawReachedBindings = (no_all : Bool) (p q : Tree) (names : List Text) → IsCoreProgram p → Reached (CoreRule no_all) p names q → (x : Text) → is_among (names_of p) x ≡ true → is_declared (declared_of q) x ≡ is_declared (declared_of p) x

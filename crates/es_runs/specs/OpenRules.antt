@@ -10,6 +10,7 @@ use Rattle.es_runs.specs.OpenSteps.{Whole, Ledger, ledger, Spot, at_node, at_lis
 use Rattle.es_runs.specs.Steps.{NullishRule, also_all}
 use Rattle.es_runs.specs.Exponentiation.{ExponentiationRule}
 use Rattle.es_runs.specs.LogicalAssignment.{LogicalAssignmentRule}
+use Rattle.es_runs.specs.OptionalChaining.{OptionalChainingRule}
 
 -- these fresh names more
 abbrev pub with_names : List Text → Whole → Whole
@@ -49,6 +50,13 @@ pub data raising_row (w : Whole) (xs : List Text) (n : Need) (t u : Tree) : Type
 abbrev pub Raising : Need → Ledger → Spot → Ledger → Spot → Type 0
 Raising = Replacing raising_row
 
+-- chains, where it is assumed or not that no value is `document.all`
+abbrev pub chaining_row : Bool → Whole → List Text → Need → Tree → Tree → Type 0
+chaining_row no_all w = OptionalChainingRule no_all (is_bound_in w) w.bound w.steady w.in_use
+
+abbrev pub Chaining : Bool → Need → Ledger → Spot → Ledger → Spot → Type 0
+Chaining no_all = Replacing (chaining_row no_all)
+
 -- what is pending for a list is written at its top
 pub data Writing : Need → Ledger → Spot → Ledger → Spot → Type 0 where
   writes : {n : Need} {s : Ledger} {p : Pending} {ts : Trees} → Writing n s (at_list p ts) s (at_list nothing_pending (written p ts))
@@ -63,9 +71,9 @@ where_on true R = R
 where_on false R = λ n s x s' y. ⊥
 
 -- the rules of core programs
-abbrev pub CoreRule : Need → Ledger → Spot → Ledger → Spot → Type 0
-CoreRule = either_rule Writing (either_rule Assigning (either_rule Coalescing Raising))
+abbrev pub CoreRule : Bool → Need → Ledger → Spot → Ledger → Spot → Type 0
+CoreRule no_all = either_rule Writing (either_rule Assigning (either_rule (either_rule Coalescing (Chaining no_all)) Raising))
 
 -- those that options ask for
 abbrev pub rule_under : EnvOptions → Need → Ledger → Spot → Ledger → Spot → Type 0
-rule_under o = either_rule Writing (either_rule (where_on o.es2021.logical_assignment_operators Assigning) (either_rule (where_on o.es2020.nullish_coalescing_operator Coalescing) (where_on o.es2016.exponentiation_operator Raising)))
+rule_under o = either_rule Writing (either_rule (where_on o.es2021.logical_assignment_operators Assigning) (either_rule (either_rule (where_on o.es2020.nullish_coalescing_operator Coalescing) (where_on o.es2020.optional_chaining (Chaining o.assumptions.no_document_all))) (where_on o.es2016.exponentiation_operator Raising)))

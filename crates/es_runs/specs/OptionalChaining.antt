@@ -3,14 +3,14 @@
 -- `tests ? void 0 : current`, `current` being the rest of the spine over what is stored.
 use Rattle.std.specs.Prelude.{◌≡◌, List, [], ◌∷◌, ◌++◌, ◌&&◌, ◌||◌, not, Bool, true, false, Option, Some, None, bytes_eq, codes}
 use Rattle.es_tree.specs.Words.{Text}
-use Rattle.es_tree.specs.Fresh.{IsFreshName, also, is_among, node_base}
+use Rattle.es_tree.specs.Fresh.{IsFreshName, also, node_base}
 use Rattle.es_tree.specs.Names.{first_text}
 use Rattle.es_tree.specs.Parens.{without_parens}
 use Rattle.es_tree.specs.Tree.{Tree, node, Label, done, ◌then◌, one, many, Trees, empty, ◌before◌, kind_of}
 use Rattle.es_tree.specs.declared.ast_type.AstType.{AstType}
 use Rattle.es_tree.specs.declared.ast_type.AstType.TheVariants.{BooleanLiteral, CallExpression, ChainExpression, Identifier, MemberExpression, Super, ThisExpression, UnaryExpression}
 use Rattle.es_runs.specs.Alike.{Level, Need}
-use Rattle.es_runs.specs.Alike.Level.{value_alone, an_operand_of_typeof, a_callee}
+use Rattle.es_runs.specs.Alike.Level.{no_evaluation, value_alone, an_operand_of_typeof, a_callee}
 use Rattle.es_runs.specs.Doubling.{has_no_fields}
 use Rattle.es_runs.specs.Rules.{assign_node, binary_node, conditional_at, in_place_of, logical_node, member_node, null_node, void_zero_node}
 use Rattle.es_runs.specs.Runs.{made, identifier}
@@ -27,15 +27,17 @@ abbrev pub is_name_among : (Text → Bool) → Tree → Bool
 is_name_among names (node Identifier l fs) = has_no_fields fs && names (first_text l.texts) && not (is_eval (first_text l.texts))
 is_name_among names _ = false
 
--- names that this lowering has taken, or these
-abbrev pub or_taken : List Text → (Text → Bool) → Text → Bool
-or_taken taken names x = is_among taken x || names x
+-- these names, or the one that was stored last, which nothing writes again before it is read
+abbrev pub or_held : Option Text → (Text → Bool) → Text → Bool
+or_held None names x = names x
+or_held (Some y) names x = bytes_eq x y || names x
 
 -- TESTS
 
--- whether `e`, read again as `again`, is null or undefined
-abbrev pub tests_of : Tree → Tree → List Tree
-tests_of e again = binary_node (codes "===") e null_node ∷ binary_node (codes "===") again void_zero_node ∷ []
+-- whether `e`, read again as `again`, is null or undefined; where no value is `document.all`, one loose test tells
+abbrev pub tests_of : Bool → Tree → Tree → List Tree
+tests_of true e again = binary_node (codes "==") e null_node ∷ []
+tests_of false e again = binary_node (codes "===") e null_node ∷ binary_node (codes "===") again void_zero_node ∷ []
 
 -- `t || u || ..`
 abbrev pub joined_by_or : Tree → List Tree → Tree
@@ -59,11 +61,11 @@ is_super _ = false
 
 -- The names that an object takes where a call has it as its receiver, the object, what is written for it, and what is read
 -- as the receiver: `this` for the objects of this test, a name that nothing writes again, or a temporary.
-pub data Receives (to_this : Tree → Bool) (steady in_use : Text → Bool) (taken : List Text) : List Text → Tree → Tree → Tree → Type 0 where
-  by_this : {o : Tree} → to_this o ≡ true → Receives to_this steady in_use taken [] o o this_node
-  by_name : {o : Tree} → to_this o ≡ false → is_name_among (or_taken taken steady) o ≡ true → Receives to_this steady in_use taken [] o o o
-  by_temporary : {o : Tree} {r : Text} → to_this o ≡ false → is_name_among (or_taken taken steady) o ≡ false → IsFreshName in_use (node_base o) r →
-      Receives to_this steady in_use taken (r ∷ []) o (assign_node (identifier r) o) (identifier r)
+pub data Receives (to_this : Tree → Bool) (steady in_use : Text → Bool) (holder : Option Text) : List Text → Tree → Tree → Tree → Type 0 where
+  by_this : {o : Tree} → to_this o ≡ true → Receives to_this steady in_use holder [] o o this_node
+  by_name : {o : Tree} → to_this o ≡ false → is_name_among (or_held holder steady) o ≡ true → Receives to_this steady in_use holder [] o o o
+  by_temporary : {o : Tree} {r : Text} → to_this o ≡ false → is_name_among (or_held holder steady) o ≡ false → IsFreshName in_use (node_base o) r →
+      Receives to_this steady in_use holder (r ∷ []) o (assign_node (identifier r) o) (identifier r)
 
 -- SPINES
 
@@ -103,56 +105,56 @@ abbrev pub call_method : Tree → Tree
 call_method c = member_node false c (identifier (codes "call"))
 
 -- after a callee is stored as c with its receiver r
-abbrev pub stored_call : Label → Trees → Way → List Text → Text → Tree → Tree → Way
-stored_call l arguments w names c callee r = record {
-  tests = w.tests ++ tests_of (assign_node (identifier c) callee) (identifier c);
+abbrev pub stored_call : Bool → Label → Trees → Way → List Text → Text → Tree → Tree → Way
+stored_call no_all l arguments w names c callee r = record {
+  tests = w.tests ++ tests_of no_all (assign_node (identifier c) callee) (identifier c);
   current = call_at l (call_method (identifier c)) (r before arguments);
   holder = Some c;
   taken = w.taken ++ names;
 }
 
 -- before a marked member: a name that may be read again is tested as it is, and everything else is stored
-pub data Tested (bound in_use : Text → Bool) : Way → Way → Type 0 where
-  as_name : {w : Way} → w.tests ≡ [] → is_name_among (or_taken w.taken bound) (without_parens w.current) ≡ true →
-      Tested bound in_use w (record w { tests = tests_of (without_parens w.current) (without_parens w.current); current = without_parens w.current })
+pub data Tested (no_all : Bool) (bound source in_use : Text → Bool) : Way → Way → Type 0 where
+  as_name : {w : Way} → w.tests ≡ [] → is_name_among bound (without_parens w.current) ≡ true →
+      Tested no_all bound source in_use w (record w { tests = tests_of no_all (without_parens w.current) (without_parens w.current); current = without_parens w.current })
   in_holder : {w : Way} {x : Text} → w.holder ≡ Some x →
-      Tested bound in_use w (record w { tests = w.tests ++ tests_of (assign_node (identifier x) (without_parens w.current)) (identifier x); current = identifier x })
-  in_temporary : {w : Way} {x : Text} → (w.tests ≡ [] → is_name_among (or_taken w.taken bound) (without_parens w.current) ≡ false) → w.holder ≡ None → IsFreshName (also_all w.taken in_use) (node_base w.current) x →
-      Tested bound in_use w (record { tests = w.tests ++ tests_of (assign_node (identifier x) (without_parens w.current)) (identifier x); current = identifier x; holder = Some x; taken = w.taken ++ x ∷ [] })
+      Tested no_all bound source in_use w (record w { tests = w.tests ++ tests_of no_all (assign_node (identifier x) (without_parens w.current)) (identifier x); current = identifier x })
+  in_temporary : {w : Way} {x : Text} → (w.tests ≡ [] → is_name_among source (without_parens w.current) ≡ false) → w.holder ≡ None → IsFreshName (also_all w.taken in_use) (node_base w.current) x →
+      Tested no_all bound source in_use w (record { tests = w.tests ++ tests_of no_all (assign_node (identifier x) (without_parens w.current)) (identifier x); current = identifier x; holder = Some x; taken = w.taken ++ x ∷ [] })
 
 -- at a marked call: a name that may be read again is tested as it is; a callee is stored, and with it its receiver
-pub data Called (bound steady in_use : Text → Bool) (l : Label) (arguments : Trees) : Way → Way → Type 0 where
-  by_name : {w : Way} → w.tests ≡ [] → is_name_among (or_taken w.taken bound) (without_parens w.current) ≡ true →
-      Called bound steady in_use l arguments w (record w { tests = tests_of (without_parens w.current) (without_parens w.current); current = call_at l (without_parens w.current) arguments })
-  by_value : {w : Way} {c : Text} → (w.tests ≡ [] → is_name_among (or_taken w.taken bound) (without_parens w.current) ≡ false) → is_member (without_parens w.current) ≡ false →
+pub data Called (no_all : Bool) (bound source steady in_use : Text → Bool) (l : Label) (arguments : Trees) : Way → Way → Type 0 where
+  by_name : {w : Way} → w.tests ≡ [] → is_name_among bound (without_parens w.current) ≡ true →
+      Called no_all bound source steady in_use l arguments w (record w { tests = tests_of no_all (without_parens w.current) (without_parens w.current); current = call_at l (without_parens w.current) arguments })
+  by_value : {w : Way} {c : Text} → (w.tests ≡ [] → is_name_among source (without_parens w.current) ≡ false) → is_member (without_parens w.current) ≡ false →
       IsFreshName (also_all w.taken in_use) (node_base (without_parens w.current)) c →
-      Called bound steady in_use l arguments w (record { tests = w.tests ++ tests_of (assign_node (identifier c) (without_parens w.current)) (identifier c); current = call_at l (identifier c) arguments; holder = Some c; taken = w.taken ++ c ∷ [] })
+      Called no_all bound source steady in_use l arguments w (record { tests = w.tests ++ tests_of no_all (assign_node (identifier c) (without_parens w.current)) (identifier c); current = call_at l (identifier c) arguments; holder = Some c; taken = w.taken ++ c ∷ [] })
   -- with no test so far the callee's name is made before the receiver's
   by_first_member : {w : Way} {k : Label} {computed : Bool} {o o1 p r : Tree} {c : Text} {xs : List Text} → w.tests ≡ [] → without_parens w.current ≡ node MemberExpression k (one o then one p then done) → k.flags ≡ computed ∷ false ∷ [] →
-      IsFreshName (also_all w.taken in_use) (node_base (without_parens w.current)) c → Receives is_this_or_super steady (also c (also_all w.taken in_use)) w.taken xs o o1 r →
-      Called bound steady in_use l arguments w (stored_call l arguments w (c ∷ xs) c (member_at k computed o1 p) r)
+      IsFreshName (also_all w.taken in_use) (node_base (without_parens w.current)) c → Receives is_this_or_super steady (also c (also_all w.taken in_use)) w.holder xs o o1 r →
+      Called no_all bound source steady in_use l arguments w (stored_call no_all l arguments w (c ∷ xs) c (member_at k computed o1 p) r)
   -- and else after it
   by_later_member : {w : Way} {k : Label} {computed : Bool} {o o1 p r t : Tree} {ts : List Tree} {c : Text} {xs : List Text} → w.tests ≡ t ∷ ts → without_parens w.current ≡ node MemberExpression k (one o then one p then done) → k.flags ≡ computed ∷ false ∷ [] →
-      Receives is_this_or_super steady (also_all w.taken in_use) w.taken xs o o1 r → IsFreshName (also_all xs (also_all w.taken in_use)) (node_base (without_parens w.current)) c →
-      Called bound steady in_use l arguments w (stored_call l arguments w (xs ++ c ∷ []) c (member_at k computed o1 p) r)
+      Receives is_this_or_super steady (also_all w.taken in_use) w.holder xs o o1 r → IsFreshName (also_all xs (also_all w.taken in_use)) (node_base (without_parens w.current)) c →
+      Called no_all bound source steady in_use l arguments w (stored_call no_all l arguments w (xs ++ c ∷ []) c (member_at k computed o1 p) r)
 
 mutual
   -- what a spine becomes, step by step from its base
-  pub data Walked (bound steady in_use : Text → Bool) : Tree → Way → Type 0 where
-    base : {e : Tree} → is_link e ≡ false → Walked bound steady in_use e (start e)
-    plain_member : {l : Label} {computed : Bool} {o p : Tree} {w : Way} → l.flags ≡ computed ∷ false ∷ [] → Walked bound steady in_use o w →
-        Walked bound steady in_use (node MemberExpression l (one o then one p then done)) (record w { current = member_at l computed w.current p })
-    plain_call : {l : Label} {f : Tree} {arguments : Trees} {w : Way} → l.flags ≡ false ∷ [] → Walked bound steady in_use f w →
-        Walked bound steady in_use (node CallExpression l (one f then many arguments then done)) (record w { current = call_at l w.current arguments })
-    marked_member : {l : Label} {computed : Bool} {o p : Tree} {w u : Way} → l.flags ≡ computed ∷ true ∷ [] → Continued bound steady in_use o w → Tested bound in_use w u →
-        Walked bound steady in_use (node MemberExpression l (one o then one p then done)) (record u { current = member_at l computed u.current p })
-    marked_call : {l : Label} {f : Tree} {arguments : Trees} {w u : Way} → l.flags ≡ true ∷ [] → Continued bound steady in_use f w → Called bound steady in_use l arguments w u →
-        Walked bound steady in_use (node CallExpression l (one f then many arguments then done)) u
+  pub data Walked (no_all : Bool) (bound source steady in_use : Text → Bool) : Tree → Way → Type 0 where
+    base : {e : Tree} → is_link e ≡ false → Walked no_all bound source steady in_use e (start e)
+    plain_member : {l : Label} {computed : Bool} {o p : Tree} {w : Way} → l.flags ≡ computed ∷ false ∷ [] → Walked no_all bound source steady in_use o w →
+        Walked no_all bound source steady in_use (node MemberExpression l (one o then one p then done)) (record w { current = member_at l computed w.current p })
+    plain_call : {l : Label} {f : Tree} {arguments : Trees} {w : Way} → l.flags ≡ false ∷ [] → Walked no_all bound source steady in_use f w →
+        Walked no_all bound source steady in_use (node CallExpression l (one f then many arguments then done)) (record w { current = call_at l w.current arguments })
+    marked_member : {l : Label} {computed : Bool} {o p : Tree} {w u : Way} → l.flags ≡ computed ∷ true ∷ [] → Continued no_all bound source steady in_use o w → Tested no_all bound source in_use w u →
+        Walked no_all bound source steady in_use (node MemberExpression l (one o then one p then done)) (record u { current = member_at l computed u.current p })
+    marked_call : {l : Label} {f : Tree} {arguments : Trees} {w u : Way} → l.flags ≡ true ∷ [] → Continued no_all bound source steady in_use f w → Called no_all bound source steady in_use l arguments w u →
+        Walked no_all bound source steady in_use (node CallExpression l (one f then many arguments then done)) u
 
   -- before a marked step a chain in parentheses is gone on with
-  pub data Continued (bound steady in_use : Text → Bool) : Tree → Way → Type 0 where
-    same_spine : {e : Tree} {w : Way} → (is_link e || not (is_chain_kind (kind_of (without_parens e)))) ≡ true → Walked bound steady in_use e w → Continued bound steady in_use e w
-    inner_spine : {e c : Tree} {l : Label} {w : Way} → is_link e ≡ false → without_parens e ≡ node ChainExpression l (one c then done) → Walked bound steady in_use c w → Continued bound steady in_use e w
+  pub data Continued (no_all : Bool) (bound source steady in_use : Text → Bool) : Tree → Way → Type 0 where
+    same_spine : {e : Tree} {w : Way} → (is_link e || not (is_chain_kind (kind_of (without_parens e)))) ≡ true → Walked no_all bound source steady in_use e w → Continued no_all bound source steady in_use e w
+    inner_spine : {e c : Tree} {l : Label} {w : Way} → is_link e ≡ false → without_parens e ≡ node ChainExpression l (one c then done) → Walked no_all bound source steady in_use c w → Continued no_all bound source steady in_use e w
 
 -- ROWS
 
@@ -165,8 +167,9 @@ abbrev pub has_tests : List Tree → Bool
 has_tests [] = false
 has_tests (t ∷ ts) = true
 
--- whether a place takes the value alone, or what `typeof` takes
+-- whether a place takes the value alone, or what `typeof` takes, or evaluates nothing, as that of a key without brackets
 abbrev pub takes_value : Level → Bool
+takes_value no_evaluation = true
 takes_value value_alone = true
 takes_value an_operand_of_typeof = true
 takes_value _ = false
@@ -182,18 +185,20 @@ abbrev pub bind_node : Tree → Tree → Tree
 bind_node current r = node CallExpression (made [] (false ∷ [])) (one (member_node false current (identifier (codes "bind"))) then many (r before empty) then done)
 
 -- what becomes of a chain that is a callee, through parentheses: a member is bound to its object
-pub data BoundCallee (steady in_use : Text → Bool) (taken : List Text) : List Text → Tree → Tree → Type 0 where
-  no_member : {e : Tree} → is_member e ≡ false → BoundCallee steady in_use taken [] e e
-  to_object : {k : Label} {computed : Bool} {o o1 p r : Tree} {xs : List Text} → k.flags ≡ computed ∷ false ∷ [] → Receives is_super steady in_use taken xs o o1 r →
-      BoundCallee steady in_use taken xs (node MemberExpression k (one o then one p then done)) (bind_node (member_at k computed o1 p) r)
+pub data BoundCallee (steady in_use : Text → Bool) (holder : Option Text) : List Text → Tree → Tree → Type 0 where
+  no_member : {e : Tree} → is_member e ≡ false → BoundCallee steady in_use holder [] e e
+  to_object : {k : Label} {computed : Bool} {o o1 p r : Tree} {xs : List Text} → k.flags ≡ computed ∷ false ∷ [] → Receives is_super steady in_use holder xs o o1 r →
+      BoundCallee steady in_use holder xs (node MemberExpression k (one o then one p then done)) (bind_node (member_at k computed o1 p) r)
 
-pub data OptionalChainingRule (bound steady in_use : Text → Bool) : List Text → Need → Tree → Tree → Type 0 where
+-- `bound` are the names that are bound, and `source` those of them that the source binds: a name that was made may be read
+-- again, and needn't be
+pub data OptionalChainingRule (no_all : Bool) (bound source steady in_use : Text → Bool) : List Text → Need → Tree → Tree → Type 0 where
   -- a chain at a place that takes its value
-  by_tests : {n : Need} {m : Label} {e : Tree} {w : Way} → takes_value n.level ≡ true → Walked bound steady in_use e w → has_tests w.tests ≡ true →
-      OptionalChainingRule bound steady in_use w.taken n (node ChainExpression m (one e then done)) (where_short m w.tests void_zero_node w.current)
+  by_tests : {n : Need} {m : Label} {e : Tree} {w : Way} → takes_value n.level ≡ true → Walked no_all bound source steady in_use e w → has_tests w.tests ≡ true →
+      OptionalChainingRule no_all bound source steady in_use w.taken n (node ChainExpression m (one e then done)) (where_short m w.tests void_zero_node w.current)
   -- a chain that is the callee of a call without a mark
-  as_callee : {n : Need} {m : Label} {e d : Tree} {w : Way} {xs : List Text} → n.level ≡ a_callee → Walked bound steady in_use e w → has_tests w.tests ≡ true → BoundCallee steady (also_all w.taken in_use) w.taken xs w.current d →
-      OptionalChainingRule bound steady in_use (w.taken ++ xs) n (node ChainExpression m (one e then done)) (where_short m w.tests void_zero_node d)
+  as_callee : {n : Need} {m : Label} {e d : Tree} {w : Way} {xs : List Text} → n.level ≡ a_callee → Walked no_all bound source steady in_use e w → has_tests w.tests ≡ true → BoundCallee steady (also_all w.taken in_use) w.holder xs w.current d →
+      OptionalChainingRule no_all bound source steady in_use (w.taken ++ xs) n (node ChainExpression m (one e then done)) (where_short m w.tests void_zero_node d)
   -- `delete` of a chain
-  in_delete : {n : Need} {m l : Label} {t e : Tree} {w : Way} → m.texts ≡ Some (codes "delete") ∷ [] → without_parens t ≡ node ChainExpression l (one e then done) → Walked bound steady in_use e w → has_tests w.tests ≡ true →
-      OptionalChainingRule bound steady in_use w.taken n (node UnaryExpression m (one t then done)) (where_short m w.tests true_node (delete_node w.current))
+  in_delete : {n : Need} {m l : Label} {t e : Tree} {w : Way} → m.texts ≡ Some (codes "delete") ∷ [] → without_parens t ≡ node ChainExpression l (one e then done) → Walked no_all bound source steady in_use e w → has_tests w.tests ≡ true →
+      OptionalChainingRule no_all bound source steady in_use w.taken n (node UnaryExpression m (one t then done)) (where_short m w.tests true_node (delete_node w.current))

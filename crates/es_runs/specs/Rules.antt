@@ -1,5 +1,5 @@
 -- What the lowerings write, as nodes of the plain tree.
-use Rattle.std.specs.Prelude.{◌≡◌, ℕ, zero, suc, bytes_eq, ◌&&◌, ◌||◌, not, Bool, true, false, Some, List, [], ◌∷◌, codes}
+use Rattle.std.specs.Prelude.{◌≡◌, ℕ, zero, suc, ◌&&◌, ◌||◌, not, Bool, true, false, Some, List, [], ◌∷◌, codes}
 use Rattle.es_tree.specs.Words.{Text}
 use Rattle.es_tree.specs.declared.ast_type.AstType.{AstType}
 use Rattle.es_tree.specs.Tree.{Tree, Fields, Field, Trees, Label}
@@ -8,12 +8,10 @@ use Rattle.es_tree.specs.Tree.{node}
 use Rattle.es_tree.specs.Tree.{done, ◌then◌}
 use Rattle.es_tree.specs.Tree.{missing, one, many, statements}
 use Rattle.es_tree.specs.Tree.{empty, ◌before◌}
-use Rattle.es_runs.specs.Machine.{Value, Move}
 use Rattle.es_runs.specs.Core.{flag, flag_after}
-use Rattle.es_runs.specs.Alike.{Need, needs, all_of_it, value_and_form}
-use Rattle.es_tree.specs.Scopes.{Declared, declared_of}
-use Rattle.es_runs.specs.Runs.{made, identifier, run, run_with, outcome, SameRun, is_declared, stands}
-use Rattle.es_runs.specs.Runs.Outcome.{called_uncallable}
+use Rattle.es_runs.specs.Alike.{Need, needs}
+use Rattle.es_tree.specs.Scopes.{Declared}
+use Rattle.es_runs.specs.Runs.{made, identifier}
 
 abbrev pub parenthesized_node : Tree → Tree
 parenthesized_node e = node ParenthesizedExpression (made [] []) (one e then done)
@@ -76,12 +74,6 @@ mutual
 abbrev pub pending : Text → List Declared → List Declared
 pending x ds = record { name = x; kind = codes "var" } ∷ ds
 
-abbrev pub OpenAlike : Text → Tree → Tree → Type 0
-OpenAlike x p q = (this : Value) (moves : List Move) → (outcome (run p this moves) ≡ called_uncallable → ⊥) → SameRun (is_declared (declared_of p)) (run p this moves) (run_with (pending x (declared_of p)) q this moves)
-
-abbrev pub IsFresh : Text → Tree → Type 0
-IsFresh x p = (stands x p ≡ false) × (bytes_eq (codes "Math") x ≡ false) × (is_declared (declared_of p) x ≡ false)
-
 -- OPTIONAL MARKS
 
 abbrev pub is_marked : AstType → List Bool → Bool
@@ -115,19 +107,10 @@ abbrev mutual
   strays_nodes on empty = false
   strays_nodes on (n before ns) = strays on n || strays_nodes on ns
 
--- OPTIONAL MEMBERS
+-- no optional mark stands outside a chain (ECMA-262, 13.3: each stands in an optional expression)
+abbrev pub IsTidy : Tree → Type 0
+IsTidy p = strays false p ≡ false
 
+-- a member at no place of the source
 abbrev pub member_node : Bool → Tree → Tree → Tree
 member_node computed o p = node MemberExpression (made [] (computed ∷ false ∷ [])) (one o then one p then done)
-
--- `(x = e) === null || x === void 0`
-abbrev pub tests_node : Text → Tree → Tree
-tests_node x e = logical_node (codes "||") (binary_node (codes "===") (assign_node (identifier x) e) null_node) (binary_node (codes "===") (identifier x) void_zero_node)
-
--- `a?.p`, a chain of one step, at a place that takes its value alone
-pub data OptionalMemberRow (x : Text) : Need → Tree → Tree → Type 0 where
-  optional_member_row : {form : Bool} {l m : Label} {computed : Bool} {a p : Tree} → m.flags ≡ computed ∷ true ∷ [] → strays false a ≡ false → strays false p ≡ false → OptionalMemberRow x (value_and_form form) (node ChainExpression l (one (node MemberExpression m (one a then one p then done)) then done)) (conditional_node (tests_node x a) void_zero_node (member_node computed (identifier x) p))
-
--- A step of optional chaining at a chain of one optional member keeps the runs.
-abbrev pub LawOptionalMember : Type 0
-LawOptionalMember = (x : Text) (p q : Tree) → IsFresh x p → OnePlace (OptionalMemberRow x) all_of_it p q → OpenAlike x p q

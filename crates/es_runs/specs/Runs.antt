@@ -1,10 +1,12 @@
 -- Runs of programs, and when two programs run alike.
-use Rattle.std.specs.Prelude.{◌≡◌, Bool, true, false, List, [], ◌∷◌, bytes_eq, codes, if◌then◌else◌, not, Option, Some}
+use Rattle.std.specs.Prelude.{◌≡◌, ◌&&◌, Bool, true, false, List, [], ◌∷◌, bytes_eq, codes, if◌then◌else◌, not, Option, Some}
 use Rattle.es_tree.specs.Words.{Text}
 use Rattle.es_tree.specs.declared.ast_type.AstType.TheVariants.{Program, Identifier, VariableDeclaration, VariableDeclarator}
 use Rattle.es_tree.specs.Tree.{Tree, node, Label, done, ◌then◌, missing, one, many, statements, Trees, empty, ◌before◌}
-use Rattle.es_runs.specs.Machine.{Value, ◌>>=◌, Question, Move, Cell, State, Result}
-use Rattle.es_runs.specs.Machine.Value.{undefined}
+use Rattle.es_runs.specs.Machine.{Value, Values, ◌>>=◌, Question, Move, Cell, State, Result}
+use Rattle.es_runs.specs.Machine.Value.{undefined, host, bound}
+use Rattle.es_runs.specs.Machine.Values.{none, ◌and◌}
+use Rattle.es_runs.specs.Machine.Move.{answer, throw}
 use Rattle.es_runs.specs.Machine.Cell.{unset, holds}
 use Rattle.es_runs.specs.Machine.State.{state}
 use Rattle.es_runs.specs.Machine.Stop.{throws, waits, uncallable}
@@ -33,12 +35,16 @@ cells_of (d ∷ ds) x = if bytes_eq x d.name then first_cell d.kind else cells_o
 
 -- RUNS (ECMA-262, 16.1.6 and 16.1.7)
 
-abbrev pub world_of : Value → List Declared → World
-world_of this ds = record { scope = scope_of ds; this = this }
+abbrev pub world_of : Bool → Value → List Declared → World
+world_of counts this ds = record { scope = scope_of ds; this = this; counts_all = counts }
 
--- the run of a program with these declared names
+-- the run of a program with these declared names, where `document.all` counts as null for `==`, or not
+abbrev pub run_where : Bool → List Declared → Tree → Value → List Move → Result Value
+run_where counts ds p this moves = let w = world_of counts this ds in value w (meaning w p) (state (cells_of ds) moves [])
+
+-- where it counts, as ECMA-262 has it
 abbrev pub run_with : List Declared → Tree → Value → List Move → Result Value
-run_with ds p this moves = let w = world_of this ds in value w (meaning w p) (state (cells_of ds) moves [])
+run_with = run_where true
 
 abbrev pub run : Tree → Value → List Move → Result Value
 run p = run_with (declared_of p) p
@@ -74,9 +80,35 @@ pub record SameRun (counts : Text → Bool) (r q : Result Value) : Type 0 where
 abbrev pub is_declared : List Declared → Text → Bool
 is_declared ds x = not (is_free (scope_of ds x))
 
--- Source and output run alike: for each value of `this` and list of moves, unless the source calls what isn't callable.
-abbrev pub RunAlike : Tree → Tree → Type 0
-RunAlike p q = (this : Value) (moves : List Move) → (outcome (run p this moves) ≡ called_uncallable → ⊥) → SameRun (is_declared (declared_of p)) (run p this moves) (run q this moves)
+-- THE ASSUMPTION THAT NO VALUE IS `document.all`
+
+-- no host value in a value is `document.all`
+abbrev mutual
+  pub lacks_all : Value → Bool
+  lacks_all (host n callable truthy all) = not all
+  lacks_all (bound f r vs) = lacks_all f && lacks_all r && values_lack vs
+  lacks_all _ = true
+
+  pub values_lack : Values → Bool
+  values_lack none = true
+  values_lack (v and vs) = lacks_all v && values_lack vs
+
+abbrev pub move_lacks : Move → Bool
+move_lacks (answer v) = lacks_all v
+move_lacks (throw v) = lacks_all v
+
+abbrev pub moves_lack : List Move → Bool
+moves_lack [] = true
+moves_lack (m ∷ ms) = move_lacks m && moves_lack ms
+
+-- where it is assumed that no value is `document.all`: neither `this` nor a move has one
+abbrev pub IsAssumed : Bool → Value → List Move → Type 0
+IsAssumed no_all this moves = no_all ≡ true → (lacks_all this ≡ true) × (moves_lack moves ≡ true)
+
+-- Source and output run alike, under this assumption or without it: for each value of `this` and list of moves, unless the
+-- source calls what isn't callable.
+abbrev pub RunAlike : Bool → Tree → Tree → Type 0
+RunAlike no_all p q = (this : Value) (moves : List Move) → IsAssumed no_all this moves → (outcome (run p this moves) ≡ called_uncallable → ⊥) → SameRun (is_declared (declared_of p)) (run p this moves) (run q this moves)
 
 -- FRESH NAMES
 
@@ -110,16 +142,16 @@ program l directives body = node Program l (many directives then statements body
 
 -- A `var` of a name that stands nowhere keeps the runs.
 abbrev pub LawFresh : Type 0
-LawFresh = (x : Text) (l : Label) (ds body : Trees) → stands x (program l ds body) ≡ false → bytes_eq (codes "Math") x ≡ false → is_declared (declared_of (program l ds body)) x ≡ false → RunAlike (program l ds body) (program l ds (var_statement x before body))
+LawFresh = (x : Text) (l : Label) (ds body : Trees) → stands x (program l ds body) ≡ false → bytes_eq (codes "Math") x ≡ false → is_declared (declared_of (program l ds body)) x ≡ false → RunAlike false (program l ds body) (program l ds (var_statement x before body))
 
--- e and d evaluate alike at what a place takes
-abbrev pub EvaluateAlike : Level → Tree → Tree → Type 0
-EvaluateAlike no_evaluation e d = Unit {0}
-EvaluateAlike value_alone e d = (w : World) (s : State) → value w (meaning w d) s ≡ value w (meaning w e) s
-EvaluateAlike an_operand_of_typeof e d = (w : World) (s : State) → ((meaning w d).reference >>= typeof_value w) s ≡ ((meaning w e).reference >>= typeof_value w) s
-EvaluateAlike a_target e d = (w : World) (s : State) → (meaning w d).reference s ≡ (meaning w e).reference s
-EvaluateAlike a_callee e d = (w : World) (s : State) → (meaning w d).reference s ≡ (meaning w e).reference s
-EvaluateAlike whole_reference e d = (w : World) (s : State) → (meaning w d).reference s ≡ (meaning w e).reference s
+-- e and d evaluate alike at what a place takes, under the assumption or without it
+abbrev pub EvaluateAlike : Bool → Level → Tree → Tree → Type 0
+EvaluateAlike no_all no_evaluation e d = Unit {0}
+EvaluateAlike no_all value_alone e d = (w : World) → w.counts_all ≡ not no_all → (s : State) → value w (meaning w d) s ≡ value w (meaning w e) s
+EvaluateAlike no_all an_operand_of_typeof e d = (w : World) → w.counts_all ≡ not no_all → (s : State) → ((meaning w d).reference >>= typeof_value w) s ≡ ((meaning w e).reference >>= typeof_value w) s
+EvaluateAlike no_all a_target e d = (w : World) → w.counts_all ≡ not no_all → (s : State) → (meaning w d).reference s ≡ (meaning w e).reference s
+EvaluateAlike no_all a_callee e d = (w : World) → w.counts_all ≡ not no_all → (s : State) → (meaning w d).reference s ≡ (meaning w e).reference s
+EvaluateAlike no_all whole_reference e d = (w : World) → w.counts_all ≡ not no_all → (s : State) → (meaning w d).reference s ≡ (meaning w e).reference s
 
 pub data Swaps (need : Need) (e d : Tree) : Need → Tree → Tree → Type 0 where
   swaps : Swaps need e d need e d
@@ -130,4 +162,4 @@ Swapped need e d p q = Near (bad_names none_hidden none_hidden) (Swaps need e d)
 
 -- Replacing an expression by one that evaluates alike, at what the place takes of it, keeps the runs.
 abbrev pub LawPlace : Type 0
-LawPlace = (need : Need) (e d p q : Tree) → Swapped need e d p q → EvaluateAlike need.level e d → ((w : World) → need.form ≡ true → (meaning w d).form ≡ (meaning w e).form) → declared_of q ≡ declared_of p → RunAlike p q
+LawPlace = (no_all : Bool) (need : Need) (e d p q : Tree) → Swapped need e d p q → EvaluateAlike no_all need.level e d → ((w : World) → need.form ≡ true → (meaning w d).form ≡ (meaning w e).form) → declared_of q ≡ declared_of p → RunAlike no_all p q

@@ -1,5 +1,5 @@
 -- The rules of core programs keep the static rules.
-use Rattle.std.specs.Prelude.{◌≡◌, List, []}
+use Rattle.std.specs.Prelude.{◌≡◌, Bool, List, []}
 use Rattle.es_tree.specs.Words.{Text}
 use Rattle.es_tree.specs.Bare.{bare}
 use Rattle.es_tree.specs.Core.{IsCoreProgram}
@@ -32,8 +32,8 @@ abbrev mutual
 -- Whatever steps are taken from a core program that keeps the static rules: with everything pending written, the program
 -- keeps them.
 abbrev pub LawStaticRules : Type 0
-LawStaticRules = (p : Tree) (s : Ledger) (o : Open) → IsCoreProgram p → breaks p ≡ [] → Steps (Step CoreRule all_of_it) (ledger (whole_of p) nothing_pending) (opened (bare p)) s o → breaks (written_out o) ≡ []
+LawStaticRules = (no_all : Bool) (p : Tree) (s : Ledger) (o : Open) → IsCoreProgram p → breaks p ≡ [] → Steps (Step (CoreRule no_all) all_of_it) (ledger (whole_of p) nothing_pending) (opened (bare p)) s o → breaks (written_out o) ≡ []
 
 -- What is reached from such a program keeps them.
 abbrev pub LawReachedRules : Type 0
-LawReachedRules = (p q : Tree) (names : List Text) → IsCoreProgram p → breaks p ≡ [] → Reached CoreRule p names q → breaks q ≡ []
+LawReachedRules = (no_all : Bool) (p q : Tree) (names : List Text) → IsCoreProgram p → breaks p ≡ [] → Reached (CoreRule no_all) p names q → breaks q ≡ []

@@ -3,7 +3,6 @@
 #![tactic(auto)]
 
 ghost use Rattle.es_runs.specs.OpenLaws.{LawCoreRules, LawReached, LawReachedBindings};
-ghost use Rattle.es_runs.specs.Rules.{LawOptionalMember};
 ghost use Rattle.es_runs.specs.Runs.{LawFresh, LawPlace};
 ghost use Rattle.es_runs.specs.StaticLaws.{LawReachedRules, LawStaticRules};
 
@@ -17,18 +16,13 @@ pub fn law_fresh()
     ensures { LawFresh }
 {}
 
-/// A step of optional chaining at a chain of one optional member keeps the runs.
-pub fn law_optional_member()
-    ensures { LawOptionalMember }
-{}
-
-/// Whatever steps of the rules of core programs are taken from a core program, at whatever places and in whatever order:
-/// source and open program run alike.
+/// Whatever steps of the rules of core programs are taken from a core program without optional marks outside chains, at
+/// whatever places and in whatever order: source and open program run alike.
 pub fn law_core_rules()
     ensures { LawCoreRules }
 {}
 
-/// A core program and what is reached from it run alike.
+/// Such a program and what is reached from it run alike.
 pub fn law_reached()
     ensures { LawReached }
 {}

@@ -1,0 +1,301 @@
+-- Where no value is `document.all`, it is the same whether it counts as null for `==` or not.
+use Rattle.std.proofs.Common.{Option, ◌≡◌, refl, List, [], ◌∷◌, ap}
+use Rattle.std.specs.Prelude.{Bool, true, false, bytes_eq, codes, if◌then◌else◌, ◌&&◌, not}
+use Rattle.es_tree.specs.Words.{Text}
+use Rattle.es_tree.specs.declared.ast_type.AstType.{AstType}
+use Rattle.es_tree.specs.Tree.{Tree, Fields, Field, Trees}
+use Rattle.es_tree.specs.declared.ast_type.AstType.TheVariants.{Program, ExpressionStatement, VariableDeclaration, VariableDeclarator, Identifier, ThisExpression, NullLiteral, BooleanLiteral, NumericLiteral, BigIntLiteral, StringLiteral, UnaryExpression, UpdateExpression, BinaryExpression, LogicalExpression, ConditionalExpression, AssignmentExpression, SequenceExpression, MemberExpression, CallExpression, NewExpression, ChainExpression, ParenthesizedExpression}
+use Rattle.es_tree.specs.Tree.{node}
+use Rattle.es_tree.specs.Tree.{done, ◌then◌}
+use Rattle.es_tree.specs.Tree.{missing, one, many, statements}
+use Rattle.es_tree.specs.Tree.{empty, ◌before◌}
+use Rattle.es_runs.specs.Machine.{Value, Values, M, return, Move, is_callable, is_nullish, is_true, is_null, is_undefined}
+use Rattle.es_runs.specs.Machine.Value.{undefined, null, boolean, number, bigint, text}
+use Rattle.es_runs.specs.Machine.Values.{none, ◌and◌}
+use Rattle.es_runs.specs.Machine.Question.{get, delete, put, construct, operator}
+use Rattle.es_runs.specs.Machine.State.{state}
+use Rattle.es_runs.specs.Machine.Stop.{cut, uncallable, unknown}
+use Rattle.es_tree.specs.Names.{first_text as first}
+use Rattle.es_tree.specs.Scopes.{Declared}
+use Rattle.es_runs.specs.Core.{World, Reference, Meaning, Form, value, values, get_value, put_value, gives_value, nothing, literal, name, cut_where, word_of, key, pow_form, static_form, member_form, member, receiver, run_call, plain_call, apply_call, apply_bind, method_call, unmarked_call, call_value, chain, typeof_value, delete_value, void_form, UnaryClass, unary_by, unary_class, is_equality, compared, asked_binary, equality, binary, goes_right, logical, conditional, last_value, AssignClass, assigned, assign_class, assignment, without_last, update_at, in_order, declared, Part, of_one, of_two, of_three, of_many, of_one_many, of_declarator, of_program, number_form, meaning_of, meaning, parts, part, meanings, second, flag, flag_after}
+use Rattle.es_runs.specs.Core.UnaryClass.{typeof_class, delete_class, void_class, not_class, asked_class}
+use Rattle.es_runs.specs.Core.AssignClass.{plainly, logically, compound}
+use Rattle.es_runs.specs.Core.Reference.{named, property, plain}
+use Rattle.es_runs.specs.Core.Form.{word, null_form, void_zero, math_pow, member_call, member_bind, other}
+use Rattle.es_runs.specs.Core.Part.{absent, single, several}
+use Rattle.es_runs.specs.Runs.{world_of, run_where, cells_of, lacks_all, moves_lack, IsAssumed}
+use Rattle.es_runs.proofs.Lacking.{NotAll, Anything, ReferenceNotAll, Matches, same_result, not_all, bind, loosen, returns, stopped, choice, asks, reads_name, writes, calls, applies_call, applies_bind, types_name, closed_matched, initialises, settles, first_cells}
+
+-- the two meanings of a node: the same form, and evaluations that match
+record Matching (a b : Meaning) : Type 0 where
+  evaluation : Matches ReferenceNotAll a.reference b.reference
+  form : b.form ≡ a.form
+
+data AllMatching : List Meaning → List Meaning → Type 0 where
+  no_more : AllMatching [] []
+  one_more : {a b : Meaning} {xs ys : List Meaning} → Matching a b → AllMatching xs ys → AllMatching (a ∷ xs) (b ∷ ys)
+
+data PartMatching : Part → Part → Type 0 where
+  absent_matching : PartMatching absent absent
+  single_matching : {a b : Meaning} → Matching a b → PartMatching (single a) (single b)
+  several_matching : {xs ys : List Meaning} → AllMatching xs ys → PartMatching (several xs) (several ys)
+
+data PartsMatching : List Part → List Part → Type 0 where
+  no_part : PartsMatching [] []
+  one_part : {p q : Part} {ps qs : List Part} → PartMatching p q → PartsMatching ps qs → PartsMatching (p ∷ ps) (q ∷ qs)
+
+plain_matching : {m k : M Value} → Matches NotAll m k → Matching (gives_value m) (gives_value k)
+plain_matching h = record { evaluation = bind h (λ u n. returns (plain u) n); form = refl }
+
+literal_matching : (u : Value) (f : Form) → NotAll u → Matching (literal u f) (literal u f)
+literal_matching u f h = record { evaluation = returns (plain u) h; form = refl }
+
+nothing_matching : Matching nothing nothing
+nothing_matching = record { evaluation = stopped unknown; form = refl }
+
+name_matching : (x : Text) → Matching (name x) (name x)
+name_matching x = record { evaluation = returns (named x) tt; form = refl }
+
+one_not_all : (b : Bool) (x y : Value) → NotAll x → NotAll y → NotAll (if b then x else y)
+one_not_all true x y h g = h
+one_not_all false x y h g = g
+
+-- PARTS
+
+one_matching : (f g : Meaning → Meaning) → ((a b : Meaning) → Matching a b → Matching (f a) (g b)) → {ps qs : List Part} → PartsMatching ps qs → Matching (of_one f ps) (of_one g qs)
+one_matching f g k (one_part (single_matching {a = a} {b = b} h) no_part) = k a b h
+one_matching f g k _ = nothing_matching
+
+two_matching : (f g : Meaning → Meaning → Meaning) → ((a a' b b' : Meaning) → Matching a a' → Matching b b' → Matching (f a b) (g a' b')) → {ps qs : List Part} → PartsMatching ps qs → Matching (of_two f ps) (of_two g qs)
+two_matching f g k (one_part (single_matching {a = a} {b = a'} h) (one_part (single_matching {a = b} {b = b'} i) no_part)) = k a a' b b' h i
+two_matching f g k _ = nothing_matching
+
+three_matching : (f g : Meaning → Meaning → Meaning → Meaning) → ((a a' b b' c c' : Meaning) → Matching a a' → Matching b b' → Matching c c' → Matching (f a b c) (g a' b' c')) → {ps qs : List Part} → PartsMatching ps qs → Matching (of_three f ps) (of_three g qs)
+three_matching f g k (one_part (single_matching {a = a} {b = a'} h) (one_part (single_matching {a = b} {b = b'} i) (one_part (single_matching {a = c} {b = c'} j) no_part))) = k a a' b b' c c' h i j
+three_matching f g k _ = nothing_matching
+
+many_matching : (f g : List Meaning → Meaning) → ((xs ys : List Meaning) → AllMatching xs ys → Matching (f xs) (g ys)) → {ps qs : List Part} → PartsMatching ps qs → Matching (of_many f ps) (of_many g qs)
+many_matching f g k (one_part (several_matching {xs = xs} {ys = ys} h) no_part) = k xs ys h
+many_matching f g k _ = nothing_matching
+
+one_many_matching : (f g : Meaning → List Meaning → Meaning) → ((a b : Meaning) (xs ys : List Meaning) → Matching a b → AllMatching xs ys → Matching (f a xs) (g b ys)) → {ps qs : List Part} → PartsMatching ps qs → Matching (of_one_many f ps) (of_one_many g qs)
+one_many_matching f g k (one_part (single_matching {a = a} {b = b} h) (one_part (several_matching {xs = xs} {ys = ys} i) no_part)) = k a b xs ys h i
+one_many_matching f g k _ = nothing_matching
+
+-- THE KINDS
+
+module _ (ds : List Declared) (this : Value) (lacks : NotAll this) where
+  -- where it counts as null, and where it doesn't
+  abbrev w : World
+  w = world_of true this ds
+
+  abbrev v : World
+  v = world_of false this ds
+
+  gets : (r : Reference) → ReferenceNotAll r → Matches NotAll (get_value w r) (get_value v r)
+  gets (named x) h = reads_name x (w.scope x)
+  gets (property o k) h = asks (get o k)
+  gets (plain u) h = returns u h
+
+  puts : (r : Reference) (u : Value) → NotAll u → Matches NotAll (put_value w r u) (put_value v r u)
+  puts (named x) u h = writes x u h (w.scope x)
+  puts (property o k) u h = bind (asks (put o k u)) (λ z n. returns u h)
+  puts (plain p) u h = stopped unknown
+
+  has_value : {a b : Meaning} → Matching a b → Matches NotAll (value w a) (value v b)
+  has_value h = bind h.evaluation gets
+
+  all_values : {xs ys : List Meaning} → AllMatching xs ys → Matches Anything (values w xs) (values v ys)
+  all_values no_more = returns none tt
+  all_values (one_more h hs) = bind (has_value h) (λ u n. bind (all_values hs) (λ us t. returns (u and us) tt))
+
+  last_matches : (u : Value) → NotAll u → {xs ys : List Meaning} → AllMatching xs ys → Matches NotAll (last_value w u xs) (last_value v u ys)
+  last_matches u n no_more = returns u n
+  last_matches u n (one_more h hs) = bind (has_value h) (λ x i. last_matches x i hs)
+
+  order_matches : {xs ys : List Meaning} → AllMatching xs ys → Matches NotAll (in_order w xs) (in_order v ys)
+  order_matches no_more = returns undefined refl
+  order_matches (one_more h hs) = bind (has_value h) (λ x i. order_matches hs)
+
+  declared_matches : (lets : Bool) {xs ys : List Meaning} → AllMatching xs ys → Matches NotAll (declared lets xs) (declared lets ys)
+  declared_matches lets no_more = returns undefined refl
+  declared_matches lets (one_more h hs) = bind h.evaluation (λ r i. bind (settles lets r) (λ x n. declared_matches lets hs))
+
+  -- members
+
+  cuts : {A : Type 0} {P : A → Type 0} (b : Bool) {m k : M A} → Matches P m k → Matches P (cut_where b m) (cut_where b k)
+  cuts true h = stopped cut
+  cuts false h = h
+
+  key_matches : (computed : Bool) (a b : Meaning) → Matching a b → Matches Anything (key w computed a) (key v computed b)
+  key_matches true a b h = loosen (has_value h)
+  key_matches false a b h = rw h.form (returns (word_of a.form) tt)
+
+  pow_same : (optional : Bool) (f : Form) → pow_form v optional f ≡ pow_form w optional f
+  pow_same true f = refl
+  pow_same false (word x) = refl
+  pow_same false _ = refl
+
+  static_same : (optional : Bool) (f : Form) (p : Text) → static_form v optional f p ≡ static_form w optional f p
+  static_same optional f p = rw (pow_same optional f)
+
+  member_same : (computed optional : Bool) (f g : Form) → member_form v computed optional f g ≡ member_form w computed optional f g
+  member_same true optional f g = refl
+  member_same false optional f (word p) = static_same optional f p
+  member_same false optional f _ = refl
+
+  member_matching : (computed optional : Bool) (a a' b b' : Meaning) → Matching a a' → Matching b b' → Matching (member w computed optional a b) (member v computed optional a' b')
+  member_matching computed optional a a' b b' h g = record {
+    evaluation = bind (has_value h) (λ o n. cuts (optional && is_nullish o) (bind (key_matches computed b b' g) (λ k t. returns (property o k) tt)));
+    form = rw (h.form, g.form) (member_same computed optional a.form b.form);
+  }
+
+  -- calls
+
+  runs : (b : Bool) (f r : Value) {xs ys : List Meaning} → AllMatching xs ys → Matches NotAll (run_call w b xs f r) (run_call v b ys f r)
+  runs true f r h = bind (all_values h) (λ us t. calls f r us)
+  runs false f r h = stopped uncallable
+
+  plain_call_matches : (optional : Bool) {xs ys : List Meaning} → AllMatching xs ys → (r : Reference) → ReferenceNotAll r → Matches NotAll (plain_call w optional xs r) (plain_call v optional ys r)
+  plain_call_matches optional h r i = bind (gets r i) (λ f n. cuts (optional && is_nullish f) (runs (is_callable f) f (receiver r) h))
+
+  method_matches : (apply : Value → Values → M Value) → ((f : Value) (us : Values) → Matches NotAll (apply f us) (apply f us)) → {xs ys : List Meaning} → AllMatching xs ys → (r : Reference) → ReferenceNotAll r → Matches NotAll (method_call w apply xs r) (method_call v apply ys r)
+  method_matches apply ok h (named x) i = plain_call_matches false h (named x) i
+  method_matches apply ok h (property o k) i = choice (is_callable o) (bind (all_values h) (λ us t. ok o us)) (plain_call_matches false h (property o k) i)
+  method_matches apply ok h (plain u) i = plain_call_matches false h (plain u) i
+
+  unmarked_matches : (f : Form) {m k : M Reference} → Matches ReferenceNotAll m k → {xs ys : List Meaning} → AllMatching xs ys → Matches NotAll (unmarked_call w f m xs) (unmarked_call v f k ys)
+  unmarked_matches math_pow h (one_more g (one_more f no_more)) = bind (has_value g) (λ x n. bind (has_value f) (λ y i. asks (operator (codes "**") (x and y and none))))
+  unmarked_matches math_pow h no_more = bind h (plain_call_matches false no_more)
+  unmarked_matches math_pow h (one_more g no_more) = bind h (plain_call_matches false (one_more g no_more))
+  unmarked_matches math_pow h (one_more g (one_more f (one_more e d))) = bind h (plain_call_matches false (one_more g (one_more f (one_more e d))))
+  unmarked_matches member_call h g = bind h (method_matches apply_call applies_call g)
+  unmarked_matches member_bind h g = bind h (method_matches apply_bind applies_bind g)
+  unmarked_matches _ h g = bind h (plain_call_matches false g)
+
+  call_matches : (optional : Bool) (a b : Meaning) → Matching a b → {xs ys : List Meaning} → AllMatching xs ys → Matches NotAll (call_value w optional a xs) (call_value v optional b ys)
+  call_matches true a b h g = bind h.evaluation (plain_call_matches true g)
+  call_matches false a b h g = rw h.form (unmarked_matches a.form h.evaluation g)
+
+  chain_matching : (a b : Meaning) → Matching a b → Matching (chain a) (chain b)
+  chain_matching a b h = record { evaluation = λ s n. closed_matched (h.evaluation s n); form = refl }
+
+  -- operators
+
+  types : (r : Reference) → ReferenceNotAll r → Matches NotAll (typeof_value w r) (typeof_value v r)
+  types (named x) h = types_name x (w.scope x)
+  types (property o k) h = bind (asks (get o k)) (λ u n. asks (operator (codes "typeof") (u and none)))
+  types (plain p) h = bind (gets (plain p) h) (λ u n. asks (operator (codes "typeof") (u and none)))
+
+  deletes : (r : Reference) → ReferenceNotAll r → Matches NotAll (delete_value w r) (delete_value v r)
+  deletes (named x) h = bind (gets (named x) h) (λ u n. returns (boolean true) refl)
+  deletes (property o k) h = asks (delete o k)
+  deletes (plain p) h = bind (gets (plain p) h) (λ u n. returns (boolean true) refl)
+
+  unary_matching : (c : UnaryClass) (op : Text) (a b : Meaning) → Matching a b → Matching (unary_by w c op a) (unary_by v c op b)
+  unary_matching typeof_class op a b h = plain_matching (bind h.evaluation types)
+  unary_matching delete_class op a b h = plain_matching (bind h.evaluation deletes)
+  unary_matching void_class op a b h = record { evaluation = bind (has_value h) (λ u n. returns (plain undefined) refl); form = ap void_form h.form }
+  unary_matching not_class op a b h = plain_matching (bind (has_value h) (λ u n. returns (boolean (not (is_true u))) refl))
+  unary_matching asked_class op a b h = plain_matching (bind (has_value h) (λ u n. asks (operator op (u and none))))
+
+  asked_matches : (op : Text) (a a' b b' : Meaning) → Matching a a' → Matching b b' → Matches NotAll (asked_binary w op a b) (asked_binary v op a' b')
+  asked_matches op a a' b b' h g = bind (has_value h) (λ x n. bind (has_value g) (λ y i. asks (operator op (x and y and none))))
+
+  -- here alone the two machines differ
+  silent_matches : (op : Text) (strictly : Value → Bool) (u : Value) → NotAll u → Matches NotAll (return (boolean (compared true op strictly u))) (return (boolean (compared false op strictly u)))
+  silent_matches op strictly u n = rw n (returns (boolean (compared true op strictly u)) refl)
+
+  equality_matches : (op : Text) (a a' b b' : Meaning) (f : Form) → Matching a a' → Matching b b' → Matches NotAll (equality w op a b f) (equality v op a' b' f)
+  equality_matches op a a' b b' null_form h g = bind (has_value h) (silent_matches op is_null)
+  equality_matches op a a' b b' void_zero h g = bind (has_value h) (silent_matches op is_undefined)
+  equality_matches op a a' b b' _ h g = asked_matches op a a' b b' h g
+
+  binary_matching : (op : Text) (a a' b b' : Meaning) → Matching a a' → Matching b b' → Matching (binary w op a b) (binary v op a' b')
+  binary_matching op a a' b b' h g = plain_matching (choice (is_equality op) (rw g.form (equality_matches op a a' b b' b.form h g)) (asked_matches op a a' b b' h g))
+
+  logical_matching : (op : Text) (a a' b b' : Meaning) → Matching a a' → Matching b b' → Matching (logical w op a b) (logical v op a' b')
+  logical_matching op a a' b b' h g = plain_matching (bind (has_value h) (λ u n. choice (goes_right op u) (has_value g) (returns u n)))
+
+  conditional_matching : (a a' b b' c c' : Meaning) → Matching a a' → Matching b b' → Matching c c' → Matching (conditional w a b c) (conditional v a' b' c')
+  conditional_matching a a' b b' c c' h g f = plain_matching (bind (has_value h) (λ u n. choice (is_true u) (has_value g) (has_value f)))
+
+  assigned_matches : (c : AssignClass) (op : Text) (a b : Meaning) → Matching a b → (r : Reference) → ReferenceNotAll r → Matches NotAll (assigned w c op a r) (assigned v c op b r)
+  assigned_matches plainly op a b h r i = bind (has_value h) (puts r)
+  assigned_matches logically op a b h r i = bind (gets r i) (λ x n. choice (goes_right (without_last op) x) (bind (has_value h) (puts r)) (returns x n))
+  assigned_matches compound op a b h r i = bind (gets r i) (λ x n. bind (has_value h) (λ y j. bind (asks (operator (without_last op) (x and y and none))) (puts r)))
+
+  assignment_matching : (op : Text) (a a' b b' : Meaning) → Matching a a' → Matching b b' → Matching (assignment w op a b) (assignment v op a' b')
+  assignment_matching op a a' b b' h g = plain_matching (bind h.evaluation (assigned_matches (assign_class op) op b b' g))
+
+  update_matches : (op : Text) (prefix : Bool) (r : Reference) → ReferenceNotAll r → Matches NotAll (update_at w op prefix r) (update_at v op prefix r)
+  update_matches op prefix r i =
+      bind (gets r i) (λ x n.
+      bind (asks (operator (codes "numeric") (x and none))) (λ old j.
+      bind (asks (operator op (old and none))) (λ new k.
+      bind (puts r new k) (λ z m. returns (if prefix then new else old) (one_not_all prefix new old k j)))))
+
+  declarator_parts : {ps qs : List Part} → PartsMatching ps qs → Matching (of_declarator w ps) (of_declarator v qs)
+  declarator_parts (one_part (single_matching h) (one_part absent_matching no_part)) = h
+  declarator_parts (one_part (single_matching h) (one_part (single_matching g) no_part)) = plain_matching (bind h.evaluation (λ r i. bind (has_value g) (λ u n. initialises u n r)))
+  declarator_parts _ = nothing_matching
+
+  program_parts : {ps qs : List Part} → PartsMatching ps qs → Matching (of_program w ps) (of_program v qs)
+  program_parts (one_part (several_matching h) (one_part (several_matching g) no_part)) = plain_matching (order_matches g)
+  program_parts _ = nothing_matching
+
+  kind_matching : (k : AstType) (ts : List (Option Text)) (fs : List Bool) {ps qs : List Part} → PartsMatching ps qs → Matching (meaning_of w k ts fs ps) (meaning_of v k ts fs qs)
+  kind_matching Identifier ts fs h = name_matching (first ts)
+  kind_matching ThisExpression ts fs h = literal_matching this other lacks
+  kind_matching NullLiteral ts fs h = literal_matching null null_form refl
+  kind_matching BooleanLiteral ts fs h = literal_matching (boolean (flag fs)) other refl
+  kind_matching NumericLiteral ts fs h = literal_matching (number (second ts)) (number_form (second ts)) refl
+  kind_matching BigIntLiteral ts fs h = literal_matching (bigint (second ts)) other refl
+  kind_matching StringLiteral ts fs h = literal_matching (text (first ts)) other refl
+  kind_matching UnaryExpression ts fs h = one_matching _ _ (unary_matching (unary_class (first ts)) (first ts)) h
+  kind_matching UpdateExpression ts fs h = one_matching _ _ (λ a b i. plain_matching (bind i.evaluation (update_matches (first ts) (flag fs)))) h
+  kind_matching BinaryExpression ts fs h = two_matching _ _ (binary_matching (first ts)) h
+  kind_matching LogicalExpression ts fs h = two_matching _ _ (logical_matching (first ts)) h
+  kind_matching ConditionalExpression ts fs h = three_matching _ _ conditional_matching h
+  kind_matching AssignmentExpression ts fs h = two_matching _ _ (assignment_matching (first ts)) h
+  kind_matching SequenceExpression ts fs h = many_matching _ _ (λ xs ys i. plain_matching (last_matches undefined refl i)) h
+  kind_matching MemberExpression ts fs h = two_matching _ _ (member_matching (flag fs) (flag_after fs)) h
+  kind_matching CallExpression ts fs h = one_many_matching _ _ (λ a b xs ys i j. plain_matching (call_matches (flag fs) a b i j)) h
+  kind_matching NewExpression ts fs h = one_many_matching _ _ (λ a b xs ys i j. plain_matching (bind (has_value i) (λ f n. bind (all_values j) (λ us t. asks (construct f us))))) h
+  kind_matching ChainExpression ts fs h = one_matching _ _ chain_matching h
+  kind_matching ParenthesizedExpression ts fs h = one_matching _ _ (λ a b i. record { evaluation = i.evaluation; form = refl }) h
+  kind_matching ExpressionStatement ts fs h = one_matching _ _ (λ a b i. plain_matching (has_value i)) h
+  kind_matching VariableDeclarator ts fs h = declarator_parts h
+  kind_matching VariableDeclaration ts fs h = many_matching _ _ (λ xs ys i. plain_matching (declared_matches (bytes_eq (first ts) (codes "let")) i)) h
+  kind_matching Program ts fs h = program_parts h
+  kind_matching _ ts fs h = nothing_matching
+
+  mutual
+    node_matching : (a : Tree) → Matching (meaning w a) (meaning v a)
+    node_matching (node k l fs) = kind_matching k l.texts l.flags (fields_matching fs)
+
+    fields_matching : (fs : Fields) → PartsMatching (parts w fs) (parts v fs)
+    fields_matching done = no_part
+    fields_matching (f then fs) = one_part (field_matching f) (fields_matching fs)
+
+    field_matching : (f : Field) → PartMatching (part w f) (part v f)
+    field_matching missing = absent_matching
+    field_matching (one n) = single_matching (node_matching n)
+    field_matching (many ns) = several_matching (nodes_matching ns)
+    field_matching (statements ns) = several_matching (nodes_matching ns)
+
+    nodes_matching : (ns : Trees) → AllMatching (meanings w ns) (meanings v ns)
+    nodes_matching empty = no_more
+    nodes_matching (n before ns) = one_more (node_matching n) (nodes_matching ns)
+
+  run_same : (p : Tree) (moves : List Move) → moves_lack moves ≡ true → run_where true ds p this moves ≡ run_where false ds p this moves
+  run_same p moves h = same_result (has_value (node_matching p) (state (cells_of ds) moves []) (first_cells ds, h))
+
+-- Where neither `this` nor a move has `document.all`, a run is the same whether it counts as null for `==` or not.
+pub without_all : (ds : List Declared) (p : Tree) (this : Value) (moves : List Move) → lacks_all this ≡ true → moves_lack moves ≡ true → run_where true ds p this moves ≡ run_where false ds p this moves
+without_all ds p this moves h g = run_same ds this (not_all this h) p moves g
+
+-- Under the assumption that no value is `document.all`, or without it, a run is that of the machine that goes with it.
+pub run_assumed : (no_all : Bool) (ds : List Declared) (p : Tree) (this : Value) (moves : List Move) → IsAssumed no_all this moves → run_where true ds p this moves ≡ run_where (not no_all) ds p this moves
+run_assumed true ds p this moves h = let both = h refl in without_all ds p this moves both.0 both.1
+run_assumed false ds p this moves h = refl
