@@ -1,6 +1,7 @@
 -- What is pending for the innermost list, with declarators of names more.
-use Rattle.std.proofs.Common.{◌≡◌, ◌+◌, ◌<◌, ◌≤◌, List, [], ◌∷◌, ◌++◌, map, length, refl, ap, arith}
+use Rattle.std.proofs.Common.{◌≡◌, ◌+◌, ◌*◌, ◌<◌, ◌≤◌, List, [], ◌∷◌, ◌++◌, map, length, append_assoc, refl, sym, ap, ◌∙◌, arith}
 use Rattle.std.proofs.lemmas.Bool.{and_from}
+use Rattle.std.proofs.lemmas.List.{map-append}
 use Rattle.std.specs.Prelude.{true, ◌&&◌}
 use Rattle.es_tree.specs.Tree.{Tree}
 use Rattle.es_tree.specs.Walks.{all_nodes}
@@ -8,6 +9,7 @@ use Rattle.es_tree.specs.Words.{Text}
 use Rattle.es_runs.proofs.Named.{and_left, and_right}
 use Rattle.es_runs.proofs.Weights.{with_no_vars, with_var_weight, with_var_size}
 use Rattle.es_runs.specs.Open.{Pending, declarator_node, with_vars}
+use Rattle.es_runs.specs.Weights.{pending_size, pending_weight}
 use Rattle.es_visit.specs.Moments.{are_inert, below, is_inert_node, lists_inert, lists_size, lists_weight, top}
 use Rattle.lower_common.specs.Stacks.{with_top}
 
@@ -42,10 +44,33 @@ pub with_no_names : (ps : List Pending) → with_top (with_vars []) ps ≡ ps
 with_no_names [] = refl
 with_no_names (p ∷ ps) = ap (λ (q : Pending). q ∷ ps) (with_no_vars p)
 
-pub with_name_weight : (x : Text) (ps : List Pending) → lists_weight (with_top (with_vars (x ∷ [])) ps) ≤ lists_weight ps + 4
-with_name_weight x [] = omega arith
-with_name_weight x (p ∷ ps) = let h = with_var_weight x p in omega arith
+-- names after names
 
-pub with_name_size : (x : Text) (ps : List Pending) → lists_size (with_top (with_vars (x ∷ [])) ps) ≤ lists_size ps + 2
-with_name_size x [] = omega arith
-with_name_size x (p ∷ ps) = let h = with_var_size x p in omega arith
+pub with_vars_then : (xs ys : List Text) (p : Pending) → with_vars ys (with_vars xs p) ≡ with_vars (xs ++ ys) p
+with_vars_then xs ys p = ap (λ (ds : List Tree). record p { vars = ds }) (append_assoc p.vars (map declarator_node xs) (map declarator_node ys) ∙ ap (λ ds. p.vars ++ ds) (sym (map-append declarator_node xs ys)))
+
+-- a declarator of a name weighs four, with the statement that may be written for it, and has two nodes
+
+with_vars_weight : (xs : List Text) (p : Pending) → pending_weight (with_vars xs p) ≡ pending_weight p + 4 * length xs
+with_vars_weight [] p = ap pending_weight (with_no_vars p) ∙ omega arith
+with_vars_weight (x ∷ xs) p =
+    let e = ap pending_weight (sym (with_vars_then (x ∷ []) xs p)) in
+    let h = with_vars_weight xs (with_vars (x ∷ []) p) in
+    let g = with_var_weight x p in
+    omega (arith, e, h, g)
+
+with_vars_size : (xs : List Text) (p : Pending) → pending_size (with_vars xs p) ≡ pending_size p + 2 * length xs
+with_vars_size [] p = ap pending_size (with_no_vars p) ∙ omega arith
+with_vars_size (x ∷ xs) p =
+    let e = ap pending_size (sym (with_vars_then (x ∷ []) xs p)) in
+    let h = with_vars_size xs (with_vars (x ∷ []) p) in
+    let g = with_var_size x p in
+    omega (arith, e, h, g)
+
+pub with_names_weight : (xs : List Text) (ps : List Pending) → lists_weight (with_top (with_vars xs) ps) ≤ lists_weight ps + 4 * length xs
+with_names_weight xs [] = omega arith
+with_names_weight xs (p ∷ ps) = let h = with_vars_weight xs p in omega (arith, h)
+
+pub with_names_size : (xs : List Text) (ps : List Pending) → lists_size (with_top (with_vars xs) ps) ≤ lists_size ps + 2 * length xs
+with_names_size xs [] = omega arith
+with_names_size xs (p ∷ ps) = let h = with_vars_size xs p in omega (arith, h)

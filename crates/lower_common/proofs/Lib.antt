@@ -1,8 +1,11 @@
 pub mod StoreLemmas
 pub mod CommonLemmas
 pub mod UidLemmas
+pub mod WrittenNames
 pub mod Inert
 pub mod Takings
 pub mod BareBases
 pub mod ReadAgain
 pub mod Doubled
+pub mod Parenthesized
+pub mod Replaced

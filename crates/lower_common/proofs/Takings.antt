@@ -1,6 +1,5 @@
 -- What a context adds where a node was lowered, put together, and as a change of the moment.
-use Rattle.std.proofs.Common.{◌≡◌, ℕ, ◌+◌, ◌||◌, List, [], ◌∷◌, ◌++◌, Bool, map, bytes_eq, append-nil, append_assoc, refl, sym, ap, ◌∙◌, arith, Option, Some, false}
-use Rattle.std.proofs.lemmas.List.{map-append}
+use Rattle.std.proofs.Common.{◌≡◌, ℕ, ◌+◌, ◌||◌, List, [], ◌∷◌, ◌++◌, Bool, bytes_eq, append-nil, append_assoc, refl, sym, ap, ◌∙◌, arith, Option, Some, false}
 use Rattle.es_tree.specs.Fresh.{IsFreshName, also}
 use Rattle.es_tree.specs.Words.{Text}
 use Rattle.es_scope.proofs.BoundContexts.{bound-read}
@@ -9,14 +8,14 @@ use Rattle.es_scope.specs.Contexts.{KeepsNames, KeptBeside, Refers, table_of, us
 use Rattle.es_scope.specs.Tables.{symbol_count}
 use Rattle.es_scope.specs.declared.context.TraverseCtx.{TraverseCtx}
 use Rattle.es_scope.specs.declared.flags.ReferenceFlags.{ReferenceFlags}
-use Rattle.es_runs.specs.Open.{Pending, declarator_node, with_vars}
+use Rattle.es_runs.specs.Open.{Pending, with_vars}
 use Rattle.es_runs.specs.Steps.{also_all}
 use Rattle.es_visit.specs.Moments.{Moment}
 use Rattle.lower_common.specs.Stacks.{with_top}
 use Rattle.lower_common.specs.Takings.{ReadsMore, Takes, WritesOnce, moment_of, writing}
 use Rattle.lower_common.specs.UidVars.{DeclaresVar}
 use Rattle.lower_common.specs.declared.state.TransformState.{TransformState}
-use Rattle.lower_common.proofs.Inert.{with_no_names}
+use Rattle.lower_common.proofs.Inert.{with_no_names, with_vars_then}
 use Rattle.lower_common.proofs.UidLemmas.{bound-declared, steady-declared}
 
 -- WHAT A CALL KEEPS, CALL AFTER CALL
@@ -99,9 +98,7 @@ also-append (x ∷ xs) ys f y = also-append xs ys (also x f) y
 
 with_names-append : (xs ys : List Text) (ps : List Pending) → with_top (with_vars ys) (with_top (with_vars xs) ps) ≡ with_top (with_vars (xs ++ ys)) ps
 with_names-append xs ys [] = refl
-with_names-append xs ys (p ∷ ps) =
-    let same : (p.vars ++ map declarator_node xs) ++ map declarator_node ys ≡ p.vars ++ map declarator_node (xs ++ ys) = append_assoc p.vars (map declarator_node xs) (map declarator_node ys) ∙ ap (λ ds. p.vars ++ ds) (sym (map-append declarator_node xs ys)) in
-    ap (λ ds. record p { vars = ds } ∷ ps) same
+with_names-append xs ys (p ∷ ps) = ap (λ (q : Pending). q ∷ ps) (with_vars_then xs ys p)
 
 pub takes_trans : {xs ys : List Text} {m n : ℕ} {a b c : Moment} → Takes xs m a b → Takes ys n b c → Takes (xs ++ ys) (m + n) a c
 takes_trans {xs = xs} {ys = ys} {a = a} {b = b} g h = record {

@@ -1,11 +1,11 @@
 -- What doubling an expression leaves: its first use, and so many further ones.
-use Rattle.std.specs.Prelude.{◌≡◌, ℕ, zero, suc, ◌+◌, ◌*◌, Bool, true, false, List, [], ◌∷◌, length, is_some}
+use Rattle.std.specs.Prelude.{◌≡◌, ℕ, zero, suc, ◌+◌, ◌*◌, Bool, true, false, List, [], ◌∷◌, length}
 use Rattle.es_tree.specs.Tree.{Tree, tree_size}
 use Rattle.es_tree.specs.Words.{Text}
-use Rattle.es_scope.specs.Contexts.{steady_of, table_of, uses_of}
-use Rattle.es_scope.specs.Tables.{binding_in}
+use Rattle.es_scope.specs.Contexts.{steady_of, uses_of}
 use Rattle.es_scope.specs.declared.context.TraverseCtx.{TraverseCtx}
 use Rattle.es_runs.specs.Doubling.{Doubles}
+use Rattle.lower_common.specs.BoundNames.{binds_name}
 use Rattle.lower_common.specs.Takings.{Takes, moment_of}
 use Rattle.lower_common.specs.declared.state.TransformState.{TransformState}
 
@@ -13,7 +13,7 @@ use Rattle.lower_common.specs.declared.state.TransformState.{TransformState}
 -- only those that no reference writes
 abbrev pub read_again_in : Bool → TraverseCtx TransformState → Text → Bool
 read_again_in true ctx x = steady_of ctx x
-read_again_in false ctx x = is_some (binding_in (table_of ctx) 0 x)
+read_again_in false ctx x = binds_name ctx x
 
 -- so many of the same
 abbrev pub repeated : ℕ → Tree → List Tree

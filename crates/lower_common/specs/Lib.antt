@@ -4,7 +4,10 @@ pub mod Store
 pub mod UidVars
 pub mod CommonLaws
 pub mod Takings
+pub mod BoundNames
 pub mod Duplicates
+pub mod Temporaries
 pub mod TemplateParts
 pub mod FurtherUses
 pub mod Replacings
+pub mod Parenthesized

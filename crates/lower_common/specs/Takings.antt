@@ -23,7 +23,7 @@ pub record Takes (names : List Text) (ids : ℕ) (a b : Moment) : Type 0 where
   pub around_is : b.around ≡ a.around
   pub options_are : b.options ≡ a.options
 
--- So many ids more, and no name: references that read may be added.
+-- So many ids more, and no name: references that read may be added, and such as write a name that is not steady.
 pub record ReadsMore {S : Type 0} (ids : ℕ) (old new : TraverseCtx S) : Type 0 where
   pub names : KeepsNames old new
   pub bound_is : (x : Text) → bound_of new x ≡ bound_of old x

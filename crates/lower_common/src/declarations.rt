@@ -20,7 +20,7 @@ use std::alloc::{AllocError, Global};
 use std::marker::Model;
 
 /// The place of made nodes.
-pub(crate) const MADE: Span = Span { start: 0, end: 0 };
+pub const MADE: Span = Span { start: 0, end: 0 };
 
 /// The declarators of one statement list.
 #[derive(Drop)]

@@ -7,6 +7,7 @@ ghost use Rattle.es_tree.specs.Views.{plain_fields};
 ghost use Rattle.es_scope.specs.Contexts.{steady_of, table_of};
 ghost use Rattle.es_scope.specs.Tables.{binding_in, symbol_count};
 ghost use Rattle.es_runs.specs.Doubling.{is_plain_template, is_read_again};
+ghost use Rattle.lower_common.specs.BoundNames.{binds_name};
 ghost use Rattle.lower_common.specs.Duplicates.{read_again_in};
 ghost use Rattle.lower_common.specs.TemplateParts.{is_cooked_part};
 ghost use Rattle.lower_common.specs.Takings.{ReadsMore};
@@ -32,12 +33,19 @@ pub const WRITES: ReferenceFlags = ReferenceFlags {
 };
 
 /// The symbol of a name, if the program's scope binds it.
-fn bound_symbol<S>(ctx: &TraverseCtx<S>, name: &str) -> Option<SymbolId>
+pub(crate) fn bound_symbol<S>(ctx: &TraverseCtx<S>, name: &str) -> Option<SymbolId>
     ensures binding { symbol_number result ≡ binding_in (table_of ctx.now) 0 name.now }
     ensures known { IfSome result (λ s. s.0 < symbol_count (table_of ctx.now)) }
 {
     let scoping = ctx.scoping();
     scoping.get_binding(scoping.root_scope_id(), name)
+}
+
+/// Whether the program's scope binds a name.
+pub fn is_bound<S>(name: &str, ctx: &TraverseCtx<S>) -> bool
+    ensures { result ≡ binds_name ctx.now name.now }
+{
+    bound_symbol(ctx, name).is_some()
 }
 
 /// Whether the program's scope binds a name and no reference writes it.
@@ -62,7 +70,7 @@ fn is_name_read_again(
     if mutated_symbol_needs_temp_var {
         is_steady(name, ctx)
     } else {
-        bound_symbol(ctx, name).is_some()
+        is_bound(name, ctx)
     }
 }
 
