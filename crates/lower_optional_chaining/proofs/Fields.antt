@@ -1,0 +1,59 @@
+-- What the code sees of the fields of chains and of what is done to them.
+use Rattle.std.proofs.Common.{◌≡◌, ◌<◌, List, [], ◌∷◌, length, refl, arith}
+use Rattle.std.specs.Prelude.{false}
+use Rattle.es_tree.specs.Tree.{Fields, done, ◌then◌, Field, missing, one, many, statements}
+use Rattle.es_tree.specs.Views.{plain_field, plain_fields}
+use Rattle.es_tree.specs.declared.node.Field.{Field as NodeField}
+use Rattle.lower_optional_chaining.specs.Parts.{calls_chain, holds_chain, is_single}
+
+-- ONE FIELD
+
+two_single : (f g : Field) (fs : Fields) → is_single (f then (g then fs)) ≡ false
+two_single (one t) g fs = refl
+two_single missing g fs = refl
+two_single (many ts) g fs = refl
+two_single (statements ts) g fs = refl
+
+two_holding : (f g : Field) (fs : Fields) → holds_chain (f then (g then fs)) ≡ false
+two_holding (one t) g fs = refl
+two_holding missing g fs = refl
+two_holding (many ts) g fs = refl
+two_holding (statements ts) g fs = refl
+
+pub more_than_single : (fs : List NodeField) → 1 < length fs → is_single (plain_fields fs) ≡ false
+more_than_single (f ∷ g ∷ fs) h = two_single (plain_field f) (plain_field g) (plain_fields fs)
+more_than_single [] h = absurd (omega (arith, h))
+more_than_single (f ∷ []) h = absurd (omega (arith, h))
+
+pub more_than_held : (fs : List NodeField) → 1 < length fs → holds_chain (plain_fields fs) ≡ false
+more_than_held (f ∷ g ∷ fs) h = two_holding (plain_field f) (plain_field g) (plain_fields fs)
+more_than_held [] h = absurd (omega (arith, h))
+more_than_held (f ∷ []) h = absurd (omega (arith, h))
+
+-- TWO FIELDS
+
+one_calling : (f : Field) → calls_chain (f then done) ≡ false
+one_calling (one t) = refl
+one_calling missing = refl
+one_calling (many ts) = refl
+one_calling (statements ts) = refl
+
+three_calling : (f g h : Field) (fs : Fields) → calls_chain (f then (g then (h then fs))) ≡ false
+three_calling (one t) (many ts) h fs = refl
+three_calling (one t) missing h fs = refl
+three_calling (one t) (one u) h fs = refl
+three_calling (one t) (statements ts) h fs = refl
+three_calling missing g h fs = refl
+three_calling (many ts) g h fs = refl
+three_calling (statements ts) g h fs = refl
+
+pub fewer_than_called : (fs : List NodeField) → length fs < 2 → calls_chain (plain_fields fs) ≡ false
+fewer_than_called [] h = refl
+fewer_than_called (f ∷ []) h = one_calling (plain_field f)
+fewer_than_called (f ∷ g ∷ fs) h = absurd (omega (arith, h))
+
+pub more_than_called : (fs : List NodeField) → 2 < length fs → calls_chain (plain_fields fs) ≡ false
+more_than_called (f ∷ g ∷ k ∷ fs) h = three_calling (plain_field f) (plain_field g) (plain_field k) (plain_fields fs)
+more_than_called [] h = absurd (omega (arith, h))
+more_than_called (f ∷ []) h = absurd (omega (arith, h))
+more_than_called (f ∷ g ∷ []) h = absurd (omega (arith, h))

@@ -1,0 +1,11 @@
+pub mod Fields
+pub mod PlacesOfValues
+pub mod Standing
+pub mod Receiving
+pub mod Testing
+pub mod Calling
+pub mod Spines
+pub mod Bound
+pub mod Chained
+pub mod Below
+pub mod Hooked
