@@ -1,10 +1,10 @@
 -- A logical assignment that became a logical expression, as a row that replaced it.
-use Rattle.std.proofs.Common.{inl, ◌≡◌, ◌<◌, ◌≤◌, ◌+◌, ◌*◌, ℕ, List, [], ◌∷◌, ◌++◌, length, length-append, refl, sym, ap, subst, ◌∙◌, arith, Option, Some, codes}
-use Rattle.std.specs.Prelude.{Bool, true, false, ◌&&◌, bytes_eq, if◌then◌else◌}
-use Rattle.es_tree.specs.Bare.{bare, bare_label, bare_fields}
+use Rattle.std.proofs.Common.{inl, ◌≡◌, ◌<◌, ◌≤◌, ◌+◌, ◌*◌, ℕ, List, [], ◌∷◌, ◌++◌, length, length-append, refl, sym, ap, subst, ◌∙◌, arith, Some, codes}
+use Rattle.std.specs.Prelude.{Bool, true, false, bytes_eq, if◌then◌else◌}
+use Rattle.es_tree.specs.Bare.{bare, bare_label}
 use Rattle.es_tree.specs.Heads.{head_of, label}
 use Rattle.es_tree.specs.Parens.{without_parens}
-use Rattle.es_tree.specs.Tree.{Tree, node, Label, Fields, done, ◌then◌, Field, one, many, Trees, empty, ◌before◌, tree_size, kind_of, label_of, fields_of}
+use Rattle.es_tree.specs.Tree.{Tree, node, Label, done, ◌then◌, one, many, empty, ◌before◌, tree_size, kind_of, label_of, fields_of}
 use Rattle.es_tree.specs.Words.{Text, assignment_operator_text, logical_operator_text}
 use Rattle.es_tree.specs.declared.kind.Kind.TheVariants.{AssignmentExpression as k-AssignmentExpression}
 use Rattle.es_tree.specs.declared.operators.AssignmentOperator.{AssignmentOperator}
@@ -21,21 +21,22 @@ use Rattle.es_runs.specs.Core.{without_last}
 use Rattle.es_runs.specs.LogicalAssignment.{LogicalAssignmentRule, assigned_where, is_assigning}
 use Rattle.es_runs.specs.LogicalAssignment.LogicalAssignmentRule.{to_name, to_static_member, to_computed_member}
 use Rattle.es_runs.specs.OpenRules.{assigning_row}
-use Rattle.es_runs.specs.Doubling.{Doubles, has_no_fields, is_read_again}
+use Rattle.es_runs.specs.Doubling.{Doubles, is_read_again}
 use Rattle.es_runs.specs.Doubling.Doubles.{by_temporary, read_again}
 use Rattle.es_runs.specs.Rules.{member_node}
 use Rattle.es_runs.specs.Steps.{also_all}
 use Rattle.es_runs.specs.Weights.{assignment_weight, weight}
 use Rattle.es_visit.specs.declared.hook.Hook.TheVariants.{Expression as h-Expression}
 use Rattle.es_visit.specs.Laws.{Entered, KeepsSort, is_row}
-use Rattle.lower_common.proofs.Takings.{takes_none, takes_reads}
+use Rattle.es_runs.proofs.ChainWeights.{stripped_size, stripped_weight}
+use Rattle.lower_common.proofs.Replaced.{entered_alone, entered_replaced}
+use Rattle.lower_common.proofs.Takings.{takes_none, takes_reads, takes_trans}
 use Rattle.lower_common.specs.Duplicates.{Duplicates}
 use Rattle.lower_common.specs.Replacings.{Replaces}
 use Rattle.lower_common.specs.Takings.{ReadsMore, Takes, moment_of}
 use Rattle.lower_common.specs.declared.state.TransformState.{TransformState}
-use Rattle.lower_editions.proofs.BareNodes.{assignment-bare, row-bare, without_parens-bare}
-use Rattle.lower_editions.proofs.Parenthesized.{below_size, below_weight}
-use Rattle.lower_editions.proofs.Replaced.{entered_alone, entered_replaced, takes_then}
+use Rattle.lower_editions.proofs.BareNodes.{assignment-bare, row-bare}
+use Rattle.lower_common.proofs.Parenthesized.{without_parens-bare}
 use Rattle.lower_editions.specs.AssigningParts.{DoublesMember, DoublesOnce, DoublesTarget, TwiceTarget, assigned_at, is_name}
 use Rattle.lower_editions.specs.AssigningParts.TwiceTarget.{twice_computed, twice_name, twice_static}
 use Rattle.lower_editions.specs.Assignings.{is_doubled_target, is_lowerable_assignment}
@@ -121,7 +122,7 @@ doubled_computed old mid next new o begin again key key_begin key_again read wri
       names = d.names ++ k.names;
       ids = d.ids + (k.ids + 2);
       twice = twice_computed flags d.doubles (doubles_before old mid d.takes k.doubles);
-      takes = takes_then d.takes (takes_reads mid next new k.takes more);
+      takes = takes_trans d.takes (takes_reads mid next new k.takes more);
       few = omega (arith, d.few, k.few);
       nodes = omega (arith, d.counted, k.counted, both);
       lighter = omega (arith, d.lighter, k.lighter, both);
@@ -172,15 +173,15 @@ replaced_opened : {old mid new : TraverseCtx TransformState} (e : AnyAssignmentE
     Replaces assigning_row old new (bare (plain_assignment_expression e)) (assigned_where (label_in e) (assignment_operator_text e.operator) read written (bare e.right))
 replaced_opened {old} {mid} {new} e read written assigning d more =
     let below = without_parens-bare e.left in
-    let w = below_weight (bare e.left) in
-    let s = below_size (bare e.left) in
+    let w = stripped_weight (bare e.left) in
+    let s = stripped_size (bare e.left) in
     let op = assigning_weight e.operator assigning in
     let test = test_weight (without_last (assignment_operator_text e.operator)) in
     record {
       names = d.names;
       ids = d.ids + 2;
       takes = takes_reads old mid new d.takes more;
-      row = λ n. row_of d.twice refl assigning below;
+      row = λ n fits. row_of d.twice refl assigning below;
       nodes = omega (arith, d.nodes, s, ap tree_size below);
       lighter = omega (arith, d.lighter, w, ap weight below, op, test);
     }
@@ -202,7 +203,7 @@ assigning_kinds (to_computed_member texts op target flags d k) = (λ h s. inl s,
 
 pub entered_assigned : (old new : TraverseCtx TransformState) (t u : Tree) → 0 < length old.state.var_declarations → Replaces assigning_row old new (bare t) (bare u) → Entered assigning_profile h-Expression (moment_of old) (bare t) (moment_of new) (bare u)
 entered_assigned old new t u there r =
-    let kinds = assigning_kinds (r.row all_of_it) in
+    let kinds = assigning_kinds (r.row all_of_it tt) in
     entered_replaced assigning_profile h-Expression old new (bare t) (bare u) r there (λ n s s' x y step. step) kinds.0 kinds.1 kinds.2
 
 pub left_unassigned : (ctx : TraverseCtx TransformState) (t : Tree) → is_row is_lowerable_assignment t ≡ false → Entered assigning_profile h-Expression (moment_of ctx) (bare t) (moment_of ctx) (bare t)

@@ -5,7 +5,7 @@ use Rattle.es_tree.specs.Bare.{bare, bare_fields, bare_label}
 use Rattle.es_tree.specs.Constructs.{is_big_int, is_nullish_coalescing}
 use Rattle.es_tree.specs.Names.{first_text}
 use Rattle.es_tree.specs.Parens.{without_parens}
-use Rattle.es_tree.specs.Tree.{Tree, node, Label, Fields, done, ◌then◌, Field, missing, one, many, statements, kind_of}
+use Rattle.es_tree.specs.Tree.{Tree, node, Label, Fields, done, ◌then◌, missing, one, many, statements, kind_of}
 use Rattle.es_tree.specs.declared.ast_type.AstType.{AstType}
 use Rattle.es_tree.specs.declared.ast_type.AstType.TheVariants.{AssignmentExpression, BinaryExpression, Identifier, LogicalExpression, MemberExpression, ParenthesizedExpression, PrivateIdentifier, ThisExpression}
 use Rattle.es_runs.specs.Doubling.{has_no_fields}
@@ -15,6 +15,7 @@ use Rattle.lower_editions.specs.Assignings.{has_doubled_key, is_doubled_target, 
 use Rattle.lower_editions.specs.Coalescings.{has_sides, is_leaf_where_read, is_lowerable_coalescing}
 use Rattle.lower_editions.specs.Powers.{has_power_key, is_lowerable_power, is_power_target}
 use Rattle.lower_editions.specs.Stable.{assignment_two, doubled_member, on_two, power_assignment_two, power_member, power_two, sides_two}
+use Rattle.lower_common.proofs.Parenthesized.{without_parens-bare}
 
 -- FIELDS AND PARENTHESES
 
@@ -29,14 +30,6 @@ two-bare P same _ = refl
 -- another way to say a test of the fields
 said-bare : (T U : Fields → Bool) → ((fs : Fields) → T fs ≡ U fs) → ((fs : Fields) → U (bare_fields fs) ≡ U fs) → (fs : Fields) → T (bare_fields fs) ≡ T fs
 said-bare T U said same fs = said (bare_fields fs) ∙ same fs ∙ sym (said fs)
-
-pub without_parens-bare : (t : Tree) → without_parens (bare t) ≡ bare (without_parens t)
-without_parens-bare (node ParenthesizedExpression l (one t then fs)) = without_parens-bare t
-without_parens-bare (node ParenthesizedExpression l done) = refl
-without_parens-bare (node ParenthesizedExpression l (missing then fs)) = refl
-without_parens-bare (node ParenthesizedExpression l (many ts then fs)) = refl
-without_parens-bare (node ParenthesizedExpression l (statements ts then fs)) = refl
-without_parens-bare (node _ l fs) = refl
 
 pub big-bare : (t : Tree) → is_big_int (kind_of (bare t)) ≡ is_big_int (kind_of t)
 big-bare (node k l fs) = refl

@@ -2,7 +2,7 @@
 use Rattle.std.proofs.Common.{inl, ◌≡◌, ◌<◌, List, [], ◌∷◌, length, refl, sym, ap, subst, ◌∙◌, arith, Some, codes}
 use Rattle.std.specs.Prelude.{Bool, true, false, bytes_eq}
 use Rattle.es_tree.specs.Bare.{bare, bare_label}
-use Rattle.es_tree.specs.Fresh.{IsFreshName, node_base}
+use Rattle.es_tree.specs.Fresh.{IsFreshName}
 use Rattle.es_tree.specs.Heads.{head_of, label}
 use Rattle.es_tree.specs.Tree.{Tree, node, Label, done, ◌then◌, one, tree_size, kind_of, label_of, fields_of}
 use Rattle.es_tree.specs.Words.{Text, logical_operator_text}
@@ -27,12 +27,12 @@ use Rattle.es_runs.specs.Weights.{weight}
 use Rattle.es_visit.specs.declared.hook.Hook.TheVariants.{Expression as h-Expression}
 use Rattle.es_visit.specs.Laws.{Entered, KeepsSort, is_row}
 use Rattle.lower_common.proofs.BareBases.{node_base-bare}
+use Rattle.lower_common.proofs.Replaced.{entered_alone, entered_replaced}
 use Rattle.lower_common.proofs.Takings.{takes_none}
 use Rattle.lower_common.specs.Replacings.{Replaces}
 use Rattle.lower_common.specs.Takings.{ReadsMore, moment_of}
 use Rattle.lower_common.specs.declared.state.TransformState.{TransformState}
 use Rattle.lower_editions.proofs.BareNodes.{coalescing-bare, row-bare}
-use Rattle.lower_editions.proofs.Replaced.{entered_alone, entered_replaced}
 use Rattle.lower_editions.specs.Coalescings.{at_span, is_leaf_where_read, is_lowerable_coalescing}
 use Rattle.lower_editions.specs.Profiles.{coalescing_profile}
 use Rattle.lower_editions.specs.Takings.{ByTemporary}
@@ -47,7 +47,7 @@ by_reading m l r reads texts again heavy alone = record {
   names = [];
   ids = 9;
   takes = takes_none reads;
-  row = λ n. reading_again texts again;
+  row = λ n fits. reading_again texts again;
   nodes = omega (arith, alone, tested_size m l l r, coalescing_size m l r);
   lighter = omega (arith, heavy, tested_weight m l l r, coalescing_weight m l r texts);
 }
@@ -108,7 +108,7 @@ replaced_by_temporary {old} {new} t made e opened lowerable again b =
       names = b.name ∷ [];
       ids = 13;
       takes = b.takes;
-      row = λ n. with_temporary texts (reads_again-bare (steady_of old) e.left ∙ again) (subst (λ c. IsFreshName (uses_of old) c b.name) (sym (node_base-bare e.left)) b.fresh);
+      row = λ n fits. with_temporary texts (reads_again-bare (steady_of old) e.left ∙ again) (subst (λ c. IsFreshName (uses_of old) c b.name) (sym (node_base-bare e.left)) b.fresh);
       nodes = omega (arith, tested_by_size m b.name (bare e.left) (bare e.right), coalescing_size m (bare e.left) (bare e.right));
       lighter = omega (arith, tested_by_weight m b.name (bare e.left) (bare e.right), coalescing_weight m (bare e.left) (bare e.right) texts);
     } in
@@ -123,7 +123,7 @@ coalescing_kinds (reading_again texts again) = (λ h s. inl s, refl, refl)
 
 pub entered_coalesced : (old new : TraverseCtx TransformState) (t u : Tree) → 0 < length old.state.var_declarations → Replaces coalescing_row old new (bare t) (bare u) → Entered coalescing_profile h-Expression (moment_of old) (bare t) (moment_of new) (bare u)
 entered_coalesced old new t u there r =
-    let kinds = coalescing_kinds (r.row all_of_it) in
+    let kinds = coalescing_kinds (r.row all_of_it tt) in
     entered_replaced coalescing_profile h-Expression old new (bare t) (bare u) r there (λ n s s' x y step. step) kinds.0 kinds.1 kinds.2
 
 pub left_uncoalesced : (ctx : TraverseCtx TransformState) (t : Tree) → is_row is_lowerable_coalescing t ≡ false → Entered coalescing_profile h-Expression (moment_of ctx) (bare t) (moment_of ctx) (bare t)

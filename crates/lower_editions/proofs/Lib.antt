@@ -1,9 +1,7 @@
 pub mod BareNodes
 pub mod Views
-pub mod Replaced
 pub mod Coalesced
 pub mod Switched
-pub mod Parenthesized
 pub mod TwoFields
 pub mod LeafTests
 pub mod Assigned

@@ -181,16 +181,16 @@ mutual
       and_from (all_nodes is_settled t) (all_in_trees is_settled ts) (kept_settled p t (and_left (all_nodes is_shaped t) (all_in_trees is_shaped ts) h) keeps.0) (trees_settled p ts (and_right (all_nodes is_shaped t) (all_in_trees is_shaped ts) h) keeps.1)
 
 -- whatever is reached from a core program that keeps the static rules
-pub settled_reached : (p q : Tree) (names : List Text) → IsCoreProgram p → breaks p ≡ [] → Reached CoreRule p names q → all_nodes is_settled q ≡ true
-settled_reached p q names is kept reached =
-    let rules = keep-none [] (visits Other q) (law_reached_rules_proof p q names is kept reached) in
-    kept_settled Other q (reached_shaped p q names is reached) (visits_keep Other q (each_own [] (visits Other q) rules))
+pub settled_reached : (no_all : Bool) (p q : Tree) (names : List Text) → IsCoreProgram p → breaks p ≡ [] → Reached (CoreRule no_all) p names q → all_nodes is_settled q ≡ true
+settled_reached no_all p q names is kept reached =
+    let rules = keep-none [] (visits Other q) (law_reached_rules_proof no_all p q names is kept reached) in
+    kept_settled Other q (reached_shaped no_all p q names is reached) (visits_keep Other q (each_own [] (visits Other q) rules))
 
 -- the same without its ids and marks
-pub bare_settled : (p q : Tree) (names : List Text) → IsCoreProgram p → breaks p ≡ [] → Reached CoreRule p names q → all_nodes is_settled (bare q) ≡ true
-bare_settled p q names is kept reached =
-    let rules = bare_keeps q (law_reached_rules_proof p q names is kept reached) in
-    kept_settled Other (bare q) (all-bare is_shaped shaped-bare q ∙ reached_shaped p q names is reached) (visits_keep Other (bare q) (each_own [] (visits Other (bare q)) rules))
+pub bare_settled : (no_all : Bool) (p q : Tree) (names : List Text) → IsCoreProgram p → breaks p ≡ [] → Reached (CoreRule no_all) p names q → all_nodes is_settled (bare q) ≡ true
+bare_settled no_all p q names is kept reached =
+    let rules = bare_keeps q (law_reached_rules_proof no_all p q names is kept reached) in
+    kept_settled Other (bare q) (all-bare is_shaped shaped-bare q ∙ reached_shaped no_all p q names is reached) (visits_keep Other (bare q) (each_own [] (visits Other (bare q)) rules))
 
 -- NONE IS LEFT
 

@@ -1,23 +1,22 @@
 -- The hook of exponentiation: a node is replaced, left alone, or refused.
-use Rattle.std.proofs.Common.{◌≡◌, ℕ, ◌<◌, List, [], ◌∷◌, length, refl, sym, ap, subst, ◌∙◌, inl, inr, Option, Some, None, is_some, codes}
+use Rattle.std.proofs.Common.{◌≡◌, ℕ, ◌<◌, List, [], ◌∷◌, length, refl, sym, subst, ◌∙◌, inl, inr, Option, Some, None, is_some, codes}
 use Rattle.std.proofs.lemmas.Option.{none-some}
 use Rattle.std.specs.Prelude.{Bool, true, false, ◌||◌}
 use Rattle.es_tree.specs.Bare.{bare}
-use Rattle.es_tree.specs.Tree.{Tree, node, kind_of}
+use Rattle.es_tree.specs.Tree.{Tree, node}
 use Rattle.es_tree.specs.Words.{Text}
 use Rattle.es_tree.specs.declared.ids.NodeId.{NodeId}
-use Rattle.es_tree.specs.declared.error.LowerError.{LowerError}
 use Rattle.es_tree.specs.declared.error.LowerError.TheVariants.{Unsupported}
 use Rattle.es_tree.specs.declared.error.UnsupportedKind.TheVariants.{MathBound}
-use Rattle.es_scope.proofs.BoundContexts.{found-bound, plain-unmade, unfound-unbound}
-use Rattle.es_scope.specs.Contexts.{bound_of, made_of, table_of}
+use Rattle.es_scope.proofs.BoundContexts.{plain-unmade, unfound-unbound}
+use Rattle.es_scope.specs.Contexts.{bound_of, table_of}
 use Rattle.es_scope.specs.Tables.{binding_in}
 use Rattle.es_scope.specs.declared.context.TraverseCtx.{TraverseCtx}
 use Rattle.es_runs.proofs.OpenTrees.{closed-opened}
 use Rattle.es_runs.specs.Alike.{Need, all_of_it}
 use Rattle.es_runs.specs.Exponentiation.ExponentiationRule.{power, power_assignment}
-use Rattle.es_runs.specs.Open.{closed, opened}
-use Rattle.es_runs.specs.OpenRules.{is_bound_in, raising_row}
+use Rattle.es_runs.specs.Open.{opened}
+use Rattle.es_runs.specs.OpenRules.{raising_row}
 use Rattle.es_runs.specs.OpenRules.raising_row.{raises}
 use Rattle.es_runs.specs.OpenSteps.{Whole}
 use Rattle.es_runs.specs.OpenSteps.Steps.{stays}
@@ -25,12 +24,12 @@ use Rattle.es_visit.specs.declared.hook.Hook.TheVariants.{Expression}
 use Rattle.es_visit.specs.Laws.{Entered, KeepsSort, is_row}
 use Rattle.es_visit.specs.Moments.{ledger_at, whole_at}
 use Rattle.es_visit.specs.Refusals.{RefusedTree, SomeNode}
+use Rattle.lower_common.proofs.Replaced.{entered_alone, entered_replaced}
 use Rattle.lower_common.specs.Replacings.{Replaces}
 use Rattle.lower_common.specs.Takings.{moment_of}
 use Rattle.lower_common.specs.declared.state.TransformState.{TransformState}
 use Rattle.lower_editions.proofs.BareNodes.{power-bare, row-bare}
 use Rattle.lower_editions.proofs.PowerTargets.{scope_bound}
-use Rattle.lower_editions.proofs.Replaced.{entered_alone, entered_replaced}
 use Rattle.lower_editions.specs.PowerTargets.{binds_name, bound_at}
 use Rattle.lower_editions.specs.Powers.{is_lowerable_power, is_power_made}
 use Rattle.lower_editions.specs.Profiles.{raising_profile}
@@ -44,7 +43,7 @@ raising_kinds w _ n _ _ (raises free (power_assignment {fs = f ∷ fs} texts rig
 
 pub entered_raised : (old new : TraverseCtx TransformState) (t u : Tree) → 0 < length old.state.var_declarations → Replaces raising_row old new (bare t) (bare u) → Entered raising_profile Expression (moment_of old) (bare t) (moment_of new) (bare u)
 entered_raised old new t u there r =
-    let kinds = raising_kinds (whole_at (moment_of old)) r.names all_of_it (bare t) (bare u) (r.row all_of_it) in
+    let kinds = raising_kinds (whole_at (moment_of old)) r.names all_of_it (bare t) (bare u) (r.row all_of_it tt) in
     entered_replaced raising_profile Expression old new (bare t) (bare u) r there (λ n s s' x y step. step) kinds.0 kinds.1 kinds.2
 
 pub left_unraised : (ctx : TraverseCtx TransformState) (t : Tree) → is_row is_lowerable_power t ≡ false → Entered raising_profile Expression (moment_of ctx) (bare t) (moment_of ctx) (bare t)

@@ -1,11 +1,10 @@
 -- An exponentiation that was opened, and what is made of it, as a row.
-use Rattle.std.proofs.Common.{◌≡◌, ℕ, ◌+◌, ◌*◌, ◌≤◌, List, [], ◌∷◌, ◌++◌, ◌==◌, map, length, refl, sym, ap, subst, ◌∙◌, arith, Some, codes}
+use Rattle.std.proofs.Common.{◌≡◌, ℕ, ◌+◌, ◌≤◌, List, [], ◌∷◌, ◌++◌, ◌==◌, map, length, refl, sym, ap, subst, ◌∙◌, arith, Some, codes}
 use Rattle.std.proofs.lemmas.List.{map-append}
 use Rattle.std.specs.Prelude.{Bool, true, false, ◌&&◌, not, bytes_eq}
 use Rattle.es_tree.specs.Bare.{bare, bare_label, bare_trees}
 use Rattle.es_tree.specs.Constructs.{is_big_int}
 use Rattle.es_tree.specs.Heads.{head_of, label}
-use Rattle.es_tree.specs.Names.{first_text}
 use Rattle.es_tree.specs.Parens.{without_parens}
 use Rattle.es_tree.specs.Tree.{Tree, Trees, node, Label, done, ◌then◌, one, many, trees, tree_size, trees_size, kind_of, label_of, fields_of}
 use Rattle.es_tree.specs.Words.{Text, assignment_operator_text, binary_operator_text}
@@ -19,20 +18,20 @@ use Rattle.es_scope.specs.Contexts.{uses_of}
 use Rattle.es_scope.specs.declared.context.TraverseCtx.{TraverseCtx}
 use Rattle.es_runs.proofs.Named.{and_left, and_right}
 use Rattle.es_runs.proofs.Temporary.{bytes_eq-equal}
-use Rattle.es_runs.specs.Exponentiation.{ExponentiationRule, TargetTwice, assign_at, assigned_power, power_at, power_node}
+use Rattle.es_runs.specs.Exponentiation.{TargetTwice, assign_at, assigned_power, power_at, power_node}
 use Rattle.es_runs.specs.Exponentiation.ExponentiationRule.{power, power_assignment}
 use Rattle.es_runs.specs.OpenRules.{is_bound_in, raising_row}
 use Rattle.es_runs.specs.OpenRules.raising_row.{raises}
 use Rattle.es_runs.specs.Rules.{assign_node, in_place_of}
-use Rattle.es_runs.specs.Weights.{assignment_weight, trees_weight, weight}
+use Rattle.es_runs.specs.Weights.{trees_weight, weight}
 use Rattle.es_visit.specs.Moments.{whole_at}
+use Rattle.es_runs.proofs.ChainWeights.{stripped_size, stripped_weight}
 use Rattle.lower_common.proofs.StoreLemmas.{bare_trees-trees}
 use Rattle.lower_common.proofs.Takings.{takes_none, takes_reads}
 use Rattle.lower_common.specs.Replacings.{Replaces}
 use Rattle.lower_common.specs.Takings.{ReadsMore, moment_of}
 use Rattle.lower_common.specs.declared.state.TransformState.{TransformState}
-use Rattle.lower_editions.proofs.BareNodes.{without_parens-bare}
-use Rattle.lower_editions.proofs.Parenthesized.{below_size, below_weight}
+use Rattle.lower_common.proofs.Parenthesized.{without_parens-bare}
 use Rattle.lower_editions.proofs.PowerBare.{kind-bare}
 use Rattle.lower_editions.proofs.PowerTargets.{trees_size-append, trees_weight-append}
 use Rattle.lower_editions.specs.Coalescings.{at_span}
@@ -75,7 +74,7 @@ operation_replaced old new m l r texts left right free reads =
       names = [];
       ids = 4;
       takes = takes_none reads;
-      row = λ n. raises free (power texts left right);
+      row = λ n fits. raises free (power texts left right);
       nodes = omega arith;
       lighter = omega (arith, heavy);
     }
@@ -87,13 +86,13 @@ assignment_replaced old mid new m t r first written read texts right free used r
     let whole = written_weight m first written read r in
     let many = written_size m first written read r in
     let around = few_around first in
-    let lighter = below_weight t in
-    let smaller = below_size t in
+    let lighter = stripped_weight t in
+    let smaller = stripped_size t in
     record {
       names = used.names;
       ids = used.ids + nodes_around first;
       takes = takes_reads old mid new used.takes reads;
-      row = λ n. raises free (power_assignment texts right used.rule);
+      row = λ n fits. raises free (power_assignment texts right used.rule);
       nodes = omega (arith, many, smaller, used.nodes);
       lighter = omega (arith, heavy, whole, around, lighter, used.lighter, used.few);
     }

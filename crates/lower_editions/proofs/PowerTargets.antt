@@ -1,6 +1,6 @@
 -- A part of a target that is used twice, by what its code makes of it.
-use Rattle.std.proofs.Common.{◌≡◌, ℕ, ◌+◌, ◌*◌, ◌<◌, ◌≤◌, List, [], ◌∷◌, ◌++◌, length, append-nil, length-append, refl, sym, ap, subst, ◌∙◌, arith, Option, Some, None, is_some, string_bytes}
-use Rattle.std.specs.Prelude.{Bool, true, false, ◌&&◌, ◌||◌, not}
+use Rattle.std.proofs.Common.{◌≡◌, ℕ, ◌+◌, ◌≤◌, List, [], ◌∷◌, ◌++◌, append-nil, length-append, refl, sym, ap, subst, ◌∙◌, arith, Option, Some, None, is_some, string_bytes}
+use Rattle.std.specs.Prelude.{Bool, true, false, ◌||◌, not}
 use Rattle.es_tree.specs.Bare.{bare}
 use Rattle.es_tree.specs.Constructs.{is_private_name}
 use Rattle.es_tree.specs.Fresh.{IsFreshName, node_base}
@@ -22,12 +22,11 @@ use Rattle.es_runs.specs.Runs.{identifier}
 use Rattle.es_runs.specs.Steps.{also_all}
 use Rattle.es_runs.specs.Weights.{trees_weight, weight}
 use Rattle.lower_common.proofs.BareBases.{node_base-bare}
-use Rattle.lower_common.proofs.Takings.{takes_none, takes_one, takes_reads, writes_one}
+use Rattle.lower_common.proofs.Takings.{takes_none, takes_one, takes_reads, takes_trans, writes_one}
 use Rattle.lower_common.specs.Takings.{ReadsMore, Takes, moment_of, writing}
 use Rattle.lower_common.specs.UidVars.{DeclaresVar}
 use Rattle.lower_common.specs.declared.state.TransformState.{TransformState}
 use Rattle.lower_editions.proofs.PowerBare.{literal_key-bare}
-use Rattle.lower_editions.proofs.Replaced.{takes_then}
 use Rattle.lower_editions.specs.PowerParts.{is_evaluated_key, is_expression_key, is_name}
 use Rattle.lower_editions.specs.PowerTargets.{AssignsTemporary, InTemporary, KeyTwice, UsedTwice, binds_name, bound_at, held_names, names_that_stay}
 use Rattle.lower_editions.specs.PowerTargets.KeyTwice.{named_key, private_key, written_again, by_temporary}
@@ -168,7 +167,7 @@ used_in_front old mid last new t copy x first written read h same before fresh t
     record {
       names = x ∷ [];
       ids = 6;
-      takes = takes_reads old last new (takes_then (takes_none before) taken) after;
+      takes = takes_reads old last new (takes_trans (takes_none before) taken) after;
       rule = moved (λ xs fs w again. TargetTwice (bound_at old) (uses_of old) xs fs t w again) g e d (other_target (bound_at old) (uses_of old) t x h (fresh_moved before.names.used (ap node_base same) fresh));
       few = omega arith;
       nodes = omega (arith, fz, ez, dz, leaf.alone);
@@ -309,7 +308,7 @@ used_member old mid last new ev c d l o k objects keys first object object_again
     record {
       names = a.names ++ b.names;
       ids = a.ids + b.ids + 2;
-      takes = takes_reads old last new (takes_then a.takes b.takes) more;
+      takes = takes_reads old last new (takes_trans a.takes b.takes) more;
       rule = moved (λ xs fs w again. TargetTwice (bound_at old) (uses_of old) xs fs (node MemberExpression l (one o then (one k then done))) w again) f e same (member_twice old l flags a.rule.0 kept);
       few = omega (arith, a.few, b.few);
       nodes = omega (arith, fz, ez, gz, count, a.nodes, b.nodes);

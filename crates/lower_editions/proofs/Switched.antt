@@ -10,9 +10,9 @@ use Rattle.es_visit.specs.Laws.{Entered, Profile}
 use Rattle.es_visit.specs.Moments.{Moment}
 use Rattle.es_visit.specs.Refusals.{RefusedTree}
 use Rattle.es_visit.proofs.BothHooks.{IsPart, tree_refused}
+use Rattle.lower_common.proofs.Replaced.{entered_alone, entered_moved}
 use Rattle.lower_common.specs.Takings.{moment_of}
 use Rattle.lower_common.specs.declared.state.TransformState.{TransformState}
-use Rattle.lower_editions.proofs.Replaced.{entered_alone, entered_moved}
 use Rattle.lower_editions.specs.Profiles.{switched}
 
 pub entered_on : (on : Bool) (p : Profile) (h : Hook) (a : Moment) (t : Tree) (b : Moment) (u : Tree) → on ≡ true → Entered p h a t b u → Entered (switched on p) h a t b u

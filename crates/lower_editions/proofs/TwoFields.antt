@@ -1,10 +1,9 @@
 -- What the code sees of fields that are two children.
 use Rattle.std.proofs.Common.{◌≡◌, ◌<◌, List, [], ◌∷◌, length, refl, arith}
-use Rattle.std.specs.Prelude.{Bool, true, false}
+use Rattle.std.specs.Prelude.{Bool, false}
 use Rattle.es_tree.specs.Tree.{Tree, Fields, done, ◌then◌, Field, missing, one, many, statements}
 use Rattle.es_tree.specs.Views.{plain_field, plain_fields}
 use Rattle.es_tree.specs.declared.node.Field.{Field as NodeField}
-use Rattle.es_tree.specs.declared.node.Field.TheVariants.{Missing, One, Many, Statements}
 use Rattle.lower_editions.specs.Stable.{on_two}
 
 module _ (P : Tree → Tree → Bool) where

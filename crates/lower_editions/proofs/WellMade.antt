@@ -1,5 +1,5 @@
 -- In a core program that has form each node is well made for the lowerings of operators, and steps of the rules keep it.
-use Rattle.std.proofs.Common.{◌≡◌, ℕ, refl, sym, ◌∙◌, inl, inr, List, [], ◌∷◌, ◌++◌, map, length}
+use Rattle.std.proofs.Common.{◌≡◌, ℕ, refl, sym, ap, ◌∙◌, inl, inr, List, [], ◌∷◌, ◌++◌, map, length}
 use Rattle.std.proofs.lemmas.Bool.{and_from}
 use Rattle.std.specs.Prelude.{Bool, true, false, ◌&&◌, Option, Some, None, codes, if◌then◌else◌}
 use Rattle.es_tree.proofs.NodeForm.{node_form}
@@ -12,7 +12,7 @@ use Rattle.es_tree.specs.Tree.{Tree, node, Label, Fields, done, ◌then◌, Fiel
 use Rattle.es_tree.specs.Walks.{all_nodes, all_in_fields, all_in_field, all_in_trees}
 use Rattle.es_tree.specs.Words.{Text}
 use Rattle.es_tree.specs.declared.ast_type.AstType.{AstType}
-use Rattle.es_tree.specs.declared.ast_type.AstType.TheVariants.{AssignmentExpression, BinaryExpression, Identifier, LogicalExpression, MemberExpression, NullLiteral, ParenthesizedExpression, PrivateIdentifier, ThisExpression}
+use Rattle.es_tree.specs.declared.ast_type.AstType.TheVariants.{AssignmentExpression, BinaryExpression, CallExpression, ChainExpression, Identifier, LogicalExpression, MemberExpression, NullLiteral, ParenthesizedExpression, PrivateIdentifier, ThisExpression, UnaryExpression}
 use Rattle.es_tree.specs.declared.table.Entry.{Entry}
 use Rattle.es_tree.specs.declared.table.FieldName.TheVariants.{Computed as f-Computed}
 use Rattle.es_tree.specs.declared.table.Sort.{Sort}
@@ -25,14 +25,18 @@ use Rattle.es_runs.specs.Doubling.{has_no_fields}
 use Rattle.es_runs.specs.Open.{Pending, OpenFields, closed_fields, declarator_node, declared, with_vars}
 use Rattle.es_runs.specs.OpenSteps.{Whole, Ledger, Spot, FieldsStep, Reached}
 use Rattle.es_runs.specs.OpenSteps.Ledger.{ledger}
-use Rattle.es_runs.specs.OpenRules.{with_names, Assigning, Coalescing, Raising, Writing, CoreRule, either_rule}
+use Rattle.es_runs.specs.OpenRules.{with_names, Assigning, Chaining, Coalescing, Raising, Writing, CoreRule, either_rule}
 use Rattle.es_runs.specs.OpenRules.Replacing.{replaces}
 use Rattle.es_runs.specs.OpenRules.Writing.{writes}
+use Rattle.es_runs.specs.OptionalChaining.{member_at}
+use Rattle.es_runs.proofs.BareTrees.{all-bare}
+use Rattle.es_runs.proofs.ChainFacts.{ChainPassesOn}
 use Rattle.es_runs.proofs.CoreRows.{core_row}
 use Rattle.es_runs.proofs.Named.{and_left, and_right}
-use Rattle.es_runs.proofs.OpenTests.{all-bare, all-opened, pending_all, Passes, spot_all, steps_pass}
-use Rattle.es_runs.proofs.RowFacts.{Each, PassesOn, row_good}
-use Rattle.lower_editions.specs.Stable.{AreKept, IsCalm, IsKept, assigning_calm, coalescing_calm, either_calm, is_looked_at, none_kept, on_two, raising_calm, test_kept, two_kept, writing_calm}
+use Rattle.es_runs.proofs.OpenTests.{all-opened, pending_all, Passes, spot_all, steps_pass}
+use Rattle.es_runs.proofs.RowFacts.{Each, PassesOn, none_asked}
+use Rattle.es_runs.proofs.RowKeeps.{row_good}
+use Rattle.lower_editions.specs.Stable.{AreKept, IsCalm, IsKept, assigning_calm, chaining_calm, coalescing_calm, either_calm, is_looked_at, none_kept, on_two, raising_calm, test_kept, two_kept, writing_calm}
 use Rattle.lower_editions.proofs.BareNodes.{no_fields-bare, two-bare}
 
 -- WELL MADE NODES
@@ -177,33 +181,37 @@ mutual
 
 -- STEPS AMONG THE FIELDS OF A NODE
 
--- the rules of core programs neither take away a name nor make one in the place of another node
-core_calm : IsCalm CoreRule
-core_calm = either_calm Writing (either_rule Assigning (either_rule Coalescing Raising)) writing_calm (either_calm Assigning (either_rule Coalescing Raising) assigning_calm (either_calm Coalescing Raising coalescing_calm raising_calm))
-
 key_other : (flags : List Bool) (t : Tree) → is_looked_at (kind_of t) ≡ false → is_plain_key flags (kind_of t) ≡ is_plain_key flags NullLiteral
 key_other (true ∷ marked ∷ []) t h = refl
 key_other (false ∷ marked ∷ []) (node Identifier l fs) h = absurd (cc h)
 key_other (false ∷ marked ∷ []) (node _ l fs) h = refl
 key_other _ t h = refl
 
-key_kept : (flags : List Bool) → IsKept CoreRule (λ t. is_plain_key flags (kind_of t))
-key_kept flags = test_kept CoreRule core_calm (λ t. is_plain_key flags (kind_of t)) (is_plain_key flags NullLiteral) (key_other flags) (λ k l c s s' fs gs r. refl)
+module _ (no_all : Bool) where
+  -- the rules of core programs neither take away a name nor make one in the place of another node
+  core_calm : IsCalm (CoreRule no_all)
+  core_calm =
+      either_calm Writing (either_rule Assigning (either_rule (either_rule Coalescing (Chaining no_all)) Raising)) writing_calm
+      (either_calm Assigning (either_rule (either_rule Coalescing (Chaining no_all)) Raising) assigning_calm
+      (either_calm (either_rule Coalescing (Chaining no_all)) Raising (either_calm Coalescing (Chaining no_all) coalescing_calm (chaining_calm no_all)) raising_calm))
 
-operands_kept : AreKept CoreRule (on_two (λ a b. true))
-operands_kept = two_kept CoreRule (λ a b. true) (λ b n s s' o u r. refl) (λ a n s s' o u r. refl)
+  key_kept : (flags : List Bool) → IsKept (CoreRule no_all) (λ t. is_plain_key flags (kind_of t))
+  key_kept flags = test_kept (CoreRule no_all) core_calm (λ t. is_plain_key flags (kind_of t)) (is_plain_key flags NullLiteral) (key_other flags) (λ k l c s s' fs gs r. refl)
 
-shape_kept : (k : AstType) (l : Label) → AreKept CoreRule (is_shaped k l)
-shape_kept LogicalExpression l = operands_kept
-shape_kept BinaryExpression l = operands_kept
-shape_kept AssignmentExpression l = operands_kept
-shape_kept MemberExpression l = two_kept CoreRule (λ o k. is_plain_key l.flags (kind_of k)) (λ b n s s' o u r. refl) (λ a. key_kept l.flags)
-shape_kept Identifier l = none_kept CoreRule
-shape_kept ThisExpression l = none_kept CoreRule
-shape_kept _ l = λ c s s' fs gs r. refl
+  operands_kept : AreKept (CoreRule no_all) (on_two (λ a b. true))
+  operands_kept = two_kept (CoreRule no_all) (λ a b. true) (λ b n s s' o u r. refl) (λ a n s s' o u r. refl)
 
-fields_keep : (k : AstType) (l : Label) (c : ℕ → Need) (s s' : Ledger) (fs gs : OpenFields) → FieldsStep CoreRule c s fs s' gs → is_shaped k l (closed_fields fs) ≡ true → is_shaped k l (closed_fields gs) ≡ true
-fields_keep k l c s s' fs gs r h = sym (shape_kept k l c s s' fs gs r) ∙ h
+  shape_kept : (k : AstType) (l : Label) → AreKept (CoreRule no_all) (is_shaped k l)
+  shape_kept LogicalExpression l = operands_kept
+  shape_kept BinaryExpression l = operands_kept
+  shape_kept AssignmentExpression l = operands_kept
+  shape_kept MemberExpression l = two_kept (CoreRule no_all) (λ o k. is_plain_key l.flags (kind_of k)) (λ b n s s' o u r. refl) (λ a. key_kept l.flags)
+  shape_kept Identifier l = none_kept (CoreRule no_all)
+  shape_kept ThisExpression l = none_kept (CoreRule no_all)
+  shape_kept _ l = λ c s s' fs gs r. refl
+
+  fields_keep : (k : AstType) (l : Label) (c : ℕ → Need) (s s' : Ledger) (fs gs : OpenFields) → FieldsStep (CoreRule no_all) c s fs s' gs → is_shaped k l (closed_fields fs) ≡ true → is_shaped k l (closed_fields gs) ≡ true
+  fields_keep k l c s s' fs gs r h = sym (shape_kept k l c s s' fs gs r) ∙ h
 
 -- THE RULES
 
@@ -260,9 +268,46 @@ shaped_passes_on = record {
   sequence = λ m fs h. rw (trees_each fs h) refl;
 }
 
-none_asked : (xs : List Text) → Each (λ x. Unit {0}) xs
-none_asked [] = tt
-none_asked (x ∷ xs) = (tt, none_asked xs)
+-- a member without a mark is well made where the one with it is
+key_unmarked : (computed optional : Bool) (k : AstType) → is_plain_key (computed ∷ optional ∷ []) k ≡ true → is_plain_key (computed ∷ false ∷ []) k ≡ true
+key_unmarked true optional k h = refl
+key_unmarked false optional Identifier h = refl
+key_unmarked false optional _ h = absurd (cc h)
+
+member_shaped : (l : Label) (computed optional : Bool) (o q p : Tree) → l.flags ≡ computed ∷ optional ∷ [] → Shaped (node MemberExpression l (one o then (one p then done))) → Shaped q → Shaped (member_at l computed q p)
+member_shaped l computed optional o q p flags h g =
+    let key = ap (λ fs. is_plain_key fs (kind_of p)) (sym flags) ∙ and_left (is_plain_key l.flags (kind_of p)) (all_in_fields is_shaped (one o then (one p then done))) h in
+    and_from (is_plain_key (computed ∷ false ∷ []) (kind_of p)) (all_nodes is_shaped q && (all_nodes is_shaped p && true)) (key_unmarked computed optional (kind_of p) key)
+    (and_from (all_nodes is_shaped q) (all_nodes is_shaped p && true) g (and_from (all_nodes is_shaped p) true (second_shaped MemberExpression l o p done h) refl))
+
+-- a call whose arguments are well made
+arguments_shaped : (l : Label) (f : Tree) (ts : Trees) → Shaped (node CallExpression l (one f then (many ts then done))) → all_in_trees is_shaped ts ≡ true
+arguments_shaped l f ts h = and_left (all_in_trees is_shaped ts) true (and_right (all_nodes is_shaped f) (all_in_trees is_shaped ts && true) h)
+
+chains_pass_on : ChainPassesOn Shaped (λ x. Unit {0})
+chains_pass_on = record {
+  inside = λ l t fs h. first_shaped ParenthesizedExpression l t fs h;
+  content = λ l t h. first_shaped ChainExpression l t done h;
+  operand = λ l t h. first_shaped UnaryExpression l t done h;
+  object = λ l o p h. first_shaped MemberExpression l o (one p then done) h;
+  callee = λ l f ts h. first_shaped CallExpression l f (many ts then done) h;
+  member = member_shaped;
+  call = λ l f q ts h g. rw (g, arguments_shaped l f ts h) refl;
+  call_with = λ l f q r ts h g k. rw (g, k, arguments_shaped l f ts h) refl;
+  name = λ x fine. refl;
+  takes = λ x e fine h. rw h refl;
+  static_member = λ c y h. rw h refl;
+  call_one = λ c r h g. rw (h, g) refl;
+  this = refl;
+  null = refl;
+  void_zero = refl;
+  truth = refl;
+  equals = λ l r h g. rw (h, g) refl;
+  loosely_equals = λ l r h g. rw (h, g) refl;
+  or = λ l r h g. rw (h, g) refl;
+  choice = λ m t a b h g k. rw (h, g, k) refl;
+  deletes = λ e h. rw h refl;
+}
 
 -- what is pending passes with more names
 more_shaped : (xs : List Text) (p : Pending) → pending_all is_shaped p ≡ true → pending_all is_shaped (with_vars xs p) ≡ true
@@ -271,24 +316,26 @@ more_shaped xs p h =
     (append_all p.vars (map declarator_node xs) (and_left (all_in_trees is_shaped (trees p.vars)) (all_in_trees is_shaped (trees p.lets)) h) (declarators_shaped xs))
     (and_right (all_in_trees is_shaped (trees p.vars)) (all_in_trees is_shaped (trees p.lets)) h)
 
-row_shaped : (w : Whole) (p : Pending) (xs : List Text) (n : Need) (t u : Tree) → core_row w xs n t u → Passes is_shaped (ledger w p) (all_nodes is_shaped t) → Passes is_shaped (ledger (with_names xs w) (with_vars xs p)) (all_nodes is_shaped u)
-row_shaped w p xs n t u r h = record { around = more_shaped xs p h.around; here = row_good Shaped (λ x. Unit {0}) shaped_passes_on w r (none_asked xs) h.here }
+module _ (no_all : Bool) where
+  row_shaped : (w : Whole) (p : Pending) (xs : List Text) (n : Need) (t u : Tree) → core_row no_all w xs n t u → Passes is_shaped (ledger w p) (all_nodes is_shaped t) → Passes is_shaped (ledger (with_names xs w) (with_vars xs p)) (all_nodes is_shaped u)
+  row_shaped w p xs n t u r h = record { around = more_shaped xs p h.around; here = row_good Shaped (λ x. Unit {0}) shaped_passes_on chains_pass_on no_all w r (none_asked xs) h.here }
 
-rule_shaped : (n : Need) (s : Ledger) (x : Spot) (s' : Ledger) (y : Spot) → CoreRule n s x s' y → Passes is_shaped s (spot_all is_shaped x) → Passes is_shaped s' (spot_all is_shaped y)
-rule_shaped n s _ _ _ (inl (writes {p = p} {ts = ts})) h =
-    let pending = and_left (pending_all is_shaped p) (all_in_trees is_shaped ts) h.here in
-    record {
-      around = h.around;
-      here = declared_shaped (codes "var") p.vars (declared (codes "let") p.lets ts) (and_left (all_in_trees is_shaped (trees p.vars)) (all_in_trees is_shaped (trees p.lets)) pending)
-          (declared_shaped (codes "let") p.lets ts (and_right (all_in_trees is_shaped (trees p.vars)) (all_in_trees is_shaped (trees p.lets)) pending) (and_right (pending_all is_shaped p) (all_in_trees is_shaped ts) h.here));
-    }
-rule_shaped n _ _ _ _ (inr (inl (replaces {w = w} {p = p} {t = t} {u = u} xs r))) h = row_shaped w p xs n t u (inl r) h
-rule_shaped n _ _ _ _ (inr (inr (inl (replaces {w = w} {p = p} {t = t} {u = u} xs r)))) h = row_shaped w p xs n t u (inr (inl r)) h
-rule_shaped n _ _ _ _ (inr (inr (inr (replaces {w = w} {p = p} {t = t} {u = u} xs r)))) h = row_shaped w p xs n t u (inr (inr r)) h
+  rule_shaped : (n : Need) (s : Ledger) (x : Spot) (s' : Ledger) (y : Spot) → CoreRule no_all n s x s' y → Passes is_shaped s (spot_all is_shaped x) → Passes is_shaped s' (spot_all is_shaped y)
+  rule_shaped n s _ _ _ (inl (writes {p = p} {ts = ts})) h =
+      let pending = and_left (pending_all is_shaped p) (all_in_trees is_shaped ts) h.here in
+      record {
+        around = h.around;
+        here = declared_shaped (codes "var") p.vars (declared (codes "let") p.lets ts) (and_left (all_in_trees is_shaped (trees p.vars)) (all_in_trees is_shaped (trees p.lets)) pending)
+            (declared_shaped (codes "let") p.lets ts (and_right (all_in_trees is_shaped (trees p.vars)) (all_in_trees is_shaped (trees p.lets)) pending) (and_right (pending_all is_shaped p) (all_in_trees is_shaped ts) h.here));
+      }
+  rule_shaped n _ _ _ _ (inr (inl (replaces {w = w} {p = p} {t = t} {u = u} xs r))) h = row_shaped w p xs n t u (inl r) h
+  rule_shaped n _ _ _ _ (inr (inr (inl (inl (replaces {w = w} {p = p} {t = t} {u = u} xs r))))) h = row_shaped w p xs n t u (inr (inl (inl r))) h
+  rule_shaped n _ _ _ _ (inr (inr (inl (inr (replaces {w = w} {p = p} {t = t} {u = u} xs r))))) h = row_shaped w p xs n t u (inr (inl (inr r))) h
+  rule_shaped n _ _ _ _ (inr (inr (inr (replaces {w = w} {p = p} {t = t} {u = u} xs r)))) h = row_shaped w p xs n t u (inr (inr r)) h
 
--- steps of the rules of core programs keep that each node is well made
-pub reached_shaped : (p q : Tree) (names : List Text) → IsCoreProgram p → Reached CoreRule p names q → all_nodes is_shaped q ≡ true
-reached_shaped p q names is reached =
-    let source = form_shaped s-Program p is.form is.core in
-    let found = steps_pass is_shaped CoreRule fields_keep rule_shaped reached.steps (record { around = refl; here = all-opened is_shaped (bare p) ∙ all-bare is_shaped shaped-bare p ∙ source }) in
-    sym (all-bare is_shaped shaped-bare q) ∙ sym (all-opened is_shaped (bare q)) ∙ found.here
+  -- steps of the rules of core programs keep that each node is well made
+  pub reached_shaped : (p q : Tree) (names : List Text) → IsCoreProgram p → Reached (CoreRule no_all) p names q → all_nodes is_shaped q ≡ true
+  reached_shaped p q names is reached =
+      let source = form_shaped s-Program p is.form is.core in
+      let found = steps_pass is_shaped (CoreRule no_all) (fields_keep no_all) rule_shaped reached.steps (record { around = refl; here = all-opened is_shaped (bare p) ∙ all-bare is_shaped shaped-bare p ∙ source }) in
+      sym (all-bare is_shaped shaped-bare q) ∙ sym (all-opened is_shaped (bare q)) ∙ found.here

@@ -3,7 +3,7 @@ use Rattle.std.specs.Prelude.{Bool, true, false, ◌&&◌, []}
 use Rattle.es_tree.specs.Constructs.{is_nullish_coalescing}
 use Rattle.es_tree.specs.Tree.{Tree, node, Label, Fields, done, ◌then◌, one}
 use Rattle.es_tree.specs.declared.ast_type.AstType.{AstType}
-use Rattle.es_tree.specs.declared.ast_type.AstType.TheVariants.{Identifier, LogicalExpression, ThisExpression, ConditionalExpression}
+use Rattle.es_tree.specs.declared.ast_type.AstType.TheVariants.{Identifier, ThisExpression, ConditionalExpression}
 use Rattle.es_tree.specs.declared.ids.Span.{Span}
 use Rattle.es_runs.specs.Doubling.{has_no_fields}
 use Rattle.es_runs.specs.Runs.{made}

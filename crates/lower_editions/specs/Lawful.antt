@@ -1,39 +1,24 @@
 -- The laws of the lowerings.
-use Rattle.std.proofs.Common.{Bool, ◌≡◌, refl, sym, ◌∙◌, inl}
+use Rattle.std.proofs.Common.{Bool, ◌≡◌, refl, inl}
 use Rattle.std.specs.Prelude.{true, false}
-use Rattle.es_tree.specs.Tree.{Tree, Label, Fields}
+use Rattle.es_tree.specs.Tree.{Label, Fields}
 use Rattle.es_tree.specs.declared.ast_type.AstType.{AstType}
 use Rattle.es_tree.specs.declared.ast_type.AstType.TheVariants.{AssignmentExpression, BinaryExpression, LogicalExpression}
 use Rattle.es_tree.specs.declared.options.EnvOptions.{EnvOptions}
-use Rattle.es_runs.specs.Alike.{Need}
 use Rattle.es_runs.specs.OpenRules.{Assigning, Coalescing, Raising}
-use Rattle.es_runs.specs.OpenSteps.{Ledger, Spot}
 use Rattle.es_visit.specs.declared.hook.Hook.{Hook}
 use Rattle.es_visit.specs.declared.hook.Hook.TheVariants.{Expression}
 use Rattle.es_visit.specs.Hooks.{IsHooked}
-use Rattle.es_visit.specs.Laws.{IsLawful, IsStable, Profile}
+use Rattle.es_visit.specs.Laws.{IsLawful, Profile}
+use Rattle.es_visit.specs.Together.{both_lawful}
+use Rattle.lower_optional_chaining.specs.Lawful.{chaining_lawful}
+use Rattle.lower_optional_chaining.specs.Profiles.{chaining_profile}
+use Rattle.lower_editions.specs.Apart.{nullish_chains}
 use Rattle.lower_editions.specs.Assignings.{is_lowerable_assignment}
 use Rattle.lower_editions.specs.Coalescings.{is_lowerable_coalescing}
 use Rattle.lower_editions.specs.Powers.{is_lowerable_power}
-use Rattle.lower_editions.specs.Profiles.{assigning_profile, assigning_rows, coalescing_profile, coalescing_rows, es2016_profile, es2020_profile, es2021_profile, raising_profile, raising_rows, switched}
-use Rattle.lower_editions.specs.Stable.{AreKept, IsCalm, assigning_calm, assignment_kept, coalescing_calm, coalescing_kept, power_kept, raising_calm}
-
--- STEPS OF CALM RULES
-
-kept_stable : (R : Need → Ledger → Spot → Ledger → Spot → Type 0) (rows : AstType → Label → Fields → Bool) → ((k : AstType) (l : Label) → AreKept R (rows k l)) → IsStable R rows
-kept_stable R rows kept c s s' k l fs gs r e = sym (kept k l c s s' fs gs r) ∙ e
-
-pub coalescing_stable : (R : Need → Ledger → Spot → Ledger → Spot → Type 0) → IsCalm R → (h : Hook) → IsStable R (coalescing_rows h)
-coalescing_stable R calm Expression = kept_stable R is_lowerable_coalescing (coalescing_kept R calm)
-coalescing_stable R calm _ = λ c s s' k l fs gs r e. refl
-
-pub assigning_stable : (R : Need → Ledger → Spot → Ledger → Spot → Type 0) → IsCalm R → (h : Hook) → IsStable R (assigning_rows h)
-assigning_stable R calm Expression = kept_stable R is_lowerable_assignment (assignment_kept R calm)
-assigning_stable R calm _ = λ c s s' k l fs gs r e. refl
-
-pub raising_stable : (R : Need → Ledger → Spot → Ledger → Spot → Type 0) → IsCalm R → (h : Hook) → IsStable R (raising_rows h)
-raising_stable R calm Expression = kept_stable R is_lowerable_power (power_kept R calm)
-raising_stable R calm _ = λ c s s' k l fs gs r e. refl
+use Rattle.lower_editions.specs.Profiles.{assigning_profile, assigning_rows, chains_profile, coalescing_profile, coalescing_rows, es2016_profile, es2020_profile, es2021_profile, nullish_profile, raising_profile, raising_rows, switched}
+use Rattle.lower_editions.specs.Stable.{assigning_calm, assigning_stable, coalescing_calm, coalescing_stable, raising_calm, raising_stable}
 
 -- WHERE THE CONSTRUCTS STAND
 
@@ -82,7 +67,8 @@ pub es2016_lawful : (o : EnvOptions) → IsLawful (es2016_profile o)
 es2016_lawful o = switched_lawful o.es2016.exponentiation_operator raising_profile raising_lawful
 
 pub es2020_lawful : (o : EnvOptions) → IsLawful (es2020_profile o)
-es2020_lawful o = switched_lawful o.es2020.nullish_coalescing_operator coalescing_profile coalescing_lawful
+es2020_lawful o =
+    both_lawful (nullish_profile o) (chains_profile o) (switched_lawful o.es2020.nullish_coalescing_operator coalescing_profile coalescing_lawful) (switched_lawful o.es2020.optional_chaining (chaining_profile o) (chaining_lawful o)) (nullish_chains o)
 
 pub es2021_lawful : (o : EnvOptions) → IsLawful (es2021_profile o)
 es2021_lawful o = switched_lawful o.es2021.logical_assignment_operators assigning_profile assigning_lawful

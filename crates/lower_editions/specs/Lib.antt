@@ -3,11 +3,10 @@ pub mod Assignings
 pub mod Powers
 pub mod Profiles
 pub mod Takings
-pub mod Parenthesized
 pub mod AssigningParts
 pub mod Stable
-pub mod Lawful
 pub mod Apart
+pub mod Lawful
 pub mod PowerParts
 pub mod PowerTargets
 pub mod Editions

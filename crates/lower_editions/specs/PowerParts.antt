@@ -1,5 +1,5 @@
 -- Parts of the exponentiations that are lowered, as their tests ask for them one by one.
-use Rattle.std.specs.Prelude.{Bool, true, false, ◌&&◌, ◌||◌, not, [], ◌∷◌}
+use Rattle.std.specs.Prelude.{Bool, false, ◌&&◌, ◌||◌, not, [], ◌∷◌}
 use Rattle.es_tree.specs.Constructs.{is_big_int, is_private_name}
 use Rattle.es_tree.specs.Parens.{without_parens}
 use Rattle.es_tree.specs.Tree.{Tree, node, Fields, kind_of}

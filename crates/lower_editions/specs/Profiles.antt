@@ -10,7 +10,8 @@ use Rattle.es_tree.specs.declared.options.EnvOptions.{EnvOptions}
 use Rattle.es_runs.specs.OpenRules.{Assigning, Coalescing, Raising, is_bound_in, where_on}
 use Rattle.es_visit.specs.declared.hook.Hook.{Hook}
 use Rattle.es_visit.specs.declared.hook.Hook.TheVariants.{Expression}
-use Rattle.es_visit.specs.Laws.{Profile, is_row}
+use Rattle.es_visit.specs.Laws.{Profile, both_profile, is_row}
+use Rattle.lower_optional_chaining.specs.Profiles.{chaining_profile}
 use Rattle.lower_editions.specs.Assignings.{is_lowerable_assignment}
 use Rattle.lower_editions.specs.Coalescings.{is_lowerable_coalescing}
 use Rattle.lower_editions.specs.Powers.{is_lowerable_power, is_power_made}
@@ -77,8 +78,14 @@ switched on p = record {
 abbrev pub es2016_profile : EnvOptions → Profile
 es2016_profile o = switched o.es2016.exponentiation_operator raising_profile
 
+abbrev pub nullish_profile : EnvOptions → Profile
+nullish_profile o = switched o.es2020.nullish_coalescing_operator coalescing_profile
+
+abbrev pub chains_profile : EnvOptions → Profile
+chains_profile o = switched o.es2020.optional_chaining (chaining_profile o)
+
 abbrev pub es2020_profile : EnvOptions → Profile
-es2020_profile o = switched o.es2020.nullish_coalescing_operator coalescing_profile
+es2020_profile o = both_profile (nullish_profile o) (chains_profile o)
 
 abbrev pub es2021_profile : EnvOptions → Profile
 es2021_profile o = switched o.es2021.logical_assignment_operators assigning_profile

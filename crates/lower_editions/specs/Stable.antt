@@ -5,18 +5,18 @@ use Rattle.std.specs.Prelude.{Bool, true, false, ◌&&◌, not, List, [], ◌∷
 use Rattle.es_tree.specs.Constructs.{is_big_int, is_nullish_coalescing}
 use Rattle.es_tree.specs.Names.{first_text}
 use Rattle.es_tree.specs.Parens.{without_parens}
-use Rattle.es_tree.specs.Tree.{Tree, node, Label, Fields, done, ◌then◌, Field, one, kind_of}
+use Rattle.es_tree.specs.Tree.{Tree, node, Label, Fields, done, ◌then◌, one, kind_of}
 use Rattle.es_tree.specs.declared.ast_type.AstType.{AstType}
 use Rattle.es_tree.specs.declared.ast_type.AstType.TheVariants.{AssignmentExpression, BigIntLiteral, BinaryExpression, Identifier, LogicalExpression, MemberExpression, ParenthesizedExpression, PrivateIdentifier, ThisExpression}
 use Rattle.es_runs.specs.Alike.{Need}
 use Rattle.es_runs.specs.Doubling.{has_no_fields}
-use Rattle.es_runs.specs.Exponentiation.{ExponentiationRule}
 use Rattle.es_runs.specs.Exponentiation.ExponentiationRule.{power, power_assignment}
-use Rattle.es_runs.specs.LogicalAssignment.{LogicalAssignmentRule, is_assigning}
+use Rattle.es_runs.specs.LogicalAssignment.{is_assigning}
 use Rattle.es_runs.specs.LogicalAssignment.LogicalAssignmentRule.{to_name, to_static_member, to_computed_member}
-use Rattle.es_runs.specs.Rules.{null_node}
-use Rattle.es_runs.specs.Open.{Open, OpenFields, OpenField, OpenTrees, closed, closed_fields, closed_field, opened}
-use Rattle.es_runs.specs.Open.Open.{open_node}
+use Rattle.es_runs.specs.OptionalChaining.{delete_node, has_tests, true_node, where_short}
+use Rattle.es_runs.specs.OptionalChaining.OptionalChainingRule.{by_tests, as_callee, in_delete}
+use Rattle.es_runs.specs.Rules.{null_node, void_zero_node}
+use Rattle.es_runs.specs.Open.{Open, OpenFields, OpenField, OpenTrees, closed, closed_fields, opened}
 use Rattle.es_runs.specs.Open.OpenFields.{ends, ◌and◌}
 use Rattle.es_runs.specs.Open.OpenField.{gap, child, children, list}
 use Rattle.es_runs.specs.OpenSteps.{Ledger, Spot, at_node, Step, FieldsStep, FieldStep, TreesStep}
@@ -24,14 +24,18 @@ use Rattle.es_runs.specs.OpenSteps.Step.{acts, inside}
 use Rattle.es_runs.specs.OpenSteps.FieldsStep.{in_first, in_later}
 use Rattle.es_runs.specs.OpenSteps.FieldStep.{in_child, in_children, within, acts_on_list}
 use Rattle.es_runs.specs.OpenSteps.TreesStep.{in_head, in_tail}
-use Rattle.es_runs.specs.OpenRules.{Assigning, Coalescing, Raising, Writing, either_rule, where_on}
+use Rattle.es_runs.specs.OpenRules.{Assigning, Chaining, Coalescing, Raising, Writing, either_rule, where_on}
 use Rattle.es_runs.specs.OpenRules.Replacing.{replaces}
 use Rattle.es_runs.specs.OpenRules.raising_row.{raises}
 use Rattle.es_runs.specs.Steps.NullishRule.{with_temporary, reading_again}
 use Rattle.es_runs.proofs.OpenTrees.{closed-opened}
+use Rattle.es_visit.specs.declared.hook.Hook.{Hook}
+use Rattle.es_visit.specs.declared.hook.Hook.TheVariants.{Expression}
+use Rattle.es_visit.specs.Laws.{IsStable}
 use Rattle.lower_editions.specs.Assignings.{has_doubled_key, is_doubled_target, is_lowerable_assignment}
 use Rattle.lower_editions.specs.Coalescings.{has_sides, is_leaf_where_read, is_lowerable_coalescing}
 use Rattle.lower_editions.specs.Powers.{has_power_key, is_power_target, is_lowerable_power}
+use Rattle.lower_editions.specs.Profiles.{assigning_rows, coalescing_rows, raising_rows}
 
 -- CALM RULES
 
@@ -62,6 +66,16 @@ pub raising_calm : IsCalm Raising
 raising_calm n _ _ _ _ (replaces xs (raises free (power texts left right))) = (refl, refl)
 raising_calm n _ _ _ _ (replaces xs (raises free (power_assignment {fs = []} texts right target))) = (refl, refl)
 raising_calm n _ _ _ _ (replaces xs (raises free (power_assignment {fs = f ∷ fs} texts right target))) = (refl, refl)
+
+-- where something was tested, a conditional stands
+short_calm : (m : Label) (ts : List Tree) (short long : Tree) → has_tests ts ≡ true → is_looked_at (kind_of (where_short m ts short long)) ≡ false
+short_calm m [] short long h = absurd (cc h)
+short_calm m (t ∷ ts) short long h = refl
+
+pub chaining_calm : (no_all : Bool) → IsCalm (Chaining no_all)
+chaining_calm no_all n _ _ _ _ (replaces xs (by_tests {m = m} {w = w} level walked tested)) = (refl, short_calm m w.tests void_zero_node w.current tested)
+chaining_calm no_all n _ _ _ _ (replaces xs (as_callee {m = m} {d = d} {w = w} level walked tested callee)) = (refl, short_calm m w.tests void_zero_node d tested)
+chaining_calm no_all n _ _ _ _ (replaces xs (in_delete {m = m} {w = w} texts inner walked tested)) = (refl, short_calm m w.tests true_node (delete_node w.current) tested)
 
 -- what is written is written at no node
 pub writing_calm : IsCalm Writing
@@ -302,3 +316,20 @@ module _ (R : Need → Ledger → Spot → Ledger → Spot → Type 0) (calm : I
       P : Tree → Tree → Bool
       P t r = bytes_eq (first_text l.texts) (codes "**=") && not (is_big_int (kind_of r)) && is_power_target (without_parens t)
   power_kept _ l = λ c s s' fs gs r. refl
+
+-- ROWS OF HOOKS
+
+kept_stable : (R : Need → Ledger → Spot → Ledger → Spot → Type 0) (rows : AstType → Label → Fields → Bool) → ((k : AstType) (l : Label) → AreKept R (rows k l)) → IsStable R rows
+kept_stable R rows kept c s s' k l fs gs r e = sym (kept k l c s s' fs gs r) ∙ e
+
+pub coalescing_stable : (R : Need → Ledger → Spot → Ledger → Spot → Type 0) → IsCalm R → (h : Hook) → IsStable R (coalescing_rows h)
+coalescing_stable R calm Expression = kept_stable R is_lowerable_coalescing (coalescing_kept R calm)
+coalescing_stable R calm _ = λ c s s' k l fs gs r e. refl
+
+pub assigning_stable : (R : Need → Ledger → Spot → Ledger → Spot → Type 0) → IsCalm R → (h : Hook) → IsStable R (assigning_rows h)
+assigning_stable R calm Expression = kept_stable R is_lowerable_assignment (assignment_kept R calm)
+assigning_stable R calm _ = λ c s s' k l fs gs r e. refl
+
+pub raising_stable : (R : Need → Ledger → Spot → Ledger → Spot → Type 0) → IsCalm R → (h : Hook) → IsStable R (raising_rows h)
+raising_stable R calm Expression = kept_stable R is_lowerable_power (power_kept R calm)
+raising_stable R calm _ = λ c s s' k l fs gs r e. refl

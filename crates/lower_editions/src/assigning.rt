@@ -14,8 +14,6 @@ ghost use Rattle.lower_editions.specs.AssigningParts.{DoublesMember, DoublesOnce
 ghost use Rattle.lower_editions.specs.Assignings.{is_doubled_target, is_lowerable_assignment};
 
 use crate::assigning_tests::is_name;
-use crate::made_nodes::NOWHERE;
-use crate::parens::take_from_parens;
 use es_expressions::members::{MemberExpression, new_member_expression};
 use es_expressions::operations::{
     AssignmentExpression, new_assignment_expression, new_logical_expression,
@@ -26,7 +24,9 @@ use es_tree::error::LowerError;
 use es_tree::ids::Span;
 use es_tree::node::Node;
 use es_tree::operators::{AssignmentOperator, LogicalOperator};
+use lower_common::declarations::MADE;
 use lower_common::duplicate::duplicate_expression;
+use lower_common::parens::take_from_parens;
 use lower_common::readings::read_once_more;
 use lower_common::state::TransformState;
 use std::alloc::AllocError;
@@ -83,8 +83,8 @@ fn double_static(
 {
     let (first, again) = double(object, ctx)?;
     let copy = key.clone_in(&mut ctx.ast)?;
-    let read = new_member_expression(&mut ctx.ast, NOWHERE, false, false, first, copy)?;
-    let written = new_member_expression(&mut ctx.ast, NOWHERE, false, false, again, key)?;
+    let read = new_member_expression(&mut ctx.ast, MADE, false, false, first, copy)?;
+    let written = new_member_expression(&mut ctx.ast, MADE, false, false, again, key)?;
     Ok((read, written))
 }
 
@@ -100,15 +100,8 @@ fn double_computed(
 {
     let (object, object_again) = double(object, ctx)?;
     let (key, key_again) = double(key, ctx)?;
-    let read = new_member_expression(&mut ctx.ast, NOWHERE, true, false, object, key)?;
-    let written = new_member_expression(
-        &mut ctx.ast,
-        NOWHERE,
-        true,
-        false,
-        object_again,
-        key_again,
-    )?;
+    let read = new_member_expression(&mut ctx.ast, MADE, true, false, object, key)?;
+    let written = new_member_expression(&mut ctx.ast, MADE, true, false, object_again, key_again)?;
     Ok((read, written))
 }
 
@@ -156,7 +149,7 @@ fn new_assigned(
     ensures counted { IfOk result (λ _. ast.new.next ≡ ast.old.next + 2) }
 {
     let assign = AssignmentOperator::Assign;
-    let assignment = new_assignment_expression(ast, NOWHERE, assign, written, right)?;
+    let assignment = new_assignment_expression(ast, MADE, assign, written, right)?;
     let node = new_logical_expression(ast, span, operator, read, assignment)?;
     Ok(node)
 }

@@ -17,7 +17,7 @@ ghost use Rattle.lower_common.specs.Takings.{ReadsMore, WritesOnce, moment_of};
 ghost use Rattle.lower_editions.specs.Coalescings.{at_span, has_sides, is_leaf_where_read, is_lowerable_coalescing};
 ghost use Rattle.lower_editions.specs.Takings.{ByTemporary};
 
-use crate::made_nodes::{NOWHERE, new_tested};
+use crate::made_nodes::new_tested;
 use es_expressions::operations::{LogicalExpression, new_assignment_expression};
 use es_scope::context::TraverseCtx;
 use es_scope::context_names::BoundIdentifier;
@@ -26,7 +26,7 @@ use es_tree::ids::Span;
 use es_tree::kind::Kind;
 use es_tree::node::{Field, Node};
 use es_tree::operators::{AssignmentOperator, LogicalOperator};
-use lower_common::declarations::VarDeclarationsStore;
+use lower_common::declarations::{MADE, VarDeclarationsStore};
 use lower_common::readings::{READS, WRITES, is_steady, read_once_more};
 use lower_common::state::TransformState;
 use std::alloc::AllocError;
@@ -113,11 +113,11 @@ fn new_tested_by<S>(
 {
     let name = temporary.name.as_str();
     let symbol = temporary.symbol_id;
-    let target = ctx.create_bound_ident_expr(NOWHERE, name, symbol, WRITES)?;
-    let again = ctx.create_bound_ident_expr(NOWHERE, name, symbol, READS)?;
-    let value = ctx.create_bound_ident_expr(NOWHERE, name, symbol, READS)?;
+    let target = ctx.create_bound_ident_expr(MADE, name, symbol, WRITES)?;
+    let again = ctx.create_bound_ident_expr(MADE, name, symbol, READS)?;
+    let value = ctx.create_bound_ident_expr(MADE, name, symbol, READS)?;
     let assign = AssignmentOperator::Assign;
-    let first = new_assignment_expression(&mut ctx.ast, NOWHERE, assign, target, left)?;
+    let first = new_assignment_expression(&mut ctx.ast, MADE, assign, target, left)?;
     let node = new_tested(&mut ctx.ast, span, first, again, value, right)?;
     Ok(node)
 }

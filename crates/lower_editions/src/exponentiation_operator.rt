@@ -23,7 +23,6 @@ ghost use Rattle.std.specs.Prelude.{◌≡◌, false, true};
 ghost use Rattle.lower_editions.specs.Lawful.{raising_lawful};
 ghost use Rattle.lower_editions.specs.Profiles.{raising_profile};
 
-use crate::made_nodes::new_placeholder;
 use crate::power_targets::binds_name;
 use crate::power_tests::is_lowerable;
 use crate::powers::lower_power;
@@ -33,6 +32,7 @@ use es_tree::sorts::Expression;
 use es_visit::hook::Hook;
 use es_visit::lowering::Lowering;
 use es_visit::traverse::Traverse;
+use lower_common::made_nodes::new_placeholder;
 use lower_common::state::TransformState;
 use std::mem;
 

@@ -11,7 +11,6 @@ pub mod exponentiation_operator;
 pub mod logical_assignment_operators;
 mod made_nodes;
 pub mod nullish_coalescing;
-mod parens;
 mod power_targets;
 pub mod power_tests;
 mod powers;

@@ -20,13 +20,13 @@ ghost use Rattle.lower_editions.specs.Profiles.{assigning_profile};
 
 use crate::assigning::lower_assignment;
 use crate::assigning_tests::is_lowerable;
-use crate::made_nodes::new_placeholder;
 use es_scope::context::TraverseCtx;
 use es_tree::error::LowerError;
 use es_tree::sorts::Expression;
 use es_visit::hook::Hook;
 use es_visit::lowering::Lowering;
 use es_visit::traverse::Traverse;
+use lower_common::made_nodes::new_placeholder;
 use lower_common::state::TransformState;
 use std::mem;
 

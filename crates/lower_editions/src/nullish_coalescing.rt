@@ -18,13 +18,13 @@ ghost use Rattle.lower_editions.specs.Lawful.{coalescing_lawful};
 ghost use Rattle.lower_editions.specs.Profiles.{coalescing_profile};
 
 use crate::coalescing::{is_lowerable, lower_coalescing};
-use crate::made_nodes::new_placeholder;
 use es_scope::context::TraverseCtx;
 use es_tree::error::LowerError;
 use es_tree::sorts::Expression;
 use es_visit::hook::Hook;
 use es_visit::lowering::Lowering;
 use es_visit::traverse::Traverse;
+use lower_common::made_nodes::new_placeholder;
 use lower_common::state::TransformState;
 use std::mem;
 

@@ -16,7 +16,6 @@ ghost use Rattle.lower_editions.specs.PowerParts.{is_name};
 ghost use Rattle.lower_editions.specs.PowerTargets.{AssignsTemporary, InTemporary, UsesKey, UsesObject, UsesTarget, binds_name, names_that_stay};
 ghost use Rattle.lower_editions.specs.Powers.{has_power_key, is_power_target};
 
-use crate::made_nodes::NOWHERE;
 use crate::power_tests::{is_evaluated_key, is_expression_key, is_name, is_private_name};
 use es_expressions::literals::{Identifier, new_string_literal};
 use es_expressions::members::{MemberExpression, new_member_expression};
@@ -27,7 +26,7 @@ use es_tree::builder::AstBuilder;
 use es_tree::kind::Kind;
 use es_tree::node::Node;
 use es_tree::operators::AssignmentOperator;
-use lower_common::declarations::VarDeclarationsStore;
+use lower_common::declarations::{MADE, VarDeclarationsStore};
 use lower_common::readings::{READS, WRITES, read_once_more};
 use lower_common::state::TransformState;
 use std::alloc::AllocError;
@@ -93,9 +92,9 @@ fn assign_temporary(
 {
     let temporary = VarDeclarationsStore::create_uid_var_based_on_node(&node, ctx)?;
     let name = temporary.name.as_str();
-    let target = ctx.create_bound_ident_expr(NOWHERE, name, temporary.symbol_id, WRITES)?;
+    let target = ctx.create_bound_ident_expr(MADE, name, temporary.symbol_id, WRITES)?;
     let assign = AssignmentOperator::Assign;
-    let first = new_assignment_expression(&mut ctx.ast, NOWHERE, assign, target, node)?;
+    let first = new_assignment_expression(&mut ctx.ast, MADE, assign, target, node)?;
     Ok((first, temporary))
 }
 
@@ -108,8 +107,8 @@ fn use_temporary(node: Node, ctx: &mut TraverseCtx<TransformState>) -> Result<Tw
     let (assign, temporary) = assign_temporary(node, ctx)?;
     let name = temporary.name.as_str();
     let symbol = temporary.symbol_id;
-    let written = ctx.create_bound_ident_expr(NOWHERE, name, symbol, READS)?;
-    let read = ctx.create_bound_ident_expr(NOWHERE, name, symbol, READS)?;
+    let written = ctx.create_bound_ident_expr(MADE, name, symbol, READS)?;
+    let read = ctx.create_bound_ident_expr(MADE, name, symbol, READS)?;
     let first = Vec::from_array(ctx.ast.alloc, [assign])?;
     Ok(Twice {
         first,
@@ -154,8 +153,8 @@ fn use_key_text(key: Node, ast: &mut AstBuilder) -> Result<Twice, AllocError>
         symbol: _symbol,
     } = Identifier::open(key);
     let again = String::from_str(ast.alloc, name.as_str())?;
-    let written = new_string_literal(ast, NOWHERE, name)?;
-    let read = new_string_literal(ast, NOWHERE, again)?;
+    let written = new_string_literal(ast, MADE, name)?;
+    let read = new_string_literal(ast, MADE, again)?;
     Ok(Twice {
         first: Vec::new(ast.alloc),
         written,
@@ -212,8 +211,8 @@ fn join(
     let mut first = first;
     let mut further = further;
     first.append(&mut further)?;
-    let written = new_member_expression(ast, NOWHERE, computed, false, object, key)?;
-    let read = new_member_expression(ast, NOWHERE, computed, false, object_again, key_again)?;
+    let written = new_member_expression(ast, MADE, computed, false, object, key)?;
+    let read = new_member_expression(ast, MADE, computed, false, object_again, key_again)?;
     Ok(Twice {
         first,
         written,
@@ -273,7 +272,7 @@ fn read_in_front(target: Node, ctx: &mut TraverseCtx<TransformState>) -> Result<
     let value = read_once_more(&target, ctx)?;
     let (assign, temporary) = assign_temporary(value, ctx)?;
     let name = temporary.name.as_str();
-    let read = ctx.create_bound_ident_expr(NOWHERE, name, temporary.symbol_id, READS)?;
+    let read = ctx.create_bound_ident_expr(MADE, name, temporary.symbol_id, READS)?;
     let first = Vec::from_array(ctx.ast.alloc, [assign])?;
     Ok(Twice {
         first,

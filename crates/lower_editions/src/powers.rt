@@ -13,8 +13,6 @@ ghost use Rattle.lower_editions.specs.Coalescings.{at_span};
 ghost use Rattle.lower_editions.specs.PowerTargets.{nodes_around};
 ghost use Rattle.lower_editions.specs.Powers.{is_lowerable_power};
 
-use crate::made_nodes::NOWHERE;
-use crate::parens::take_from_parens;
 use crate::power_targets::{Twice, use_target};
 use es_expressions::literals::new_identifier;
 use es_expressions::members::{new_call_expression, new_member_expression};
@@ -27,6 +25,8 @@ use es_tree::ids::Span;
 use es_tree::kind::Kind;
 use es_tree::node::Node;
 use es_tree::operators::AssignmentOperator;
+use lower_common::declarations::MADE;
+use lower_common::parens::take_from_parens;
 use lower_common::readings::READS;
 use lower_common::state::TransformState;
 use std::alloc::AllocError;
@@ -43,10 +43,10 @@ fn new_power<S>(
     ensures reads { OnOk result (ReadsMore 4 ctx.old ctx.new) }
 {
     let alloc = ctx.ast.alloc;
-    let object = ctx.create_unbound_ident_expr(NOWHERE, "Math", READS)?;
+    let object = ctx.create_unbound_ident_expr(MADE, "Math", READS)?;
     let name = String::from_str(alloc, "pow")?;
-    let property = new_identifier(&mut ctx.ast, NOWHERE, name)?;
-    let callee = new_member_expression(&mut ctx.ast, NOWHERE, false, false, object, property)?;
+    let property = new_identifier(&mut ctx.ast, MADE, name)?;
+    let callee = new_member_expression(&mut ctx.ast, MADE, false, false, object, property)?;
     let operands = Vec::from_array(alloc, [left, right])?;
     let node = new_call_expression(&mut ctx.ast, span, false, callee, operands)?;
     Ok(node)
@@ -69,13 +69,13 @@ fn new_power_assignment<S>(
         written,
         read,
     } = used;
-    let value = new_power(NOWHERE, read, right, ctx)?;
+    let value = new_power(MADE, read, right, ctx)?;
     let assign = AssignmentOperator::Assign;
     if first.is_empty() {
         let node = new_assignment_expression(&mut ctx.ast, span, assign, written, value)?;
         return Ok(node);
     }
-    let last = new_assignment_expression(&mut ctx.ast, NOWHERE, assign, written, value)?;
+    let last = new_assignment_expression(&mut ctx.ast, MADE, assign, written, value)?;
     let mut expressions = first;
     expressions.push(last)?;
     let node = new_sequence_expression(&mut ctx.ast, span, expressions)?;

@@ -1,4 +1,4 @@
-use Rattle.std.proofs.Common.{◌∙◌, refl, ap, arith}
+use Rattle.std.proofs.Common.{◌∙◌, refl, ap}
 use Rattle.lower_editions.proofs.Assigned.{replaced_assignment, target_in}
 use Rattle.lower_editions.specs.Assignings.{is_doubled_target}
 use Rattle.lower_editions.proofs.assigning.lower_assignment.Goals as goal

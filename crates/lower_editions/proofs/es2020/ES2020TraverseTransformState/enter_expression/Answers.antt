@@ -1,26 +1,25 @@
-use Rattle.std.proofs.Common.{◌≡◌, ◌∙◌, ap, sym}
 use Rattle.es_tree.specs.Bare.{bare}
-use Rattle.es_tree.specs.declared.options.ES2020Options.{ES2020Options}
-use Rattle.es_visit.proofs.BothHooks.{passed_up}
 use Rattle.es_visit.specs.declared.hook.Hook.TheVariants.{Expression}
+use Rattle.es_visit.proofs.BothHooks.{both_of, entered_both, first_part, passed_up, ready_later, second_part, tree_refused, tree_refused_later}
 use Rattle.lower_common.specs.Takings.{moment_of}
-use Rattle.lower_editions.proofs.Switched.{off_moved, on_moved, refused_on}
-use Rattle.lower_editions.specs.Profiles.{coalescing_profile}
-use Rattle.lower_editions.proofs.es2020.ES2020TraverseTransformState.enter_expression.Goals.{then-self+in_ok-enter_expression, else-self}
+use Rattle.lower_editions.specs.Apart.{nullish_chains}
+use Rattle.lower_editions.specs.Editions.{suits_es2020}
+use Rattle.lower_editions.specs.Profiles.{chains_profile, nullish_profile}
 use Rattle.lower_editions.proofs.es2020.ES2020TraverseTransformState.enter_expression.Goals as goal
 
-pub returns-clause-entered : goal.returns-clause-entered
-returns-clause-entered c =
-    let on = c.args.ctx.now.options.es2020.nullish_coalescing_operator in
-    let held : on ≡ c.args.self.now.options.nullish_coalescing_operator = sym (ap (λ (o : ES2020Options). o.nullish_coalescing_operator) c.requires.ready.suited) in
-    elim c.if-self.branch [
-      | then-self+in_ok-enter_expression w ↦
-          on_moved on coalescing_profile Expression c.args.ctx.now w.enter_expression.new.ctx c.if-self.ctx c.args.node.now w.enter_expression.new.node c.if-self.node (held ∙ w.if-self.true) w.ctx-is w.node-is w.in_ok-enter_expression.ensures.entered
-      | else-self w ↦ off_moved on coalescing_profile Expression c.args.ctx.now c.if-self.ctx c.args.node.now c.if-self.node (held ∙ w.if-self.false) w.ctx-is w.node-is
-    ]
+pub enter_chains-requires : goal.enter_chains-requires
+enter_chains-requires c = let h = c.in_ok-enter_coalescing.ensures.entered.changed in record { ready = ready_later suits_es2020 _ _ h.kept h.lighter c.in_ok-enter_coalescing.ensures.goes.suits_still c.requires.ready.room c.requires.ready.inert }
 
-pub returns-in_err-enter_expression-clause-refused : goal.returns-in_err-enter_expression-clause-refused
-returns-in_err-enter_expression-clause-refused c =
-    let on = c.args.ctx.now.options.es2020.nullish_coalescing_operator in
-    let held : on ≡ c.args.self.now.options.nullish_coalescing_operator = sym (ap (λ (o : ES2020Options). o.nullish_coalescing_operator) c.requires.ready.suited) in
-    passed_up c.from_residual.result c.in_err-enter_expression.field-0.0 _ c.from_residual.ensures.1 (refused_on on coalescing_profile (moment_of c.args.ctx.now) _ (bare c.args.node.now) (held ∙ c.if-self.true) c.in_err-enter_expression.ensures.refused)
+pub returns-clause-entered : goal.returns-clause-entered
+returns-clause-entered c = entered_both nullish_profile chains_profile nullish_chains Expression c.in_ok-enter_coalescing.ensures.entered c.in_ok-enter_chains.ensures.entered
+
+pub returns-in_err-enter_coalescing-clause-refused : goal.returns-in_err-enter_coalescing-clause-refused
+returns-in_err-enter_coalescing-clause-refused c =
+    passed_up c.from_residual.result c.in_err-enter_coalescing.field-0.0 _ c.from_residual.ensures.1
+    (tree_refused nullish_profile (both_of nullish_profile chains_profile) (first_part nullish_profile chains_profile) (moment_of c.args.ctx.now) _ (bare c.args.node.now) c.in_err-enter_coalescing.ensures.refused)
+
+pub returns-in_err-enter_chains-clause-refused : goal.returns-in_err-enter_chains-clause-refused
+returns-in_err-enter_chains-clause-refused c =
+    passed_up c.from_residual-in_err-enter_chains.result c.in_err-enter_chains.field-0.0 _ c.from_residual-in_err-enter_chains.ensures.1
+    (tree_refused_later nullish_profile chains_profile (both_of nullish_profile chains_profile) (first_part nullish_profile chains_profile) (second_part nullish_profile chains_profile) _ (bare c.args.node.now) (bare c.enter_coalescing.new.node)
+    c.in_ok-enter_coalescing.ensures.entered.changed c.in_err-enter_chains.ensures.refused)

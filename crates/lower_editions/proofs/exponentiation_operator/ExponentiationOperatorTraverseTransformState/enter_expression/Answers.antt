@@ -1,10 +1,10 @@
 use Rattle.std.proofs.Common.{sym, ◌∙◌, refl, arith}
 use Rattle.es_tree.specs.Views.{view_node}
 use Rattle.es_visit.specs.declared.hook.Hook.TheVariants.{Expression}
+use Rattle.lower_common.proofs.Replaced.{entered_moved}
 use Rattle.lower_editions.proofs.PowerHook.{entered_raised, left_unraised, refused_raised}
-use Rattle.lower_editions.proofs.Replaced.{entered_moved}
-use Rattle.lower_editions.specs.Profiles.{raising_profile}
 use Rattle.lower_editions.proofs.exponentiation_operator.ExponentiationOperatorTraverseTransformState.enter_expression.Goals as goal
+use Rattle.lower_editions.specs.Profiles.{raising_profile}
 
 pub returns-then-not-is_lowerable-clause-entered : goal.returns-then-not-is_lowerable-clause-entered
 returns-then-not-is_lowerable-clause-entered c = left_unraised c.args.ctx.now c.args.node.now (sym c.is_lowerable.ensures ∙ c.if-not-is_lowerable.true)

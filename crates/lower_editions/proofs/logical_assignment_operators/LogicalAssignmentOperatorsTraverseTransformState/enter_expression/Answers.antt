@@ -1,10 +1,10 @@
 use Rattle.std.proofs.Common.{sym, ◌∙◌, refl, arith}
 use Rattle.es_visit.specs.declared.hook.Hook.TheVariants.{Expression}
+use Rattle.lower_common.proofs.Replaced.{entered_moved}
 use Rattle.lower_editions.proofs.Assigned.{entered_assigned, left_unassigned}
-use Rattle.lower_editions.proofs.Replaced.{entered_moved}
-use Rattle.lower_editions.specs.Profiles.{assigning_profile}
 use Rattle.lower_editions.proofs.logical_assignment_operators.LogicalAssignmentOperatorsTraverseTransformState.enter_expression.Goals.{then-is_lowerable+else-is_empty+in_ok-node, else-is_lowerable}
 use Rattle.lower_editions.proofs.logical_assignment_operators.LogicalAssignmentOperatorsTraverseTransformState.enter_expression.Goals as goal
+use Rattle.lower_editions.specs.Profiles.{assigning_profile}
 
 pub returns-clause-entered : goal.returns-clause-entered
 returns-clause-entered c =
