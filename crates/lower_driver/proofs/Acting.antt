@@ -1,17 +1,17 @@
--- The rules act at constructs that they lower, and at no other nodes.
-use Rattle.std.proofs.Common.{◌≡◌, ℕ, refl, sym, ap, ◌∙◌, inl, inr, List, [], ◌∷◌, Some}
+-- The rules act at constructs that they lower and at what deletes one, and at no other nodes.
+use Rattle.std.proofs.Common.{◌≡◌, refl, sym, ap, ◌∙◌, inl, inr, List, [], ◌∷◌, Some}
 use Rattle.std.proofs.lemmas.Bool.{and_from}
 use Rattle.std.specs.Prelude.{Bool, true, false, ◌&&◌, ◌||◌, not, codes, bytes_eq}
 use Rattle.es_tree.specs.Words.{Text}
-use Rattle.es_tree.specs.Bare.{bare_label, bare_fields}
-use Rattle.es_tree.specs.Constructs.{field_at, is_big_int, is_child, is_exponentiation, is_logical_assignment, is_nullish_coalescing, is_private_member, is_private_name}
+use Rattle.es_tree.specs.Bare.{bare, bare_label, bare_fields}
+use Rattle.es_tree.specs.Constructs.{field_at, is_big_int, is_chain, is_child, is_exponentiation, is_logical_assignment, is_nullish_coalescing, is_private_member, is_private_name}
 use Rattle.es_tree.specs.Core.{is_core_node}
 use Rattle.es_tree.specs.Names.{first_text}
 use Rattle.es_tree.specs.Parens.{without_parens}
-use Rattle.es_tree.specs.Walks.{all_nodes, all_in_fields, all_in_field, any_node}
+use Rattle.es_tree.specs.Walks.{all_nodes, all_in_fields, all_in_field, any_node, any_in_fields}
 use Rattle.es_tree.specs.Tree.{Tree, node, Label, Fields, done, ◌then◌, missing, one, many, statements, Trees, kind_of, fields_of}
 use Rattle.es_tree.specs.declared.ast_type.AstType.{AstType}
-use Rattle.es_tree.specs.declared.ast_type.AstType.TheVariants.{AssignmentExpression, BinaryExpression, Identifier, LogicalExpression, MemberExpression, PrivateIdentifier}
+use Rattle.es_tree.specs.declared.ast_type.AstType.TheVariants.{AssignmentExpression, BinaryExpression, ChainExpression, Identifier, LogicalExpression, MemberExpression, ParenthesizedExpression, PrivateIdentifier, UnaryExpression}
 use Rattle.es_tree.specs.declared.options.EnvOptions.{EnvOptions}
 use Rattle.es_runs.specs.Alike.{Need}
 use Rattle.es_runs.specs.Exponentiation.{ExponentiationRule, TargetTwice}
@@ -21,18 +21,22 @@ use Rattle.es_runs.specs.LogicalAssignment.{LogicalAssignmentRule, is_assigning}
 use Rattle.es_runs.specs.LogicalAssignment.LogicalAssignmentRule.{to_name, to_static_member, to_computed_member}
 use Rattle.es_runs.specs.Open.{Pending, nothing_pending, written}
 use Rattle.es_runs.specs.OpenSteps.{Ledger, Spot, Whole, at_node, at_list}
-use Rattle.es_runs.specs.OpenRules.{Assigning, Coalescing, Raising, Replacing, Writing, rule_under, where_on}
+use Rattle.es_runs.specs.OpenRules.{Assigning, Chaining, Coalescing, Raising, Replacing, Writing, rule_under, where_on}
 use Rattle.es_runs.specs.OpenRules.Replacing.{replaces}
 use Rattle.es_runs.specs.OpenRules.raising_row.{raises}
 use Rattle.es_runs.specs.OpenRules.Writing.{writes}
+use Rattle.es_runs.specs.OptionalChaining.{OptionalChainingRule, is_chain_kind}
+use Rattle.es_runs.specs.OptionalChaining.OptionalChainingRule.{by_tests, as_callee, in_delete}
 use Rattle.es_runs.specs.Steps.{NullishRule}
 use Rattle.es_runs.specs.Steps.NullishRule.{with_temporary, reading_again}
 use Rattle.es_runs.proofs.Named.{and_left, and_right, or_both, or_first, or_second}
+use Rattle.es_runs.proofs.RowFacts.{below_parens}
 use Rattle.es_runs.proofs.Stripped.{stripped_core}
 use Rattle.es_visit.specs.Laws.{is_row}
 use Rattle.lower_editions.specs.Assignings.{is_doubled_target, is_lowerable_assignment}
-use Rattle.lower_editions.specs.Powers.{has_power_key, is_lowerable_power, is_power_target}
+use Rattle.lower_editions.specs.Powers.{is_lowerable_power, is_power_target}
 use Rattle.lower_editions.proofs.BareNodes.{assignment-bare, power-bare}
+use Rattle.lower_common.proofs.Parenthesized.{without_parens-bare}
 use Rattle.lower_driver.specs.Rules.{has_built_construct, is_built_construct}
 use Rattle.lower_driver.proofs.Unchanged.{IsIdle}
 use Rattle.lower_driver.proofs.Walked.{none_follows}
@@ -74,6 +78,17 @@ power_acts (power_assignment {m = m} {t = t} {r = r} texts right target) =
     and_from (bytes_eq (first_text m.texts) (codes "**=") && not (is_big_int (kind_of r))) (is_power_target (without_parens t))
     (and_from (bytes_eq (first_text m.texts) (codes "**=")) (not (is_big_int (kind_of r))) (by_text (λ x. bytes_eq x (codes "**=")) m (codes "**=") texts refl) (ap not right)) (target_lowerable target)
 
+-- a chain, and a unary operator on one, as `delete`
+abbrev pub is_chained : AstType → Label → Fields → Bool
+is_chained ChainExpression l fs = true
+is_chained UnaryExpression l (one t then fs) = is_chain_kind (kind_of (without_parens t))
+is_chained _ l fs = false
+
+chaining_acts : {no_all : Bool} {bound source steady in_use : Text → Bool} {xs : List Text} {n : Need} {t u : Tree} → OptionalChainingRule no_all bound source steady in_use xs n t u → is_row is_chained t ≡ true
+chaining_acts (by_tests level walked tested) = refl
+chaining_acts (as_callee level walked tested callee) = refl
+chaining_acts (in_delete texts chain walked tested) = ap (λ s. is_chain_kind (kind_of s)) chain
+
 -- THE RULES THAT OPTIONS ASK FOR
 
 -- a rule that is on or off takes a step only where it is on
@@ -86,6 +101,7 @@ abbrev pub is_acted_on : EnvOptions → AstType → Label → Fields → Bool
 is_acted_on o k l fs =
     (o.es2021.logical_assignment_operators && is_lowerable_assignment k l fs)
     || (o.es2020.nullish_coalescing_operator && is_nullish_coalescing k l fs)
+    || (o.es2020.optional_chaining && is_chained k l fs)
     || (o.es2016.exponentiation_operator && is_lowerable_power k l fs)
 
 or_left : (a b : Bool) → a ≡ true → (a || b) ≡ true
@@ -108,49 +124,72 @@ assigning_nodes n _ _ t u (replaces xs r) = assignment_acts r
 coalescing_nodes : (n : Need) (s s' : Ledger) (t u : Tree) → Coalescing n s (at_node t) s' (at_node u) → is_row is_nullish_coalescing t ≡ true
 coalescing_nodes n _ _ t u (replaces xs r) = coalescing_acts r
 
+chaining_nodes : (no_all : Bool) (n : Need) (s s' : Ledger) (t u : Tree) → Chaining no_all n s (at_node t) s' (at_node u) → is_row is_chained t ≡ true
+chaining_nodes no_all n _ _ t u (replaces xs r) = chaining_acts r
+
 raising_nodes : (n : Need) (s s' : Ledger) (t u : Tree) → Raising n s (at_node t) s' (at_node u) → is_row is_lowerable_power t ≡ true
 raising_nodes n _ _ t u (replaces xs (raises free r)) = power_acts r
 
-less_where_on : (on a b : Bool) → (a ≡ false → b ≡ false) → (on && a) ≡ false → (on && b) ≡ false
+-- where a setting is on
+pub less_where_on : (on a b : Bool) → (a ≡ false → b ≡ false) → (on && a) ≡ false → (on && b) ≡ false
 less_where_on true a b f h = f h
 less_where_on false a b f h = refl
 
--- a test that holds where one of three settings is on
-module _ (on_a a on_b b on_c c : Bool) where
-  by_first : on_a ≡ true → a ≡ true → (on_a && a || on_b && b || on_c && c) ≡ true
-  by_first f h = or_left (on_a && a || on_b && b) (on_c && c) (or_left (on_a && a) (on_b && b) (and_from on_a a f h))
+-- one of four tests
+module _ (a b c d : Bool) where
+  by_first : a ≡ true → (a || b || c || d) ≡ true
+  by_first h = or_left (a || b || c) d (or_left (a || b) c (or_left a b h))
 
-  by_second : on_b ≡ true → b ≡ true → (on_a && a || on_b && b || on_c && c) ≡ true
-  by_second f h = or_left (on_a && a || on_b && b) (on_c && c) (or_right (on_a && a) (on_b && b) (and_from on_b b f h))
+  by_second : b ≡ true → (a || b || c || d) ≡ true
+  by_second h = or_left (a || b || c) d (or_left (a || b) c (or_right a b h))
 
-  by_third : on_c ≡ true → c ≡ true → (on_a && a || on_b && b || on_c && c) ≡ true
-  by_third f h = or_right (on_a && a || on_b && b) (on_c && c) (and_from on_c c f h)
+  by_third : c ≡ true → (a || b || c || d) ≡ true
+  by_third h = or_left (a || b || c) d (or_right (a || b) c h)
 
-  -- and fails where others fail of which it follows
-  pub less : (a' b' c' : Bool) → (a ≡ false → a' ≡ false) → (b ≡ false → b' ≡ false) → (c ≡ false → c' ≡ false) → (on_a && a || on_b && b || on_c && c) ≡ false → (on_a && a' || on_b && b' || on_c && c') ≡ false
-  less a' b' c' f g e h =
-      let early = or_first (on_a && a || on_b && b) (on_c && c) h in
-      or_both (on_a && a' || on_b && b') (on_c && c')
-      (or_both (on_a && a') (on_b && b') (less_where_on on_a a a' f (or_first (on_a && a) (on_b && b) early)) (less_where_on on_b b b' g (or_second (on_a && a) (on_b && b) early)))
-      (less_where_on on_c c c' e (or_second (on_a && a || on_b && b) (on_c && c) h))
+  by_fourth : d ≡ true → (a || b || c || d) ≡ true
+  by_fourth h = or_right (a || b || c) d h
+
+  -- where they fail others fail that follow from them
+  pub less : (a' b' c' d' : Bool) → (a ≡ false → a' ≡ false) → (b ≡ false → b' ≡ false) → (c ≡ false → c' ≡ false) → (d ≡ false → d' ≡ false) → (a || b || c || d) ≡ false → (a' || b' || c' || d') ≡ false
+  less a' b' c' d' f g i j h =
+      let three = or_first (a || b || c) d h in
+      let two = or_first (a || b) c three in
+      or_both (a' || b' || c') d' (or_both (a' || b') c' (or_both a' b' (f (or_first a b two)) (g (or_second a b two))) (i (or_second (a || b) c three))) (j (or_second (a || b || c) d h))
 
 module _ (o : EnvOptions) where
+  -- the four tests of the nodes at which rules act
+  abbrev is_assigned : Tree → Bool
+  is_assigned t = o.es2021.logical_assignment_operators && is_row is_lowerable_assignment t
+
+  abbrev is_coalesced : Tree → Bool
+  is_coalesced t = o.es2020.nullish_coalescing_operator && is_row is_nullish_coalescing t
+
+  abbrev is_opened : Tree → Bool
+  is_opened t = o.es2020.optional_chaining && is_row is_chained t
+
+  abbrev is_raised : Tree → Bool
+  is_raised t = o.es2016.exponentiation_operator && is_row is_lowerable_power t
+
   acting_nodes : (n : Need) (s s' : Ledger) (t u : Tree) → rule_under o n s (at_node t) s' (at_node u) → is_row (is_acted_on o) t ≡ true
   acting_nodes n s s' t u (inl r) = elim r [ ]
   acting_nodes n s s' t u (inr (inl r)) =
       let on = where_it_is_on o.es2021.logical_assignment_operators Assigning n s (at_node t) s' (at_node u) r in
-      by_first o.es2021.logical_assignment_operators (is_row is_lowerable_assignment t) o.es2020.nullish_coalescing_operator (is_row is_nullish_coalescing t) o.es2016.exponentiation_operator (is_row is_lowerable_power t) on.0 (assigning_nodes n s s' t u on.1)
-  acting_nodes n s s' t u (inr (inr (inl r))) =
+      by_first (is_assigned t) (is_coalesced t) (is_opened t) (is_raised t) (and_from o.es2021.logical_assignment_operators (is_row is_lowerable_assignment t) on.0 (assigning_nodes n s s' t u on.1))
+  acting_nodes n s s' t u (inr (inr (inl (inl r)))) =
       let on = where_it_is_on o.es2020.nullish_coalescing_operator Coalescing n s (at_node t) s' (at_node u) r in
-      by_second o.es2021.logical_assignment_operators (is_row is_lowerable_assignment t) o.es2020.nullish_coalescing_operator (is_row is_nullish_coalescing t) o.es2016.exponentiation_operator (is_row is_lowerable_power t) on.0 (coalescing_nodes n s s' t u on.1)
+      by_second (is_assigned t) (is_coalesced t) (is_opened t) (is_raised t) (and_from o.es2020.nullish_coalescing_operator (is_row is_nullish_coalescing t) on.0 (coalescing_nodes n s s' t u on.1))
+  acting_nodes n s s' t u (inr (inr (inl (inr r)))) =
+      let on = where_it_is_on o.es2020.optional_chaining (Chaining o.assumptions.no_document_all) n s (at_node t) s' (at_node u) r in
+      by_third (is_assigned t) (is_coalesced t) (is_opened t) (is_raised t) (and_from o.es2020.optional_chaining (is_row is_chained t) on.0 (chaining_nodes o.assumptions.no_document_all n s s' t u on.1))
   acting_nodes n s s' t u (inr (inr (inr r))) =
       let on = where_it_is_on o.es2016.exponentiation_operator Raising n s (at_node t) s' (at_node u) r in
-      by_third o.es2021.logical_assignment_operators (is_row is_lowerable_assignment t) o.es2020.nullish_coalescing_operator (is_row is_nullish_coalescing t) o.es2016.exponentiation_operator (is_row is_lowerable_power t) on.0 (raising_nodes n s s' t u on.1)
+      by_fourth (is_assigned t) (is_coalesced t) (is_opened t) (is_raised t) (and_from o.es2016.exponentiation_operator (is_row is_lowerable_power t) on.0 (raising_nodes n s s' t u on.1))
 
   acting_lists : (n : Need) (s s' : Ledger) (p q : Pending) (ts us : Trees) → rule_under o n s (at_list p ts) s' (at_list q us) → p ≡ nothing_pending → (s' ≡ s) × (q ≡ nothing_pending) × (us ≡ ts)
   acting_lists n s s' p q ts us (inl r) h = writing_lists n s s' p q ts us r h
   acting_lists n s s' p q ts us (inr (inl r)) h = absurd (no_list n s s' p q ts us (where_it_is_on o.es2021.logical_assignment_operators Assigning n s (at_list p ts) s' (at_list q us) r).1)
-  acting_lists n s s' p q ts us (inr (inr (inl r))) h = absurd (no_list n s s' p q ts us (where_it_is_on o.es2020.nullish_coalescing_operator Coalescing n s (at_list p ts) s' (at_list q us) r).1)
+  acting_lists n s s' p q ts us (inr (inr (inl (inl r)))) h = absurd (no_list n s s' p q ts us (where_it_is_on o.es2020.nullish_coalescing_operator Coalescing n s (at_list p ts) s' (at_list q us) r).1)
+  acting_lists n s s' p q ts us (inr (inr (inl (inr r)))) h = absurd (no_list n s s' p q ts us (where_it_is_on o.es2020.optional_chaining (Chaining o.assumptions.no_document_all) n s (at_list p ts) s' (at_list q us) r).1)
   acting_lists n s s' p q ts us (inr (inr (inr r))) h = absurd (no_list n s s' p q ts us (where_it_is_on o.es2016.exponentiation_operator Raising n s (at_list p ts) s' (at_list q us) r).1)
 
   pub acting_idle : IsIdle (is_acted_on o) (rule_under o)
@@ -162,10 +201,22 @@ nullish-bare : (k : AstType) (l : Label) (fs : Fields) → is_nullish_coalescing
 nullish-bare LogicalExpression l fs = refl
 nullish-bare _ l fs = refl
 
+kind-bare : (t : Tree) → is_chain_kind (kind_of (bare t)) ≡ is_chain_kind (kind_of t)
+kind-bare (node k l fs) = refl
+
+chained-bare : (k : AstType) (l : Label) (fs : Fields) → is_chained k (bare_label l) (bare_fields fs) ≡ is_chained k l fs
+chained-bare UnaryExpression l (one t then fs) = ap (λ s. is_chain_kind (kind_of s)) (without_parens-bare t) ∙ kind-bare (without_parens t)
+chained-bare UnaryExpression l (missing then fs) = refl
+chained-bare UnaryExpression l (many ts then fs) = refl
+chained-bare UnaryExpression l (statements ts then fs) = refl
+chained-bare UnaryExpression l done = refl
+chained-bare _ l fs = refl
+
 pub acted-bare : (o : EnvOptions) (k : AstType) (l : Label) (fs : Fields) → is_acted_on o k (bare_label l) (bare_fields fs) ≡ is_acted_on o k l fs
 acted-bare o k l fs = λ i.
     (o.es2021.logical_assignment_operators && assignment-bare k l fs i)
     || (o.es2020.nullish_coalescing_operator && nullish-bare k l fs i)
+    || (o.es2020.optional_chaining && chained-bare k l fs i)
     || (o.es2016.exponentiation_operator && power-bare k l fs i)
 
 -- a core node is no member with a private name
@@ -199,11 +250,46 @@ no_power AssignmentExpression l (one t then (one r then done)) h = also_less (by
 no_power AssignmentExpression l _ h = refl
 no_power _ l fs h = refl
 
-none_acted_on : (o : EnvOptions) (k : AstType) (l : Label) (fs : Fields) → is_core_node k l fs ≡ true → all_in_fields is_core_node fs ≡ true → is_built_construct o k l fs ≡ false → is_acted_on o k l fs ≡ false
-none_acted_on o k l fs own core h =
-    less o.es2021.logical_assignment_operators (is_logical_assignment k l fs) o.es2020.nullish_coalescing_operator (is_nullish_coalescing k l fs) o.es2016.exponentiation_operator (is_exponentiation k l fs)
-    (is_lowerable_assignment k l fs) (is_nullish_coalescing k l fs) (is_lowerable_power k l fs) (no_assignment k l fs core) (λ e. e) (no_power k l fs) h
+-- where no node passes a test, the node itself doesn't
+own_fails : (test : AstType → Label → Fields → Bool) (t : Tree) → any_node test t ≡ false → is_row test t ≡ false
+own_fails test (node k l fs) h = or_first (test k l fs) (any_in_fields test fs) h
 
--- where a core program has no construct, no rule acts at any of its nodes
-pub none_acts : (o : EnvOptions) (p : Tree) → all_nodes is_core_node p ≡ true → has_built_construct o p ≡ false → any_node (is_acted_on o) p ≡ false
-none_acts o p core none = none_follows is_core_node (is_built_construct o) (is_acted_on o) (none_acted_on o) p core none
+-- nor what stands below its parentheses
+below_fails : (test : AstType → Label → Fields → Bool) (t : Tree) → any_node test t ≡ false → is_row test (without_parens t) ≡ false
+below_fails test t h = own_fails test (without_parens t) (below_parens (λ s. any_node test s ≡ false) inside t h)
+  where
+    inside : (l : Label) (s : Tree) (fs : Fields) → any_node test (node ParenthesizedExpression l (one s then fs)) ≡ false → any_node test s ≡ false
+    inside l s fs g = or_first (any_node test s) (any_in_fields test fs) (or_second (test ParenthesizedExpression l (one s then fs)) (any_node test s || any_in_fields test fs) g)
+
+pub chain_kind : (k : AstType) (l : Label) (fs : Fields) → is_chain k l fs ≡ is_chain_kind k
+chain_kind ChainExpression l fs = refl
+chain_kind _ l fs = refl
+
+module _ (o : EnvOptions) where
+  -- what is no construct is no chain that is to be lowered
+  no_built_chain : (k : AstType) (l : Label) (fs : Fields) → is_built_construct o k l fs ≡ false → (o.es2020.optional_chaining && is_chain_kind k) ≡ false
+  no_built_chain k l fs h =
+      let a = o.es2021.logical_assignment_operators && is_logical_assignment k l fs in
+      let b = o.es2020.nullish_coalescing_operator && is_nullish_coalescing k l fs in
+      let c = o.es2020.optional_chaining && is_chain k l fs in
+      let d = o.es2016.exponentiation_operator && is_exponentiation k l fs in
+      ap (λ x. o.es2020.optional_chaining && x) (sym (chain_kind k l fs)) ∙ or_second (a || b) c (or_first (a || b || c) d h)
+
+  own_chain : (t : Tree) → is_row (is_built_construct o) t ≡ false → (o.es2020.optional_chaining && is_chain_kind (kind_of t)) ≡ false
+  own_chain (node k l fs) h = no_built_chain k l fs h
+
+  no_chained : (k : AstType) (l : Label) (fs : Fields) → any_in_fields (is_built_construct o) fs ≡ false → (o.es2020.optional_chaining && is_chain k l fs) ≡ false → (o.es2020.optional_chaining && is_chained k l fs) ≡ false
+  no_chained UnaryExpression l (one t then fs) below h = own_chain (without_parens t) (below_fails (is_built_construct o) t (or_first (any_node (is_built_construct o) t) (any_in_fields (is_built_construct o) fs) below))
+  no_chained UnaryExpression l _ below h = h
+  no_chained _ l fs below h = h
+
+  none_acted_on : (k : AstType) (l : Label) (fs : Fields) → is_core_node k l fs ≡ true → all_in_fields is_core_node fs ≡ true → is_built_construct o k l fs ≡ false → any_in_fields (is_built_construct o) fs ≡ false → is_acted_on o k l fs ≡ false
+  none_acted_on k l fs own core h below =
+      less (o.es2021.logical_assignment_operators && is_logical_assignment k l fs) (o.es2020.nullish_coalescing_operator && is_nullish_coalescing k l fs) (o.es2020.optional_chaining && is_chain k l fs) (o.es2016.exponentiation_operator && is_exponentiation k l fs)
+      (o.es2021.logical_assignment_operators && is_lowerable_assignment k l fs) (o.es2020.nullish_coalescing_operator && is_nullish_coalescing k l fs) (o.es2020.optional_chaining && is_chained k l fs) (o.es2016.exponentiation_operator && is_lowerable_power k l fs)
+      (less_where_on o.es2021.logical_assignment_operators (is_logical_assignment k l fs) (is_lowerable_assignment k l fs) (no_assignment k l fs core)) (λ e. e) (no_chained k l fs below)
+      (less_where_on o.es2016.exponentiation_operator (is_exponentiation k l fs) (is_lowerable_power k l fs) (no_power k l fs)) h
+
+  -- where a core program has no construct, no rule acts at any of its nodes
+  pub none_acts : (p : Tree) → all_nodes is_core_node p ≡ true → has_built_construct o p ≡ false → any_node (is_acted_on o) p ≡ false
+  none_acts p core none = none_follows is_core_node (is_built_construct o) (is_acted_on o) none_acted_on p core none

@@ -1,7 +1,6 @@
 -- Trees that are equal but for ids and marks.
 use Rattle.std.proofs.Common.{◌≡◌, sym, ap, ◌∙◌, []}
 use Rattle.std.specs.Prelude.{true, ◌&&◌, not}
-use Rattle.es_tree.specs.Words.{Text}
 use Rattle.es_tree.specs.Bare.{bare}
 use Rattle.es_tree.specs.Core.{is_core_node, IsCoreProgram}
 use Rattle.es_tree.specs.Fresh.{is_among}
@@ -12,7 +11,7 @@ use Rattle.es_tree.specs.Walks.{all_nodes}
 use Rattle.es_tree.specs.declared.table.Sort.TheVariants.{Program as s-Program}
 use Rattle.es_tree.proofs.BareForm.{has_form-bare, tree_size-bare}
 use Rattle.es_runs.specs.Open.{no_additions}
-use Rattle.es_runs.specs.OpenSteps.{Whole, whole_of}
+use Rattle.es_runs.specs.OpenSteps.{whole_of}
 use Rattle.es_runs.proofs.BareTrees.{declared_of-bare, names-bare, written-bare}
 use Rattle.es_runs.proofs.DeclaredNames.{core-bare}
 

@@ -1,6 +1,6 @@
 -- Where the source doesn't bind `Math`, it stays unbound: no fresh name is `Math`.
-use Rattle.std.proofs.Common.{◌≡◌, ℕ, refl, ◌∙◌, inl, inr, List, [], ◌∷◌, ◌++◌}
-use Rattle.std.specs.Prelude.{Bool, true, false, ◌||◌, codes, bytes_eq}
+use Rattle.std.proofs.Common.{◌≡◌, ℕ, refl, ◌∙◌, inl, inr, List, ◌++◌}
+use Rattle.std.specs.Prelude.{Bool, false, codes, bytes_eq}
 use Rattle.es_tree.specs.Words.{Text}
 use Rattle.es_tree.specs.Fresh.{is_among}
 use Rattle.es_runs.specs.Alike.{Need}
@@ -61,12 +61,13 @@ more_unbound w xs fresh h =
     or_both (w.bound (codes "Math")) (is_among (w.made ++ xs) (codes "Math")) (or_first (w.bound (codes "Math")) (is_among w.made (codes "Math")) h)
     (among_both w.made xs (codes "Math") (or_second (w.bound (codes "Math")) (is_among w.made (codes "Math")) h) (fresh_unmade fresh))
 
-rule_unbound : (n : Need) (s : Ledger) (x : Spot) (s' : Ledger) (y : Spot) → CoreRule n s x s' y → MathUnbound (whole_in s) → MathUnbound (whole_in s')
-rule_unbound n s _ _ _ (inl (writes)) h = h
-rule_unbound n _ _ _ _ (inr (inl (replaces {w = w} xs r))) h = more_unbound w xs (row_fresh w (inl r)) h
-rule_unbound n _ _ _ _ (inr (inr (inl (replaces {w = w} xs r)))) h = more_unbound w xs (row_fresh w (inr (inl r))) h
-rule_unbound n _ _ _ _ (inr (inr (inr (replaces {w = w} xs r)))) h = more_unbound w xs (row_fresh w (inr (inr r))) h
+rule_unbound : (no_all : Bool) (n : Need) (s : Ledger) (x : Spot) (s' : Ledger) (y : Spot) → CoreRule no_all n s x s' y → MathUnbound (whole_in s) → MathUnbound (whole_in s')
+rule_unbound no_all n s _ _ _ (inl (writes)) h = h
+rule_unbound no_all n _ _ _ _ (inr (inl (replaces {w = w} xs r))) h = more_unbound w xs (row_fresh no_all w (inl r)) h
+rule_unbound no_all n _ _ _ _ (inr (inr (inl (inl (replaces {w = w} xs r))))) h = more_unbound w xs (row_fresh no_all w (inr (inl (inl r)))) h
+rule_unbound no_all n _ _ _ _ (inr (inr (inl (inr (replaces {w = w} xs r))))) h = more_unbound w xs (row_fresh no_all w (inr (inl (inr r)))) h
+rule_unbound no_all n _ _ _ _ (inr (inr (inr (replaces {w = w} xs r)))) h = more_unbound w xs (row_fresh no_all w (inr (inr r))) h
 
 -- steps of the rules of core programs leave `Math` unbound
-pub still_unbound : {n : Need} {s s' : Ledger} {o u : Open} → Steps (Step CoreRule n) s o s' u → MathUnbound (whole_in s) → MathUnbound (whole_in s')
-still_unbound = steps_keep CoreRule MathUnbound rule_unbound
+pub still_unbound : (no_all : Bool) {n : Need} {s s' : Ledger} {o u : Open} → Steps (Step (CoreRule no_all) n) s o s' u → MathUnbound (whole_in s) → MathUnbound (whole_in s')
+still_unbound no_all = steps_keep (CoreRule no_all) MathUnbound (rule_unbound no_all)

@@ -1,32 +1,33 @@
 -- Where no exponentiation that is lowered stands, no step makes one.
 use Rattle.std.proofs.Common.{◌≡◌, ℕ, refl, sym, subst, ap, ◌∙◌, inl, inr, List, [], ◌∷◌, ◌++◌, map}
 use Rattle.std.proofs.lemmas.Bool.{and_from}
-use Rattle.std.specs.Prelude.{Bool, true, false, ◌&&◌, not, codes}
+use Rattle.std.specs.Prelude.{Bool, true, ◌&&◌, not, codes}
 use Rattle.es_tree.specs.Words.{Text}
 use Rattle.es_tree.specs.Parens.{without_parens}
 use Rattle.es_tree.specs.Walks.{all_nodes, all_in_fields, all_in_trees}
-use Rattle.es_tree.specs.Tree.{Tree, node, Label, Fields, done, ◌then◌, one, Trees, trees}
+use Rattle.es_tree.specs.Tree.{Tree, node, Label, Fields, done, ◌then◌, one, many, Trees, trees}
 use Rattle.es_tree.specs.declared.ast_type.AstType.{AstType}
-use Rattle.es_tree.specs.declared.ast_type.AstType.TheVariants.{AssignmentExpression, Identifier, LogicalExpression, MemberExpression, ParenthesizedExpression}
+use Rattle.es_tree.specs.declared.ast_type.AstType.TheVariants.{AssignmentExpression, CallExpression, ChainExpression, Identifier, LogicalExpression, MemberExpression, ParenthesizedExpression, UnaryExpression}
 use Rattle.es_runs.specs.Alike.{Need}
 use Rattle.es_runs.specs.Doubling.{Doubles}
 use Rattle.es_runs.specs.Doubling.Doubles.{read_again, by_temporary}
 use Rattle.es_runs.specs.LogicalAssignment.{LogicalAssignmentRule}
 use Rattle.es_runs.specs.LogicalAssignment.LogicalAssignmentRule.{to_name, to_static_member, to_computed_member}
 use Rattle.es_runs.specs.Open.{Pending, Open, OpenFields, closed_fields, declarator_node, declared, with_vars}
-use Rattle.es_runs.specs.OpenSteps.{Ledger, ledger, Whole, Spot, at_node, at_list, FieldsStep, Step, Steps}
-use Rattle.es_runs.specs.OpenRules.{Assigning, Coalescing, CoreRule, Raising, Writing, either_rule}
+use Rattle.es_runs.specs.OpenSteps.{Ledger, Spot, FieldsStep, Step, Steps}
+use Rattle.es_runs.specs.OpenRules.{Assigning, Chaining, Coalescing, CoreRule, Raising, Writing, either_rule, is_bound_in}
 use Rattle.es_runs.specs.OpenRules.Replacing.{replaces}
 use Rattle.es_runs.specs.OpenRules.raising_row.{raises}
 use Rattle.es_runs.specs.OpenRules.Writing.{writes}
-use Rattle.es_runs.specs.Steps.{NullishRule, also_all}
+use Rattle.es_runs.specs.Steps.{NullishRule}
 use Rattle.es_runs.specs.Steps.NullishRule.{with_temporary, reading_again}
+use Rattle.es_runs.proofs.ChainFacts.{ChainPassesOn, chaining_good}
 use Rattle.es_runs.proofs.Named.{and_left, and_right}
 use Rattle.es_runs.proofs.OpenTests.{open_all, pending_all, Passes, spot_all, steps_pass}
-use Rattle.es_runs.proofs.RowFacts.{below_parens}
+use Rattle.es_runs.proofs.RowFacts.{below_parens, none_asked}
 use Rattle.es_visit.specs.Laws.{is_row}
 use Rattle.lower_editions.specs.Powers.{is_lowerable_power}
-use Rattle.lower_editions.specs.Stable.{assigning_calm, coalescing_calm, either_calm, IsCalm, power_kept, raising_calm, writing_calm}
+use Rattle.lower_editions.specs.Stable.{assigning_calm, chaining_calm, coalescing_calm, either_calm, IsCalm, power_kept, raising_calm, writing_calm}
 use Rattle.lower_driver.proofs.Acting.{power_acts}
 
 abbrev pub no_power : AstType → Label → Fields → Bool
@@ -34,11 +35,14 @@ no_power k l fs = not (is_lowerable_power k l fs)
 
 -- A STEP AMONG THE FIELDS OF A NODE
 
-core_calm : IsCalm CoreRule
-core_calm = either_calm Writing (either_rule Assigning (either_rule Coalescing Raising)) writing_calm (either_calm Assigning (either_rule Coalescing Raising) assigning_calm (either_calm Coalescing Raising coalescing_calm raising_calm))
+core_calm : (no_all : Bool) → IsCalm (CoreRule no_all)
+core_calm no_all =
+    let es2020 = either_rule Coalescing (Chaining no_all) in
+    either_calm Writing (either_rule Assigning (either_rule es2020 Raising)) writing_calm
+    (either_calm Assigning (either_rule es2020 Raising) assigning_calm (either_calm es2020 Raising (either_calm Coalescing (Chaining no_all) coalescing_calm (chaining_calm no_all)) raising_calm))
 
-fields_kept : (k : AstType) (l : Label) (c : ℕ → Need) (s s' : Ledger) (fs gs : OpenFields) → FieldsStep CoreRule c s fs s' gs → no_power k l (closed_fields fs) ≡ true → no_power k l (closed_fields gs) ≡ true
-fields_kept k l c s s' fs gs r h = ap not (sym (power_kept CoreRule core_calm k l c s s' fs gs r)) ∙ h
+fields_kept : (no_all : Bool) (k : AstType) (l : Label) (c : ℕ → Need) (s s' : Ledger) (fs gs : OpenFields) → FieldsStep (CoreRule no_all) c s fs s' gs → no_power k l (closed_fields fs) ≡ true → no_power k l (closed_fields gs) ≡ true
+fields_kept no_all k l c s s' fs gs r h = ap not (sym (power_kept (CoreRule no_all) (core_calm no_all) k l c s s' fs gs r)) ∙ h
 
 -- THE ROWS
 
@@ -77,6 +81,36 @@ coalescing_powerless : {steady in_use : Text → Bool} {xs : List Text} {n : Nee
 coalescing_powerless (with_temporary {m = m} {l = l} {r = r} texts again fresh) h = rw (first_powerless LogicalExpression m l (one r then done) h, second_powerless LogicalExpression m l r done h) refl
 coalescing_powerless (reading_again {m = m} {l = l} {r = r} texts again) h = simp (first_powerless LogicalExpression m l (one r then done) h, second_powerless LogicalExpression m l r done h)
 
+-- the arguments of a call
+arguments_powerless : (l : Label) (f : Tree) (ts : Trees) → Powerless (node CallExpression l (one f then (many ts then done))) → all_in_trees no_power ts ≡ true
+arguments_powerless l f ts h = and_left (all_in_trees no_power ts) true (and_right (all_nodes no_power f) (all_in_trees no_power ts && true) (and_right (no_power CallExpression l (one f then (many ts then done))) (all_nodes no_power f && (all_in_trees no_power ts && true)) h))
+
+-- what is made of a chain, of parts that are powerless
+chain_powerless : ChainPassesOn Powerless (λ x. Unit {0})
+chain_powerless = record {
+  inside = λ l t fs h. first_powerless ParenthesizedExpression l t fs h;
+  content = λ l t h. first_powerless ChainExpression l t done h;
+  operand = λ l t h. first_powerless UnaryExpression l t done h;
+  object = λ l o p h. first_powerless MemberExpression l o (one p then done) h;
+  callee = λ l f ts h. first_powerless CallExpression l f (many ts then done) h;
+  member = λ l computed optional o q p flags h g. rw (g, second_powerless MemberExpression l o p done h) refl;
+  call = λ l f q ts h g. rw (g, arguments_powerless l f ts h) refl;
+  call_with = λ l f q r ts h g k. rw (g, k, arguments_powerless l f ts h) refl;
+  name = λ x fine. refl;
+  takes = λ x e fine h. rw h refl;
+  static_member = λ c y h. rw h refl;
+  call_one = λ c r h g. rw (h, g) refl;
+  this = refl;
+  null = refl;
+  void_zero = refl;
+  truth = refl;
+  equals = λ l r h g. rw (h, g) refl;
+  loosely_equals = λ l r h g. rw (h, g) refl;
+  or = λ l r h g. rw (h, g) refl;
+  choice = λ m t a b h g k. rw (h, g, k) refl;
+  deletes = λ e h. rw h refl;
+}
+
 -- a row of exponentiation acts at none
 own_power : (t : Tree) → Powerless t → is_row is_lowerable_power t ≡ true → ⊥
 own_power (node k l fs) h acts = let none = and_left (no_power k l fs) (all_in_fields no_power fs) h in absurd (cc (acts, none))
@@ -102,18 +136,22 @@ more_powerless xs p h =
     (append_all p.vars (map declarator_node xs) (and_left (all_in_trees no_power (trees p.vars)) (all_in_trees no_power (trees p.lets)) h) (made_powerless xs))
     (and_right (all_in_trees no_power (trees p.vars)) (all_in_trees no_power (trees p.lets)) h)
 
-rule_powerless : (n : Need) (s : Ledger) (x : Spot) (s' : Ledger) (y : Spot) → CoreRule n s x s' y → Passes no_power s (spot_all no_power x) → Passes no_power s' (spot_all no_power y)
-rule_powerless n s _ _ _ (inl (writes {p = p} {ts = ts})) h =
+rule_powerless : (no_all : Bool) (n : Need) (s : Ledger) (x : Spot) (s' : Ledger) (y : Spot) → CoreRule no_all n s x s' y → Passes no_power s (spot_all no_power x) → Passes no_power s' (spot_all no_power y)
+rule_powerless no_all n s _ _ _ (inl (writes {p = p} {ts = ts})) h =
     let pending = and_left (pending_all no_power p) (all_in_trees no_power ts) h.here in
     record {
       around = h.around;
       here = declared_powerless (codes "var") p.vars (declared (codes "let") p.lets ts) (and_left (all_in_trees no_power (trees p.vars)) (all_in_trees no_power (trees p.lets)) pending)
           (declared_powerless (codes "let") p.lets ts (and_right (all_in_trees no_power (trees p.vars)) (all_in_trees no_power (trees p.lets)) pending) (and_right (pending_all no_power p) (all_in_trees no_power ts) h.here));
     }
-rule_powerless n _ _ _ _ (inr (inl (replaces {p = p} xs r))) h = record { around = more_powerless xs p h.around; here = assignment_powerless r h.here }
-rule_powerless n _ _ _ _ (inr (inr (inl (replaces {p = p} xs r)))) h = record { around = more_powerless xs p h.around; here = coalescing_powerless r h.here }
-rule_powerless n _ _ _ _ (inr (inr (inr (replaces {t = t} xs (raises free r))))) h = absurd (own_power t h.here (power_acts r))
+rule_powerless no_all n _ _ _ _ (inr (inl (replaces {p = p} xs r))) h = record { around = more_powerless xs p h.around; here = assignment_powerless r h.here }
+rule_powerless no_all n _ _ _ _ (inr (inr (inl (inl (replaces {p = p} xs r))))) h = record { around = more_powerless xs p h.around; here = coalescing_powerless r h.here }
+rule_powerless no_all n _ _ _ _ (inr (inr (inl (inr (replaces {w = w} {p = p} xs r))))) h = record {
+  around = more_powerless xs p h.around;
+  here = chaining_good Powerless (λ x. Unit {0}) chain_powerless no_all (is_bound_in w) w.bound w.steady w.in_use r (none_asked xs) h.here;
+}
+rule_powerless no_all n _ _ _ _ (inr (inr (inr (replaces {t = t} xs (raises free r))))) h = absurd (own_power t h.here (power_acts r))
 
 -- steps of the rules of core programs make none
-pub still_powerless : {n : Need} {s s' : Ledger} {o u : Open} → Steps (Step CoreRule n) s o s' u → Passes no_power s (open_all no_power o) → Passes no_power s' (open_all no_power u)
-still_powerless = steps_pass no_power CoreRule fields_kept rule_powerless
+pub still_powerless : (no_all : Bool) {n : Need} {s s' : Ledger} {o u : Open} → Steps (Step (CoreRule no_all) n) s o s' u → Passes no_power s (open_all no_power o) → Passes no_power s' (open_all no_power u)
+still_powerless no_all = steps_pass no_power (CoreRule no_all) (fields_kept no_all) (rule_powerless no_all)

@@ -1,6 +1,6 @@
 -- The visit of a source in which no shape stands that the lowerings don't take fails for want of memory alone.
-use Rattle.std.proofs.Common.{◌≡◌, refl, sym, ap, ◌∙◌, subst, ◌⊎◌, inl, inr}
-use Rattle.std.specs.Prelude.{Bool, true, false, ◌&&◌, ◌||◌, not, Option, None, Some, ℕ, codes, if◌then◌else◌}
+use Rattle.std.proofs.Common.{◌≡◌, refl, sym, ap, ◌∙◌, subst, inl, inr}
+use Rattle.std.specs.Prelude.{Bool, true, false, ◌&&◌, ◌||◌, not, None, codes, if◌then◌else◌}
 use Rattle.es_tree.specs.Bare.{bare, bare_label, bare_fields}
 use Rattle.es_tree.specs.Fresh.{is_among}
 use Rattle.es_tree.specs.Scopes.{declared_of, declares}
@@ -20,7 +20,7 @@ use Rattle.es_runs.specs.Open.OpenFields.{ends, ◌and◌}
 use Rattle.es_runs.specs.Open.OpenField.{gap, child, children, list}
 use Rattle.es_runs.specs.Open.OpenTrees.{nil, ◌next◌}
 use Rattle.es_runs.specs.OpenRules.{CoreRule, is_bound_in, rule_under}
-use Rattle.es_runs.specs.OpenSteps.{Ledger, ledger, Step, Steps, Whole, whole_in, whole_of}
+use Rattle.es_runs.specs.OpenSteps.{Ledger, ledger, Step, Steps, Whole, whole_in}
 use Rattle.es_runs.proofs.BareTrees.{all-bare}
 use Rattle.es_runs.proofs.Named.{and_left, and_right}
 use Rattle.es_runs.proofs.OpenTests.{all-opened, open_all, open_all_fields, open_all_field, open_all_trees, pending_all}
@@ -78,7 +78,8 @@ record Refusing (o : EnvOptions) (w : Whole) (t : Tree) : Type 0 where
 refusing : (o : EnvOptions) (e : LowerError) (w : Whole) (t : Tree) → (visit_profile o).refuses e w t → Refusing o w t
 refusing o e w t (inl h) = absurd h
 refusing o e w t (inr (inl h)) = absurd h.1
-refusing o e w t (inr (inr (inl h))) = absurd h.1
+refusing o e w t (inr (inr (inl (inl h)))) = absurd h.1
+refusing o e w t (inr (inr (inl (inr h)))) = absurd h.1
 refusing o e w t (inr (inr (inr h))) = record { on = h.0; lowered = h.1.1; bound = h.1.2 }
 
 -- WHERE THE SOURCE HAS NO SUCH NODE
@@ -97,19 +98,19 @@ none_stands p none =
 
 module _ (o : EnvOptions) (p : Tree) (a : Moment) (x : Program) (same : bare (plain_program x) ≡ bare p) (start : IsStart p a) where
   -- what the steps of the visit begin with
-  begun : {s' : Ledger} {u : Open} → Steps (Step (rule_under o) all_of_it) (ledger (whole_at a) nothing_pending) (open_program (top a.lists) x) s' u → Steps (Step CoreRule all_of_it) (ledger (whole_at a) nothing_pending) (opened (bare p)) s' u
+  begun : {s' : Ledger} {u : Open} → Steps (Step (rule_under o) all_of_it) (ledger (whole_at a) nothing_pending) (open_program (top a.lists) x) s' u → Steps (Step (CoreRule o.assumptions.no_document_all) all_of_it) (ledger (whole_at a) nothing_pending) (opened (bare p)) s' u
   begun {s'} {u} steps =
       let at_start : open_program (top a.lists) x ≡ opened (bare p) = ap (λ ps. open_program (top ps) x) start.lists ∙ ap opened same in
-      steps_under (rule_under o) CoreRule (rule_core o) (subst (λ (t : Open). Steps (Step (rule_under o) all_of_it) (ledger (whole_at a) nothing_pending) t s' u) at_start steps)
+      steps_under (rule_under o) (CoreRule o.assumptions.no_document_all) (rule_core o) (subst (λ (t : Open). Steps (Step (rule_under o) all_of_it) (ledger (whole_at a) nothing_pending) t s' u) at_start steps)
 
-  none_there : {s' : Ledger} {u : Open} → Steps (Step CoreRule all_of_it) (ledger (whole_at a) nothing_pending) (opened (bare p)) s' u → first_node is_lowerable_power p ≡ None → open_all no_power u ≡ true
-  none_there steps none = (still_powerless steps (record { around = refl; here = all-opened no_power (bare p) ∙ all-bare no_power power_kept-bare p ∙ none_stands p none })).here
+  none_there : {s' : Ledger} {u : Open} → Steps (Step (CoreRule o.assumptions.no_document_all) all_of_it) (ledger (whole_at a) nothing_pending) (opened (bare p)) s' u → first_node is_lowerable_power p ≡ None → open_all no_power u ≡ true
+  none_there steps none = (still_powerless o.assumptions.no_document_all steps (record { around = refl; here = all-opened no_power (bare p) ∙ all-bare no_power power_kept-bare p ∙ none_stands p none })).here
 
-  unbound_there : {s' : Ledger} {u : Open} → Steps (Step CoreRule all_of_it) (ledger (whole_at a) nothing_pending) (opened (bare p)) s' u → declares (declared_of p) (codes "Math") ≡ false → MathUnbound (whole_in s')
+  unbound_there : {s' : Ledger} {u : Open} → Steps (Step (CoreRule o.assumptions.no_document_all) all_of_it) (ledger (whole_at a) nothing_pending) (opened (bare p)) s' u → declares (declared_of p) (codes "Math") ≡ false → MathUnbound (whole_in s')
   unbound_there steps undeclared =
-      still_unbound steps (ap (λ b. b || is_among a.made (codes "Math")) (start.bound (codes "Math") ∙ undeclared) ∙ ap (λ ns. is_among ns (codes "Math")) start.made)
+      still_unbound o.assumptions.no_document_all steps (ap (λ b. b || is_among a.made (codes "Math")) (start.bound (codes "Math") ∙ undeclared) ∙ ap (λ ns. is_among ns (codes "Math")) start.made)
 
-  impossible : (e : LowerError) (s' : Ledger) (u : Open) (b : Bool) → Steps (Step CoreRule all_of_it) (ledger (whole_at a) nothing_pending) (opened (bare p)) s' u → (found : Found no_power ((visit_profile o).refuses e (whole_in s')) (open_all no_power u)) →
+  impossible : (e : LowerError) (s' : Ledger) (u : Open) (b : Bool) → Steps (Step (CoreRule o.assumptions.no_document_all) all_of_it) (ledger (whole_at a) nothing_pending) (opened (bare p)) s' u → (found : Found no_power ((visit_profile o).refuses e (whole_in s')) (open_all no_power u)) →
       declares (declared_of p) (codes "Math") ≡ b → (if o.es2016.exponentiation_operator && b then first_node is_lowerable_power p else None) ≡ None → ⊥
   impossible e s' u true steps found declared none =
       let refused = refusing o e (whole_in s') found.tree found.there in

@@ -3,19 +3,20 @@ use Rattle.std.proofs.Common.{◌≡◌, refl, sym, ap, ◌∙◌}
 use Rattle.std.specs.Prelude.{Bool, true, false, ◌&&◌, ◌||◌}
 use Rattle.es_tree.specs.Attributes.{child_entries}
 use Rattle.es_tree.specs.Bare.{bare, bare_label, bare_fields, bare_trees}
-use Rattle.es_tree.specs.Constructs.{is_exponentiation, is_logical_assignment, is_nullish_coalescing}
+use Rattle.es_tree.specs.Constructs.{is_chain, is_exponentiation, is_logical_assignment, is_nullish_coalescing}
 use Rattle.es_tree.specs.Core.{IsCoreProgram}
 use Rattle.es_tree.specs.HasForm.{is_of_sort, elements_of, match_option, has_form, elements_form, fields_form, trees_form}
-use Rattle.es_tree.specs.Walks.{all_nodes, all_in_fields, all_in_trees, any_node, any_in_trees}
+use Rattle.es_tree.specs.Walks.{all_nodes, all_in_fields, all_in_trees, any_node, any_in_fields, any_in_trees}
 use Rattle.es_tree.specs.Tree.{Tree, node, Label, Fields, done, ◌then◌, many, statements, Trees, empty, ◌before◌, trees, label_of}
 use Rattle.es_tree.specs.declared.ast_type.AstType.{AstType}
-use Rattle.es_tree.specs.declared.ast_type.AstType.TheVariants.{AssignmentExpression, Directive, Program as k-Program}
+use Rattle.es_tree.specs.declared.ast_type.AstType.TheVariants.{Directive, Program as k-Program}
 use Rattle.es_tree.specs.declared.options.EnvOptions.{EnvOptions}
 use Rattle.es_tree.specs.declared.table.Sort.TheVariants.{Program as s-Program, Directive as s-Directive, Statement as s-Statement}
 use Rattle.es_tree.proofs.BareForm.{has_form-bare}
 use Rattle.es_tree.proofs.NodeForm.{node_form}
 use Rattle.es_statements.specs.ProgramPlain.{plain_program}
 use Rattle.es_statements.specs.declared.program.Program.{Program}
+use Rattle.es_runs.specs.OptionalChaining.{is_chain_kind}
 use Rattle.es_runs.proofs.Named.{and_left, and_right, or_both}
 use Rattle.es_visit.specs.Laws.{body_of, directives_of}
 use Rattle.lower_editions.specs.Assignings.{is_lowerable_assignment}
@@ -24,21 +25,25 @@ use Rattle.lower_editions.specs.Powers.{is_lowerable_power}
 use Rattle.lower_editions.proofs.BareNodes.{assignment-bare, coalescing-bare, power-bare}
 use Rattle.lower_editions.proofs.NoneLeft.{is_settled, settled_assignment, settled_coalescing, settled_power}
 use Rattle.lower_driver.specs.Rules.{has_built_construct, is_built_construct, is_lowered_under}
-use Rattle.lower_driver.proofs.Acting.{less}
+use Rattle.lower_driver.proofs.Acting.{chain_kind, less, less_where_on}
 use Rattle.lower_driver.proofs.Walked.{any-bare-trees, none_among}
 
 -- CONSTRUCTS
 
-none_there : (o : EnvOptions) (k : AstType) (l : Label) (fs : Fields) → is_settled k l fs ≡ true → all_in_fields is_settled fs ≡ true → is_lowered_under o k l fs ≡ false → is_built_construct o k l fs ≡ false
-none_there o k l fs settled below =
-    less o.es2021.logical_assignment_operators (is_lowerable_assignment k l fs) o.es2020.nullish_coalescing_operator (is_lowerable_coalescing k l fs) o.es2016.exponentiation_operator (is_lowerable_power k l fs)
-    (is_logical_assignment k l fs) (is_nullish_coalescing k l fs) (is_exponentiation k l fs)
-    (settled_assignment k l fs settled) (settled_coalescing k l fs settled) (settled_power k l fs settled)
+none_there : (o : EnvOptions) (k : AstType) (l : Label) (fs : Fields) → is_settled k l fs ≡ true → all_in_fields is_settled fs ≡ true → is_lowered_under o k l fs ≡ false → any_in_fields (is_lowered_under o) fs ≡ false → is_built_construct o k l fs ≡ false
+none_there o k l fs settled below h clear =
+    less (o.es2021.logical_assignment_operators && is_lowerable_assignment k l fs) (o.es2020.nullish_coalescing_operator && is_lowerable_coalescing k l fs) (o.es2020.optional_chaining && is_chain_kind k) (o.es2016.exponentiation_operator && is_lowerable_power k l fs)
+    (o.es2021.logical_assignment_operators && is_logical_assignment k l fs) (o.es2020.nullish_coalescing_operator && is_nullish_coalescing k l fs) (o.es2020.optional_chaining && is_chain k l fs) (o.es2016.exponentiation_operator && is_exponentiation k l fs)
+    (less_where_on o.es2021.logical_assignment_operators (is_lowerable_assignment k l fs) (is_logical_assignment k l fs) (settled_assignment k l fs settled))
+    (less_where_on o.es2020.nullish_coalescing_operator (is_lowerable_coalescing k l fs) (is_nullish_coalescing k l fs) (settled_coalescing k l fs settled))
+    (less_where_on o.es2020.optional_chaining (is_chain_kind k) (is_chain k l fs) (λ e. chain_kind k l fs ∙ e))
+    (less_where_on o.es2016.exponentiation_operator (is_lowerable_power k l fs) (is_exponentiation k l fs) (settled_power k l fs settled)) h
 
 lowered-bare : (o : EnvOptions) (k : AstType) (l : Label) (fs : Fields) → is_lowered_under o k (bare_label l) (bare_fields fs) ≡ is_lowered_under o k l fs
 lowered-bare o k l fs = λ i.
     (o.es2021.logical_assignment_operators && assignment-bare k l fs i)
     || (o.es2020.nullish_coalescing_operator && coalescing-bare k l fs i)
+    || (o.es2020.optional_chaining && is_chain_kind k)
     || (o.es2016.exponentiation_operator && power-bare k l fs i)
 
 -- DIRECTIVES HAVE NO PARTS
@@ -51,18 +56,19 @@ switched_off true = refl
 switched_off false = refl
 
 module _ (o : EnvOptions) where
-  none_of_three : (o.es2021.logical_assignment_operators && false || o.es2020.nullish_coalescing_operator && false || o.es2016.exponentiation_operator && false) ≡ false
-  none_of_three =
+  none_of_four : (o.es2021.logical_assignment_operators && false || o.es2020.nullish_coalescing_operator && false || o.es2020.optional_chaining && false || o.es2016.exponentiation_operator && false) ≡ false
+  none_of_four =
       let a = o.es2021.logical_assignment_operators in
       let b = o.es2020.nullish_coalescing_operator in
-      let c = o.es2016.exponentiation_operator in
-      or_both (a && false || b && false) (c && false) (or_both (a && false) (b && false) (switched_off a) (switched_off b)) (switched_off c)
+      let c = o.es2020.optional_chaining in
+      let d = o.es2016.exponentiation_operator in
+      or_both (a && false || b && false || c && false) (d && false) (or_both (a && false || b && false) (c && false) (or_both (a && false) (b && false) (switched_off a) (switched_off b)) (switched_off c)) (switched_off d)
 
   no_directive : (l : Label) (fs : Fields) → is_built_construct o Directive l fs ≡ false
-  no_directive l fs = none_of_three
+  no_directive l fs = none_of_four
 
   no_program : (l : Label) (fs : Fields) → is_built_construct o k-Program l fs ≡ false
-  no_program l fs = none_of_three
+  no_program l fs = none_of_four
 
   directive_clear : (t : Tree) → has_form s-Directive (bare t) ≡ true → any_node (is_built_construct o) t ≡ false
   directive_clear (node k l fs) h = at k fs (node_form s-Directive k (bare_label l) (bare_fields fs) h).sort (node_form s-Directive k (bare_label l) (bare_fields fs) h).children

@@ -1,5 +1,5 @@
 -- The first shape that no lowering takes, by another tree or other options that say the same.
-use Rattle.std.proofs.Common.{◌≡◌, ℕ, Option, None, Some, sym, ap, ◌∙◌, subst}
+use Rattle.std.proofs.Common.{◌≡◌, None, Some, sym, ap, ◌∙◌, subst}
 use Rattle.std.specs.Prelude.{◌&&◌, if◌then◌else◌, codes}
 use Rattle.es_tree.specs.Bare.{bare}
 use Rattle.es_tree.specs.Marks.{marked}

@@ -1,5 +1,5 @@
 -- From the one visit of a run to what the source becomes.
-use Rattle.std.proofs.Common.{◌≡◌, ◌*◌, ◌≤◌, ◌<◌, ◌^◌, refl, sym, ap, ◌∙◌, subst, List, [], ◌∷◌, arith}
+use Rattle.std.proofs.Common.{◌≡◌, ◌*◌, ◌≤◌, ◌<◌, ◌^◌, refl, sym, ap, ◌∙◌, subst, List, [], arith}
 use Rattle.std.specs.Prelude.{Bool, true, false, ◌&&◌, ◌||◌}
 use Rattle.es_tree.specs.Words.{Text}
 use Rattle.es_tree.specs.Bare.{bare}
@@ -8,16 +8,20 @@ use Rattle.es_tree.specs.StaticRules.{breaks}
 use Rattle.es_tree.specs.Tree.{Tree, Label, Fields, tree_size}
 use Rattle.es_tree.specs.Walks.{any_node, any_in_trees}
 use Rattle.es_tree.specs.declared.ast_type.AstType.{AstType}
+use Rattle.es_tree.specs.declared.options.Assumptions.{Assumptions}
 use Rattle.es_tree.specs.declared.options.EnvOptions.{EnvOptions}
 use Rattle.es_statements.specs.ProgramPlain.{plain_program}
 use Rattle.es_statements.specs.declared.program.Program.{Program}
 use Rattle.es_runs.specs.Alike.{Need, all_of_it}
-use Rattle.es_runs.specs.Open.{nothing_pending, Open, opened}
+use Rattle.es_runs.specs.Open.{nothing_pending, opened}
 use Rattle.es_runs.specs.OpenRules.{rule_under}
+use Rattle.es_runs.specs.OptionalChaining.{is_chain_kind}
+use Rattle.es_runs.specs.Runs.{RunAlike}
 use Rattle.es_runs.specs.OpenSteps.{Whole, Ledger, ledger, whole_of, Spot, Step, Steps, Reached}
 use Rattle.es_runs.specs.Weights.{weight}
 use Rattle.es_runs.proofs.OpenLaws.{law_reached_proof, law_reached_bindings_proof}
 use Rattle.es_runs.proofs.StaticLaws.{law_reached_rules_proof}
+use Rattle.es_runs.proofs.StaticMarks.{tidy_source}
 use Rattle.es_runs.proofs.Weights.{size-weight, weight-size}
 use Rattle.es_visit.specs.Laws.{body_of}
 use Rattle.es_visit.specs.Moments.{Moment, IsFinished, heft, is_inert, HasRoom}
@@ -69,13 +73,14 @@ pub lowers : (o : EnvOptions) (p : Tree) (a b : Moment) (x y : Program) → IsCo
 lowers o p a b x y core kept same first visit =
     let begun = reached_whole x y visit.changed (start_same p (plain_program x) a same first.start) visit.finished in
     let reached : Reached (rule_under o) p b.made (plain_program y) = reached_same (rule_under o) p (plain_program x) (plain_program y) b.made same begun in
+    let no_all = o.assumptions.no_document_all in
     let by_core = reached_under o p (plain_program y) b.made reached in
-    let keeps : breaks (plain_program y) ≡ [] = law_reached_rules_proof p (plain_program y) b.made core kept by_core in
+    let keeps : breaks (plain_program y) ≡ [] = law_reached_rules_proof no_all p (plain_program y) b.made core kept by_core in
     record {
       reached = reached;
-      none = none_written o p x y core same (settled_reached p (plain_program y) b.made core kept by_core) visit.directives visit.free;
-      alike = law_reached_proof p (plain_program y) b.made core by_core;
-      bindings = law_reached_bindings_proof p (plain_program y) b.made core by_core;
+      none = none_written o p x y core same (settled_reached no_all p (plain_program y) b.made core kept by_core) visit.directives visit.free;
+      alike = law_reached_proof no_all p (plain_program y) b.made core (tidy_source p kept) by_core;
+      bindings = law_reached_bindings_proof no_all p (plain_program y) b.made core by_core;
       kept = keeps;
       unchanged = λ asked.
           let u = unchanged o p (plain_program y) b.made core.core reached asked in
@@ -88,13 +93,15 @@ lowers o p a b x y core kept same first visit =
           omega (arith, s, l, h, w);
     }
 
-or_assoc : (a b c : Bool) → (a || b || c) ≡ (a || (b || c))
-or_assoc true b c = refl
-or_assoc false b c = refl
+or_regrouped : (a b c d : Bool) → (a || b || c || d) ≡ (a || (b || c || d))
+or_regrouped true b c d = refl
+or_regrouped false b c d = refl
 
 -- what the visit by its type leaves no node of
 lowered_rows : (o : EnvOptions) → is_lowered_under o ≡ (visit_profile o).rows Expression
-lowered_rows o = λ i k l fs. or_assoc (o.es2021.logical_assignment_operators && is_lowerable_assignment k l fs) (o.es2020.nullish_coalescing_operator && is_lowerable_coalescing k l fs) (o.es2016.exponentiation_operator && is_lowerable_power k l fs) i
+lowered_rows o = λ i k l fs.
+    or_regrouped (o.es2021.logical_assignment_operators && is_lowerable_assignment k l fs) (o.es2020.nullish_coalescing_operator && is_lowerable_coalescing k l fs) (o.es2020.optional_chaining && is_chain_kind k)
+    (o.es2016.exponentiation_operator && is_lowerable_power k l fs) i
 
 -- the visit by its type
 pub visit_by_type : (o : EnvOptions) (a b : Moment) (x y : Program) → VisitedProgram (visit_profile o) a x b y → IsFinished b → IsVisit o a x b y
@@ -103,12 +110,12 @@ visit_by_type o a b x y visited finished = record { changed = visited.changed; d
 -- options that are the same
 pub lowers_same : (o c : EnvOptions) (p q : Tree) (names : List Text) → IsCopy o c → Lowers c p q names → Lowers o p q names
 lowers_same o c p q names copy h =
-    let rule : rule_under c ≡ rule_under o = λ i. rule_under (record c { es2016 = copy.es2016 i; es2020 = copy.es2020 i; es2021 = copy.es2021 i }) in
+    let rule : rule_under c ≡ rule_under o = λ i. rule_under (record c { es2016 = copy.es2016 i; es2020 = copy.es2020 i; es2021 = copy.es2021 i; assumptions = copy.assumptions i }) in
     let built : (t : Tree) → any_node (is_built_construct c) t ≡ any_node (is_built_construct o) t = λ t i. any_node (is_built_construct (record c { es2016 = copy.es2016 i; es2020 = copy.es2020 i; es2021 = copy.es2021 i })) t in
     record {
       reached = subst (λ (R : Need → Ledger → Spot → Ledger → Spot → Type 0). Reached R p names q) rule h.reached;
       none = sym (built q) ∙ h.none;
-      alike = h.alike;
+      alike = subst (λ (a : Assumptions). RunAlike a.no_document_all p q) copy.assumptions h.alike;
       bindings = h.bindings;
       kept = h.kept;
       unchanged = λ asked. h.unchanged (built p ∙ asked);

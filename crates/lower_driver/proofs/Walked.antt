@@ -1,6 +1,6 @@
 -- Tests of some node of a tree: two of them, weaker ones, and trees without ids and marks.
-use Rattle.std.proofs.Common.{◌≡◌, refl, ap, ◌∙◌, sym}
-use Rattle.std.specs.Prelude.{Bool, true, false, ◌&&◌, ◌||◌}
+use Rattle.std.proofs.Common.{◌≡◌, refl}
+use Rattle.std.specs.Prelude.{Bool, true, false, ◌||◌}
 use Rattle.es_tree.specs.Bare.{bare, bare_label, bare_fields, bare_field, bare_trees}
 use Rattle.es_tree.specs.Walks.{all_nodes, all_in_fields, all_in_field, all_in_trees, any_node, any_in_fields, any_in_field, any_in_trees}
 use Rattle.es_tree.specs.Tree.{Tree, node, Label, Fields, done, ◌then◌, Field, missing, one, many, statements, Trees, empty, ◌before◌}
@@ -27,13 +27,15 @@ module _ (test : AstType → Label → Fields → Bool) (same : (k : AstType) (l
     any-bare-trees empty = refl
     any-bare-trees (t before ts) = λ i. any-bare t i || any-bare-trees ts i
 
--- Where each node of a tree is as `every` has it and no node passes one test, none passes another that it follows from.
-module _ (every strong weak : AstType → Label → Fields → Bool) (follows : (k : AstType) (l : Label) (fs : Fields) → every k l fs ≡ true → all_in_fields every fs ≡ true → strong k l fs ≡ false → weak k l fs ≡ false) where
+-- Where each node of a tree is as `every` has it and no node passes one test, none passes another, which fails wherever the
+-- first fails at a node and below.
+module _ (every strong weak : AstType → Label → Fields → Bool) (follows : (k : AstType) (l : Label) (fs : Fields) → every k l fs ≡ true → all_in_fields every fs ≡ true → strong k l fs ≡ false → any_in_fields strong fs ≡ false → weak k l fs ≡ false) where
   mutual
     pub none_follows : (t : Tree) → all_nodes every t ≡ true → any_node strong t ≡ false → any_node weak t ≡ false
     none_follows (node k l fs) h g =
         let below = and_right (every k l fs) (all_in_fields every fs) h in
-        or_both (weak k l fs) (any_in_fields weak fs) (follows k l fs (and_left (every k l fs) (all_in_fields every fs) h) below (or_first (strong k l fs) (any_in_fields strong fs) g)) (none_in_fields fs below (or_second (strong k l fs) (any_in_fields strong fs) g))
+        let clear = or_second (strong k l fs) (any_in_fields strong fs) g in
+        or_both (weak k l fs) (any_in_fields weak fs) (follows k l fs (and_left (every k l fs) (all_in_fields every fs) h) below (or_first (strong k l fs) (any_in_fields strong fs) g) clear) (none_in_fields fs below clear)
 
     none_in_fields : (fs : Fields) → all_in_fields every fs ≡ true → any_in_fields strong fs ≡ false → any_in_fields weak fs ≡ false
     none_in_fields done h g = refl

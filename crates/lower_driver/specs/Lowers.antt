@@ -23,8 +23,9 @@ pub record Lowers (o : EnvOptions) (source written : Tree) (names : List Text) :
   -- by steps of the rules that the options ask for, with nothing pending at the end
   pub reached : Reached (rule_under o) source names written
   pub none : has_built_construct o written ≡ false
-  -- the same questions in the same order, the same outcome, and equal cells of the source's names
-  pub alike : RunAlike source written
+  -- the same questions in the same order, the same outcome, and equal cells of the source's names; where the options assume
+  -- that no value is `document.all`, of every run in which none is
+  pub alike : RunAlike o.assumptions.no_document_all source written
   -- and a name of the source is bound exactly where it was bound before
   pub bindings : (x : Text) → is_among (names_of source) x ≡ true → is_declared (declared_of written) x ≡ is_declared (declared_of source) x
   -- the written program keeps the static rules

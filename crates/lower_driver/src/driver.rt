@@ -49,7 +49,8 @@ pub struct Lowered {
     pub temporaries: Vec<String>,
 }
 
-/// Lowers the core program that the value is the form of, as the options ask.
+/// Lowers the core program that the value is the form of, as the options ask: its logical assignments, `??`,
+/// optional chains and exponentiations. Options that ask for the lowering of other constructs change nothing.
 ///
 /// Fails for the first of these causes that holds: `Option` where the options ask for what isn't done;
 /// `TooLarge`, `TooDeep` and `Shape` as `read_program` has them; `Unsupported(NotBuilt, node)` at the

@@ -1,5 +1,6 @@
 mod assignments;
 mod cases;
+mod chains;
 mod powers;
 
 use crate::driver::{Lowered, lower, lower_bytes};
@@ -48,6 +49,13 @@ fn power_options(alloc: Global) -> Result<EnvOptions, AllocError> {
 fn logical_options(alloc: Global) -> Result<EnvOptions, AllocError> {
     let mut options = no_options(alloc)?;
     options.es2021.logical_assignment_operators = true;
+    Ok(options)
+}
+
+/// Options that ask for the lowering of optional chaining.
+fn chaining_options(alloc: Global) -> Result<EnvOptions, AllocError> {
+    let mut options = no_options(alloc)?;
+    options.es2020.optional_chaining = true;
     Ok(options)
 }
 
@@ -137,6 +145,72 @@ fn logical_assignment_reads_and_writes_in_turn(rt: HostRuntime) -> Result<(), Fa
     assert_lowered(&rt, source, &options, written, &["_o", "_k"])?;
     let (source, written) = assignments::IN_PARENTHESES;
     assert_lowered(&rt, source, &options, written, &["_a"])?;
+    Ok(())
+}
+
+#[test]
+fn chains_are_cut_short(rt: HostRuntime) -> Result<(), Fail> {
+    let options = chaining_options(rt.alloc())?;
+    let (source, written) = chains::BOUND_BASE;
+    assert_lowered(
+        &rt,
+        source,
+        &options,
+        written,
+        &["_foo$bar", "_foo$bar2", "_foo$bar2$baz", "_foo$bar3"],
+    )?;
+    let (source, written) = chains::CHAIN_AT_THE_BASE;
+    assert_lowered(&rt, source, &options, written, &["_a$b$c", "_a"])?;
+    let (source, written) = chains::NAME_EVAL;
+    assert_lowered(&rt, source, &options, written, &["_eval"])?;
+    let (source, written) = chains::TWO_MARKED_CALLS;
+    assert_lowered(&rt, source, &options, written, &["_a", "_a2"])?;
+    let (source, written) = chains::DELETED_IN_PARENTHESES;
+    assert_lowered(&rt, source, &options, written, &["_a"])?;
+    Ok(())
+}
+
+#[test]
+fn calls_of_chains_keep_their_receivers(rt: HostRuntime) -> Result<(), Fail> {
+    let options = chaining_options(rt.alloc())?;
+    let (source, written) = chains::CALLED_IN_PARENTHESES;
+    assert_lowered(&rt, source, &options, written, &["_a", "_a2"])?;
+    let (source, written) = chains::METHOD_NAMED_CALL;
+    assert_lowered(
+        &rt,
+        source,
+        &options,
+        written,
+        &["_f", "_f$call", "_f2", "_f3"],
+    )?;
+    let (source, written) = chains::RECEIVER_OF_A_WRITTEN_NAME;
+    assert_lowered(&rt, source, &options, written, &["_a$b", "_a"])?;
+    Ok(())
+}
+
+#[test]
+fn one_loose_test_tells_where_no_value_is_document_all(rt: HostRuntime) -> Result<(), Fail> {
+    let mut options = chaining_options(rt.alloc())?;
+    options.assumptions.no_document_all = true;
+    let (source, written) = chains::ONE_LOOSE_TEST;
+    assert_lowered(&rt, source, &options, written, &["_a"])?;
+    Ok(())
+}
+
+#[test]
+fn a_lowered_program_stays_as_it_is(rt: HostRuntime) -> Result<(), Fail> {
+    let mut options = chaining_options(rt.alloc())?;
+    options.es2020.nullish_coalescing_operator = true;
+    options.es2021.logical_assignment_operators = true;
+    let (source, written) = chains::BESIDE_OTHERS;
+    assert_lowered(
+        &rt,
+        source,
+        &options,
+        written,
+        &["_config$server$port", "_config", "_cache"],
+    )?;
+    assert_lowered(&rt, written, &options, written, &[])?;
     Ok(())
 }
 

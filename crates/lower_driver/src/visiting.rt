@@ -38,7 +38,7 @@ pub fn visit(program: &mut Program, ctx: &mut TraverseCtx<TransformState>) -> Re
 {
     let common = Common::new(&ctx.options);
     let es2021 = ES2021::new(ctx.options.es2021);
-    let es2020 = ES2020::new(ctx.options.es2020);
+    let es2020 = ES2020::new(ctx.options.es2020, ctx.options.assumptions.no_document_all);
     let es2016 = ES2016::new(ctx.options.es2016);
     let mut all = Both::new(common, Both::new(es2021, Both::new(es2020, es2016)));
     visit_by::<_, _, Brand>(&mut all, program, ctx, Blank::new(1))?;

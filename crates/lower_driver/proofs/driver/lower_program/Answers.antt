@@ -1,7 +1,6 @@
 use Rattle.std.proofs.Common.{◌≡◌, List, sym, ap, ◌∙◌, subst}
 use Rattle.std.proofs.lemmas.Result.{err_from_is_err_and}
 use Rattle.es_tree.specs.Bare.{bare}
-use Rattle.es_tree.specs.Scopes.{declared_of, declares}
 use Rattle.es_tree.specs.Tree.{Tree}
 use Rattle.es_tree.specs.Words.{Text}
 use Rattle.es_tree.proofs.MarkedTrees.{bare-marked}
@@ -16,7 +15,7 @@ use Rattle.lower_driver.proofs.OpenedProgram.{program_opens}
 use Rattle.lower_driver.proofs.NoRefusals.{memory_alone}
 use Rattle.lower_driver.proofs.Shapes.{copied-shape, found-shape, marked-shape, memory-shape, table-declared}
 use Rattle.lower_driver.proofs.TableNames.{core-binds-names}
-use Rattle.lower_driver.proofs.Visits.{first_inert, first_room, lowers, lowers_same}
+use Rattle.lower_driver.proofs.Visits.{first_room, lowers, lowers_same}
 use Rattle.lower_driver.proofs.driver.lower_program.Goals as goal
 
 pub new_context-requires-clause-kind : goal.new_context-requires-clause-kind
