@@ -1,12 +1,12 @@
 -- The command line of the tool, and what its words ask for.
-use Rattle.std.proofs.Common.{◌≡◌, ℕ, List, [], Some, None, Option, Bool, true, false, option_map, refl, sym, ap, ◌∙◌, Bor, String, string_bytes, codes, map, ◌∷◌}
+use Rattle.std.proofs.Common.{◌≡◌, List, [], Option, true, false, option_map, refl, sym, ap, ◌∙◌, Bor, String, string_bytes, codes, map, ◌∷◌}
 use Rattle.clap.specs.Matches.{first_value, found_of}
 use Rattle.clap.specs.Simple.{App, HasMatchesOf, is_simple, matches_of}
 use Rattle.clap.specs.Faults.{fault_of}
 use Rattle.clap.specs.declared.error.kind.ErrorKind.TheVariants.{ArgumentConflict, UnknownArgument}
 use Rattle.clap.proofs.OnLiterals.{clap_on_literals}
 use Rattle.std.specs.declared.alloc.Global.{Global}
-use Rattle.clap.specs.Walk.{Text, first_of, rows_of}
+use Rattle.clap.specs.Walk.{Text, rows_of}
 use Rattle.clap.specs.declared.parser.matches.ArgMatches.{ArgMatches}
 use Rattle.clap.proofs.WalkLemmas.{first_value-rows}
 use Rattle.lower_tool.specs.Words.{AreProper, has_flag, is_true, is_set, tool_app}
@@ -55,18 +55,28 @@ nullish-exponentiation : is_set (codes "exponentiation") (matches_of tool_app (c
 unfolding clap_on_literals
 nullish-exponentiation = refl
 
+nullish-chaining : is_set (codes "chaining") (matches_of tool_app (codes "--nullish" ∷ [])) ≡ false
+unfolding clap_on_literals
+nullish-chaining = refl
+
 nullish-logical : is_set (codes "logical") (matches_of tool_app (codes "--nullish" ∷ [])) ≡ false
 unfolding clap_on_literals
 nullish-logical = refl
 
--- the one word `--nullish` asks for the lowering of `??`, and for no other
+nullish-no_document_all : is_set (codes "no-document-all") (matches_of tool_app (codes "--nullish" ∷ [])) ≡ false
+unfolding clap_on_literals
+nullish-no_document_all = refl
+
+-- the one word `--nullish` asks for the lowering of `??`, and for nothing else
 pub nullish_alone : (words : List (String Global)) → map string_bytes words ≡ codes "--nullish" ∷ []
-    → AreProper words × (has_flag words (codes "exponentiation") ≡ false) × (has_flag words (codes "nullish") ≡ true) × (has_flag words (codes "logical") ≡ false)
+    → AreProper words × (has_flag words (codes "exponentiation") ≡ false) × (has_flag words (codes "nullish") ≡ true) × (has_flag words (codes "chaining") ≡ false) × (has_flag words (codes "logical") ≡ false) × (has_flag words (codes "no-document-all") ≡ false)
 nullish_alone words are = (
   ap (fault_of tool_app) are ∙ nullish-texts,
   ap (λ t. is_set (codes "exponentiation") (matches_of tool_app t)) are ∙ nullish-exponentiation,
   ap (λ t. is_set (codes "nullish") (matches_of tool_app t)) are ∙ nullish-set,
+  ap (λ t. is_set (codes "chaining") (matches_of tool_app t)) are ∙ nullish-chaining,
   ap (λ t. is_set (codes "logical") (matches_of tool_app t)) are ∙ nullish-logical,
+  ap (λ t. is_set (codes "no-document-all") (matches_of tool_app t)) are ∙ nullish-no_document_all,
 )
 
 empty-texts : fault_of tool_app ([] ∷ []) ≡ UnknownArgument ∷ []

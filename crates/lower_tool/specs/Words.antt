@@ -1,5 +1,5 @@
--- The words of a run, as `clap` takes them, and the lowerings that they ask for.
-use Rattle.std.specs.Prelude.{◌≡◌, ◌++◌, ◌∷◌, List, [], Bool, true, false, Option, Some, None, map, String, string_bytes, codes}
+-- The words of a run, as `clap` takes them, and the lowerings and assumptions that they ask for.
+use Rattle.std.specs.Prelude.{◌≡◌, List, [], Bool, true, false, Option, Some, None, map, String, string_bytes, codes}
 use Rattle.std.specs.Str.{bytes_eq}
 use Rattle.std.specs.declared.alloc.Global.{Global}
 use Rattle.es_tree.specs.Options.{first_fault}
@@ -17,10 +17,10 @@ flag_rule name = record (new_rule name) { long = Some name; action = Some SetTru
 abbrev pub bare : Shape → Shape
 bare s = record s { no_binary_name = true; disable_help_flag = true; disable_version_flag = true }
 
--- the command line of the tool: a flag for each lowering that is built
+-- the command line of the tool: a flag for each lowering that is built, and one for what may be assumed
 abbrev pub tool_app : App
-tool_app = with_rule (with_rule (with_rule (on_top bare (new_app (codes "lower")))
-    (flag_rule (codes "exponentiation"))) (flag_rule (codes "nullish"))) (flag_rule (codes "logical"))
+tool_app = with_rule (with_rule (with_rule (with_rule (with_rule (on_top bare (new_app (codes "lower")))
+    (flag_rule (codes "exponentiation"))) (flag_rule (codes "nullish"))) (flag_rule (codes "chaining"))) (flag_rule (codes "logical"))) (flag_rule (codes "no-document-all"))
 
 -- the command line takes the words
 abbrev pub AreProper : List (String Global) → Type 0
@@ -38,7 +38,7 @@ is_set name rows = is_true (first_of name rows)
 abbrev pub has_flag : List (String Global) → Text → Bool
 has_flag words name = is_set name (matches_of tool_app (map string_bytes words))
 
--- nothing is asked for but the three
+-- nothing is asked for but what the flags ask for
 pub record IsOtherwiseOff (o : EnvOptions) : Type 0 where
   pub arrow_function : o.es2015.arrow_function ≡ None
   pub async_to_generator : o.es2017.async_to_generator ≡ false
@@ -46,19 +46,19 @@ pub record IsOtherwiseOff (o : EnvOptions) : Type 0 where
   pub async_generator_functions : o.es2018.async_generator_functions ≡ false
   pub optional_catch_binding : o.es2019.optional_catch_binding ≡ false
   pub export_namespace_from : o.es2020.export_namespace_from ≡ false
-  pub optional_chaining : o.es2020.optional_chaining ≡ false
   pub big_int : o.es2020.big_int ≡ false
   pub arbitrary_module_namespace_names : o.es2020.arbitrary_module_namespace_names ≡ false
   pub explicit_resource_management : o.es2026.explicit_resource_management ≡ false
   pub pure_getters : o.assumptions.pure_getters ≡ false
   pub object_rest_no_symbols : o.assumptions.object_rest_no_symbols ≡ false
   pub ignore_function_length : o.assumptions.ignore_function_length ≡ false
-  pub no_document_all : o.assumptions.no_document_all ≡ false
   pub no_fault : first_fault o ≡ None
 
 -- these are the options that the words ask for
 pub record Asks (words : List (String Global)) (o : EnvOptions) : Type 0 where
   pub exponentiation : o.es2016.exponentiation_operator ≡ has_flag words (codes "exponentiation")
   pub nullish : o.es2020.nullish_coalescing_operator ≡ has_flag words (codes "nullish")
+  pub chaining : o.es2020.optional_chaining ≡ has_flag words (codes "chaining")
   pub logical : o.es2021.logical_assignment_operators ≡ has_flag words (codes "logical")
+  pub no_document_all : o.assumptions.no_document_all ≡ has_flag words (codes "no-document-all")
   pub rest : IsOtherwiseOff o

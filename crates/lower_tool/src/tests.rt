@@ -246,6 +246,21 @@ fn each_word_asks_for_its_lowering(rt: HostRuntime) -> Result<(), Fail> {
 }
 
 #[test]
+fn a_chain_is_tested_as_the_words_assume(rt: HostRuntime) -> Result<(), Fail> {
+    let (source, strict, loose) = flags::CHAIN;
+    assert_lowered(&rt, &["--chaining"], source, strict, 65_536)?;
+    assert_lowered(
+        &rt,
+        &["--chaining", "--no-document-all"],
+        source,
+        loose,
+        65_536,
+    )?;
+    assert_lowered(&rt, &["--no-document-all"], source, source, 65_536)?;
+    Ok(())
+}
+
+#[test]
 fn an_exponentiation_where_math_is_bound_is_refused(rt: HostRuntime) -> Result<(), Fail> {
     let source = flags::BOUND_MATH;
     let mut input = FixedSource::new(source.as_bytes().to_vec(rt.alloc())?);

@@ -1,4 +1,4 @@
-//! The words of a run: flags that say what it lowers.
+//! The words of a run: flags that say what it lowers, and what it may assume.
 ghost use Rattle.std.specs.Prelude.{◌≡◌, IfOk, IfErr, codes, false};
 ghost use Rattle.clap.specs.Matches.{found_of};
 ghost use Rattle.clap.specs.Simple.{app_of};
@@ -28,7 +28,8 @@ pub enum WordsFault {
     OutOfMemory,
 }
 
-/// Reads the words after the program's name: `--exponentiation`, `--nullish` and `--logical`, each at most once.
+/// Reads the words after the program's name: `--exponentiation`, `--nullish`, `--chaining`, `--logical` and
+/// `--no-document-all`, each at most once.
 pub fn read_words(alloc: Global, words: &[String]) -> Result<Command, WordsFault>
     ensures proper { IfOk result (λ _. AreProper words.now) }
     ensures asked { IfOk result (λ command. Asks words.now command.options) }
@@ -66,7 +67,9 @@ fn new_command_line<'a>(alloc: Global) -> Result<clap::Command<'a>, AllocError>
         .disable_version_flag(true)
         .arg(new_flag(alloc, "exponentiation"))?
         .arg(new_flag(alloc, "nullish"))?
-        .arg(new_flag(alloc, "logical"))
+        .arg(new_flag(alloc, "chaining"))?
+        .arg(new_flag(alloc, "logical"))?
+        .arg(new_flag(alloc, "no-document-all"))
 }
 
 /// The flag `--NAME`.
@@ -91,7 +94,9 @@ fn is_set(matches: &ArgMatches<'_>, name: &str) -> bool
 fn options_of(alloc: Global, matches: &ArgMatches<'_>) -> Result<EnvOptions, AllocError>
     ensures exponentiation { IfOk result (λ options. options.es2016.exponentiation_operator ≡ is_set (codes "exponentiation") (rows_of (found_of matches.now))) }
     ensures nullish { IfOk result (λ options. options.es2020.nullish_coalescing_operator ≡ is_set (codes "nullish") (rows_of (found_of matches.now))) }
+    ensures chaining { IfOk result (λ options. options.es2020.optional_chaining ≡ is_set (codes "chaining") (rows_of (found_of matches.now))) }
     ensures logical { IfOk result (λ options. options.es2021.logical_assignment_operators ≡ is_set (codes "logical") (rows_of (found_of matches.now))) }
+    ensures no_document_all { IfOk result (λ options. options.assumptions.no_document_all ≡ is_set (codes "no-document-all") (rows_of (found_of matches.now))) }
     ensures rest { IfOk result IsOtherwiseOff }
 {
     let helper_loader = HelperLoaderOptions::new(alloc)?;
@@ -105,13 +110,17 @@ fn options_of(alloc: Global, matches: &ArgMatches<'_>) -> Result<EnvOptions, All
         es2019: ES2019Options::default(),
         es2020: ES2020Options {
             nullish_coalescing_operator: is_set(matches, "nullish"),
+            optional_chaining: is_set(matches, "chaining"),
             ..ES2020Options::default()
         },
         es2021: ES2021Options {
             logical_assignment_operators: is_set(matches, "logical"),
         },
         es2026: ES2026Options::default(),
-        assumptions: Assumptions::default(),
+        assumptions: Assumptions {
+            no_document_all: is_set(matches, "no-document-all"),
+            ..Assumptions::default()
+        },
         helper_loader,
     })
 }

@@ -1,8 +1,6 @@
-use Rattle.std.proofs.Common.{◌≡◌, [], ap, ◌∙◌, sym, map, string_bytes}
+use Rattle.std.proofs.Common.{ap, ◌∙◌, sym, map, string_bytes}
 use Rattle.clap.specs.Simple.{App}
 use Rattle.clap.specs.Faults.{fault_of, is_simple_and_free}
-use Rattle.lower_tool.specs.Words.{is_set}
-use Rattle.lower_tool.proofs.Flags.{rows_are}
 use Rattle.lower_tool.proofs.words.read_words.Goals as goal
 
 pub returns-in-Ok-options_of-clause-proper : goal.returns-in-Ok-options_of-clause-proper

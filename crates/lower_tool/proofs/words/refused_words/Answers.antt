@@ -1,4 +1,4 @@
-use Rattle.std.proofs.Common.{◌≡◌, [], ◌∷◌, map, string_bytes, refl, ap, ◌∙◌}
+use Rattle.std.proofs.Common.{◌≡◌, [], ◌∷◌, map, string_bytes, refl}
 use Rattle.lower_tool.proofs.Flags.{empty_refused}
 use Rattle.lower_tool.proofs.words.refused_words.Goals as goal
 
