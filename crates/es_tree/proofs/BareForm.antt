@@ -1,6 +1,6 @@
 -- Form and size don't depend on ids and marks.
-use Rattle.std.proofs.Common.{◌≡◌, ℕ, refl, ap, ◌∙◌, List, [], ◌∷◌, Option, Some, None}
-use Rattle.std.specs.Prelude.{Bool, true, false, ◌&&◌, not}
+use Rattle.std.proofs.Common.{◌≡◌, refl, ap, ◌∙◌, List, [], ◌∷◌, Option, Some, None}
+use Rattle.std.specs.Prelude.{Bool, ◌&&◌}
 use Rattle.es_tree.specs.Words.{Text}
 use Rattle.es_tree.specs.Agree.{fields_agree, quasis_fit, is_guarded, is_missing, trees_count}
 use Rattle.es_tree.specs.Attributes.{child_entries}

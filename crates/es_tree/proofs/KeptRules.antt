@@ -1,6 +1,6 @@
 -- No rule is listed as broken exactly where each visit keeps each rule.
 use Rattle.std.proofs.Common.{◌≡◌, List, [], ◌∷◌, ◌++◌, map, filter, Bool, true, false, cond, refl}
-use Rattle.es_tree.specs.StaticRules.{Name, Visit, KeepRules, breaks_after, breaks_at, built_rules, declared, is_broken}
+use Rattle.es_tree.specs.CoreStaticRules.{Name, Visit, KeepRules, breaks_after, breaks_at, core_rules, declared, is_broken}
 use Rattle.es_tree.specs.Tree.{label_of}
 use Rattle.es_tree.specs.declared.error.Rule.{Rule}
 use Rattle.es_tree.specs.declared.error.Rule.TheVariants.{DuplicateName, BadTarget, EmptyChain, StrayOptional, DeleteName, MissingInit}
@@ -36,7 +36,7 @@ kept_by earlier v MissingInit k = k.5
 kept_by earlier v r k = refl
 
 -- a visit that breaks no built rule
-kept : (earlier : List Name) (v : Visit) → filter (is_broken earlier v.place v.tree) built_rules ≡ [] → (r : Rule) → is_broken earlier v.place v.tree r ≡ false
+kept : (earlier : List Name) (v : Visit) → filter (is_broken earlier v.place v.tree) core_rules ≡ [] → (r : Rule) → is_broken earlier v.place v.tree r ≡ false
 kept earlier v e r =
     let P : Rule → Bool = is_broken earlier v.place v.tree in
     let e1 = fails_later (P DuplicateName) DuplicateName (filter P (BadTarget ∷ EmptyChain ∷ StrayOptional ∷ DeleteName ∷ MissingInit ∷ [])) e in
@@ -50,7 +50,7 @@ kept earlier v e r =
 pub keep-none : (earlier : List Name) (vs : List Visit) → breaks_after earlier vs ≡ [] → KeepRules earlier vs
 keep-none earlier [] e = tt
 keep-none earlier (v ∷ vs) e = (
-  kept earlier v (none_mapped (λ r. (r, (label_of v.tree).id)) (filter (is_broken earlier v.place v.tree) built_rules) (none_first (breaks_at earlier v) (breaks_after (declared v.place v.tree ++ earlier) vs) e)),
+  kept earlier v (none_mapped (λ r. (r, (label_of v.tree).id)) (filter (is_broken earlier v.place v.tree) core_rules) (none_first (breaks_at earlier v) (breaks_after (declared v.place v.tree ++ earlier) vs) e)),
   keep-none (declared v.place v.tree ++ earlier) vs (none_second (breaks_at earlier v) (breaks_after (declared v.place v.tree ++ earlier) vs) e),
 )
 

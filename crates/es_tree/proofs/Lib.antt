@@ -13,3 +13,4 @@ pub mod KeptRules
 pub mod SymbolNumbers
 pub mod MarkedTrees
 pub mod WrittenSymbols
+pub mod CoreBreaks

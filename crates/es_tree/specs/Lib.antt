@@ -31,4 +31,7 @@ pub mod Causes
 pub mod Options
 pub mod Helpers
 pub mod Children
+pub mod CoreStaticRules
+pub mod Ancestors
+pub mod DeclaredNames
 pub mod StaticRules

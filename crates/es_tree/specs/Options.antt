@@ -1,5 +1,5 @@
 -- What options ask for that no lowering does.
-use Rattle.std.specs.Prelude.{◌≡◌, List, [], ◌∷◌, Bool, true, false, Option, Some, None, find}
+use Rattle.std.specs.Prelude.{◌≡◌, List, [], ◌∷◌, Bool, true, false, ◌||◌, Option, Some, None, find, is_some}
 use Rattle.es_tree.specs.declared.error.OptionName.{OptionName}
 use Rattle.es_tree.specs.declared.error.OptionName.TheVariants.{
   InlineHelpers,
@@ -35,7 +35,13 @@ abbrev pub uses_built_ins : Option ObjectRestSpreadOptions → Bool
 uses_built_ins (Some o) = o.use_built_ins
 uses_built_ins None = false
 
--- Whether the options ask for this. `NotBuilt` is for a test of which lowerings are built.
+-- whether the options ask for a lowering or a warning that isn't built yet
+abbrev pub asks_for_unbuilt : EnvOptions → Bool
+asks_for_unbuilt o =
+    is_some o.es2015.arrow_function || is_some o.es2018.object_rest_spread || o.es2019.optional_catch_binding
+    || o.es2020.export_namespace_from || o.es2020.arbitrary_module_namespace_names || o.es2026.explicit_resource_management
+
+-- whether the options ask for this
 abbrev pub asks_for : OptionName → EnvOptions → Bool
 asks_for InlineHelpers o = is_inline o.helper_loader.mode
 asks_for Spec o = is_spec o.es2015.arrow_function
@@ -46,7 +52,7 @@ asks_for AsyncGeneratorFunctions o = o.es2018.async_generator_functions
 asks_for PureGetters o = o.assumptions.pure_getters
 asks_for ObjectRestNoSymbols o = o.assumptions.object_rest_no_symbols
 asks_for IgnoreFunctionLength o = o.assumptions.ignore_function_length
-asks_for NotBuilt o = false
+asks_for NotBuilt o = asks_for_unbuilt o
 
 -- the names in the order in which they are refused
 abbrev pub option_names : List OptionName

@@ -6,7 +6,7 @@ use Rattle.es_tree.specs.Words.{Text}
 use Rattle.es_tree.specs.Names.{first_text}
 use Rattle.es_tree.specs.Fresh.{is_among}
 use Rattle.es_tree.specs.Walks.{any_node}
-use Rattle.es_tree.specs.Tree.{Tree, node, Label, Fields, done, ◌then◌, one, many, statements, Trees, empty, ◌before◌}
+use Rattle.es_tree.specs.Tree.{Tree, node, Label, Fields, ◌then◌, one, many, statements, Trees, empty, ◌before◌}
 use Rattle.es_tree.specs.declared.ast_type.AstType.{AstType}
 use Rattle.es_tree.specs.declared.ast_type.AstType.TheVariants.{Identifier, VariableDeclaration, AssignmentExpression, UpdateExpression, ParenthesizedExpression}
 

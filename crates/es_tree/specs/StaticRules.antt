@@ -1,262 +1,317 @@
--- The static rules that a core program can break: early errors of ECMA-262. The nodes of a program are visited in
--- node order, each with the place where it stands; a rule is a test of one visit, and of the names declared before it.
-use Rattle.std.specs.Prelude.{◌≡◌, ℕ, zero, suc, List, [], ◌∷◌, ◌++◌, map, filter, Bool, true, false, not, ◌&&◌, ◌||◌, Option, Some, None, is_some, bytes_eq, codes, if◌then◌else◌}
+-- The static rules: early errors of ECMA-262 over every program. The nodes of a program are visited in node order, each
+-- with its ancestors. A rule is a test of one visit, of the names declared before it, and of all names that the program
+-- declares.
+use Rattle.std.specs.Prelude.{◌≡◌, List, [], ◌∷◌, ◌++◌, map, filter, Bool, true, false, not, ◌&&◌, ◌||◌, Option, Some, is_some, bytes_eq, codes, if◌then◌else◌}
 use Rattle.std.specs.List.{list_any}
+use Rattle.es_tree.specs.Ancestors.{Ancestor, LabelName, Visit, classes, has_new_target, has_super_calls, has_super_members, is_breakable, is_in_function, is_in_loop, is_module, is_module_top, is_script_top, labels, leads_by, place_of, stands_in, visits}
 use Rattle.es_tree.specs.Children.{child_at}
+use Rattle.es_tree.specs.CoreStaticRules.{Break, is_bad_delete, is_bad_target, is_empty_chain, is_lexical, is_missing_init, is_name, is_optional, is_simple_target, is_stray_optional}
+use Rattle.es_tree.specs.DeclaredNames.{Name, clashes, declared, is_class_key, is_declared}
 use Rattle.es_tree.specs.HasForm.{same_type}
-use Rattle.es_tree.specs.Names.{first_text, flag_at}
+use Rattle.es_tree.specs.Names.{first_text, flag_at, third_stands}
 use Rattle.es_tree.specs.Parens.{without_parens}
-use Rattle.es_tree.specs.Table.{own_kinds}
+use Rattle.es_tree.specs.Scopes.{own_text}
 use Rattle.es_tree.specs.Tree.{Tree, node, Label, Fields, done, ◌then◌, Field, missing, one, many, statements, Trees, empty, ◌before◌, kind_of, label_of}
 use Rattle.es_tree.specs.Words.{Text}
 use Rattle.es_tree.specs.declared.ast_type.AstType.{AstType}
-use Rattle.es_tree.specs.declared.ast_type.AstType.TheVariants.{
-  Program,
-  VariableDeclaration,
-  VariableDeclarator,
-  ForInStatement,
-  ForOfStatement,
-  Identifier,
-  PrivateIdentifier,
-  UnaryExpression,
-  UpdateExpression,
-  AssignmentExpression,
-  MemberExpression,
-  CallExpression,
-  ChainExpression,
-  TargetProperty,
-  ArrayTarget,
-  TargetWithDefault,
-  TargetRest,
-}
-use Rattle.es_tree.specs.declared.table.Sort.TheVariants.{Expression as s-Expression, AssignmentTarget as s-AssignmentTarget, ForLeft as s-ForLeft, TargetElement as s-TargetElement, TargetElementRest as s-TargetElementRest}
-use Rattle.es_tree.specs.declared.place.Place.{Place}
-use Rattle.es_tree.specs.declared.place.Place.TheVariants.{Other, ProgramBody, Spine, Target, Declarator, Declared}
+use Rattle.es_tree.specs.declared.ast_type.AstType.TheVariants.{VariableDeclaration, FunctionDeclaration, FunctionExpression, ClassDeclaration, MethodDefinition, ReturnStatement, IfStatement, ForStatement, ForInStatement, ForOfStatement, WhileStatement, DoWhileStatement, BreakStatement, ContinueStatement, LabeledStatement, ImportDeclaration, ExportNamedDeclaration, ExportSpecifier, ExportDefaultDeclaration, ExportAllDeclaration, Identifier, PrivateIdentifier, Super, StringLiteral, MemberExpression, CallExpression, ObjectProperty, MetaProperty, ObjectPattern, PatternProperty, RestElement, ObjectTarget, TargetProperty, TargetRest}
+use Rattle.es_tree.specs.declared.place.Namespace.{Namespace}
+use Rattle.es_tree.specs.declared.place.Namespace.TheVariants.{Scope, Parameters, Exports, PrivateNames}
 use Rattle.es_tree.specs.declared.error.Rule.{Rule}
-use Rattle.es_tree.specs.declared.error.Rule.TheVariants.{DuplicateName, BadTarget, EmptyChain, StrayOptional, DeleteName, MissingInit}
+use Rattle.es_tree.specs.declared.error.Rule.TheVariants.{
+  DuplicateName,
+  MissingLabel,
+  DuplicateLabel,
+  MisplacedReturn,
+  MisplacedSuper,
+  BadTarget,
+  EmptyChain,
+  StrayOptional,
+  DeleteName,
+  MissingInit,
+  BadUsing,
+  BadFor,
+  MisplacedModuleItem,
+  BadExport,
+  BadClass,
+  BadAccessor,
+  BadRest,
+  MisplacedDeclaration,
+  MisplacedMeta,
+}
 use Rattle.es_tree.specs.declared.error.LowerError.{LowerError}
 use Rattle.es_tree.specs.declared.error.LowerError.TheVariants.{Invalid, OutOfMemory}
 
--- PLACES
+-- CLASHING NAMES: each namespace belongs to a rule
 
-abbrev pub is_lexical : Text → Bool
-is_lexical word = not (bytes_eq word (codes "var"))
+abbrev pub is_binding_space : Namespace → Bool
+is_binding_space Scope = true
+is_binding_space Parameters = true
+is_binding_space _ = false
 
-abbrev pub is_constant : Text → Bool
-is_constant word = bytes_eq word (codes "const") || bytes_eq word (codes "using")
+abbrev pub is_export_space : Namespace → Bool
+is_export_space Exports = true
+is_export_space _ = false
 
--- a declarator of a declaration with this word that stands here: as a target it is the head of a for-in or for-of
-abbrev pub declarator_place : Place → Text → Place
-declarator_place ProgramBody word = Declarator true (is_lexical word) (is_constant word)
-declarator_place (Target s) word = Other
-declarator_place _ word = Declarator false (is_lexical word) (is_constant word)
+abbrev pub is_class_space : Namespace → Bool
+is_class_space s = not (is_binding_space s || is_export_space s)
 
--- what a declarator here declares
-abbrev pub binding_place : Place → Place
-binding_place (Declarator true lexical constant) = Declared lexical
-binding_place _ = Other
+-- whether a name that is declared here, in a namespace that passes the test, clashes with an earlier one
+abbrev pub has_clash : (Namespace → Bool) → List Name → List Name → Bool
+has_clash belongs earlier ns = list_any (λ n. belongs n.namespace && clashes earlier n) ns
 
--- the object of a member and the callee of a call here
-abbrev pub link_place : Place → Place
-link_place Spine = Spine
-link_place _ = Other
+-- LABELS (14.8.1, 14.9.1, 14.13.1): of a `break` around it in the same function or static block, of a `continue` before a
+-- loop; without a label a `break` wants a loop or a switch around it, a `continue` a loop
 
--- the target of an assignment: `=` alone takes patterns (13.15.1)
-abbrev pub target_place : Text → Place
-target_place operator = Target (if bytes_eq operator (codes "=") then s-AssignmentTarget else s-Expression)
+abbrev pub is_label : Text → LabelName → Bool
+is_label x e = bytes_eq e.name x
 
--- the place of the first field of a node that stands here
-abbrev pub first_place : Place → AstType → Label → Place
-first_place p VariableDeclaration l = declarator_place p (first_text l.texts)
-first_place p VariableDeclarator l = binding_place p
-first_place p ChainExpression l = Spine
-first_place p MemberExpression l = link_place p
-first_place p CallExpression l = link_place p
-first_place p AssignmentExpression l = target_place (first_text l.texts)
-first_place p UpdateExpression l = Target s-Expression
-first_place p ForInStatement l = Target s-ForLeft
-first_place p ForOfStatement l = Target s-ForLeft
-first_place p ArrayTarget l = Target s-TargetElementRest
-first_place p TargetWithDefault l = Target s-TargetElement
-first_place p TargetRest l = Target s-TargetElement
-first_place p _ l = Other
+abbrev pub is_loop_label : Text → LabelName → Bool
+is_loop_label x e = bytes_eq e.name x && e.loop
 
-abbrev pub second_place : AstType → Place
-second_place Program = ProgramBody
-second_place TargetProperty = Target s-TargetElement
-second_place ArrayTarget = Target s-TargetElementRest
-second_place _ = Other
+abbrev pub is_missing_label : List Ancestor → Tree → Bool
+is_missing_label up (node BreakStatement l (one n then fs)) = not (list_any (is_label (own_text n)) (labels up))
+is_missing_label up (node BreakStatement l fs) = not (is_breakable up)
+is_missing_label up (node ContinueStatement l (one n then fs)) = not (list_any (is_loop_label (own_text n)) (labels up))
+is_missing_label up (node ContinueStatement l fs) = not (is_in_loop up)
+is_missing_label up _ = false
 
--- of the further fields: each element of an array pattern is one
-abbrev pub later_place : AstType → Place
-later_place ArrayTarget = Target s-TargetElementRest
-later_place _ = Other
+abbrev pub is_duplicate_label : List Ancestor → Tree → Bool
+is_duplicate_label up (node Identifier l fs) = stands_in LabeledStatement 0 up && list_any (is_label (first_text l.texts)) (labels up)
+is_duplicate_label up _ = false
 
--- the place of what stands in this field of a node that stands here; the fields of a node count from 0
-abbrev pub place_in : Place → AstType → Label → ℕ → Place
-place_in p k l zero = first_place p k l
-place_in p k l (suc zero) = second_place k
-place_in p k l (suc (suc n)) = later_place k
+-- RETURN (14.10): in a function or an arrow
 
--- A node and the place where it stands.
-pub record Visit : Type 0 where
-  pub place : Place
-  pub tree : Tree
+abbrev pub is_misplaced_return : List Ancestor → Tree → Bool
+is_misplaced_return up (node ReturnStatement l fs) = not (is_in_function up)
+is_misplaced_return up _ = false
 
-abbrev pub visit : Place → Tree → Visit
-visit p t = record { place = p; tree = t }
+-- SUPER (13.3.7.1, 15.7.1): called in the constructor of a class that extends another; with a member in a method, an
+-- accessor, a constructor, a class field or a static block; unmarked both, and through arrows
 
-abbrev mutual
-  -- the visits of a tree that stands here, in node order
-  pub visits : Place → Tree → List Visit
-  visits p (node k l fs) = visit p (node k l fs) ∷ visits_in_fields p k l 0 fs
+abbrev pub is_unmarked_callee : List Ancestor → Bool
+is_unmarked_callee [] = false
+is_unmarked_callee (a ∷ up) = leads_by CallExpression 0 a && not (is_optional a.kind a.label)
 
-  -- those of the fields of a node, from the n-th on
-  pub visits_in_fields : Place → AstType → Label → ℕ → Fields → List Visit
-  visits_in_fields p k l n done = []
-  visits_in_fields p k l n (f then fs) = visits_in_field (place_in p k l n) f ++ visits_in_fields p k l (suc n) fs
+abbrev pub is_unmarked_object : List Ancestor → Bool
+is_unmarked_object [] = false
+is_unmarked_object (a ∷ up) = leads_by MemberExpression 0 a && not (is_optional a.kind a.label)
 
-  pub visits_in_field : Place → Field → List Visit
-  visits_in_field p missing = []
-  visits_in_field p (one t) = visits p t
-  visits_in_field p (many ts) = visits_in_trees p ts
-  visits_in_field p (statements ts) = visits_in_trees p ts
+abbrev pub is_misplaced_super : List Ancestor → Tree → Bool
+is_misplaced_super up (node Super l fs) = not ((is_unmarked_callee up && has_super_calls up) || (is_unmarked_object up && has_super_members up))
+is_misplaced_super up _ = false
 
-  pub visits_in_trees : Place → Trees → List Visit
-  visits_in_trees p empty = []
-  visits_in_trees p (t before ts) = visits p t ++ visits_in_trees p ts
+-- USING (Explicit Resource Management): with plain names alone, not at the top of a script, not in the head of a for-in,
+-- and not exported. In a case of a `switch` it may stand.
 
--- DUPLICATE NAMES (14.3.1.1, 16.1.1): so far the plain names that the declarations directly in the program's body
--- declare. The names of inner scopes, of patterns, functions, classes and imports come with the other rules.
+abbrev pub binds_name : Tree → Bool
+binds_name (node k l fs) = is_name (child_at 0 fs)
 
--- A declared name, and whether its declaration is lexical.
-pub record Name : Type 0 where
-  pub text : Text
-  pub lexical : Bool
+abbrev pub has_pattern : Trees → Bool
+has_pattern empty = false
+has_pattern (d before ds) = not (binds_name d) || has_pattern ds
 
--- what a visit declares
-abbrev pub declared : Place → Tree → List Name
-declared (Declared lexical) (node Identifier l fs) = record { text = first_text l.texts; lexical = lexical } ∷ []
-declared _ _ = []
+abbrev pub is_bad_using : List Ancestor → Tree → Bool
+is_bad_using up (node VariableDeclaration l (many ds then fs)) =
+    bytes_eq (first_text l.texts) (codes "using")
+    && (has_pattern ds || is_script_top up || stands_in ForInStatement 0 up || stands_in ExportNamedDeclaration 0 up)
+is_bad_using up _ = false
 
--- whether an earlier name is the same, and one of the two lexical
-abbrev pub clashes : List Name → Name → Bool
-clashes earlier n = list_any (λ e. bytes_eq e.text n.text && (e.lexical || n.lexical)) earlier
+-- HEADS OF FOR-IN AND FOR-OF (14.7.5): one declarator, without a value
 
--- TARGETS (13.4.1, 13.15.1): a name or a member, maybe in parentheses, or a pattern where the place takes one
+abbrev pub has_value : Tree → Bool
+has_value (node k l fs) = is_some (child_at 1 fs)
 
-abbrev pub is_simple_target : AstType → Bool
-is_simple_target Identifier = true
-is_simple_target MemberExpression = true
-is_simple_target _ = false
+abbrev pub is_lone_declarator : Trees → Bool
+is_lone_declarator (d before empty) = not (has_value d)
+is_lone_declarator _ = false
 
-abbrev pub is_bad_target : Place → Tree → Bool
-is_bad_target (Target s) t = not (list_any (same_type (kind_of t)) (own_kinds s) || is_simple_target (kind_of (without_parens t)))
-is_bad_target _ t = false
+abbrev pub is_bad_for : List Ancestor → Tree → Bool
+is_bad_for up (node VariableDeclaration l (many ds then fs)) = (stands_in ForInStatement 0 up || stands_in ForOfStatement 0 up) && not (is_lone_declarator ds)
+is_bad_for up _ = false
 
--- CHAINS (13.3.9): a chain's spine goes from its content through objects of members and callees of calls
+-- IMPORTS AND EXPORTS (16.2): directly in the body of a module
 
--- whether a member or a call has an optional mark
-abbrev pub is_optional : AstType → Label → Bool
-is_optional MemberExpression l = flag_at 1 l.flags
-is_optional CallExpression l = flag_at 0 l.flags
-is_optional _ l = false
+abbrev pub is_module_item : AstType → Bool
+is_module_item ImportDeclaration = true
+is_module_item ExportNamedDeclaration = true
+is_module_item ExportDefaultDeclaration = true
+is_module_item ExportAllDeclaration = true
+is_module_item _ = false
 
-abbrev mutual
-  -- whether the spine from here on has an optional mark
-  pub has_optional : Tree → Bool
-  has_optional (node MemberExpression l fs) = is_optional MemberExpression l || has_optional_in fs
-  has_optional (node CallExpression l fs) = is_optional CallExpression l || has_optional_in fs
-  has_optional _ = false
+abbrev pub is_misplaced_module_item : List Ancestor → Tree → Bool
+is_misplaced_module_item up t = is_module_item (kind_of t) && not (is_module_top up)
 
-  pub has_optional_in : Fields → Bool
-  has_optional_in (one t then fs) = has_optional t
-  has_optional_in _ = false
+-- EXPORTS (16.2.3.1): what is exported is declared, and named once outside; a declaration stands alone, and has a name unless
+-- it is the default; a string names what another module has
 
-abbrev pub is_empty_chain : Tree → Bool
-is_empty_chain (node ChainExpression l fs) = not (has_optional_in fs)
-is_empty_chain _ = false
+-- whether the local name of an export without a source stands here
+abbrev pub is_local_export : List Ancestor → Bool
+is_local_export (a ∷ (b ∷ up)) = leads_by ExportSpecifier 0 a && leads_by ExportNamedDeclaration 1 b && not (third_stands b.fields)
+is_local_export _ = false
 
-abbrev pub is_stray_optional : Place → Tree → Bool
-is_stray_optional Spine t = false
-is_stray_optional _ t = is_optional (kind_of t) (label_of t)
+-- whether the field has a node
+abbrev pub has_node : Field → Bool
+has_node missing = false
+has_node (one t) = true
+has_node (many empty) = false
+has_node (many (t before ts)) = true
+has_node (statements ts) = false
 
--- DELETE (13.5.1.1): of a plain name or of a private member, maybe in parentheses, the member maybe as a chain
+abbrev pub any_has_node : Fields → Bool
+any_has_node done = false
+any_has_node (f then fs) = has_node f || any_has_node fs
 
-abbrev pub is_private_name : Option Tree → Bool
-is_private_name (Some (node PrivateIdentifier l fs)) = true
-is_private_name _ = false
+-- a declaration with specifiers, a source or attributes beside it
+abbrev pub is_crowded_export : Fields → Bool
+is_crowded_export (one t then fs) = any_has_node fs
+is_crowded_export _ = false
 
-abbrev pub is_private_member : Option Tree → Bool
-is_private_member (Some (node MemberExpression l fs)) = is_private_name (child_at 1 fs)
-is_private_member _ = false
+abbrev pub has_no_name : Fields → Bool
+has_no_name fs = not (is_some (child_at 0 fs))
 
--- whether this can't be deleted
-abbrev pub is_kept : Tree → Bool
-is_kept (node Identifier l fs) = true
-is_kept (node MemberExpression l fs) = is_private_name (child_at 1 fs)
-is_kept (node ChainExpression l fs) = is_private_member (child_at 0 fs)
-is_kept _ = false
+abbrev pub is_bad_export : List Name → List Ancestor → Tree → Bool
+is_bad_export all up (node ExportNamedDeclaration l fs) = is_crowded_export fs
+is_bad_export all up (node FunctionDeclaration l fs) = has_no_name fs && not (stands_in ExportDefaultDeclaration 0 up)
+is_bad_export all up (node ClassDeclaration l fs) = has_no_name fs && not (stands_in ExportDefaultDeclaration 0 up)
+is_bad_export all up (node StringLiteral l fs) = is_local_export up
+is_bad_export all up (node Identifier l fs) = is_local_export up && not (is_declared all Scope 0 (first_text l.texts))
+is_bad_export all up _ = false
 
-abbrev pub is_kept_within : Option Tree → Bool
-is_kept_within None = false
-is_kept_within (Some t) = is_kept (without_parens t)
+-- CLASSES (15.7.1, 13.2.5): no constructor is static, computed or an accessor; a private name is declared by a class around,
+-- and no key of a literal or of a pattern
 
-abbrev pub is_bad_delete : Tree → Bool
-is_bad_delete (node UnaryExpression l fs) = bytes_eq (first_text l.texts) (codes "delete") && is_kept_within (child_at 0 fs)
-is_bad_delete _ = false
+-- whether the key is the name or the string `constructor`
+abbrev pub is_constructor_key : Option Tree → Bool
+is_constructor_key (Some (node Identifier l fs)) = bytes_eq (first_text l.texts) (codes "constructor")
+is_constructor_key (Some (node StringLiteral l fs)) = bytes_eq (first_text l.texts) (codes "constructor")
+is_constructor_key _ = false
 
--- DECLARATORS WITHOUT A VALUE (14.3.1.1, 14.3.2): those of `const`, of `using` and of patterns need one
+abbrev pub is_accessor_word : Text → Bool
+is_accessor_word word = bytes_eq word (codes "get") || bytes_eq word (codes "set")
 
-abbrev pub is_name : Option Tree → Bool
-is_name (Some (node Identifier l fs)) = true
-is_name _ = false
+-- of a method the first truth value says that it is static, and the second that its key is computed
+abbrev pub is_bad_method : Label → Fields → Bool
+is_bad_method l fs =
+    if bytes_eq (first_text l.texts) (codes "constructor") then flag_at 0 l.flags || flag_at 1 l.flags
+    else is_accessor_word (first_text l.texts) && not (flag_at 0 l.flags || flag_at 1 l.flags) && is_constructor_key (child_at 0 fs)
 
-abbrev pub needs_value : Place → Option Tree → Bool
-needs_value (Declarator top lexical constant) binding = constant || not (is_name binding)
-needs_value _ binding = false
+abbrev pub is_plain_key : List Ancestor → Bool
+is_plain_key up = stands_in ObjectProperty 0 up || stands_in PatternProperty 0 up || stands_in TargetProperty 0 up
 
-abbrev pub is_missing_init : Place → Tree → Bool
-is_missing_init p (node VariableDeclarator l fs) = needs_value p (child_at 0 fs) && not (is_some (child_at 1 fs))
-is_missing_init p _ = false
+abbrev pub is_bad_class : List Name → List Ancestor → Tree → Bool
+is_bad_class all up (node MethodDefinition l fs) = is_bad_method l fs
+is_bad_class all up (node PrivateIdentifier l fs) =
+    not (is_class_key up) && (is_plain_key up || not (list_any (λ n. is_declared all PrivateNames n (first_text l.texts)) (classes up)))
+is_bad_class all up _ = false
+
+-- ACCESSORS (15.4): a getter has no parameters, a setter one that is no rest
+
+-- the parameters of a method's or a property's function
+abbrev pub parameters_in : Fields → Trees
+parameters_in (key then (one (node FunctionExpression l (n then (many ps then gs))) then fs)) = ps
+parameters_in _ = empty
+
+abbrev pub is_empty : Trees → Bool
+is_empty empty = true
+is_empty _ = false
+
+abbrev pub is_lone_parameter : Trees → Bool
+is_lone_parameter (p before empty) = not (same_type (kind_of p) RestElement)
+is_lone_parameter _ = false
+
+abbrev pub is_bad_accessor_of : Label → Fields → Bool
+is_bad_accessor_of l fs =
+    (bytes_eq (first_text l.texts) (codes "get") && not (is_empty (parameters_in fs)))
+    || (bytes_eq (first_text l.texts) (codes "set") && not (is_lone_parameter (parameters_in fs)))
+
+abbrev pub is_bad_accessor : Tree → Bool
+is_bad_accessor (node MethodDefinition l fs) = is_bad_accessor_of l fs
+is_bad_accessor (node ObjectProperty l fs) = is_bad_accessor_of l fs
+is_bad_accessor _ = false
+
+-- RESTS OF OBJECTS (14.3.3, 13.15.5): a name, or of an assignment a name or a member, maybe in parentheses
+
+abbrev pub is_bad_rest : List Ancestor → Tree → Bool
+is_bad_rest (a ∷ (b ∷ up)) t =
+    (leads_by RestElement 0 a && same_type b.kind ObjectPattern && not (same_type (kind_of t) Identifier))
+    || (leads_by TargetRest 0 a && same_type b.kind ObjectTarget && not (is_simple_target (kind_of (without_parens t))))
+is_bad_rest _ t = false
+
+-- DECLARATIONS (14): none is the body of an `if`, a loop or a label, but by `var`
+
+abbrev pub is_declaration : AstType → Label → Bool
+is_declaration VariableDeclaration l = is_lexical (first_text l.texts)
+is_declaration FunctionDeclaration l = true
+is_declaration ClassDeclaration l = true
+is_declaration _ l = false
+
+abbrev pub is_lone_body : List Ancestor → Bool
+is_lone_body up =
+    stands_in IfStatement 1 up || stands_in IfStatement 2 up || stands_in ForStatement 3 up || stands_in ForInStatement 2 up || stands_in ForOfStatement 2 up
+    || stands_in WhileStatement 1 up || stands_in DoWhileStatement 0 up || stands_in LabeledStatement 1 up
+
+abbrev pub is_misplaced_declaration : List Ancestor → Tree → Bool
+is_misplaced_declaration up t = is_declaration (kind_of t) (label_of t) && is_lone_body up
+
+-- META PROPERTIES (13.3.12.1): `new.target` in a function, a class field or a static block; `import.meta` in a module
+
+abbrev pub is_misplaced_meta : List Ancestor → Tree → Bool
+is_misplaced_meta up (node MetaProperty l fs) = if bytes_eq (first_text l.texts) (codes "new") then not (has_new_target up) else not (is_module up)
+is_misplaced_meta up _ = false
 
 -- BROKEN RULES
 
--- the rules so far, in the order of the answer at one node
-abbrev pub built_rules : List Rule
-built_rules = DuplicateName ∷ BadTarget ∷ EmptyChain ∷ StrayOptional ∷ DeleteName ∷ MissingInit ∷ []
+-- the rules, in the order of the answer at one node
+abbrev pub all_rules : List Rule
+all_rules =
+    DuplicateName ∷ MissingLabel ∷ DuplicateLabel ∷ MisplacedReturn ∷ MisplacedSuper ∷ BadTarget ∷ EmptyChain ∷
+    StrayOptional ∷ DeleteName ∷ MissingInit ∷ BadUsing ∷ BadFor ∷ MisplacedModuleItem ∷ BadExport ∷ BadClass ∷
+    BadAccessor ∷ BadRest ∷ MisplacedDeclaration ∷ MisplacedMeta ∷ []
 
--- whether a visit breaks this rule, after these declared names
-abbrev pub is_broken : List Name → Place → Tree → Rule → Bool
-is_broken earlier p t DuplicateName = list_any (clashes earlier) (declared p t)
-is_broken earlier p t BadTarget = is_bad_target p t
-is_broken earlier p t EmptyChain = is_empty_chain t
-is_broken earlier p t StrayOptional = is_stray_optional p t
-is_broken earlier p t DeleteName = is_bad_delete t
-is_broken earlier p t MissingInit = is_missing_init p t
-is_broken earlier p t _ = false
+-- whether a node with these ancestors breaks this rule, where the program declares all these names, and these before it
+abbrev pub is_broken : List Name → List Name → List Ancestor → Tree → Rule → Bool
+is_broken all earlier up t DuplicateName = has_clash is_binding_space earlier (declared up t)
+is_broken all earlier up t MissingLabel = is_missing_label up t
+is_broken all earlier up t DuplicateLabel = is_duplicate_label up t
+is_broken all earlier up t MisplacedReturn = is_misplaced_return up t
+is_broken all earlier up t MisplacedSuper = is_misplaced_super up t
+is_broken all earlier up t BadTarget = is_bad_target (place_of up) t
+is_broken all earlier up t EmptyChain = is_empty_chain t
+is_broken all earlier up t StrayOptional = is_stray_optional (place_of up) t
+is_broken all earlier up t DeleteName = is_bad_delete t
+is_broken all earlier up t MissingInit = is_missing_init (place_of up) t
+is_broken all earlier up t BadUsing = is_bad_using up t
+is_broken all earlier up t BadFor = is_bad_for up t
+is_broken all earlier up t MisplacedModuleItem = is_misplaced_module_item up t
+is_broken all earlier up t BadExport = has_clash is_export_space earlier (declared up t) || is_bad_export all up t
+is_broken all earlier up t BadClass = has_clash is_class_space earlier (declared up t) || is_bad_class all up t
+is_broken all earlier up t BadAccessor = is_bad_accessor t
+is_broken all earlier up t BadRest = is_bad_rest up t
+is_broken all earlier up t MisplacedDeclaration = is_misplaced_declaration up t
+is_broken all earlier up t MisplacedMeta = is_misplaced_meta up t
 
--- A broken rule, and the id of the node that breaks it.
-abbrev pub Break : Type 0
-Break = Rule × ℕ
+-- which of these rules a visit breaks
+abbrev pub breaks_at : List Rule → List Name → List Name → Visit → List Break
+breaks_at rules all earlier v = map (λ r. (r, (label_of v.tree).id)) (filter (is_broken all earlier v.ancestors v.tree) rules)
 
--- the rules that a visit breaks
-abbrev pub breaks_at : List Name → Visit → List Break
-breaks_at earlier v = map (λ r. (r, (label_of v.tree).id)) (filter (is_broken earlier v.place v.tree) built_rules)
+-- which of them these visits break one after the other, after these declared names, the latest first
+abbrev pub breaks_after : List Rule → List Name → List Name → List Visit → List Break
+breaks_after rules all earlier [] = []
+breaks_after rules all earlier (v ∷ vs) = breaks_at rules all earlier v ++ breaks_after rules all (declared v.ancestors v.tree ++ earlier) vs
 
--- the rules that these visits break one after the other, after these declared names, the latest first
-abbrev pub breaks_after : List Name → List Visit → List Break
-breaks_after earlier [] = []
-breaks_after earlier (v ∷ vs) = breaks_at earlier v ++ breaks_after (declared v.place v.tree ++ earlier) vs
+-- the names that these visits declare beside these, the latest first
+abbrev pub declared_by : List Visit → List Name → List Name
+declared_by [] earlier = earlier
+declared_by (v ∷ vs) earlier = declared_by vs (declared v.ancestors v.tree ++ earlier)
 
--- None of these visits breaks a rule.
-abbrev pub KeepRules : List Name → List Visit → Type 0
-KeepRules earlier [] = Unit {0}
-KeepRules earlier (v ∷ vs) = ((r : Rule) → is_broken earlier v.place v.tree r ≡ false) × KeepRules (declared v.place v.tree ++ earlier) vs
+-- all names that a program declares
+abbrev pub all_names : Tree → List Name
+all_names t = declared_by (visits [] 0 t) []
 
--- the broken rules of a program in node order
+-- the broken rules of a program in node order, and at one node in the order of the rules
 abbrev pub breaks : Tree → List Break
-breaks t = breaks_after [] (visits Other t)
+breaks t = breaks_after all_rules (all_names t) [] (visits [] 0 t)
 
 -- The error is the first of these, or want of memory.
 abbrev pub IsFirstBreak : List Break → LowerError → Type 0

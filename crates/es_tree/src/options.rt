@@ -1,6 +1,6 @@
 //! What a run is asked to lower, and how.
 ghost use Rattle.std.specs.Prelude.{◌≡◌, IfOk, codes, string_bytes};
-ghost use Rattle.es_tree.specs.Options.{first_fault, is_inline, is_loose, is_spec, uses_built_ins};
+ghost use Rattle.es_tree.specs.Options.{asks_for_unbuilt, first_fault, is_inline, is_loose, is_spec, uses_built_ins};
 
 use crate::error::OptionName;
 use std::alloc::{AllocError, Global};
@@ -137,8 +137,7 @@ pub struct EnvOptions {
     pub helper_loader: HelperLoaderOptions,
 }
 
-/// The first name, in the order of `OptionName`, that the options ask for. The last, `NotBuilt`, is never
-/// asked for here: it is for a test of which lowerings are built. Takes no memory.
+/// The first name, in the order of `OptionName`, that the options ask for. Takes no memory.
 pub fn options_fault(options: &EnvOptions) -> Option<OptionName>
     ensures { result ≡ first_fault options.now }
 {
@@ -169,7 +168,22 @@ pub fn options_fault(options: &EnvOptions) -> Option<OptionName>
     if options.assumptions.ignore_function_length {
         return Some(OptionName::IgnoreFunctionLength);
     }
+    if asks_for_unbuilt(options) {
+        return Some(OptionName::NotBuilt);
+    }
     None
+}
+
+/// Whether the options ask for a lowering or a warning that isn't built yet.
+fn asks_for_unbuilt(options: &EnvOptions) -> bool
+    ensures { result ≡ asks_for_unbuilt options.now }
+{
+    options.es2015.arrow_function.is_some()
+        || options.es2018.object_rest_spread.is_some()
+        || options.es2019.optional_catch_binding
+        || options.es2020.export_namespace_from
+        || options.es2020.arbitrary_module_namespace_names
+        || options.es2026.explicit_resource_management
 }
 
 fn is_inline(mode: HelperLoaderMode) -> bool

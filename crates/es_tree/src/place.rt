@@ -24,3 +24,24 @@ pub enum Place {
         lexical: bool,
     },
 }
+
+/// What names are told apart in. Beside it stands the number of the node that has it: that of a scope, a
+/// function or a class, and 0 for what a module exports.
+#[derive(Clone, Copy, PartialEq, Eq, Hash, Debug)]
+pub enum Namespace {
+    /// What a scope binds.
+    Scope,
+    /// The parameters of a function.
+    Parameters,
+    /// The names by which a module's exports are known outside.
+    Exports,
+    /// The private names of a class.
+    PrivateNames,
+    /// What a private name is declared as: two declarations clash where they have a slot in common.
+    FirstSlot,
+    SecondSlot,
+    ThirdSlot,
+    FourthSlot,
+    /// The constructors of a class.
+    Constructors,
+}

@@ -37,22 +37,41 @@ fn nothing_asked_for(rt: HostRuntime) -> Result<(), Fail> {
 }
 
 #[test]
-fn lowerings_asked_for(rt: HostRuntime) -> Result<(), Fail> {
+fn built_lowerings_asked_for(rt: HostRuntime) -> Result<(), Fail> {
     let mut options = no_options(rt.alloc())?;
-    options.es2015.arrow_function = Some(ArrowFunctionsOptions::default());
     options.es2016.exponentiation_operator = true;
-    options.es2018.object_rest_spread = Some(ObjectRestSpreadOptions::default());
-    options.es2019.optional_catch_binding = true;
-    options.es2020.export_namespace_from = true;
     options.es2020.nullish_coalescing_operator = true;
     options.es2020.optional_chaining = true;
     options.es2020.big_int = true;
-    options.es2020.arbitrary_module_namespace_names = true;
     options.es2021.logical_assignment_operators = true;
-    options.es2026.explicit_resource_management = true;
     options.assumptions.no_document_all = true;
     options.helper_loader.mode = HelperLoaderMode::External;
     assert_eq!(rt; options_fault(&options), None);
+    Ok(())
+}
+
+#[test]
+fn unbuilt_lowerings_asked_for(rt: HostRuntime) -> Result<(), Fail> {
+    let alloc = rt.alloc();
+    let not_built = Some(OptionName::NotBuilt);
+    let mut options = no_options(alloc)?;
+    options.es2015.arrow_function = Some(ArrowFunctionsOptions::default());
+    assert_eq!(rt; options_fault(&options), not_built);
+    let mut options = no_options(alloc)?;
+    options.es2018.object_rest_spread = Some(ObjectRestSpreadOptions::default());
+    assert_eq!(rt; options_fault(&options), not_built);
+    let mut options = no_options(alloc)?;
+    options.es2019.optional_catch_binding = true;
+    assert_eq!(rt; options_fault(&options), not_built);
+    let mut options = no_options(alloc)?;
+    options.es2020.export_namespace_from = true;
+    assert_eq!(rt; options_fault(&options), not_built);
+    let mut options = no_options(alloc)?;
+    options.es2020.arbitrary_module_namespace_names = true;
+    assert_eq!(rt; options_fault(&options), not_built);
+    let mut options = no_options(alloc)?;
+    options.es2026.explicit_resource_management = true;
+    assert_eq!(rt; options_fault(&options), not_built);
     Ok(())
 }
 
@@ -114,7 +133,12 @@ fn one_flag_asked_for(rt: HostRuntime) -> Result<(), Fail> {
 #[test]
 fn the_earlier_of_many(rt: HostRuntime) -> Result<(), Fail> {
     let mut options = no_options(rt.alloc())?;
+    options.es2019.optional_catch_binding = true;
     options.assumptions.ignore_function_length = true;
+    assert_eq!(rt;
+        options_fault(&options),
+        Some(OptionName::IgnoreFunctionLength)
+    );
     options.assumptions.object_rest_no_symbols = true;
     assert_eq!(rt;
         options_fault(&options),
