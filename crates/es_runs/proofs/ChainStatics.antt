@@ -1,9 +1,9 @@
 -- The rows of optional chaining keep the static rules of the tree at its place, apart from its names.
 use Rattle.std.proofs.Common.{◌≡◌, refl, sym, subst, ◌∙◌, List, [], ◌∷◌, ◌++◌}
 use Rattle.std.specs.Prelude.{Bool, true, false, ◌&&◌, bytes_eq, codes, Option, Some}
+use Rattle.es_tree.specs.CoreStaticRules.{is_bad_delete, is_kept, is_private_member}
 use Rattle.es_tree.specs.Names.{first_text}
 use Rattle.es_tree.specs.Parens.{without_parens}
-use Rattle.es_tree.specs.StaticRules.{is_bad_delete, is_kept, is_private_member}
 use Rattle.es_tree.specs.Tree.{Tree, node, Label, done, ◌then◌, one, Trees, ◌before◌}
 use Rattle.es_tree.specs.Words.{Text}
 use Rattle.es_tree.specs.declared.ast_type.AstType.TheVariants.{BinaryExpression, CallExpression, ChainExpression, ConditionalExpression, LogicalExpression, MemberExpression, UnaryExpression}

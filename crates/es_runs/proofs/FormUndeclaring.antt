@@ -1,14 +1,14 @@
 -- In a core program that has form declarations and links of chains stand where they belong.
-use Rattle.std.proofs.Common.{◌≡◌, refl, sym, ap, ◌∙◌, List, [], ◌∷◌}
-use Rattle.std.proofs.lemmas.Bool.{and_from, eqb-true}
-use Rattle.std.specs.List.{list_any, list_all}
-use Rattle.std.specs.Prelude.{Bool, true, false, ◌&&◌, ◌||◌, if◌then◌else◌, Option, Some, None}
+use Rattle.std.proofs.Common.{◌≡◌, refl, ap, ◌∙◌, List, [], ◌∷◌}
+use Rattle.std.proofs.lemmas.Bool.{and_from}
+use Rattle.std.specs.List.{list_all}
+use Rattle.std.specs.Prelude.{Bool, true, false, ◌&&◌, if◌then◌else◌, None}
 use Rattle.es_tree.specs.Attributes.{child_entries}
 use Rattle.es_tree.specs.Bare.{bare, bare_fields, bare_field, bare_trees}
 use Rattle.es_tree.specs.Core.{is_core_kind, is_core_node, IsCoreProgram}
-use Rattle.es_tree.specs.HasForm.{ElementsPlace, same_type, elements_of, match_option, has_form, elements_form, fields_form, field_form, trees_form, is_computed, is_in, sort_at, sort_before_trees}
+use Rattle.es_tree.specs.HasForm.{elements_of, has_form, fields_form, field_form, trees_form, is_computed, is_in, sort_at, sort_before_trees}
 use Rattle.es_tree.specs.Table.{kinds_of, rest_sort}
-use Rattle.es_tree.specs.Tree.{Tree, node, Label, Fields, done, ◌then◌, Field, missing, one, many, statements, Trees, empty, ◌before◌, kind_of, type_number, type_at, type_at-number}
+use Rattle.es_tree.specs.Tree.{Tree, node, Label, Fields, done, ◌then◌, Field, missing, one, many, statements, Trees, empty, ◌before◌, kind_of}
 use Rattle.es_tree.specs.Walks.{all_nodes, all_in_fields, all_in_field, all_in_trees}
 use Rattle.es_tree.specs.declared.ast_type.AstType.{AstType}
 use Rattle.es_tree.specs.declared.ast_type.AstType.TheVariants.{Program, Directive, ExpressionStatement, VariableDeclaration, VariableDeclarator, Identifier, ThisExpression, NullLiteral, BooleanLiteral, NumericLiteral, BigIntLiteral, StringLiteral, UnaryExpression, UpdateExpression, BinaryExpression, LogicalExpression, ConditionalExpression, AssignmentExpression, SequenceExpression, MemberExpression, CallExpression, NewExpression, ChainExpression, ParenthesizedExpression}
@@ -18,10 +18,11 @@ use Rattle.es_tree.specs.declared.table.Sort.TheVariants.{Program as s-Program, 
 use Rattle.es_tree.specs.declared.table.Often.TheVariants.{Required, Optional, List as a-List, NonEmptyList, ListWithRest, Statements}
 use Rattle.es_tree.specs.declared.table.Content.{Content}
 use Rattle.es_tree.specs.declared.table.Content.TheVariants.{Child as c-Child}
+use Rattle.es_tree.proofs.CoreBreaks.{among_kinds, core_kind, plain_form}
 use Rattle.es_tree.proofs.NodeForm.{node_form}
 use Rattle.es_runs.proofs.BareTrees.{all-bare}
 use Rattle.es_runs.proofs.Named.{and_left, and_right}
-use Rattle.es_runs.proofs.Undeclaring.{may_stand, trees_stand, field_stands, fields_stand, is_end, is_single, begins_with_one, is_formed, undeclaring}
+use Rattle.es_runs.proofs.Undeclaring.{may_stand, trees_stand, field_stands, fields_stand, is_end, is_lone, is_single, begins_with_one, is_formed, undeclaring}
 
 -- KINDS BY THE TABLE
 
@@ -75,19 +76,8 @@ core_entries ChainExpression c = record { entries = refl; no_elements = refl }
 core_entries ParenthesizedExpression c = record { entries = refl; no_elements = refl }
 core_entries _ c = absurd (cc c)
 
-same_kind : (j k : AstType) → same_type j k ≡ true → j ≡ k
-same_kind j k h = sym (type_at-number j) ∙ ap type_at (eqb-true (type_number j) (type_number k) h) ∙ type_at-number k
-
-among_kinds : (k j : AstType) (ks : List AstType) → list_any (same_type j) ks ≡ true → list_all (may_stand k) ks ≡ true → may_stand k j ≡ true
-among_kinds k j [] h g = absurd (cc h)
-among_kinds k j (i ∷ is) h g = at (same_type j i) refl h (λ d. among_kinds k j is d (and_right (may_stand k i) (list_all (may_stand k) is) g))
-  where
-    at : (b : Bool) → same_type j i ≡ b → (b || list_any (same_type j) is) ≡ true → (list_any (same_type j) is ≡ true → may_stand k j ≡ true) → may_stand k j ≡ true
-    at true e d later = rw (same_kind j i e) (and_left (may_stand k i) (list_all (may_stand k) is) g)
-    at false e d later = later d
-
 of_sort_stands : (k : AstType) (s : Sort) (t : Tree) → has_form s t ≡ true → sort_stands k s ≡ true → may_stand k (kind_of t) ≡ true
-of_sort_stands k s (node j l fs) h g = among_kinds k j (kinds_of s) (node_form s j l fs h).sort g
+of_sort_stands k s (node j l fs) h g = among_kinds (may_stand k) j (kinds_of s) (node_form s j l fs h).sort g
 
 either_sort : (k : AstType) (b : Bool) (s u : Sort) → sort_stands k s ≡ true → sort_stands k u ≡ true → sort_stands k (if b then s else u) ≡ true
 either_sort k true s u h g = h
@@ -146,7 +136,13 @@ single_form k l e s (missing then done) i h = absurd (cc (rw i at h))
 single_form k l e s (many ts then done) i h = absurd (cc (rw i at h))
 single_form k l e s (statements ts then done) i h = absurd (cc (rw i at h))
 
+lone_form : (k : AstType) (l : Label) (e : Entry) (fs : Fields) → fields_form k l (e ∷ []) fs ≡ true → is_lone fs ≡ true
+lone_form k l e done h = absurd (cc h)
+lone_form k l e (f then done) h = refl
+lone_form k l e (f then (g then fs)) h = absurd (cc (and_right (field_form k l e.content f) false h))
+
 formed : (k : AstType) (l : Label) (fs : Fields) → fields_form k l (child_entries k) fs ≡ true → is_formed k fs ≡ true
+formed VariableDeclaration l fs h = lone_form VariableDeclaration l _ fs h
 formed UpdateExpression l fs h = single_form UpdateExpression l _ s-Expression fs refl h
 formed ParenthesizedExpression l fs h = single_form ParenthesizedExpression l _ s-Expression fs refl h
 formed ChainExpression l fs h = single_form ChainExpression l _ _ fs refl h
@@ -158,17 +154,6 @@ formed AssignmentExpression l (statements ts then fs) h = absurd (cc h)
 formed _ l fs h = refl
 
 -- THE WHOLE
-
-plain_form : (k : AstType) (l : Label) (fs : Fields) → elements_of (child_entries k) ≡ None → match_option (elements_of (child_entries k)) (fields_form k l (child_entries k) fs) (λ p. elements_form p.sort p.last fs) ≡ true → fields_form k l (child_entries k) fs ≡ true
-plain_form k l fs e h = at (elements_of (child_entries k)) e h
-  where
-    at : (o : Option ElementsPlace) → o ≡ None → match_option o (fields_form k l (child_entries k) fs) (λ p. elements_form p.sort p.last fs) ≡ true → fields_form k l (child_entries k) fs ≡ true
-    at None d g = g
-    at (Some p) d g = absurd (cc d)
-
-core_kind : (k : AstType) (l : Label) (fs : Fields) → is_core_node k l fs ≡ true → is_core_kind k ≡ true
-core_kind VariableDeclaration l fs c = refl
-core_kind _ l fs c = c
 
 mutual
   form_undeclaring : (s : Sort) (t : Tree) → has_form s t ≡ true → all_nodes is_core_node t ≡ true → all_nodes undeclaring t ≡ true
@@ -239,12 +224,20 @@ single-bare (one t then fs) = end-bare fs
 single-bare (many ts then fs) = refl
 single-bare (statements ts then fs) = refl
 
+lone-bare : (fs : Fields) → is_lone (bare_fields fs) ≡ is_lone fs
+lone-bare done = refl
+lone-bare (f then fs) = end-bare fs
+
 formed-bare : (k : AstType) (fs : Fields) → is_formed k (bare_fields fs) ≡ is_formed k fs
+formed-bare VariableDeclaration fs = lone-bare fs
 formed-bare UpdateExpression fs = single-bare fs
 formed-bare ParenthesizedExpression fs = single-bare fs
 formed-bare ChainExpression fs = single-bare fs
 formed-bare AssignmentExpression fs = begins-bare fs
 formed-bare _ fs = refl
 
+pub undeclaring-bare : (t : Tree) → all_nodes undeclaring (bare t) ≡ all_nodes undeclaring t
+undeclaring-bare = all-bare undeclaring (λ k l fs i. fields_stand-bare k fs i && formed-bare k fs i)
+
 pub source_undeclaring : (p : Tree) → IsCoreProgram p → all_nodes undeclaring (bare p) ≡ true
-source_undeclaring p is = all-bare undeclaring (λ k l fs i. fields_stand-bare k fs i && formed-bare k fs i) p ∙ form_undeclaring s-Program p is.form is.core
+source_undeclaring p is = undeclaring-bare p ∙ form_undeclaring s-Program p is.form is.core

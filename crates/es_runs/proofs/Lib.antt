@@ -76,6 +76,7 @@ pub mod StaticSteps
 pub mod StaticBare
 pub mod StaticNames
 pub mod StaticPrograms
+pub mod StaticVisits
 pub mod StaticLaws
 pub mod TidyBare
 pub mod TidyPlaces

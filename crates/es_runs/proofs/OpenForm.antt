@@ -1,11 +1,11 @@
 -- In a core program that has form one statement list stands, the program's own, and its directives have no parts.
 use Rattle.std.proofs.Common.{◌≡◌, refl, subst, ◌∙◌, List, [], ◌∷◌}
 use Rattle.std.proofs.lemmas.Bool.{and_from}
-use Rattle.std.specs.Prelude.{Bool, true, false, ◌&&◌, not, if◌then◌else◌, Option, Some, None}
+use Rattle.std.specs.Prelude.{Bool, true, false, ◌&&◌, not, if◌then◌else◌, None}
 use Rattle.es_tree.specs.Attributes.{child_entries}
 use Rattle.es_tree.specs.Bare.{bare, bare_fields, bare_field, bare_trees}
 use Rattle.es_tree.specs.Core.{is_core_kind, is_core_node, IsCoreProgram}
-use Rattle.es_tree.specs.HasForm.{ElementsPlace, is_of_sort, elements_of, match_option, has_form, elements_form, fields_form, field_form, trees_form, is_computed, is_in, sort_at, sort_before_trees}
+use Rattle.es_tree.specs.HasForm.{is_of_sort, elements_of, match_option, has_form, elements_form, fields_form, field_form, trees_form, is_computed, is_in, sort_at, sort_before_trees}
 use Rattle.es_tree.specs.Table.{rest_sort}
 use Rattle.es_tree.specs.Tree.{Tree, node, Label, Fields, done, ◌then◌, Field, missing, one, many, statements, Trees, empty, ◌before◌}
 use Rattle.es_tree.specs.Walks.{all_nodes, all_in_fields, all_in_field, all_in_trees}
@@ -18,6 +18,7 @@ use Rattle.es_tree.specs.declared.table.Often.{Often}
 use Rattle.es_tree.specs.declared.table.Often.TheVariants.{Required, Optional, List as a-List, NonEmptyList, ListWithRest, Statements}
 use Rattle.es_tree.specs.declared.table.Content.{Content}
 use Rattle.es_tree.specs.declared.table.Content.TheVariants.{Child as c-Child}
+use Rattle.es_tree.proofs.CoreBreaks.{core_kind, plain_form}
 use Rattle.es_tree.proofs.NodeForm.{node_form}
 use Rattle.es_runs.proofs.Named.{and_left, and_right}
 use Rattle.es_runs.proofs.Declarations.{is_program_kind, is_done}
@@ -112,10 +113,6 @@ plain_kind ChainExpression c n = record { entries = refl; no_elements = refl }
 plain_kind ParenthesizedExpression c n = record { entries = refl; no_elements = refl }
 plain_kind _ c n = absurd (cc c)
 
-core_kind : (k : AstType) (l : Label) (fs : Fields) → is_core_node k l fs ≡ true → is_core_kind k ≡ true
-core_kind VariableDeclaration l fs c = refl
-core_kind _ l fs c = c
-
 not_true : (b : Bool) → not b ≡ true → b ≡ false
 not_true true h = absurd (cc h)
 not_true false h = refl
@@ -149,13 +146,6 @@ rest_sort_plain _ h = h
 before_plain : (s last : Sort) (ts : Trees) → is_program_sort s ≡ false → is_program_sort last ≡ false → is_program_sort (sort_before_trees s last ts) ≡ false
 before_plain s last empty h g = g
 before_plain s last (t before ts) h g = h
-
-plain_form : (k : AstType) (l : Label) (fs : Fields) → elements_of (child_entries k) ≡ None → match_option (elements_of (child_entries k)) (fields_form k l (child_entries k) fs) (λ p. elements_form p.sort p.last fs) ≡ true → fields_form k l (child_entries k) fs ≡ true
-plain_form k l fs e h = at (elements_of (child_entries k)) e h
-  where
-    at : (o : Option ElementsPlace) → o ≡ None → match_option o (fields_form k l (child_entries k) fs) (λ p. elements_form p.sort p.last fs) ≡ true → fields_form k l (child_entries k) fs ≡ true
-    at None d g = g
-    at (Some p) d g = absurd (cc d)
 
 field_unlisted : (k : AstType) (l : Label) (c : Content) (f : Field) → field_form k l c f ≡ true → is_plain c ≡ true → is_no_list f ≡ true
 field_unlisted k l (c-Child s Statements) (statements ts) h p = absurd (cc (and_right (not (is_program_sort s)) false p))
@@ -310,7 +300,7 @@ one_list-bare (one t then fs) = refl
 one_list-bare (many ts then fs) = rw (childless-bare ts, last_unlisted-bare fs)
 one_list-bare (statements ts then fs) = refl
 
-has_one_list-bare : (t : Tree) → has_one_list (bare t) ≡ has_one_list t
+pub has_one_list-bare : (t : Tree) → has_one_list (bare t) ≡ has_one_list t
 has_one_list-bare (node k l fs) = rw (one_list-bare fs)
 
 pub core_lists : (p : Tree) → IsCoreProgram p → has_one_list (bare p) ≡ true

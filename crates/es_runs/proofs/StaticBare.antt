@@ -5,9 +5,9 @@ use Rattle.std.specs.Prelude.{◌&&◌, ◌||◌, not, bytes_eq, codes, is_some,
 use Rattle.std.specs.List.{list_any}
 use Rattle.es_tree.specs.Bare.{bare, bare_label, bare_fields, bare_field, bare_trees}
 use Rattle.es_tree.specs.Children.{child_at, only_child}
+use Rattle.es_tree.specs.CoreStaticRules.{first_place, place_in, Visit, visit, visits, visits_in_fields, visits_in_field, visits_in_trees, Name, declared, clashes, is_bad_target, is_optional, has_optional, has_optional_in, is_empty_chain, is_stray_optional, is_private_name, is_private_member, is_kept, is_kept_within, is_bad_delete, is_name, needs_value, is_missing_init, is_broken, KeepRules, core_breaks}
 use Rattle.es_tree.specs.Names.{first_text}
 use Rattle.es_tree.specs.Parens.{without_parens}
-use Rattle.es_tree.specs.StaticRules.{first_place, place_in, Visit, visit, visits, visits_in_fields, visits_in_field, visits_in_trees, Name, declared, clashes, is_bad_target, is_optional, has_optional, has_optional_in, is_empty_chain, is_stray_optional, is_private_name, is_private_member, is_kept, is_kept_within, is_bad_delete, is_name, needs_value, is_missing_init, is_broken, KeepRules, breaks}
 use Rattle.es_tree.specs.Tree.{Tree, node, Label, Fields, done, ◌then◌, Field, missing, one, many, statements, Trees, empty, ◌before◌, kind_of}
 use Rattle.es_tree.specs.declared.ast_type.AstType.{AstType}
 use Rattle.es_tree.specs.declared.ast_type.AstType.TheVariants.{CallExpression, ChainExpression, Identifier, MemberExpression, ParenthesizedExpression, PrivateIdentifier, UnaryExpression, VariableDeclaration, VariableDeclarator}
@@ -196,8 +196,8 @@ from_bare earlier [] k = tt
 from_bare earlier (v ∷ vs) k = (λ r. sym (broken-bare earlier v.place v.tree r) ∙ k.0 r, from_bare (declared v.place v.tree ++ earlier) vs (subst (λ ns. KeepRules (ns ++ earlier) (map bare_visit vs)) (declared-bare v.place v.tree) k.1))
 
 -- a tree that breaks no rule keeps each, bare
-pub bare_keeps : (t : Tree) → breaks t ≡ [] → KeepRules [] (visits Other (bare t))
+pub bare_keeps : (t : Tree) → core_breaks t ≡ [] → KeepRules [] (visits Other (bare t))
 bare_keeps t h = subst (λ vs. KeepRules [] vs) (sym (visits-bare Other t)) (to_bare [] (visits Other t) (keep-none [] (visits Other t) h))
 
-pub bare_breaks : (t : Tree) → KeepRules [] (visits Other (bare t)) → breaks t ≡ []
+pub bare_breaks : (t : Tree) → KeepRules [] (visits Other (bare t)) → core_breaks t ≡ []
 bare_breaks t k = none-keep [] (visits Other t) (from_bare [] (visits Other t) (subst (λ vs. KeepRules [] vs) (visits-bare Other t) k))

@@ -3,8 +3,8 @@
 use Rattle.std.proofs.Common.{◌≡◌, ℕ, zero, suc, refl, subst, List, [], ◌∷◌, ◌++◌}
 use Rattle.std.specs.Prelude.{Bool, true, false, ◌||◌, not}
 use Rattle.std.specs.List.{list_any}
+use Rattle.es_tree.specs.CoreStaticRules.{first_place, place_in, Visit, visits, visits_in_fields, visits_in_field, visits_in_trees, Name, declared, clashes, is_bad_target, is_empty_chain, is_stray_optional, is_bad_delete, is_missing_init, is_broken, KeepRules}
 use Rattle.es_tree.specs.HasForm.{same_type}
-use Rattle.es_tree.specs.StaticRules.{first_place, place_in, Visit, visits, visits_in_fields, visits_in_field, visits_in_trees, Name, declared, clashes, is_bad_target, is_empty_chain, is_stray_optional, is_bad_delete, is_missing_init, is_broken, KeepRules}
 use Rattle.es_tree.specs.Table.{own_kinds}
 use Rattle.es_tree.specs.Tree.{Tree, node, Label, Fields, done, ◌then◌, Field, missing, one, many, statements, Trees, empty, ◌before◌}
 use Rattle.es_tree.specs.declared.ast_type.AstType.{AstType}

@@ -1,24 +1,30 @@
 -- Whatever steps of the core rules are taken from a core program that keeps the static rules, what is written keeps them.
-use Rattle.std.proofs.Common.{◌≡◌, refl, sym, subst, ap, ◌∙◌, [], map}
-use Rattle.std.specs.Prelude.{true, false, ◌&&◌}
+use Rattle.std.proofs.Common.{◌≡◌, refl, sym, subst, ap, ◌∙◌, List, [], map}
+use Rattle.std.specs.Prelude.{Bool, true, false, ◌&&◌}
 use Rattle.es_tree.specs.Bare.{bare}
-use Rattle.es_tree.specs.Core.{IsCoreProgram}
+use Rattle.es_tree.specs.Core.{is_core_node, IsCoreProgram}
+use Rattle.es_tree.specs.CoreStaticRules.{visits, KeepRules, core_breaks}
 use Rattle.es_tree.specs.Scopes.{declared_of, declares}
-use Rattle.es_tree.specs.StaticRules.{visits, KeepRules, breaks}
+use Rattle.es_tree.specs.StaticRules.{breaks}
 use Rattle.es_tree.specs.Tree.{Tree, node, Fields, done, ◌then◌, Field, missing, one, many, statements, Trees, empty, ◌before◌}
 use Rattle.es_tree.specs.Walks.{all_nodes, all_in_fields, all_in_field, all_in_trees}
+use Rattle.es_tree.specs.Words.{Text}
 use Rattle.es_tree.specs.declared.place.Place.TheVariants.{Other}
+use Rattle.es_tree.proofs.CoreBreaks.{breaks-core}
 use Rattle.es_tree.proofs.KeptRules.{keep-none, none-keep}
 use Rattle.es_runs.specs.Open.{Open, OpenFields, OpenField, OpenTrees, opened, opened_fields, opened_field, opened_trees, closed, closed_fields, closed_field, closed_trees, written}
 use Rattle.es_runs.specs.Open.Open.{open_node}
 use Rattle.es_runs.specs.Open.OpenFields.{ends, ◌and◌}
 use Rattle.es_runs.specs.Open.OpenField.{gap, child, children, list}
 use Rattle.es_runs.specs.Open.OpenTrees.{nil, ◌next◌}
-use Rattle.es_runs.specs.OpenSteps.{Whole, whole_in, whole_of}
+use Rattle.es_runs.specs.OpenRules.{CoreRule}
+use Rattle.es_runs.specs.OpenSteps.{Whole, Reached, whole_in, whole_of}
 use Rattle.es_runs.specs.StaticLaws.{written_out, written_out_fields, written_out_field, written_out_trees, LawStaticRules, LawReachedRules}
 use Rattle.es_runs.proofs.Declarations.{is_done, is_program_kind}
+use Rattle.es_runs.proofs.DeclaredNames.{core-bare}
+use Rattle.es_runs.proofs.FormUndeclaring.{undeclaring-bare}
 use Rattle.es_runs.proofs.Named.{and_left, and_right}
-use Rattle.es_runs.proofs.OpenForm.{no_list, is_no_list, unlisted, childless, one_list, has_one_list}
+use Rattle.es_runs.proofs.OpenForm.{no_list, is_no_list, unlisted, childless, one_list, has_one_list, has_one_list-bare}
 use Rattle.es_runs.proofs.OpenLaws.{nothing_opened, source_open}
 use Rattle.es_runs.proofs.OpenPlaces.{own_pending, written_in}
 use Rattle.es_runs.proofs.OpenRuns.{has_written}
@@ -28,6 +34,8 @@ use Rattle.es_runs.proofs.StaticBare.{bare_keeps, bare_breaks}
 use Rattle.es_runs.proofs.StaticKeeps.{Agree, each_own, names_agree, both_keep, keeps_visits, visits_keep}
 use Rattle.es_runs.proofs.StaticNames.{to_name, program_names}
 use Rattle.es_runs.proofs.StaticPrograms.{IsStatic, all_static, plain_names, written_keeps, written_agree}
+use Rattle.es_runs.proofs.StaticVisits.{IsPlaced, placed_breaks}
+use Rattle.es_runs.proofs.Undeclaring.{undeclaring}
 use Rattle.es_runs.proofs.Written.{plain}
 
 -- WRITING ALL THAT IS PENDING
@@ -106,7 +114,7 @@ source_static : (p : Tree) → IsCoreProgram p → breaks p ≡ [] → IsStatic 
 source_static p is kept =
     let program = source_open p is in
     let same : closed (opened (bare p)) ≡ bare p = closed-opened (bare p) in
-    let rules = subst (λ t. KeepRules [] (visits Other t)) (sym same) (bare_keeps p kept) in
+    let rules = subst (λ t. KeepRules [] (visits Other t)) (sym same) (bare_keeps p (sym (breaks-core p is) ∙ kept)) in
     record {
       program = program;
       keeps = visits_keep Other (closed (opened (bare p))) (each_own [] (visits Other (closed (opened (bare p)))) rules);
@@ -115,7 +123,7 @@ source_static p is kept =
     }
 
 -- with what is pending written an open program keeps the rules
-written_static : (w : Whole) (o : Open) → IsStatic w o → breaks (written_out o) ≡ []
+written_static : (w : Whole) (o : Open) → IsStatic w o → core_breaks (written_out o) ≡ []
 written_static w o h =
     let xs = h.program.names in
     let tree : written_out o ≡ written_in (plain xs) (closed o) = written_program o h.program.one_list ∙ ap (λ p. written_in p (closed o)) h.program.pending in
@@ -123,12 +131,37 @@ written_static w o h =
     let t = written_in (plain xs) (closed o) in
     let agree = subst (λ ds. Agree [] (map to_name ds)) (sym found.declares) (written_agree xs (declared_of (closed o)) (h.apart xs h.program.pending) h.agree) in
     let keeps = keeps_visits Other t (written_keeps xs (closed o) h.program.known.shaped h.keeps) in
-    ap breaks tree ∙ none-keep [] (visits Other t) (both_keep [] (visits Other t) keeps (subst (λ ns. Agree [] ns) (sym (program_names t found.known.shaped found.known.placed)) agree))
+    ap core_breaks tree ∙ none-keep [] (visits Other t) (both_keep [] (visits Other t) keeps (subst (λ ns. Agree [] ns) (sym (program_names t found.known.shaped found.known.placed)) agree))
+
+-- with what is pending written, declarations stand where they belong
+written_placed : (w : Whole) (o : Open) → IsStatic w o → IsPlaced (written_out o)
+written_placed w o h =
+    let xs = h.program.names in
+    let tree : written_out o ≡ written_in (plain xs) (closed o) = written_program o h.program.one_list ∙ ap (λ p. written_in p (closed o)) h.program.pending in
+    let found = has_written w xs (closed o) h.program.known h.program.one_list in
+    subst (λ t. IsPlaced t) (sym tree) (record { core = found.known.core; placed = found.known.placed; one_list = found.one_list })
 
 pub law_static_rules_proof : LawStaticRules
-law_static_rules_proof no_all p s o is kept steps = written_static (whole_in s) o (all_static no_all steps (source_static p is kept))
+law_static_rules_proof no_all p s o is kept steps =
+    let found = all_static no_all steps (source_static p is kept) in
+    placed_breaks (written_out o) (written_placed (whole_in s) o found) ∙ written_static (whole_in s) o found
+
+module _ (no_all : Bool) (p q : Tree) (names : List Text) (is : IsCoreProgram p) (kept : breaks p ≡ []) (reached : Reached (CoreRule no_all) p names q) where
+  found : IsStatic reached.whole (opened (bare q))
+  found = all_static no_all reached.steps (source_static p is kept)
+
+  -- what is reached breaks no rule that a core program can break
+  pub reached_breaks : core_breaks q ≡ []
+  reached_breaks = bare_breaks q (keep-none [] (visits Other (bare q)) (ap core_breaks (sym (written_opened (bare q))) ∙ written_static reached.whole (opened (bare q)) found))
+
+  reached_placed : IsPlaced q
+  reached_placed =
+      let same : closed (opened (bare q)) ≡ bare q = closed-opened (bare q) in
+      record {
+        core = sym (ap (λ t. all_nodes is_core_node t) same ∙ core-bare q) ∙ found.program.known.core;
+        placed = sym (ap (λ t. all_nodes undeclaring t) same ∙ undeclaring-bare q) ∙ found.program.known.placed;
+        one_list = sym (ap has_one_list same ∙ has_one_list-bare q) ∙ found.program.one_list;
+      }
 
 pub law_reached_rules_proof : LawReachedRules
-law_reached_rules_proof no_all p q names is kept reached =
-    let none = law_static_rules_proof no_all p _ (opened (bare q)) is kept reached.steps in
-    bare_breaks q (keep-none [] (visits Other (bare q)) (ap breaks (sym (written_opened (bare q))) ∙ none))
+law_reached_rules_proof no_all p q names is kept reached = placed_breaks q (reached_placed no_all p q names is kept reached) ∙ reached_breaks no_all p q names is kept reached

@@ -1,13 +1,16 @@
 -- Where no rule is broken, no optional mark stands outside a chain.
 use Rattle.std.proofs.Common.{◌≡◌, ℕ, zero, suc, refl, sym, ap, ◌∙◌, List, [], ◌∷◌}
 use Rattle.std.specs.Prelude.{Bool, true, false, ◌&&◌, not}
+use Rattle.es_tree.specs.CoreStaticRules.{place_in, visits, is_optional, is_stray_optional}
 use Rattle.es_tree.specs.Names.{flag_at}
-use Rattle.es_tree.specs.StaticRules.{place_in, visits, is_optional, is_stray_optional, breaks}
+use Rattle.es_tree.specs.Core.{IsCoreProgram}
+use Rattle.es_tree.specs.StaticRules.{breaks}
 use Rattle.es_tree.specs.Tree.{Tree, node, Label, Fields, done, ◌then◌, Field, missing, one, many, statements, Trees, empty, ◌before◌}
 use Rattle.es_tree.specs.declared.ast_type.AstType.{AstType}
 use Rattle.es_tree.specs.declared.ast_type.AstType.TheVariants.{ArrayTarget, CallExpression, ChainExpression, MemberExpression, Program, TargetProperty, VariableDeclaration, VariableDeclarator}
 use Rattle.es_tree.specs.declared.place.Place.{Place}
 use Rattle.es_tree.specs.declared.place.Place.TheVariants.{Other, ProgramBody, Spine, Target, Declarator}
+use Rattle.es_tree.proofs.CoreBreaks.{breaks-core}
 use Rattle.es_tree.proofs.KeptRules.{keep-none}
 use Rattle.es_runs.specs.Core.{flag, flag_after}
 use Rattle.es_runs.specs.Rules.{is_marked, on_spine, strays, strays_fields, strays_field, strays_nodes}
@@ -92,6 +95,6 @@ mutual
   trees_tidy p empty h = refl
   trees_tidy p (t before ts) h = or_both (strays (is_spine p) t) (strays_nodes (is_spine p) ts) (keeps_tidy p t h.0) (trees_tidy p ts h.1)
 
--- a tree that breaks no rule is tidy
-pub tidy_source : (p : Tree) → breaks p ≡ [] → strays false p ≡ false
-tidy_source p h = keeps_tidy Other p (visits_keep Other p (each_own [] (visits Other p) (keep-none [] (visits Other p) h)))
+-- a core program that breaks no rule is tidy
+pub tidy_source : (p : Tree) → IsCoreProgram p → breaks p ≡ [] → strays false p ≡ false
+tidy_source p is h = keeps_tidy Other p (visits_keep Other p (each_own [] (visits Other p) (keep-none [] (visits Other p) (sym (breaks-core p is) ∙ h))))

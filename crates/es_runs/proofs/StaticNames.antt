@@ -2,9 +2,9 @@
 use Rattle.std.proofs.Common.{◌≡◌, ℕ, zero, suc, refl, sym, subst, ap, ◌∙◌, List, [], ◌∷◌, ◌++◌, map}
 use Rattle.std.proofs.lemmas.List.{append_assoc, map-append}
 use Rattle.std.specs.Prelude.{Bool, true, false, ◌&&◌}
+use Rattle.es_tree.specs.CoreStaticRules.{place_in, Visit, visits, visits_in_fields, visits_in_field, visits_in_trees, Name, declared, is_lexical, is_constant}
 use Rattle.es_tree.specs.Names.{first_text}
 use Rattle.es_tree.specs.Scopes.{Declared as Declaration, declared_of, declared_in_body, declared_by, declared_names}
-use Rattle.es_tree.specs.StaticRules.{place_in, Visit, visits, visits_in_fields, visits_in_field, visits_in_trees, Name, declared, is_lexical, is_constant}
 use Rattle.es_tree.specs.Tree.{Tree, node, Label, Fields, done, ◌then◌, Field, missing, one, many, statements, Trees, empty, ◌before◌, kind_of}
 use Rattle.es_tree.specs.Walks.{all_nodes, all_in_fields, all_in_field, all_in_trees}
 use Rattle.es_tree.specs.Words.{Text}
@@ -15,7 +15,7 @@ use Rattle.es_tree.specs.declared.place.Place.TheVariants.{Other, ProgramBody, S
 use Rattle.es_runs.proofs.Declarations.{is_program_kind, binds_name, declarators, declares_names, statement, body_of, is_shaped, program_parts}
 use Rattle.es_runs.proofs.Named.{and_left, and_right}
 use Rattle.es_runs.proofs.StaticKeeps.{names_in}
-use Rattle.es_runs.proofs.Undeclaring.{may_stand, field_stands, fields_stand, trees_stand, is_formed, undeclaring}
+use Rattle.es_runs.proofs.Undeclaring.{may_stand, field_stands, fields_stand, trees_stand, is_end, is_formed, undeclaring}
 
 names_in-append : (vs us : List Visit) → names_in (vs ++ us) ≡ names_in vs ++ names_in us
 names_in-append [] us = refl
@@ -134,7 +134,7 @@ declaration_names : (l : Label) (fs : Fields) → declares_names fs ≡ true →
 declaration_names l (many ds then fs) h u =
     let kind = first_text l.texts in
     let p : Place = Declarator true (is_lexical kind) (is_constant kind) in
-    let stand = and_left (trees_stand VariableDeclaration ds && fields_stand VariableDeclaration fs) true (and_left (undeclaring VariableDeclaration l (many ds then fs)) (all_in_trees undeclaring ds && all_in_fields undeclaring fs) u) in
+    let stand = and_left (trees_stand VariableDeclaration ds && fields_stand VariableDeclaration fs) (is_end fs) (and_left (undeclaring VariableDeclaration l (many ds then fs)) (all_in_trees undeclaring ds && all_in_fields undeclaring fs) u) in
     let below = and_right (undeclaring VariableDeclaration l (many ds then fs)) (all_in_trees undeclaring ds && all_in_fields undeclaring fs) u in
     names_in-append (visits_in_trees p ds) (visits_in_fields ProgramBody VariableDeclaration l 1 fs)
     ∙ append_nothing (names_in (visits_in_trees p ds)) (names_in (visits_in_fields ProgramBody VariableDeclaration l 1 fs)) (silent_rest ProgramBody VariableDeclaration l 0 fs refl (and_right (trees_stand VariableDeclaration ds) (fields_stand VariableDeclaration fs) stand) (and_right (all_in_trees undeclaring ds) (all_in_fields undeclaring fs) below))

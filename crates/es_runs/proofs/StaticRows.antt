@@ -2,10 +2,10 @@
 use Rattle.std.proofs.Common.{◌≡◌, refl, List, [], ◌∷◌, inl, inr}
 use Rattle.std.specs.Prelude.{Bool, true, false, ◌||◌, not, bytes_eq, codes, if◌then◌else◌}
 use Rattle.std.specs.List.{list_any}
+use Rattle.es_tree.specs.CoreStaticRules.{first_place, is_bad_target, is_empty_chain, is_stray_optional, is_bad_delete, is_missing_init, is_optional, is_simple_target, target_place}
 use Rattle.es_tree.specs.HasForm.{same_type}
 use Rattle.es_tree.specs.Names.{first_text}
 use Rattle.es_tree.specs.Parens.{without_parens}
-use Rattle.es_tree.specs.StaticRules.{first_place, is_bad_target, is_empty_chain, is_stray_optional, is_bad_delete, is_missing_init, is_optional, is_simple_target, target_place}
 use Rattle.es_tree.specs.Table.{own_kinds}
 use Rattle.es_tree.specs.Tree.{Tree, node, Label, Fields, done, ◌then◌, one, trees, kind_of}
 use Rattle.es_tree.specs.Words.{Text}

@@ -3,10 +3,10 @@ use Rattle.std.proofs.Common.{◌≡◌, ℕ, suc, refl, sym, ap, ◌∙◌}
 use Rattle.std.specs.Prelude.{Bool, true, false, ◌&&◌, ◌||◌, not, bytes_eq, codes, is_some, Some}
 use Rattle.std.specs.List.{list_any}
 use Rattle.es_tree.specs.Children.{child_at}
+use Rattle.es_tree.specs.CoreStaticRules.{place_in, is_bad_target, is_simple_target, is_optional, has_optional, has_optional_in, is_empty_chain, is_stray_optional, is_private_name, is_private_member, is_kept, is_kept_within, is_bad_delete, is_name, needs_value, is_missing_init}
 use Rattle.es_tree.specs.HasForm.{same_type}
 use Rattle.es_tree.specs.Names.{first_text}
 use Rattle.es_tree.specs.Parens.{without_parens}
-use Rattle.es_tree.specs.StaticRules.{place_in, is_bad_target, is_simple_target, is_optional, has_optional, has_optional_in, is_empty_chain, is_stray_optional, is_private_name, is_private_member, is_kept, is_kept_within, is_bad_delete, is_name, needs_value, is_missing_init}
 use Rattle.es_tree.specs.Table.{own_kinds}
 use Rattle.es_tree.specs.Tree.{Tree, node, Label, Fields, done, ◌then◌, Field, missing, one, many, statements, Trees, kind_of}
 use Rattle.es_tree.specs.declared.ast_type.AstType.{AstType}

@@ -79,16 +79,23 @@ abbrev pub begins_with_one : Fields → Bool
 begins_with_one done = false
 begins_with_one (f then fs) = is_one f
 
--- the fields of nodes that write, and of those that look through
+-- one field alone
+abbrev pub is_lone : Fields → Bool
+is_lone done = false
+is_lone (f then fs) = is_end fs
+
+-- the fields of declarations, of nodes that write, and of those that look through
 abbrev pub is_formed : AstType → Fields → Bool
+is_formed VariableDeclaration fs = is_lone fs
 is_formed UpdateExpression fs = is_single fs
 is_formed ParenthesizedExpression fs = is_single fs
 is_formed ChainExpression fs = is_single fs
 is_formed AssignmentExpression fs = begins_with_one fs
 is_formed _ fs = true
 
--- A declarator stands directly in a declaration, a declaration directly in a program, and a program nowhere inside; a chain
--- holds a member or a call; and the target of a node that writes is the one child of its first field.
+-- A declarator stands directly in a declaration, a declaration directly in a program, and a program nowhere inside; a
+-- declaration has one field; a chain holds a member or a call; and the target of a node that writes is the one child of its
+-- first field.
 abbrev pub undeclaring : AstType → Label → Fields → Bool
 undeclaring k l fs = fields_stand k fs && is_formed k fs
 
@@ -166,6 +173,7 @@ made_no_chain ChainExpression e = absurd (cc e)
 made_no_chain _ e = refl
 
 made_formed : (k : AstType) (fs : Fields) → is_made_kind k ≡ true → is_formed k fs ≡ true
+made_formed VariableDeclaration fs e = absurd (cc e)
 made_formed UpdateExpression fs e = absurd (cc e)
 made_formed ParenthesizedExpression fs e = absurd (cc e)
 made_formed ChainExpression fs e = absurd (cc e)
@@ -249,11 +257,16 @@ module _ (no_all : Bool) (w : Whole) (xs : List Text) where
   begins-same (first_field r) = is_one-same r
   begins-same (later_field r) = refl
 
+  lone-same : {c : ℕ → Need} {fs gs : Fields} → OneField Row c fs gs → is_lone gs ≡ is_lone fs
+  lone-same (first_field r) = refl
+  lone-same (later_field r) = is_end-same r
+
   single-same : {c : ℕ → Need} {fs gs : Fields} → OneField Row c fs gs → is_single gs ≡ is_single fs
   single-same (first_field {fs = fs} r) = ap (λ b. b && is_end fs) (is_one-same r)
   single-same (later_field {f = f} r) = ap (λ b. is_one f && b) (is_end-same r)
 
   formed-same : (k : AstType) {c : ℕ → Need} {fs gs : Fields} → OneField Row c fs gs → is_formed k gs ≡ is_formed k fs
+  formed-same VariableDeclaration r = lone-same r
   formed-same UpdateExpression r = single-same r
   formed-same ParenthesizedExpression r = single-same r
   formed-same ChainExpression r = single-same r
