@@ -3,11 +3,8 @@ use Rattle.std.proofs.Common.{◌≡◌, ℕ, ◌==◌, ◌&&◌, ◌||◌, List
 use Rattle.std.proofs.lemmas.List.Folds.{list_any-append}
 use Rattle.std.specs.Cmp.Lexicographic.{bytes_decides}
 use Rattle.es_tree.specs.Fresh.{is_among}
-use Rattle.es_tree.specs.Scopes.{declared_of, declares}
-use Rattle.es_tree.specs.Tree.{Tree}
 use Rattle.es_tree.specs.Words.{Text}
 use Rattle.es_scope.specs.Contexts.{AddsScope, KeepsNames, MakesName, Refers, bound_of, made_of, table_of, uses_of}
-use Rattle.es_scope.specs.ScopingOf.{IsScopingOf}
 use Rattle.es_scope.specs.TableChanges.{HasBindingMore, SameBindings}
 use Rattle.es_scope.specs.Tables.{binding_in}
 use Rattle.es_scope.specs.Taken.{is_underscored}
@@ -15,16 +12,7 @@ use Rattle.es_scope.specs.declared.context.TraverseCtx.{TraverseCtx}
 use Rattle.es_scope.specs.declared.flags.ReferenceFlags.{ReferenceFlags}
 use Rattle.es_scope.specs.declared.flags.ScopeFlags.{ScopeFlags}
 use Rattle.es_scope.specs.declared.flags.SymbolFlags.{SymbolFlags}
-use Rattle.es_scope.proofs.BoundNames.{table-bound}
 use Rattle.es_scope.proofs.SteadyContexts.{unused-unbound}
-
--- before the first fresh name the bound names are those that the program declares
-pub bound-first : {S : Type 0} (p : Tree) (ctx : TraverseCtx S) → IsScopingOf p (table_of ctx) → made_of ctx ≡ [] → (x : Text) → bound_of ctx x ≡ declares (declared_of p) x
-bound-first p ctx h none x = rw (none, table-bound p (table_of ctx) h x) (at (declares (declared_of p) x))
-  where
-    at : (b : Bool) → (b && true) ≡ b
-    at true = refl
-    at false = refl
 
 -- a name that the program's scope doesn't bind is no bound one
 pub unfound-unbound : {S : Type 0} (ctx : TraverseCtx S) (x : Text) → binding_in (table_of ctx) 0 x ≡ None → bound_of ctx x ≡ false

@@ -1,9 +1,11 @@
 -- A list with one item changed, by its numbers.
-use Rattle.std.proofs.Common.{◌≡◌, ℕ, zero, suc, ◌<◌, ◌==◌, ◌&&◌, Bool, true, false, if◌then◌else◌, Option, Some, List, [], ◌∷◌, length, get_or, set, slice_get, option_map, option_and_then, bytes_eq, refl, sym, ap, ◌∙◌, arith}
+use Rattle.std.proofs.Common.{◌≡◌, ℕ, zero, suc, ◌<◌, ◌==◌, ◌&&◌, Bool, true, false, cond, if◌then◌else◌, Option, Some, List, [], ◌∷◌, ◌++◌, length, take, drop, get_or, set, slice_get, option_map, option_and_then, bytes_eq, refl, sym, ap, ◌∙◌, arith}
 use Rattle.std.proofs.lemmas.Bool.{eqb-true, eqb-false}
 use Rattle.std.proofs.lemmas.Option.{slice_get_read}
-use Rattle.es_tree.specs.Heads.{scope}
+use Rattle.std.proofs.Math.Seq.{take-append_seam}
+use Rattle.es_tree.specs.Heads.{scope, symbol}
 use Rattle.es_tree.specs.Words.{Text}
+use Rattle.es_tree.specs.declared.ids.SymbolId.{SymbolId}
 use Rattle.es_scope.specs.Bindings.{bound_in}
 use Rattle.es_scope.specs.Numbers.{numbers}
 use Rattle.es_scope.specs.Outwards.{SameShape}
@@ -54,3 +56,16 @@ bound_changed xs i c d name symbol l e h n x = at (n == i) refl where
       let before : bound_in xs n x ≡ numbers d.bindings x = ap (λ o. option_and_then (λ k. numbers k.bindings x) o) (ap (slice_get xs) here ∙ slice_get_read xs (length xs) i d refl l e) in
       ap (λ o. option_and_then (λ k. numbers k.bindings x) o) (get_changed xs i c n l here) ∙ (h x ∙ ap (λ o. if bytes_eq name x then Some symbol else o) (sym before))
   at false g = ap (λ o. option_and_then (λ k. numbers k.bindings x) o) (get_other xs i c n (eqb-false n i g))
+
+-- A PART OF A LIST WRITTEN BACK
+
+-- a vector whose slice was lent, and ended as new
+pub written_back : {X : Type 0} (new old : List X) (n : ℕ) → n ≡ length new → take n (new ++ drop (length new) old) ≡ new
+written_back new old n e = ap (λ k. take k (new ++ drop (length new) old)) e ∙ take-append_seam new (drop (length new) old)
+
+-- THE NUMBER OF A SYMBOL
+
+-- a choice of symbols, by their numbers
+pub symbol-cond : (b : Bool) (o q : Option SymbolId) → symbol (cond b o q) ≡ cond b (symbol o) (symbol q)
+symbol-cond true o q = refl
+symbol-cond false o q = refl

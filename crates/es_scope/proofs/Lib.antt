@@ -4,14 +4,8 @@ pub mod Joined
 pub mod Among
 pub mod Candidates
 pub mod Tables
-pub mod RolesAt
-pub mod MarkedLists
-pub mod DeclarationSteps
-pub mod Built
-pub mod Steady
 pub mod Lasts
 pub mod TableSteps
 pub mod ChangedItems
 pub mod SteadyContexts
-pub mod BoundNames
 pub mod BoundContexts

@@ -6,15 +6,9 @@ pub mod Bindings
 pub mod Tables
 pub mod TableChanges
 pub mod HoistScopes
-pub mod Roles
 pub mod Numbers
-pub mod SymbolFlags
-pub mod Declarations
 pub mod PlainReferences
-pub mod Bodies
 pub mod Mutations
-pub mod ProgramFlags
-pub mod ScopingOf
 pub mod Places
 pub mod Contexts
 pub mod MadeNodes

@@ -1,5 +1,5 @@
 -- What a change of a scope table keeps, and what it adds.
-use Rattle.std.specs.Prelude.{◌≡◌, ℕ, ◌+◌, ◌==◌, ◌&&◌, ◌||◌, Option, Some, bytes_eq, if◌then◌else◌}
+use Rattle.std.specs.Prelude.{◌≡◌, ℕ, ◌+◌, ◌==◌, ◌&&◌, ◌||◌, Option, Some, None, bytes_eq, if◌then◌else◌}
 use Rattle.es_tree.specs.Words.{Text}
 use Rattle.es_tree.specs.References.{Reference, writes_symbol}
 use Rattle.es_scope.specs.Tables.{scope_count, parent_of, scope_flags_of, binding_in, symbol_count, symbol_scope_of, symbol_flags_of, is_mutated, reference_count, reference_at}
@@ -35,6 +35,17 @@ pub record SameReferences (old new : Scoping) : Type 0 where
 pub record SameNames (old new : Scoping) : Type 0 where
   pub scopes : scope_count new ≡ scope_count old
   pub bindings : SameBindings old new
+
+-- WHAT A TABLE BEGINS WITH
+
+-- one scope, without parent and with these flags, which binds nothing
+pub record IsRootAlone (flags : ScopeFlags) (s : Scoping) : Type 0 where
+  pub count : scope_count s ≡ 1
+  pub parent : parent_of s 0 ≡ None
+  pub flags_are : scope_flags_of s 0 ≡ Some flags
+  pub bindings : (n : ℕ) (x : Text) → binding_in s n x ≡ None
+  pub symbols : symbol_count s ≡ 0
+  pub references : reference_count s ≡ 0
 
 -- WHAT IS ADDED
 

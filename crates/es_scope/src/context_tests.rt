@@ -4,10 +4,9 @@ ghost use Rattle.es_scope.specs.Contexts.{table_of};
 ghost use Rattle.es_scope.specs.Tables.{scope_count};
 
 use crate::ancestor::Ancestor;
-use crate::building::build_scoping;
 use crate::context::TraverseCtx;
 use crate::flags::{ReferenceFlags, ScopeFlags, SymbolFlags};
-use crate::scoping::Reference;
+use crate::scoping::{Reference, Scoping};
 use es_tree::ast_type::AstType;
 use es_tree::builder::AstBuilder;
 use es_tree::ids::{NodeId, ReferenceId, ScopeId, Span, SymbolId};
@@ -39,6 +38,17 @@ const WRITES: ReferenceFlags = ReferenceFlags {
 const READS: ReferenceFlags = ReferenceFlags {
     read: true,
     write: false,
+};
+
+const TOP: ScopeFlags = ScopeFlags {
+    function: false,
+    arrow: false,
+    top: true,
+    class_static_block: false,
+    catch_clause: false,
+    constructor: false,
+    derived: false,
+    strict: false,
 };
 
 const BLOCK: ScopeFlags = ScopeFlags {
@@ -78,13 +88,13 @@ fn context(alloc: Global) -> Result<TraverseCtx<u32>, AllocError>
         source_type: SourceType::Script,
         scope: None,
     };
-    let mut program = Node {
+    let program = Node {
         id: NodeId(0),
         span: NOWHERE,
         kind,
         fields: Vec::new(alloc),
     };
-    let scoping = build_scoping(alloc, &mut program)?;
+    let scoping = Scoping::with_root(alloc, TOP)?;
     let ast = AstBuilder::new(alloc, 10);
     let ctx = TraverseCtx::new(alloc, scoping, &program, 7, ast, no_options(alloc)?)?;
     Ok(ctx)

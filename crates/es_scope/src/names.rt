@@ -106,7 +106,8 @@ fn is_name_place(kind: &Kind, index: usize) -> bool
     }
 }
 
-pub(crate) fn is_first_name(kind: &Kind) -> bool
+/// Whether an identifier that stands in the first field of a node of this kind is a name.
+pub fn is_first_name(kind: &Kind) -> bool
     ensures { (id : NodeId) (span : Span) → result ≡ is_name_place (head_of kind.now).kind (label id span (head_of kind.now)) 0 }
 {
     match kind {
@@ -124,7 +125,8 @@ pub(crate) fn is_first_name(kind: &Kind) -> bool
     }
 }
 
-pub(crate) fn is_second_name(kind: &Kind) -> bool
+/// Whether an identifier that stands in the second field of a node of this kind is a name.
+pub fn is_second_name(kind: &Kind) -> bool
     ensures { (id : NodeId) (span : Span) → result ≡ is_name_place (head_of kind.now).kind (label id span (head_of kind.now)) 1 }
 {
     match kind {

@@ -20,19 +20,21 @@ pub struct Reference {
     pub flags: ReferenceFlags,
 }
 
+/// A scope: the one around it, its flags, and the numbers of the symbols that it binds, by name.
 #[derive(Drop)]
-pub(crate) struct Scope {
-    pub(crate) parent: Option<ScopeId>,
-    pub(crate) flags: ScopeFlags,
-    pub(crate) bindings: HashMap<String, SymbolId>,
+pub struct Scope {
+    pub parent: Option<ScopeId>,
+    pub flags: ScopeFlags,
+    pub bindings: HashMap<String, SymbolId>,
 }
 
+/// A bound name: the scope in which it is bound, and its flags.
 #[derive(Clone, Copy)]
-pub(crate) struct Symbol {
-    pub(crate) scope: ScopeId,
-    pub(crate) flags: SymbolFlags,
+pub struct Symbol {
+    pub scope: ScopeId,
+    pub flags: SymbolFlags,
     /// Whether a reference writes it.
-    pub(crate) mutated: bool,
+    pub mutated: bool,
 }
 
 /// The scope table of a program.
@@ -50,12 +52,8 @@ impl Scoping {
     ghost use Rattle.es_scope.specs.HoistScopes.{HoistsTo, is_hoist_scope};
     ghost use Rattle.es_scope.specs.Tables.{Finds, binding_in, is_mutated, parent_of, reference_at, reference_count, scope_count, scope_flags_of, symbol_count, symbol_flags_of, symbol_scope_of};
 
-    /// The table of these scopes, symbols and references.
-    pub(crate) fn new(
-        scopes: Vec<Scope>,
-        symbols: Vec<Symbol>,
-        references: Vec<Reference>,
-    ) -> Scoping
+    /// The table of these scopes, symbols and references. The first scope is the program's.
+    pub fn new(scopes: Vec<Scope>, symbols: Vec<Symbol>, references: Vec<Reference>) -> Scoping
         requires outwards { AreOutwards scopes }
         requires bound { AreBound scopes symbols }
         requires rooted { 0 < vec_len scopes }

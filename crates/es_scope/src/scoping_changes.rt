@@ -1,15 +1,16 @@
 //! The calls that add to a scope table. Each answers an error only for want of memory, or of numbers.
-ghost use Rattle.std.specs.Prelude.{◌≡◌, ℕ, ◌<◌, ◌==◌, ◌&&◌, bytes_eq, length, if◌then◌else◌, Some, IfOk, OnErr, OnOk, string_bytes};
+ghost use Rattle.std.specs.Prelude.{◌≡◌, ℕ, ◌<◌, ◌==◌, ◌&&◌, bytes_eq, length, if◌then◌else◌, Some, IfOk, OnErr, OnOk, option_map, slice_get, string_bytes};
 ghost use Rattle.std.specs.Option.{ForSome};
+ghost use Rattle.es_tree.specs.References.{writes_symbol};
 ghost use Rattle.es_tree.specs.Words.{Text};
 ghost use Rattle.es_scope.specs.Bindings.{bound_in};
-ghost use Rattle.es_scope.specs.Outwards.{SameShape};
+ghost use Rattle.es_scope.specs.Mutations.{mutated_by};
 ghost use Rattle.es_scope.specs.Numbers.{numbers};
+ghost use Rattle.es_scope.specs.Outwards.{SameShape};
 ghost use Rattle.es_scope.specs.PlainReferences.{plain_reference};
-ghost use Rattle.es_scope.specs.TableChanges.{HasBindingMore, HasReferenceMore, HasScopeMore, SameNames};
+ghost use Rattle.es_scope.specs.TableChanges.{HasBindingMore, HasReferenceMore, HasScopeMore, IsRootAlone, SameNames};
 ghost use Rattle.es_scope.specs.Tables.{reference_count, scope_count, symbol_count};
 
-use crate::building::mutate;
 use crate::flags::{ScopeFlags, SymbolFlags};
 use crate::scoping::{Reference, Scope, Scoping, Symbol};
 use es_tree::ids::{ReferenceId, ScopeId, SymbolId};
@@ -17,8 +18,21 @@ use std::alloc::{AllocError, Global};
 use std::collections::HashMap;
 
 impl Scoping {
+    /// The table of one scope, that of a program, which binds nothing.
+    pub fn with_root(alloc: Global, flags: ScopeFlags) -> Result<Scoping, AllocError>
+        ensures { IfOk result (IsRootAlone flags) }
+    {
+        let root = Scope {
+            parent: None,
+            flags,
+            bindings: HashMap::new(alloc),
+        };
+        let scopes = Vec::from_array(alloc, [root])?;
+        Ok(Scoping::new(scopes, Vec::new(alloc), Vec::new(alloc)))
+    }
+
     /// Adds a scope that binds nothing.
-    pub(crate) fn add_scope(
+    pub fn add_scope(
         &mut self,
         alloc: Global,
         parent: ScopeId,
@@ -41,7 +55,7 @@ impl Scoping {
     }
 
     /// Adds a symbol, and binds it to this name in this scope.
-    pub(crate) fn add_binding(
+    pub fn add_binding(
         &mut self,
         scope: ScopeId,
         name: String,
@@ -65,7 +79,7 @@ impl Scoping {
     }
 
     /// Adds a reference. One that writes makes its symbol mutated.
-    pub(crate) fn add_reference(&mut self, reference: Reference) -> Result<ReferenceId, AllocError>
+    pub fn add_reference(&mut self, reference: Reference) -> Result<ReferenceId, AllocError>
         requires { ForSome reference.symbol (λ s. s.0 < symbol_count self.old) }
         ensures number { IfOk result (λ id. id.0 ≡ reference_count self.old) }
         ensures added { OnOk result (HasReferenceMore self.old self.new (plain_reference reference)) }
@@ -108,4 +122,19 @@ fn bind(
 {
     bindings.insert(name, symbol)?;
     Ok(())
+}
+
+/// Notes the symbol that a reference writes, if it writes one.
+pub fn mutate(symbols: &mut [Symbol], reference: Reference)
+    ensures { (n : ℕ) → slice_get symbols.new n ≡ option_map (mutated_by (writes_symbol n (plain_reference reference))) (slice_get symbols.old n) }
+{
+    if !reference.flags.write {
+        return;
+    }
+    if let Some(symbol_id) = reference.symbol {
+        let index = symbol_id.0 as usize;
+        if index < symbols.len() {
+            symbols[index].mutated = true;
+        }
+    }
 }

@@ -1,7 +1,7 @@
 use Rattle.std.proofs.Common.{Some, string_bytes, ap, ◌∙◌, bytes_eq}
 use Rattle.std.proofs.lemmas.Map.Text.{hash_map_updates_text}
 use Rattle.es_tree.specs.Heads.{symbol}
-use Rattle.es_scope.proofs.DeclarationSteps.{symbol-cond}
+use Rattle.es_scope.proofs.ChangedItems.{symbol-cond}
 use Rattle.es_scope.proofs.scoping_changes.bind.Goals as goal
 
 pub returns-clause-bound : goal.returns-clause-bound

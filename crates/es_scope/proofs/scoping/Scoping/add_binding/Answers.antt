@@ -1,6 +1,6 @@
 use Rattle.std.proofs.Common.{◌≡◌, ◌==◌, ◌&&◌, Some, bytes_eq, if◌then◌else◌, length, refl, ap, ◌∙◌, false, string_bytes, arith}
 use Rattle.es_scope.specs.Bindings.{bound_in}
-use Rattle.es_scope.proofs.MarkedLists.{written_back}
+use Rattle.es_scope.proofs.ChangedItems.{written_back}
 use Rattle.es_scope.proofs.TableSteps.{binding_more}
 use Rattle.es_scope.proofs.scoping.Scoping.add_binding.Goals as goal
 

@@ -1,0 +1,12 @@
+pub mod SymbolFlags
+pub mod ProgramFlags
+pub mod ScopingOf
+pub mod RolesOf
+pub mod Places
+pub mod ScopesOf
+pub mod SymbolsOf
+pub mod ReferencesOf
+pub mod TableOf
+pub mod Walks
+pub mod Referring
+pub mod FieldPlaces
