@@ -2,8 +2,3 @@ pub mod Anys
 pub mod FieldsAt
 pub mod Firsts
 pub mod Sums
-pub mod OwnKinds
-pub mod Spines
-pub mod NamesKnown
-pub mod Walks
-pub mod Visited

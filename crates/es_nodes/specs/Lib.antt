@@ -1,2 +1,1 @@
 pub mod MaybeFields
-pub mod Checks

@@ -1,12 +1,9 @@
-//! Questions about a whole tree: its size, its constructs, whether it is core, and its static rules.
+//! Questions about a whole tree: its size, its constructs, and whether it is core.
 #![tactic(auto)]
 
 pub mod construct;
 pub mod core_grammar;
 pub mod count;
-mod fields;
-mod places;
-mod rules;
-pub mod static_rules;
+pub mod fields;
 #[cfg(test)]
 mod tests;

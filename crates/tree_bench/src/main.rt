@@ -9,7 +9,7 @@
 use es_json::program::read_program;
 use es_json::writer::program_text;
 use es_nodes::count::count_nodes;
-use es_nodes::static_rules::check_static;
+use es_static_rules::static_rules::check_static;
 use es_tree::error::LowerError;
 use serde_json::Value;
 use std::alloc::{AllocError, Global};

@@ -1,0 +1,11 @@
+pub mod OwnKinds
+pub mod Spines
+pub mod Outward
+pub mod Labels
+pub mod Accessors
+pub mod Bindings
+pub mod NamesKnown
+pub mod PrivateNames
+pub mod FirstBroken
+pub mod Walks
+pub mod Programs

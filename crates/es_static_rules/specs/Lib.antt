@@ -1,0 +1,4 @@
+pub mod Outward
+pub mod Parts
+pub mod Bindings
+pub mod Checks
