@@ -1,16 +1,22 @@
 -- What a lowering leaves that replaced a node by a row, or made a step below it.
-use Rattle.std.specs.Prelude.{ℕ, ◌+◌, ◌*◌, ◌≤◌, List, length}
-use Rattle.es_tree.specs.Tree.{Tree, tree_size}
+use Rattle.std.specs.Prelude.{ℕ, ◌+◌, ◌*◌, ◌≤◌, List, [], length}
+use Rattle.es_tree.specs.Tree.{Tree, Label, tree_size}
 use Rattle.es_tree.specs.Words.{Text}
+use Rattle.es_tree.specs.declared.ids.Span.{Span}
 use Rattle.es_scope.specs.declared.context.TraverseCtx.{TraverseCtx}
 use Rattle.es_runs.specs.Alike.{Need}
 use Rattle.es_runs.specs.Open.{Pending, opened, with_vars}
 use Rattle.es_runs.specs.OpenRules.{with_names}
 use Rattle.es_runs.specs.OpenSteps.{Ledger, Spot, Step, Whole, ledger}
+use Rattle.es_runs.specs.Runs.{made}
 use Rattle.es_runs.specs.Weights.{weight}
 use Rattle.es_visit.specs.Moments.{whole_at}
 use Rattle.lower_common.specs.Takings.{Takes, moment_of}
 use Rattle.lower_common.specs.declared.state.TransformState.{TransformState}
+
+-- the label of a made node with this span
+abbrev pub at_span : Span → Label
+at_span s = record (made [] []) { start = s.start; stop = s.end }
 
 -- A node became another by the row, where its place takes of it what fits, with the temporaries declared in the innermost
 -- list. Each node more has an id of its own, and the weight doesn't rise.

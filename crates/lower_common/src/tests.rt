@@ -4,9 +4,10 @@ ghost use Rattle.std.specs.Prelude.{◌≡◌, ◌+◌, ◌<◌, ◌^◌, IfOk, 
 use crate::declarations::VarDeclarationsStore;
 use crate::state::TransformState;
 use es_expressions::literals::new_numeric_literal;
-use es_scope::building::build_scoping;
 use es_scope::context::TraverseCtx;
 use es_scope::context_names::BoundIdentifier;
+use es_scope::flags::ScopeFlags;
+use es_scope::scoping::Scoping;
 use es_statements::program::VariableDeclarator;
 use es_tree::builder::AstBuilder;
 use es_tree::ids::{NodeId, Span, SymbolId};
@@ -163,6 +164,18 @@ fn no_options(alloc: Global) -> Result<EnvOptions, AllocError> {
     })
 }
 
+/// The flags of the scope of a script.
+const TOP: ScopeFlags = ScopeFlags {
+    function: false,
+    arrow: false,
+    top: true,
+    class_static_block: false,
+    catch_clause: false,
+    constructor: false,
+    derived: false,
+    strict: false,
+};
+
 /// The context of an empty script.
 pub(crate) fn context(alloc: Global) -> Result<TraverseCtx<TransformState>, AllocError>
     ensures there { IfOk result (λ ctx. length ctx.state.var_declarations ≡ 1) }
@@ -172,7 +185,7 @@ pub(crate) fn context(alloc: Global) -> Result<TraverseCtx<TransformState>, Allo
         source_type: SourceType::Script,
         scope: None,
     };
-    let mut program = Node {
+    let program = Node {
         id: NodeId(0),
         span: NOWHERE,
         kind,
@@ -180,7 +193,7 @@ pub(crate) fn context(alloc: Global) -> Result<TraverseCtx<TransformState>, Allo
     };
     let options = no_options(alloc)?;
     let state = TransformState::new(alloc, SourceType::Script, &options)?;
-    let scoping = build_scoping(alloc, &mut program)?;
+    let scoping = Scoping::with_root(alloc, TOP)?;
     let ast = AstBuilder::new(alloc, 10);
     let ctx = TraverseCtx::new(alloc, scoping, &program, state, ast, options)?;
     Ok(ctx)

@@ -26,7 +26,8 @@ use Rattle.es_runs.specs.Weights.{weight}
 use Rattle.lower_common.proofs.Takings.{takes_reads, takes_trans}
 use Rattle.lower_common.specs.declared.state.TransformState.{TransformState}
 use Rattle.lower_optional_chaining.specs.Chains.{LowersChain, LowersDelete}
-use Rattle.lower_optional_chaining.specs.Parts.{Chooses, ChoosesCallee, ChoosesDeleted, ChoosesValue, at_span, is_delete}
+use Rattle.lower_common.specs.Replacings.{at_span}
+use Rattle.lower_optional_chaining.specs.Parts.{Chooses, ChoosesCallee, ChoosesDeleted, ChoosesValue, is_delete}
 use Rattle.lower_optional_chaining.specs.Ways.{BindsTo, IsWay, WalksTo, held_name}
 use Rattle.lower_optional_chaining.specs.declared.way.Way.{Way as CodeWay}
 use Rattle.lower_common.proofs.Parenthesized.{without_parens-bare}

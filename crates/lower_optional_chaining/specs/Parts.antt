@@ -1,24 +1,20 @@
 -- The parts of chains and of what is done to them, as the code takes them apart, and what it makes of them.
-use Rattle.std.specs.Prelude.{◌≡◌, ◌&&◌, ◌+◌, Bool, true, false, not, [], length, map, bytes_eq, codes}
+use Rattle.std.specs.Prelude.{◌≡◌, ◌&&◌, ◌+◌, Bool, true, false, not, length, map, bytes_eq, codes}
 use Rattle.es_tree.specs.Bare.{bare}
 use Rattle.es_tree.specs.Names.{first_text}
-use Rattle.es_tree.specs.Tree.{Tree, node, Label, Fields, done, ◌then◌, one, many}
+use Rattle.es_tree.specs.Tree.{Tree, node, Fields, done, ◌then◌, one, many}
 use Rattle.es_tree.specs.declared.ast_type.AstType.TheVariants.{CallExpression, ChainExpression, ParenthesizedExpression, UnaryExpression}
 use Rattle.es_tree.specs.declared.ids.Span.{Span}
 use Rattle.es_scope.specs.declared.context.TraverseCtx.{TraverseCtx}
 use Rattle.es_runs.specs.Core.{flag}
 use Rattle.es_runs.specs.OptionalChaining.{delete_node, has_tests, true_node, where_short}
 use Rattle.es_runs.specs.Rules.{void_zero_node}
-use Rattle.es_runs.specs.Runs.{made}
+use Rattle.lower_common.specs.Replacings.{at_span}
 use Rattle.lower_common.specs.Takings.{ReadsMore}
 use Rattle.lower_common.specs.declared.state.TransformState.{TransformState}
 use Rattle.lower_optional_chaining.specs.Chains.{has_chain}
 use Rattle.lower_optional_chaining.specs.Ways.{BindsTo, held_name}
 use Rattle.lower_optional_chaining.specs.declared.way.Way.{Way as CodeWay}
-
--- the label of a made node with this span
-abbrev pub at_span : Span → Label
-at_span s = record (made [] []) { start = s.start; stop = s.end }
 
 -- one child, and no more
 abbrev pub is_single : Fields → Bool

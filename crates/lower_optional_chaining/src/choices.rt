@@ -2,7 +2,8 @@
 ghost use Rattle.std.specs.Prelude.{◌≡◌, ◌+◌, ◌-◌, ◌^◌, ◌<◌, IfErr, IfOk, length, map, true};
 ghost use Rattle.es_tree.specs.Bare.{bare};
 ghost use Rattle.es_runs.specs.OptionalChaining.{has_tests, joined_by_or, where_short};
-ghost use Rattle.lower_optional_chaining.specs.Parts.{ChoosesCallee, ChoosesDeleted, ChoosesValue, at_span};
+ghost use Rattle.lower_common.specs.Replacings.{at_span};
+ghost use Rattle.lower_optional_chaining.specs.Parts.{ChoosesCallee, ChoosesDeleted, ChoosesValue};
 
 use crate::receivers::bind_callee;
 use crate::way::Way;

@@ -1,4 +1,4 @@
-use Rattle.std.proofs.Common.{◌∙◌, ap, string_bytes}
+use Rattle.std.proofs.Common.{◌∙◌, ap}
 use Rattle.es_tree.specs.Bare.{bare}
 use Rattle.es_runs.specs.Runs.{identifier}
 use Rattle.lower_common.proofs.Takings.{reads_none, takes_one, writes_one}

@@ -2,7 +2,7 @@ use Rattle.std.proofs.Common.{◌∙◌, refl, ap, arith, map}
 use Rattle.es_tree.specs.Bare.{bare}
 use Rattle.es_tree.specs.Tree.{Tree}
 use Rattle.es_runs.specs.OptionalChaining.{where_short}
-use Rattle.lower_optional_chaining.specs.Parts.{at_span}
+use Rattle.lower_common.specs.Replacings.{at_span}
 use Rattle.lower_optional_chaining.proofs.Bound.{few_ids}
 use Rattle.lower_optional_chaining.proofs.choices.choose_callee.Goals as goal
 
