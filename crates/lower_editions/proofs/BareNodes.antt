@@ -5,9 +5,9 @@ use Rattle.es_tree.specs.Bare.{bare, bare_fields, bare_label}
 use Rattle.es_tree.specs.Constructs.{is_big_int, is_nullish_coalescing}
 use Rattle.es_tree.specs.Names.{first_text}
 use Rattle.es_tree.specs.Parens.{without_parens}
-use Rattle.es_tree.specs.Tree.{Tree, node, Label, Fields, done, ◌then◌, missing, one, many, statements, kind_of}
+use Rattle.es_tree.specs.Tree.{Tree, node, Label, Fields, done, ◌then◌, one, kind_of}
 use Rattle.es_tree.specs.declared.ast_type.AstType.{AstType}
-use Rattle.es_tree.specs.declared.ast_type.AstType.TheVariants.{AssignmentExpression, BinaryExpression, Identifier, LogicalExpression, MemberExpression, ParenthesizedExpression, PrivateIdentifier, ThisExpression}
+use Rattle.es_tree.specs.declared.ast_type.AstType.TheVariants.{AssignmentExpression, BinaryExpression, Identifier, LogicalExpression, MemberExpression, PrivateIdentifier, ThisExpression}
 use Rattle.es_runs.specs.Doubling.{has_no_fields}
 use Rattle.es_runs.specs.LogicalAssignment.{is_assigning}
 use Rattle.es_visit.specs.Laws.{is_row}

@@ -29,11 +29,11 @@ use Rattle.es_visit.specs.Laws.{Entered, KeepsSort, is_row}
 use Rattle.lower_common.proofs.BareBases.{node_base-bare}
 use Rattle.lower_common.proofs.Replaced.{entered_alone, entered_replaced}
 use Rattle.lower_common.proofs.Takings.{takes_none}
-use Rattle.lower_common.specs.Replacings.{Replaces}
+use Rattle.lower_common.specs.Replacings.{Replaces, at_span}
 use Rattle.lower_common.specs.Takings.{ReadsMore, moment_of}
 use Rattle.lower_common.specs.declared.state.TransformState.{TransformState}
 use Rattle.lower_editions.proofs.BareNodes.{coalescing-bare, row-bare}
-use Rattle.lower_editions.specs.Coalescings.{at_span, is_leaf_where_read, is_lowerable_coalescing}
+use Rattle.lower_editions.specs.Coalescings.{is_leaf_where_read, is_lowerable_coalescing}
 use Rattle.lower_editions.specs.Profiles.{coalescing_profile}
 use Rattle.lower_editions.specs.Takings.{ByTemporary}
 

@@ -11,3 +11,4 @@ pub mod PowerRows
 pub mod PowerHook
 pub mod WellMade
 pub mod NoneLeft
+pub mod Collected

@@ -7,9 +7,10 @@ use Rattle.es_tree.proofs.KeptRules.{keep-none}
 use Rattle.es_tree.specs.Bare.{bare}
 use Rattle.es_tree.specs.Constructs.{is_big_int, is_nullish_coalescing, is_logical_assignment, is_exponentiation, is_private_target}
 use Rattle.es_tree.specs.Core.{IsCoreProgram}
+use Rattle.es_tree.specs.CoreStaticRules.{place_in, visits, is_bad_target, is_optional, is_simple_target, is_stray_optional, target_place}
 use Rattle.es_tree.specs.Names.{first_text, flag_at}
 use Rattle.es_tree.specs.Parens.{without_parens}
-use Rattle.es_tree.specs.StaticRules.{place_in, visits, breaks, is_bad_target, is_optional, is_simple_target, is_stray_optional, target_place}
+use Rattle.es_tree.specs.StaticRules.{breaks}
 use Rattle.es_tree.specs.Tree.{Tree, node, Label, Fields, done, ◌then◌, Field, missing, one, many, statements, Trees, empty, ◌before◌, kind_of, label_of}
 use Rattle.es_tree.specs.Walks.{all_nodes, all_in_fields, all_in_field, all_in_trees, any_node, any_in_fields, any_in_field, any_in_trees}
 use Rattle.es_tree.specs.Words.{Text}
@@ -26,7 +27,7 @@ use Rattle.es_runs.proofs.Named.{and_left, and_right, or_both, or_first, or_seco
 use Rattle.es_runs.proofs.BareTrees.{all-bare}
 use Rattle.es_runs.proofs.StaticBare.{bare_keeps}
 use Rattle.es_runs.proofs.StaticKeeps.{Keeps, KeepsFields, KeepsField, KeepsTrees, each_own, visits_keep}
-use Rattle.es_runs.proofs.StaticLaws.{law_reached_rules_proof}
+use Rattle.es_runs.proofs.StaticLaws.{reached_breaks}
 use Rattle.es_runs.proofs.Temporary.{bytes_eq-equal}
 use Rattle.lower_editions.specs.Assignings.{has_doubled_key, is_doubled_target, is_lowerable_assignment}
 use Rattle.lower_editions.specs.Coalescings.{is_leaf_where_read, is_lowerable_coalescing}
@@ -183,13 +184,13 @@ mutual
 -- whatever is reached from a core program that keeps the static rules
 pub settled_reached : (no_all : Bool) (p q : Tree) (names : List Text) → IsCoreProgram p → breaks p ≡ [] → Reached (CoreRule no_all) p names q → all_nodes is_settled q ≡ true
 settled_reached no_all p q names is kept reached =
-    let rules = keep-none [] (visits Other q) (law_reached_rules_proof no_all p q names is kept reached) in
+    let rules = keep-none [] (visits Other q) (reached_breaks no_all p q names is kept reached) in
     kept_settled Other q (reached_shaped no_all p q names is reached) (visits_keep Other q (each_own [] (visits Other q) rules))
 
 -- the same without its ids and marks
 pub bare_settled : (no_all : Bool) (p q : Tree) (names : List Text) → IsCoreProgram p → breaks p ≡ [] → Reached (CoreRule no_all) p names q → all_nodes is_settled (bare q) ≡ true
 bare_settled no_all p q names is kept reached =
-    let rules = bare_keeps q (law_reached_rules_proof no_all p q names is kept reached) in
+    let rules = bare_keeps q (reached_breaks no_all p q names is kept reached) in
     kept_settled Other (bare q) (all-bare is_shaped shaped-bare q ∙ reached_shaped no_all p q names is reached) (visits_keep Other (bare q) (each_own [] (visits Other (bare q)) rules))
 
 -- NONE IS LEFT

@@ -25,12 +25,13 @@ use Rattle.es_visit.specs.Laws.{Entered, KeepsSort, is_row}
 use Rattle.es_visit.specs.Moments.{ledger_at, whole_at}
 use Rattle.es_visit.specs.Refusals.{RefusedTree, SomeNode}
 use Rattle.lower_common.proofs.Replaced.{entered_alone, entered_replaced}
+use Rattle.lower_common.specs.BoundNames.{binds_name}
 use Rattle.lower_common.specs.Replacings.{Replaces}
 use Rattle.lower_common.specs.Takings.{moment_of}
 use Rattle.lower_common.specs.declared.state.TransformState.{TransformState}
 use Rattle.lower_editions.proofs.BareNodes.{power-bare, row-bare}
 use Rattle.lower_editions.proofs.PowerTargets.{scope_bound}
-use Rattle.lower_editions.specs.PowerTargets.{binds_name, bound_at}
+use Rattle.lower_editions.specs.PowerTargets.{bound_at}
 use Rattle.lower_editions.specs.Powers.{is_lowerable_power, is_power_made}
 use Rattle.lower_editions.specs.Profiles.{raising_profile}
 

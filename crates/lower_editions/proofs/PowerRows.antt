@@ -28,13 +28,12 @@ use Rattle.es_visit.specs.Moments.{whole_at}
 use Rattle.es_runs.proofs.ChainWeights.{stripped_size, stripped_weight}
 use Rattle.lower_common.proofs.StoreLemmas.{bare_trees-trees}
 use Rattle.lower_common.proofs.Takings.{takes_none, takes_reads}
-use Rattle.lower_common.specs.Replacings.{Replaces}
+use Rattle.lower_common.specs.Replacings.{Replaces, at_span}
 use Rattle.lower_common.specs.Takings.{ReadsMore, moment_of}
 use Rattle.lower_common.specs.declared.state.TransformState.{TransformState}
 use Rattle.lower_common.proofs.Parenthesized.{without_parens-bare}
 use Rattle.lower_editions.proofs.PowerBare.{kind-bare}
 use Rattle.lower_editions.proofs.PowerTargets.{trees_size-append, trees_weight-append}
-use Rattle.lower_editions.specs.Coalescings.{at_span}
 use Rattle.lower_editions.specs.PowerTargets.{UsedTwice, bound_at, nodes_around}
 use Rattle.lower_editions.specs.Powers.{is_lowerable_power, is_power_target}
 

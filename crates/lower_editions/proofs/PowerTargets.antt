@@ -23,12 +23,13 @@ use Rattle.es_runs.specs.Steps.{also_all}
 use Rattle.es_runs.specs.Weights.{trees_weight, weight}
 use Rattle.lower_common.proofs.BareBases.{node_base-bare}
 use Rattle.lower_common.proofs.Takings.{takes_none, takes_one, takes_reads, takes_trans, writes_one}
+use Rattle.lower_common.specs.BoundNames.{binds_name}
 use Rattle.lower_common.specs.Takings.{ReadsMore, Takes, moment_of, writing}
 use Rattle.lower_common.specs.UidVars.{DeclaresVar}
 use Rattle.lower_common.specs.declared.state.TransformState.{TransformState}
 use Rattle.lower_editions.proofs.PowerBare.{literal_key-bare}
 use Rattle.lower_editions.specs.PowerParts.{is_evaluated_key, is_expression_key, is_name}
-use Rattle.lower_editions.specs.PowerTargets.{AssignsTemporary, InTemporary, KeyTwice, UsedTwice, binds_name, bound_at, held_names, names_that_stay}
+use Rattle.lower_editions.specs.PowerTargets.{AssignsTemporary, InTemporary, KeyTwice, UsedTwice, bound_at, held_names, names_that_stay}
 use Rattle.lower_editions.specs.PowerTargets.KeyTwice.{named_key, private_key, written_again, by_temporary}
 use Rattle.lower_editions.specs.Powers.{has_power_key}
 

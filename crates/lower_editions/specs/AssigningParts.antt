@@ -14,7 +14,7 @@ use Rattle.es_runs.specs.Weights.{weight}
 use Rattle.lower_common.specs.Takings.{Takes, moment_of}
 use Rattle.lower_common.specs.declared.state.TransformState.{TransformState}
 use Rattle.lower_editions.specs.Assignings.{has_doubled_key, is_doubled_target}
-use Rattle.lower_editions.specs.Coalescings.{at_span}
+use Rattle.lower_common.specs.Replacings.{at_span}
 use Rattle.lower_editions.specs.Stable.{on_two}
 
 -- a name

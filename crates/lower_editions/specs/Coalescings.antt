@@ -1,16 +1,10 @@
 -- The `??` that are lowered (ECMA-262, 13.13), and what their lowering makes.
-use Rattle.std.specs.Prelude.{Bool, true, false, ◌&&◌, []}
+use Rattle.std.specs.Prelude.{Bool, true, false, ◌&&◌}
 use Rattle.es_tree.specs.Constructs.{is_nullish_coalescing}
 use Rattle.es_tree.specs.Tree.{Tree, node, Label, Fields, done, ◌then◌, one}
 use Rattle.es_tree.specs.declared.ast_type.AstType.{AstType}
 use Rattle.es_tree.specs.declared.ast_type.AstType.TheVariants.{Identifier, ThisExpression, ConditionalExpression}
-use Rattle.es_tree.specs.declared.ids.Span.{Span}
 use Rattle.es_runs.specs.Doubling.{has_no_fields}
-use Rattle.es_runs.specs.Runs.{made}
-
--- the label of a made node with this span
-abbrev pub at_span : Span → Label
-at_span s = record (made [] []) { start = s.start; stop = s.end }
 
 -- whether a node has no fields, where it is a name or `this`
 abbrev pub is_leaf_where_read : Tree → Bool

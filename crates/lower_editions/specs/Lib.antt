@@ -10,3 +10,4 @@ pub mod Lawful
 pub mod PowerParts
 pub mod PowerTargets
 pub mod Editions
+pub mod Warnings

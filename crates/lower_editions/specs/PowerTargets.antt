@@ -1,5 +1,5 @@
 -- A target that is read and then written, as it is taken apart: what goes in front, what is written, and what is read.
-use Rattle.std.specs.Prelude.{◌≡◌, ℕ, ◌+◌, ◌*◌, ◌<◌, ◌≤◌, Bool, true, false, List, [], ◌∷◌, length, map, is_some, string_bytes}
+use Rattle.std.specs.Prelude.{◌≡◌, ℕ, ◌+◌, ◌*◌, ◌<◌, ◌≤◌, Bool, true, false, List, [], ◌∷◌, length, map, string_bytes}
 use Rattle.es_tree.specs.Bare.{bare}
 use Rattle.es_tree.specs.Fresh.{IsFreshName, node_base}
 use Rattle.es_tree.specs.Names.{first_text}
@@ -7,7 +7,7 @@ use Rattle.es_tree.specs.Tree.{Tree, node, Label, done, tree_size, trees, trees_
 use Rattle.es_tree.specs.Words.{Text}
 use Rattle.es_tree.specs.declared.ast_type.AstType.TheVariants.{Identifier, PrivateIdentifier}
 use Rattle.es_scope.specs.Contexts.{table_of, uses_of}
-use Rattle.es_scope.specs.Tables.{binding_in, symbol_count}
+use Rattle.es_scope.specs.Tables.{symbol_count}
 use Rattle.es_scope.specs.declared.context.TraverseCtx.{TraverseCtx}
 use Rattle.es_scope.specs.declared.context_names.BoundIdentifier.{BoundIdentifier}
 use Rattle.es_runs.specs.Exponentiation.{Holds, TargetTwice, is_literal_key, no_name, string_node}
@@ -16,16 +16,13 @@ use Rattle.es_runs.specs.Rules.{assign_node}
 use Rattle.es_runs.specs.Runs.{identifier}
 use Rattle.es_runs.specs.Weights.{trees_weight, weight}
 use Rattle.es_visit.specs.Moments.{whole_at}
+use Rattle.lower_common.specs.BoundNames.{binds_name}
 use Rattle.lower_common.specs.Takings.{Takes, moment_of}
 use Rattle.lower_common.specs.declared.state.TransformState.{TransformState}
 use Rattle.lower_editions.specs.PowerParts.{is_evaluated_key, is_expression_key}
 use Rattle.lower_editions.specs.declared.power_targets.Twice.{Twice}
 
 -- NAMES
-
--- the names that the program's scope binds
-abbrev pub binds_name : {S : Type 0} → TraverseCtx S → Text → Bool
-binds_name ctx x = is_some (binding_in (table_of ctx) 0 x)
 
 -- these, or none
 abbrev pub names_that_stay : {S : Type 0} → Bool → TraverseCtx S → Text → Bool

@@ -10,7 +10,7 @@ use Rattle.es_scope.specs.declared.context.TraverseCtx.{TraverseCtx}
 use Rattle.es_runs.specs.Rules.{tested_by}
 use Rattle.lower_common.specs.Takings.{Takes, moment_of}
 use Rattle.lower_common.specs.declared.state.TransformState.{TransformState}
-use Rattle.lower_editions.specs.Coalescings.{at_span}
+use Rattle.lower_common.specs.Replacings.{at_span}
 
 -- A `??` became a conditional by the temporary of this name.
 pub record ByTemporary (old new : TraverseCtx TransformState) (span : Span) (left right made : Tree) : Type 0 where

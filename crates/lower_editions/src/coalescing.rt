@@ -12,9 +12,9 @@ ghost use Rattle.es_runs.specs.Rules.{tested, tested_by};
 ghost use Rattle.es_runs.specs.Steps.{reads_again};
 ghost use Rattle.es_runs.specs.Weights.{weight};
 ghost use Rattle.es_visit.specs.Moments.{HasRoom};
-ghost use Rattle.lower_common.specs.Replacings.{Replaces};
+ghost use Rattle.lower_common.specs.Replacings.{Replaces, at_span};
 ghost use Rattle.lower_common.specs.Takings.{ReadsMore, WritesOnce, moment_of};
-ghost use Rattle.lower_editions.specs.Coalescings.{at_span, has_sides, is_leaf_where_read, is_lowerable_coalescing};
+ghost use Rattle.lower_editions.specs.Coalescings.{has_sides, is_leaf_where_read, is_lowerable_coalescing};
 ghost use Rattle.lower_editions.specs.Takings.{ByTemporary};
 
 use crate::made_nodes::new_tested;

@@ -23,7 +23,6 @@ ghost use Rattle.std.specs.Prelude.{◌≡◌, false, true};
 ghost use Rattle.lower_editions.specs.Lawful.{raising_lawful};
 ghost use Rattle.lower_editions.specs.Profiles.{raising_profile};
 
-use crate::power_targets::binds_name;
 use crate::power_tests::is_lowerable;
 use crate::powers::lower_power;
 use es_scope::context::TraverseCtx;
@@ -33,6 +32,7 @@ use es_visit::hook::Hook;
 use es_visit::lowering::Lowering;
 use es_visit::traverse::Traverse;
 use lower_common::made_nodes::new_placeholder;
+use lower_common::readings::is_bound;
 use lower_common::state::TransformState;
 use std::mem;
 
@@ -76,7 +76,7 @@ impl Traverse<TransformState> for ExponentiationOperator {
         if !is_lowerable(node) {
             return Ok(());
         }
-        if binds_name("Math", ctx) {
+        if is_bound("Math", ctx) {
             return Err(LowerError::Unsupported(UnsupportedKind::MathBound, node.id));
         }
         if ctx.state.var_declarations.is_empty() {

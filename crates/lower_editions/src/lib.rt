@@ -14,3 +14,4 @@ pub mod nullish_coalescing;
 mod power_targets;
 pub mod power_tests;
 mod powers;
+mod warnings;

@@ -2,7 +2,7 @@
 ghost use Rattle.std.specs.Prelude.{IfOk, ◌≡◌, ◌+◌, ◌-◌, ◌^◌, ◌<◌};
 ghost use Rattle.es_tree.specs.Bare.{bare};
 ghost use Rattle.es_runs.specs.Rules.{tested};
-ghost use Rattle.lower_editions.specs.Coalescings.{at_span};
+ghost use Rattle.lower_common.specs.Replacings.{at_span};
 
 use es_expressions::operations::{new_conditional_expression, new_logical_expression};
 use es_tree::builder::AstBuilder;

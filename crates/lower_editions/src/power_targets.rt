@@ -13,7 +13,7 @@ ghost use Rattle.es_runs.specs.Rules.{member_node};
 ghost use Rattle.es_expressions.specs.MembersPlain.{plain_member_expression};
 ghost use Rattle.lower_common.specs.Takings.{ReadsMore};
 ghost use Rattle.lower_editions.specs.PowerParts.{is_name};
-ghost use Rattle.lower_editions.specs.PowerTargets.{AssignsTemporary, InTemporary, UsesKey, UsesObject, UsesTarget, binds_name, names_that_stay};
+ghost use Rattle.lower_editions.specs.PowerTargets.{AssignsTemporary, InTemporary, UsesKey, UsesObject, UsesTarget, names_that_stay};
 ghost use Rattle.lower_editions.specs.Powers.{has_power_key, is_power_target};
 
 use crate::power_tests::{is_evaluated_key, is_expression_key, is_name, is_private_name};
@@ -27,7 +27,7 @@ use es_tree::kind::Kind;
 use es_tree::node::Node;
 use es_tree::operators::AssignmentOperator;
 use lower_common::declarations::{MADE, VarDeclarationsStore};
-use lower_common::readings::{READS, WRITES, read_once_more};
+use lower_common::readings::{READS, WRITES, is_bound, read_once_more};
 use lower_common::state::TransformState;
 use std::alloc::AllocError;
 
@@ -42,14 +42,6 @@ pub(crate) struct Twice {
     pub(crate) read: Node,
 }
 
-/// Whether the program's scope binds this name.
-pub(crate) fn binds_name<S>(name: &str, ctx: &TraverseCtx<S>) -> bool
-    ensures { result ≡ binds_name ctx.now name.now }
-{
-    let scoping = ctx.scoping();
-    scoping.get_binding(scoping.root_scope_id(), name).is_some()
-}
-
 /// Whether an object stays where it is: `super`, and, where names may stay, a name that the program's scope
 /// binds.
 fn stays<S>(object: &Node, by_name: bool, ctx: &TraverseCtx<S>) -> bool
@@ -58,7 +50,7 @@ fn stays<S>(object: &Node, by_name: bool, ctx: &TraverseCtx<S>) -> bool
     match &object.kind {
         Kind::Super => object.fields.is_empty(),
         Kind::Identifier { name, .. } => {
-            by_name && binds_name(name.as_str(), ctx) && object.fields.is_empty()
+            by_name && is_bound(name.as_str(), ctx) && object.fields.is_empty()
         }
         _ => false,
     }

@@ -7,9 +7,8 @@ ghost use Rattle.es_runs.specs.Exponentiation.{assigned_power, power_at};
 ghost use Rattle.es_runs.specs.OpenRules.{is_bound_in, raising_row};
 ghost use Rattle.es_runs.specs.Weights.{weight};
 ghost use Rattle.es_visit.specs.Moments.{HasRoom, whole_at};
-ghost use Rattle.lower_common.specs.Replacings.{Replaces};
+ghost use Rattle.lower_common.specs.Replacings.{Replaces, at_span};
 ghost use Rattle.lower_common.specs.Takings.{ReadsMore, moment_of};
-ghost use Rattle.lower_editions.specs.Coalescings.{at_span};
 ghost use Rattle.lower_editions.specs.PowerTargets.{nodes_around};
 ghost use Rattle.lower_editions.specs.Powers.{is_lowerable_power};
 

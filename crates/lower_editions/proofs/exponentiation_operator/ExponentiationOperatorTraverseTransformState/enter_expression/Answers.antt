@@ -9,8 +9,8 @@ use Rattle.lower_editions.specs.Profiles.{raising_profile}
 pub returns-then-not-is_lowerable-clause-entered : goal.returns-then-not-is_lowerable-clause-entered
 returns-then-not-is_lowerable-clause-entered c = left_unraised c.args.ctx.now c.args.node.now (sym c.is_lowerable.ensures ∙ c.if-not-is_lowerable.true)
 
-pub returns-then-binds_name-clause-refused : goal.returns-then-binds_name-clause-refused
-returns-then-binds_name-clause-refused c = refused_raised c.args.ctx.now c.args.node.now c.node.inside.id (sym c.is_lowerable.ensures ∙ c.if-not-is_lowerable.false) (sym c.binds_name.ensures ∙ c.if-binds_name.true)
+pub returns-then-is_bound-clause-refused : goal.returns-then-is_bound-clause-refused
+returns-then-is_bound-clause-refused c = refused_raised c.args.ctx.now c.args.node.now c.node.inside.id (sym c.is_lowerable.ensures ∙ c.if-not-is_lowerable.false) (sym c.is_bound.ensures ∙ c.if-is_bound.true)
 
 pub returns-clause-entered : goal.returns-clause-entered
 returns-clause-entered c =
