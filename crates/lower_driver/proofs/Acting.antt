@@ -37,7 +37,7 @@ use Rattle.lower_editions.specs.Assignings.{is_doubled_target, is_lowerable_assi
 use Rattle.lower_editions.specs.Powers.{is_lowerable_power, is_power_target}
 use Rattle.lower_editions.proofs.BareNodes.{assignment-bare, power-bare}
 use Rattle.lower_common.proofs.Parenthesized.{without_parens-bare}
-use Rattle.lower_driver.specs.Rules.{has_built_construct, is_built_construct}
+use Rattle.lower_driver.proofs.Built.{has_built_construct, is_built_construct}
 use Rattle.lower_driver.proofs.Unchanged.{IsIdle}
 use Rattle.lower_driver.proofs.Walked.{none_follows}
 

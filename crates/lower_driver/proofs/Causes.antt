@@ -2,8 +2,9 @@
 use Rattle.std.proofs.Common.{◌≡◌, List, [], ◌∷◌, true, None}
 use Rattle.serde_json.specs.Data.{Data}
 use Rattle.es_tree.specs.Core.{is_core}
+use Rattle.es_tree.specs.CoreStaticRules.{Break}
 use Rattle.es_tree.specs.Options.{first_fault}
-use Rattle.es_tree.specs.StaticRules.{Break, breaks, IsFirstBreak}
+use Rattle.es_tree.specs.StaticRules.{breaks, IsFirstBreak}
 use Rattle.es_tree.specs.Tree.{Tree}
 use Rattle.es_tree.specs.declared.error.LowerError.{LowerError}
 use Rattle.es_tree.specs.declared.error.LowerError.TheVariants.{Invalid, OutOfMemory}

@@ -9,12 +9,12 @@ use Rattle.es_tree.specs.declared.builder.AstBuilder.{AstBuilder}
 use Rattle.es_runs.specs.Open.{nothing_pending}
 use Rattle.es_runs.specs.OpenSteps.{Whole}
 use Rattle.es_scope.specs.Contexts.{around_of, made_of, table_of, uses_of}
-use Rattle.es_scope.specs.ScopingOf.{IsScopingOf}
+use Rattle.es_semantic.specs.ScopingOf.{IsScopingOf}
 use Rattle.es_scope.specs.Tables.{binding_in, is_found_steady}
 use Rattle.es_scope.specs.declared.context.TraverseCtx.{TraverseCtx}
 use Rattle.es_scope.specs.declared.scoping.Scoping.{Scoping}
-use Rattle.es_scope.proofs.BoundContexts.{bound-first}
-use Rattle.es_scope.proofs.Steady.{table-steady}
+use Rattle.es_semantic.proofs.BoundNames.{bound-first}
+use Rattle.es_semantic.proofs.Steady.{table-steady}
 use Rattle.es_visit.specs.Moments.{Moment}
 use Rattle.es_visit.specs.Starts.{IsStart}
 use Rattle.lower_common.specs.declared.state.TransformState.{TransformState}

@@ -1,4 +1,5 @@
 pub mod Walked
+pub mod Built
 pub mod Unchanged
 pub mod Canonical
 pub mod Acting
@@ -9,7 +10,6 @@ pub mod NoRefusals
 pub mod Causes
 pub mod TableNames
 pub mod Marked
-pub mod MarkedFirst
 pub mod Shapes
 pub mod Contexts
 pub mod OpenedProgram

@@ -24,7 +24,8 @@ use Rattle.lower_editions.specs.Coalescings.{is_lowerable_coalescing}
 use Rattle.lower_editions.specs.Powers.{is_lowerable_power}
 use Rattle.lower_editions.proofs.BareNodes.{assignment-bare, coalescing-bare, power-bare}
 use Rattle.lower_editions.proofs.NoneLeft.{is_settled, settled_assignment, settled_coalescing, settled_power}
-use Rattle.lower_driver.specs.Rules.{has_built_construct, is_built_construct, is_lowered_under}
+use Rattle.lower_driver.specs.Rules.{is_lowered_under}
+use Rattle.lower_driver.proofs.Built.{has_built_construct, is_built_construct}
 use Rattle.lower_driver.proofs.Acting.{chain_kind, less, less_where_on}
 use Rattle.lower_driver.proofs.Walked.{any-bare-trees, none_among}
 

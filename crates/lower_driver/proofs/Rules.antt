@@ -17,7 +17,7 @@ use Rattle.es_runs.specs.OpenSteps.TreesStep.{in_head, in_tail}
 use Rattle.es_runs.specs.OpenSteps.Steps.{stays, goes}
 use Rattle.es_runs.specs.OpenRules.{Assigning, Chaining, Coalescing, Raising, CoreRule, rule_under}
 use Rattle.es_runs.proofs.OpenTrees.{closed-opened}
-use Rattle.lower_driver.specs.Rules.{has_built_construct}
+use Rattle.lower_driver.proofs.Built.{has_built_construct}
 use Rattle.lower_driver.proofs.Acting.{acted-bare, acting_idle, is_acted_on, none_acts, where_it_is_on}
 use Rattle.lower_driver.proofs.Unchanged.{clear-opened, steps_stay, Same}
 use Rattle.lower_driver.proofs.Walked.{any-bare}

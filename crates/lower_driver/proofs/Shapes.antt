@@ -2,7 +2,6 @@
 use Rattle.std.proofs.Common.{◌≡◌, None, Some, sym, ap, ◌∙◌, subst}
 use Rattle.std.specs.Prelude.{◌&&◌, if◌then◌else◌, codes}
 use Rattle.es_tree.specs.Bare.{bare}
-use Rattle.es_tree.specs.Marks.{marked}
 use Rattle.es_tree.specs.Scopes.{declared_of, declares}
 use Rattle.es_tree.specs.Tree.{Tree}
 use Rattle.es_tree.specs.Walks.{first_node}
@@ -13,26 +12,26 @@ use Rattle.es_tree.specs.declared.error.UnsupportedKind.TheVariants.{MathBound}
 use Rattle.es_tree.specs.declared.ids.NodeId.{NodeId}
 use Rattle.es_tree.specs.declared.options.EnvOptions.{EnvOptions}
 use Rattle.es_tree.specs.declared.options.ES2016Options.{ES2016Options}
-use Rattle.es_tree.proofs.MarkedTrees.{bare-marked}
-use Rattle.es_scope.specs.ScopingOf.{IsScopingOf}
+use Rattle.es_semantic.specs.ReferencesOf.{marked_program}
+use Rattle.es_semantic.specs.ScopingOf.{IsScopingOf}
 use Rattle.es_scope.specs.declared.scoping.Scoping.{Scoping}
-use Rattle.es_scope.proofs.BoundNames.{table-bound}
+use Rattle.es_semantic.proofs.BoundNames.{table-bound}
+use Rattle.es_semantic.proofs.MarkedProgram.{bare-marked-program, marked-program-first}
 use Rattle.lower_editions.specs.Powers.{is_lowerable_power}
 use Rattle.lower_editions.proofs.BareNodes.{power-bare}
 use Rattle.lower_driver.specs.Copies.{IsCopy}
 use Rattle.lower_driver.specs.Shapes.{BindsDeclared, IsShapeOrMemory, first_math_bound}
 use Rattle.lower_driver.proofs.Marked.{same_declared}
-use Rattle.lower_driver.proofs.MarkedFirst.{marked-first}
 
 -- the table of a program binds what the program with its marks declares
 pub table-declared : (p q : Tree) (s : Scoping) → bare q ≡ bare p → IsScopingOf p s → BindsDeclared s q
 table-declared p q s same table = λ x. table-bound p s table x ∙ ap (λ ds. declares ds x) (sym (same_declared p q same))
 
 -- the shape of a program with its marks is that of the program
-pub marked-shape : (o : EnvOptions) (p q : Tree) → q ≡ marked p → first_math_bound o q ≡ first_math_bound o p
+pub marked-shape : (o : EnvOptions) (p q : Tree) → q ≡ marked_program p → first_math_bound o q ≡ first_math_bound o p
 marked-shape o p q e =
-    let declared = same_declared p q (ap bare e ∙ bare-marked p) in
-    let first : first_node is_lowerable_power q ≡ first_node is_lowerable_power p = ap (first_node is_lowerable_power) e ∙ marked-first is_lowerable_power power-bare p in
+    let declared = same_declared p q (ap bare e ∙ bare-marked-program p) in
+    let first : first_node is_lowerable_power q ≡ first_node is_lowerable_power p = ap (first_node is_lowerable_power) e ∙ marked-program-first is_lowerable_power power-bare p in
     λ i. if o.es2016.exponentiation_operator && declares (declared i) (codes "Math") then first i else None
 
 -- and by options that are the same

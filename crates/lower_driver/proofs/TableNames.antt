@@ -10,9 +10,9 @@ use Rattle.es_tree.specs.Words.{Text}
 use Rattle.es_runs.proofs.BareTrees.{names-bare, declared_of-bare}
 use Rattle.es_runs.proofs.DeclaredNames.{core_shaped, declared_used}
 use Rattle.es_scope.specs.Contexts.{BindsNamesOf}
-use Rattle.es_scope.specs.ScopingOf.{IsScopingOf}
+use Rattle.es_semantic.specs.ScopingOf.{IsScopingOf}
 use Rattle.es_scope.specs.declared.scoping.Scoping.{Scoping}
-use Rattle.es_scope.proofs.BoundNames.{binds-names}
+use Rattle.es_semantic.proofs.BoundNames.{binds-names}
 
 -- what a core program declares is among its names
 declared-named : (p : Tree) → IsCoreProgram p → (x : Text) → declares (declared_of p) x ≡ true → is_among (names_of p) x ≡ true

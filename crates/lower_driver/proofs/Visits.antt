@@ -4,9 +4,10 @@ use Rattle.std.specs.Prelude.{Bool, true, false, ◌&&◌, ◌||◌}
 use Rattle.es_tree.specs.Words.{Text}
 use Rattle.es_tree.specs.Bare.{bare}
 use Rattle.es_tree.specs.Core.{IsCoreProgram}
+use Rattle.es_tree.specs.Options.{asks_for_unbuilt}
 use Rattle.es_tree.specs.StaticRules.{breaks}
 use Rattle.es_tree.specs.Tree.{Tree, Label, Fields, tree_size}
-use Rattle.es_tree.specs.Walks.{any_node, any_in_trees}
+use Rattle.es_tree.specs.Walks.{any_in_trees}
 use Rattle.es_tree.specs.declared.ast_type.AstType.{AstType}
 use Rattle.es_tree.specs.declared.options.Assumptions.{Assumptions}
 use Rattle.es_tree.specs.declared.options.EnvOptions.{EnvOptions}
@@ -33,8 +34,9 @@ use Rattle.lower_editions.specs.Coalescings.{is_lowerable_coalescing}
 use Rattle.lower_editions.specs.Powers.{is_lowerable_power}
 use Rattle.lower_driver.specs.Copies.{IsCopy}
 use Rattle.lower_driver.specs.Lowers.{Lowers}
-use Rattle.lower_driver.specs.Rules.{is_built_construct, is_lowered_under}
+use Rattle.lower_driver.specs.Rules.{is_lowered_under}
 use Rattle.lower_driver.specs.Visits.{IsVisit, visit_profile}
+use Rattle.lower_driver.proofs.Built.{copied-enabled, enabled-built}
 use Rattle.lower_driver.proofs.Canonical.{same_canonical}
 use Rattle.lower_driver.proofs.Contexts.{IsFirst, start_same}
 use Rattle.lower_driver.proofs.Marked.{same_size, same_whole}
@@ -69,8 +71,8 @@ reached_same R p q r names same h = record {
   others = h.others;
 }
 
-pub lowers : (o : EnvOptions) (p : Tree) (a b : Moment) (x y : Program) → IsCoreProgram p → breaks p ≡ [] → bare (plain_program x) ≡ bare p → IsFirst p a → IsVisit o a x b y → Lowers o p (plain_program y) b.made
-lowers o p a b x y core kept same first visit =
+pub lowers : (o : EnvOptions) (p : Tree) (a b : Moment) (x y : Program) → asks_for_unbuilt o ≡ false → IsCoreProgram p → breaks p ≡ [] → bare (plain_program x) ≡ bare p → IsFirst p a → IsVisit o a x b y → Lowers o p (plain_program y) b.made
+lowers o p a b x y off core kept same first visit =
     let begun = reached_whole x y visit.changed (start_same p (plain_program x) a same first.start) visit.finished in
     let reached : Reached (rule_under o) p b.made (plain_program y) = reached_same (rule_under o) p (plain_program x) (plain_program y) b.made same begun in
     let no_all = o.assumptions.no_document_all in
@@ -78,12 +80,12 @@ lowers o p a b x y core kept same first visit =
     let keeps : breaks (plain_program y) ≡ [] = law_reached_rules_proof no_all p (plain_program y) b.made core kept by_core in
     record {
       reached = reached;
-      none = none_written o p x y core same (settled_reached no_all p (plain_program y) b.made core kept by_core) visit.directives visit.free;
-      alike = law_reached_proof no_all p (plain_program y) b.made core (tidy_source p kept) by_core;
+      none = enabled-built o off (plain_program y) ∙ none_written o p x y core same (settled_reached no_all p (plain_program y) b.made core kept by_core) visit.directives visit.free;
+      alike = law_reached_proof no_all p (plain_program y) b.made core (tidy_source p core kept) by_core;
       bindings = law_reached_bindings_proof no_all p (plain_program y) b.made core by_core;
       kept = keeps;
       unchanged = λ asked.
-          let u = unchanged o p (plain_program y) b.made core.core reached asked in
+          let u = unchanged o p (plain_program y) b.made core.core reached (sym (enabled-built o off p) ∙ asked) in
           record { same = same_canonical p (plain_program y) u.tree; no_names = u.none_made };
       size =
           let s = size-weight (plain_program y) in
@@ -111,13 +113,12 @@ visit_by_type o a b x y visited finished = record { changed = visited.changed; d
 pub lowers_same : (o c : EnvOptions) (p q : Tree) (names : List Text) → IsCopy o c → Lowers c p q names → Lowers o p q names
 lowers_same o c p q names copy h =
     let rule : rule_under c ≡ rule_under o = λ i. rule_under (record c { es2016 = copy.es2016 i; es2020 = copy.es2020 i; es2021 = copy.es2021 i; assumptions = copy.assumptions i }) in
-    let built : (t : Tree) → any_node (is_built_construct c) t ≡ any_node (is_built_construct o) t = λ t i. any_node (is_built_construct (record c { es2016 = copy.es2016 i; es2020 = copy.es2020 i; es2021 = copy.es2021 i })) t in
     record {
       reached = subst (λ (R : Need → Ledger → Spot → Ledger → Spot → Type 0). Reached R p names q) rule h.reached;
-      none = sym (built q) ∙ h.none;
+      none = sym (copied-enabled o c copy q) ∙ h.none;
       alike = subst (λ (a : Assumptions). RunAlike a.no_document_all p q) copy.assumptions h.alike;
       bindings = h.bindings;
       kept = h.kept;
-      unchanged = λ asked. h.unchanged (built p ∙ asked);
+      unchanged = λ asked. h.unchanged (copied-enabled o c copy p ∙ asked);
       size = h.size;
     }

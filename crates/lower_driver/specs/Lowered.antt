@@ -8,16 +8,17 @@ use Rattle.es_tree.specs.Tree.{Tree}
 use Rattle.es_tree.specs.Words.{Text}
 use Rattle.es_tree.specs.declared.options.EnvOptions.{EnvOptions}
 use Rattle.es_json.specs.Canonical.{canonical}
+use Rattle.lower_editions.specs.Warnings.{warnings_of}
 use Rattle.lower_driver.specs.Lowers.{Lowers}
 use Rattle.lower_driver.specs.Shapes.{first_math_bound}
 use Rattle.lower_driver.specs.Sources.{IsSource, Reads}
 use Rattle.lower_driver.specs.declared.driver.Lowered.{Lowered}
 
--- a run's answer for this source: what it becomes, as a tree and as a value, and no warnings
+-- a run's answer for this source: what it becomes, as a tree and as a value, and the warnings of it that the options ask for
 pub record IsLoweredFrom (o : EnvOptions) (source : Tree) (l : Lowered) : Type 0 where
   pub lowers : Lowers o source l.program (map string_bytes l.temporaries.items)
   pub value : view l.value ≡ canonical l.program
-  pub no_warnings : l.warnings.items ≡ []
+  pub warnings : l.warnings.items ≡ warnings_of o.es2020 source
   -- no shape stands in the source that the lowerings don't take
   pub taken : first_math_bound o source ≡ None
 

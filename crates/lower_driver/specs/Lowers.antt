@@ -1,5 +1,6 @@
 -- What a source becomes.
 use Rattle.std.specs.Prelude.{◌≡◌, ◌≤◌, ◌+◌, ◌*◌, List, [], true, false}
+use Rattle.es_tree.specs.Constructs.{has_enabled_construct}
 use Rattle.es_tree.specs.Fresh.{is_among}
 use Rattle.es_tree.specs.Names.{names_of}
 use Rattle.es_tree.specs.Scopes.{declared_of}
@@ -11,7 +12,6 @@ use Rattle.es_json.specs.Canonical.{canonical}
 use Rattle.es_runs.specs.OpenRules.{rule_under}
 use Rattle.es_runs.specs.OpenSteps.{Reached}
 use Rattle.es_runs.specs.Runs.{RunAlike, is_declared}
-use Rattle.lower_driver.specs.Rules.{has_built_construct}
 
 -- a source as it is written, with no name made
 pub record IsAsBefore (source written : Tree) (names : List Text) : Type 0 where
@@ -22,7 +22,8 @@ pub record IsAsBefore (source written : Tree) (names : List Text) : Type 0 where
 pub record Lowers (o : EnvOptions) (source written : Tree) (names : List Text) : Type 0 where
   -- by steps of the rules that the options ask for, with nothing pending at the end
   pub reached : Reached (rule_under o) source names written
-  pub none : has_built_construct o written ≡ false
+  -- and no construct is left that the options ask to lower
+  pub none : has_enabled_construct o written ≡ false
   -- the same questions in the same order, the same outcome, and equal cells of the source's names; where the options assume
   -- that no value is `document.all`, of every run in which none is
   pub alike : RunAlike o.assumptions.no_document_all source written
@@ -31,5 +32,5 @@ pub record Lowers (o : EnvOptions) (source written : Tree) (names : List Text) :
   -- the written program keeps the static rules
   pub kept : breaks written ≡ []
   -- where the options ask for no construct of the source, nothing is changed
-  pub unchanged : has_built_construct o source ≡ false → IsAsBefore source written names
+  pub unchanged : has_enabled_construct o source ≡ false → IsAsBefore source written names
   pub size : tree_size written ≤ 64 * tree_size source + 64

@@ -1,8 +1,6 @@
 -- The constructs that a run lowers under its options.
 use Rattle.std.specs.Prelude.{Bool, ◌&&◌, ◌||◌}
-use Rattle.es_tree.specs.Constructs.{is_chain, is_exponentiation, is_logical_assignment, is_nullish_coalescing}
-use Rattle.es_tree.specs.Tree.{Tree, Label, Fields}
-use Rattle.es_tree.specs.Walks.{any_node}
+use Rattle.es_tree.specs.Tree.{Label, Fields}
 use Rattle.es_tree.specs.declared.ast_type.AstType.{AstType}
 use Rattle.es_tree.specs.declared.options.EnvOptions.{EnvOptions}
 use Rattle.es_runs.specs.OptionalChaining.{is_chain_kind}
@@ -10,18 +8,8 @@ use Rattle.lower_editions.specs.Assignings.{is_lowerable_assignment}
 use Rattle.lower_editions.specs.Coalescings.{is_lowerable_coalescing}
 use Rattle.lower_editions.specs.Powers.{is_lowerable_power}
 
--- the rows of the lowerings that are built, where the options ask for them
-abbrev pub is_built_construct : EnvOptions → AstType → Label → Fields → Bool
-is_built_construct o k l fs =
-    (o.es2021.logical_assignment_operators && is_logical_assignment k l fs)
-    || (o.es2020.nullish_coalescing_operator && is_nullish_coalescing k l fs)
-    || (o.es2020.optional_chaining && is_chain k l fs)
-    || (o.es2016.exponentiation_operator && is_exponentiation k l fs)
-
-abbrev pub has_built_construct : EnvOptions → Tree → Bool
-has_built_construct o t = any_node (is_built_construct o) t
-
--- those of them that the lowerings can open: in a core program that keeps the static rules, all
+-- the rows of the lowerings, where the options ask for them, as far as the lowerings can open them: in a core program that keeps
+-- the static rules, all
 abbrev pub is_lowered_under : EnvOptions → AstType → Label → Fields → Bool
 is_lowered_under o k l fs =
     (o.es2021.logical_assignment_operators && is_lowerable_assignment k l fs)

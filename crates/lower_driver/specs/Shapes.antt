@@ -1,11 +1,12 @@
 -- The shapes that no lowering takes: an exponentiation where the program binds `Math`, whose `pow` is to be called.
 use Rattle.std.specs.Prelude.{◌≡◌, ℕ, Bool, Option, None, Some, ◌&&◌, if◌then◌else◌, codes, is_some}
+use Rattle.es_tree.specs.Options.{first_fault}
 use Rattle.es_tree.specs.Scopes.{declared_of, declares}
 use Rattle.es_tree.specs.Tree.{Tree}
 use Rattle.es_tree.specs.Walks.{first_node}
 use Rattle.es_tree.specs.Words.{Text}
 use Rattle.es_tree.specs.declared.error.LowerError.{LowerError}
-use Rattle.es_tree.specs.declared.error.LowerError.TheVariants.{OutOfMemory, Unsupported}
+use Rattle.es_tree.specs.declared.error.LowerError.TheVariants.{Option as e-Option, OutOfMemory, Unsupported}
 use Rattle.es_tree.specs.declared.error.UnsupportedKind.TheVariants.{MathBound}
 use Rattle.es_tree.specs.declared.options.EnvOptions.{EnvOptions}
 use Rattle.es_scope.specs.Tables.{binding_in}
@@ -21,6 +22,13 @@ abbrev pub IsShapeOrMemory : EnvOptions → Tree → LowerError → Type 0
 IsShapeOrMemory o p (Unsupported MathBound id) = first_math_bound o p ≡ Some id.0
 IsShapeOrMemory o p OutOfMemory = Unit {0}
 IsShapeOrMemory o p _ = ⊥
+
+-- Why a program that was made as a tree is refused: what the options ask for that isn't done comes first, such a shape after it.
+abbrev pub IsTreeCauseOrMemory : EnvOptions → Tree → LowerError → Type 0
+IsTreeCauseOrMemory o p (e-Option name) = first_fault o ≡ Some name
+IsTreeCauseOrMemory o p (Unsupported MathBound id) = (first_fault o ≡ None) × (first_math_bound o p ≡ Some id.0)
+IsTreeCauseOrMemory o p OutOfMemory = Unit {0}
+IsTreeCauseOrMemory o p _ = ⊥
 
 -- whether the scope of the program binds a name
 abbrev pub binds : Scoping → Text → Bool

@@ -13,7 +13,7 @@ ghost use Rattle.es_runs.specs.Open.{nothing_pending};
 ghost use Rattle.es_scope.specs.Contexts.{BindsNamesOf, around_of, made_of, table_of, uses_of};
 ghost use Rattle.lower_driver.specs.Copies.{IsCopy};
 ghost use Rattle.lower_driver.specs.Lowered.{IsLoweredBytes, IsLoweredFrom, IsLoweredValue};
-ghost use Rattle.lower_driver.specs.Shapes.{IsShapeOrMemory};
+ghost use Rattle.lower_driver.specs.Shapes.{IsShapeOrMemory, IsTreeCauseOrMemory};
 ghost use Rattle.lower_driver.specs.Sources.{IsCauseOrMemory, IsCoreSource, IsCoreValue, IsValueCauseOrMemory};
 
 use crate::copies::copy_options;
@@ -22,18 +22,19 @@ use crate::unsupported::find_unsupported;
 use crate::visiting::visit;
 use es_json::program::ReadProgram;
 use es_json::writer::write_program;
-use es_scope::building::build_scoping;
 use es_scope::context::TraverseCtx;
 use es_scope::scoping::Scoping;
+use es_semantic::building::build_scoping;
 use es_statements::program::Program;
 use es_tree::builder::AstBuilder;
 use es_tree::error::LowerError;
 use es_tree::kind::Kind;
 use es_tree::node::Node;
 use es_tree::operators::SourceType;
-use es_tree::options::EnvOptions;
+use es_tree::options::{EnvOptions, options_fault};
 use lower_common::state::TransformState;
 use lower_common::warning::Warning;
+use lower_editions::es2020::ES2020;
 use serde_json::Value;
 use std::alloc::{AllocError, Global};
 
@@ -44,19 +45,21 @@ pub struct Lowered {
     pub program: Node,
     /// The same in the tree form.
     pub value: Value,
+    /// What the options ask to be warned of in the source, in node order.
     pub warnings: Vec<Warning>,
     /// The fresh names, in the order made.
     pub temporaries: Vec<String>,
 }
 
 /// Lowers the core program that the value is the form of, as the options ask: its logical assignments, `??`,
-/// optional chains and exponentiations. Options that ask for the lowering of other constructs change nothing.
+/// optional chains and exponentiations. Where they ask for warnings of BigInt literals (ECMA-262, 12.9.3),
+/// it answers one for each of the source.
 ///
-/// Fails for the first of these causes that holds: `Option` where the options ask for what isn't done;
-/// `TooLarge`, `TooDeep` and `Shape` as `read_program` has them; `Unsupported(NotBuilt, node)` at the
-/// first node that no core program has; `Invalid` as `check_static` has it; `Unsupported(MathBound, node)`
-/// at the first exponentiation that would be lowered, where the program binds `Math`. It fails with
-/// `OutOfMemory` where memory runs out.
+/// Fails for the first of these causes that holds: `Option` where the options ask for what isn't done, with
+/// the name `NotBuilt` where that is a lowering or a warning that isn't built; `TooLarge`, `TooDeep` and
+/// `Shape` as `read_program` has them; `Unsupported(NotBuilt, node)` at the first node that no core program
+/// has; `Invalid` as `check_static` has it; `Unsupported(MathBound, node)` at the first exponentiation that
+/// would be lowered, where the program binds `Math`. It fails with `OutOfMemory` where memory runs out.
 pub fn lower(alloc: Global, source: &Value, options: &EnvOptions) -> Result<Lowered, LowerError>
     ensures core { IfOk result (λ _. IsCoreValue (view source.now)) }
     ensures lowered { IfOk result (λ lowered. IsLoweredValue options.now (view source.now) lowered) }
@@ -68,8 +71,8 @@ pub fn lower(alloc: Global, source: &Value, options: &EnvOptions) -> Result<Lowe
     Ok(lowered)
 }
 
-/// The same for the bytes of a JSON value. Fails with `Json`, before all other causes, where the bytes
-/// have no reading as one.
+/// The same for the bytes of a JSON value. Fails with `Json`, before all other causes, `Option(NotBuilt)`
+/// among them, where the bytes have no reading as one.
 pub fn lower_bytes(alloc: Global, bytes: &[u8], options: &EnvOptions) -> Result<Lowered, LowerError>
     ensures core { IfOk result (λ _. IsCoreSource bytes.now) }
     ensures lowered { IfOk result (λ lowered. IsLoweredBytes options.now bytes.now lowered) }
@@ -81,9 +84,13 @@ pub fn lower_bytes(alloc: Global, bytes: &[u8], options: &EnvOptions) -> Result<
     Ok(lowered)
 }
 
-/// What a core program that keeps the static rules becomes. Fails where it has a shape that no lowering
-/// takes, and where memory runs out.
-fn lower_program(
+/// The same for a core program that keeps the static rules and was made as a tree. Its ids and marks need
+/// not be those that a read program has.
+///
+/// Fails for the first of these causes that holds: `Option` as `lower` has it; `Unsupported(MathBound, node)`
+/// at the first exponentiation that would be lowered, where the program binds `Math`. It fails with
+/// `OutOfMemory` where memory runs out.
+pub fn lower_tree(
     alloc: Global,
     read: ReadProgram,
     options: &EnvOptions,
@@ -93,12 +100,36 @@ fn lower_program(
     requires size { tree_size read.program < 2 ^ 20 }
     requires next { read.ast.next ≡ tree_size read.program }
     ensures lowered { IfOk result (λ lowered. IsLoweredFrom options.now read.program lowered) }
+    ensures options { IfOk result (λ _. first_fault options.now ≡ None) }
+    ensures cause { IfErr result (λ error. IsTreeCauseOrMemory options.now read.program error) }
+{
+    if let Some(name) = options_fault(options) {
+        return Err(LowerError::Option(name));
+    }
+    let lowered = lower_program(alloc, read, options)?;
+    Ok(lowered)
+}
+
+/// What a core program that keeps the static rules becomes under options that ask for nothing that isn't
+/// done. Fails where it has a shape that no lowering takes, and where memory runs out.
+fn lower_program(
+    alloc: Global,
+    read: ReadProgram,
+    options: &EnvOptions,
+) -> Result<Lowered, LowerError>
+    requires core { IsCoreProgram read.program }
+    requires kept { breaks read.program ≡ [] }
+    requires size { tree_size read.program < 2 ^ 20 }
+    requires next { read.ast.next ≡ tree_size read.program }
+    requires carried { first_fault options.now ≡ None }
+    ensures lowered { IfOk result (λ lowered. IsLoweredFrom options.now read.program lowered) }
     ensures cause { IfErr result (λ error. IsShapeOrMemory options.now read.program error) }
 {
     let ReadProgram {
         program: mut source,
         ast,
     } = read;
+    let warnings = ES2020::warnings(alloc, &options.es2020, &source)?;
     let scoping = build_scoping(alloc, &mut source)?;
     if let Some((kind, node)) = find_unsupported(&source, &scoping, options) {
         return Err(LowerError::Unsupported(kind, node));
@@ -111,7 +142,7 @@ fn lower_program(
     Ok(Lowered {
         program,
         value,
-        warnings: Vec::new(alloc),
+        warnings,
         temporaries: ctx.into_uids(),
     })
 }

@@ -9,7 +9,7 @@ ghost use Rattle.lower_driver.specs.Sources.{IsNoValue, IsReading, IsSource, IsV
 
 use es_json::program::{ReadProgram, read_program};
 use es_nodes::core_grammar::first_not_core;
-use es_nodes::static_rules::check_static;
+use es_static_rules::static_rules::check_static;
 use es_tree::error::{LowerError, UnsupportedKind};
 use es_tree::options::{EnvOptions, options_fault};
 use serde_json::{Category, Value};

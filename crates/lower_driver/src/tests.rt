@@ -1,15 +1,16 @@
-mod assignments;
+mod big_ints;
 mod cases;
-mod chains;
-mod powers;
 
-use crate::driver::{Lowered, lower, lower_bytes};
+use crate::driver::{Lowered, lower, lower_bytes, lower_tree};
+use crate::reading::{read_source, read_value};
 use es_tree::error::{LowerError, OptionName, Rule, UnsupportedKind};
-use es_tree::ids::NodeId;
+use es_tree::ids::{NodeId, Span};
 use es_tree::options::{
-    Assumptions, ES2015Options, ES2016Options, ES2017Options, ES2018Options, ES2019Options,
-    ES2020Options, ES2021Options, ES2026Options, EnvOptions, HelperLoaderMode, HelperLoaderOptions,
+    ArrowFunctionsOptions, Assumptions, ES2015Options, ES2016Options, ES2017Options, ES2018Options,
+    ES2019Options, ES2020Options, ES2021Options, ES2026Options, EnvOptions, HelperLoaderMode,
+    HelperLoaderOptions, ObjectRestSpreadOptions,
 };
+use lower_common::warning::{Warning, WarningKind};
 use serde_json::{Map, Value, put};
 use std::alloc::{AllocError, Global};
 use std::process::Abort;
@@ -42,20 +43,6 @@ fn nullish_options(alloc: Global) -> Result<EnvOptions, AllocError> {
 fn power_options(alloc: Global) -> Result<EnvOptions, AllocError> {
     let mut options = no_options(alloc)?;
     options.es2016.exponentiation_operator = true;
-    Ok(options)
-}
-
-/// Options that ask for the lowering of logical assignment.
-fn logical_options(alloc: Global) -> Result<EnvOptions, AllocError> {
-    let mut options = no_options(alloc)?;
-    options.es2021.logical_assignment_operators = true;
-    Ok(options)
-}
-
-/// Options that ask for the lowering of optional chaining.
-fn chaining_options(alloc: Global) -> Result<EnvOptions, AllocError> {
-    let mut options = no_options(alloc)?;
-    options.es2020.optional_chaining = true;
     Ok(options)
 }
 
@@ -98,139 +85,6 @@ fn sources_become_what_stands_beside_them(rt: HostRuntime) -> Result<(), Fail> {
     assert_lowered(&rt, source, &options, written, &["_ref", "_a", "_a2"])?;
     let (source, written) = cases::BOUND_NAME;
     assert_lowered(&rt, source, &options, written, &[])?;
-    Ok(())
-}
-
-#[test]
-fn exponentiation_calls_math_pow(rt: HostRuntime) -> Result<(), Fail> {
-    let options = power_options(rt.alloc())?;
-    let (source, written) = powers::UNBOUND_NAME;
-    assert_lowered(&rt, source, &options, written, &["_left"])?;
-    let (source, written) = powers::UNBOUND_MEMBER;
-    assert_lowered(&rt, source, &options, written, &["_obj$foo$bar", "_qux"])?;
-    let (source, written) = powers::KEY_THAT_IS_CALLED;
-    assert_lowered(&rt, source, &options, written, &["_o", "_g"])?;
-    let (source, written) = powers::BIG_INT_SIDES;
-    assert_lowered(&rt, source, &options, written, &[])?;
-    let (source, written) = powers::BOUND_NAME;
-    assert_lowered(&rt, source, &options, written, &[])?;
-    let (source, written) = powers::IN_PARENTHESES;
-    assert_lowered(&rt, source, &options, written, &["_a", "_this"])?;
-    Ok(())
-}
-
-#[test]
-fn exponentiation_is_refused_where_math_is_bound(rt: HostRuntime) -> Result<(), Fail> {
-    let alloc = rt.alloc();
-    assert!(rt;
-        matches!(
-            lower_bytes(alloc, powers::BOUND_MATH.as_bytes(), &power_options(alloc)?),
-            Err(LowerError::Unsupported(UnsupportedKind::MathBound, NodeId(6)))
-        )
-    );
-    let options = nullish_options(alloc)?;
-    assert_lowered(&rt, powers::BOUND_MATH, &options, powers::BOUND_MATH, &[])?;
-    Ok(())
-}
-
-#[test]
-fn logical_assignment_reads_and_writes_in_turn(rt: HostRuntime) -> Result<(), Fail> {
-    let alloc = rt.alloc();
-    let options = logical_options(alloc)?;
-    let (source, written) = assignments::TAKEN_NAME;
-    assert_lowered(&rt, source, &options, written, &["_obj$a2"])?;
-    let (source, written) = assignments::STEADY_OBJECT;
-    assert_lowered(&rt, source, &options, written, &[])?;
-    let (source, written) = assignments::WRITTEN_OBJECT;
-    assert_lowered(&rt, source, &options, written, &["_o", "_k"])?;
-    let (source, written) = assignments::IN_PARENTHESES;
-    assert_lowered(&rt, source, &options, written, &["_a"])?;
-    Ok(())
-}
-
-#[test]
-fn chains_are_cut_short(rt: HostRuntime) -> Result<(), Fail> {
-    let options = chaining_options(rt.alloc())?;
-    let (source, written) = chains::BOUND_BASE;
-    assert_lowered(
-        &rt,
-        source,
-        &options,
-        written,
-        &["_foo$bar", "_foo$bar2", "_foo$bar2$baz", "_foo$bar3"],
-    )?;
-    let (source, written) = chains::CHAIN_AT_THE_BASE;
-    assert_lowered(&rt, source, &options, written, &["_a$b$c", "_a"])?;
-    let (source, written) = chains::NAME_EVAL;
-    assert_lowered(&rt, source, &options, written, &["_eval"])?;
-    let (source, written) = chains::TWO_MARKED_CALLS;
-    assert_lowered(&rt, source, &options, written, &["_a", "_a2"])?;
-    let (source, written) = chains::DELETED_IN_PARENTHESES;
-    assert_lowered(&rt, source, &options, written, &["_a"])?;
-    Ok(())
-}
-
-#[test]
-fn calls_of_chains_keep_their_receivers(rt: HostRuntime) -> Result<(), Fail> {
-    let options = chaining_options(rt.alloc())?;
-    let (source, written) = chains::CALLED_IN_PARENTHESES;
-    assert_lowered(&rt, source, &options, written, &["_a", "_a2"])?;
-    let (source, written) = chains::METHOD_NAMED_CALL;
-    assert_lowered(
-        &rt,
-        source,
-        &options,
-        written,
-        &["_f", "_f$call", "_f2", "_f3"],
-    )?;
-    let (source, written) = chains::RECEIVER_OF_A_WRITTEN_NAME;
-    assert_lowered(&rt, source, &options, written, &["_a$b", "_a"])?;
-    Ok(())
-}
-
-#[test]
-fn one_loose_test_tells_where_no_value_is_document_all(rt: HostRuntime) -> Result<(), Fail> {
-    let mut options = chaining_options(rt.alloc())?;
-    options.assumptions.no_document_all = true;
-    let (source, written) = chains::ONE_LOOSE_TEST;
-    assert_lowered(&rt, source, &options, written, &["_a"])?;
-    Ok(())
-}
-
-#[test]
-fn a_lowered_program_stays_as_it_is(rt: HostRuntime) -> Result<(), Fail> {
-    let mut options = chaining_options(rt.alloc())?;
-    options.es2020.nullish_coalescing_operator = true;
-    options.es2021.logical_assignment_operators = true;
-    let (source, written) = chains::BESIDE_OTHERS;
-    assert_lowered(
-        &rt,
-        source,
-        &options,
-        written,
-        &["_config$server$port", "_config", "_cache"],
-    )?;
-    assert_lowered(&rt, written, &options, written, &[])?;
-    Ok(())
-}
-
-#[test]
-fn one_visit_lowers_from_outside_in(rt: HostRuntime) -> Result<(), Fail> {
-    let mut options = logical_options(rt.alloc())?;
-    options.es2020.nullish_coalescing_operator = true;
-    let (source, written) = assignments::NULLISH_TARGETS;
-    assert_lowered(
-        &rt,
-        source,
-        &options,
-        written,
-        &["_a", "_obj$a", "_obj$a$b"],
-    )?;
-    let (source, written) = assignments::OUTSIDE_IN;
-    assert_lowered(&rt, source, &options, written, &["_a$b", "_c", "_e$f"])?;
-    options.es2016.exponentiation_operator = true;
-    let (source, written) = assignments::ALL_THREE;
-    assert_lowered(&rt, source, &options, written, &["_a", "_a$b"])?;
     Ok(())
 }
 
@@ -280,6 +134,130 @@ fn causes_come_in_their_order(rt: HostRuntime) -> Result<(), Fail> {
         )
     );
     assert!(rt; matches!(lower_bytes(alloc, b"", &options), Err(LowerError::Json)));
+    Ok(())
+}
+
+/// The bytes of the source become this text, with a warning of a BigInt literal at each of these places.
+fn assert_warned(
+    rt: &(impl Abort + AllocGlobal),
+    source: &str,
+    options: &EnvOptions,
+    written: &str,
+    places: &[Span],
+) -> Result<(), LowerError> {
+    let alloc = rt.alloc();
+    let lowered = lower_bytes(alloc, source.as_bytes(), options)?;
+    let text = lowered.value.to_string(alloc)?;
+    assert_eq!(rt; text.as_str(), written);
+    assert_eq!(rt; lowered.warnings.len(), places.len());
+    for (warning, span) in lowered.warnings.iter().zip(places) {
+        let expected = Warning {
+            kind: WarningKind::BigInt,
+            span: *span,
+        };
+        assert_eq!(rt; *warning, expected);
+    }
+    Ok(())
+}
+
+#[test]
+fn big_ints_of_the_source_are_warned_of_where_asked(rt: HostRuntime) -> Result<(), Fail> {
+    let mut options = no_options(rt.alloc())?;
+    assert_warned(&rt, big_ints::ONE, &options, big_ints::ONE, &[])?;
+    options.es2020.big_int = true;
+    let place = Span { start: 4, end: 6 };
+    assert_warned(&rt, big_ints::ONE, &options, big_ints::ONE, &[place])?;
+    let first = Span { start: 0, end: 2 };
+    let second = Span { start: 8, end: 10 };
+    assert_warned(
+        &rt,
+        big_ints::TWO,
+        &options,
+        big_ints::TWO,
+        &[first, second],
+    )?;
+    let (source, _written) = cases::TWO_STATEMENTS;
+    assert_warned(&rt, source, &options, source, &[])?;
+    Ok(())
+}
+
+#[test]
+fn a_big_int_that_a_lowering_copies_is_warned_of_once(rt: HostRuntime) -> Result<(), Fail> {
+    let mut options = power_options(rt.alloc())?;
+    options.es2020.big_int = true;
+    let (source, written) = big_ints::KEY_READ_TWICE;
+    let place = Span { start: 2, end: 4 };
+    assert_warned(&rt, source, &options, written, &[place])?;
+    Ok(())
+}
+
+/// Whether the options are refused as asking for what isn't built.
+fn are_not_built(alloc: Global, options: &EnvOptions) -> bool {
+    matches!(
+        lower_bytes(alloc, big_ints::ONE.as_bytes(), options),
+        Err(LowerError::Option(OptionName::NotBuilt))
+    )
+}
+
+#[test]
+fn options_that_ask_for_what_isnt_built_are_refused(rt: HostRuntime) -> Result<(), Fail> {
+    let alloc = rt.alloc();
+    let mut options = no_options(alloc)?;
+    options.es2015.arrow_function = Some(ArrowFunctionsOptions { spec: false });
+    assert!(rt; are_not_built(alloc, &options));
+    let mut options = no_options(alloc)?;
+    options.es2018.object_rest_spread = Some(ObjectRestSpreadOptions {
+        loose: false,
+        use_built_ins: false,
+    });
+    assert!(rt; are_not_built(alloc, &options));
+    let mut options = no_options(alloc)?;
+    options.es2019.optional_catch_binding = true;
+    assert!(rt; are_not_built(alloc, &options));
+    let mut options = no_options(alloc)?;
+    options.es2020.export_namespace_from = true;
+    assert!(rt; are_not_built(alloc, &options));
+    let mut options = no_options(alloc)?;
+    options.es2020.arbitrary_module_namespace_names = true;
+    assert!(rt; are_not_built(alloc, &options));
+    let mut options = no_options(alloc)?;
+    options.es2026.explicit_resource_management = true;
+    assert!(rt; are_not_built(alloc, &options));
+    Ok(())
+}
+
+/// The core program that is this text, run as a tree.
+fn lower_text_as_tree(
+    alloc: Global,
+    source: &str,
+    options: &EnvOptions,
+) -> Result<Lowered, LowerError> {
+    let value = read_value(alloc, source.as_bytes())?;
+    let read = read_source(alloc, &value, &no_options(alloc)?)?;
+    let lowered = lower_tree(alloc, read, options)?;
+    Ok(lowered)
+}
+
+#[test]
+fn a_tree_is_lowered_as_its_bytes_are(rt: HostRuntime) -> Result<(), Fail> {
+    let alloc = rt.alloc();
+    let mut options = nullish_options(alloc)?;
+    let (source, written) = cases::DECLARATION;
+    let lowered = lower_text_as_tree(alloc, source, &options)?;
+    assert_text(&rt, &lowered, written)?;
+    assert!(rt;
+        matches!(
+            lower_text_as_tree(alloc, cases::BOUND_MATH, &power_options(alloc)?),
+            Err(LowerError::Unsupported(UnsupportedKind::MathBound, NodeId(6)))
+        )
+    );
+    options.es2019.optional_catch_binding = true;
+    assert!(rt;
+        matches!(
+            lower_text_as_tree(alloc, source, &options),
+            Err(LowerError::Option(OptionName::NotBuilt))
+        )
+    );
     Ok(())
 }
 
