@@ -2,12 +2,14 @@
 use Rattle.std.proofs.Common.{◌≡◌, ℕ, Bool, true, false, List, [], Option, Some, None, ◌&&◌, if◌then◌else◌, sym, ap, ◌∙◌, subst, arith, ◌++◌, refl, ◌∷◌}
 use Rattle.serde_json.specs.Data.{Data}
 use Rattle.es_tree.specs.Core.{is_core, is_core_node, is_not_core}
+use Rattle.es_tree.specs.CoreStaticRules.{Break}
 use Rattle.es_tree.specs.Options.{first_fault}
-use Rattle.es_tree.specs.StaticRules.{Break, breaks, IsFirstBreak}
+use Rattle.es_tree.specs.StaticRules.{breaks, IsFirstBreak}
 use Rattle.es_tree.specs.Tree.{Tree}
 use Rattle.es_tree.specs.Walks.{first_node}
 use Rattle.es_tree.specs.declared.error.LowerError.{LowerError}
 use Rattle.es_tree.specs.declared.error.LowerError.TheVariants.{Json, Option as e-Option, TooLarge, TooDeep, Shape, Invalid, Unsupported}
+use Rattle.es_tree.specs.declared.error.OptionName.{OptionName}
 use Rattle.es_tree.specs.declared.error.Rule.{Rule}
 use Rattle.es_tree.specs.declared.error.UnsupportedKind.TheVariants.{MathBound, NotBuilt}
 use Rattle.es_tree.specs.declared.ids.NodeId.{NodeId}
@@ -27,9 +29,10 @@ use Rattle.lower_driver.specs.Shapes.{first_math_bound}
 use Rattle.lower_driver.specs.Sources.{IsReading, HasReading, Reads, IsUnread, IsBeyondCore, IsBroken, IsWithMath, IsCauseUnder}
 use Rattle.lower_tool.specs.Job.{IsTakenSource}
 
--- the two ask for the same as far as shapes go that aren't taken
-abbrev pub SameShapes : EnvOptions → EnvOptions → Type 0
-SameShapes o q = o.es2016.exponentiation_operator ≡ q.es2016.exponentiation_operator
+-- the two ask for the same as far as refusals go: what isn't done, and the shapes that aren't taken
+pub record SameRefusals (o q : EnvOptions) : Type 0 where
+  pub fault : first_fault o ≡ first_fault q
+  pub power : o.es2016.exponentiation_operator ≡ q.es2016.exponentiation_operator
 
 -- bytes read as one value, and as one program
 one_value : (bytes : List ℕ) (v w : Data) → IsReading bytes v → IsReading bytes w → v ≡ w
@@ -66,11 +69,12 @@ same_if : (b c d : Bool) (x y : Option ℕ) → b ≡ c → (if b && d then x el
 same_if b c d x y same = ap (λ (e : Bool). if e && d then x else y) same
 
 -- which shape isn't taken hangs on one of the options
-same_shape : (o q : EnvOptions) (t : Tree) → SameShapes o q → first_math_bound o t ≡ first_math_bound q t
-same_shape o q t same = same_if o.es2016.exponentiation_operator q.es2016.exponentiation_operator _ _ _ same
+same_shape : (o q : EnvOptions) (t : Tree) → SameRefusals o q → first_math_bound o t ≡ first_math_bound q t
+same_shape o q t same = same_if o.es2016.exponentiation_operator q.es2016.exponentiation_operator _ _ _ same.power
 
-pub taken_as : (o q : EnvOptions) (bytes : List ℕ) → SameShapes o q → IsTakenSource o bytes → IsTakenSource q bytes
+pub taken_as : (o q : EnvOptions) (bytes : List ℕ) → SameRefusals o q → IsTakenSource o bytes → IsTakenSource q bytes
 taken_as o q bytes same source = record {
+  carried = sym same.fault ∙ source.carried;
   program = source.program;
   reads = source.reads;
   core = source.core;
@@ -88,22 +92,27 @@ data Known (o : EnvOptions) (bytes : List ℕ) : LowerError → Type 0 where
   broken : {rule : Rule} {id : NodeId} → IsBroken bytes (Invalid rule id) → Known o bytes (Invalid rule id)
   with_math : {id : NodeId} → IsWithMath o bytes id → Known o bytes (Unsupported MathBound id)
 
-known : (o q : EnvOptions) (bytes : List ℕ) (error : LowerError) → SameShapes o q → first_fault o ≡ None → IsCauseUnder o bytes error → Known q bytes error
-known o q bytes Json same none cause = no_reading cause
-known o q bytes (e-Option name) same none cause = let both : Some name ≡ None = sym cause.1 ∙ none in absurd (cc)
-known o q bytes (TooLarge n) same none cause = unread tt cause.1
-known o q bytes (TooDeep n) same none cause = unread tt cause.1
-known o q bytes (Shape path) same none cause = unread tt cause.1
-known o q bytes (Unsupported NotBuilt id) same none cause = beyond_core cause.1
-known o q bytes (Unsupported MathBound id) same none cause = with_math (record {
+-- or by what the options ask for, where the bytes have a reading
+data Told (o : EnvOptions) (bytes : List ℕ) : LowerError → Type 0 where
+  uncarried : {name : OptionName} → HasReading bytes → first_fault o ≡ Some name → Told o bytes (e-Option name)
+  carried : {error : LowerError} → (HasReading bytes → first_fault o ≡ None) → Known o bytes error → Told o bytes error
+
+told : (o q : EnvOptions) (bytes : List ℕ) (error : LowerError) → SameRefusals o q → IsCauseUnder o bytes error → Told q bytes error
+told o q bytes Json same cause = carried (λ reading. absurd (cause reading)) (no_reading cause)
+told o q bytes (e-Option name) same cause = uncarried cause.0 (sym same.fault ∙ cause.1)
+told o q bytes (TooLarge n) same cause = carried (λ _. sym same.fault ∙ cause.0) (unread tt cause.1)
+told o q bytes (TooDeep n) same cause = carried (λ _. sym same.fault ∙ cause.0) (unread tt cause.1)
+told o q bytes (Shape path) same cause = carried (λ _. sym same.fault ∙ cause.0) (unread tt cause.1)
+told o q bytes (Unsupported NotBuilt id) same cause = carried (λ _. sym same.fault ∙ cause.0) (beyond_core cause.1)
+told o q bytes (Unsupported MathBound id) same cause = carried (λ _. sym same.fault ∙ cause.0) (with_math (record {
   program = cause.1.program;
   reads = cause.1.reads;
   core = cause.1.core;
   kept = cause.1.kept;
   first = sym (same_shape o q cause.1.program same) ∙ cause.1.first;
-})
-known o q bytes (Invalid rule id) same none cause = broken cause.1
-known o q bytes _ same none cause = absurd cause.1
+}))
+told o q bytes (Invalid rule id) same cause = carried (λ _. sym same.fault ∙ cause.0) (broken cause.1)
+told o q bytes _ same cause = absurd cause.1
 
 unread_line : (v : Data) (e f : LowerError) → IsUnreadError e → IsUnreadError f → IsRefusal v e → IsRefusal v f → refusal_text e ≡ refusal_text f
 unread_line v (TooLarge n) (TooLarge m) _ _ r s = ap (λ k. refusal_text (TooLarge k)) (r.1 ∙ sym s.1)
@@ -185,10 +194,21 @@ one_line o bytes _ _ (with_math {id = i} b) (with_math {id = j} d) =
     let number : i.0 ≡ j.0 = cc in
     ap (λ (k : ℕ). line (codes "lower: unsupported " ++ unsupported_name MathBound ++ codes " at node " ++ decimal k)) number
 
+-- what is told of the input, or of the options, is told in one line
+told_line : (o : EnvOptions) (bytes : List ℕ) (e f : LowerError) → Told o bytes e → Told o bytes f → refusal_text e ≡ refusal_text f
+told_line o bytes _ _ (uncarried {name = a} _ first) (uncarried {name = b} _ also) =
+    let both : Some a ≡ Some b = sym first ∙ also in
+    let same : a ≡ b = cc in
+    ap (λ (name : OptionName). refusal_text (e-Option name)) same
+told_line o bytes _ _ (uncarried {name = a} reading first) (carried none _) = let both : Some a ≡ None = sym first ∙ none reading in absurd (cc)
+told_line o bytes _ _ (carried none _) (uncarried {name = a} reading first) = let both : Some a ≡ None = sym first ∙ none reading in absurd (cc)
+told_line o bytes e f (carried _ known) (carried _ also) = one_line o bytes e f known also
+
 -- two causes of one input have one line
-pub one_cause : (o q : EnvOptions) (bytes : List ℕ) (e f : LowerError) → SameShapes o q → first_fault o ≡ None → first_fault q ≡ None
-    → IsCauseUnder q bytes e → IsCauseUnder o bytes f → refusal_text e ≡ refusal_text f
-one_cause o q bytes e f same none done cause other = one_line q bytes e f (known q q bytes e refl done cause) (known o q bytes f same none other)
+pub one_cause : (o q : EnvOptions) (bytes : List ℕ) (e f : LowerError) → SameRefusals o q → IsCauseUnder q bytes e → IsCauseUnder o bytes f
+    → refusal_text e ≡ refusal_text f
+one_cause o q bytes e f same cause other =
+    told_line q bytes e f (told q q bytes e (record { fault = refl; power = refl }) cause) (told o q bytes f same other)
 
 -- a source that is taken is refused for no cause
 not_taken : (o : EnvOptions) (bytes : List ℕ) (error : LowerError) → Known o bytes error → IsTakenSource o bytes → ⊥
@@ -203,5 +223,9 @@ not_taken o bytes _ (with_math {id = i} b) source =
     let both : Some i.0 ≡ None = sym (subst (λ p. first_math_bound o p ≡ Some i.0) same b.first) ∙ source.taken in
     cc
 
-pub not_refused : (o q : EnvOptions) (bytes : List ℕ) (error : LowerError) → SameShapes o q → first_fault o ≡ None → IsCauseUnder o bytes error → IsTakenSource q bytes → ⊥
-not_refused o q bytes error same none cause source = not_taken q bytes error (known o q bytes error same none cause) source
+not_told : (o : EnvOptions) (bytes : List ℕ) (error : LowerError) → Told o bytes error → IsTakenSource o bytes → ⊥
+not_told o bytes _ (uncarried {name = name} _ first) source = let both : Some name ≡ None = sym first ∙ source.carried in cc
+not_told o bytes error (carried _ known) source = not_taken o bytes error known source
+
+pub not_refused : (o q : EnvOptions) (bytes : List ℕ) (error : LowerError) → SameRefusals o q → IsCauseUnder o bytes error → IsTakenSource q bytes → ⊥
+not_refused o q bytes error same cause source = not_told q bytes error (told o q bytes error same cause) source

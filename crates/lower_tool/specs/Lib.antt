@@ -5,3 +5,4 @@ pub mod Memory
 pub mod Run
 pub mod Refusals
 pub mod Words
+pub mod Generated

@@ -1,17 +1,21 @@
 -- What a run of the tool does: the table of its statuses.
-use Rattle.std.specs.Prelude.{◌≡◌, ◌⊎◌, ◌+◌, ◌^◌, ◌<◌, ◌≤◌, ℕ, List, length, take, Some, String, string_bytes}
+use Rattle.std.specs.Prelude.{◌≡◌, ◌⊎◌, ◌+◌, ◌^◌, ◌<◌, ◌≤◌, ℕ, List, length, take, None, Some, String, string_bytes}
 use Rattle.std.specs.declared.alloc.Global.{Global}
 use Rattle.std.specs.Io.KnownBytes.{append_known}
+use Rattle.es_tree.specs.Options.{first_fault}
 use Rattle.es_tree.specs.declared.error.LowerError.{LowerError}
+use Rattle.es_tree.specs.declared.error.LowerError.TheVariants.{Option as e-Option}
+use Rattle.es_tree.specs.declared.error.OptionName.{OptionName}
 use Rattle.lower_tool.specs.declared.answer.Answer.{Answer}
-use Rattle.lower_tool.specs.declared.answer.Answer.TheVariants.{Lowered, Refused, Words, ReadFault, TooLong}
+use Rattle.lower_tool.specs.declared.answer.Answer.TheVariants.{Lowered, Generated, Refused, Words, ReadFault, TooLong}
+use Rattle.lower_tool.specs.declared.answer.Texts.{Texts}
 use Rattle.lower_tool.specs.declared.answer.TheConstants.{DONE, REFUSED, WORDS, READ_FAULT, WRITE_FAULT, OUT_OF_MEMORY, TOO_LONG}
 use Rattle.lower_tool.specs.Answer.{output_text, notes_text, refusal_text}
 use Rattle.lower_tool.specs.Ends.{HasFault, ReadWhole, ReadFront, End}
 use Rattle.es_tree.specs.declared.options.EnvOptions.{EnvOptions}
 use Rattle.lower_driver.specs.Sources.{IsCauseUnder}
-use Rattle.lower_tool.specs.Job.{IsLoweredText, IsTakenSource}
-use Rattle.lower_tool.specs.Words.{AreProper, Asks}
+use Rattle.lower_tool.specs.Job.{IsGeneratedLine, IsLoweredText, IsTakenSource}
+use Rattle.lower_tool.specs.Words.{AreProper, Asks, generate_of}
 
 -- an input of these bytes is refused under these options, and this is the line of the cause
 pub record IsRefusedWith (o : EnvOptions) (bytes text : List ℕ) : Type 0 where
@@ -21,7 +25,8 @@ pub record IsRefusedWith (o : EnvOptions) (bytes text : List ℕ) : Type 0 where
 
 -- the job gives this answer to an input of these bytes
 abbrev pub IsJobAnswer : EnvOptions → Answer → List ℕ → Type 0
-IsJobAnswer o (Lowered text) bytes = IsTakenSource o bytes × IsLoweredText o bytes (string_bytes text)
+IsJobAnswer o (Lowered texts) bytes = IsTakenSource o bytes × IsLoweredText o bytes (string_bytes texts.text) (string_bytes texts.warnings)
+IsJobAnswer o (Generated line) bytes = ⊥
 IsJobAnswer o (Refused text) bytes = IsRefusedWith o bytes (string_bytes text)
 IsJobAnswer o Words bytes = ⊥
 IsJobAnswer o ReadFault bytes = ⊥
@@ -31,19 +36,50 @@ IsJobAnswer o TooLong bytes = ⊥
 abbrev pub WasWhole : End → End → (List ℕ → Type 0) → Type 0
 WasWhole old new P = (bytes : List ℕ) × ReadWhole old.bytes new.bytes bytes × (length bytes ≤ 2 ^ 26) × P bytes
 
+-- the words are proper, and ask to lower the input
+pub record AskForInput (words : List (String Global)) : Type 0 where
+  pub proper : AreProper words
+  pub plain : generate_of words ≡ None
+
 -- the job gave this answer to an input that was read to its end, under the options that the words ask for
 pub record WasAnswered (answer : Answer) (words : List (String Global)) (old new : End) : Type 0 where
   pub options : EnvOptions
   pub asked : Asks words options
   pub whole : WasWhole old new (IsJobAnswer options answer)
 
+-- no made script is lowered under these options, since they ask for what isn't done, and this is the line of that cause
+pub record IsRefusedOption (o : EnvOptions) (text : List ℕ) : Type 0 where
+  pub name : OptionName
+  pub first : first_fault o ≡ Some name
+  pub line_is : text ≡ refusal_text (e-Option name)
+
+-- the job gives this answer to the made script of so many statements
+abbrev pub IsGeneratedAnswer : EnvOptions → ℕ → Answer → Type 0
+IsGeneratedAnswer o n (Lowered texts) = ⊥
+IsGeneratedAnswer o n (Generated line) = (first_fault o ≡ None) × IsGeneratedLine o n (string_bytes line)
+IsGeneratedAnswer o n (Refused text) = IsRefusedOption o (string_bytes text)
+IsGeneratedAnswer o n Words = ⊥
+IsGeneratedAnswer o n ReadFault = ⊥
+IsGeneratedAnswer o n TooLong = ⊥
+
+-- the words are proper and ask for a made script, and the job gave this answer to it, under the options that they ask for
+pub record WasGenerated (answer : Answer) (words : List (String Global)) : Type 0 where
+  pub proper : AreProper words
+  pub count : ℕ
+  pub counted : generate_of words ≡ Some count
+  pub options : EnvOptions
+  pub asked : Asks words options
+  pub gave : IsGeneratedAnswer options count answer
+
 -- this answer is due to these words and to what was read of the input
 abbrev pub IsDue : Answer → List (String Global) → End → End → Type 0
-IsDue (Lowered text) words old new = AreProper words × WasAnswered (Lowered text) words old new
-IsDue (Refused text) words old new = AreProper words × WasAnswered (Refused text) words old new
+IsDue (Lowered texts) words old new = AskForInput words × WasAnswered (Lowered texts) words old new
+IsDue (Generated line) words old new = WasGenerated (Generated line) words × (new ≡ old)
+IsDue (Refused text) words old new =
+    (AskForInput words × WasAnswered (Refused text) words old new) ⊎ (WasGenerated (Refused text) words × (new ≡ old))
 IsDue Words words old new = (¬ AreProper words) × (new ≡ old)
-IsDue ReadFault words old new = AreProper words × HasFault old.faults new.faults
-IsDue TooLong words old new = AreProper words × ReadFront old.bytes new.bytes (2 ^ 26 + 1)
+IsDue ReadFault words old new = AskForInput words × HasFault old.faults new.faults
+IsDue TooLong words old new = AskForInput words × ReadFront old.bytes new.bytes (2 ^ 26 + 1)
 
 -- where an end tells its bytes, it took these
 abbrev pub Took : End → End → List ℕ → Type 0
@@ -87,7 +123,8 @@ pub record GaveFront (answer : Answer) (words : List (String Global)) (old new :
 
 -- The table: what each status says.
 pub record Table (words : List (String Global)) (old new : Ends) (status : ℕ) : Type 0 where
-  pub done : status ≡ DONE → (text : String Global) × Gave (Lowered text) words old new
+  pub done : status ≡ DONE → generate_of words ≡ None → (texts : Texts) × Gave (Lowered texts) words old new
+  pub done_generated : status ≡ DONE → (n : ℕ) → generate_of words ≡ Some n → (line : String Global) × Gave (Generated line) words old new
   pub refused_input : status ≡ REFUSED → (text : String Global) × Gave (Refused text) words old new
   pub refused_words : status ≡ WORDS → Gave Words words old new
   pub read_fault : status ≡ READ_FAULT → Gave ReadFault words old new
@@ -97,9 +134,10 @@ pub record Table (words : List (String Global)) (old new : Ends) (status : ℕ) 
   -- there is no other
   pub known : status ≤ 6
 
--- the words are proper, and the input tells that these bytes are left and doesn't fail
+-- the words ask to lower the input, which tells that these bytes are left and doesn't fail
 pub record HasInput (words : List (String Global)) (old new : Ends) (bytes : List ℕ) : Type 0 where
   pub proper : AreProper words
+  pub plain : generate_of words ≡ None
   pub told : old.input.bytes ≡ Some bytes
   pub no_fault : ¬ HasFault old.input.faults new.input.faults
 
@@ -121,6 +159,12 @@ pub record Causes (words : List (String Global)) (old new : Ends) (status : ℕ)
   -- without a fault, a core program that keeps the static rules and has no shape that isn't taken is done
   pub done : (o : EnvOptions) → Asks words o → (bytes : List ℕ) → HasInput words old new bytes → WasWritten old new → length bytes ≤ 2 ^ 26 → IsTakenSource o bytes
       → (status ≡ DONE) ⊎ (status ≡ OUT_OF_MEMORY)
+  -- a made script is lowered under all options that ask for nothing that isn't done
+  pub generated : (o : EnvOptions) → Asks words o → (n : ℕ) → AreProper words → generate_of words ≡ Some n → first_fault o ≡ None
+      → (status ≡ DONE) ⊎ ((status ≡ WRITE_FAULT) ⊎ (status ≡ OUT_OF_MEMORY))
+  -- and under others the first such option is told
+  pub refused_option : (o : EnvOptions) → Asks words o → (n : ℕ) → AreProper words → generate_of words ≡ Some n → (name : OptionName) → first_fault o ≡ Some name
+      → ((status ≡ REFUSED) × Took old.notes new.notes (refusal_text (e-Option name))) ⊎ ((status ≡ WRITE_FAULT) ⊎ (status ≡ OUT_OF_MEMORY))
 
 -- no count of faults falls
 pub record FaultsStay (old new : Ends) : Type 0 where

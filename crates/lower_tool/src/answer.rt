@@ -17,11 +17,22 @@ pub const OUT_OF_MEMORY: u8 = 5;
 /// The input is too long.
 pub const TOO_LONG: u8 = 6;
 
+/// What goes out for an input that is lowered.
+#[derive(Drop)]
+pub struct Texts {
+    /// The text of the lowered program, its newline included.
+    pub text: String,
+    /// A line for each warning.
+    pub warnings: String,
+}
+
 /// The answer to the words and the input of a run.
 #[derive(Drop)]
 pub enum Answer {
-    /// The text of the lowered program.
-    Lowered(String),
+    /// The input is lowered.
+    Lowered(Texts),
+    /// A made script is lowered: the line of counts.
+    Generated(String),
     /// The input is refused: the line that tells the cause.
     Refused(String),
     /// The words are refused.
@@ -38,17 +49,19 @@ impl Answer {
         ensures { result.now ≡ output_text self.now }
     {
         match self {
-            Answer::Lowered(text) => text.as_bytes(),
+            Answer::Lowered(texts) => texts.text.as_bytes(),
+            Answer::Generated(line) => line.as_bytes(),
             _ => b"",
         }
     }
 
-    /// The line for the notes, or nothing.
+    /// The lines for the notes, or nothing.
     pub fn notes(&self) -> &[u8]
         ensures { result.now ≡ notes_text self.now }
     {
         match self {
-            Answer::Lowered(_) => b"",
+            Answer::Lowered(texts) => texts.warnings.as_bytes(),
+            Answer::Generated(_) => b"",
             Answer::Refused(line) => line.as_bytes(),
             Answer::Words => b"lower: words\n",
             Answer::ReadFault => b"lower: read fault\n",
@@ -61,7 +74,7 @@ impl Answer {
         ensures { result ≡ status_of self.now }
     {
         match self {
-            Answer::Lowered(_) => DONE,
+            Answer::Lowered(_) | Answer::Generated(_) => DONE,
             Answer::Refused(_) => REFUSED,
             Answer::Words => WORDS,
             Answer::ReadFault => READ_FAULT,

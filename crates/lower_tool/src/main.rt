@@ -1,11 +1,15 @@
 //! Reads a program of JavaScript in its tree form from standard input, lowers it as its words say, and writes it out.
-//! Faults and refusals go to standard error, a line each, and the status of the process says which it was.
+//! Warnings, faults and refusals go to standard error, a line each, and the status of the process says which it was.
 #![tactic(auto)]
 
 mod answer;
+mod asked;
 mod calls;
+mod command_line;
 mod ends;
 mod fixed_source;
+mod generated;
+mod generating;
 mod job;
 mod mem_sink;
 mod mem_source;
@@ -15,6 +19,7 @@ mod run;
 mod std_ends;
 #[cfg(test)]
 mod tests;
+mod warnings;
 mod words;
 mod writing;
 

@@ -1,12 +1,13 @@
 //! A run of the tool, from its words and its input to its output and its notes.
-ghost use Rattle.std.specs.Prelude.{◌≡◌, ◌≢◌, ◌⊎◌, ◌≤◌, [], IfOk, OnOk, OnErr};
+ghost use Rattle.std.specs.Prelude.{◌≡◌, ◌≢◌, ◌⊎◌, ◌≤◌, [], IfOk, IsSome, OnOk, OnErr, codes, false};
 ghost use Rattle.lower_tool.specs.Answer.{output_text, notes_text};
 ghost use Rattle.lower_tool.specs.Ends.{end_of};
-ghost use Rattle.lower_tool.specs.Words.{AreProper};
-ghost use Rattle.lower_tool.specs.Run.{IsJobAnswer, IsDue, TookAll, TookFront, Table, Causes, FaultsStay, ends};
+ghost use Rattle.lower_tool.specs.Words.{AreProper, generate_of, has_flag};
+ghost use Rattle.lower_tool.specs.Run.{IsGeneratedAnswer, IsJobAnswer, IsDue, TookAll, TookFront, Table, Causes, FaultsStay, ends};
 
 use crate::answer::{Answer, DONE, OUT_OF_MEMORY, WRITE_FAULT};
 use crate::ends::{Failed, Sink, Source};
+use crate::generating::generated_line;
 use crate::job::lower_text;
 use crate::reading::{ReadError, read_input};
 use crate::refusal::refusal_line;
@@ -15,8 +16,9 @@ use crate::writing::write_all;
 use es_tree::options::EnvOptions;
 use std::alloc::{AllocError, Global};
 
-/// Reads the words, then the input, lowers it, and writes the answer: first `output`, then `notes`.
-/// The result is one of the statuses of `answer`.
+/// Reads the words, then the input, lowers it, and writes the answer: first `output`, then `notes`, with a line for each
+/// warning. Where the words ask for a made script, that is lowered in place of the input, which isn't read, and `output`
+/// gets one line of counts. The result is one of the statuses of `answer`.
 ///
 /// All memory is taken before the first byte goes out.
 pub fn run_tool<S: Source, O: Sink, E: Sink>(
@@ -39,9 +41,9 @@ pub fn run_tool<S: Source, O: Sink, E: Sink>(
         (ends (end_of S.left S.faults input.new) (end_of O.taken O.faults output.new) (end_of E.taken E.faults notes.new)) }
 
     // What isn't used isn't touched, whether or not it tells its bytes.
-    ensures unread { ¬ AreProper words.now → input.new ≡ input.old }
+    ensures unread { (¬ AreProper words.now) ⊎ IsSome (generate_of words.now) → input.new ≡ input.old }
     ensures output_kept { result ≢ DONE → result ≢ WRITE_FAULT → output.new ≡ output.old }
-    ensures notes_kept { (result ≡ DONE) ⊎ (result ≡ OUT_OF_MEMORY) → notes.new ≡ notes.old }
+    ensures notes_kept { (result ≡ OUT_OF_MEMORY) ⊎ ((result ≡ DONE) × (has_flag words.now (codes "bigint-warnings") ≡ false)) → notes.new ≡ notes.old }
 {
     let Ok(answer) = find_answer(alloc, words, input) else {
         return OUT_OF_MEMORY;
@@ -52,14 +54,14 @@ pub fn run_tool<S: Source, O: Sink, E: Sink>(
     }
 }
 
-/// The answer to these words and this input. Nothing is read unless the words are proper.
+/// The answer to these words and this input. Nothing is read unless the words are proper and ask to lower the input.
 fn find_answer<S: Source>(
     alloc: Global,
     words: &[String],
     input: &mut S,
 ) -> Result<Answer, AllocError>
     ensures due { IfOk result (λ answer. IsDue answer words.now (end_of S.left S.faults input.old) (end_of S.left S.faults input.new)) }
-    ensures unread { ¬ AreProper words.now → input.new ≡ input.old }
+    ensures unread { (¬ AreProper words.now) ⊎ IsSome (generate_of words.now) → input.new ≡ input.old }
     ensures rises { S.faults input.old ≤ S.faults input.new }
 {
     let command = match read_words(alloc, words) {
@@ -67,11 +69,14 @@ fn find_answer<S: Source>(
         Err(WordsFault::Refused) => return Ok(Answer::Words),
         Err(WordsFault::OutOfMemory) => return Err(AllocError),
     };
-    match read_input(alloc, input) {
-        Ok(bytes) => answer_to(alloc, &bytes, &command.options),
-        Err(ReadError::Fault) => Ok(Answer::ReadFault),
-        Err(ReadError::TooLong) => Ok(Answer::TooLong),
-        Err(ReadError::OutOfMemory) => Err(AllocError),
+    match command.generate {
+        Some(count) => answer_to_count(alloc, count, &command.options),
+        None => match read_input(alloc, input) {
+            Ok(bytes) => answer_to(alloc, &bytes, &command.options),
+            Err(ReadError::Fault) => Ok(Answer::ReadFault),
+            Err(ReadError::TooLong) => Ok(Answer::TooLong),
+            Err(ReadError::OutOfMemory) => Err(AllocError),
+        },
     }
 }
 
@@ -80,7 +85,18 @@ fn answer_to(alloc: Global, bytes: &[u8], options: &EnvOptions) -> Result<Answer
     ensures { IfOk result (λ answer. IsJobAnswer options.now answer bytes.now) }
 {
     match lower_text(alloc, bytes, options) {
-        Ok(text) => Ok(Answer::Lowered(text)),
+        Ok(texts) => Ok(Answer::Lowered(texts)),
+        Err(error) => Ok(Answer::Refused(refusal_line(alloc, error)?)),
+    }
+}
+
+/// The job's answer to the made script of this many statements, under these options.
+fn answer_to_count(alloc: Global, count: u32, options: &EnvOptions) -> Result<Answer, AllocError>
+    requires { count ≤ 20000 }
+    ensures { IfOk result (λ answer. IsGeneratedAnswer options.now count answer) }
+{
+    match generated_line(alloc, count, options) {
+        Ok(line) => Ok(Answer::Generated(line)),
         Err(error) => Ok(Answer::Refused(refusal_line(alloc, error)?)),
     }
 }

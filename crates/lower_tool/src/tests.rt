@@ -1,10 +1,17 @@
 ghost use Rattle.std.specs.Prelude.{◌<◌};
 
+mod assignments;
 mod cases;
+mod chains;
 mod core_cases;
 mod every_kind;
-mod flags;
+mod generated;
+mod lowerings;
+mod powers;
 mod refusals;
+mod static_rules;
+mod warnings;
+mod words;
 
 use crate::ends::Source;
 use crate::fixed_source::FixedSource;
@@ -34,7 +41,7 @@ fn words_of(alloc: Global, texts: &[&str]) -> Result<Vec<String>, AllocError> {
 }
 
 fn ample_sink(alloc: Global) -> Result<MemSink, AllocError> {
-    MemSink::new(alloc, 4096, 4096, Vec::new(alloc))
+    MemSink::new(alloc, 65_536, 65_536, Vec::new(alloc))
 }
 
 // A run over input and sinks in memory has this status, and leaves these texts.
@@ -108,6 +115,8 @@ fn refused_words_read_nothing(rt: HostRuntime) -> Result<(), Fail> {
         &["--nullish", "--nullish"],
         &["--generate=0"],
         &["--helpers=none"],
+        &["--helper-module="],
+        &["--all", "--all"],
         &["--nullish=true"],
         &["--help"],
         &["-h"],
@@ -219,7 +228,7 @@ fn pieces_make_no_difference(rt: HostRuntime) -> Result<(), Fail> {
 
 #[test]
 fn no_words_give_the_source_back(rt: HostRuntime) -> Result<(), Fail> {
-    let (source, _) = flags::STEADY_OBJECT;
+    let (source, _) = assignments::STEADY_OBJECT;
     assert_lowered(&rt, &[], source, source, 65_536)?;
     assert_lowered(&rt, &["--"], source, source, 65_536)?;
     Ok(())
@@ -227,7 +236,7 @@ fn no_words_give_the_source_back(rt: HostRuntime) -> Result<(), Fail> {
 
 #[test]
 fn each_word_asks_for_its_lowering(rt: HostRuntime) -> Result<(), Fail> {
-    let (source, written) = flags::STEADY_OBJECT;
+    let (source, written) = assignments::STEADY_OBJECT;
     assert_lowered(&rt, &["--logical"], source, written, 65_536)?;
     assert_lowered(
         &rt,
@@ -236,10 +245,10 @@ fn each_word_asks_for_its_lowering(rt: HostRuntime) -> Result<(), Fail> {
         source,
         65_536,
     )?;
-    let (source, written) = flags::NULLISH_TARGETS;
+    let (source, written) = assignments::NULLISH_TARGETS;
     assert_lowered(&rt, &["--logical", "--nullish"], source, written, 65_536)?;
     assert_lowered(&rt, &["--nullish", "--logical"], source, written, 65_536)?;
-    let (source, written) = flags::BOUND_NAME;
+    let (source, written) = powers::BOUND_NAME;
     assert_lowered(&rt, &["--exponentiation"], source, written, 65_536)?;
     assert_lowered(&rt, &["--logical", "--nullish"], source, source, 65_536)?;
     Ok(())
@@ -247,7 +256,7 @@ fn each_word_asks_for_its_lowering(rt: HostRuntime) -> Result<(), Fail> {
 
 #[test]
 fn a_chain_is_tested_as_the_words_assume(rt: HostRuntime) -> Result<(), Fail> {
-    let (source, strict, loose) = flags::CHAIN;
+    let (source, strict, loose) = chains::CHAIN;
     assert_lowered(&rt, &["--chaining"], source, strict, 65_536)?;
     assert_lowered(
         &rt,
@@ -262,7 +271,7 @@ fn a_chain_is_tested_as_the_words_assume(rt: HostRuntime) -> Result<(), Fail> {
 
 #[test]
 fn an_exponentiation_where_math_is_bound_is_refused(rt: HostRuntime) -> Result<(), Fail> {
-    let source = flags::BOUND_MATH;
+    let source = powers::BOUND_MATH;
     let mut input = FixedSource::new(source.as_bytes().to_vec(rt.alloc())?);
     assert_run(
         &rt,
