@@ -1,0 +1,2 @@
+big = 2n ** k;
+small = 3 ** k;

@@ -1,0 +1,2 @@
+big = 2n ** k;
+small = Math.pow(3, k);
