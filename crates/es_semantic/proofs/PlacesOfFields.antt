@@ -6,14 +6,14 @@ use Rattle.es_tree.specs.declared.ast_type.AstType.{AstType}
 use Rattle.es_tree.specs.declared.ast_type.AstType.TheVariants.{Program, FunctionDeclaration}
 use Rattle.es_semantic.specs.FieldPlaces.{held_at}
 use Rattle.es_semantic.specs.Places.{Place, around_own, has_name_scope, is_inside, is_strict_in, makes_scope, own_scope, own_scope_count, parameters_in, is_hoisted_to, place_in}
-use Rattle.es_semantic.specs.RolesOf.{reads, role_at}
+use Rattle.es_semantic.specs.RolesOf.{role_at}
 use Rattle.es_semantic.specs.Walks.{AreOwn, IsKnown, StandsAs}
 use Rattle.es_semantic.specs.declared.field_places.FieldPlaces.{FieldPlaces}
 use Rattle.es_semantic.specs.declared.place.OwnScopes.{OwnScopes}
 use Rattle.es_semantic.specs.declared.place.Role.{Role}
 use Rattle.es_semantic.proofs.VisitCounts.{named_makes}
 
-role_later : (r : Role) (k : AstType) (l : Label) (fs : Fields) (n : ℕ) → role_at r k l fs (suc (suc (suc n))) ≡ reads
+role_later : (r : Role) (k : AstType) (l : Label) (fs : Fields) (n : ℕ) → role_at r k l fs (suc (suc (suc n))) ≡ role_at r k l fs 3
 role_later r Program l fs n = refl
 role_later r _ l fs n = refl
 
@@ -33,9 +33,7 @@ place_by p n k l fs r b = record {
 
 place_later : (p : Place) (n : ℕ) (k : AstType) (l : Label) (fs : Fields) (i : ℕ) → place_in p n k l fs (suc (suc (suc i))) ≡ place_in p n k l fs 3
 place_later p n k l fs i =
-    let there : place_in p n k l fs (suc (suc (suc i))) ≡ place_by p n k l fs reads true = ap (λ r. place_by p n k l fs r (is_inside k (suc (suc (suc i))))) (role_later p.role k l fs i) ∙ ap (place_by p n k l fs reads) (inside_later k (suc (suc i))) in
-    let here : place_in p n k l fs 3 ≡ place_by p n k l fs reads true = ap (λ r. place_by p n k l fs r (is_inside k 3)) (role_later p.role k l fs 0) ∙ ap (place_by p n k l fs reads) (inside_later k 2) in
-    there ∙ sym here
+    ap (λ r. place_by p n k l fs r (is_inside k (suc (suc (suc i))))) (role_later p.role k l fs i) ∙ ap (place_by p n k l fs (role_at p.role k l fs 3)) (inside_later k (suc (suc i)) ∙ sym (inside_later k 2))
 
 pub stands_at : (ps : FieldPlaces) (p : Place) (n : ℕ) (k : AstType) (l : Label) (fs : Fields) → StandsAs ps.first (place_in p n k l fs 0) → StandsAs ps.second (place_in p n k l fs 1) → StandsAs ps.third (place_in p n k l fs 2) → StandsAs ps.later (place_in p n k l fs 3) →
     (i : ℕ) → StandsAs (held_at ps i) (place_in p n k l fs i)

@@ -124,6 +124,8 @@ pub record IsPlainSecond (k : Kind) : Type 0 where
   pub export_named : k ≡ ExportNamedDeclaration → ⊥
   pub pattern_property : (s c : Bool) → k ≡ PatternProperty s c → ⊥
   pub target_property : (s c : Bool) → k ≡ TargetProperty s c → ⊥
+  pub array_pattern : k ≡ ArrayPattern → ⊥
+  pub array_target : k ≡ ArrayTarget → ⊥
 
 pub second_plain : (r : Role) (k : Kind) (l : Label) (fs : Fields) → IsPlainSecond k →
     role_at r (head_of k).kind l fs 1 ≡ (if is_name_place (head_of k).kind l 1 then reads else Nothing)
@@ -136,4 +138,6 @@ second_plain r ImportSpecifier l fs h = absurd (h.import_specifier refl)
 second_plain r ExportNamedDeclaration l fs h = absurd (h.export_named refl)
 second_plain r (PatternProperty s c) l fs h = absurd (h.pattern_property s c refl)
 second_plain r (TargetProperty s c) l fs h = absurd (h.target_property s c refl)
+second_plain r ArrayPattern l fs h = absurd (h.array_pattern refl)
+second_plain r ArrayTarget l fs h = absurd (h.array_target refl)
 second_plain r _ l fs h = refl

@@ -11,5 +11,3 @@ mod role_in;
 mod scopes_added;
 mod scopes_for;
 mod symbols_added;
-#[cfg(test)]
-mod tests;

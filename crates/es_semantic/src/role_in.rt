@@ -1,6 +1,6 @@
 //! What stands in the fields of a node, which count from 0 (ECMA-262, 8.2 and 13.1; for what writes, 13.4, 13.15 and
 //! 14.7.5).
-ghost use Rattle.std.specs.Prelude.{◌≡◌, if◌then◌else◌};
+ghost use Rattle.std.specs.Prelude.{◌≡◌, ℕ, suc, if◌then◌else◌};
 ghost use Rattle.es_tree.specs.Heads.{head_of, label};
 ghost use Rattle.es_tree.specs.Names.{third_stands};
 ghost use Rattle.es_tree.specs.Tree.{Fields, fields_of, kind_of, label_of};
@@ -38,8 +38,8 @@ pub(crate) fn role_in(role: Role, node: &Node, index: usize) -> Role
     match index {
         0 => first_role(role, &node.kind),
         1 => second_role(role, node),
-        2 => third_role(node),
-        _ => READS,
+        2 => third_role(role, node),
+        _ => later_role(role, node),
     }
 }
 
@@ -88,16 +88,30 @@ fn second_role(role: Role, node: &Node) -> Role
         Kind::MethodDefinition { kind, .. } => member_role(*kind, role),
         Kind::ImportSpecifier => Role::Binds(Binding::Import),
         Kind::ExportNamedDeclaration => name_role(!third_stands(node)),
-        Kind::PatternProperty { .. } | Kind::TargetProperty { .. } => role,
+        Kind::PatternProperty { .. }
+        | Kind::TargetProperty { .. }
+        | Kind::ArrayPattern
+        | Kind::ArrayTarget => role,
         _ => name_role(is_second_name(&node.kind)),
     }
 }
 
-fn third_role(node: &Node) -> Role
-    ensures { (role : Role) → result ≡ role_at role (kind_of node.now) (label_of node.now) (fields_of node.now) 2 }
+fn third_role(role: Role, node: &Node) -> Role
+    ensures { result ≡ role_at role (kind_of node.now) (label_of node.now) (fields_of node.now) 2 }
 {
     match &node.kind {
         Kind::ClassDeclaration { .. } | Kind::ClassExpression { .. } => Role::Member(extends(node)),
+        Kind::ArrayPattern | Kind::ArrayTarget => role,
+        _ => READS,
+    }
+}
+
+/// What stands in a field after the third.
+fn later_role(role: Role, node: &Node) -> Role
+    ensures { (i : ℕ) → result ≡ role_at role (kind_of node.now) (label_of node.now) (fields_of node.now) (suc (suc (suc i))) }
+{
+    match &node.kind {
+        Kind::ArrayPattern | Kind::ArrayTarget => role,
         _ => READS,
     }
 }

@@ -19,6 +19,8 @@ returns-in_default c =
       export_named = c.in_default.not-ExportNamedDeclaration;
       pattern_property = c.in_default.not-PatternProperty;
       target_property = c.in_default.not-TargetProperty;
+      array_pattern = c.in_default.not-ArrayPattern;
+      array_target = c.in_default.not-ArrayTarget;
     } in
     rw (← c.node.view_is)
     (c.name_role-in_default.ensures ∙ ap (λ b. if b then reads else Nothing) (c.is_second_name.ensures a.id a.span) ∙ sym (second_plain c.args.role a.kind (label a.id a.span (head_of a.kind)) (plain_fields a.fields.items) plain))
