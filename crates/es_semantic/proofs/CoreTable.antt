@@ -1,11 +1,10 @@
--- A core program has the same scope table and the same marks by the definitions over every program as by those over core programs.
+-- A core program has the same scope table by the definitions over every program as by those over core programs.
 use Rattle.std.proofs.Common.{◌≡◌, ◌<◌, ℕ, zero, suc, refl, sym, ap, ◌∙◌, List, [], ◌∷◌, map, length, arith}
 use Rattle.std.proofs.lemmas.Option.{slice_get-map}
 use Rattle.std.proofs.lemmas.List.{length-map}
 use Rattle.std.specs.List.{list_any}
 use Rattle.std.specs.Prelude.{Option, Some, option_map, slice_get}
 use Rattle.es_tree.specs.Core.{IsCoreProgram}
-use Rattle.es_tree.specs.Marks.{marked, marked_at, scope_marks, with_scope}
 use Rattle.es_tree.specs.References.{references, writes_symbol, reads as core_reads, role_at as core_role_at, references_at}
 use Rattle.es_tree.specs.Scopes.{Declared as CoreDeclared, declared_of}
 use Rattle.es_tree.specs.Symbols.{symbols, symbol_of}
@@ -14,7 +13,7 @@ use Rattle.es_tree.specs.Words.{Text}
 use Rattle.es_tree.specs.declared.ast_type.AstType.TheVariants.{Program}
 use Rattle.es_scope.specs.declared.scoping.Scoping.{Scoping}
 use Rattle.es_semantic.specs.Places.{outermost, place_in, visits_of}
-use Rattle.es_semantic.specs.ReferencesOf.{marked_program, marked_tree, references_among, references_of}
+use Rattle.es_semantic.specs.ReferencesOf.{references_among, references_of}
 use Rattle.es_semantic.specs.ScopesOf.{scopes_of}
 use Rattle.es_semantic.specs.ScopingOf.{IsScopingOf}
 use Rattle.es_semantic.specs.SymbolFlags.{flags_of}
@@ -22,9 +21,9 @@ use Rattle.es_semantic.specs.SymbolsOf.{Declared, symbol_flags, symbol_in, symbo
 use Rattle.es_semantic.specs.TableOf.{IsTableOf}
 use Rattle.es_semantic.proofs.CoreParts.{HasParts, core-parts}
 use Rattle.es_semantic.proofs.CoreSymbols.{core-flags, core-symbol, core-symbols, of_name, outermost_in}
-use Rattle.es_semantic.proofs.CoreWalks.{in_program_below, no-scopes, same-marks-fields, same-references-fields}
+use Rattle.es_semantic.proofs.CoreWalks.{in_program_below, no-scopes, same-references-fields}
 
--- REFERENCES AND MARKS
+-- REFERENCES
 
 module _ (ds : List Declared) (look : Text → Option ℕ) (same : (x : Text) → symbol_in ds 0 x ≡ look x) where
   program-references : (p : Tree) → HasParts p → references_among ds (visits_of p) ≡ references_at look core_reads p
@@ -33,19 +32,8 @@ module _ (ds : List Declared) (look : Text → Option ℕ) (same : (x : Text) �
       same-references-fields ds look same (place_in (outermost p) 1 Program l fs) 1 (core_role_at core_reads Program l) fs (in_program_below (outermost p) 1 Program l fs refl (outermost_in p)) h.1
   program-references (node k l fs) h = absurd h
 
-  program-marks : (p : Tree) → HasParts p → with_scope (marked_tree ds (outermost p) 1 0 p) ≡ with_scope (marked_at look 0 core_reads p)
-  program-marks (node Program l fs) h =
-      let p : Tree = node Program l fs in
-      ap (node Program (record l { marks = scope_marks Program l }))
-      (same-marks-fields ds look same (place_in (outermost p) 1 Program l fs) 1 0 (core_role_at core_reads Program l) fs (in_program_below (outermost p) 1 Program l fs refl (outermost_in p)) h.1)
-  program-marks (node k l fs) h = absurd h
-
 pub core-references : (p : Tree) → IsCoreProgram p → references_of p ≡ references p
 core-references p is = program-references (symbols_of p) (symbol_of (declared_of p)) (core-symbol p is) p (core-parts p is)
-
--- the marks of a core program
-pub core-marked : (p : Tree) → IsCoreProgram p → marked_program p ≡ marked p
-core-marked p is = program-marks (symbols_of p) (symbol_of (declared_of p)) (core-symbol p is) p (core-parts p is)
 
 -- THE TABLE
 

@@ -1,11 +1,10 @@
--- The scopes, the references and the marks of the parts of a core program, by the definition over every program and by the one
+-- The scopes and the references of the parts of a core program, by the definition over every program and by the one
 -- over core programs.
-use Rattle.std.proofs.Common.{◌≡◌, ℕ, zero, suc, ◌+◌, refl, sym, ap, ◌∙◌, List, [], ◌∷◌, ◌++◌, length}
+use Rattle.std.proofs.Common.{◌≡◌, ℕ, zero, suc, ◌+◌, refl, sym, ap, ◌∙◌, List, [], ◌∷◌, ◌++◌}
 use Rattle.std.proofs.lemmas.Bool.{and_parts}
 use Rattle.std.proofs.lemmas.List.{append_assoc}
 use Rattle.std.specs.Prelude.{Bool, true, false, ◌||◌, option_map, Option, Some, None, if◌then◌else◌}
 use Rattle.es_tree.specs.Core.{is_core_kind, is_core_node}
-use Rattle.es_tree.specs.Marks.{with_second, own_marks, marked_at, marked_fields, marked_field, marked_trees}
 use Rattle.es_tree.specs.Names.{first_text}
 use Rattle.es_tree.specs.References as core
 use Rattle.es_tree.specs.References.{Reference}
@@ -16,7 +15,7 @@ use Rattle.es_tree.specs.declared.ast_type.AstType.{AstType}
 use Rattle.es_tree.specs.declared.ast_type.AstType.TheVariants.{BlockStatement, StaticBlock, FunctionDeclaration, FunctionExpression, FunctionBody, ArrowFunctionExpression, ClassDeclaration, ClassExpression, ForStatement, ForInStatement, ForOfStatement, SwitchStatement, CatchClause, Identifier}
 use Rattle.es_tree.proofs.CoreBreaks.{core_kind}
 use Rattle.es_semantic.specs.Places.{Place, Visit, first, visit, has_name_scope, is_hoisted_to, makes_scope, own_scope_count, parameters_in, place_in, scope_count_in, scope_count_in_field, visits, visits_in_fields, visits_in_field, visits_in_trees}
-use Rattle.es_semantic.specs.ReferencesOf.{referring, referred, own_reference, references_among, identifier_marks, own_marks_of, marked_tree, marked_in_fields, marked_in_field, marked_in_trees}
+use Rattle.es_semantic.specs.ReferencesOf.{referring, referred, own_reference, references_among}
 use Rattle.es_semantic.specs.ScopesOf.{scopes_among, scopes_made}
 use Rattle.es_semantic.specs.SymbolsOf.{Declared, find, hoists, hoist_scope, is_bound, is_symbol, scope_for, symbol_in}
 use Rattle.es_semantic.specs.declared.place.Binding.{Binding}
@@ -141,35 +140,6 @@ referred_same Top id s = refl
 referred_same (Member d) id s = refl
 referred_same (Constructor d) id s = refl
 
-abbrev is_identifier : AstType → Bool
-is_identifier Identifier = true
-is_identifier _ = false
-
-other_marks : (look : Text → Option ℕ) (m : ℕ) (o : core.Role) (k : AstType) (l : Label) → is_identifier k ≡ false → own_marks look m o k l ≡ l.marks
-other_marks look m core.nothing k l e = refl
-other_marks look m core.binding Identifier l e = absurd (cc e)
-other_marks look m core.binding _ l e = refl
-other_marks look m (core.refers r w) Identifier l e = absurd (cc e)
-other_marks look m (core.refers r w) _ l e = refl
-
--- of a node that is no identifier and makes no scope
-plain_marks : (ds : List Declared) (p : Place) (n m : ℕ) (k : AstType) (l : Label) (fs : Fields) → is_identifier k ≡ false → makes_scope k ≡ false → own_marks_of ds p n m k l fs ≡ l.marks
-plain_marks ds p n m Identifier l fs e h = absurd (cc e)
-plain_marks ds p n m BlockStatement l fs e h = absurd (cc h)
-plain_marks ds p n m StaticBlock l fs e h = absurd (cc h)
-plain_marks ds p n m FunctionDeclaration l fs e h = absurd (cc h)
-plain_marks ds p n m FunctionExpression l fs e h = absurd (cc h)
-plain_marks ds p n m FunctionBody l fs e h = absurd (cc h)
-plain_marks ds p n m ArrowFunctionExpression l fs e h = absurd (cc h)
-plain_marks ds p n m ClassDeclaration l fs e h = absurd (cc h)
-plain_marks ds p n m ClassExpression l fs e h = absurd (cc h)
-plain_marks ds p n m ForStatement l fs e h = absurd (cc h)
-plain_marks ds p n m ForInStatement l fs e h = absurd (cc h)
-plain_marks ds p n m ForOfStatement l fs e h = absurd (cc h)
-plain_marks ds p n m SwitchStatement l fs e h = absurd (cc h)
-plain_marks ds p n m CatchClause l fs e h = absurd (cc h)
-plain_marks ds p n m _ l fs e h = refl
-
 module _ (ds : List Declared) (look : Text → Option ℕ) (same : (x : Text) → symbol_in ds 0 x ≡ look x) where
   own_same : (p : Place) (k : AstType) (l : Label) (o : core.Role) → InProgram p → Own k p.role o → own_reference ds p k l ≡ core.own_references look o k l
   own_same p Identifier l o h e =
@@ -199,48 +169,3 @@ module _ (ds : List Declared) (look : Text → Option ℕ) (same : (x : Text) �
     same-references-trees p n (t before ts) h b =
         references-append ds (visits p n t) (visits_in_trees p (n + scope_count_in t) ts)
         ∙ (λ i. same-references p n core.reads t h b.0 i ++ same-references-trees p (n + scope_count_in t) ts h b.1 i)
-
-  identifier_same : (p : Place) (m : ℕ) (r : Role) (l : Label) → InProgram p → identifier_marks ds p m r (first_text l.texts) l.marks ≡ own_marks look m (core_role r) Identifier l
-  identifier_same p m Nothing l h = refl
-  identifier_same p m (Binds b) l h =
-      let x = first_text l.texts in
-      ap (λ s. with_second s l.marks) (ap (λ s. symbol_in ds s x) (scope_zero ds p b x h) ∙ same x)
-  identifier_same p m (Refers f) l h = refl
-  identifier_same p m Top l h = refl
-  identifier_same p m (Member d) l h = refl
-  identifier_same p m (Constructor d) l h = refl
-
-  marks_same : (p : Place) (n m : ℕ) (k : AstType) (l : Label) (fs : Fields) (o : core.Role) → InProgram p → is_core_kind k ≡ true → Own k p.role o → own_marks_of ds p n m k l fs ≡ own_marks look m o k l
-  marks_same p n m Identifier l fs o h c e = identifier_same p m p.role l h ∙ ap (λ q. own_marks look m q Identifier l) e
-  marks_same p n m k l fs o h c e = plain_marks ds p n m k l fs refl (plain_kind k fs c).makes ∙ sym (other_marks look m o k l refl)
-
-  mutual
-    pub same-marks : (p : Place) (n m : ℕ) (o : core.Role) (t : Tree) → InProgram p → InTree p.role o t → marked_tree ds p n m t ≡ marked_at look m o t
-    same-marks p n m o (node k l fs) h (c, own, below) =
-        let q = place_in p n k l fs in
-        let s = n + own_scope_count k fs in
-        let os = core.role_at o k l in
-        let fields = ap (λ rs. marked_in_fields ds q s (m + length rs) fs) (own_same p k l o h own) ∙ same-marks-fields q s (m + length (core.own_references look o k l)) os fs (in_program_below p n k l fs c h) below in
-        λ i. node k (record l { marks = marks_same p n m k l fs o h c own i }) (fields i)
-
-    pub same-marks-fields : (ps : ℕ → Place) (n m : ℕ) (os : ℕ → core.Role) (fs : Fields) → ((i : ℕ) → InProgram (ps i)) → InFields (λ i. (ps i).role) os fs → marked_in_fields ds ps n m fs ≡ marked_fields look m os fs
-    same-marks-fields ps n m os done h b = refl
-    same-marks-fields ps n m os (f then fs) h b =
-        let qs : ℕ → Place = λ j. ps (suc j) in
-        let s = n + scope_count_in_field f in
-        let rest = ap (λ rs. marked_in_fields ds qs s (m + length rs) fs) (same-references-field (ps zero) n (os zero) f (h zero) b.0)
-        ∙ same-marks-fields qs s (m + length (core.references_in_field look (os zero) f)) (λ j. os (suc j)) fs (λ j. h (suc j)) b.1 in
-        λ i. same-marks-field (ps zero) n m (os zero) f (h zero) b.0 i then rest i
-
-    same-marks-field : (p : Place) (n m : ℕ) (o : core.Role) (f : Field) → InProgram p → InField p.role o f → marked_in_field ds p n m f ≡ marked_field look m o f
-    same-marks-field p n m o missing h b = refl
-    same-marks-field p n m o (one t) h b = ap one (same-marks p n m o t h b)
-    same-marks-field p n m o (many ts) h b = ap many (same-marks-trees p n m ts h b)
-    same-marks-field p n m o (statements ts) h b = ap statements (same-marks-trees p n m ts h b)
-
-    same-marks-trees : (p : Place) (n m : ℕ) (ts : Trees) → InProgram p → InTrees p.role ts → marked_in_trees ds p n m ts ≡ marked_trees look m ts
-    same-marks-trees p n m empty h b = refl
-    same-marks-trees p n m (t before ts) h b =
-        let s = n + scope_count_in t in
-        let rest = ap (λ rs. marked_in_trees ds p s (m + length rs) ts) (same-references p n core.reads t h b.0) ∙ same-marks-trees p s (m + length (core.references_at look core.reads t)) ts h b.1 in
-        λ i. same-marks p n m core.reads t h b.0 i before rest i

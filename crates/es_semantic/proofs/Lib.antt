@@ -22,3 +22,7 @@ pub mod CoreWalks
 pub mod CoreParts
 pub mod CoreSymbols
 pub mod CoreTable
+pub mod FormEdges
+pub mod DeclaredRoles
+pub mod DeclaredPrograms
+mod ArrayPatterns

@@ -6,7 +6,9 @@ pub mod Places
 pub mod ScopesOf
 pub mod SymbolsOf
 pub mod ReferencesOf
+pub mod NodeMarks
 pub mod TableOf
 pub mod Walks
 pub mod Referring
 pub mod FieldPlaces
+pub mod DeclaredAlike

@@ -1,7 +1,7 @@
 -- The references of a program, in node order (ECMA-262, 13.1), and the marks that the table gives its tree.
-use Rattle.std.specs.Prelude.{ℕ, zero, suc, ◌+◌, List, [], ◌∷◌, ◌++◌, length, Bool, true, false, Option, Some, if◌then◌else◌}
+use Rattle.std.specs.Prelude.{ℕ, zero, suc, ◌+◌, List, [], ◌∷◌, ◌++◌, length, Bool, true, false, Option, Some, None, if◌then◌else◌}
 use Rattle.std.specs.List.{list_any}
-use Rattle.es_tree.specs.Marks.{with_first, with_scope, with_second}
+use Rattle.es_tree.specs.Marks.{with_scope}
 use Rattle.es_tree.specs.Names.{first_text}
 use Rattle.es_tree.specs.References.{Reference, writes_symbol}
 use Rattle.es_tree.specs.Tree.{Tree, node, Label, Fields, done, ◌then◌, Field, missing, one, many, statements, Trees, empty, ◌before◌}
@@ -49,16 +49,17 @@ is_mutated_of p s = list_any (writes_symbol s) (references_of p)
 
 -- MARKS
 
--- the symbol of an identifier that is declared, and the number of one that refers
-abbrev pub identifier_marks : List Declared → Place → ℕ → Role → Text → List (Option ℕ) → List (Option ℕ)
-identifier_marks ds p m Nothing x marks = marks
-identifier_marks ds p m (Binds b) x marks = with_second (symbol_in ds (scope_for ds p b x) x) marks
-identifier_marks ds p m _ x marks = with_first (Some m) marks
+-- The marks of an identifier are its reference and its symbol: of one that refers its number and the symbol of its name here, none
+-- where the name is unbound; of one that is declared its symbol alone.
+abbrev pub identifier_marks : List Declared → Place → ℕ → Role → Text → List (Option ℕ)
+identifier_marks ds p m Nothing x = None ∷ None ∷ []
+identifier_marks ds p m (Binds b) x = None ∷ symbol_in ds (scope_for ds p b x) x ∷ []
+identifier_marks ds p m _ x = Some m ∷ find ds p.around x ∷ []
 
 -- those of a node, where n is the number of the next scope and m that of the next reference
 abbrev pub own_marks_of : List Declared → Place → ℕ → ℕ → AstType → Label → Fields → List (Option ℕ)
-own_marks_of ds p n m Identifier l fs = identifier_marks ds p m p.role (first_text l.texts) l.marks
-own_marks_of ds p n m k l fs = if makes_scope k then with_first (Some (own_scope n k fs)) l.marks else l.marks
+own_marks_of ds p n m Identifier l fs = identifier_marks ds p m p.role (first_text l.texts)
+own_marks_of ds p n m k l fs = if makes_scope k then Some (own_scope n k fs) ∷ [] else l.marks
 
 abbrev mutual
   -- the tree with its marks, where n is the number of the next scope and m that of the next reference

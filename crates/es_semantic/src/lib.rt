@@ -4,6 +4,8 @@
 pub mod building;
 mod declaring;
 mod field_places;
+pub mod laws;
+mod marks;
 pub mod place;
 mod places;
 mod referring;

@@ -2,40 +2,32 @@
 //! its marks, in node order (ECMA-262, 13.1).
 //!
 //! Each call answers an error only for want of memory or of numbers; the marks of the tree are then in no stated state.
-ghost use Rattle.std.specs.Prelude.{◌≡◌, ℕ, ◌+◌, ◌≤◌, List, Some, None, IfOk, OnOk, if◌then◌else◌};
+ghost use Rattle.std.specs.Prelude.{◌≡◌, ℕ, ◌+◌, ◌≤◌, List, [], ◌∷◌, Some, None, IfOk, OnOk, if◌then◌else◌};
 ghost use Rattle.es_tree.specs.Heads.{head_of, label, scope};
-ghost use Rattle.es_tree.specs.Marks.{with_first};
 ghost use Rattle.es_tree.specs.Tree.{Fields, fields_of, kind_of, trees};
 ghost use Rattle.es_tree.specs.Views.{plain_field, plain_fields};
 ghost use Rattle.es_tree.specs.declared.ids.Span.{Span};
 ghost use Rattle.es_scope.specs.Tables.{reference_count, scope_count};
-ghost use Rattle.es_scope.specs.TableChanges.{HasReferenceMore};
 ghost use Rattle.es_semantic.specs.FieldPlaces.{held_at};
 ghost use Rattle.es_semantic.specs.Places.{Place as PlainPlace, makes_scope, own_scope_count, scope_count_in, scope_count_in_field, scope_count_in_fields, scope_count_in_trees, visits, visits_in_field, visits_in_fields, visits_in_trees};
 ghost use Rattle.es_semantic.specs.Referring.{AreAt, HasNames, HasReferencesMore, IsAt, IsChain};
-ghost use Rattle.es_semantic.specs.ReferencesOf.{marked_in_field, marked_in_fields, marked_in_trees, marked_program, marked_tree, own_marks_of, own_reference, reference, references_among};
+ghost use Rattle.es_semantic.specs.ReferencesOf.{marked_in_field, marked_in_fields, marked_in_trees, marked_program, marked_tree, own_marks_of, own_reference, references_among};
 ghost use Rattle.es_semantic.specs.ScopesOf.{ScopeRow, scopes_of};
-ghost use Rattle.es_semantic.specs.SymbolsOf.{Declared, find, symbols_of};
+ghost use Rattle.es_semantic.specs.SymbolsOf.{Declared, symbols_of};
 ghost use Rattle.es_semantic.specs.TableOf.{IsTableOf};
 ghost use Rattle.es_semantic.specs.Walks.{AreOwn, Holds, IsKnown, StandsAs};
 
 use crate::building::mark_scope as mark_program;
 use crate::declaring::outermost;
 use crate::field_places::FieldPlaces;
-use crate::place::{OwnScopes, Place, Role};
+use crate::marks::mark_identifier;
+use crate::place::{OwnScopes, Place};
 use crate::places::{has_name_scope, makes_scope};
-use crate::scopes_for::scope_for;
-use es_scope::flags::ReferenceFlags;
-use es_scope::scoping::{Reference, Scoping};
-use es_tree::ids::{NodeId, ReferenceId, ScopeId};
+use es_scope::scoping::Scoping;
+use es_tree::ids::{NodeId, ScopeId};
 use es_tree::kind::Kind;
 use es_tree::node::{Field, Node};
 use std::alloc::AllocError;
-
-const READS: ReferenceFlags = ReferenceFlags {
-    read: true,
-    write: false,
-};
 
 /// Adds the references of a program to the table of its scopes and symbols, and writes the program's marks.
 pub(crate) fn refer_program(scoping: &mut Scoping, program: &mut Node) -> Result<(), AllocError>
@@ -173,7 +165,7 @@ fn mark_kind(
     requires known { IsKnown place (scope_count scoping.old) }
     ensures kept { OnOk result (scope_count scoping.new ≡ scope_count scoping.old) }
     ensures same { OnOk result ((head_of kind.new).kind ≡ (head_of kind.old).kind) }
-    ensures marked { OnOk result ((p : PlainPlace) (rows : List ScopeRow) (ds : List Declared) (n : ℕ) (fs : Fields) (span : Span) → StandsAs place p → HasNames rows ds scoping.old → AreOwn own n (head_of kind.old).kind fs → label node span (head_of kind.new) ≡ record (label node span (head_of kind.old)) { marks = own_marks_of ds p n (reference_count scoping.old) (head_of kind.old).kind (label node span (head_of kind.old)) fs }) }
+    ensures marked { OnOk result ((p : PlainPlace) (rows : List ScopeRow) (ds : List Declared) (n : ℕ) (fs : Fields) (span : Span) → StandsAs place p → HasNames rows ds scoping.old → IsChain rows p.around → AreOwn own n (head_of kind.old).kind fs → label node span (head_of kind.new) ≡ record (label node span (head_of kind.old)) { marks = own_marks_of ds p n (reference_count scoping.old) (head_of kind.old).kind (label node span (head_of kind.old)) fs }) }
     ensures referred { OnOk result ((p : PlainPlace) (rows : List ScopeRow) (ds : List Declared) (span : Span) → StandsAs place p → HasNames rows ds scoping.old → IsChain rows p.around → HasReferencesMore scoping.old scoping.new (own_reference ds p (head_of kind.old).kind (label node span (head_of kind.old)))) }
 {
     match kind {
@@ -181,21 +173,11 @@ fn mark_kind(
             name,
             reference,
             symbol,
-        } => match place.role {
-            Role::Nothing => {}
-            Role::Binds(binding) => {
-                let scope = scope_for(scoping, place, binding, name.as_str());
-                *symbol = scoping.get_binding(scope, name.as_str());
-            }
-            Role::Refers(flags) => *reference = Some(refer(
-                scoping,
-                node,
-                place,
-                name.as_str(),
-                flags,
-            )?),
-            _ => *reference = Some(refer(scoping, node, place, name.as_str(), READS)?),
-        },
+        } => {
+            let marks = mark_identifier(scoping, node, place, name.as_str())?;
+            *reference = marks.reference;
+            *symbol = marks.symbol;
+        }
         _ => mark_scope(kind, own.own),
     }
     Ok(())
@@ -206,7 +188,7 @@ fn mark_scope(kind: &mut Kind, own: Option<ScopeId>)
     ensures same { (head_of kind.new).kind ≡ (head_of kind.old).kind }
     ensures texts { (head_of kind.new).texts ≡ (head_of kind.old).texts }
     ensures flags { (head_of kind.new).flags ≡ (head_of kind.old).flags }
-    ensures marks { (head_of kind.new).marks ≡ (if makes_scope (head_of kind.old).kind then with_first (scope own) (head_of kind.old).marks else (head_of kind.old).marks) }
+    ensures marks { (head_of kind.new).marks ≡ (if makes_scope (head_of kind.old).kind then scope own ∷ [] else (head_of kind.old).marks) }
 {
     match kind {
         Kind::BlockStatement { scope } => *scope = own,
@@ -224,25 +206,4 @@ fn mark_scope(kind: &mut Kind, own: Option<ScopeId>)
         Kind::CatchClause { scope } => *scope = own,
         _ => {}
     }
-}
-
-/// Adds the reference of a node to a name, and answers its number.
-fn refer(
-    scoping: &mut Scoping,
-    node: NodeId,
-    place: Place,
-    name: &str,
-    flags: ReferenceFlags,
-) -> Result<ReferenceId, AllocError>
-    requires known { IsKnown place (scope_count scoping.old) }
-    ensures number { IfOk result (λ id. id.0 ≡ reference_count scoping.old) }
-    ensures kept { OnOk result (scope_count scoping.new ≡ scope_count scoping.old) }
-    ensures referred { OnOk result ((p : PlainPlace) (rows : List ScopeRow) (ds : List Declared) → StandsAs place p → HasNames rows ds scoping.old → IsChain rows p.around → HasReferenceMore scoping.old scoping.new (reference node.0 (find ds p.around name.now) flags.read flags.write)) }
-{
-    let symbol = scoping.find_binding(place.scope, name);
-    scoping.add_reference(Reference {
-        node,
-        symbol,
-        flags,
-    })
 }

@@ -109,7 +109,7 @@ mark_node-returns-clause-marked t c = λ p rows ds given.
     let more : HasReferencesMore s mid (own_reference ds p k l) = c.in_ok-mark_kind.ensures.referred p rows ds a.span here.stands here.names here.chain in
     let inner : AreAt c.of_node-places.result (place_in p n k l fs) rows ds mid m (visits_in_fields (place_in p n k l fs) m fs) = fields_at c.args.place c.of_node-places.result p rows ds s mid n m k l fs count stands here more in
     let own : AreOwn c.in_ok-own.own n k fs = subst (λ u. AreOwn c.in_ok-own.own n (kind_of u) (fields_of u)) (sym same) c.in_ok-own.ensures.own in
-    let marks = c.in_ok-mark_kind.ensures.marked p rows ds n fs a.span here.stands here.names own in
+    let marks = c.in_ok-mark_kind.ensures.marked p rows ds n fs a.span here.stands here.names here.chain own in
     let fields : (ps : ℕ → Place) (rows : List ScopeRow) (ds : List Declared) → AreAt c.of_node-places.result ps rows ds mid m (visits_in_fields ps m fs) → plain_fields c.mark_fields.new.fields ≡ marked_in_fields ds ps m (reference_count mid) fs = rw c.deref_mut.ensures.value at c.in_ok-mark_fields.ensures.marked in
     let back = written_back c.mark_fields.new.fields a.fields.items a.fields.len (omega (arith, c.mark_fields.auto.fields, ap length c.deref_mut.ensures.value, a.fields.ok.0)) in
     rw (← c.node.view_is, back)
