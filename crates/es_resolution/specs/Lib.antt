@@ -1,0 +1,6 @@
+pub mod Declarations
+pub mod Resolved
+pub mod Single
+pub mod Named
+pub mod Seen
+pub mod Laws

@@ -1,0 +1,20 @@
+//! Resolved programs: each name of a program stands for the binding that looking it up outwards finds (ECMA-262, 9.1.2.1). The
+//! functions do nothing: their contracts are laws over the definitions.
+#![tactic(auto)]
+
+ghost use Rattle.es_resolution.specs.Laws.{LawNamed, LawResolved, LawSingle};
+
+/// A program that has form is resolved, as it is seen with the marks of its scope table.
+pub fn law_resolved()
+    ensures { LawResolved }
+{}
+
+/// In such a program each symbol is bound by one scope at most.
+pub fn law_single()
+    ensures { LawSingle }
+{}
+
+/// The names and symbols that stand in such a program are in use, where those of its scope table are.
+pub fn law_named()
+    ensures { LawNamed }
+{}
