@@ -14,7 +14,7 @@ use Rattle.es_runs.specs.Machine.Result.{gives}
 use Rattle.es_runs.specs.Core.{World, Reference, Meaning, value, get_value, put_value, cut_where, key, literal, name, member, assignment, assign_logical, assign_class, goes_right, without_last, is_free, meaning, flag, flag_after}
 use Rattle.es_runs.specs.Core.AssignClass.{logically}
 use Rattle.es_runs.specs.Core.Reference.{named, property}
-use Rattle.es_runs.specs.Alike.{set_cells, kept_cells, Agree, Same, Alike, Equal, SameTarget, SameWorld, Need, Like, the_value, Level, the_target, touches, bad_names, value_and_form, member_needs}
+use Rattle.es_runs.specs.Alike.{set_cells, kept_cells, Agree, Same, Alike, Equal, SameTarget, SameWorld, Need, Like, the_value, Level, the_target, touches, bad_names, value_and_form, key_need, object_need}
 use Rattle.es_runs.specs.Alike.SameTarget.{target_name, target_property}
 use Rattle.es_runs.specs.LogicalAssignment.{is_assigning, LogicalAssignmentRule}
 use Rattle.es_runs.specs.LogicalAssignment.LogicalAssignmentRule.{to_name, to_static_member, to_computed_member}
@@ -28,6 +28,7 @@ use Rattle.es_runs.proofs.Named.{and_left, and_right}
 use Rattle.es_runs.proofs.RowPlaces.{RowPlace, IsRowAlike}
 use Rattle.es_runs.proofs.Undeclaring.{undeclaring}
 use Rattle.es_runs.proofs.Stripped.{StrippedFree, stripped_free, stripped_reference}
+use Rattle.es_runs.proofs.WalksNeeds.{object_free}
 use Rattle.es_runs.proofs.Written.{one_of}
 use Rattle.es_runs.proofs.Doubled.{AllSet, Gives, Twice, kept_same, kept_like, now_kept, now_set, constant_twice, doubled, read_names, read_from, read_kept, read_apart}
 use Rattle.es_runs.proofs.Doubled.Twice.{both_read, neither_read, not_called}
@@ -132,7 +133,7 @@ module _ (bound steady in_use : Text → Bool) where
       let bad : Level → Text → Bool = bad_names hidden steady in
       let kt : Text = first_text k.texts in
       let free : touches bad (record { level = Level.a_target; form = q.target.form }) (node MemberExpression l (one o then one (node Identifier k done) then done)) ≡ false = rw e at q.target.free in
-      let free_o : touches bad (value_and_form q.target.form) o ≡ false = or_left (touches bad (value_and_form q.target.form) o) (touches bad (member_needs q.target.form (flag l.flags) 1) (node Identifier k done) || false) free in
+      let free_o : touches bad (value_and_form q.target.form) o ≡ false = object_free hidden steady q.target.form (flag_after l.flags) o (or_left (touches bad (object_need q.target.form (flag_after l.flags)) o) (touches bad (key_need (flag l.flags)) (node Identifier k done) || false) free) in
       rw (ap first_text texts, is_logically op assigns) (plain_like (set_cells hidden) w v p.same n _ _
       (λ s z a. rw (q.reference, e, ap flag flags, ap flag_after flags)
       (from_object hidden steady w v p.same (without_last op) (meaning w r) (meaning v r) (λ d. kept_like hidden steady w v p.same d the_value r q.right)
@@ -146,8 +147,8 @@ module _ (bound steady in_use : Text → Bool) where
       let bad : Level → Text → Bool = bad_names hidden steady in
       let form : Bool = q.target.form in
       let free : touches bad (record { level = Level.a_target; form = form }) (node MemberExpression l (one o then one k then done)) ≡ false = rw e at q.target.free in
-      let free_o : touches bad (value_and_form form) o ≡ false = or_left (touches bad (value_and_form form) o) (touches bad (member_needs form (flag l.flags) 1) k || false) free in
-      let free_k : touches bad (member_needs form (flag l.flags) 1) k ≡ false = or_left (touches bad (member_needs form (flag l.flags) 1) k) false (or_right (touches bad (value_and_form form) o) (touches bad (member_needs form (flag l.flags) 1) k || false) free) in
+      let free_o : touches bad (value_and_form form) o ≡ false = object_free hidden steady form (flag_after l.flags) o (or_left (touches bad (object_need form (flag_after l.flags)) o) (touches bad (key_need (flag l.flags)) k || false) free) in
+      let free_k : touches bad (key_need (flag l.flags)) k ≡ false = or_left (touches bad (key_need (flag l.flags)) k) false (or_right (touches bad (object_need form (flag_after l.flags)) o) (touches bad (key_need (flag l.flags)) k || false) free) in
       let free_key : touches bad (value_and_form false) k ≡ false = rw (ap flag flags) at free_k in
       let cover_o : (y : Text) → one_of xs y ≡ true → hidden y ≡ true = first_of xs ys in
       let cover_k : (y : Text) → one_of ys y ≡ true → hidden y ≡ true = later_of xs ys in

@@ -25,32 +25,32 @@ use Rattle.es_runs.proofs.RowFacts.{Each, below_parens, each_both, each_first, e
 
 -- FRESH NAMES
 
-module _ (no_all : Bool) (bound source steady in_use : Text → Bool) where
+module _ (no_all : Bool) (bound steady in_use : Text → Bool) where
   receives_fresh : {to_this : Tree → Bool} {used : Text → Bool} {holder : Option Text} {xs : List Text} {o o1 r : Tree} → Receives to_this steady used holder xs o o1 r → FreshInTurn used xs
   receives_fresh (by_this h) = no_more
   receives_fresh (receives_name h e) = no_more
   receives_fresh {used = used} (by_temporary {r = r} h e fresh) = fresh_one used _ r fresh
 
-  tested_fresh : {w u : Way} → Tested no_all bound source in_use w u → FreshInTurn in_use w.taken → FreshInTurn in_use u.taken
+  tested_fresh : {w u : Way} → Tested no_all bound in_use w u → FreshInTurn in_use w.taken → FreshInTurn in_use u.taken
   tested_fresh (as_name none again) h = h
   tested_fresh (in_holder held) h = h
   tested_fresh (in_temporary {w = w} {x = x} again none fresh) h = fresh_both h (fresh_one (also_all w.taken in_use) _ x fresh)
 
-  called_fresh : {l : Label} {ts : Trees} {w u : Way} → Called no_all bound source steady in_use l ts w u → FreshInTurn in_use w.taken → FreshInTurn in_use u.taken
+  called_fresh : {l : Label} {ts : Trees} {w u : Way} → Called no_all bound steady in_use l ts w u → FreshInTurn in_use w.taken → FreshInTurn in_use u.taken
   called_fresh (by_name none again) h = h
   called_fresh (by_value {w = w} {c = c} again member fresh) h = fresh_both h (fresh_one (also_all w.taken in_use) _ c fresh)
   called_fresh (by_first_member {w = w} {c = c} none member flags fresh receives) h = fresh_both h (one_more fresh.free (not_math (also_all w.taken in_use) _ c fresh) (receives_fresh receives))
   called_fresh (by_later_member {w = w} {c = c} {xs = xs} some member flags receives fresh) h = fresh_both h (fresh_both (receives_fresh receives) (fresh_one (also_all xs (also_all w.taken in_use)) _ c fresh))
 
   mutual
-    walked_fresh : {e : Tree} {w : Way} → Walked no_all bound source steady in_use e w → FreshInTurn in_use w.taken
+    walked_fresh : {e : Tree} {w : Way} → Walked no_all bound steady in_use e w → FreshInTurn in_use w.taken
     walked_fresh (base link) = no_more
     walked_fresh (plain_member flags below) = walked_fresh below
     walked_fresh (plain_call flags below) = walked_fresh below
     walked_fresh (marked_member flags below test) = tested_fresh test (continued_fresh below)
     walked_fresh (marked_call flags below called) = called_fresh called (continued_fresh below)
 
-    continued_fresh : {e : Tree} {w : Way} → Continued no_all bound source steady in_use e w → FreshInTurn in_use w.taken
+    continued_fresh : {e : Tree} {w : Way} → Continued no_all bound steady in_use e w → FreshInTurn in_use w.taken
     continued_fresh (same_spine h walked) = walked_fresh walked
     continued_fresh (inner_spine link inner walked) = walked_fresh walked
 
@@ -58,7 +58,7 @@ module _ (no_all : Bool) (bound source steady in_use : Text → Bool) where
   bound_fresh (no_member h) = no_more
   bound_fresh (to_object flags receives) = receives_fresh receives
 
-  pub chaining_fresh : {xs : List Text} {n : Need} {a b : Tree} → OptionalChainingRule no_all bound source steady in_use xs n a b → FreshInTurn in_use xs
+  pub chaining_fresh : {xs : List Text} {n : Need} {a b : Tree} → OptionalChainingRule no_all bound steady in_use xs n a b → FreshInTurn in_use xs
   chaining_fresh (by_tests level walked tested) = walked_fresh walked
   chaining_fresh (as_callee level walked tested callee) = fresh_both (walked_fresh walked) (bound_fresh callee)
   chaining_fresh (in_delete texts inner walked tested) = walked_fresh walked
@@ -114,7 +114,7 @@ module _ (Good : Tree → Type 0) (Fine : Text → Type 0) (on : ChainPassesOn G
   tests_good true e again h g = (on.loosely_equals e null_node h on.null, tt)
   tests_good false e again h g = (on.equals e null_node h on.null, (on.equals again void_zero_node g on.void_zero, tt))
 
-  module _ (no_all : Bool) (bound source steady in_use : Text → Bool) where
+  module _ (no_all : Bool) (bound steady in_use : Text → Bool) where
     more_tests_good : (ts : List Tree) (e again : Tree) → Each Good ts → Good e → Good again → Each Good (ts ++ tests_of no_all e again)
     more_tests_good ts e again k h g = each_both Good ts (tests_of no_all e again) k (tests_good no_all e again h g)
 
@@ -123,12 +123,12 @@ module _ (Good : Tree → Type 0) (Fine : Text → Type 0) (on : ChainPassesOn G
     receives_good (receives_name h e) fine good = (good, good)
     receives_good (by_temporary {o = o} {r = r} h e fresh) fine good = (on.takes r o fine.0 good, on.name r fine.0)
 
-    tested_first : {w u : Way} → Tested no_all bound source in_use w u → Each Fine u.taken → Each Fine w.taken
+    tested_first : {w u : Way} → Tested no_all bound in_use w u → Each Fine u.taken → Each Fine w.taken
     tested_first (as_name none again) fine = fine
     tested_first (in_holder held) fine = fine
     tested_first (in_temporary {w = w} {x = x} again none fresh) fine = each_first Fine w.taken (x ∷ []) fine
 
-    tested_good : {w u : Way} → Tested no_all bound source in_use w u → Each Fine u.taken → GoodWay w → GoodWay u
+    tested_good : {w u : Way} → Tested no_all bound in_use w u → Each Fine u.taken → GoodWay w → GoodWay u
     tested_good (as_name {w = w} none again) fine h =
         let e = stripped_good w.current (without_parens w.current) refl h.current in
         record { tests = tests_good no_all (without_parens w.current) (without_parens w.current) e e; current = e; holder = h.holder }
@@ -141,7 +141,7 @@ module _ (Good : Tree → Type 0) (Fine : Text → Type 0) (on : ChainPassesOn G
         let x_fine = (each_second Fine w.taken (x ∷ []) fine).0 in
         record { tests = more_tests_good w.tests _ (identifier x) h.tests (on.takes x (without_parens w.current) x_fine e) (on.name x x_fine); current = on.name x x_fine; holder = held_fine x x_fine }
 
-    called_first : {l : Label} {ts : Trees} {w u : Way} → Called no_all bound source steady in_use l ts w u → Each Fine u.taken → Each Fine w.taken
+    called_first : {l : Label} {ts : Trees} {w u : Way} → Called no_all bound steady in_use l ts w u → Each Fine u.taken → Each Fine w.taken
     called_first (by_name none again) fine = fine
     called_first (by_value {w = w} {c = c} again member fresh) fine = each_first Fine w.taken (c ∷ []) fine
     called_first (by_first_member {w = w} {c = c} {xs = xs} none member flags fresh receives) fine = each_first Fine w.taken (c ∷ xs) fine
@@ -156,7 +156,7 @@ module _ (Good : Tree → Type 0) (Fine : Text → Type 0) (on : ChainPassesOn G
       holder = held_fine c c_fine;
     }
 
-    called_good : (l : Label) (f : Tree) (ts : Trees) → Good (node CallExpression l (one f then many ts then done)) → {w u : Way} → Called no_all bound source steady in_use l ts w u → Each Fine u.taken → GoodWay w → GoodWay u
+    called_good : (l : Label) (f : Tree) (ts : Trees) → Good (node CallExpression l (one f then many ts then done)) → {w u : Way} → Called no_all bound steady in_use l ts w u → Each Fine u.taken → GoodWay w → GoodWay u
     called_good l f ts whole (by_name {w = w} none again) fine h =
         let e = stripped_good w.current (without_parens w.current) refl h.current in
         record { tests = tests_good no_all (without_parens w.current) (without_parens w.current) e e; current = on.call l f (without_parens w.current) ts whole e; holder = h.holder }
@@ -176,7 +176,7 @@ module _ (Good : Tree → Type 0) (Fine : Text → Type 0) (on : ChainPassesOn G
         stored_good l f ts whole w (xs ++ c ∷ []) k computed o o1 p r c flags (each_second Fine xs (c ∷ []) names).0 e objects.0 objects.1 h
 
     mutual
-      walked_good : {e : Tree} {w : Way} → Walked no_all bound source steady in_use e w → Each Fine w.taken → Good e → GoodWay w
+      walked_good : {e : Tree} {w : Way} → Walked no_all bound steady in_use e w → Each Fine w.taken → Good e → GoodWay w
       walked_good (base link) fine h = record { tests = tt; current = h; holder = λ x k. absurd (cc k) }
       walked_good (plain_member {l = l} {computed = computed} {o = o} {p = p} {w = w} flags below) fine h =
           let b = walked_good below fine (on.object l o p h) in
@@ -190,7 +190,7 @@ module _ (Good : Tree → Type 0) (Fine : Text → Type 0) (on : ChainPassesOn G
       walked_good (marked_call {l = l} {f = f} {arguments = ts} flags below called) fine h =
           called_good l f ts h called fine (continued_good below (called_first called fine) (on.callee l f ts h))
 
-      continued_good : {e : Tree} {w : Way} → Continued no_all bound source steady in_use e w → Each Fine w.taken → Good e → GoodWay w
+      continued_good : {e : Tree} {w : Way} → Continued no_all bound steady in_use e w → Each Fine w.taken → Good e → GoodWay w
       continued_good (same_spine k walked) fine h = walked_good walked fine h
       continued_good (inner_spine {e = e} {c = c} {l = l} link inner walked) fine h = walked_good walked fine (on.content l c (stripped_good e (node ChainExpression l (one c then done)) inner h))
 
@@ -209,7 +209,7 @@ module _ (Good : Tree → Type 0) (Fine : Text → Type 0) (on : ChainPassesOn G
         let bound_one = on.member k computed false o o1 p flags h objects.0 in
         on.call_one (member_node false (member_at k computed o1 p) (identifier (codes "bind"))) r (on.static_member (member_at k computed o1 p) (codes "bind") bound_one) objects.1
 
-    pub chaining_good : {xs : List Text} {n : Need} {a b : Tree} → OptionalChainingRule no_all bound source steady in_use xs n a b → Each Fine xs → Good a → Good b
+    pub chaining_good : {xs : List Text} {n : Need} {a b : Tree} → OptionalChainingRule no_all bound steady in_use xs n a b → Each Fine xs → Good a → Good b
     chaining_good (by_tests {m = m} {e = e} {w = w} level walked tested) fine h =
         let way = walked_good walked fine (on.content m e h) in
         short_good m w.tests void_zero_node w.current way.tests on.void_zero way.current

@@ -2,27 +2,28 @@
 -- `(a?.b).c?.d`, with null and undefined at each step, a throw, and values all the way. The questions stand with the
 -- latest first. What they become is what the rows say.
 use Rattle.std.proofs.Common.{◌≡◌, refl, List, [], ◌∷◌, arith}
-use Rattle.std.specs.Prelude.{Bool, true, false, codes}
+use Rattle.std.specs.Prelude.{Bool, true, false, None, codes}
 use Rattle.es_tree.specs.Fresh.{IsFreshName, is_among}
 use Rattle.es_tree.specs.Names.{names_of}
+use Rattle.es_tree.specs.Parens.{without_parens}
 use Rattle.es_tree.specs.Scopes.{declared_of}
-use Rattle.es_tree.specs.Tree.{Tree, node, done, ◌then◌, one, many, Trees, empty, ◌before◌}
+use Rattle.es_tree.specs.Tree.{Tree, Label, node, done, ◌then◌, one, many, Trees, empty, ◌before◌}
 use Rattle.es_tree.specs.Words.{Text}
 use Rattle.es_tree.specs.declared.ast_type.AstType.TheVariants.{CallExpression, ChainExpression, ExpressionStatement, MemberExpression}
-use Rattle.es_runs.specs.Alike.{the_callee, the_value}
+use Rattle.es_runs.specs.Alike.{object_need, the_callee, the_value}
 use Rattle.es_runs.specs.Machine.{Value, Move, Question}
 use Rattle.es_runs.specs.Machine.Cell.{holds}
 use Rattle.es_runs.specs.Machine.Move.{answer, throw}
 use Rattle.es_runs.specs.Machine.Question.{read, get, call, delete}
 use Rattle.es_runs.specs.Machine.Value.{undefined, null, boolean, host, text, number}
 use Rattle.es_runs.specs.Machine.Values.{none}
-use Rattle.es_runs.specs.OptionalChaining.{OptionalChainingRule, delete_node, true_node}
+use Rattle.es_runs.specs.OptionalChaining.{OptionalChainingRule, Tested, Way, delete_node, is_name_among, true_node}
 use Rattle.es_runs.specs.OptionalChaining.BoundCallee.{to_object}
-use Rattle.es_runs.specs.OptionalChaining.Called.{by_value, by_first_member}
+use Rattle.es_runs.specs.OptionalChaining.Called.{by_value, by_first_member, by_later_member}
 use Rattle.es_runs.specs.OptionalChaining.Continued.{same_spine}
 use Rattle.es_runs.specs.OptionalChaining.OptionalChainingRule.{by_tests, as_callee, in_delete}
 use Rattle.es_runs.specs.OptionalChaining.Receives.{by_name, by_temporary}
-use Rattle.es_runs.specs.OptionalChaining.Tested.{as_name, in_temporary}
+use Rattle.es_runs.specs.OptionalChaining.Tested.{as_name, in_holder, in_temporary}
 use Rattle.es_runs.specs.OptionalChaining.Walked.{base, plain_member, marked_member, marked_call}
 use Rattle.es_runs.specs.Rules.{assign_node, binary_node, conditional_node, logical_node, member_node, null_node, parenthesized_node, void_zero_node}
 use Rattle.es_runs.specs.Steps.{also_all}
@@ -247,7 +248,7 @@ asks_all_too = refl
 
 -- no name of these programs is bound
 abbrev Becomes : Tree → List Text → Tree → Tree → Type 0
-Becomes p xs e d = OptionalChainingRule false none_hidden none_hidden none_hidden (is_among (names_of (script p))) xs the_value e d
+Becomes p xs e d = OptionalChainingRule false none_hidden none_hidden (is_among (names_of (script p))) xs the_value e d
 
 method_row : Becomes method (codes "_a$b" ∷ codes "_a" ∷ []) method method_lowered
 method_row =
@@ -260,6 +261,31 @@ twice_row : (y : Text) → IsFreshName (also_all (codes "_a" ∷ []) (is_among (
 twice_row y fresh =
     by_tests refl
     (marked_call refl (same_spine refl (marked_call refl (same_spine refl (base refl)) (by_value (λ e. refl) refl (record { number = 0; name = refl; free = refl; first = λ m h. absurd (omega arith) })))) (by_value (λ e. refl) refl fresh)) refl
+
+-- `a?.().s?.()`: the receiver's name is made before the callee's, which is named after the member with the receiver in it
+abbrev later : Tree
+later = chain_node (call_node true (member_node false (call_node true a empty) (identifier (codes "s"))) empty)
+
+-- `(_a = a) === null || _a === void 0 || (c = (_a2 = _a()).s) === null || c === void 0 ? void 0 : c.call(_a2)`
+abbrev later_over : Text → Tree
+later_over c = conditional_node (or_node (or_node (or_node (is_null_node (stores_node (codes "_a") a)) (is_undefined_node (codes "_a"))) (is_null_node (stores_node c (member_node false (stores_node (codes "_a2") (call_node false (identifier (codes "_a")) empty)) (identifier (codes "s")))))) (is_undefined_node c)) void_zero_node (call_node false (member_node false (identifier c) (identifier (codes "call"))) (identifier (codes "_a2") before empty))
+
+later_row : (c : Text) → IsFreshName (also_all (codes "_a" ∷ []) (is_among (names_of (script later)))) (codes "a") (codes "_a2") → IsFreshName (also_all (codes "_a" ∷ codes "_a2" ∷ []) (is_among (names_of (script later)))) (codes "a2$s") c → Becomes later (codes "_a" ∷ codes "_a2" ∷ c ∷ []) later (later_over c)
+later_row c receiver callee =
+    by_tests refl
+    (marked_call refl (same_spine refl (plain_member refl (marked_call refl (same_spine refl (base refl)) (by_value (λ e. refl) refl (record { number = 0; name = refl; free = refl; first = λ m h. absurd (omega arith) })))))
+    (by_later_member refl refl refl (by_temporary refl refl receiver) callee)) refl
+
+-- an inner chain that a marked member goes on with is no place of a row
+no_place : {no_all form : Bool} {bound steady in_use : Text → Bool} {xs : List Text} {m : Label} {e d : Tree} → OptionalChainingRule no_all bound steady in_use xs (object_need form true) (node ChainExpression m (one e then done)) d → ⊥
+no_place (by_tests level walked tested) = absurd (cc level)
+no_place (as_callee level walked tested callee) = absurd (cc level)
+
+-- a name that is bound, by the source or as a fresh one, is never stored once more
+names_stand : {no_all : Bool} {bound in_use : Text → Bool} {w u : Way} → Tested no_all bound in_use w u → w.tests ≡ [] → w.holder ≡ None → is_name_among bound (without_parens w.current) ≡ true → u.taken ≡ w.taken
+names_stand (as_name untested named) tests holder named_one = refl
+names_stand (in_holder held) tests holder named_one = refl
+names_stand (in_temporary other unheld fresh) tests holder named_one = absurd (cc (other tests, named_one))
 
 -- the outer chain first, as a visit from outside in comes to it
 outer_row : Becomes outer (codes "_a$b$c" ∷ []) outer (outer_over inner)
@@ -294,7 +320,7 @@ bound_calls_too = refl
 bound_null : outcome_of (script bound_call) (answer null ∷ []) ≡ called_uncallable
 bound_null = refl
 
-bound_row : OptionalChainingRule false none_hidden none_hidden none_hidden (is_among (names_of (script bound_call))) (codes "_a" ∷ []) (the_callee false) inner inner_bound
+bound_row : OptionalChainingRule false none_hidden none_hidden (is_among (names_of (script bound_call))) (codes "_a" ∷ []) (the_callee false) inner inner_bound
 bound_row =
     as_callee refl
     (marked_member refl (same_spine refl (base refl)) (in_temporary (λ e. refl) refl (record { number = 0; name = refl; free = refl; first = λ m h. absurd (omega arith) }))) refl
@@ -331,7 +357,7 @@ abbrev inner_loose : Tree
 inner_loose = conditional_node (binary_node (codes "==") a null_node) void_zero_node (member_node false a (identifier (codes "b")))
 
 -- a name that is bound is read again
-loose_row : OptionalChainingRule true (only (codes "a")) (only (codes "a")) none_hidden (is_among (names_of (script inner))) [] the_value inner inner_loose
+loose_row : OptionalChainingRule true (only (codes "a")) none_hidden (is_among (names_of (script inner))) [] the_value inner inner_loose
 loose_row = by_tests refl (marked_member refl (same_spine refl (base refl)) (as_name refl refl)) refl
 
 -- `var a; a = c; e`

@@ -95,13 +95,13 @@ record KeptWay (w : Way) : Type 0 where
   tests : Each (Keeps Other) w.tests
   current : Keeps Other w.current
 
-module _ (no_all : Bool) (bound source steady in_use : Text → Bool) where
+module _ (no_all : Bool) (bound steady in_use : Text → Bool) where
   receives_keep : {to_this : Tree → Bool} {used : Text → Bool} {holder : Option Text} {xs : List Text} {o o1 r : Tree} → Receives to_this steady used holder xs o o1 r → Keeps Other o → Keeps Other o1 × Keeps Other r
   receives_keep (by_this h) g = (g, (free_own _ _ _ refl, tt))
   receives_keep (receives_name h e) g = (g, g)
   receives_keep (by_temporary {o = o} {r = r} h e fresh) g = (store_keeps r o g, name_keeps _)
 
-  tested_keeps : {w u : Way} → Tested no_all bound source in_use w u → KeptWay w → KeptWay u
+  tested_keeps : {w u : Way} → Tested no_all bound in_use w u → KeptWay w → KeptWay u
   tested_keeps (as_name {w = w} none again) h = let e = stripped_keeps w.current h.current in record { tests = tests_keep no_all (without_parens w.current) (without_parens w.current) e e; current = e }
   tested_keeps (in_holder {w = w} {x = x} held) h = record { tests = stored_tests_keep no_all w.tests x (without_parens w.current) h.tests (stripped_keeps w.current h.current); current = name_keeps _ }
   tested_keeps (in_temporary {w = w} {x = x} again none fresh) h = record { tests = stored_tests_keep no_all w.tests x (without_parens w.current) h.tests (stripped_keeps w.current h.current); current = name_keeps _ }
@@ -112,7 +112,7 @@ module _ (no_all : Bool) (bound source steady in_use : Text → Bool) where
     current = call_at_keeps l (call_method (identifier c)) (r before ts) (member_keeps false (identifier c) _ (name_keeps _) (name_keeps _)) (again, args);
   }
 
-  called_keeps : (l : Label) (ts : Trees) → KeepsTrees Other ts → {w u : Way} → Called no_all bound source steady in_use l ts w u → KeptWay w → KeptWay u
+  called_keeps : (l : Label) (ts : Trees) → KeepsTrees Other ts → {w u : Way} → Called no_all bound steady in_use l ts w u → KeptWay w → KeptWay u
   called_keeps l ts args (by_name {w = w} none again) h =
       let e = stripped_keeps w.current h.current in
       record { tests = tests_keep no_all (without_parens w.current) (without_parens w.current) e e; current = call_at_keeps l (without_parens w.current) ts e args }
@@ -128,7 +128,7 @@ module _ (no_all : Bool) (bound source steady in_use : Text → Bool) where
       stored_keeps l ts args w (xs ++ c ∷ []) c k computed o1 p r objects.0 inside.key objects.1 h
 
   mutual
-    walked_keeps : {e : Tree} {w : Way} → Walked no_all bound source steady in_use e w → Keeps Spine e → KeptWay w
+    walked_keeps : {e : Tree} {w : Way} → Walked no_all bound steady in_use e w → Keeps Spine e → KeptWay w
     walked_keeps (base {e = e} link) h = record { tests = tt; current = base_keeps e link h }
     walked_keeps (plain_member {l = l} {computed = computed} {p = p} {w = w} flags below) h =
         let b = walked_keeps below h.1.0 in
@@ -141,7 +141,7 @@ module _ (no_all : Bool) (bound source steady in_use : Text → Bool) where
         record { tests = b.tests; current = member_at_keeps l computed u.current p b.current h.1.1.0 }
     walked_keeps (marked_call {l = l} {arguments = ts} flags below called) h = called_keeps l ts h.1.1.0 called (continued_keeps below h.1.0)
 
-    continued_keeps : {e : Tree} {w : Way} → Continued no_all bound source steady in_use e w → Keeps Spine e → KeptWay w
+    continued_keeps : {e : Tree} {w : Way} → Continued no_all bound steady in_use e w → Keeps Spine e → KeptWay w
     continued_keeps (same_spine k walked) h = walked_keeps walked h
     continued_keeps (inner_spine {e = e} {c = c} {l = l} link inner walked) h =
         let chain : Keeps Other (node ChainExpression l (one c then done)) = subst (λ t. Keeps Other t) inner (stripped_keeps e (base_keeps e link h)) in
@@ -156,14 +156,14 @@ module _ (no_all : Bool) (bound source steady in_use : Text → Bool) where
   -- DELETE
 
   -- a call may be deleted
-  called_deleted : {l : Label} {ts : Trees} {w u : Way} → Called no_all bound source steady in_use l ts w u → is_kept (without_parens u.current) ≡ false
+  called_deleted : {l : Label} {ts : Trees} {w u : Way} → Called no_all bound steady in_use l ts w u → is_kept (without_parens u.current) ≡ false
   called_deleted (by_name none again) = refl
   called_deleted (by_value again member fresh) = refl
   called_deleted (by_first_member none member flags fresh receives) = refl
   called_deleted (by_later_member some member flags receives fresh) = refl
 
   -- what becomes of a chain that may be deleted may be deleted
-  walked_deleted : {e : Tree} {w : Way} → Walked no_all bound source steady in_use e w → has_tests w.tests ≡ true → is_private_member (Some e) ≡ false → is_kept (without_parens w.current) ≡ false
+  walked_deleted : {e : Tree} {w : Way} → Walked no_all bound steady in_use e w → has_tests w.tests ≡ true → is_private_member (Some e) ≡ false → is_kept (without_parens w.current) ≡ false
   walked_deleted (base link) tested h = absurd (cc tested)
   walked_deleted (plain_member flags below) tested h = h
   walked_deleted (plain_call flags below) tested h = refl
@@ -172,7 +172,7 @@ module _ (no_all : Bool) (bound source steady in_use : Text → Bool) where
 
   -- ROWS
 
-  pub chaining_keeps : {xs : List Text} {n : Need} {a b : Tree} → OptionalChainingRule no_all bound source steady in_use xs n a b → Keeps Other a → Keeps Other b
+  pub chaining_keeps : {xs : List Text} {n : Need} {a b : Tree} → OptionalChainingRule no_all bound steady in_use xs n a b → Keeps Other a → Keeps Other b
   chaining_keeps (by_tests {m = m} {w = w} level walked tested) h =
       let way = walked_keeps walked h.1.0 in
       short_keeps m w.tests void_zero_node w.current way.tests zero_keeps way.current

@@ -47,13 +47,13 @@ stored_tests_tidy no_all ts x e h g = tidy_more ts (tests_of no_all (assign_node
 content_tidy : (l : Label) (c : Tree) → Tidy (node ChainExpression l (one c then done)) → strays true c ≡ false
 content_tidy l c h = or_left (strays true c) false h
 
-module _ (no_all : Bool) (bound source steady in_use : Text → Bool) where
+module _ (no_all : Bool) (bound steady in_use : Text → Bool) where
   receives_tidy : {to_this : Tree → Bool} {used : Text → Bool} {holder : Option Text} {xs : List Text} {o o1 r : Tree} → Receives to_this steady used holder xs o o1 r → Tidy o → Tidy o1 × Tidy r
   receives_tidy (by_this h) tidy = (tidy, refl)
   receives_tidy (receives_name h e) tidy = (tidy, tidy)
   receives_tidy (by_temporary {o = o} {r = r} h e fresh) tidy = (tidy_store r o tidy, refl)
 
-  tested_tidy : {w u : Way} → Tested no_all bound source in_use w u → TidyWay w → TidyWay u
+  tested_tidy : {w u : Way} → Tested no_all bound in_use w u → TidyWay w → TidyWay u
   tested_tidy (as_name {w = w} none again) h = let e = tidy_stripped w.current h.current in record { tests = tidy_tests no_all (without_parens w.current) (without_parens w.current) e e; current = e }
   tested_tidy (in_holder {w = w} {x = x} held) h = record { tests = stored_tests_tidy no_all w.tests x (without_parens w.current) h.tests (tidy_stripped w.current h.current); current = refl }
   tested_tidy (in_temporary {w = w} {x = x} again none fresh) h = record { tests = stored_tests_tidy no_all w.tests x (without_parens w.current) h.tests (tidy_stripped w.current h.current); current = refl }
@@ -64,7 +64,7 @@ module _ (no_all : Bool) (bound source steady in_use : Text → Bool) where
     current = tidy_call l (call_method (identifier c)) (r before ts) refl (or_both (strays false r) (strays_nodes false ts) again args);
   }
 
-  called_tidy : (l : Label) (ts : Trees) → strays_nodes false ts ≡ false → {w u : Way} → Called no_all bound source steady in_use l ts w u → TidyWay w → TidyWay u
+  called_tidy : (l : Label) (ts : Trees) → strays_nodes false ts ≡ false → {w u : Way} → Called no_all bound steady in_use l ts w u → TidyWay w → TidyWay u
   called_tidy l ts args (by_name {w = w} none again) h =
       let e = tidy_stripped w.current h.current in
       record { tests = tidy_tests no_all (without_parens w.current) (without_parens w.current) e e; current = tidy_call l (without_parens w.current) ts e args }
@@ -81,7 +81,7 @@ module _ (no_all : Bool) (bound source steady in_use : Text → Bool) where
       stored_tidy l ts args w (xs ++ c ∷ []) c k computed o1 p r objects.0 inside.key objects.1 h
 
   mutual
-    walked_tidy : {e : Tree} {w : Way} → Walked no_all bound source steady in_use e w → strays true e ≡ false → TidyWay w
+    walked_tidy : {e : Tree} {w : Way} → Walked no_all bound steady in_use e w → strays true e ≡ false → TidyWay w
     walked_tidy (base {e = e} link) h = record { tests = tt; current = tidy_base e link h }
     walked_tidy (plain_member {l = l} {computed = computed} {o = o} {p = p} {w = w} flags below) h =
         let b = walked_tidy below (tidy_object l o p h) in
@@ -94,7 +94,7 @@ module _ (no_all : Bool) (bound source steady in_use : Text → Bool) where
         record { tests = b.tests; current = tidy_member l computed u.current p b.current (tidy_key l o p h) }
     walked_tidy (marked_call {l = l} {f = f} {arguments = ts} flags below called) h = called_tidy l ts (tidy_arguments l f ts h) called (continued_tidy below (tidy_callee l f ts h))
 
-    continued_tidy : {e : Tree} {w : Way} → Continued no_all bound source steady in_use e w → strays true e ≡ false → TidyWay w
+    continued_tidy : {e : Tree} {w : Way} → Continued no_all bound steady in_use e w → strays true e ≡ false → TidyWay w
     continued_tidy (same_spine k walked) h = walked_tidy walked h
     continued_tidy (inner_spine {e = e} {c = c} {l = l} link inner walked) h = walked_tidy walked (content_tidy l c (rw inner at (tidy_stripped e (tidy_base e link h))))
 
@@ -114,7 +114,7 @@ module _ (no_all : Bool) (bound source steady in_use : Text → Bool) where
       let objects = receives_tidy receives inside.object in
       tidy_bound (member_at k computed o1 p) r (tidy_member k computed o1 p objects.0 inside.key) objects.1
 
-  pub chaining_tidy : {xs : List Text} {n : Need} {a b : Tree} → OptionalChainingRule no_all bound source steady in_use xs n a b → strays false a ≡ false → strays false b ≡ false
+  pub chaining_tidy : {xs : List Text} {n : Need} {a b : Tree} → OptionalChainingRule no_all bound steady in_use xs n a b → strays false a ≡ false → strays false b ≡ false
   chaining_tidy (by_tests {m = m} {e = e} {w = w} level walked tested) h =
       let way = walked_tidy walked (content_tidy m e h) in
       short_tidy m w.tests void_zero_node w.current way.tests refl way.current

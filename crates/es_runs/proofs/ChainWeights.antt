@@ -151,12 +151,12 @@ stored_callee_few no_all l k computed ts w names xs c o o1 p r is flags count f 
     let light = ap weight is ∙ plain_member_weight k computed o p flags in
     record { made = t.own + 7 + f.own; few = omega arith; size = omega arith; paid = omega arith }
 
-pub tested_few : {no_all : Bool} {bound source in_use : Text → Bool} {w u : Way} → Tested no_all bound source in_use w u → FewMade 11 28 0 0 w u
+pub tested_few : {no_all : Bool} {bound in_use : Text → Bool} {w u : Way} → Tested no_all bound in_use w u → FewMade 11 28 0 0 w u
 tested_few {no_all} {bound} (as_name {w = w} none named) = more_made 11 28 (omega arith) (omega arith) (read_again_few no_all w none (single_name bound (without_parens w.current) named))
 tested_few {no_all} (in_holder {w = w} {x = x} held) = subst (λ (xs : List Text). FewMade 11 28 0 0 w (record w { tests = w.tests ++ tests_of no_all (assign_node (identifier x) (without_parens w.current)) (identifier x); current = identifier x; taken = xs })) (append-nil w.taken) (stored_few no_all w x w.holder [] (omega arith))
 tested_few {no_all} (in_temporary {w = w} {x = x} apart held fresh) = stored_few no_all w x (Some x) (x ∷ []) (omega arith)
 
-pub called_few : {no_all : Bool} {bound source steady in_use : Text → Bool} {l : Label} {ts : Trees} {w u : Way} → Called no_all bound source steady in_use l ts w u → FewMade 18 44 (1 + trees_size ts) (1 + trees_weight ts) w u
+pub called_few : {no_all : Bool} {bound steady in_use : Text → Bool} {l : Label} {ts : Trees} {w u : Way} → Called no_all bound steady in_use l ts w u → FewMade 18 44 (1 + trees_size ts) (1 + trees_weight ts) w u
 called_few {no_all} {bound} {l = l} {ts = ts} (by_called_name {w = w} none named) = more_made 18 44 (omega arith) (omega arith) (call_made l ts w _ (read_again_few no_all w none (single_name bound (without_parens w.current) named)))
 called_few {no_all} {l = l} {ts = ts} (by_value {w = w} {c = c} apart other fresh) = more_made 18 44 (omega arith) (omega arith) (call_made l ts w _ (stored_few no_all w c (Some c) (c ∷ []) (omega arith)))
 called_few {no_all} {l = l} {ts = ts} (by_first_member {w = w} {k = k} {computed = computed} {o = o} {o1 = o1} {p = p} {r = r} {c = c} {xs = xs} none is flags fresh receives) =
@@ -207,7 +207,7 @@ inner_affords e c l w is a =
     record { nodes = omega arith; lighter = omega arith }
 
 mutual
-  pub walked_afforded : {no_all : Bool} {bound source steady in_use : Text → Bool} {e : Tree} {w : Way} → Walked no_all bound source steady in_use e w → IsAfforded e w
+  pub walked_afforded : {no_all : Bool} {bound steady in_use : Text → Bool} {e : Tree} {w : Way} → Walked no_all bound steady in_use e w → IsAfforded e w
   walked_afforded (base {e = e} none) = record { ids = 0; affords = start_affords e }
   walked_afforded (plain_member {l = l} {computed = computed} {o = o} {p = p} {w = w} flags walked) = let h = walked_afforded walked in record { ids = h.ids; affords = plain_member_affords l computed o p w flags h.affords }
   walked_afforded (plain_call {l = l} {f = f} {arguments = ts} {w = w} flags walked) = let h = walked_afforded walked in record { ids = h.ids; affords = plain_call_affords l f ts w flags h.affords }
@@ -220,7 +220,7 @@ mutual
       let f = called_few called in
       record { ids = h.ids + f.made; affords = marked_call_affords l callee ts w u f.made flags h.affords f (omega arith) }
 
-  pub continued_afforded : {no_all : Bool} {bound source steady in_use : Text → Bool} {e : Tree} {w : Way} → Continued no_all bound source steady in_use e w → IsAfforded e w
+  pub continued_afforded : {no_all : Bool} {bound steady in_use : Text → Bool} {e : Tree} {w : Way} → Continued no_all bound steady in_use e w → IsAfforded e w
   continued_afforded (same_spine here walked) = walked_afforded walked
   continued_afforded (inner_spine {e = e} {c = c} {l = l} {w = w} none is walked) = let h = walked_afforded walked in record { ids = h.ids; affords = inner_affords e c l w is h.affords }
 
@@ -290,7 +290,7 @@ pub record IsAffordedRow (names : List Text) (t u : Tree) : Type 0 where
   pub ids : ℕ
   pub affords : AffordsRow ids names t u
 
-pub chaining_afforded : {no_all : Bool} {bound source steady in_use : Text → Bool} {xs : List Text} {n : Need} {t u : Tree} → OptionalChainingRule no_all bound source steady in_use xs n t u → IsAffordedRow xs t u
+pub chaining_afforded : {no_all : Bool} {bound steady in_use : Text → Bool} {xs : List Text} {n : Need} {t u : Tree} → OptionalChainingRule no_all bound steady in_use xs n t u → IsAffordedRow xs t u
 chaining_afforded (by_tests {m = m} {e = e} {w = w} place walked some) =
     let a = walked_afforded walked in
     record { ids = a.ids + (length w.tests + 2); affords = tests_afford m e w (length w.tests + 2) some a.affords (omega arith) (omega arith) }

@@ -14,7 +14,8 @@ use Rattle.es_runs.specs.Runs.{cells_of, world_of, run_where, outcome, SameRun, 
 use Rattle.es_runs.specs.Runs.Outcome.{called_uncallable}
 use Rattle.es_runs.specs.Rules.{OnePlace}
 use Rattle.es_runs.proofs.Basic.{value_alike}
-use Rattle.es_runs.proofs.Everywhere.{near_like}
+use Rattle.es_runs.proofs.Everywhere.{near_like, near_words}
+use Rattle.es_runs.proofs.MathWords.{NoMathIn, NoMathWord}
 use Rattle.es_runs.proofs.Fresh.{near_self}
 use Rattle.es_runs.proofs.Steps.{Unnamed, near_place}
 use Rattle.es_runs.proofs.Laws.{same_run}
@@ -25,11 +26,15 @@ Nothing n a b = ⊥
 
 -- a tree in which no hidden name stands means the same in both worlds
 pub unnamed_like : (hidden : Text → Bool) (w v : World) → SameWorld hidden w v → (n : Need) (a : Tree) → touches (bad_names hidden none_hidden) n a ≡ false → Like (set_cells hidden) w v n (meaning w a) (meaning v a)
-unnamed_like hidden w v same n a h = near_like (set_cells hidden) w v same Nothing (λ m b c e. absurd e) (near_self (bad_names hidden none_hidden) Nothing a n h)
+unnamed_like hidden w v same n a h = near_like (set_cells hidden) w v same Nothing (λ m b c e. absurd e) (λ m b c e. absurd e) (near_self (bad_names hidden none_hidden) Nothing a n h)
+
+-- and has no hidden word `Math` as its form, where it is evaluated
+pub unnamed_words : (hidden : Text → Bool) (w v : World) → SameWorld hidden w v → (n : Need) (a : Tree) → touches (bad_names hidden none_hidden) n a ≡ false → NoMathIn hidden n (meaning w a)
+unnamed_words hidden w v same n a h = near_words (set_cells hidden) w v same Nothing (λ m b c e. absurd e) (λ m b c e. absurd e) (near_self (bad_names hidden none_hidden) Nothing a n h)
 
 -- MORE CELLS
 
-module _ (loose : Bool) (xs : List Text) (ds : List Declared) (this : Value) (not_math : one_of xs (codes "Math") ≡ false) where
+module _ (loose : Bool) (xs : List Text) (ds : List Declared) (this : Value) where
   abbrev pub before : World
   before = world_of loose this ds
 
@@ -37,7 +42,7 @@ module _ (loose : Bool) (xs : List Text) (ds : List Declared) (this : Value) (no
   after = world_of loose this (all_pending xs ds)
 
   pub names_more : SameWorld (one_of xs) before after
-  names_more = record { scope = λ y e. rw (scope_of-all_pending xs ds y, e) refl; this = refl; math = not_math; counts = refl }
+  names_more = record { scope = λ y e. rw (scope_of-all_pending xs ds y, e) refl; this = refl; counts = refl }
 
   pub are_vars : (y : Text) → one_of xs y ≡ true → after.scope y ≡ changeable
   are_vars y e = rw (scope_of-all_pending xs ds y, e) refl
@@ -45,11 +50,11 @@ module _ (loose : Bool) (xs : List Text) (ds : List Declared) (this : Value) (no
   cells_more : (moves : List Move) → Agree (set_cells (one_of xs)) (state (cells_of ds) moves []) (state (cells_of (all_pending xs ds)) moves [])
   cells_more moves = agree (λ y e. rw (cells_of-all_pending xs ds y, e) refl) (λ y e. rw (cells_of-all_pending xs ds y, e) refl) (λ y e. cc)
 
-  module _ (R : Need → Tree → Tree → Type 0) (base : (n : Need) (a b : Tree) → R n a b → touches (bad_names (one_of xs) none_hidden) n a ≡ false → Like (set_cells (one_of xs)) before after n (meaning before a) (meaning after b)) where
+  module _ (R : Need → Tree → Tree → Type 0) (base : (n : Need) (a b : Tree) → R n a b → touches (bad_names (one_of xs) none_hidden) n a ≡ false → Like (set_cells (one_of xs)) before after n (meaning before a) (meaning after b)) (words : (n : Need) (a b : Tree) → R n a b → NoMathWord (one_of xs) (meaning before a).form) where
     place_alike : (p q : Tree) → touches (bad_names (one_of xs) none_hidden) all_of_it p ≡ false → OnePlace R all_of_it p q → Alike (set_cells (one_of xs)) Equal (value before (meaning before p)) (value after (meaning after q))
     place_alike p q h r =
         value_alike (set_cells (one_of xs)) before after names_more (meaning before p) (meaning after q)
-        (near_like (set_cells (one_of xs)) before after names_more (Unnamed (bad_names (one_of xs) none_hidden) R) (λ n a b k. base n a b k.0 k.1) (near_place (bad_names (one_of xs) none_hidden) R r h)).evaluation
+        (near_like (set_cells (one_of xs)) before after names_more (Unnamed (bad_names (one_of xs) none_hidden) R) (λ n a b k. base n a b k.0 k.1) (λ n a b k. words n a b k.0) (near_place (bad_names (one_of xs) none_hidden) R r h)).evaluation
 
     -- from a program in which none of the names stands
     pub place_run : (counts : Text → Bool) → ((y : Text) → counts y ≡ true → one_of xs y ≡ false) → (p q : Tree) → touches (bad_names (one_of xs) none_hidden) all_of_it p ≡ false → OnePlace R all_of_it p q → (moves : List Move) → (outcome (run_where loose ds p this moves) ≡ called_uncallable → ⊥) →

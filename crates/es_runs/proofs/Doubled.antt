@@ -128,7 +128,7 @@ module _ (hidden frozen : Text → Bool) (w v : World) (same : SameWorld hidden 
 
   -- a node in which no hidden name is evaluated and no frozen one written, in cells that are kept
   pub kept_like : (d : Text → Cell) (n : Need) (e : Tree) → touches (bad_names hidden frozen) n e ≡ false → Like (kept_cells hidden frozen d) w v n (meaning w e) (meaning v e)
-  kept_like d n e h = near_like (kept_cells hidden frozen d) w v same NoPlace (λ m a b r. absurd r) (near_self (bad_names hidden frozen) NoPlace e n h)
+  kept_like d n e h = near_like (kept_cells hidden frozen d) w v same NoPlace (λ m a b r. absurd r) (λ m a b r. absurd r) (near_self (bad_names hidden frozen) NoPlace e n h)
 
   module _ (frozen_bound : (y : Text) → frozen y ≡ true → is_free (w.scope y) ≡ false) where
     -- what is written down again

@@ -26,6 +26,7 @@ use Rattle.es_runs.proofs.Declarations.{is_shaped, step_shaped}
 use Rattle.es_runs.proofs.DeclaredNames.{core-bare, core_shaped, declared_used, is_declared-declares}
 use Rattle.es_runs.proofs.FormUndeclaring.{source_undeclaring}
 use Rattle.es_runs.proofs.FreshNames.{free_before, fresh_free, fresh_not_math, fresh_other, fresh_unused, not_taken}
+use Rattle.es_runs.proofs.MathWords.{NoMathWord, unhidden_word}
 use Rattle.es_runs.proofs.Kept.{somewhere, step_core, step_without}
 use Rattle.es_runs.proofs.Named.{among-append, and_left, and_right, node_free, or_both}
 use Rattle.es_runs.proofs.PlaceFacts.{NodeFacts, Placed, placed}
@@ -141,10 +142,11 @@ module _ (no_all : Bool) (w : Whole) (xs : List Text) where
       math : one_of xs (codes "Math") ≡ false
       math = fresh_not_math (fresh_names r)
 
-      base : (n : Need) (a b : Tree) → Placed (one_of xs) w.steady TidyRow tidy_kinds n a b → touches (bad_names (one_of xs) none_hidden) n a ≡ false → Like (set_cells (one_of xs)) (before (not no_all) xs ds this math) (after (not no_all) xs ds this math) n (meaning (before (not no_all) xs ds this math) a) (meaning (after (not no_all) xs ds this math) b)
-      base n a b (row, known) free = core_alike no_all w xs (before (not no_all) xs ds this math) (after (not no_all) xs ds this math) n a b refl (record {
-        same = names_more (not no_all) xs ds this math;
-        cells = are_vars (not no_all) xs ds this math;
+      base : (n : Need) (a b : Tree) → Placed (one_of xs) w.steady TidyRow tidy_kinds n a b → touches (bad_names (one_of xs) none_hidden) n a ≡ false → Like (set_cells (one_of xs)) (before (not no_all) xs ds this) (after (not no_all) xs ds this) n (meaning (before (not no_all) xs ds this) a) (meaning (after (not no_all) xs ds this) b)
+      base n a b (row, known) free = core_alike no_all w xs (before (not no_all) xs ds this) (after (not no_all) xs ds this) n a b refl (record {
+        same = names_more (not no_all) xs ds this;
+        math = math;
+        cells = are_vars (not no_all) xs ds this;
         binds = λ y. negated (is_free (scope_of ds y)) (is_bound_in w y) (h.bound y);
         steady_bound = h.steady;
         core = known.core_nodes;
@@ -152,9 +154,13 @@ module _ (no_all : Bool) (w : Whole) (xs : List Text) where
         untouched = untouched (one_of xs) w.steady n a (row_kind no_all w row.0).acted known.core_nodes known.placed_nodes known.unnamed known.unwritten;
       }) row
 
+      -- `Math` is none of the names
+      words : (n : Need) (a b : Tree) → Placed (one_of xs) w.steady TidyRow tidy_kinds n a b → NoMathWord (one_of xs) (meaning (before (not no_all) xs ds this) a).form
+      words n a b r = unhidden_word (one_of xs) (meaning (before (not no_all) xs ds this) a).form math
+
       pub one_step : (counts : Text → Bool) → ((y : Text) → counts y ≡ true → is_declared ds y ≡ true) → (moves : List Move) → strays false t ≡ false → (outcome (run_where (not no_all) ds t this moves) ≡ called_uncallable → ⊥) → SameRun counts (run_where (not no_all) ds t this moves) (run_where (not no_all) (all_pending xs ds) u this moves)
       one_step counts ok moves tidy callable =
-          place_run (not no_all) xs ds this math (Placed (one_of xs) w.steady TidyRow tidy_kinds) base counts
+          place_run (not no_all) xs ds this (Placed (one_of xs) w.steady TidyRow tidy_kinds) base words counts
           (λ y e. fresh_unused (fresh_names r) y (used_where (w.in_use y) (λ free. absurd (cc (h.declared y free, ok y e))))) t u
           (node_free (one_of xs) t all_of_it true h.core facts.unnamed (λ e. absurd (cc e)))
           (placed (one_of xs) w.steady TidyRow tidy_kinds true (tidy_place Row kinds false r tidy) facts) moves callable

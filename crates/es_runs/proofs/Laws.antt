@@ -1,14 +1,14 @@
 -- The laws of place and of fresh names.
-use Rattle.std.proofs.Common.{◌≡◌, refl, List, [], ap, ◌∙◌, rules}
-use Rattle.std.specs.Prelude.{Bool, true, false, bytes_eq, codes, not, ◌||◌}
+use Rattle.std.proofs.Common.{◌≡◌, refl, List, [], ◌∷◌, ◌++◌, ap, subst, sym, ◌∙◌, rules}
+use Rattle.std.specs.Prelude.{Bool, true, false, bytes_eq, codes, if◌then◌else◌, not, ◌||◌}
 use Rattle.es_tree.specs.Words.{Text}
-use Rattle.es_tree.specs.Tree.{Tree, Trees, Label}
-use Rattle.es_tree.specs.Tree.{◌before◌}
-use Rattle.es_runs.specs.Machine.{Value, M, ◌>>=◌, State, Stop, Result, Move}
+use Rattle.es_tree.specs.Tree.{Tree, Trees, Label, trees}
+use Rattle.es_runs.specs.Machine.{Value, M, is_set, ◌>>=◌, State, Stop, Result, Move}
 use Rattle.es_runs.specs.Machine.State.{state}
 use Rattle.es_runs.specs.Machine.Stop.{throws, waits, uncallable, cut, unknown}
 use Rattle.es_runs.specs.Machine.Result.{gives, stops}
-use Rattle.es_runs.specs.Core.{World, Reference, value, typeof_value, meaning, meanings, in_order}
+use Rattle.es_runs.specs.Core.{World, Reference, is_free, value, typeof_value, meaning, meanings, in_order}
+use Rattle.es_runs.specs.Core.Binding.{changeable, constant}
 use Rattle.es_runs.specs.Core.Reference.{named, property, plain}
 use Rattle.es_runs.specs.Alike.{Frame, set_cells, Agree, Same, Alike, Equal, SameReference, SameWorld, Level, Need, Like, LikeAt, the_value, SameTarget, touches_nodes, bad_names}
 use Rattle.es_runs.specs.Alike.Level.{no_evaluation, value_alone, an_operand_of_typeof, whole_reference, a_callee, a_target}
@@ -18,8 +18,8 @@ use Rattle.es_runs.specs.Alike.Agree.{agree}
 use Rattle.es_runs.specs.Alike.Same.{both_give, both_stop, outside}
 use Rattle.es_runs.specs.Alike.Equal.{equal}
 use Rattle.es_runs.specs.Alike.SameReference.{same_name, same_property, same_plain}
-use Rattle.es_tree.specs.Scopes.{Declared, declared_of}
-use Rattle.es_runs.specs.Runs.{cells_of, world_of, outcome, SameRun, is_declared, stands, only, var_statement, program, LawFresh, EvaluateAlike, Swaps, none_hidden, Swapped, LawPlace}
+use Rattle.es_tree.specs.Scopes.{Declared, declared_by, declared_in_body, declared_of}
+use Rattle.es_runs.specs.Runs.{binding_of, first_cell, scope_of, cells_of, world_of, outcome, SameRun, is_declared, stands, only, var_statement, program, LawFresh, IsWorldOf, EvaluateAlike, Swaps, none_hidden, Swapped, LawPlace}
 use Rattle.es_runs.specs.Runs.Outcome.{called_uncallable}
 use Rattle.es_runs.specs.Runs.Swaps.{swaps}
 use Rattle.es_runs.proofs.WithoutAll.{run_assumed}
@@ -27,7 +27,9 @@ use Rattle.es_runs.proofs.Basic.{value_alike}
 use Rattle.es_runs.proofs.Everywhere.{near_like, near_meanings}
 use Rattle.es_runs.proofs.Lists.{in_order_alike}
 use Rattle.es_runs.proofs.Congruence.{plain_like}
+use Rattle.es_runs.proofs.MathWords.{unhidden_word}
 use Rattle.es_runs.proofs.Fresh.{or_left, or_right, near_all}
+use Rattle.std.proofs.lemmas.List.{append_assoc}
 use Rattle.std.proofs.lemmas.Slice.Eq.{bytes_eq-Decides}
 
 abbrev pub no_frame : Frame
@@ -77,23 +79,23 @@ references_agree m k h s t g = rw (same_states g, h s) (same_reference_self (m s
 targets_agree : (m k : M Reference) → ((s : State) → k s ≡ m s) → Alike no_frame (SameTarget no_frame) m k
 targets_agree m k h s t g = rw (same_states g, h s) (same_target_self (m s))
 
-evaluation_agrees : (no_all : Bool) (level : Level) (e d : Tree) → EvaluateAlike no_all level e d → (w : World) → w.counts_all ≡ not no_all → LikeAt no_frame w w level (meaning w e) (meaning w d)
-evaluation_agrees no_all no_evaluation e d h w c = tt
-evaluation_agrees no_all value_alone e d h w c = values_agree (value w (meaning w e)) (value w (meaning w d)) (h w c)
-evaluation_agrees no_all an_operand_of_typeof e d h w c = values_agree ((meaning w e).reference >>= typeof_value w) ((meaning w d).reference >>= typeof_value w) (h w c)
-evaluation_agrees no_all whole_reference e d h w c = references_agree (meaning w e).reference (meaning w d).reference (h w c)
-evaluation_agrees no_all a_callee e d h w c = by_reference (references_agree (meaning w e).reference (meaning w d).reference (h w c))
-evaluation_agrees no_all a_target e d h w c = targets_agree (meaning w e).reference (meaning w d).reference (h w c)
+evaluation_agrees : (no_all : Bool) (ds : List Declared) (level : Level) (e d : Tree) → EvaluateAlike no_all ds level e d → (w : World) → IsWorldOf no_all ds w → LikeAt no_frame w w level (meaning w e) (meaning w d)
+evaluation_agrees no_all ds no_evaluation e d h w is = tt
+evaluation_agrees no_all ds value_alone e d h w is = values_agree (value w (meaning w e)) (value w (meaning w d)) (h w is)
+evaluation_agrees no_all ds an_operand_of_typeof e d h w is = values_agree ((meaning w e).reference >>= typeof_value w) ((meaning w d).reference >>= typeof_value w) (h w is)
+evaluation_agrees no_all ds whole_reference e d h w is = references_agree (meaning w e).reference (meaning w d).reference (h w is)
+evaluation_agrees no_all ds a_callee e d h w is = by_reference (references_agree (meaning w e).reference (meaning w d).reference (h w is))
+evaluation_agrees no_all ds a_target e d h w is = targets_agree (meaning w e).reference (meaning w d).reference (h w is)
 
 same_world : (w : World) → SameWorld none_hidden w w
-same_world w = record { scope = λ x e. refl; this = refl; math = refl; counts = refl }
+same_world w = record { scope = λ x e. refl; this = refl; counts = refl }
 
-module _ (no_all : Bool) (need : Need) (e d : Tree) (alike : EvaluateAlike no_all need.level e d) (form : (w : World) → need.form ≡ true → (meaning w d).form ≡ (meaning w e).form) where
-  swaps_like : (w : World) → w.counts_all ≡ not no_all → (n : Need) (a b : Tree) → Swaps need e d n a b → Like no_frame w w n (meaning w a) (meaning w b)
-  swaps_like w c n a b swaps = record { evaluation = evaluation_agrees no_all need.level e d alike w c; form = form w }
+module _ (no_all : Bool) (ds : List Declared) (need : Need) (e d : Tree) (alike : EvaluateAlike no_all ds need.level e d) (form : (w : World) → IsWorldOf no_all ds w → need.form ≡ true → (meaning w d).form ≡ (meaning w e).form) where
+  swaps_like : (w : World) → IsWorldOf no_all ds w → (n : Need) (a b : Tree) → Swaps need e d n a b → Like no_frame w w n (meaning w a) (meaning w b)
+  swaps_like w is n a b swaps = record { evaluation = evaluation_agrees no_all ds need.level e d alike w is; form = form w is }
 
-  swapped_alike : (w : World) → w.counts_all ≡ not no_all → (p q : Tree) → Swapped need e d p q → Alike no_frame Equal (value w (meaning w p)) (value w (meaning w q))
-  swapped_alike w c p q h = value_alike no_frame w w (same_world w) (meaning w p) (meaning w q) (near_like no_frame w w (same_world w) (Swaps need e d) (swaps_like w c) h).evaluation
+  swapped_alike : (w : World) → IsWorldOf no_all ds w → (p q : Tree) → Swapped need e d p q → Alike no_frame Equal (value w (meaning w p)) (value w (meaning w q))
+  swapped_alike w is p q h = value_alike no_frame w w (same_world w) (meaning w p) (meaning w q) (near_like no_frame w w (same_world w) (Swaps need e d) (swaps_like w is) (λ n a b k. unhidden_word none_hidden (meaning w a).form refl) h).evaluation
 
 agree_self : (s : State) → Agree no_frame s s
 agree_self (state c ms qs) = agree (λ x e. refl) (λ x e. cc) (λ x e. cc)
@@ -103,19 +105,64 @@ law_place_proof no_all need e d p q h alike form names this moves assumed callab
     let ds : List Declared = declared_of p in
     let source = run_assumed no_all ds p this moves assumed in
     let target = run_assumed no_all ds q this moves assumed in
-    rw (names, source, target) (same_run no_frame (is_declared ds) (λ x k. refl) (λ k. callable (ap outcome source ∙ k)) (swapped_alike no_all need e d alike form (world_of (not no_all) this ds) refl p q h _ _ (agree_self (state (cells_of ds) moves []))))
+    rw (names, source, target) (same_run no_frame (is_declared ds) (λ x k. refl) (λ k. callable (ap outcome source ∙ k)) (swapped_alike no_all ds need e d alike form (world_of (not no_all) this ds) (record { scope = λ x. refl; counts = refl }) p q h _ _ (agree_self (state (cells_of ds) moves []))))
 
 -- FRESH NAMES
 
 bytes_eq-equal : (a b : Text) → bytes_eq a b ≡ true → a ≡ b
 bytes_eq-equal a b h = search (rules, bytes_eq-Decides)
 
-module _ (x : Text) (l : Label) (ds body : Trees) (nowhere : stands x (program l ds body) ≡ false) (not_math : bytes_eq (codes "Math") x ≡ false) (this : Value) where
+-- one `var` more among declared names
+abbrev var_of : Text → Declared
+var_of x = record { name = x; kind = codes "var" }
+
+declared_between : (x : Text) (front back : List Tree) → declared_in_body (trees (front ++ var_statement x ∷ back)) ≡ declared_in_body (trees front) ++ var_of x ∷ declared_in_body (trees back)
+declared_between x [] back = refl
+declared_between x (t ∷ front) back = ap (λ ns. declared_by t ++ ns) (declared_between x front back) ∙ sym (append_assoc (declared_by t) (declared_in_body (trees front)) (var_of x ∷ declared_in_body (trees back)))
+
+declared_both : (front back : List Tree) → declared_in_body (trees (front ++ back)) ≡ declared_in_body (trees front) ++ declared_in_body (trees back)
+declared_both [] back = refl
+declared_both (t ∷ front) back = ap (λ ns. declared_by t ++ ns) (declared_both front back) ∙ sym (append_assoc (declared_by t) (declared_in_body (trees front)) (declared_in_body (trees back)))
+
+-- the other names are bound as before
+other_scope : (x y : Text) → bytes_eq y x ≡ false → (ns ms : List Declared) → scope_of (ns ++ var_of x ∷ ms) y ≡ scope_of (ns ++ ms) y
+other_scope x y e [] ms = rw e refl
+other_scope x y e (d ∷ ns) ms = ap (λ b. if bytes_eq y d.name then binding_of d.kind else b) (other_scope x y e ns ms)
+
+other_cells : (x y : Text) → bytes_eq y x ≡ false → (ns ms : List Declared) → cells_of (ns ++ var_of x ∷ ms) y ≡ cells_of (ns ++ ms) y
+other_cells x y e [] ms = rw e refl
+other_cells x y e (d ∷ ns) ms = ap (λ c. if bytes_eq y d.name then first_cell d.kind else c) (other_cells x y e ns ms)
+
+-- and this one has a cell that is set, where it wasn't declared
+own_cell : (x y : Text) → bytes_eq y x ≡ true → (ns ms : List Declared) → is_declared (ns ++ ms) y ≡ false → is_set (cells_of (ns ++ var_of x ∷ ms) y) ≡ true
+own_cell x y e [] ms h = rw e refl
+own_cell x y e (d ∷ ns) ms h = at (bytes_eq y d.name) refl (own_cell x y e ns ms)
+  where
+    bound_somehow : (b : Bool) → not (is_free (if b then constant else changeable)) ≡ false → ⊥
+    bound_somehow true k = cc k
+    bound_somehow false k = cc k
+
+    at : (b : Bool) → bytes_eq y d.name ≡ b → (is_declared (ns ++ ms) y ≡ false → is_set (cells_of (ns ++ var_of x ∷ ms) y) ≡ true) → is_set (if bytes_eq y d.name then first_cell d.kind else cells_of (ns ++ var_of x ∷ ms) y) ≡ true
+    at true i rest = absurd (bound_somehow (bytes_eq d.kind (codes "const")) (rw i at h))
+    at false i rest = rw i (rest (rw i at h))
+
+-- the statement itself asks nothing and changes nothing
+silent_between : (w : World) (x : Text) (front back : List Tree) → in_order w (meanings w (trees (front ++ var_statement x ∷ back))) ≡ in_order w (meanings w (trees (front ++ back)))
+silent_between w x [] back = refl
+silent_between w x (t ∷ front) back = ap (λ m. value w (meaning w t) >>= λ u. m) (silent_between w x front back)
+
+module _ (x : Text) (l : Label) (ds : Trees) (front back : List Tree) (nowhere : stands x (program l ds (trees (front ++ back))) ≡ false) (undeclared : is_declared (declared_of (program l ds (trees (front ++ back)))) x ≡ false) (this : Value) where
+  abbrev body : Trees
+  body = trees (front ++ back)
+
+  abbrev more : Trees
+  more = trees (front ++ var_statement x ∷ back)
+
   abbrev old_names : List Declared
   old_names = declared_of (program l ds body)
 
   abbrev new_names : List Declared
-  new_names = declared_of (program l ds (var_statement x before body))
+  new_names = declared_of (program l ds more)
 
   abbrev old_world : World
   old_world = world_of true this old_names
@@ -124,7 +171,11 @@ module _ (x : Text) (l : Label) (ds body : Trees) (nowhere : stands x (program l
   new_world = world_of true this new_names
 
   fresh_world : SameWorld (only x) old_world new_world
-  fresh_world = record { scope = λ y e. rw e; this = refl; math = not_math; counts = refl }
+  fresh_world = record {
+    scope = λ y e. rw (declared_between x front back, declared_both front back) (other_scope x y e (declared_in_body (trees front)) (declared_in_body (trees back)));
+    this = refl;
+    counts = refl;
+  }
 
   abbrev bad_here : Level → Text → Bool
   bad_here = bad_names (only x) none_hidden
@@ -133,21 +184,32 @@ module _ (x : Text) (l : Label) (ds body : Trees) (nowhere : stands x (program l
   not_in_body = or_left (touches_nodes bad_here the_value body) false (or_right (touches_nodes bad_here the_value ds) (touches_nodes bad_here the_value body || false) nowhere)
 
   body_alike : Alike (set_cells (only x)) Equal (in_order old_world (meanings old_world body)) (in_order new_world (meanings new_world body))
-  body_alike = in_order_alike (set_cells (only x)) old_world new_world fresh_world (near_meanings (set_cells (only x)) old_world new_world fresh_world (λ n a b. ⊥) (λ n a b e. absurd e) (near_all bad_here (λ n a b. ⊥) body the_value not_in_body))
+  body_alike =
+      in_order_alike (set_cells (only x)) old_world new_world fresh_world
+      (near_meanings (set_cells (only x)) old_world new_world fresh_world (λ n a b. ⊥) (λ n a b e. absurd e) (λ n a b e. absurd e) (near_all bad_here (λ n a b. ⊥) body the_value not_in_body))
 
-  program_alike : Alike (set_cells (only x)) Equal (value old_world (meaning old_world (program l ds body))) (value new_world (meaning new_world (program l ds (var_statement x before body))))
-  program_alike = (plain_like (set_cells (only x)) old_world new_world fresh_world the_value (in_order old_world (meanings old_world body)) (in_order new_world (meanings new_world (var_statement x before body))) body_alike).evaluation
+  more_alike : Alike (set_cells (only x)) Equal (in_order old_world (meanings old_world body)) (in_order new_world (meanings new_world more))
+  more_alike = subst (Alike (set_cells (only x)) Equal (in_order old_world (meanings old_world body))) (sym (silent_between new_world x front back)) body_alike
+
+  program_alike : Alike (set_cells (only x)) Equal (value old_world (meaning old_world (program l ds body))) (value new_world (meaning new_world (program l ds more)))
+  program_alike = (plain_like (set_cells (only x)) old_world new_world fresh_world the_value (in_order old_world (meanings old_world body)) (in_order new_world (meanings new_world more)) more_alike).evaluation
+
+  undeclared_here : (y : Text) → only x y ≡ true → is_declared (declared_in_body (trees front) ++ declared_in_body (trees back)) y ≡ false
+  undeclared_here y e = let same : y ≡ x = bytes_eq-equal y x e in rw same (rw (declared_both front back) at undeclared)
 
   first_cells : (moves : List Move) → Agree (set_cells (only x)) (state (cells_of old_names) moves []) (state (cells_of new_names) moves [])
-  first_cells moves = agree (λ y e. rw e) (λ y e. rw e) (λ y e. cc)
+  first_cells moves = agree
+      (λ y e. rw (declared_between x front back, declared_both front back) (other_cells x y e (declared_in_body (trees front)) (declared_in_body (trees back))))
+      (λ y e. rw (declared_between x front back) (own_cell x y e (declared_in_body (trees front)) (declared_in_body (trees back)) (undeclared_here y e)))
+      (λ y e. cc)
 
-  counted_hides : is_declared old_names x ≡ false → (y : Text) → is_declared old_names y ≡ true → only x y ≡ false
-  counted_hides d y e = not_same (bytes_eq y x) refl
+  counted_hides : (y : Text) → is_declared old_names y ≡ true → only x y ≡ false
+  counted_hides y e = not_same (bytes_eq y x) refl
     where
       not_same : (b : Bool) → bytes_eq y x ≡ b → b ≡ false
       not_same false h = refl
-      not_same true h = let k : y ≡ x = bytes_eq-equal y x h in cc
+      not_same true h = let k : y ≡ x = bytes_eq-equal y x h in absurd (let no : is_declared old_names y ≡ false = rw k undeclared in cc (no, e))
 
 pub law_fresh_proof : LawFresh
-law_fresh_proof x l ds body nowhere not_math undeclared this moves assumed callable =
-    same_run (set_cells (only x)) (is_declared (declared_of (program l ds body))) (counted_hides x l ds body nowhere not_math this undeclared) callable (program_alike x l ds body nowhere not_math this _ _ (first_cells x l ds body nowhere not_math this moves))
+law_fresh_proof x l ds front back nowhere undeclared this moves assumed callable =
+    same_run (set_cells (only x)) (is_declared (declared_of (program l ds (trees (front ++ back))))) (counted_hides x l ds front back nowhere undeclared this) callable (program_alike x l ds front back nowhere undeclared this _ _ (first_cells x l ds front back nowhere undeclared this moves))

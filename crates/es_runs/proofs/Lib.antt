@@ -1,6 +1,7 @@
 pub mod Fresh
 pub mod Basic
 pub mod Congruence
+pub mod MathWords
 pub mod Lists
 pub mod Everywhere
 pub mod Temporary
@@ -83,3 +84,4 @@ pub mod TidyPlaces
 pub mod Lacking
 pub mod WithoutAll
 pub mod StaticMarks
+pub mod PlaceExamples

@@ -1,6 +1,6 @@
 -- The kinds with lists, references that are kept, and chains.
 use Rattle.std.proofs.Common.{◌≡◌, refl, List, [], ◌∷◌}
-use Rattle.std.specs.Prelude.{Bool, true, false, codes, ◌&&◌}
+use Rattle.std.specs.Prelude.{Bool, true, false, bytes_eq, codes, ◌&&◌}
 use Rattle.es_tree.specs.Words.{Text}
 use Rattle.es_runs.specs.Machine.{◌>>=◌, do_call}
 use Rattle.es_runs.specs.Machine.{Value, Values, Question, Move, Cell, State, Result, M, onward, return, next, is_callable, is_nullish}
@@ -16,7 +16,7 @@ use Rattle.es_runs.specs.Core.{World, Binding, Reference, Meaning, Form, value, 
 use Rattle.es_runs.specs.Core.Binding.{free, changeable, constant}
 use Rattle.es_runs.specs.Core.Reference.{named, property, plain}
 use Rattle.es_runs.specs.Core.Form.{word, math_pow, member_call, member_bind}
-use Rattle.es_runs.specs.Alike.{Frame, Same, Alike, Equal, SameReference, SameTarget, SameWorld, Level, Need, Like, LikeAt, content_level, the_value, the_target, value_and_form, member_needs}
+use Rattle.es_runs.specs.Alike.{Frame, Same, Alike, Equal, SameReference, SameTarget, SameWorld, Level, Need, Like, LikeAt, content_level, the_value, the_target, key_need, object_need}
 use Rattle.es_runs.specs.Alike.Level.{no_evaluation, value_alone, an_operand_of_typeof, whole_reference, a_callee, a_target}
 use Rattle.es_runs.specs.Alike.{LikeCallee, SameCalled, the_callee}
 use Rattle.es_runs.specs.Alike.LikeCallee.{by_reference, by_call}
@@ -28,7 +28,8 @@ use Rattle.es_runs.specs.Alike.SameTarget.{target_name, target_property, target_
 use Rattle.es_runs.specs.Alike.Same.{both_give, both_stop, outside}
 use Rattle.es_runs.specs.Alike.Equal.{equal}
 use Rattle.es_runs.specs.Alike.SameReference.{same_name, same_property, same_plain}
-use Rattle.es_runs.proofs.Basic.{onward_same, bind_alike, then_alike, return_alike, stop_alike, ask_alike, set_alike, call_alike, get_alike}
+use Rattle.es_runs.proofs.Basic.{onward_same, bind_alike, then_alike, return_alike, stop_alike, ask_alike, set_alike, call_alike, get_alike, value_alike}
+use Rattle.es_runs.proofs.MathWords.{NoMathWord}
 use Rattle.es_runs.proofs.Congruence.{at_level, plain_like, choice_alike, typeof_alike}
 
 pub data AllLike (F : Frame) (w v : World) (n : Need) : List Meaning → List Meaning → Type 0 where
@@ -54,40 +55,49 @@ module _ (F : Frame) (w v : World) (same : SameWorld F.hidden w v) where
   cut_alike true h = stop_alike F cut
   cut_alike false h = h
 
-  pub key_alike : (n : Bool) (computed : Bool) (a b : Meaning) → Like F w v (member_needs n computed 1) a b → Alike F Equal (key w computed a) (key v computed b)
-  key_alike n true a b h = h.evaluation
-  key_alike n false a b h = rw (h.form refl) (return_alike F (word_of a.form))
+  pub key_alike : (computed : Bool) (a b : Meaning) → Like F w v (key_need computed) a b → Alike F Equal (key w computed a) (key v computed b)
+  key_alike true a b h = h.evaluation
+  key_alike false a b h = rw (h.form refl) (return_alike F (word_of a.form))
 
   pub property_alike : (o k : Value) → Alike F (SameTarget F) (return (property o k)) (return (property o k))
   property_alike o k s t g = both_give target_property g
 
-  member_alike : (n computed optional : Bool) (a a' b b' : Meaning) → Alike F Equal (value w a) (value v a') → Like F w v (member_needs n computed 1) b b' → Alike F (SameTarget F) (member w computed optional a b).reference (member v computed optional a' b').reference
-  member_alike n computed optional a a' b b' h g = then_alike F h (λ o. cut_alike (optional && is_nullish o) (then_alike F (key_alike n computed b b' g) (property_alike o)))
+  -- the value of an object, where the place takes its reference too
+  object_alike : (form optional : Bool) (a b : Meaning) → Like F w v (object_need form optional) a b → Alike F Equal (value w a) (value v b)
+  object_alike form false a b h = h.evaluation
+  object_alike form true a b h = value_alike F w v same a b h.evaluation
 
-  math_same : (x : Text) → is_math v x ≡ is_math w x
-  math_same x = rw (same.scope (codes "Math") same.math)
+  member_alike : (computed optional : Bool) (a a' b b' : Meaning) → Alike F Equal (value w a) (value v a') → Like F w v (key_need computed) b b' → Alike F (SameTarget F) (member w computed optional a b).reference (member v computed optional a' b').reference
+  member_alike computed optional a a' b b' h g = then_alike F h (λ o. cut_alike (optional && is_nullish o) (then_alike F (key_alike computed b b' g) (property_alike o)))
 
-  pow_same : (optional : Bool) (f : Form) → pow_form v optional f ≡ pow_form w optional f
-  pow_same true f = refl
-  pow_same false (word x) = rw (math_same x)
-  pow_same false _ = refl
+  math_same : (x : Text) → (F.hidden (codes "Math") ≡ true → bytes_eq x (codes "Math") ≡ false) → is_math v x ≡ is_math w x
+  math_same x words = at (F.hidden (codes "Math")) refl
+    where
+      at : (b : Bool) → F.hidden (codes "Math") ≡ b → is_math v x ≡ is_math w x
+      at false e = rw (same.scope (codes "Math") e)
+      at true e = rw (words e)
 
-  static_same : (optional : Bool) (f : Form) (p : Text) → static_form v optional f p ≡ static_form w optional f p
-  static_same optional f p = rw (pow_same optional f)
+  pow_same : (optional : Bool) (f : Form) → NoMathWord F.hidden f → pow_form v optional f ≡ pow_form w optional f
+  pow_same true f words = refl
+  pow_same false (word x) words = rw (math_same x words)
+  pow_same false _ words = refl
 
-  member_same : (computed optional : Bool) (f g : Form) → member_form v computed optional f g ≡ member_form w computed optional f g
-  member_same true optional f g = refl
-  member_same false optional f (word p) = static_same optional f p
-  member_same false optional f _ = refl
+  static_same : (optional : Bool) (f : Form) (p : Text) → NoMathWord F.hidden f → static_form v optional f p ≡ static_form w optional f p
+  static_same optional f p words = rw (pow_same optional f words)
 
-  pub member_form_like : (computed optional : Bool) (a a' b b' : Meaning) → a'.form ≡ a.form → Like F w v (member_needs true computed 1) b b' → member_form v computed optional a'.form b'.form ≡ member_form w computed optional a.form b.form
-  member_form_like true optional a a' b b' e h = refl
-  member_form_like false optional a a' b b' e h = rw (e, h.form refl) (member_same false optional a.form b.form)
+  member_same : (computed optional : Bool) (f g : Form) → NoMathWord F.hidden f → member_form v computed optional f g ≡ member_form w computed optional f g
+  member_same true optional f g words = refl
+  member_same false optional f (word p) words = static_same optional f p words
+  member_same false optional f _ words = refl
 
-  pub member_like : (n : Need) (computed optional : Bool) (a a' b b' : Meaning) → Like F w v (value_and_form n.form) a a' → Like F w v (member_needs n.form computed 1) b b' → Like F w v n (member w computed optional a b) (member v computed optional a' b')
-  member_like n computed optional a a' b b' h g = record {
-    evaluation = at_level F w v same n.level _ _ (member_alike n.form computed optional a a' b b' h.evaluation g);
-    form = λ e. member_form_like computed optional a a' b b' (h.form e) (rw e at g);
+  pub member_form_like : (computed optional : Bool) (a a' b b' : Meaning) → NoMathWord F.hidden a.form → a'.form ≡ a.form → Like F w v (key_need computed) b b' → member_form v computed optional a'.form b'.form ≡ member_form w computed optional a.form b.form
+  member_form_like true optional a a' b b' words e h = refl
+  member_form_like false optional a a' b b' words e h = rw (e, h.form refl) (member_same false optional a.form b.form words)
+
+  pub member_like : (n : Need) (computed optional : Bool) (a a' b b' : Meaning) → NoMathWord F.hidden a.form → Like F w v (object_need n.form optional) a a' → Like F w v (key_need computed) b b' → Like F w v n (member w computed optional a b) (member v computed optional a' b')
+  member_like n computed optional a a' b b' words h g = record {
+    evaluation = at_level F w v same n.level _ _ (member_alike computed optional a a' b b' (object_alike n.form optional a a' h) g);
+    form = λ e. member_form_like computed optional a a' b b' words (h.form e) g;
   }
 
   -- calls

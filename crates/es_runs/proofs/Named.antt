@@ -9,7 +9,7 @@ use Rattle.es_tree.specs.Core.{is_core_node}
 use Rattle.es_tree.specs.Tree.{Tree, node, Label, Fields, done, ◌then◌, Field, missing, one, many, statements, Trees, empty, ◌before◌}
 use Rattle.es_tree.specs.declared.ast_type.AstType.{AstType}
 use Rattle.es_tree.specs.declared.ast_type.AstType.TheVariants.{Identifier, MemberExpression, ExportNamedDeclaration}
-use Rattle.es_runs.specs.Core.{flag}
+use Rattle.es_runs.specs.Core.{flag, flag_after}
 use Rattle.es_runs.specs.Alike.{Level, Need, needs, member_needs, bad_names, is_bad, touches, touches_fields, touches_field, touches_nodes}
 use Rattle.es_runs.specs.Alike.Level.{no_evaluation, value_alone, an_operand_of_typeof, whole_reference, a_callee, a_target}
 use Rattle.es_runs.specs.Runs.{none_hidden}
@@ -56,15 +56,15 @@ core_exports _ l fs gs h = refl
 abbrev pub Quiet : Need → Bool → Type 0
 Quiet n counts = counts ≡ false → n.level ≡ no_evaluation
 
-member_quiet : (form : Bool) (bs : List Bool) (i : ℕ) (l : Label) → l.flags ≡ bs → is_name_place MemberExpression l i ≡ false → (member_needs form (flag bs) i).level ≡ no_evaluation
-member_quiet form bs zero l e h = absurd (cc h)
-member_quiet form [] (suc zero) l e h = refl
-member_quiet form (true ∷ bs) (suc zero) l e h = let k : flag_at 0 (true ∷ bs) ≡ false = rw e at h in absurd (cc k)
-member_quiet form (false ∷ bs) (suc zero) l e h = refl
-member_quiet form bs (suc (suc i)) l e h = absurd (cc h)
+member_quiet : (form marked : Bool) (bs : List Bool) (i : ℕ) (l : Label) → l.flags ≡ bs → is_name_place MemberExpression l i ≡ false → (member_needs form (flag bs) marked i).level ≡ no_evaluation
+member_quiet form marked bs zero l e h = absurd (cc h)
+member_quiet form marked [] (suc zero) l e h = refl
+member_quiet form marked (true ∷ bs) (suc zero) l e h = let k : flag_at 0 (true ∷ bs) ≡ false = rw e at h in absurd (cc k)
+member_quiet form marked (false ∷ bs) (suc zero) l e h = refl
+member_quiet form marked bs (suc (suc i)) l e h = absurd (cc h)
 
 pub core_quiet : (k : AstType) (l : Label) (fs : Fields) (n : Need) (i : ℕ) → is_core_node k l fs ≡ true → Quiet (needs n k l.texts l.flags i) (is_name_place k l i)
-core_quiet MemberExpression l fs n i core h = member_quiet n.form l.flags i l refl h
+core_quiet MemberExpression l fs n i core h = member_quiet n.form (flag_after l.flags) l.flags i l refl h
 core_quiet _ l fs n i core h = absurd (cc (core, h))
 
 level_free : (hidden : Text → Bool) (level : Level) (y : Text) → hidden y ≡ false → bad_names hidden none_hidden level y ≡ false

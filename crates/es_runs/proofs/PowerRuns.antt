@@ -1,11 +1,12 @@
 -- Runs of `a **= b`, `o[k] **= b` and `o[k] ||= c`, and of what they become, computed: answers for all questions, and a
 -- throw at each. The questions stand with the latest first.
 use Rattle.std.proofs.Common.{◌≡◌, refl, List, [], ◌∷◌, arith}
-use Rattle.std.specs.Prelude.{true, false, Some, codes}
+use Rattle.std.specs.Prelude.{Bool, true, false, Some, codes}
 use Rattle.es_tree.specs.Words.{Text}
 use Rattle.es_tree.specs.Fresh.{IsFreshName, is_among, node_base}
+use Rattle.es_tree.specs.Names.{first_text}
 use Rattle.es_tree.specs.Tree.{Tree, node, Label, done, ◌then◌, one, empty, ◌before◌}
-use Rattle.es_tree.specs.declared.ast_type.AstType.TheVariants.{AssignmentExpression, ExpressionStatement}
+use Rattle.es_tree.specs.declared.ast_type.AstType.TheVariants.{AssignmentExpression, ExpressionStatement, Identifier}
 use Rattle.es_runs.specs.Machine.{Value, Move, Question}
 use Rattle.es_runs.specs.Machine.Values.{none, ◌and◌}
 use Rattle.es_runs.specs.Machine.Value.{undefined, boolean, host, number, text}
@@ -14,9 +15,9 @@ use Rattle.es_runs.specs.Machine.Move.{answer, throw}
 use Rattle.es_runs.specs.Machine.Cell.{holds}
 use Rattle.es_runs.specs.Alike.{Need}
 use Rattle.es_runs.specs.Doubling.Doubles.{by_temporary}
-use Rattle.es_runs.specs.Exponentiation.{ExponentiationRule, assigned_power, no_name}
+use Rattle.es_runs.specs.Exponentiation.{ExponentiationRule, Holds, TargetTwice, assigned_power, no_name, stays}
 use Rattle.es_runs.specs.Exponentiation.ExponentiationRule.{power_assignment}
-use Rattle.es_runs.specs.Exponentiation.Holds.{in_temporary}
+use Rattle.es_runs.specs.Exponentiation.Holds.{in_temporary, where_it_is}
 use Rattle.es_runs.specs.Exponentiation.TargetTwice.{bound_name, other_key, other_name}
 use Rattle.es_runs.specs.LogicalAssignment.{LogicalAssignmentRule, assigned_where}
 use Rattle.es_runs.specs.LogicalAssignment.LogicalAssignmentRule.{to_computed_member}
@@ -95,7 +96,7 @@ fresh_a = record { number = 0; name = refl; free = refl; first = λ m h. absurd 
 
 -- it is what the row makes
 raised_by_the_row : (n : Need) → ExponentiationRule no_name (is_among (codes "a" ∷ codes "b" ∷ [])) (codes "_a" ∷ []) n (assigning (codes "**=") a b) raised
-raised_by_the_row n = power_assignment refl refl (other_name fresh_a)
+raised_by_the_row n = power_assignment refl refl (other_name refl fresh_a)
 
 abbrev source : Tree
 source = script (assigning (codes "**=") a b)
@@ -122,6 +123,15 @@ throw_at_write = record { source_ends = refl; lowered_ends = refl; source_asks =
 waits_at_operator : BothAsk source lowered (answer two ∷ answer three ∷ []) waiting (raises ∷ read (codes "b") ∷ read (codes "a") ∷ [])
 waits_at_operator = record { source_ends = refl; lowered_ends = refl; source_asks = refl; lowered_asks = refl }
 
+-- a name that is bound takes no temporary, nor does an object that stays
+bound_takes_none : {bound in_use : Text → Bool} {xs : List Text} {fs : List Tree} {l : Label} {target read : Tree} → bound (first_text l.texts) ≡ true → TargetTwice bound in_use xs fs (node Identifier l done) target read → xs ≡ []
+bound_takes_none is (bound_name e) = refl
+bound_takes_none is (other_name unbound fresh) = absurd (cc (is, unbound))
+
+staying_takes_none : {bound in_use : Text → Bool} {xs : List Text} {fs : List Tree} {e e' : Tree} → stays bound e ≡ true → Holds bound in_use xs fs e e' → xs ≡ []
+staying_takes_none is (where_it_is e) = refl
+staying_takes_none is (in_temporary goes fresh) = absurd (cc (is, goes))
+
 -- `o[k] **= b`: `_o = o, _k = k, _o[_k] = Math.pow(_o[_k], b)`
 
 abbrev o-k-stored : Tree
@@ -137,7 +147,7 @@ fresh_k : IsFreshName (also_all (codes "_o" ∷ []) (is_among (codes "o" ∷ cod
 fresh_k = record { number = 0; name = refl; free = refl; first = λ m h. absurd (omega arith) }
 
 member_raised_by_the_row : (n : Need) → ExponentiationRule no_name (is_among (codes "o" ∷ codes "k" ∷ codes "b" ∷ [])) (codes "_o" ∷ codes "_k" ∷ []) n (assigning (codes "**=") o-k b) member_raised
-member_raised_by_the_row n = power_assignment refl refl (other_key refl refl (in_temporary fresh_o) fresh_k)
+member_raised_by_the_row n = power_assignment refl refl (other_key refl refl (in_temporary refl fresh_o) fresh_k)
 
 abbrev member_source : Tree
 member_source = script (assigning (codes "**=") o-k b)

@@ -19,7 +19,7 @@ use Rattle.es_runs.specs.Core.{World, Reference, Meaning, Form, value, get_value
 use Rattle.es_runs.specs.Core.Binding.{changeable}
 use Rattle.es_runs.specs.Core.Reference.{named, property}
 use Rattle.es_runs.specs.Core.Form.{other, null_form}
-use Rattle.es_runs.specs.Alike.{Frame, set_cells, kept_cells, Agree, Same, Alike, Equal, SameTarget, SameWorld, Level, the_value, value_and_form, touches, bad_names}
+use Rattle.es_runs.specs.Alike.{Frame, set_cells, kept_cells, Agree, Same, Alike, Equal, SameTarget, SameWorld, Level, the_value, object_need, value_and_form, touches, bad_names}
 use Rattle.es_runs.specs.Alike.Agree.{agree}
 use Rattle.es_runs.specs.Alike.Equal.{equal}
 use Rattle.es_runs.specs.Alike.Level.{a_target}
@@ -36,6 +36,7 @@ use Rattle.es_runs.proofs.OptionalCalls.{agree_fits}
 use Rattle.es_runs.proofs.Named.{and_left, and_right}
 use Rattle.es_runs.proofs.Nullish.{cell_gives}
 use Rattle.es_runs.proofs.Temporary.{bytes_eq-equal, bytes_eq-self, onward_onward, plain_again}
+use Rattle.es_runs.proofs.WalksNeeds.{object_free}
 use Rattle.es_runs.proofs.Written.{one_of}
 
 -- ARRIVING
@@ -227,7 +228,7 @@ module _ (hidden steady : Text → Bool) (w v : World) (same : SameWorld hidden 
       object_arrives (where_it_is {o = node Identifier l gs} e) temporary form h c = name_member_arrives (first_text l.texts) (or_left (hidden (first_text l.texts)) _ h) (and_left (bound (first_text l.texts)) _ e)
       object_arrives (where_it_is {o = node Super l gs} e) temporary form h c = absurd (cc c)
       object_arrives (where_it_is {o = node _ l gs} e) temporary form h c = absurd (cc e)
-      object_arrives (in_temporary {o = o} {x = x} fresh) temporary form h c =
+      object_arrives (in_temporary {o = o} {x = x} goes fresh) temporary form h c =
           let hid = (temporary x (first_one x [])).0 in
           let var = (temporary x (first_one x [])).1 in
           λ s t g. rw (member_reaches w computed (meaning w o) p s, one_stored x o t)
@@ -238,19 +239,19 @@ module _ (hidden steady : Text → Bool) (w v : World) (same : SameWorld hidden 
     pub target_arrives : {xs : List Text} {fs : List Tree} {t target read : Tree} → TargetTwice bound in_use xs fs t target read → Temporaries xs → (form : Bool) → touches bad (record { level = a_target; form = form }) t ≡ false → all_nodes is_core_node t ≡ true →
         Alike F (SameArrived F) (reaches w (meaning w t)) (in_front v fs >>= λ _. reaches_by v (meaning v target) (meaning v read))
     target_arrives (bound_name {l = l} e) temporary form h c = name_arrives (first_text l.texts) (or_left (hidden (first_text l.texts)) _ (or_left (hidden (first_text l.texts) || steady (first_text l.texts)) false h))
-    target_arrives (other_name {l = l} {x = x} fresh) temporary form h c = stored_name_arrives x (temporary x (first_one x [])).0 (temporary x (first_one x [])).1 l (or_left (hidden (first_text l.texts)) _ (or_left (hidden (first_text l.texts) || steady (first_text l.texts)) false h))
+    target_arrives (other_name {l = l} {x = x} unbound fresh) temporary form h c = stored_name_arrives x (temporary x (first_one x [])).0 (temporary x (first_one x [])).1 l (or_left (hidden (first_text l.texts)) _ (or_left (hidden (first_text l.texts) || steady (first_text l.texts)) false h))
     target_arrives (static_member {l = l} {k = k} {o = o} flags holds_object) temporary form h c =
         rw (ap flag flags, ap flag_after flags)
-        (object_arrives false (name (first_text k.texts)) (literal (text (first_text k.texts)) other) (text (first_text k.texts)) (λ s. refl) (λ t. refl) holds_object temporary form (or_left (touches bad (value_and_form form) o) _ h) (and_left (all_nodes is_core_node o) _ c))
+        (object_arrives false (name (first_text k.texts)) (literal (text (first_text k.texts)) other) (text (first_text k.texts)) (λ s. refl) (λ t. refl) holds_object temporary form (object_free hidden steady form (flag_after l.flags) o (or_left (touches bad (object_need form (flag_after l.flags)) o) _ h)) (and_left (all_nodes is_core_node o) _ c))
     target_arrives (private_member {l = l} {k = k} {o = o} flags holds_object) temporary form h c = absurd (cc (and_right (all_nodes is_core_node o) false c))
     target_arrives (literal_key {l = l} {o = o} {k = k} flags is_literal holds_object) temporary form h c =
         let m = literal_means k is_literal in
         rw (ap flag flags, ap flag_after flags, m.means w, m.means v)
-        (object_arrives true (literal m.value m.form) (literal m.value m.form) m.value (λ s. refl) (λ t. refl) holds_object temporary form (or_left (touches bad (value_and_form form) o) _ h) (and_left (all_nodes is_core_node o) _ c))
-    target_arrives (other_key {l = l} {o = o} {k = k} {y = y} flags no_literal (in_temporary {x = x} fresh_object) fresh) temporary form h c =
-        let below = or_right (touches bad (value_and_form form) o) (touches bad the_value k || false) (rw (ap flag flags) at h) in
+        (object_arrives true (literal m.value m.form) (literal m.value m.form) m.value (λ s. refl) (λ t. refl) holds_object temporary form (object_free hidden steady form (flag_after l.flags) o (or_left (touches bad (object_need form (flag_after l.flags)) o) _ h)) (and_left (all_nodes is_core_node o) _ c))
+    target_arrives (other_key {l = l} {o = o} {k = k} {y = y} flags no_literal (in_temporary {x = x} goes fresh_object) fresh) temporary form h c =
+        let below = or_right (touches bad (object_need form (flag_after l.flags)) o) (touches bad the_value k || false) (rw (ap flag flags) at h) in
         rw (ap flag flags, ap flag_after flags)
         (stored_member_arrives x y (temporary x (first_one x (y ∷ []))).0 (temporary x (first_one x (y ∷ []))).1 (temporary y (second_one x y)).0 (temporary y (second_one x y)).1 (or_right (in_use y) (bytes_eq x y) fresh.free)
-        form o k (or_left (touches bad (value_and_form form) o) _ h) (or_left (touches bad the_value k) false below))
+        form o k (object_free hidden steady form (flag_after l.flags) o (or_left (touches bad (object_need form (flag_after l.flags)) o) _ h)) (or_left (touches bad the_value k) false below))
     target_arrives (other_key {l = l} {k = k} flags no_literal (where_it_is {o = node Super m gs} e) fresh) temporary form h c = absurd (cc c)
     target_arrives (other_key {l = l} {k = k} flags no_literal (where_it_is {o = node _ m gs} e) fresh) temporary form h c = absurd (cc e)

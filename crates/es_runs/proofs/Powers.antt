@@ -114,7 +114,7 @@ module _ (steady : Text → Bool) (xs : List Text) (w v : World) (same : SameWor
 
 -- `Math` isn't bound in the result either
 math_free : (bound steady : Text → Bool) (w v : World) (xs : List Text) (n : Need) (a : Tree) → bound (codes "Math") ≡ false → RowPlace bound steady w v xs n a → is_free (v.scope (codes "Math")) ≡ true
-math_free bound steady w v xs n a math place = ap is_free (place.same.scope (codes "Math") place.same.math) ∙ place.binds (codes "Math") ∙ ap not math
+math_free bound steady w v xs n a math place = ap is_free (place.same.scope (codes "Math") place.math) ∙ place.binds (codes "Math") ∙ ap not math
 
 pub raising_like : {bound steady : Text → Bool} (in_use : Text → Bool) {xs : List Text} → bound (codes "Math") ≡ false → IsRowAlike bound steady xs (ExponentiationRule bound in_use xs)
 raising_like {bound} {steady} in_use {xs} math w v n a b place (power {m = m} {l = l} {r = r} texts no_left no_right) =

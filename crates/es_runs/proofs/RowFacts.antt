@@ -123,7 +123,7 @@ module _ (Good : Tree → Type 0) (Fine : Text → Type 0) (on : PassesOn Good F
 
   holds_good : (bound in_use : Text → Bool) {xs : List Text} {fs : List Tree} {o o' : Tree} → Holds bound in_use xs fs o o' → Each Fine xs → Good o → HeldGood fs o'
   holds_good bound in_use (where_it_is h) fine good = record { front = tt; held = good }
-  holds_good bound in_use (in_temporary {o = o} {x = x} fresh) fine good = record { front = (on.takes x o fine.0 good, tt); held = on.name x fine.0 }
+  holds_good bound in_use (in_temporary {o = o} {x = x} stored fresh) fine good = record { front = (on.takes x o fine.0 good, tt); held = on.name x fine.0 }
 
   -- what goes in front, what is read, and the target wherever something is written to it
   record TwiceGood (fs : List Tree) (target read : Tree) : Type 0 where
@@ -136,7 +136,7 @@ module _ (Good : Tree → Type 0) (Fine : Text → Type 0) (on : PassesOn Good F
 
   target_good : (bound in_use : Text → Bool) (m : Label) (t r : Tree) {xs : List Text} {fs : List Tree} {s target read : Tree} → TargetTwice bound in_use xs fs s target read → without_parens t ≡ s → Each Fine xs → Good (node AssignmentExpression m (one t then (one r then done))) → Good s → TwiceGood fs target read
   target_good bound in_use m t r (bound_name {l = l} h) e fine whole good = record { front = tt; reads = good; written = λ n q g. on.to_name m n l t r q whole e g }
-  target_good bound in_use m t r (other_name {l = l} {x = x} fresh) e fine whole good = record {
+  target_good bound in_use m t r (other_name {l = l} {x = x} unbound fresh) e fine whole good = record {
     front = (on.takes x (node Identifier l done) fine.0 good, tt);
     reads = on.name x fine.0;
     written = λ n q g. on.to_name m n l t r q whole e g;

@@ -50,11 +50,11 @@ coalescing_fresh steady in_use (reading_again texts again) = no_more
 
 holds_fresh : (bound in_use : Text → Bool) {xs : List Text} {fs : List Tree} {o o' : Tree} → Holds bound in_use xs fs o o' → FreshInTurn in_use xs
 holds_fresh bound in_use (where_it_is h) = no_more
-holds_fresh bound in_use (in_temporary {x = x} fresh) = fresh_one in_use _ x fresh
+holds_fresh bound in_use (in_temporary {x = x} stored fresh) = fresh_one in_use _ x fresh
 
 target_fresh : (bound in_use : Text → Bool) {xs : List Text} {fs : List Tree} {t target read : Tree} → TargetTwice bound in_use xs fs t target read → FreshInTurn in_use xs
 target_fresh bound in_use (bound_name h) = no_more
-target_fresh bound in_use (other_name {x = x} fresh) = fresh_one in_use _ x fresh
+target_fresh bound in_use (other_name {x = x} unbound fresh) = fresh_one in_use _ x fresh
 target_fresh bound in_use (static_member flags object) = holds_fresh bound in_use object
 target_fresh bound in_use (private_member flags object) = holds_fresh bound in_use object
 target_fresh bound in_use (literal_key flags key object) = holds_fresh bound in_use object
@@ -68,7 +68,7 @@ power_fresh bound in_use (power_assignment texts right target) = target_fresh bo
 pub row_fresh : (no_all : Bool) (w : Whole) {xs : List Text} {n : Need} {a b : Tree} → core_row no_all w xs n a b → FreshInTurn w.in_use xs
 row_fresh no_all w (inl r) = assignment_fresh w.steady w.in_use r
 row_fresh no_all w (inr (inl (inl r))) = coalescing_fresh w.steady w.in_use r
-row_fresh no_all w (inr (inl (inr r))) = chaining_fresh no_all (is_bound_in w) w.bound w.steady w.in_use r
+row_fresh no_all w (inr (inl (inr r))) = chaining_fresh no_all (is_bound_in w) w.steady w.in_use r
 row_fresh no_all w (inr (inr (raises math r))) = power_fresh (is_bound_in w) w.in_use r
 
 -- FACTS OF NODES
@@ -77,7 +77,7 @@ row_fresh no_all w (inr (inr (raises math r))) = power_fresh (is_bound_in w) w.i
 pub row_good : (Good : Tree → Type 0) (Fine : Text → Type 0) → PassesOn Good Fine → ChainPassesOn Good Fine → (no_all : Bool) (w : Whole) {xs : List Text} {n : Need} {a b : Tree} → core_row no_all w xs n a b → Each Fine xs → Good a → Good b
 row_good Good Fine on chains no_all w (inl r) fine h = assignment_good Good Fine on w.steady w.in_use r fine h
 row_good Good Fine on chains no_all w (inr (inl (inl r))) fine h = coalescing_good Good Fine on w.steady w.in_use r fine h
-row_good Good Fine on chains no_all w (inr (inl (inr r))) fine h = chaining_good Good Fine chains no_all (is_bound_in w) w.bound w.steady w.in_use r fine h
+row_good Good Fine on chains no_all w (inr (inl (inr r))) fine h = chaining_good Good Fine chains no_all (is_bound_in w) w.steady w.in_use r fine h
 row_good Good Fine on chains no_all w (inr (inr (raises math r))) fine h = power_good Good Fine on (is_bound_in w) w.in_use r fine h
 
 -- A TEST OF EVERY NODE

@@ -58,7 +58,7 @@ short_kind : (m : Label) (ts : List Tree) (short long : Tree) → has_tests ts �
 short_kind m [] short long h = absurd (cc h)
 short_kind m (t ∷ ts) short long h = refl
 
-chaining_kinds : {no_all : Bool} {bound source steady in_use : Text → Bool} {xs : List Text} {n : Need} {a b : Tree} → OptionalChainingRule no_all bound source steady in_use xs n a b → RowKinds a b
+chaining_kinds : {no_all : Bool} {bound steady in_use : Text → Bool} {xs : List Text} {n : Need} {a b : Tree} → OptionalChainingRule no_all bound steady in_use xs n a b → RowKinds a b
 chaining_kinds (by_tests {m = m} {w = w} level walked tested) = record { acted = refl; parts = refl; left = short_kind m w.tests void_zero_node w.current tested }
 chaining_kinds (as_callee {m = m} {d = d} {w = w} level walked tested callee) = record { acted = refl; parts = refl; left = short_kind m w.tests void_zero_node d tested }
 chaining_kinds (in_delete {m = m} {w = w} texts inner walked tested) = record { acted = refl; parts = refl; left = short_kind m w.tests true_node (delete_node w.current) tested }

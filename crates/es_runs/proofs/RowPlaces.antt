@@ -1,6 +1,6 @@
 -- Where a row acts: what is known of the worlds of source and result, and of the node.
 use Rattle.std.proofs.Common.{◌≡◌, List}
-use Rattle.std.specs.Prelude.{Bool, true, false, not}
+use Rattle.std.specs.Prelude.{Bool, true, false, codes, not}
 use Rattle.es_tree.specs.Words.{Text}
 use Rattle.es_tree.specs.Core.{is_core_node}
 use Rattle.es_tree.specs.Tree.{Tree}
@@ -12,10 +12,11 @@ use Rattle.es_runs.proofs.Undeclaring.{undeclaring}
 use Rattle.es_runs.proofs.Written.{one_of}
 
 -- The result's world v is w with a cell for each of the names xs; w binds the names `bound`, of which nothing in the node
--- writes the steady ones, and no name of xs stands in the node. Its nodes are core, and declarations and parentheses in it
+-- writes the steady ones, and no name of xs stands in the node or is `Math`. Its nodes are core, and declarations and parentheses in it
 -- are as those of a program that has form.
 pub record RowPlace (bound steady : Text → Bool) (w v : World) (xs : List Text) (n : Need) (a : Tree) : Type 0 where
   pub same : SameWorld (one_of xs) w v
+  pub math : one_of xs (codes "Math") ≡ false
   pub cells : (x : Text) → one_of xs x ≡ true → v.scope x ≡ changeable
   pub binds : (y : Text) → is_free (w.scope y) ≡ not (bound y)
   pub steady_bound : (y : Text) → steady y ≡ true → bound y ≡ true

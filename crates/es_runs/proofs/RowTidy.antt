@@ -118,7 +118,7 @@ tidy_passes_on = record {
 off_spine : (no_all : Bool) (w : Whole) {xs : List Text} {n : Need} {a b : Tree} → core_row no_all w xs n a b → Tidy a → Tidy b
 off_spine no_all w {xs} (inl r) h = assignment_good Tidy (λ x. Unit {0}) tidy_passes_on w.steady w.in_use r (none_asked xs) h
 off_spine no_all w {xs} (inr (inl (inl r))) h = coalescing_good Tidy (λ x. Unit {0}) tidy_passes_on w.steady w.in_use r (none_asked xs) h
-off_spine no_all w {xs} (inr (inl (inr r))) h = chaining_tidy no_all (is_bound_in w) w.bound w.steady w.in_use r h
+off_spine no_all w {xs} (inr (inl (inr r))) h = chaining_tidy no_all (is_bound_in w) w.steady w.in_use r h
 off_spine no_all w {xs} (inr (inr (raises math r))) h = power_good Tidy (λ x. Unit {0}) tidy_passes_on (is_bound_in w) w.in_use r (none_asked xs) h
 
 -- where the node stands on a chain's spine or not

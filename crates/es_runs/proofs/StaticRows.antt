@@ -234,7 +234,7 @@ none_asked (x ∷ xs) = (tt, none_asked xs)
 kept_elsewhere : (no_all : Bool) (w : Whole) {xs : List Text} {n : Need} {a b : Tree} → core_row no_all w xs n a b → Keeps Other a → Keeps Other b
 kept_elsewhere no_all w {xs} (inl r) h = assignment_good (Keeps Other) (λ x. Unit {0}) keeps_passes_on w.steady w.in_use r (none_asked xs) h
 kept_elsewhere no_all w {xs} (inr (inl (inl r))) h = coalescing_good (Keeps Other) (λ x. Unit {0}) keeps_passes_on w.steady w.in_use r (none_asked xs) h
-kept_elsewhere no_all w (inr (inl (inr r))) h = chaining_keeps no_all (is_bound_in w) w.bound w.steady w.in_use r h
+kept_elsewhere no_all w (inr (inl (inr r))) h = chaining_keeps no_all (is_bound_in w) w.steady w.in_use r h
 kept_elsewhere no_all w {xs} (inr (inr (raises math r))) h = power_good (Keeps Other) (λ x. Unit {0}) keeps_passes_on (is_bound_in w) w.in_use r (none_asked xs) h
 
 -- a row keeps the rules at each place

@@ -12,7 +12,7 @@ use Rattle.es_tree.specs.declared.ast_type.AstType.{AstType}
 use Rattle.es_tree.specs.declared.ast_type.AstType.TheVariants.{Program, Identifier, VariableDeclaration, VariableDeclarator, UnaryExpression, UpdateExpression, BinaryExpression, AssignmentExpression, MemberExpression, CallExpression, ChainExpression, ParenthesizedExpression}
 use Rattle.es_runs.specs.Alike.{Level, Need, needs, member_needs, unary_need, binary_needs, callee_then_values, the_callee, bad_names, is_bad, touches, touches_fields, touches_field, touches_nodes}
 use Rattle.es_runs.specs.Alike.Level.{no_evaluation, value_alone, whole_reference, a_callee, a_target, an_operand_of_typeof}
-use Rattle.es_runs.specs.Core.{UnaryClass, unary_class, flag}
+use Rattle.es_runs.specs.Core.{UnaryClass, unary_class, flag, flag_after}
 use Rattle.es_runs.specs.Core.UnaryClass.{typeof_class, delete_class, void_class}
 use Rattle.es_runs.proofs.Named.{and_left, and_right, or_both, or_first, or_second, among_first, among_second, core_exports, core_quiet, names_below}
 use Rattle.es_runs.proofs.RowFacts.{is_row_kind}
@@ -80,10 +80,11 @@ module _ (hidden steady : Text → Bool) where
   binary_level op zero e = absurd (cc e)
   binary_level op (suc i) e = absurd (cc e)
 
-  member_level : (form computed : Bool) (i : ℕ) → (member_needs form computed i).level ≡ a_target → ⊥
-  member_level form computed zero e = absurd (cc e)
-  member_level form true (suc i) e = absurd (cc e)
-  member_level form false (suc i) e = absurd (cc e)
+  member_level : (form computed marked : Bool) (i : ℕ) → (member_needs form computed marked i).level ≡ a_target → ⊥
+  member_level form computed true zero e = absurd (cc e)
+  member_level form computed false zero e = absurd (cc e)
+  member_level form true marked (suc i) e = absurd (cc e)
+  member_level form false marked (suc i) e = absurd (cc e)
 
   call_level : (optional : Bool) (i : ℕ) → (callee_then_values (the_callee optional) i).level ≡ a_target → ⊥
   call_level true zero e = absurd (cc e)
@@ -120,7 +121,7 @@ module _ (hidden steady : Text → Bool) where
   targets n UpdateExpression l fs part stand formed written target = single_target _ fs formed (λ t e d. subst (λ gs. Unsteady (written_by UpdateExpression gs)) e written)
   targets n BinaryExpression l fs part stand formed written target = no_targets _ fs (binary_level (first_text l.texts))
   targets n AssignmentExpression l fs part stand formed written target = first_target _ fs formed written
-  targets n MemberExpression l fs part stand formed written target = no_targets _ fs (member_level n.form (flag l.flags))
+  targets n MemberExpression l fs part stand formed written target = no_targets _ fs (member_level n.form (flag l.flags) (flag_after l.flags))
   targets n CallExpression l fs part stand formed written target = no_targets _ fs (call_level (flag l.flags))
   targets n ChainExpression l fs part stand formed written target = single_target _ fs formed (λ t e d. link_targets t (chain_link t (subst (λ gs. fields_stand ChainExpression gs ≡ true) e stand)))
   targets n ParenthesizedExpression l fs part stand formed written target = single_target _ fs formed (λ t e d. subst (λ gs. Unsteady (target_names (node ParenthesizedExpression l gs))) e (target d))

@@ -9,7 +9,7 @@ use Rattle.es_tree.specs.Parens.{without_parens}
 use Rattle.es_tree.specs.Tree.{Tree, node, Label, done, ◌then◌, one, many, Trees, empty, ◌before◌}
 use Rattle.es_tree.specs.Walks.{all_nodes}
 use Rattle.es_tree.specs.declared.ast_type.AstType.TheVariants.{CallExpression, Identifier, MemberExpression}
-use Rattle.es_runs.specs.Alike.{Frame, set_cells, kept_cells, Same, Alike, Equal, Like, Level, Need, SameReference, SameWorld, all_of_it, bad_names, member_needs, needs, the_callee, the_value, touches, touches_fields, touches_nodes, value_and_form}
+use Rattle.es_runs.specs.Alike.{Frame, set_cells, kept_cells, Same, Alike, Equal, Like, Level, Need, SameReference, SameWorld, all_of_it, bad_names, key_need, needs, object_need, the_callee, the_value, touches, touches_fields, touches_nodes, value_and_form}
 use Rattle.es_runs.specs.Alike.Equal.{equal}
 use Rattle.es_runs.specs.Alike.Same.{both_give}
 use Rattle.es_runs.specs.Alike.SameReference.{same_property}
@@ -22,17 +22,18 @@ use Rattle.es_runs.specs.Rules.{strays, strays_nodes}
 use Rattle.es_runs.specs.Runs.{none_hidden}
 use Rattle.es_runs.proofs.Basic.{get_alike, onward_same}
 use Rattle.es_runs.proofs.Coalescing.{less_touched, none_frozen}
-use Rattle.es_runs.proofs.CoreRules.{unnamed_like}
+use Rattle.es_runs.proofs.CoreRules.{unnamed_like, unnamed_words}
 use Rattle.es_runs.proofs.Doubled.{kept_like}
 use Rattle.es_runs.proofs.Fresh.{or_left, or_right}
 use Rattle.es_runs.proofs.Lists.{AllLike, call_like, key_alike, member_form_like}
 use Rattle.es_runs.proofs.Lists.AllLike.{no_more, one_more}
+use Rattle.es_runs.proofs.MathWords.{NoMathWord}
 use Rattle.es_runs.proofs.Named.{or_both}
 use Rattle.es_runs.proofs.Stripped.{StrippedFree, single_parens, stripped_free, stripped_reference, undeclaring_single}
 use Rattle.es_runs.proofs.Undeclaring.{undeclaring}
 use Rattle.es_runs.proofs.WalksForms.{NoMath, behind, call_behind, member_no_math}
 use Rattle.es_runs.proofs.WalksKinds.{first_part}
-use Rattle.es_runs.proofs.WalksNeeds.{evaluates, read_as}
+use Rattle.es_runs.proofs.WalksNeeds.{evaluates, object_free, read_as}
 use Rattle.es_runs.proofs.WalksReceivers.{Known}
 use Rattle.es_runs.proofs.WalksTests.{passes, passes_then}
 use Rattle.es_runs.proofs.WalksUncut.{AllTidy, tidy_arguments, tidy_base, tidy_call, tidy_callee, tidy_key, tidy_member, tidy_object, tidy_stripped}
@@ -52,6 +53,10 @@ module _ (hidden steady : Text → Bool) (w v : World) (same : SameWorld hidden 
   pub seen_like : (n : Need) (e : Tree) → touches bad n e ≡ false → Like F w v n (meaning w e) (meaning v e)
   seen_like n e h = unnamed_like hidden w v same n e (less_touched bad (bad_names hidden none_hidden) (none_frozen hidden steady) n e h)
 
+  -- no hidden word `Math` is its form
+  seen_words : (e : Tree) → touches bad all_of_it e ≡ false → NoMathWord hidden (meaning w e).form
+  seen_words e h = unnamed_words hidden w v same all_of_it e (less_touched bad (bad_names hidden none_hidden) (none_frozen hidden steady) all_of_it e h) refl
+
   pub all_seen : (ts : Trees) → touches_nodes bad the_value ts ≡ false → AllLike F w v the_value (meanings w ts) (meanings v ts)
   all_seen empty h = no_more
   all_seen (t before ts) h = one_more (seen_like the_value t (or_left (touches bad the_value t) (touches_nodes bad the_value ts) h)) (all_seen ts (or_right (touches bad the_value t) (touches_nodes bad the_value ts) h))
@@ -64,7 +69,7 @@ module _ (hidden steady : Text → Bool) (w v : World) (same : SameWorld hidden 
 
   -- of a key
   pub record SeenKey (computed : Bool) (p : Tree) : Type 0 where
-    pub untouched : touches bad (member_needs true computed 1) p ≡ false
+    pub untouched : touches bad (key_need computed) p ≡ false
     pub tidy : strays false p ≡ false
 
   -- of arguments
@@ -74,14 +79,14 @@ module _ (hidden steady : Text → Bool) (w v : World) (same : SameWorld hidden 
 
   pub seen_object : (l : Label) (o p : Tree) → Seen (node MemberExpression l (one o then one p then done)) → Seen o
   seen_object l o p h = record {
-    untouched = read_as hidden steady (value_and_form true) all_of_it refl refl o (or_left (touches bad (value_and_form true) o) (touches bad (member_needs true (flag l.flags) 1) p || false) h.untouched);
+    untouched = read_as hidden steady (value_and_form true) all_of_it refl refl o (object_free hidden steady true (flag_after l.flags) o (or_left (touches bad (object_need true (flag_after l.flags)) o) (touches bad (key_need (flag l.flags)) p || false) h.untouched));
     tidy = tidy_object l o p h.tidy;
     formed = (first_part MemberExpression l o (one p then done) refl h.formed).1;
   }
 
   pub seen_key : (l : Label) (o p : Tree) → Seen (node MemberExpression l (one o then one p then done)) → SeenKey (flag l.flags) p
   seen_key l o p h = record {
-    untouched = or_left (touches bad (member_needs true (flag l.flags) 1) p) false (or_right (touches bad (value_and_form true) o) (touches bad (member_needs true (flag l.flags) 1) p || false) h.untouched);
+    untouched = or_left (touches bad (key_need (flag l.flags)) p) false (or_right (touches bad (object_need true (flag_after l.flags)) o) (touches bad (key_need (flag l.flags)) p || false) h.untouched);
     tidy = tidy_key l o p h.tidy;
   }
 
@@ -105,17 +110,17 @@ module _ (hidden steady : Text → Bool) (w v : World) (same : SameWorld hidden 
   -- a step without a mark, over parts where no bad name stands
   pub touched_member : (l : Label) (computed : Bool) (o p : Tree) → touches bad all_of_it o ≡ false → SeenKey computed p → touches bad all_of_it (member_at l computed o p) ≡ false
   touched_member l computed o p h g =
-      or_both (touches bad (value_and_form true) o) (touches bad (member_needs true computed 1) p || false) (read_as hidden steady all_of_it (value_and_form true) refl refl o h) (or_both (touches bad (member_needs true computed 1) p) false g.untouched refl)
+      or_both (touches bad (value_and_form true) o) (touches bad (key_need computed) p || false) (read_as hidden steady all_of_it (value_and_form true) refl refl o h) (or_both (touches bad (key_need computed) p) false g.untouched refl)
 
   touched_call : (l : Label) (f : Tree) (ts : Trees) → touches bad all_of_it f ≡ false → SeenAll ts → touches bad all_of_it (call_at l f ts) ≡ false
   touched_call l f ts h g =
       or_both (touches bad (the_callee false) f) (touches_nodes bad the_value ts || false) (read_as hidden steady all_of_it (the_callee false) refl refl f h) (or_both (touches_nodes bad the_value ts) false g.untouched refl)
 
-  pub key_like : (computed : Bool) (p : Tree) → SeenKey computed p → (d : Text → Cell) → Like (K d) w v (member_needs true computed 1) (meaning w p) (meaning v p)
-  key_like computed p h d = kept_like hidden steady w v same d (member_needs true computed 1) p h.untouched
+  pub key_like : (computed : Bool) (p : Tree) → SeenKey computed p → (d : Text → Cell) → Like (K d) w v (key_need computed) (meaning w p) (meaning v p)
+  key_like computed p h d = kept_like hidden steady w v same d (key_need computed) p h.untouched
 
   pub key_seen : (computed : Bool) (p : Tree) → SeenKey computed p → Alike F Equal (key w computed (meaning w p)) (key v computed (meaning v p))
-  key_seen computed p h = key_alike F w v same true computed (meaning w p) (meaning v p) (seen_like (member_needs true computed 1) p h.untouched)
+  key_seen computed p h = key_alike F w v same computed (meaning w p) (meaning v p) (seen_like (key_need computed) p h.untouched)
 
   -- THE INVARIANT
 
@@ -171,23 +176,20 @@ module _ (hidden steady : Text → Bool) (w v : World) (same : SameWorld hidden 
   known_seen taken form (node Identifier l fs) h = inl (or_left (hidden (first_text l.texts)) (touches_fields bad (needs (value_and_form form) Identifier l.texts l.flags) fs) h)
   known_seen taken form (node _ l fs) h = tt
 
-  key_form : (form computed : Bool) (p : Tree) → touches bad (member_needs form computed 1) p ≡ touches bad (member_needs true computed 1) p
-  key_form form true p = refl
-  key_form form false p = refl
-
   member_splits : (k : Label) (o p : Tree) → flag_after k.flags ≡ false → (s : State) → (meaning w (node MemberExpression k (one o then one p then done))).reference s ≡ onward (value w (meaning w o) s) (λ u. key w (flag k.flags) (meaning w p) >>= λ i. return (property u i))
   member_splits k o p e s = rw e refl
 
   base_object : (e t : Tree) (form : Bool) → (meaning w e).reference ≡ (meaning w t).reference → touches bad (record { level = Level.whole_reference; form = form }) t ≡ false → strays false t ≡ false → ObjectOf (meaning w e).reference (start e) t
   base_object e (node MemberExpression k (one o then (one p then done))) form same_reference free tidy = λ unmarked.
-      let free_o : touches bad (value_and_form form) o ≡ false = or_left (touches bad (value_and_form form) o) (touches bad (member_needs form (flag k.flags) 1) p || false) free in
-      let free_p : touches bad (member_needs form (flag k.flags) 1) p ≡ false = or_left (touches bad (member_needs form (flag k.flags) 1) p) false (or_right (touches bad (value_and_form form) o) (touches bad (member_needs form (flag k.flags) 1) p || false) free) in
+      let marked : Bool = flag_after k.flags in
+      let free_o : touches bad (value_and_form form) o ≡ false = object_free hidden steady form marked o (or_left (touches bad (object_need form marked) o) (touches bad (key_need (flag k.flags)) p || false) free) in
+      let free_p : touches bad (key_need (flag k.flags)) p ≡ false = or_left (touches bad (key_need (flag k.flags)) p) false (or_right (touches bad (object_need form marked) o) (touches bad (key_need (flag k.flags)) p || false) free) in
       let tidy_both : strays false o || (strays false p || false) ≡ false = or_right (flag_after k.flags && true) (strays false o || (strays false p || false)) tidy in
       record {
         object = value w (meaning w o);
         splits = λ s. ap (λ m. m s) same_reference ∙ member_splits k o p unmarked s;
         alike = (seen_like (value_and_form form) o free_o).evaluation;
-        keys = record { untouched = rw (key_form form (flag k.flags) p) at free_p; tidy = or_left (strays false p) false (or_right (strays false o) (strays false p || false) tidy_both) };
+        keys = record { untouched = free_p; tidy = or_left (strays false p) false (or_right (strays false o) (strays false p || false) tidy_both) };
         known = known_seen [] form o free_o;
         tidy = or_left (strays false o) (strays false p || false) tidy_both;
       }
@@ -227,7 +229,7 @@ module _ (hidden steady : Text → Bool) (w v : World) (same : SameWorld hidden 
       } in
       record {
         reference = from_parts parts;
-        form = rw (ap flag flags, ap flag_after flags) (member_form_like F w v same computed false (meaning w o) (meaning v way.current) (meaning w p) (meaning v p) below.form (seen_like (member_needs true computed 1) p keys.untouched));
+        form = rw (ap flag flags, ap flag_after flags) (member_form_like F w v same computed false (meaning w o) (meaning v way.current) (meaning w p) (meaning v p) (seen_words o (seen_object l o p h).untouched) below.form (seen_like (key_need computed) p keys.untouched));
         object = λ _. parts;
         known = tt;
         no_math = λ k. member_no_math v computed (meaning v way.current).form (meaning v p).form (below.no_math k);

@@ -4,7 +4,7 @@ use Rattle.std.specs.Prelude.{Bool, true, false, bytes_eq, codes}
 use Rattle.es_tree.specs.Words.{Text}
 use Rattle.es_tree.specs.Names.{first_text}
 use Rattle.es_tree.specs.Tree.{Tree, Label, Fields}
-use Rattle.es_runs.specs.Alike.{Frame, set_cells, kept_cells, Agree, Same, Alike, Equal, Like, SameReference, SameWorld, member_needs, the_value}
+use Rattle.es_runs.specs.Alike.{Frame, set_cells, kept_cells, Agree, Same, Alike, Equal, Like, SameReference, SameWorld, key_need, the_value}
 use Rattle.es_runs.specs.Alike.Equal.{equal}
 use Rattle.es_runs.specs.Alike.Same.{both_give, both_stop, outside}
 use Rattle.es_runs.specs.Alike.SameReference.{same_plain}
@@ -106,9 +106,9 @@ module _ (hidden steady : Text → Bool) (w v : World) (same : SameWorld hidden 
       keyed u d set again (both_stop g) = both_stop (kept_agree hidden steady d set _ _ g)
       keyed u d set again outside = outside
 
-      pub from_object : (computed : Bool) (p p' : Meaning) → ((d : Text → Cell) → Like (K d) w v (member_needs true computed 1) p p') → {m q : Result Value} → Held hidden v r names m q →
+      pub from_object : (computed : Bool) (p p' : Meaning) → ((d : Text → Cell) → Like (K d) w v (key_need computed) p p') → {m q : Result Value} → Held hidden v r names m q →
           Same F (SameReference F) (onward (onward (onward m (λ u. key w computed p >>= λ k. return (property u k))) (plain_call w true es)) as_plain)
           (onward (onward (onward q (λ u. key v computed p' >>= λ k. return (property u k))) (get_value v)) (store_and_test no_all v c (made_call c r)))
-      from_object computed p p' keys (held {s = s} {t = t} u again g) = keyed u (cells t) (now_set hidden steady s t g) again (key_alike (K (cells t)) w v same true computed p p' (keys (cells t)) s t (now_kept hidden steady s t g))
+      from_object computed p p' keys (held {s = s} {t = t} u again g) = keyed u (cells t) (now_set hidden steady s t g) again (key_alike (K (cells t)) w v same computed p p' (keys (cells t)) s t (now_kept hidden steady s t g))
       from_object computed p p' keys (neither g) = both_stop g
       from_object computed p p' keys not_called = outside

@@ -8,7 +8,7 @@ use Rattle.es_tree.specs.Parens.{without_parens}
 use Rattle.es_tree.specs.Tree.{Tree, node, Label, Fields, done, ◌then◌, missing, one, many, statements, ◌before◌, kind_of}
 use Rattle.es_tree.specs.Walks.{all_nodes}
 use Rattle.es_tree.specs.declared.ast_type.AstType.TheVariants.{CallExpression, ChainExpression, Identifier, MemberExpression, ParenthesizedExpression}
-use Rattle.es_runs.specs.Alike.{Frame, set_cells, Alike, Equal, Level, SameWorld, all_of_it, bad_names, member_needs, needs, touches, touches_fields}
+use Rattle.es_runs.specs.Alike.{Frame, set_cells, Alike, Equal, Level, SameWorld, all_of_it, bad_names, key_need, needs, touches, touches_fields}
 use Rattle.es_runs.specs.Alike.Equal.{equal}
 use Rattle.es_runs.specs.Alike.Same.{both_give}
 use Rattle.es_runs.specs.Core.{World, Meaning, Reference, value, get_value, closed_result, cut_where, chain, key, name, plain_call as run_plain, is_free, meaning, flag, flag_after}
@@ -111,7 +111,7 @@ cut_return {A} k (gives u s) = at (is_nullish u)
 cut_return k (stops n s) = refl
 
 -- what a spine becomes gives a member only where it is one
-pub spine_receives : (v : World) {no_all : Bool} {bound in_source steady in_use : Text → Bool} {e : Tree} {way : Way} → Walked no_all bound in_source steady in_use e way → (is_link e || not (is_chain_kind (kind_of (without_parens e)))) ≡ true → is_declarator (kind_of e) ≡ false → all_nodes undeclaring e ≡ true →
+pub spine_receives : (v : World) {no_all : Bool} {bound steady in_use : Text → Bool} {e : Tree} {way : Way} → Walked no_all bound steady in_use e way → (is_link e || not (is_chain_kind (kind_of (without_parens e)))) ≡ true → is_declarator (kind_of e) ≡ false → all_nodes undeclaring e ≡ true →
     is_member (without_parens way.current) ≡ false → (s : State) → NoProperty ((meaning v way.current).reference s)
 spine_receives v (base {e = e} link) h d u m s = unreceived v e m (not_chain (is_link e) (is_chain_kind (kind_of (without_parens e))) link h) d u s
   where
@@ -127,7 +127,7 @@ spine_receives v (marked_call {l = l} {arguments = ts} flags below (by_value {c 
 spine_receives v (marked_call {l = l} {arguments = ts} flags below (by_first_member {r = r} {c = c} none member k fresh receives)) h d u m s = call_plain v l (call_method (identifier c)) (r before ts) s
 spine_receives v (marked_call {l = l} {arguments = ts} flags below (by_later_member {r = r} {c = c} some member k receives fresh)) h d u m s = call_plain v l (call_method (identifier c)) (r before ts) s
 
-module _ (no_all : Bool) (hidden steady bound in_source in_use : Text → Bool) (w v : World) (counts : v.counts_all ≡ not no_all) (same : SameWorld hidden w v) (vars : (y : Text) → hidden y ≡ true → v.scope y ≡ changeable) (steady_bound : (y : Text) → steady y ≡ true → is_free (w.scope y) ≡ false) (binds : (y : Text) → bound y ≡ true → is_free (w.scope y) ≡ false) where
+module _ (no_all : Bool) (hidden steady bound in_use : Text → Bool) (w v : World) (counts : v.counts_all ≡ not no_all) (same : SameWorld hidden w v) (vars : (y : Text) → hidden y ≡ true → v.scope y ≡ changeable) (steady_bound : (y : Text) → steady y ≡ true → is_free (w.scope y) ≡ false) (binds : (y : Text) → bound y ≡ true → is_free (w.scope y) ≡ false) where
   abbrev F : Frame
   F = set_cells hidden
 
@@ -150,7 +150,7 @@ module _ (no_all : Bool) (hidden steady bound in_source in_use : Text → Bool) 
     pub as_value : (k : Value → M Reference) (s : State) → onward (value w (meaning w e) s) (λ u. cut_where (is_nullish u) (k u)) ≡ onward (value w source s) (λ u. cut_where (is_nullish u) (k u))
     pub as_callee : (es : List Meaning) (s : State) → onward ((meaning w e).reference s) (run_plain w true es) ≡ onward (source.reference s) (run_plain w true es)
 
-  pub continues_same : {e : Tree} {way : Way} → (is_link e || not (is_chain_kind (kind_of (without_parens e)))) ≡ true → is_declarator (kind_of e) ≡ false → SeenHere e → Walked no_all bound in_source steady in_use e way → FollowsHere (meaning w e) way → Continues e way
+  pub continues_same : {e : Tree} {way : Way} → (is_link e || not (is_chain_kind (kind_of (without_parens e)))) ≡ true → is_declarator (kind_of e) ≡ false → SeenHere e → Walked no_all bound steady in_use e way → FollowsHere (meaning w e) way → Continues e way
   continues_same {e} h d seen walked follows = record {
     source = meaning w e;
     follows = follows;
@@ -185,7 +185,7 @@ module _ (no_all : Bool) (hidden steady bound in_source in_use : Text → Bool) 
   link_declares (node CallExpression l fs) e = refl
   link_declares (node k l fs) e = absurd (cc e)
 
-  pub continues_inner : {e c : Tree} {l : Label} {way : Way} → SeenHere e → without_parens e ≡ node ChainExpression l (one c then done) → SeenHere c → is_link c ≡ true → Walked no_all bound in_source steady in_use c way → FollowsHere (meaning w c) way → Continues e way
+  pub continues_inner : {e c : Tree} {l : Label} {way : Way} → SeenHere e → without_parens e ≡ node ChainExpression l (one c then done) → SeenHere c → is_link c ≡ true → Walked no_all bound steady in_use c way → FollowsHere (meaning w c) way → Continues e way
   continues_inner {e} {c} {l} outer inner seen link walked follows =
       let same_reference : (meaning w e).reference ≡ (chain (meaning w c)).reference = stripped_reference w e outer.formed ∙ ap (λ t. (meaning w t).reference) inner in
       record {
@@ -273,12 +273,12 @@ module _ (no_all : Bool) (hidden steady bound in_source in_use : Text → Bool) 
         holder = holder;
       }
 
-  pub tested_covers : {way next : Way} → Tested no_all bound in_source in_use way next → Covers hidden next.taken → Covers hidden way.taken
+  pub tested_covers : {way next : Way} → Tested no_all bound in_use way next → Covers hidden next.taken → Covers hidden way.taken
   tested_covers (as_name none named_one) cover = cover
   tested_covers (in_holder held) cover = cover
   tested_covers (in_temporary {w = way} {x = x} name none fresh) cover = covers_first hidden way.taken (x ∷ []) cover
 
-  after_test : {source : Meaning} {way next : Way} → Tested no_all bound in_source in_use way next → Covers hidden next.taken → FollowsHere source way → AfterTest source next
+  after_test : {source : Meaning} {way next : Way} → Tested no_all bound in_use way next → Covers hidden next.taken → FollowsHere source way → AfterTest source next
   after_test (as_name {w = way} none named_one) cover follows = after_name follows none (without_parens way.current) refl named_one
   after_test (in_holder {w = way} {x = x} held) cover follows = after_store x way.taken way.holder (cover x (follows.holder x held)) (follows.holder x held) follows.holder follows
   after_test (in_temporary {w = way} {x = x} name none fresh) cover follows =
@@ -287,7 +287,7 @@ module _ (no_all : Bool) (hidden steady bound in_source in_use : Text → Bool) 
 
   -- A MARKED MEMBER
 
-  pub follows_marked : (l : Label) (computed : Bool) (o p : Tree) (way next : Way) → l.flags ≡ computed ∷ true ∷ [] → SeenHere (node MemberExpression l (one o then one p then done)) → (from : Continues o way) → Tested no_all bound in_source in_use way next → Covers hidden next.taken →
+  pub follows_marked : (l : Label) (computed : Bool) (o p : Tree) (way next : Way) → l.flags ≡ computed ∷ true ∷ [] → SeenHere (node MemberExpression l (one o then one p then done)) → (from : Continues o way) → Tested no_all bound in_use way next → Covers hidden next.taken →
       FollowsHere (meaning w (node MemberExpression l (one o then one p then done))) (record next { current = member_at l computed next.current p })
   follows_marked l computed o p way next flags seen from test cover =
       let after : AfterTest from.source next = after_test test cover from.follows in
@@ -304,7 +304,7 @@ module _ (no_all : Bool) (hidden steady bound in_source in_use : Text → Bool) 
       let no_math : NoMath v (word after.name) = bound_no_math v after.name after.bound_name in
       record {
         reference = from_parts hidden steady w v same steady_bound parts;
-        form = rw (ap flag flags, ap flag_after flags, after.form) (marked_form w v computed (meaning w o).form after.name (meaning w p).form (meaning v p).form no_math (λ e. (seen_like hidden steady w v same steady_bound (member_needs true computed 1) p keys.untouched).form (rw e refl)));
+        form = rw (ap flag flags, ap flag_after flags, after.form) (marked_form w v computed (meaning w o).form after.name (meaning w p).form (meaning v p).form no_math (λ e. (seen_like hidden steady w v same steady_bound (key_need computed) p keys.untouched).form (rw e refl)));
         object = λ _. parts;
         known = tt;
         no_math = λ k. member_no_math v computed (meaning v next.current).form (meaning v p).form (subst (NoMath v) (sym after.form) no_math);

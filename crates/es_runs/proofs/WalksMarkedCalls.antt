@@ -43,7 +43,7 @@ unreceived_source F w es (both_give same_plain g) h = refl
 unreceived_source F w es (both_stop g) h = refl
 unreceived_source F w es outside h = refl
 
-module _ (no_all : Bool) (hidden steady bound in_source in_use : Text → Bool) (w v : World) (counts : v.counts_all ≡ not no_all) (same : SameWorld hidden w v) (vars : (y : Text) → hidden y ≡ true → v.scope y ≡ changeable) (steady_bound : (y : Text) → steady y ≡ true → is_free (w.scope y) ≡ false) (binds : (y : Text) → bound y ≡ true → is_free (w.scope y) ≡ false) where
+module _ (no_all : Bool) (hidden steady bound in_use : Text → Bool) (w v : World) (counts : v.counts_all ≡ not no_all) (same : SameWorld hidden w v) (vars : (y : Text) → hidden y ≡ true → v.scope y ≡ changeable) (steady_bound : (y : Text) → steady y ≡ true → is_free (w.scope y) ≡ false) (binds : (y : Text) → bound y ≡ true → is_free (w.scope y) ≡ false) where
   abbrev F : Frame
   F = set_cells hidden
 
@@ -54,9 +54,9 @@ module _ (no_all : Bool) (hidden steady bound in_source in_use : Text → Bool) 
   SeenHere = Seen hidden steady w v same steady_bound
 
   abbrev ContinuesHere : Tree → Way → Type 0
-  ContinuesHere = Continues no_all hidden steady bound in_source in_use w v counts same vars steady_bound binds
+  ContinuesHere = Continues no_all hidden steady bound in_use w v counts same vars steady_bound binds
 
-  pub called_covers : {l : Label} {ts : Trees} {way next : Way} → Called no_all bound in_source steady in_use l ts way next → Covers hidden next.taken → Covers hidden way.taken
+  pub called_covers : {l : Label} {ts : Trees} {way next : Way} → Called no_all bound steady in_use l ts way next → Covers hidden next.taken → Covers hidden way.taken
   called_covers (by_name none named_one) cover = cover
   called_covers (by_value {w = way} {c = c} none member fresh) cover = covers_first hidden way.taken (c ∷ []) cover
   called_covers (by_first_member {w = way} {c = c} {xs = xs} none member flags fresh receives) cover = covers_first hidden way.taken (c ∷ xs) cover
@@ -94,11 +94,11 @@ module _ (no_all : Bool) (hidden steady bound in_source in_use : Text → Bool) 
     called_name : way.tests ≡ [] → (t : Tree) → without_parens way.current ≡ t → is_name_among bound t ≡ true →
         FollowsHere (meaning w (node CallExpression l (one f then many ts then done))) (record way { tests = tests_of no_all t t; current = call_at l t ts })
     called_name none (node Identifier i fs) here named_one =
-        let known_name : BoundName no_all hidden steady bound in_source in_use w v counts same vars steady_bound binds (first_text i.texts) = bound_name_of no_all hidden steady bound in_source in_use w v counts same vars steady_bound binds from.follows none i fs here named_one in
+        let known_name : BoundName no_all hidden steady bound in_use w v counts same vars steady_bound binds (first_text i.texts) = bound_name_of no_all hidden steady bound in_use w v counts same vars steady_bound binds from.follows none i fs here named_one in
         let tidy : strays false (node Identifier i fs) ≡ false = rw here at (tidy_stripped way.current from.follows.tidy) in
         record {
           reference = plain_alike _ (rw here refl) (name_alike hidden steady w v same vars i fs known_name.bound_name no_all counts (finishes undefined) (value w from.source) (call_of v false (name (first_text i.texts)) es').reference
-              (name_value no_all hidden steady bound in_source in_use w v counts same vars steady_bound binds from.follows none i fs here)
+              (name_value no_all hidden steady bound in_use w v counts same vars steady_bound binds from.follows none i fs here)
               (λ u s t g e. name_called hidden steady w v same vars steady_bound es es' arguments i fs known_name.bound_name u s t g e));
           form = refl;
           object = tt;
@@ -122,7 +122,7 @@ module _ (no_all : Bool) (hidden steady bound in_source in_use : Text → Bool) 
         let c_hidden : hidden c ≡ true = cover c mine in
         record {
           reference = plain_alike _ no_member (stored_alike hidden steady w v same vars no_all c c_hidden counts way.tests e (finishes undefined) (value w from.source) (call_of v false (name c) es').reference
-              (stored_follows no_all hidden steady bound in_source in_use w v counts same vars steady_bound binds from.follows)
+              (stored_follows no_all hidden steady bound in_use w v counts same vars steady_bound binds from.follows)
               (λ u s t g k. name_called hidden steady w v same vars steady_bound es es' arguments (made (Some c ∷ []) []) done (hidden_bound hidden steady w v same vars steady_bound c c_hidden) u s t g k));
           form = refl;
           object = tt;
@@ -198,7 +198,7 @@ module _ (no_all : Bool) (hidden steady bound in_source in_use : Text → Bool) 
     held_hidden : Covers hidden way.taken → (y : Text) → way.holder ≡ Some y → hidden y ≡ true
     held_hidden cover y held = cover y (from.follows.holder y held)
 
-    pub follows_called : {next : Way} → Called no_all bound in_source steady in_use l ts way next → Covers hidden next.taken → FollowsHere (meaning w (node CallExpression l (one f then many ts then done))) next
+    pub follows_called : {next : Way} → Called no_all bound steady in_use l ts way next → Covers hidden next.taken → FollowsHere (meaning w (node CallExpression l (one f then many ts then done))) next
     follows_called (by_name none named_one) cover = called_name none (without_parens way.current) refl named_one
     follows_called (by_value {c = c} none member fresh) cover = called_value c cover member
     follows_called (by_first_member {k = k} {computed = computed} {o = o} {o1 = o1} {p = p} {r = r} {c = c} {xs = xs} none here member_flags fresh receives) cover =

@@ -6,9 +6,9 @@ use Rattle.es_tree.specs.Names.{first_text as first}
 use Rattle.es_tree.specs.Tree.{Tree, node, Fields, done, ◌then◌, Field, missing, one, many, statements, Trees, empty, ◌before◌}
 use Rattle.es_tree.specs.declared.ast_type.AstType.{AstType}
 use Rattle.es_tree.specs.declared.ast_type.AstType.TheVariants.{UnaryExpression, MemberExpression, ChainExpression, ParenthesizedExpression, Identifier}
-use Rattle.es_runs.specs.Alike.{Level, Need, needs, member_needs, unary_need, content_level, bad_names, is_bad, touches, touches_fields, touches_field, touches_nodes}
+use Rattle.es_runs.specs.Alike.{Level, Need, needs, member_needs, unary_need, content_level, object_need, value_and_form, bad_names, is_bad, touches, touches_fields, touches_field, touches_nodes}
 use Rattle.es_runs.specs.Alike.Level.{no_evaluation, value_alone, an_operand_of_typeof, whole_reference, a_callee, a_target}
-use Rattle.es_runs.specs.Core.{UnaryClass, unary_class, flag}
+use Rattle.es_runs.specs.Core.{UnaryClass, unary_class, flag, flag_after}
 use Rattle.es_runs.specs.Core.UnaryClass.{typeof_class, delete_class, void_class, not_class, asked_class}
 
 -- a node is evaluated, and isn't written
@@ -34,10 +34,9 @@ content_read n m (evaluate h g) = evaluate (content n h) (content m g)
     content no_evaluation h = h
     content a_target h = h
 
-member_read : (f g computed : Bool) (i : ℕ) → BothRead (member_needs f computed i).level (member_needs g computed i).level
-member_read f g computed zero = same_level
-member_read f g true (suc i) = same_level
-member_read f g false (suc i) = same_level
+member_read : (f g computed marked : Bool) (i : ℕ) → BothRead (member_needs f computed marked i).level (member_needs g computed marked i).level
+member_read f g computed marked zero = same_level
+member_read f g computed marked (suc i) = same_level
 
 unary_read : (f g : Bool) (c : UnaryClass) → BothRead (unary_need f c).level (unary_need g c).level
 unary_read f g typeof_class = same_level
@@ -48,7 +47,7 @@ unary_read f g asked_class = same_level
 
 needs_read : (n m : Need) → BothRead n.level m.level → (k : AstType) (ts : List (Option Text)) (fs : List Bool) (i : ℕ) → BothRead (needs n k ts fs i).level (needs m k ts fs i).level
 needs_read n m h UnaryExpression ts fs i = unary_read n.form m.form (unary_class (first ts))
-needs_read n m h MemberExpression ts fs i = member_read n.form m.form (flag fs) i
+needs_read n m h MemberExpression ts fs i = member_read n.form m.form (flag fs) (flag_after fs) i
 needs_read n m h ChainExpression ts fs i = content_read n.level m.level h
 needs_read n m h ParenthesizedExpression ts fs i = h
 needs_read n m h _ ts fs i = same_level
@@ -94,3 +93,8 @@ module _ (hidden frozen : Text → Bool) where
   -- at one place as at the other
   pub read_as : (n m : Need) → evaluates n.level ≡ true → evaluates m.level ≡ true → (t : Tree) → touches bad n t ≡ false → touches bad m t ≡ false
   read_as n m h g t e = let same : touches bad n t ≡ touches bad m t = node_read n m (evaluate h g) t in rw (← same) e
+
+  -- the object of a member, marked or not, as where its value is taken
+  pub object_free : (form marked : Bool) (o : Tree) → touches bad (object_need form marked) o ≡ false → touches bad (value_and_form form) o ≡ false
+  object_free form true o h = read_as (object_need form true) (value_and_form form) refl refl o h
+  object_free form false o h = h

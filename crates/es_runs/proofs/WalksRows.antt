@@ -9,7 +9,7 @@ use Rattle.es_tree.specs.Parens.{without_parens}
 use Rattle.es_tree.specs.Tree.{Tree, node, Label, done, ◌then◌, one}
 use Rattle.es_tree.specs.Walks.{all_nodes}
 use Rattle.es_tree.specs.declared.ast_type.AstType.TheVariants.{ChainExpression, Super, UnaryExpression}
-use Rattle.es_runs.specs.Alike.{Frame, set_cells, kept_cells, Agree, Same, Alike, Equal, Level, Like, LikeAt, Need, SameCalled, SameReference, SameWorld, all_of_it, bad_names, content_level, member_needs, the_reference, touches, unary_need}
+use Rattle.es_runs.specs.Alike.{Frame, set_cells, kept_cells, Agree, Same, Alike, Equal, Level, Like, LikeAt, Need, SameCalled, SameReference, SameWorld, all_of_it, bad_names, content_level, key_need, the_reference, touches, unary_need}
 use Rattle.es_runs.specs.Alike.Agree.{agree}
 use Rattle.es_runs.specs.Alike.Equal.{equal}
 use Rattle.es_runs.specs.Alike.Level.{no_evaluation, value_alone, an_operand_of_typeof}
@@ -107,7 +107,7 @@ module _ (F : Frame) (w v : World) (same : SameWorld F.hidden w v) where
   callee_alike _ _ (same_property {o = o} {k = k}) = then_alike F (ask_alike F (get o k)) (λ f. tested_alike (is_callable f) f o)
   callee_alike _ _ (same_plain {v = u}) = tested_alike (is_callable u) u undefined
 
-module _ (no_all : Bool) (hidden steady bound in_source in_use : Text → Bool) (w v : World) (counts : v.counts_all ≡ not no_all) (same : SameWorld hidden w v) (vars : (y : Text) → hidden y ≡ true → v.scope y ≡ changeable) (steady_bound : (y : Text) → steady y ≡ true → is_free (w.scope y) ≡ false) (binds : (y : Text) → bound y ≡ true → is_free (w.scope y) ≡ false) where
+module _ (no_all : Bool) (hidden steady bound in_use : Text → Bool) (w v : World) (counts : v.counts_all ≡ not no_all) (same : SameWorld hidden w v) (vars : (y : Text) → hidden y ≡ true → v.scope y ≡ changeable) (steady_bound : (y : Text) → steady y ≡ true → is_free (w.scope y) ≡ false) (binds : (y : Text) → bound y ≡ true → is_free (w.scope y) ≡ false) where
   abbrev H : Frame
   H = set_cells hidden
 
@@ -179,10 +179,10 @@ module _ (no_all : Bool) (hidden steady bound in_source in_use : Text → Bool) 
     got_bound r u d set again kept (both_stop g) = both_stop (kept_agree hidden steady d set _ _ g)
     got_bound r u d set again kept outside = outside
 
-    from_held : (computed : Bool) (p r : Tree) → ((d : Text → Cell) → Like (kept_cells hidden steady d) w v (member_needs true computed 1) (meaning w p) (meaning v p)) → ((z : Text) → read_names r z ≡ true → (hidden z ≡ true) ⊎ (steady z ≡ true)) → {q n : Result Value} → Held hidden v (meaning v r) (read_names r) q n →
+    from_held : (computed : Bool) (p r : Tree) → ((d : Text → Cell) → Like (kept_cells hidden steady d) w v (key_need computed) (meaning w p) (meaning v p)) → ((z : Text) → read_names r z ≡ true → (hidden z ≡ true) ⊎ (steady z ≡ true)) → {q n : Result Value} → Held hidden v (meaning v r) (read_names r) q n →
         Same H SameCalled (onward (onward q (λ u. key w computed (meaning w p) >>= λ k. return (property u k))) (callee_from w)) (onward (onward (onward n (λ u. key v computed (meaning v p) >>= λ k. return (property u k))) (get_value v)) (bound_rest r))
     from_held computed p r keys kept (held {s = s} {t = t} u again g) =
-        keyed u (cells t) (now_set hidden steady s t g) again (key_alike (kept_cells hidden steady (cells t)) w v same true computed (meaning w p) (meaning v p) (keys (cells t)) s t (now_kept hidden steady s t g))
+        keyed u (cells t) (now_set hidden steady s t g) again (key_alike (kept_cells hidden steady (cells t)) w v same computed (meaning w p) (meaning v p) (keys (cells t)) s t (now_kept hidden steady s t g))
       where
         keyed : (u : Value) (d : Text → Cell) → AllSet hidden d → ((t : State) → ((z : Text) → read_names r z ≡ true → cells t z ≡ d z) → value v (meaning v r) t ≡ gives u t) → {a b : Result Value} → Same (kept_cells hidden steady d) Equal a b →
             Same H SameCalled (onward (onward a (λ k. return (property u k))) (callee_from w)) (onward (onward (onward b (λ k. return (property u k))) (get_value v)) (bound_rest r))
@@ -249,7 +249,7 @@ module _ (no_all : Bool) (hidden steady bound in_source in_use : Text → Bool) 
 
 -- THE ROWS
 
-module _ (no_all : Bool) (bound in_source steady in_use : Text → Bool) where
+module _ (no_all : Bool) (bound steady in_use : Text → Bool) where
   among_one : (xs : List Text) (y : Text) → is_among xs y ≡ one_of xs y
   among_one [] y = refl
   among_one (x ∷ xs) y = λ i. bytes_eq-flip x y i || among_one xs y i
@@ -275,7 +275,7 @@ module _ (no_all : Bool) (bound in_source steady in_use : Text → Bool) where
       formed = (chain_content m e formed).1;
     }
 
-  pub chaining_like : (xs : List Text) → IsRowAlikeWhere no_all bound steady xs (WhereTidy (OptionalChainingRule no_all bound in_source steady in_use xs))
+  pub chaining_like : (xs : List Text) → IsRowAlikeWhere no_all bound steady xs (WhereTidy (OptionalChainingRule no_all bound steady in_use xs))
   chaining_like xs w v n _ _ counts place (by_tests {m = m} {e = e} {w = way} level walked tested, tidy) = record {
     evaluation = at n.level refl level;
     form = λ k. short_form v m way.tests void_zero_node way.current tested;
@@ -287,8 +287,8 @@ module _ (no_all : Bool) (bound in_source steady in_use : Text → Bool) where
       evaluated : (k : Level) → n.level ≡ k → evaluates (content_level k) ≡ true → takes_value k ≡ true → LikeAt (set_cells (one_of xs)) w v k (chain (meaning w e)) (meaning v (where_short m way.tests void_zero_node way.current))
       evaluated k here is takes =
           let seen : Seen (one_of xs) steady w v place.same (steady_here xs w v n whole place) e = seen_chain xs w v n whole place m e (content_level n.level) (rw here is) place.untouched tidy place.placed in
-          let follows : Follows (one_of xs) steady w v place.same (steady_here xs w v n whole place) (meaning w e) way = walks no_all (one_of xs) steady bound in_source in_use w v (place.same.counts ∙ counts) place.same place.cells (steady_here xs w v n whole place) (bound_here xs w v n whole place) seen (covers_all xs) walked in
-          by_level no_all (one_of xs) steady bound in_source in_use w v (place.same.counts ∙ counts) place.same place.cells (steady_here xs w v n whole place) (bound_here xs w v n whole place) (meaning w e) way follows m tested (tested_link walked tested) k takes
+          let follows : Follows (one_of xs) steady w v place.same (steady_here xs w v n whole place) (meaning w e) way = walks no_all (one_of xs) steady bound in_use w v (place.same.counts ∙ counts) place.same place.cells (steady_here xs w v n whole place) (bound_here xs w v n whole place) seen (covers_all xs) walked in
+          by_level no_all (one_of xs) steady bound in_use w v (place.same.counts ∙ counts) place.same place.cells (steady_here xs w v n whole place) (bound_here xs w v n whole place) (meaning w e) way follows m tested (tested_link walked tested) k takes
 
       at : (k : Level) → n.level ≡ k → takes_value k ≡ true → LikeAt (set_cells (one_of xs)) w v k (chain (meaning w e)) (meaning v (where_short m way.tests void_zero_node way.current))
       at no_evaluation here takes = tt
@@ -301,10 +301,10 @@ module _ (no_all : Bool) (bound in_source steady in_use : Text → Bool) where
       let evaluated : evaluates (content_level n.level) ≡ true = rw level refl in
       let seen : Seen (one_of xs) steady w v place.same (steady_here xs w v n whole place) e = seen_chain xs w v n whole place m e (content_level n.level) evaluated place.untouched tidy place.placed in
       let cover : Covers (one_of xs) way.taken = covers_first (one_of xs) way.taken ys (covers_all xs) in
-      let follows : Follows (one_of xs) steady w v place.same (steady_here xs w v n whole place) (meaning w e) way = walks no_all (one_of xs) steady bound in_source in_use w v (place.same.counts ∙ counts) place.same place.cells (steady_here xs w v n whole place) (bound_here xs w v n whole place) seen cover walked in
+      let follows : Follows (one_of xs) steady w v place.same (steady_here xs w v n whole place) (meaning w e) way = walks no_all (one_of xs) steady bound in_use w v (place.same.counts ∙ counts) place.same place.cells (steady_here xs w v n whole place) (bound_here xs w v n whole place) seen cover walked in
       record {
         evaluation = subst (λ k. LikeAt (set_cells (one_of xs)) w v k (chain (meaning w e)) (meaning v (where_short m way.tests void_zero_node d))) (sym level)
-            (by_call refl (chain_called no_all (one_of xs) steady bound in_source in_use w v (place.same.counts ∙ counts) place.same place.cells (steady_here xs w v n whole place) (bound_here xs w v n whole place) (meaning w e) way follows m tested (tested_link walked tested) way.current refl callee cover (covers_second (one_of xs) way.taken ys (covers_all xs))));
+            (by_call refl (chain_called no_all (one_of xs) steady bound in_use w v (place.same.counts ∙ counts) place.same place.cells (steady_here xs w v n whole place) (bound_here xs w v n whole place) (meaning w e) way follows m tested (tested_link walked tested) way.current refl callee cover (covers_second (one_of xs) way.taken ys (covers_all xs))));
         form = λ k. short_form v m way.tests void_zero_node d tested;
       }
   chaining_like xs w v n _ _ counts place (in_delete {m = m} {l = l} {t = t} {e = e} {w = way} texts inner walked tested, tidy) =
@@ -317,8 +317,8 @@ module _ (no_all : Bool) (bound in_source steady in_use : Text → Bool) where
       let tidy_chain : strays false (node ChainExpression l (one e then done)) ≡ false = rw inner at (tidy_stripped t (or_left (strays false t) false tidy)) in
       let formed_chain : all_nodes undeclaring (node ChainExpression l (one e then done)) ≡ true = rw inner at (formed_stripped t (first_part UnaryExpression m t done refl place.placed).1) in
       let seen : Seen (one_of xs) steady w v place.same (steady_here xs w v n whole place) e = seen_chain xs w v n whole place l e Level.whole_reference refl free_chain tidy_chain formed_chain in
-      let follows : Follows (one_of xs) steady w v place.same (steady_here xs w v n whole place) (meaning w e) way = walks no_all (one_of xs) steady bound in_source in_use w v (place.same.counts ∙ counts) place.same place.cells (steady_here xs w v n whole place) (bound_here xs w v n whole place) seen (covers_all xs) walked in
+      let follows : Follows (one_of xs) steady w v place.same (steady_here xs w v n whole place) (meaning w e) way = walks no_all (one_of xs) steady bound in_use w v (place.same.counts ∙ counts) place.same place.cells (steady_here xs w v n whole place) (bound_here xs w v n whole place) seen (covers_all xs) walked in
       let same_reference : (meaning w t).reference ≡ (chain (meaning w e)).reference = stripped_reference w t (first_part UnaryExpression m t done refl place.placed).1 ∙ ap (λ c. (meaning w c).reference) inner in
       rw (ap first_text texts)
-      (short_like no_all (one_of xs) steady bound in_source in_use w v (place.same.counts ∙ counts) place.same place.cells (steady_here xs w v n whole place) (bound_here xs w v n whole place) (meaning w e) way follows m tested (tested_link walked tested) n ((meaning w t).reference >>= delete_value w) way.tests true_node (delete_node way.current) tested
-      (chain_deleted no_all (one_of xs) steady bound in_source in_use w v (place.same.counts ∙ counts) place.same place.cells (steady_here xs w v n whole place) (bound_here xs w v n whole place) (meaning w e) way follows m tested (tested_link walked tested) (meaning w t) same_reference))
+      (short_like no_all (one_of xs) steady bound in_use w v (place.same.counts ∙ counts) place.same place.cells (steady_here xs w v n whole place) (bound_here xs w v n whole place) (meaning w e) way follows m tested (tested_link walked tested) n ((meaning w t).reference >>= delete_value w) way.tests true_node (delete_node way.current) tested
+      (chain_deleted no_all (one_of xs) steady bound in_use w v (place.same.counts ∙ counts) place.same place.cells (steady_here xs w v n whole place) (bound_here xs w v n whole place) (meaning w e) way follows m tested (tested_link walked tested) (meaning w t) same_reference))

@@ -17,7 +17,7 @@ use Rattle.es_runs.specs.Machine.State.{state}
 use Rattle.es_runs.specs.Machine.Stop.{uncallable}
 use Rattle.es_runs.specs.Machine.Result.{gives, stops}
 use Rattle.es_tree.specs.Names.{first_text as first}
-use Rattle.es_runs.specs.Core.{World, Reference, Meaning, value, flag, is_equality, typeof_value, UnaryClass, unary_class, Called, callee_from}
+use Rattle.es_runs.specs.Core.{World, Reference, Meaning, value, flag, flag_after, is_equality, typeof_value, UnaryClass, unary_class, Called, callee_from}
 use Rattle.es_runs.specs.Core.UnaryClass.{typeof_class, delete_class, void_class}
 use Rattle.es_runs.specs.Core.Reference.{named, property, plain}
 
@@ -68,7 +68,6 @@ pub data SameTarget (F : Frame) : Reference → Reference → Type 0 where
 pub record SameWorld (hidden : Text → Bool) (w v : World) : Type 0 where
   pub scope : (x : Text) → hidden x ≡ false → v.scope x ≡ w.scope x
   pub this : v.this ≡ w.this
-  pub math : hidden (codes "Math") ≡ false
   pub counts : v.counts_all ≡ w.counts_all
 
 -- What a place takes of the node that stands there: no evaluation, its value, or its reference; and its form or not.
@@ -128,10 +127,23 @@ all_of_it = record { level = Level.whole_reference; form = true }
 abbrev pub value_and_form : Bool → Need
 value_and_form b = record { level = Level.value_alone; form = b }
 
-abbrev pub member_needs : Bool → Bool → ℕ → Need
-member_needs form computed zero = value_and_form form
-member_needs form true (suc i) = the_value
-member_needs form false (suc i) = the_label
+-- What a member takes of its object: its value. A marked one tests it, as a marked call tests its callee; the chain that
+-- ends in the member goes on with what stands there, so that no row of chains acts there.
+abbrev pub object_level : Bool → Level
+object_level true = Level.whole_reference
+object_level false = Level.value_alone
+
+abbrev pub object_need : Bool → Bool → Need
+object_need form marked = record { level = object_level marked; form = form }
+
+-- and of its key, which stands between brackets or not
+abbrev pub key_need : Bool → Need
+key_need true = the_value
+key_need false = the_label
+
+abbrev pub member_needs : Bool → Bool → Bool → ℕ → Need
+member_needs form computed marked zero = object_need form marked
+member_needs form computed marked (suc i) = key_need computed
 
 abbrev pub unary_need : Bool → UnaryClass → Need
 unary_need form typeof_class = the_operand_of_typeof
@@ -158,7 +170,7 @@ needs need UnaryExpression ts fs i = unary_need need.form (unary_class (first ts
 needs need UpdateExpression ts fs i = the_target
 needs need BinaryExpression ts fs i = binary_needs (first ts) i
 needs need AssignmentExpression ts fs i = callee_then_values the_target i
-needs need MemberExpression ts fs i = member_needs need.form (flag fs) i
+needs need MemberExpression ts fs i = member_needs need.form (flag fs) (flag_after fs) i
 needs need CallExpression ts fs i = callee_then_values (the_callee (flag fs)) i
 needs need ChainExpression ts fs i = record { level = content_level need.level; form = false }
 needs need ParenthesizedExpression ts fs i = record { level = need.level; form = false }

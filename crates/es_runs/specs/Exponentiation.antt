@@ -47,7 +47,7 @@ stays names _ = false
 -- the names that an object takes, what goes in front, the object, and what is read for it
 pub data Holds (bound in_use : Text → Bool) : List Text → List Tree → Tree → Tree → Type 0 where
   where_it_is : {o : Tree} → stays bound o ≡ true → Holds bound in_use [] [] o o
-  in_temporary : {o : Tree} {x : Text} → IsFreshName in_use (node_base o) x → Holds bound in_use (x ∷ []) (assign_node (identifier x) o ∷ []) o (identifier x)
+  in_temporary : {o : Tree} {x : Text} → stays bound o ≡ false → IsFreshName in_use (node_base o) x → Holds bound in_use (x ∷ []) (assign_node (identifier x) o ∷ []) o (identifier x)
 
 -- a key that is written down again
 abbrev pub is_literal_key : Tree → Bool
@@ -67,7 +67,7 @@ no_name x = false
 pub data TargetTwice (bound in_use : Text → Bool) : List Text → List Tree → Tree → Tree → Tree → Type 0 where
   bound_name : {l : Label} → bound (first_text l.texts) ≡ true →
       TargetTwice bound in_use [] [] (node Identifier l done) (node Identifier l done) (node Identifier l done)
-  other_name : {l : Label} {x : Text} → IsFreshName in_use (node_base (node Identifier l done)) x →
+  other_name : {l : Label} {x : Text} → bound (first_text l.texts) ≡ false → IsFreshName in_use (node_base (node Identifier l done)) x →
       TargetTwice bound in_use (x ∷ []) (assign_node (identifier x) (node Identifier l done) ∷ []) (node Identifier l done) (node Identifier l done) (identifier x)
   static_member : {l k : Label} {o o' : Tree} {xs : List Text} {fs : List Tree} → l.flags ≡ false ∷ false ∷ [] → Holds bound in_use xs fs o o' →
       TargetTwice bound in_use xs fs (node MemberExpression l (one o then one (node Identifier k done) then done)) (member_node true o' (string_node (first_text k.texts))) (member_node true o' (string_node (first_text k.texts)))

@@ -52,7 +52,7 @@ Raising = Replacing raising_row
 
 -- chains, where it is assumed or not that no value is `document.all`
 abbrev pub chaining_row : Bool → Whole → List Text → Need → Tree → Tree → Type 0
-chaining_row no_all w = OptionalChainingRule no_all (is_bound_in w) w.bound w.steady w.in_use
+chaining_row no_all w = OptionalChainingRule no_all (is_bound_in w) w.steady w.in_use
 
 abbrev pub Chaining : Bool → Need → Ledger → Spot → Ledger → Spot → Type 0
 Chaining no_all = Replacing (chaining_row no_all)

@@ -114,47 +114,47 @@ stored_call no_all l arguments w names c callee r = record {
 }
 
 -- before a marked member: a name that may be read again is tested as it is, and everything else is stored
-pub data Tested (no_all : Bool) (bound source in_use : Text → Bool) : Way → Way → Type 0 where
+pub data Tested (no_all : Bool) (bound in_use : Text → Bool) : Way → Way → Type 0 where
   as_name : {w : Way} → w.tests ≡ [] → is_name_among bound (without_parens w.current) ≡ true →
-      Tested no_all bound source in_use w (record w { tests = tests_of no_all (without_parens w.current) (without_parens w.current); current = without_parens w.current })
+      Tested no_all bound in_use w (record w { tests = tests_of no_all (without_parens w.current) (without_parens w.current); current = without_parens w.current })
   in_holder : {w : Way} {x : Text} → w.holder ≡ Some x →
-      Tested no_all bound source in_use w (record w { tests = w.tests ++ tests_of no_all (assign_node (identifier x) (without_parens w.current)) (identifier x); current = identifier x })
-  in_temporary : {w : Way} {x : Text} → (w.tests ≡ [] → is_name_among source (without_parens w.current) ≡ false) → w.holder ≡ None → IsFreshName (also_all w.taken in_use) (node_base w.current) x →
-      Tested no_all bound source in_use w (record { tests = w.tests ++ tests_of no_all (assign_node (identifier x) (without_parens w.current)) (identifier x); current = identifier x; holder = Some x; taken = w.taken ++ x ∷ [] })
+      Tested no_all bound in_use w (record w { tests = w.tests ++ tests_of no_all (assign_node (identifier x) (without_parens w.current)) (identifier x); current = identifier x })
+  in_temporary : {w : Way} {x : Text} → (w.tests ≡ [] → is_name_among bound (without_parens w.current) ≡ false) → w.holder ≡ None → IsFreshName (also_all w.taken in_use) (node_base w.current) x →
+      Tested no_all bound in_use w (record { tests = w.tests ++ tests_of no_all (assign_node (identifier x) (without_parens w.current)) (identifier x); current = identifier x; holder = Some x; taken = w.taken ++ x ∷ [] })
 
 -- at a marked call: a name that may be read again is tested as it is; a callee is stored, and with it its receiver
-pub data Called (no_all : Bool) (bound source steady in_use : Text → Bool) (l : Label) (arguments : Trees) : Way → Way → Type 0 where
+pub data Called (no_all : Bool) (bound steady in_use : Text → Bool) (l : Label) (arguments : Trees) : Way → Way → Type 0 where
   by_name : {w : Way} → w.tests ≡ [] → is_name_among bound (without_parens w.current) ≡ true →
-      Called no_all bound source steady in_use l arguments w (record w { tests = tests_of no_all (without_parens w.current) (without_parens w.current); current = call_at l (without_parens w.current) arguments })
-  by_value : {w : Way} {c : Text} → (w.tests ≡ [] → is_name_among source (without_parens w.current) ≡ false) → is_member (without_parens w.current) ≡ false →
+      Called no_all bound steady in_use l arguments w (record w { tests = tests_of no_all (without_parens w.current) (without_parens w.current); current = call_at l (without_parens w.current) arguments })
+  by_value : {w : Way} {c : Text} → (w.tests ≡ [] → is_name_among bound (without_parens w.current) ≡ false) → is_member (without_parens w.current) ≡ false →
       IsFreshName (also_all w.taken in_use) (node_base (without_parens w.current)) c →
-      Called no_all bound source steady in_use l arguments w (record { tests = w.tests ++ tests_of no_all (assign_node (identifier c) (without_parens w.current)) (identifier c); current = call_at l (identifier c) arguments; holder = Some c; taken = w.taken ++ c ∷ [] })
+      Called no_all bound steady in_use l arguments w (record { tests = w.tests ++ tests_of no_all (assign_node (identifier c) (without_parens w.current)) (identifier c); current = call_at l (identifier c) arguments; holder = Some c; taken = w.taken ++ c ∷ [] })
   -- with no test so far the callee's name is made before the receiver's
   by_first_member : {w : Way} {k : Label} {computed : Bool} {o o1 p r : Tree} {c : Text} {xs : List Text} → w.tests ≡ [] → without_parens w.current ≡ node MemberExpression k (one o then one p then done) → k.flags ≡ computed ∷ false ∷ [] →
       IsFreshName (also_all w.taken in_use) (node_base (without_parens w.current)) c → Receives is_this_or_super steady (also c (also_all w.taken in_use)) w.holder xs o o1 r →
-      Called no_all bound source steady in_use l arguments w (stored_call no_all l arguments w (c ∷ xs) c (member_at k computed o1 p) r)
-  -- and else after it
+      Called no_all bound steady in_use l arguments w (stored_call no_all l arguments w (c ∷ xs) c (member_at k computed o1 p) r)
+  -- and else after it, of the member with the receiver in it
   by_later_member : {w : Way} {k : Label} {computed : Bool} {o o1 p r t : Tree} {ts : List Tree} {c : Text} {xs : List Text} → w.tests ≡ t ∷ ts → without_parens w.current ≡ node MemberExpression k (one o then one p then done) → k.flags ≡ computed ∷ false ∷ [] →
-      Receives is_this_or_super steady (also_all w.taken in_use) w.holder xs o o1 r → IsFreshName (also_all xs (also_all w.taken in_use)) (node_base (without_parens w.current)) c →
-      Called no_all bound source steady in_use l arguments w (stored_call no_all l arguments w (xs ++ c ∷ []) c (member_at k computed o1 p) r)
+      Receives is_this_or_super steady (also_all w.taken in_use) w.holder xs o o1 r → IsFreshName (also_all xs (also_all w.taken in_use)) (node_base (member_at k computed o1 p)) c →
+      Called no_all bound steady in_use l arguments w (stored_call no_all l arguments w (xs ++ c ∷ []) c (member_at k computed o1 p) r)
 
 mutual
   -- what a spine becomes, step by step from its base
-  pub data Walked (no_all : Bool) (bound source steady in_use : Text → Bool) : Tree → Way → Type 0 where
-    base : {e : Tree} → is_link e ≡ false → Walked no_all bound source steady in_use e (start e)
-    plain_member : {l : Label} {computed : Bool} {o p : Tree} {w : Way} → l.flags ≡ computed ∷ false ∷ [] → Walked no_all bound source steady in_use o w →
-        Walked no_all bound source steady in_use (node MemberExpression l (one o then one p then done)) (record w { current = member_at l computed w.current p })
-    plain_call : {l : Label} {f : Tree} {arguments : Trees} {w : Way} → l.flags ≡ false ∷ [] → Walked no_all bound source steady in_use f w →
-        Walked no_all bound source steady in_use (node CallExpression l (one f then many arguments then done)) (record w { current = call_at l w.current arguments })
-    marked_member : {l : Label} {computed : Bool} {o p : Tree} {w u : Way} → l.flags ≡ computed ∷ true ∷ [] → Continued no_all bound source steady in_use o w → Tested no_all bound source in_use w u →
-        Walked no_all bound source steady in_use (node MemberExpression l (one o then one p then done)) (record u { current = member_at l computed u.current p })
-    marked_call : {l : Label} {f : Tree} {arguments : Trees} {w u : Way} → l.flags ≡ true ∷ [] → Continued no_all bound source steady in_use f w → Called no_all bound source steady in_use l arguments w u →
-        Walked no_all bound source steady in_use (node CallExpression l (one f then many arguments then done)) u
+  pub data Walked (no_all : Bool) (bound steady in_use : Text → Bool) : Tree → Way → Type 0 where
+    base : {e : Tree} → is_link e ≡ false → Walked no_all bound steady in_use e (start e)
+    plain_member : {l : Label} {computed : Bool} {o p : Tree} {w : Way} → l.flags ≡ computed ∷ false ∷ [] → Walked no_all bound steady in_use o w →
+        Walked no_all bound steady in_use (node MemberExpression l (one o then one p then done)) (record w { current = member_at l computed w.current p })
+    plain_call : {l : Label} {f : Tree} {arguments : Trees} {w : Way} → l.flags ≡ false ∷ [] → Walked no_all bound steady in_use f w →
+        Walked no_all bound steady in_use (node CallExpression l (one f then many arguments then done)) (record w { current = call_at l w.current arguments })
+    marked_member : {l : Label} {computed : Bool} {o p : Tree} {w u : Way} → l.flags ≡ computed ∷ true ∷ [] → Continued no_all bound steady in_use o w → Tested no_all bound in_use w u →
+        Walked no_all bound steady in_use (node MemberExpression l (one o then one p then done)) (record u { current = member_at l computed u.current p })
+    marked_call : {l : Label} {f : Tree} {arguments : Trees} {w u : Way} → l.flags ≡ true ∷ [] → Continued no_all bound steady in_use f w → Called no_all bound steady in_use l arguments w u →
+        Walked no_all bound steady in_use (node CallExpression l (one f then many arguments then done)) u
 
   -- before a marked step a chain in parentheses is gone on with
-  pub data Continued (no_all : Bool) (bound source steady in_use : Text → Bool) : Tree → Way → Type 0 where
-    same_spine : {e : Tree} {w : Way} → (is_link e || not (is_chain_kind (kind_of (without_parens e)))) ≡ true → Walked no_all bound source steady in_use e w → Continued no_all bound source steady in_use e w
-    inner_spine : {e c : Tree} {l : Label} {w : Way} → is_link e ≡ false → without_parens e ≡ node ChainExpression l (one c then done) → Walked no_all bound source steady in_use c w → Continued no_all bound source steady in_use e w
+  pub data Continued (no_all : Bool) (bound steady in_use : Text → Bool) : Tree → Way → Type 0 where
+    same_spine : {e : Tree} {w : Way} → (is_link e || not (is_chain_kind (kind_of (without_parens e)))) ≡ true → Walked no_all bound steady in_use e w → Continued no_all bound steady in_use e w
+    inner_spine : {e c : Tree} {l : Label} {w : Way} → is_link e ≡ false → without_parens e ≡ node ChainExpression l (one c then done) → Walked no_all bound steady in_use c w → Continued no_all bound steady in_use e w
 
 -- ROWS
 
@@ -190,15 +190,14 @@ pub data BoundCallee (steady in_use : Text → Bool) (holder : Option Text) : Li
   to_object : {k : Label} {computed : Bool} {o o1 p r : Tree} {xs : List Text} → k.flags ≡ computed ∷ false ∷ [] → Receives is_super steady in_use holder xs o o1 r →
       BoundCallee steady in_use holder xs (node MemberExpression k (one o then one p then done)) (bind_node (member_at k computed o1 p) r)
 
--- `bound` are the names that are bound, and `source` those of them that the source binds: a name that was made may be read
--- again, and needn't be
-pub data OptionalChainingRule (no_all : Bool) (bound source steady in_use : Text → Bool) : List Text → Need → Tree → Tree → Type 0 where
+-- `bound` are the names that are bound, by the source or as fresh ones: each is read again where it is tested first
+pub data OptionalChainingRule (no_all : Bool) (bound steady in_use : Text → Bool) : List Text → Need → Tree → Tree → Type 0 where
   -- a chain at a place that takes its value
-  by_tests : {n : Need} {m : Label} {e : Tree} {w : Way} → takes_value n.level ≡ true → Walked no_all bound source steady in_use e w → has_tests w.tests ≡ true →
-      OptionalChainingRule no_all bound source steady in_use w.taken n (node ChainExpression m (one e then done)) (where_short m w.tests void_zero_node w.current)
+  by_tests : {n : Need} {m : Label} {e : Tree} {w : Way} → takes_value n.level ≡ true → Walked no_all bound steady in_use e w → has_tests w.tests ≡ true →
+      OptionalChainingRule no_all bound steady in_use w.taken n (node ChainExpression m (one e then done)) (where_short m w.tests void_zero_node w.current)
   -- a chain that is the callee of a call without a mark
-  as_callee : {n : Need} {m : Label} {e d : Tree} {w : Way} {xs : List Text} → n.level ≡ a_callee → Walked no_all bound source steady in_use e w → has_tests w.tests ≡ true → BoundCallee steady (also_all w.taken in_use) w.holder xs w.current d →
-      OptionalChainingRule no_all bound source steady in_use (w.taken ++ xs) n (node ChainExpression m (one e then done)) (where_short m w.tests void_zero_node d)
+  as_callee : {n : Need} {m : Label} {e d : Tree} {w : Way} {xs : List Text} → n.level ≡ a_callee → Walked no_all bound steady in_use e w → has_tests w.tests ≡ true → BoundCallee steady (also_all w.taken in_use) w.holder xs w.current d →
+      OptionalChainingRule no_all bound steady in_use (w.taken ++ xs) n (node ChainExpression m (one e then done)) (where_short m w.tests void_zero_node d)
   -- `delete` of a chain
-  in_delete : {n : Need} {m l : Label} {t e : Tree} {w : Way} → m.texts ≡ Some (codes "delete") ∷ [] → without_parens t ≡ node ChainExpression l (one e then done) → Walked no_all bound source steady in_use e w → has_tests w.tests ≡ true →
-      OptionalChainingRule no_all bound source steady in_use w.taken n (node UnaryExpression m (one t then done)) (where_short m w.tests true_node (delete_node w.current))
+  in_delete : {n : Need} {m l : Label} {t e : Tree} {w : Way} → m.texts ≡ Some (codes "delete") ∷ [] → without_parens t ≡ node ChainExpression l (one e then done) → Walked no_all bound steady in_use e w → has_tests w.tests ≡ true →
+      OptionalChainingRule no_all bound steady in_use w.taken n (node UnaryExpression m (one t then done)) (where_short m w.tests true_node (delete_node w.current))

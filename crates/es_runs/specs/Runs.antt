@@ -1,8 +1,8 @@
 -- Runs of programs, and when two programs run alike.
-use Rattle.std.specs.Prelude.{◌≡◌, ◌&&◌, Bool, true, false, List, [], ◌∷◌, bytes_eq, codes, if◌then◌else◌, not, Option, Some}
+use Rattle.std.specs.Prelude.{◌≡◌, ◌&&◌, Bool, true, false, List, [], ◌∷◌, ◌++◌, bytes_eq, codes, if◌then◌else◌, not, Option, Some}
 use Rattle.es_tree.specs.Words.{Text}
 use Rattle.es_tree.specs.declared.ast_type.AstType.TheVariants.{Program, Identifier, VariableDeclaration, VariableDeclarator}
-use Rattle.es_tree.specs.Tree.{Tree, node, Label, done, ◌then◌, missing, one, many, statements, Trees, empty, ◌before◌}
+use Rattle.es_tree.specs.Tree.{Tree, node, Label, done, ◌then◌, missing, one, many, statements, Trees, empty, ◌before◌, trees}
 use Rattle.es_runs.specs.Machine.{Value, Values, ◌>>=◌, Question, Move, Cell, State, Result}
 use Rattle.es_runs.specs.Machine.Value.{undefined, host, bound}
 use Rattle.es_runs.specs.Machine.Values.{none, ◌and◌}
@@ -140,18 +140,23 @@ program l directives body = node Program l (many directives then statements body
 
 -- LAWS
 
--- A `var` of a name that stands nowhere keeps the runs.
+-- A `var` of a name that stands nowhere, before, between or after the statements, keeps the runs.
 abbrev pub LawFresh : Type 0
-LawFresh = (x : Text) (l : Label) (ds body : Trees) → stands x (program l ds body) ≡ false → bytes_eq (codes "Math") x ≡ false → is_declared (declared_of (program l ds body)) x ≡ false → RunAlike false (program l ds body) (program l ds (var_statement x before body))
+LawFresh = (x : Text) (l : Label) (ds : Trees) (front back : List Tree) → stands x (program l ds (trees (front ++ back))) ≡ false → is_declared (declared_of (program l ds (trees (front ++ back)))) x ≡ false → RunAlike false (program l ds (trees (front ++ back))) (program l ds (trees (front ++ var_statement x ∷ back)))
 
--- e and d evaluate alike at what a place takes, under the assumption or without it
-abbrev pub EvaluateAlike : Bool → Level → Tree → Tree → Type 0
-EvaluateAlike no_all no_evaluation e d = Unit {0}
-EvaluateAlike no_all value_alone e d = (w : World) → w.counts_all ≡ not no_all → (s : State) → value w (meaning w d) s ≡ value w (meaning w e) s
-EvaluateAlike no_all an_operand_of_typeof e d = (w : World) → w.counts_all ≡ not no_all → (s : State) → ((meaning w d).reference >>= typeof_value w) s ≡ ((meaning w e).reference >>= typeof_value w) s
-EvaluateAlike no_all a_target e d = (w : World) → w.counts_all ≡ not no_all → (s : State) → (meaning w d).reference s ≡ (meaning w e).reference s
-EvaluateAlike no_all a_callee e d = (w : World) → w.counts_all ≡ not no_all → (s : State) → (meaning w d).reference s ≡ (meaning w e).reference s
-EvaluateAlike no_all whole_reference e d = (w : World) → w.counts_all ≡ not no_all → (s : State) → (meaning w d).reference s ≡ (meaning w e).reference s
+-- a world in which these names are declared, under the assumption or without it
+pub record IsWorldOf (no_all : Bool) (ds : List Declared) (w : World) : Type 0 where
+  pub scope : (x : Text) → w.scope x ≡ scope_of ds x
+  pub counts : w.counts_all ≡ not no_all
+
+-- e and d evaluate alike in such worlds, at what a place takes
+abbrev pub EvaluateAlike : Bool → List Declared → Level → Tree → Tree → Type 0
+EvaluateAlike no_all ds no_evaluation e d = Unit {0}
+EvaluateAlike no_all ds value_alone e d = (w : World) → IsWorldOf no_all ds w → (s : State) → value w (meaning w d) s ≡ value w (meaning w e) s
+EvaluateAlike no_all ds an_operand_of_typeof e d = (w : World) → IsWorldOf no_all ds w → (s : State) → ((meaning w d).reference >>= typeof_value w) s ≡ ((meaning w e).reference >>= typeof_value w) s
+EvaluateAlike no_all ds a_target e d = (w : World) → IsWorldOf no_all ds w → (s : State) → (meaning w d).reference s ≡ (meaning w e).reference s
+EvaluateAlike no_all ds a_callee e d = (w : World) → IsWorldOf no_all ds w → (s : State) → (meaning w d).reference s ≡ (meaning w e).reference s
+EvaluateAlike no_all ds whole_reference e d = (w : World) → IsWorldOf no_all ds w → (s : State) → (meaning w d).reference s ≡ (meaning w e).reference s
 
 pub data Swaps (need : Need) (e d : Tree) : Need → Tree → Tree → Type 0 where
   swaps : Swaps need e d need e d
@@ -160,6 +165,7 @@ pub data Swaps (need : Need) (e d : Tree) : Need → Tree → Tree → Type 0 wh
 abbrev pub Swapped : Need → Tree → Tree → Tree → Tree → Type 0
 Swapped need e d p q = Near (bad_names none_hidden none_hidden) (Swaps need e d) all_of_it p q
 
--- Replacing an expression by one that evaluates alike, at what the place takes of it, keeps the runs.
+-- Replacing an expression by one that evaluates alike where the program's names are declared, at what the place takes of it,
+-- keeps the runs.
 abbrev pub LawPlace : Type 0
-LawPlace = (no_all : Bool) (need : Need) (e d p q : Tree) → Swapped need e d p q → EvaluateAlike no_all need.level e d → ((w : World) → need.form ≡ true → (meaning w d).form ≡ (meaning w e).form) → declared_of q ≡ declared_of p → RunAlike no_all p q
+LawPlace = (no_all : Bool) (need : Need) (e d p q : Tree) → Swapped need e d p q → EvaluateAlike no_all (declared_of p) need.level e d → ((w : World) → IsWorldOf no_all (declared_of p) w → need.form ≡ true → (meaning w d).form ≡ (meaning w e).form) → declared_of q ≡ declared_of p → RunAlike no_all p q
