@@ -7,6 +7,7 @@ use Rattle.std.specs.Cmp.Lexicographic.{bytes_decides}
 use Rattle.std.specs.HashMap.{get_by_text, UpdatesBy, IsUnchanged}
 use Rattle.std.specs.HashSet.{contains_text, UpdatesBy as SetUpdatesBy, IsUnchanged as SetIsUnchanged}
 use Rattle.std.specs.String.{string_eq}
+use Rattle.std.specs.List.{list_any}
 use Rattle.es_tree.specs.Words.{Text}
 use Rattle.es_tree.specs.Fresh.{also, candidate, is_among}
 use Rattle.es_scope.specs.Taken.{AreTaken, AreUnderscored, is_underscored}
@@ -62,3 +63,8 @@ AreUnderscored-pushed old new name base number n e known = λ x h. at x (is_amon
   at x true f same g h = known x f
   at x false f true g h = ap is_underscored (sym ((bytes_decides (string_bytes name) x).0 g) ∙ n) ∙ candidate-underscored base number
   at x false f false g h = absurd (let no : false ≡ true = rw (f, g) at h in cc)
+
+-- whether a name is among those made, as the code asks for it
+pub among-made : {X : Type 0} (names : List (String X)) (x : Text) → list_any (λ made. bytes_eq (string_bytes made) x) names ≡ is_among (map string_bytes names) x
+among-made [] x = refl
+among-made (name ∷ names) x = ap (λ b. bytes_eq (string_bytes name) x || b) (among-made names x)

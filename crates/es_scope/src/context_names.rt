@@ -1,7 +1,7 @@
 //! Fresh names and new bindings, by a context.
 ghost use Rattle.std.specs.Prelude.{◌≡◌, ◌<◌, IfOk, OnOk, string_bytes, true};
-ghost use Rattle.es_tree.specs.Fresh.{IsFreshName, node_base, text_base};
-ghost use Rattle.es_scope.specs.Contexts.{AddsScope, Binds, BindsHoisted, KeepsNames, MakesName, TakesName, table_of, uses_of};
+ghost use Rattle.es_tree.specs.Fresh.{IsFreshName, is_among, node_base, text_base};
+ghost use Rattle.es_scope.specs.Contexts.{AddsScope, Binds, BindsHoisted, KeepsNames, MakesName, TakesName, made_of, table_of, uses_of};
 ghost use Rattle.es_scope.specs.Tables.{scope_count, symbol_count};
 
 use crate::context::TraverseCtx;
@@ -120,6 +120,13 @@ impl<S> TraverseCtx<S> {
         let scope = self.scoping().root_scope_id();
         let bound = self.generate_uid(base, scope, flags)?;
         Ok(bound)
+    }
+
+    /// Whether this name is a fresh one.
+    pub fn is_fresh_name(&self, name: &str) -> bool
+        ensures { result ≡ is_among (made_of self.now) name.now }
+    {
+        self.uids.has_made(name)
     }
 
     /// This name itself, bound in this scope and in use from then on. It counts as no fresh name.

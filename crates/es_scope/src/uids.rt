@@ -1,9 +1,10 @@
 //! Fresh names.
-ghost use Rattle.std.specs.Prelude.{◌≡◌, ◌++◌, ◌∷◌, ◌<◌, [], ℕ, IfOk, OnOk, false, map, string_bytes, true};
+ghost use Rattle.std.specs.Prelude.{◌≡◌, ◌++◌, ◌∷◌, ◌<◌, [], ℕ, IfOk, OnOk, bytes_eq, false, map, string_bytes, true};
+ghost use Rattle.std.specs.List.{list_any};
 ghost use Rattle.es_tree.specs.Fresh.{IsFreshName, also, candidate, is_among, node_base, text_base};
 ghost use Rattle.es_tree.specs.Names.{names_of};
 ghost use Rattle.es_tree.specs.Words.{Text};
-ghost use Rattle.es_scope.specs.Taken.{AreTaken, AreUnderscored};
+ghost use Rattle.es_scope.specs.Taken.{AreTaken, AreUnderscored, is_underscored};
 
 use crate::base::{base_of_node, base_of_text};
 use crate::names::insert_names;
@@ -90,6 +91,13 @@ impl UidGenerator {
         Ok(())
     }
 
+    /// Whether this name was made here. The names made are searched, if it begins as they do.
+    pub fn has_made(&self, name: &str) -> bool
+        ensures { result ≡ is_among (made self.now) name.now }
+    {
+        is_underscored(name) && is_one_of(self.made.as_slice(), name)
+    }
+
     /// The names made, in the order made.
     pub fn into_made(self) -> Vec<String>
         ensures { map string_bytes result.items ≡ made self }
@@ -131,6 +139,23 @@ impl UidGenerator {
         self.taken.insert(key, number + 1)?;
         Ok(())
     }
+}
+
+/// Whether a name begins with `_`, as each name that is made does.
+fn is_underscored(name: &str) -> bool
+    ensures { result ≡ is_underscored name.now }
+{
+    match name.as_bytes() {
+        [first, ..] => *first == b'_',
+        [] => false,
+    }
+}
+
+/// Whether a name is one of these.
+fn is_one_of(names: &[String], name: &str) -> bool
+    ensures { result ≡ list_any (λ made. bytes_eq (string_bytes made) name.now) names.now }
+{
+    names.iter().any(|made| made.as_str() == name)
 }
 
 /// The candidate of this number: `_b` for 0, `_b2` for 1 and so on.
