@@ -2,36 +2,15 @@
 //! Warnings, faults and refusals go to standard error, a line each, and the status of the process says which it was.
 #![tactic(auto)]
 
-mod answer;
-mod asked;
-mod calls;
-mod command_line;
-mod ends;
-mod fixed_source;
-mod generated;
-mod generating;
-mod job;
-mod mem_sink;
-mod mem_source;
-mod reading;
-mod refusal;
-mod run;
-mod std_ends;
-#[cfg(test)]
-mod tests;
-mod warnings;
-mod words;
-mod writing;
-
-use answer::OUT_OF_MEMORY;
-use run::run_tool;
+use lower_command::answer::OUT_OF_MEMORY;
+use lower_command::run::run_tool;
+use lower_command::std_ends::{StdSink, StdSource};
+use lower_command::words::refused_words;
 use std::alloc::AllocError;
 use std::env;
 use std::io::{self, ErrorKind};
 use std::process::ExitCode;
 use std::rt::Env;
-use std_ends::{StdSink, StdSource};
-use words::refused_words;
 
 /// The words after the program's name. `InvalidData` says that one of them isn't UTF-8.
 fn given_words(rt: &(impl Env + AllocGlobal)) -> io::Result<Vec<String>> {

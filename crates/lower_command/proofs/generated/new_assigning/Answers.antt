@@ -1,0 +1,13 @@
+use Rattle.std.proofs.Common.{◌≡◌, ◌+◌, ◌∙◌, arith, refl}
+use Rattle.std.proofs.lemmas.Result.{IfOk-weaker}
+use Rattle.lower_command.proofs.generated.new_assigning.Goals as goal
+
+pub returns-clause-made : goal.returns-clause-made
+returns-clause-made c =
+    let id = c.args.ast.now.next in
+    let second : c.new_id-assignment.result.0 ≡ id + 1 = omega arith in
+    let third : c.new_id-assignment.new.self.next ≡ id + 2 = omega arith in
+    let last : c.new_object_member.new.ast.next ≡ id + 5 = omega (arith, c.in_ok-target.ensures.counted) in
+    IfOk-weaker c.close-2.result _ _
+    (λ node made. made ∙ rw (c.in_ok-close.ensures, c.in_ok-target.ensures.made, c.in_ok-default.ensures.made, c.new_id-id.ensures.id, second, third, last) refl)
+    c.close-2.ensures
