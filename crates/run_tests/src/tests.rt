@@ -1,0 +1,4 @@
+mod ends;
+mod limits;
+mod made_script;
+mod words;
