@@ -1,0 +1,3 @@
+function port(config) {
+  return config.port ?? 8080;
+}

@@ -1,0 +1,2 @@
+const port = config?.server?.port ?? 8080;
+cache.hits ||= 0;
