@@ -1,0 +1,18 @@
+// What the programs of this folder share as commands.
+import fs from 'node:fs';
+import { fileURLToPath } from 'node:url';
+
+/** Whether this module is the program that was started. */
+export function isMain(url) {
+  return process.argv[1] !== undefined && fs.realpathSync(process.argv[1]) === fileURLToPath(url);
+}
+
+/** Runs a program. An error is told in one line on standard error, and the status is then 1. */
+export function runMain(program) {
+  try {
+    program();
+  } catch (error) {
+    process.stderr.write(`${error.message}\n`);
+    process.exitCode = 1;
+  }
+}

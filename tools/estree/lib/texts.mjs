@@ -1,0 +1,81 @@
+// JavaScript texts against trees: the tree of an input and of a lowered text, and where a text and a tree part.
+import { mapChildren, nodes, withoutSpans } from './form.mjs';
+import { withNeededParentheses } from './parentheses.mjs';
+import { parse } from './parsers.mjs';
+import { estreeToTree } from '../estree-to-tree.mjs';
+
+/** The tree of a text, with every parenthesis as a node. */
+export function textToTree(text, { module, mayBeInvalid, zero } = {}) {
+  return estreeToTree(parse(text, { module, mayBeInvalid }), text, { zero });
+}
+
+/**
+ * The tree of a lowered text, with spans 0. A lowering makes no parentheses, so those that the text needs are no
+ * nodes here, but where a comment says that one was kept from the source, as in `/*kept*\/(a, b).c`.
+ */
+export function loweredTextToTree(text, { module } = {}) {
+  const tree = textToTree(text, { module });
+  const isKept = node => text.slice(0, node.start).trimEnd().endsWith('/*kept*/');
+  const needed = new Set(parentheses(tree).filter(node => !isKept(node) && isNeeded(node, tree)).map(({ start }) => start));
+  return withoutSpans(withoutParentheses(tree, node => needed.has(node.start)));
+}
+
+/** Where an input text and its tree part, if they do. */
+export function inputDifference(text, tree, options) {
+  return firstDifference(textToTree(text, options), tree);
+}
+
+/** Where a lowered text and its tree part, if they do. Parentheses that the tree has not but its text needs are passed over. */
+export function loweredDifference(text, tree, { module } = {}) {
+  const textTree = textToTree(text, { module, zero: true });
+  const difference = firstDifference(withoutExtra(textTree, tree), withoutSpans(tree));
+  if (difference) return difference;
+  const extra = parentheses(textTree).length - parentheses(tree).length;
+  const needed = parentheses(withNeededParentheses(tree)).length - parentheses(tree).length;
+  return extra === needed ? undefined : `the text has ${extra} parentheses that the tree has not, and it needs ${needed}`;
+}
+
+/** Where a printed text and its tree part: what the text needs beyond the tree comes back as nodes. */
+export function printedDifference(text, tree, { module, mayBeInvalid } = {}) {
+  return firstDifference(textToTree(text, { module, mayBeInvalid, zero: true }), withoutSpans(withNeededParentheses(tree)));
+}
+
+/** The first place where two trees part, and what stands there in each; nothing where they are the same. */
+export function firstDifference(left, right, path = '') {
+  if (typeof left !== 'object' || typeof right !== 'object' || left === null || right === null || left.type !== right.type) {
+    return left === right ? undefined : `${path}: ${summary(left)} against ${summary(right)}`;
+  }
+  if (Array.isArray(left) && left.length !== right.length) return `${path}: ${left.length} items against ${right.length}`;
+  for (const field of new Set([...Object.keys(left), ...Object.keys(right)])) {
+    const difference = firstDifference(left[field], right[field], `${path}/${field}`);
+    if (difference) return difference;
+  }
+  return undefined;
+}
+
+function summary(value) {
+  return value?.type ?? JSON.stringify(value);
+}
+
+function parentheses(tree) {
+  return nodes(tree).filter(({ type }) => type === 'ParenthesizedExpression');
+}
+
+/** Whether the text of a tree that has all its parentheses needs this one: without it, it or another one is added. */
+function isNeeded(node, tree) {
+  const without = withoutParentheses(tree, other => other.start === node.start);
+  return parentheses(withNeededParentheses(without)).length === parentheses(tree).length;
+}
+
+function withoutParentheses(node, isDropped, kind = 'Program') {
+  if (kind === 'ParenthesizedExpression' && isDropped(node)) return withoutParentheses(node.expression, isDropped, node.expression.type);
+  return mapChildren(node, kind, (child, childKind) => withoutParentheses(child, isDropped, childKind));
+}
+
+/** The left tree without the parentheses that stand where the right one has none. */
+function withoutExtra(left, right) {
+  if (typeof left !== 'object' || left === null) return left;
+  if (Array.isArray(left)) return left.map((item, index) => withoutExtra(item, right?.[index]));
+  if (left.type === 'ParenthesizedExpression' && right?.type !== left.type) return withoutExtra(left.expression, right);
+  return Object.fromEntries(Object.entries(left).map(([field, value]) => [field, withoutExtra(value, right?.[field])]));
+}
