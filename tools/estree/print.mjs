@@ -35,7 +35,7 @@ class Printer {
 
   // Statements and declarations.
 
-  Directive({ value }) { return `${value.includes('"') ? `'${value}'` : `"${value}"`};`; }
+  Directive({ value }) { return `${quotedDirective(value)};`; }
   ExpressionStatement({ expression }, margin) { return `${this.text(expression, margin)};`; }
   BlockStatement({ body }, margin) { return this.braces(body, margin); }
   StaticBlock({ body }, margin) { return `static ${this.braces(body, margin)}`; }
@@ -89,7 +89,7 @@ class Printer {
   ImportSpecifier({ imported, local }) { return imported.name === local.name ? local.name : `${this.text(imported)} as ${local.name}`; }
   ImportDefaultSpecifier({ local }) { return local.name; }
   ImportNamespaceSpecifier({ local }) { return `* as ${local.name}`; }
-  ImportAttribute({ key, value }) { return `${string(key)}: ${string(value)}`; }
+  ImportAttribute({ key, value }) { return `${quoted(key)}: ${quoted(value)}`; }
   ExportDefaultDeclaration({ declaration }, margin) { return `export default ${this.text(declaration, margin)}${declaration.type.endsWith('Declaration') ? '' : ';'}`; }
   ExportAllDeclaration({ exported, source, attributes }, margin) { return `export *${this.optional(' as ', exported, margin)} from ${this.text(source)}${this.attributes(attributes)};`; }
 
@@ -113,7 +113,7 @@ class Printer {
   BooleanLiteral({ value }) { return String(value); }
   NumericLiteral({ raw }) { return raw; }
   BigIntLiteral({ raw }) { return raw; }
-  StringLiteral({ value }) { return string(value); }
+  StringLiteral({ value }) { return quoted(value); }
   RegExpLiteral({ pattern, flags }) { return `/${pattern}/${flags}`; }
   TemplateElement({ raw }) { return raw; }
   TemplateLiteral({ quasis, expressions }, margin) { return `\`${quasis.map((quasi, index) => quasi.raw + (index < expressions.length ? `\${${this.text(expressions[index], margin)}}` : '')).join('')}\``; }
@@ -186,8 +186,14 @@ class Printer {
   }
 }
 
-function string(value) {
+/** A string literal of this value. */
+export function quoted(value) {
   return JSON.stringify(value).replace(/[\u2028\u2029]/g, end => `\\u${end.charCodeAt(0).toString(16)}`);
+}
+
+/** A directive's text is that of the source between its quotes, so it may hold one sort of them bare. */
+export function quotedDirective(text) {
+  return /(?<!\\)(?:\\\\)*"/.test(text) ? `'${text}'` : `"${text}"`;
 }
 
 if (isMain(import.meta.url)) runMain(() => {

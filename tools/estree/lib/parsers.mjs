@@ -11,6 +11,9 @@ const attributesPlugin = babel && pluginForAttributes();
 export const hasParser = acorn !== undefined || babel !== undefined;
 export const hasBabel = babel !== undefined;
 
+/** No parser that is installed reads a text. */
+export class NotParsed extends Error {}
+
 /**
  * The ESTree program of a text, with parentheses as nodes. With `mayBeInvalid` early errors are passed over,
  * as far as @babel/parser can.
@@ -28,7 +31,7 @@ export function parse(text, { module = false, mayBeInvalid = false } = {}) {
       if (furthest === undefined || error.pos > furthest.pos) furthest = error;
     }
   }
-  throw new Error(`${lineAndColumn(text, furthest.pos)}: ${furthest.message.replace(/ \(\d+:\d+\)$/, '')}`);
+  throw new NotParsed(`${lineAndColumn(text, furthest.pos)}: ${furthest.message.replace(/ \(\d+:\d+\)$/, '')}`);
 }
 
 /** An offset as line and column, both counted from 1. */

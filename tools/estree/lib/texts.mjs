@@ -3,6 +3,7 @@ import { mapChildren, nodes, withoutSpans } from './form.mjs';
 import { withNeededParentheses } from './parentheses.mjs';
 import { parse } from './parsers.mjs';
 import { estreeToTree } from '../estree-to-tree.mjs';
+import { treeToEstree } from '../tree-to-estree.mjs';
 
 /** The tree of a text, with every parenthesis as a node. */
 export function textToTree(text, { module, mayBeInvalid, zero } = {}) {
@@ -20,15 +21,13 @@ export function loweredTextToTree(text, { module } = {}) {
   return withoutSpans(withoutParentheses(tree, node => needed.has(node.start)));
 }
 
-/** Where an input text and its tree part, if they do. */
-export function inputDifference(text, tree, options) {
-  return firstDifference(textToTree(text, options), tree);
-}
-
-/** Where a lowered text and its tree part, if they do. Parentheses that the tree has not but its text needs are passed over. */
-export function loweredDifference(text, tree, { module } = {}) {
-  const textTree = textToTree(text, { module, zero: true });
-  const difference = firstDifference(withoutExtra(textTree, tree), withoutSpans(tree));
+/**
+ * Where a text and a tree part, if they do. Parentheses that the tree hasn't but its text needs are passed over: a
+ * lowering makes none, and a parser may leave them out.
+ */
+export function textDifference(text, tree, options) {
+  const textTree = textToTree(text, options);
+  const difference = firstDifference(withoutExtra(textTree, tree), tree);
   if (difference) return difference;
   const extra = parentheses(textTree).length - parentheses(tree).length;
   const needed = parentheses(withNeededParentheses(tree)).length - parentheses(tree).length;
@@ -38,6 +37,11 @@ export function loweredDifference(text, tree, { module } = {}) {
 /** Where a printed text and its tree part: what the text needs beyond the tree comes back as nodes. */
 export function printedDifference(text, tree, { module, mayBeInvalid } = {}) {
   return firstDifference(textToTree(text, { module, mayBeInvalid, zero: true }), withoutSpans(withNeededParentheses(tree)));
+}
+
+/** Where a tree and what comes back of its ESTree part. */
+export function estreeDifference(tree) {
+  return firstDifference(estreeToTree(treeToEstree(tree, { parentheses: true }), ''), tree);
 }
 
 /** The first place where two trees part, and what stands there in each; nothing where they are the same. */
