@@ -19,8 +19,8 @@ export function makeCase({ name, words, source, lowered, status, notes, module, 
   const input = textToTree(source, { module, mayBeInvalid: status !== undefined, zero: !spans });
   const output = lowered === undefined ? undefined : lowered === source ? input : loweredTextToTree(lowered, { module });
   const made = {
-    name, words, module: module || undefined, spans: spans || undefined, source, lowered, status: status === undefined ? undefined : Number(status),
-    notes: notes.length === 0 ? undefined : notes, again: again || undefined, input: sparse(input), output: output && sparse(output),
+    name, words, module: module || undefined, spans: spans || undefined, source, lowered, input: sparse(input), output: output && sparse(output),
+    status: status === undefined ? undefined : Number(status), notes: notes.length === 0 ? undefined : notes, again: again || undefined,
   };
   return Object.fromEntries(Object.entries(made).filter(([, value]) => value !== undefined));
 }

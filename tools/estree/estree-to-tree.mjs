@@ -6,13 +6,13 @@ import fs from 'node:fs';
 import { parseArgs } from 'node:util';
 import { NoTree, canonicalText, read, sparse } from './lib/form.mjs';
 import { isMain, runMain } from './lib/main.mjs';
-import { lineAndColumn, parse } from './lib/parsers.mjs';
+import { parse, place } from './lib/parsers.mjs';
 import { entriesOf, kindNamed } from './lib/table.mjs';
 
-/** The tree of an ESTree program, or of Babel's file around one; `zero` for spans 0. */
-export function estreeToTree(estree, text, { zero = false } = {}) {
+/** The tree of an ESTree program, or of Babel's file around one; `zero` for spans 0. Errors name the place, in the file at `path`. */
+export function estreeToTree(estree, text, { zero = false, path } = {}) {
   const program = estree.type === 'File' ? estree.program : estree;
-  const refuse = (node, path, why) => { throw new NoTree(`${place(node, text)}: ${node?.type ?? 'nothing'}: ${why}`); };
+  const refuse = (node, _, why) => { throw new NoTree(`${place(text, node?.start ?? 0, path)}: ${node?.type ?? 'a node'}: ${why}`); };
   if (text.startsWith('#!')) refuse(program, '', 'a hashbang line has no form in the tree');
   const reshape = (node, sort) => {
     const shaped = { ...node, ...RESHAPE[node.type]?.(node, sort, text) };
@@ -87,15 +87,12 @@ function refuseWhatIsLost(node, shaped, sort, refuse) {
   }
 }
 
-function place(node, text) {
-  return Number.isInteger(node?.start) ? lineAndColumn(text, node.start) : '?';
-}
-
 if (isMain(import.meta.url)) runMain(() => {
   const { values, positionals } = parseArgs({ allowPositionals: true, options: { parse: { type: 'boolean' }, module: { type: 'boolean' }, sparse: { type: 'boolean' }, zero: { type: 'boolean' } } });
   if (positionals.length !== (values.parse ? 1 : 2)) throw new Error('wanted: [--sparse] [--zero] ESTREE.json SOURCE.js, or --parse [--module] [--sparse] [--zero] SOURCE.js');
-  const text = fs.readFileSync(positionals.at(-1), 'utf8');
-  const estree = values.parse ? parse(text, { module: values.module }) : JSON.parse(fs.readFileSync(positionals[0], 'utf8'));
-  const tree = estreeToTree(estree, text, values);
+  const path = positionals.at(-1);
+  const text = fs.readFileSync(path, 'utf8');
+  const estree = values.parse ? parse(text, { module: values.module, path }) : JSON.parse(fs.readFileSync(positionals[0], 'utf8'));
+  const tree = estreeToTree(estree, text, { zero: values.zero, path });
   process.stdout.write(`${values.sparse ? JSON.stringify(sparse(tree)) : canonicalText(tree)}\n`);
 });

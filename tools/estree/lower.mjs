@@ -6,7 +6,7 @@ import fs from 'node:fs';
 import { fileURLToPath } from 'node:url';
 import { canonicalText, nodes, read } from './lib/form.mjs';
 import { isMain, runMain } from './lib/main.mjs';
-import { lineAndColumn } from './lib/parsers.mjs';
+import { place } from './lib/parsers.mjs';
 import { textToTree } from './lib/texts.mjs';
 import { print } from './print.mjs';
 
@@ -15,9 +15,9 @@ const TOOL = fileURLToPath(new URL('../../lower', import.meta.url));
 /** What the tool says of a file: its status, the lowered text and the notes. */
 export function lower(path, { module, words }) {
   const text = fs.readFileSync(path, 'utf8');
-  const tree = textToTree(text, { module: module || path.endsWith('.mjs'), mayBeInvalid: true });
+  const tree = textToTree(text, { module: module || path.endsWith('.mjs'), path });
   const { status, stdout, stderr, error } = spawnSync(TOOL, words, { input: canonicalText(tree), encoding: 'utf8', maxBuffer: Infinity });
-  if (error) throw new Error(`the tool ${TOOL} can't be started: ${error.message}`);
+  if (error && error.code !== 'EPIPE') throw new Error(`the tool ${TOOL} can't be started: ${error.message}`);
   const lowered = status === 0 && stdout.startsWith('{') ? print(read(JSON.parse(stdout))) : stdout;
   return { status, lowered, notes: stderr.replace(/.+/g, note => note + placeOf(note, path, text, tree)) };
 }
@@ -28,7 +28,7 @@ function placeOf(note, path, text, tree) {
   const [, start] = note.match(/ at (\d+)\.\.\d+$/) ?? [];
   const node = id && nodes(tree)[Number(id)];
   if (!node && !start) return '';
-  return ` (${path}:${lineAndColumn(text, node ? node.start : Number(start))}${node ? `, ${node.type}` : ''})`;
+  return ` (${place(text, node ? node.start : Number(start), path)}${node ? `, ${node.type}` : ''})`;
 }
 
 if (isMain(import.meta.url)) runMain(() => {
@@ -37,5 +37,5 @@ if (isMain(import.meta.url)) runMain(() => {
   const { status, lowered, notes } = lower(path, { module: rest.includes('--module'), words: rest.filter(word => word !== '--module') });
   process.stderr.write(notes);
   process.stdout.write(lowered);
-  process.exitCode = status;
+  process.exitCode = status ?? 1;
 });

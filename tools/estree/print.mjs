@@ -82,7 +82,7 @@ class Printer {
   ImportDeclaration({ specifiers, source, attributes }, margin) {
     const named = specifiers.filter(({ type }) => type === 'ImportSpecifier');
     const others = specifiers.filter(({ type }) => type !== 'ImportSpecifier');
-    const clauses = [...others.map(item => this.text(item, margin)), ...(named.length === 0 ? [] : [`{ ${this.list(named, margin)} }`])];
+    const clauses = [...others.map(item => this.text(item, margin)), ...(named.length === 0 ? [] : [this.inBraces(named, margin)])];
     return `import ${clauses.length === 0 ? '' : `${clauses.join(', ')} from `}${this.text(source)}${this.attributes(attributes)};`;
   }
 
@@ -95,7 +95,7 @@ class Printer {
 
   ExportNamedDeclaration({ declaration, specifiers, source, attributes }, margin) {
     if (declaration) return `export ${this.text(declaration, margin)}`;
-    return `export { ${this.list(specifiers, margin)} }${this.optional(' from ', source, margin)}${this.attributes(attributes)};`;
+    return `export ${this.inBraces(specifiers, margin)}${this.optional(' from ', source, margin)}${this.attributes(attributes)};`;
   }
 
   ExportSpecifier({ local, exported }, margin) {
@@ -120,7 +120,7 @@ class Printer {
   TaggedTemplateExpression({ tag, quasi }, margin) { return this.text(tag, margin) + this.text(quasi, margin); }
   ArrayExpression({ elements }, margin) { return this.elements(elements, margin); }
   SpreadElement({ argument }, margin) { return `...${this.text(argument, margin)}`; }
-  ObjectExpression({ properties }, margin) { return this.properties(properties, margin); }
+  ObjectExpression({ properties }, margin) { return this.inBraces(properties, margin); }
   FunctionExpression({ id, params, body }, margin) { return `function${id ? ` ${id.name}` : ' '}${this.parameters(params, margin)} ${this.text(body, margin)}`; }
   ArrowFunctionExpression({ params, body }, margin) { return `${this.parameters(params, margin)} => ${this.text(body, margin)}`; }
   ClassExpression(node, margin) { return this.ClassDeclaration(node, margin); }
@@ -137,7 +137,8 @@ class Printer {
 
   UnaryExpression({ operator, argument }, margin) {
     const operand = this.text(argument, margin);
-    return operator + (/[a-z]$/.test(operator) || operand.startsWith(operator) ? ' ' : '') + operand;
+    const joins = /[a-z]$/.test(operator) || (/[+-]/.test(operator) && operand.startsWith(operator));
+    return operator + (joins ? ' ' : '') + operand;
   }
 
   UpdateExpression({ operator, prefix, argument }, margin) {
@@ -161,7 +162,7 @@ class Printer {
 
   // Patterns and targets.
 
-  ObjectPattern({ properties }, margin) { return this.properties(properties, margin); }
+  ObjectPattern({ properties }, margin) { return this.inBraces(properties, margin); }
   ArrayPattern({ elements }, margin) { return this.elements(elements, margin); }
   AssignmentPattern({ left, right }, margin) { return `${this.text(left, margin)} = ${this.text(right, margin)}`; }
   RestElement({ argument }, margin) { return `...${this.text(argument, margin)}`; }
@@ -172,7 +173,7 @@ class Printer {
   parameters(params, margin) { return `(${this.list(params, margin)})`; }
   method({ params, body }, margin) { return `${this.parameters(params, margin)} ${this.text(body, margin)}`; }
   key({ key, computed }, margin) { return computed ? `[${this.text(key, margin)}]` : this.text(key, margin); }
-  properties(properties, margin) { return properties.length === 0 ? '{}' : `{ ${this.list(properties, margin)} }`; }
+  inBraces(nodes, margin) { return nodes.length === 0 ? '{}' : `{ ${this.list(nodes, margin)} }`; }
   attributes(attributes) { return attributes.length === 0 ? '' : ` with { ${this.list(attributes)} }`; }
 
   elements(elements, margin) {

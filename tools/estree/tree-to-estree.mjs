@@ -24,7 +24,7 @@ const RESHAPE = {
   Directive: node => ({ type: 'ExpressionStatement', value: undefined, directive: node.value, expression: literal(node, cooked(node.value), quotedDirective(node.value)) }),
   FunctionDeclaration: () => ({ expression: false, generator: false, async: false }),
   FunctionExpression: () => ({ expression: false, generator: false, async: false }),
-  ArrowFunctionExpression: ({ body }) => ({ expression: body.type !== 'BlockStatement', generator: false, async: false }),
+  ArrowFunctionExpression: ({ body }) => ({ id: null, expression: body.type !== 'BlockStatement', generator: false, async: false }),
   ClassDeclaration: withClassBody,
   ClassExpression: withClassBody,
   ForOfStatement: () => ({ await: false }),

@@ -59,7 +59,7 @@ export function mapChildren(node, kind, change) {
 }
 
 function readNode(value, sort, path, reader) {
-  if (typeof value !== 'object' || value === null) reader.refuse(value, path, 'it is no node');
+  if (typeof value?.type !== 'string') reader.refuse(value, path, 'it is no node');
   const shaped = reader.reshape(value, sort);
   const kind = kindNamed(sort, shaped.type);
   if (kind === undefined) reader.refuse(value, `${path}/type`, isKindName(shaped.type) ? `${shaped.type} can't stand here` : `${shaped.type} has no form in the tree`);

@@ -4,7 +4,8 @@ import { fileURLToPath } from 'node:url';
 
 /** Whether this module is the program that was started. */
 export function isMain(url) {
-  return process.argv[1] !== undefined && fs.realpathSync(process.argv[1]) === fileURLToPath(url);
+  const [, started] = process.argv;
+  return started !== undefined && fs.existsSync(started) && fs.realpathSync(started) === fileURLToPath(url);
 }
 
 /** Runs a program. An error is told in one line on standard error, and the status is then 1. */

@@ -16,9 +16,9 @@ export class NotParsed extends Error {}
 
 /**
  * The ESTree program of a text, with parentheses as nodes. With `mayBeInvalid` early errors are passed over,
- * as far as @babel/parser can.
+ * as far as @babel/parser can. Errors name the place, in the file at `path`.
  */
-export function parse(text, { module = false, mayBeInvalid = false } = {}) {
+export function parse(text, { module = false, mayBeInvalid = false, path } = {}) {
   const sourceType = module ? 'module' : 'script';
   const parsers = [acorn && parseWithAcorn, babel && parseWithBabel, babel && mayBeInvalid && parseInvalid].filter(Boolean);
   if (parsers.length === 0) throw new Error(NONE);
@@ -31,13 +31,13 @@ export function parse(text, { module = false, mayBeInvalid = false } = {}) {
       if (furthest === undefined || error.pos > furthest.pos) furthest = error;
     }
   }
-  throw new NotParsed(`${lineAndColumn(text, furthest.pos)}: ${furthest.message.replace(/ \(\d+:\d+\)$/, '')}`);
+  throw new NotParsed(`${place(text, furthest.pos, path)}: ${furthest.message.replace(/ \(\d+:\d+\)$/, '')}`);
 }
 
-/** An offset as line and column, both counted from 1. */
-export function lineAndColumn(text, offset) {
+/** An offset as the file's path, line and column, these counted from 1. */
+export function place(text, offset, path) {
   const lines = text.slice(0, offset).split(/\r\n|[\n\r\u2028\u2029]/);
-  return `${lines.length}:${lines.at(-1).length + 1}`;
+  return [...(path === undefined ? [] : [path]), lines.length, lines.at(-1).length + 1].join(':');
 }
 
 function parseWithAcorn(text, sourceType) {

@@ -6,8 +6,8 @@ import { estreeToTree } from '../estree-to-tree.mjs';
 import { treeToEstree } from '../tree-to-estree.mjs';
 
 /** The tree of a text, with every parenthesis as a node. */
-export function textToTree(text, { module, mayBeInvalid, zero } = {}) {
-  return estreeToTree(parse(text, { module, mayBeInvalid }), text, { zero });
+export function textToTree(text, { module, mayBeInvalid, zero, path } = {}) {
+  return estreeToTree(parse(text, { module, mayBeInvalid, path }), text, { zero, path });
 }
 
 /**
