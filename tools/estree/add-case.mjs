@@ -14,15 +14,19 @@ const OPTIONS = ['--source', '--lowered', '--status', '--note', '--about'];
 
 /** The case of these texts. The source of a case with a status may break static rules, as far as a parser passes them over. */
 export function makeCase({ name, words, source, lowered, status, notes, module, spans, again }) {
-  if (source === undefined || (lowered === undefined) === (status === undefined)) throw new Error('wanted: --source JS, and one of --lowered JS and --status N');
-  if (spans && lowered !== undefined && lowered !== source) throw new Error('the spans of a lowered tree can\'t be told from its text: write this case by hand');
+  if (source === undefined || (lowered === undefined) === (status === undefined)) {
+    throw new Error('wanted: --source JS, and one of --lowered JS and --status N');
+  }
+  if (spans && lowered !== undefined && lowered !== source) {
+    throw new Error('the spans of a lowered tree can\'t be told from its text: write this case by hand');
+  }
   const input = textToTree(source, { module, mayBeInvalid: status !== undefined, zero: !spans });
   const output = lowered === undefined ? undefined : lowered === source ? input : loweredTextToTree(lowered, { module });
-  const made = {
-    name, words, module: module || undefined, spans: spans || undefined, source, lowered, input: sparse(input), output: output && sparse(output),
-    status: status === undefined ? undefined : Number(status), notes: notes.length === 0 ? undefined : notes, again: again || undefined,
+  const fields = {
+    name, words, module, spans, source, lowered, input: sparse(input), output: output && sparse(output),
+    status: status && Number(status), notes: notes.length === 0 ? undefined : notes, again,
   };
-  return Object.fromEntries(Object.entries(made).filter(([, value]) => value !== undefined));
+  return Object.fromEntries(Object.entries(fields).filter(([, value]) => value !== undefined));
 }
 
 /** Puts a case into a file, in place of the one with its name or behind the others. */

@@ -72,15 +72,20 @@ function numberKey(raw) {
 }
 
 /** Fields that say nothing about the program, or what the tree form says elsewhere. */
-const PASSED_OVER = new Set(['type', 'start', 'end', 'range', 'loc', 'parent', 'extra', 'errors', 'comments', 'tokens', 'leadingComments', 'trailingComments', 'innerComments', 'raw', 'value', 'regex', 'bigint', 'directive', 'expression', 'prefix', 'tail', 'id', 'assertions']);
+const PASSED_OVER = new Set([
+  'type', 'start', 'end', 'range', 'loc', 'parent', 'extra', 'errors',
+  'comments', 'tokens', 'leadingComments', 'trailingComments', 'innerComments',
+  'raw', 'value', 'regex', 'bigint', 'directive', 'expression', 'prefix', 'tail', 'id', 'assertions',
+]);
 
 /** Refuses a node with a field that the tree form has no place for, as decorators, types or `phase`. */
 function refuseWhatIsLost(node, shaped, sort, refuse) {
   const kind = kindNamed(sort, shaped.type);
   if (kind === undefined) return;
-  if (node.extra?.parenthesized) refuse(node, '', 'its parentheses are no node; @babel/parser has the option createParenthesizedExpressions for that');
+  if (node.extra?.parenthesized) refuse(node, '', 'its parentheses are no node; @babel/parser makes them by createParenthesizedExpressions');
   const listed = new Set(entriesOf(kind).map(({ field }) => field));
-  for (const [field, value] of Object.entries(node).filter(([field]) => !listed.has(field) && !PASSED_OVER.has(field))) {
+  for (const [field, value] of Object.entries(node)) {
+    if (listed.has(field) || PASSED_OVER.has(field)) continue;
     const below = [value].flat().find(item => typeof item?.type === 'string');
     const isWord = field === 'phase' && value || field.endsWith('Kind') && value !== 'value';
     if (below || value === true || isWord) refuse(below ?? node, '', `${field} has no form in the tree`);
@@ -88,8 +93,11 @@ function refuseWhatIsLost(node, shaped, sort, refuse) {
 }
 
 if (isMain(import.meta.url)) runMain(() => {
-  const { values, positionals } = parseArgs({ allowPositionals: true, options: { parse: { type: 'boolean' }, module: { type: 'boolean' }, sparse: { type: 'boolean' }, zero: { type: 'boolean' } } });
-  if (positionals.length !== (values.parse ? 1 : 2)) throw new Error('wanted: [--sparse] [--zero] ESTREE.json SOURCE.js, or --parse [--module] [--sparse] [--zero] SOURCE.js');
+  const flag = { type: 'boolean' };
+  const { values, positionals } = parseArgs({ allowPositionals: true, options: { parse: flag, module: flag, sparse: flag, zero: flag } });
+  if (positionals.length !== (values.parse ? 1 : 2)) {
+    throw new Error('wanted: [--sparse] [--zero] ESTREE.json SOURCE.js, or --parse [--module] [--sparse] [--zero] SOURCE.js');
+  }
   const path = positionals.at(-1);
   const text = fs.readFileSync(path, 'utf8');
   const estree = values.parse ? parse(text, { module: values.module, path }) : JSON.parse(fs.readFileSync(positionals[0], 'utf8'));

@@ -7,100 +7,119 @@ import { read } from './lib/form.mjs';
 import { isMain, runMain } from './lib/main.mjs';
 import { withNeededParentheses } from './lib/parentheses.mjs';
 
-/** The text of a tree; a statement a line, or all on one. */
+/** The text of a tree: a statement a line, or all on one. */
 export function print(tree, { oneLine = false } = {}) {
   const { directives, body } = withNeededParentheses(tree);
   const printer = new Printer(oneLine);
-  const lines = [...directives, ...body].map(item => printer.text(item, ''));
-  return lines.length === 0 ? '' : lines.join(oneLine ? ' ' : '\n') + (oneLine ? '' : '\n');
+  const lines = [...directives, ...body].map(item => printer.text(item));
+  return oneLine ? lines.join(' ') : lines.map(line => `${line}\n`).join('');
 }
 
-/** A method for each name of a kind gives the text of such a node; `margin` stands before each further line. */
+/** A string literal of this value. */
+export function quoted(value) {
+  return JSON.stringify(value).replace(/[\u2028\u2029]/g, end => `\\u${end.charCodeAt(0).toString(16)}`);
+}
+
+/** A directive's text is that of the source between its quotes, so it may hold one sort of them bare. */
+export function quotedDirective(text) {
+  return /(?<!\\)(?:\\\\)*"/.test(text) ? `'${text}'` : `"${text}"`;
+}
+
+/** For each name of a kind a method that gives the text of such a node. */
 class Printer {
   constructor(oneLine) {
     this.newLine = oneLine ? ' ' : '\n';
     this.step = oneLine ? '' : '  ';
+    this.margin = '';
   }
 
-  text(node, margin) { return this[node.type](node, margin); }
-  list(nodes, margin) { return nodes.map(node => this.text(node, margin)).join(', '); }
-  optional(before, node, margin) { return node ? `${before}${this.text(node, margin)}` : ''; }
-
-  /** Lines in braces, each made by `print` at the margin within. */
-  braces(items, margin, print = this.text) {
-    if (items.length === 0) return '{}';
-    const inner = margin + this.step;
-    return `{${this.newLine}${items.map(item => inner + print.call(this, item, inner)).join(this.newLine)}${this.newLine}${margin}}`;
-  }
+  text(node) { return this[node.type](node); }
+  list(nodes) { return nodes.map(node => this.text(node)).join(', '); }
+  optional(before, node) { return node ? before + this.text(node) : ''; }
 
   // Statements and declarations.
 
   Directive({ value }) { return `${quotedDirective(value)};`; }
-  ExpressionStatement({ expression }, margin) { return `${this.text(expression, margin)};`; }
-  BlockStatement({ body }, margin) { return this.braces(body, margin); }
-  StaticBlock({ body }, margin) { return `static ${this.braces(body, margin)}`; }
+  ExpressionStatement({ expression }) { return `${this.text(expression)};`; }
+  BlockStatement({ body }) { return this.block(body); }
+  StaticBlock({ body }) { return `static ${this.block(body)}`; }
   EmptyStatement() { return ';'; }
   DebuggerStatement() { return 'debugger;'; }
-  VariableDeclaration(node, margin) { return `${this.declarators(node, margin)};`; }
-  VariableDeclarator({ id, init }, margin) { return this.text(id, margin) + this.optional(' = ', init, margin); }
-  FunctionDeclaration({ id, params, body }, margin) { return `function ${id?.name ?? ''}${this.parameters(params, margin)} ${this.text(body, margin)}`; }
-  FunctionBody({ directives, body }, margin) { return this.braces([...directives, ...body], margin); }
-  ClassDeclaration({ id, superClass, body }, margin) { return `class${id ? ` ${id.name}` : ''}${this.optional(' extends ', superClass, margin)} ${this.braces(body, margin)}`; }
-  PropertyDefinition({ static: isStatic, value, ...node }, margin) { return `${isStatic ? 'static ' : ''}${this.key(node, margin)}${this.optional(' = ', value, margin)};`; }
-  ReturnStatement({ argument }, margin) { return `return${this.optional(' ', argument, margin)};`; }
-  ThrowStatement({ argument }, margin) { return `throw ${this.text(argument, margin)};`; }
-  IfStatement({ test, consequent, alternate }, margin) { return `if (${this.text(test, margin)}) ${this.text(consequent, margin)}${this.optional(' else ', alternate, margin)}`; }
-  ForInStatement(node, margin) { return this.forEach('in', node, margin); }
-  ForOfStatement(node, margin) { return this.forEach('of', node, margin); }
-  WhileStatement({ test, body }, margin) { return `while (${this.text(test, margin)}) ${this.text(body, margin)}`; }
-  DoWhileStatement({ body, test }, margin) { return `do ${this.text(body, margin)} while (${this.text(test, margin)});`; }
-  BreakStatement({ label }, margin) { return `break${this.optional(' ', label, margin)};`; }
-  ContinueStatement({ label }, margin) { return `continue${this.optional(' ', label, margin)};`; }
-  LabeledStatement({ label, body }, margin) { return `${label.name}: ${this.text(body, margin)}`; }
-  SwitchStatement({ discriminant, cases }, margin) { return `switch (${this.text(discriminant, margin)}) ${this.braces(cases, margin)}`; }
-  TryStatement({ block, handler, finalizer }, margin) { return `try ${this.text(block, margin)}${this.optional(' ', handler, margin)}${this.optional(' finally ', finalizer, margin)}`; }
-  CatchClause({ param, body }, margin) { return `catch ${param ? `(${this.text(param, margin)}) ` : ''}${this.text(body, margin)}`; }
+  VariableDeclaration(node) { return `${this.declarators(node)};`; }
+  VariableDeclarator({ id, init }) { return this.text(id) + this.optional(' = ', init); }
+  FunctionDeclaration({ id, ...node }) { return `function ${id ? id.name : ''}${this.parametersAndBody(node)}`; }
+  FunctionBody({ directives, body }) { return this.block([...directives, ...body]); }
+  ReturnStatement({ argument }) { return `return${this.optional(' ', argument)};`; }
+  ThrowStatement({ argument }) { return `throw ${this.text(argument)};`; }
+  ForInStatement({ left, right, body }) { return `for (${this.forHead(left)} in ${this.text(right)}) ${this.text(body)}`; }
+  ForOfStatement({ left, right, body }) { return `for (${this.forHead(left)} of ${this.text(right)}) ${this.text(body)}`; }
+  WhileStatement({ test, body }) { return `while (${this.text(test)}) ${this.text(body)}`; }
+  DoWhileStatement({ body, test }) { return `do ${this.text(body)} while (${this.text(test)});`; }
+  BreakStatement({ label }) { return `break${this.optional(' ', label)};`; }
+  ContinueStatement({ label }) { return `continue${this.optional(' ', label)};`; }
+  LabeledStatement({ label, body }) { return `${label.name}: ${this.text(body)}`; }
+  SwitchStatement({ discriminant, cases }) { return `switch (${this.text(discriminant)}) ${this.block(cases)}`; }
+  CatchClause({ param, body }) { return `catch ${param ? `(${this.text(param)}) ` : ''}${this.text(body)}`; }
 
-  ForStatement({ init, test, update, body }, margin) {
-    const first = init === null ? '' : init.type === 'VariableDeclaration' ? this.declarators(init, margin) : this.text(init, margin);
-    return `for (${first};${this.optional(' ', test, margin)};${this.optional(' ', update, margin)}) ${this.text(body, margin)}`;
+  ClassDeclaration({ id, superClass, body }) {
+    return `class${this.optional(' ', id)}${this.optional(' extends ', superClass)} ${this.block(body)}`;
   }
 
-  SwitchCase({ test, consequent }, margin) {
-    const inner = margin + this.step;
-    const head = test ? `case ${this.text(test, margin)}:` : 'default:';
-    return head + consequent.map(statement => this.newLine + inner + this.text(statement, inner)).join('');
+  MethodDefinition({ kind, static: isStatic, key, computed, value }) {
+    const accessor = kind === 'get' || kind === 'set' ? `${kind} ` : '';
+    return (isStatic ? 'static ' : '') + accessor + this.key(key, computed) + this.parametersAndBody(value);
   }
 
-  MethodDefinition({ kind, static: isStatic, value, ...node }, margin) {
-    const word = kind === 'get' || kind === 'set' ? `${kind} ` : '';
-    return `${isStatic ? 'static ' : ''}${word}${this.key(node, margin)}${this.method(value, margin)}`;
+  PropertyDefinition({ static: isStatic, key, computed, value }) {
+    return `${isStatic ? 'static ' : ''}${this.key(key, computed)}${this.optional(' = ', value)};`;
+  }
+
+  IfStatement({ test, consequent, alternate }) {
+    return `if (${this.text(test)}) ${this.text(consequent)}${this.optional(' else ', alternate)}`;
+  }
+
+  ForStatement({ init, test, update, body }) {
+    const first = init ? this.forHead(init) : '';
+    return `for (${first};${this.optional(' ', test)};${this.optional(' ', update)}) ${this.text(body)}`;
+  }
+
+  SwitchCase({ test, consequent }) {
+    const head = test ? `case ${this.text(test)}:` : 'default:';
+    return [head, ...this.indented(consequent)].join(this.newLine);
+  }
+
+  TryStatement({ block, handler, finalizer }) {
+    return `try ${this.text(block)}${this.optional(' ', handler)}${this.optional(' finally ', finalizer)}`;
   }
 
   // Imports and exports.
 
-  ImportDeclaration({ specifiers, source, attributes }, margin) {
+  ImportDeclaration({ specifiers, source, attributes }) {
     const named = specifiers.filter(({ type }) => type === 'ImportSpecifier');
-    const others = specifiers.filter(({ type }) => type !== 'ImportSpecifier');
-    const clauses = [...others.map(item => this.text(item, margin)), ...(named.length === 0 ? [] : [this.inBraces(named, margin)])];
-    return `import ${clauses.length === 0 ? '' : `${clauses.join(', ')} from `}${this.text(source)}${this.attributes(attributes)};`;
+    const clauses = specifiers.filter(({ type }) => type !== 'ImportSpecifier').map(node => this.text(node));
+    if (named.length > 0) clauses.push(this.inBraces(named));
+    const from = clauses.length === 0 ? '' : `${clauses.join(', ')} from `;
+    return `import ${from}${this.text(source)}${this.attributes(attributes)};`;
   }
 
-  ImportSpecifier({ imported, local }) { return imported.name === local.name ? local.name : `${this.text(imported)} as ${local.name}`; }
+  ImportSpecifier({ imported, local }) { return this.renamed(this.text(imported), local.name); }
   ImportDefaultSpecifier({ local }) { return local.name; }
   ImportNamespaceSpecifier({ local }) { return `* as ${local.name}`; }
   ImportAttribute({ key, value }) { return `${quoted(key)}: ${quoted(value)}`; }
-  ExportDefaultDeclaration({ declaration }, margin) { return `export default ${this.text(declaration, margin)}${declaration.type.endsWith('Declaration') ? '' : ';'}`; }
-  ExportAllDeclaration({ exported, source, attributes }, margin) { return `export *${this.optional(' as ', exported, margin)} from ${this.text(source)}${this.attributes(attributes)};`; }
 
-  ExportNamedDeclaration({ declaration, specifiers, source, attributes }, margin) {
-    if (declaration) return `export ${this.text(declaration, margin)}`;
-    return `export ${this.inBraces(specifiers, margin)}${this.optional(' from ', source, margin)}${this.attributes(attributes)};`;
+  ExportNamedDeclaration({ declaration, specifiers, source, attributes }) {
+    if (declaration) return `export ${this.text(declaration)}`;
+    return `export ${this.inBraces(specifiers)}${this.optional(' from ', source)}${this.attributes(attributes)};`;
   }
 
-  ExportSpecifier({ local, exported }, margin) {
-    const [inside, outside] = [this.text(local, margin), this.text(exported, margin)];
-    return inside === outside ? inside : `${inside} as ${outside}`;
+  ExportSpecifier({ local, exported }) { return this.renamed(this.text(local), this.text(exported)); }
+
+  ExportDefaultDeclaration({ declaration }) {
+    return `export default ${this.text(declaration)}${declaration.type.endsWith('Declaration') ? '' : ';'}`;
+  }
+
+  ExportAllDeclaration({ exported, source, attributes }) {
+    return `export *${this.optional(' as ', exported)} from ${this.text(source)}${this.attributes(attributes)};`;
   }
 
   // Expressions.
@@ -116,85 +135,90 @@ class Printer {
   StringLiteral({ value }) { return quoted(value); }
   RegExpLiteral({ pattern, flags }) { return `/${pattern}/${flags}`; }
   TemplateElement({ raw }) { return raw; }
-  TemplateLiteral({ quasis, expressions }, margin) { return `\`${quasis.map((quasi, index) => quasi.raw + (index < expressions.length ? `\${${this.text(expressions[index], margin)}}` : '')).join('')}\``; }
-  TaggedTemplateExpression({ tag, quasi }, margin) { return this.text(tag, margin) + this.text(quasi, margin); }
-  ArrayExpression({ elements }, margin) { return this.elements(elements, margin); }
-  SpreadElement({ argument }, margin) { return `...${this.text(argument, margin)}`; }
-  ObjectExpression({ properties }, margin) { return this.inBraces(properties, margin); }
-  FunctionExpression({ id, params, body }, margin) { return `function${id ? ` ${id.name}` : ' '}${this.parameters(params, margin)} ${this.text(body, margin)}`; }
-  ArrowFunctionExpression({ params, body }, margin) { return `${this.parameters(params, margin)} => ${this.text(body, margin)}`; }
-  ClassExpression(node, margin) { return this.ClassDeclaration(node, margin); }
-  LogicalExpression(node, margin) { return this.BinaryExpression(node, margin); }
-  AssignmentExpression(node, margin) { return this.BinaryExpression(node, margin); }
-  BinaryExpression({ left, operator, right }, margin) { return `${this.text(left, margin)} ${operator} ${this.text(right, margin)}`; }
-  ConditionalExpression({ test, consequent, alternate }, margin) { return `${this.text(test, margin)} ? ${this.text(consequent, margin)} : ${this.text(alternate, margin)}`; }
-  SequenceExpression({ expressions }, margin) { return this.list(expressions, margin); }
-  CallExpression({ callee, optional, arguments: list }, margin) { return `${this.text(callee, margin)}${optional ? '?.' : ''}(${this.list(list, margin)})`; }
-  NewExpression({ callee, arguments: list }, margin) { return `new ${this.text(callee, margin)}(${this.list(list, margin)})`; }
-  ChainExpression({ expression }, margin) { return this.text(expression, margin); }
-  ParenthesizedExpression({ expression }, margin) { return `(${this.text(expression, margin)})`; }
+  TaggedTemplateExpression({ tag, quasi }) { return this.text(tag) + this.text(quasi); }
+  ArrayExpression({ elements }) { return this.elements(elements); }
+  SpreadElement({ argument }) { return `...${this.text(argument)}`; }
+  ObjectExpression({ properties }) { return this.inBraces(properties); }
+  FunctionExpression({ id, ...node }) { return `function ${id ? id.name : ''}${this.parametersAndBody(node)}`; }
+  ClassExpression(node) { return this.ClassDeclaration(node); }
+  ArrowFunctionExpression({ params, body }) { return `(${this.list(params)}) => ${this.text(body)}`; }
+  BinaryExpression({ left, operator, right }) { return `${this.text(left)} ${operator} ${this.text(right)}`; }
+  LogicalExpression(node) { return this.BinaryExpression(node); }
+  AssignmentExpression(node) { return this.BinaryExpression(node); }
+  SequenceExpression({ expressions }) { return this.list(expressions); }
+  CallExpression(node) { return `${this.text(node.callee)}${node.optional ? '?.' : ''}(${this.list(node.arguments)})`; }
+  NewExpression(node) { return `new ${this.text(node.callee)}(${this.list(node.arguments)})`; }
+  ChainExpression({ expression }) { return this.text(expression); }
+  ParenthesizedExpression({ expression }) { return `(${this.text(expression)})`; }
   MetaProperty({ meta, property }) { return `${meta}.${property}`; }
 
-  UnaryExpression({ operator, argument }, margin) {
-    const operand = this.text(argument, margin);
+  TemplateLiteral({ quasis, expressions }) {
+    const holes = expressions.map(expression => `\${${this.text(expression)}}`);
+    return `\`${quasis.map((quasi, index) => quasi.raw + (holes[index] ?? '')).join('')}\``;
+  }
+
+  UnaryExpression({ operator, argument }) {
+    const operand = this.text(argument);
     const joins = /[a-z]$/.test(operator) || (/[+-]/.test(operator) && operand.startsWith(operator));
     return operator + (joins ? ' ' : '') + operand;
   }
 
-  UpdateExpression({ operator, prefix, argument }, margin) {
-    const operand = this.text(argument, margin);
-    return prefix ? operator + operand : operand + operator;
+  UpdateExpression({ operator, prefix, argument }) {
+    return prefix ? operator + this.text(argument) : this.text(argument) + operator;
   }
 
-  MemberExpression({ object, property, computed, optional }, margin) {
-    const front = this.text(object, margin) + (object.type === 'NumericLiteral' && !computed ? ' ' : ''); // `1 .a`
-    if (computed) return `${front}${optional ? '?.' : ''}[${this.text(property, margin)}]`;
-    return `${front}${optional ? '?.' : '.'}${this.text(property, margin)}`;
+  ConditionalExpression({ test, consequent, alternate }) {
+    return `${this.text(test)} ? ${this.text(consequent)} : ${this.text(alternate)}`;
   }
 
-  /** A property of an object literal or of a pattern, which has no `kind`. */
-  Property({ kind, method, shorthand, value, ...node }, margin) {
-    if (kind === 'get' || kind === 'set') return `${kind} ${this.key(node, margin)}${this.method(value, margin)}`;
-    if (method) return this.key(node, margin) + this.method(value, margin);
-    const isShort = shorthand && (value.left ?? value).name === node.key.name;
-    return isShort ? this.text(value, margin) : `${this.key(node, margin)}: ${this.text(value, margin)}`;
+  MemberExpression({ object, property, computed, optional }) {
+    if (computed) return `${this.text(object)}${optional ? '?.' : ''}[${this.text(property)}]`;
+    const space = object.type === 'NumericLiteral' && /^[\d_]+$/.test(object.raw) ? ' ' : ''; // `1 .a`
+    return this.text(object) + space + (optional ? '?.' : '.') + this.text(property);
+  }
+
+  /** A property of an object literal, or of a pattern, which has neither `kind` nor `method`. */
+  Property({ kind, method, shorthand, key, computed, value }) {
+    if (kind === 'get' || kind === 'set') return `${kind} ${this.key(key, computed)}${this.parametersAndBody(value)}`;
+    if (method) return this.key(key, computed) + this.parametersAndBody(value);
+    const isShort = shorthand && (value.left ?? value).name === key.name;
+    return (isShort ? '' : `${this.key(key, computed)}: `) + this.text(value);
   }
 
   // Patterns and targets.
 
-  ObjectPattern({ properties }, margin) { return this.inBraces(properties, margin); }
-  ArrayPattern({ elements }, margin) { return this.elements(elements, margin); }
-  AssignmentPattern({ left, right }, margin) { return `${this.text(left, margin)} = ${this.text(right, margin)}`; }
-  RestElement({ argument }, margin) { return `...${this.text(argument, margin)}`; }
+  ObjectPattern({ properties }) { return this.inBraces(properties); }
+  ArrayPattern({ elements }) { return this.elements(elements); }
+  AssignmentPattern({ left, right }) { return `${this.text(left)} = ${this.text(right)}`; }
+  RestElement({ argument }) { return `...${this.text(argument)}`; }
 
   // Parts of several kinds.
 
-  declarators({ kind, declarations }, margin) { return `${kind} ${this.list(declarations, margin)}`; }
-  parameters(params, margin) { return `(${this.list(params, margin)})`; }
-  method({ params, body }, margin) { return `${this.parameters(params, margin)} ${this.text(body, margin)}`; }
-  key({ key, computed }, margin) { return computed ? `[${this.text(key, margin)}]` : this.text(key, margin); }
-  inBraces(nodes, margin) { return nodes.length === 0 ? '{}' : `{ ${this.list(nodes, margin)} }`; }
-  attributes(attributes) { return attributes.length === 0 ? '' : ` with { ${this.list(attributes)} }`; }
+  declarators({ kind, declarations }) { return `${kind} ${this.list(declarations)}`; }
+  forHead(node) { return node.type === 'VariableDeclaration' ? this.declarators(node) : this.text(node); }
+  parametersAndBody({ params, body }) { return `(${this.list(params)}) ${this.text(body)}`; }
+  key(key, computed) { return computed ? `[${this.text(key)}]` : this.text(key); }
+  inBraces(nodes) { return nodes.length === 0 ? '{}' : `{ ${this.list(nodes)} }`; }
+  renamed(name, as) { return name === as ? name : `${name} as ${as}`; }
+  attributes(attributes) { return attributes.length === 0 ? '' : ` with ${this.inBraces(attributes)}`; }
 
-  elements(elements, margin) {
-    const texts = elements.map(element => element === null ? '' : this.text(element, margin));
+  block(items) {
+    return items.length === 0 ? '{}' : ['{', ...this.indented(items), `${this.margin}}`].join(this.newLine);
+  }
+
+  /** Lines one step further in. */
+  indented(items) {
+    const outer = this.margin;
+    this.margin += this.step;
+    const lines = items.map(item => this.margin + this.text(item));
+    this.margin = outer;
+    return lines;
+  }
+
+  elements(elements) {
+    const texts = elements.map(element => element === null ? '' : this.text(element));
     return `[${texts.join(', ')}${elements.at(-1) === null ? ',' : ''}]`;
   }
-
-  forEach(word, { left, right, body }, margin) {
-    const target = left.type === 'VariableDeclaration' ? this.declarators(left, margin) : this.text(left, margin);
-    return `for (${target} ${word} ${this.text(right, margin)}) ${this.text(body, margin)}`;
-  }
-}
-
-/** A string literal of this value. */
-export function quoted(value) {
-  return JSON.stringify(value).replace(/[\u2028\u2029]/g, end => `\\u${end.charCodeAt(0).toString(16)}`);
-}
-
-/** A directive's text is that of the source between its quotes, so it may hold one sort of them bare. */
-export function quotedDirective(text) {
-  return /(?<!\\)(?:\\\\)*"/.test(text) ? `'${text}'` : `"${text}"`;
 }
 
 if (isMain(import.meta.url)) runMain(() => {

@@ -21,7 +21,10 @@ export function treeToEstree(tree, { parentheses = false } = {}) {
 const RESHAPE = {
   Program: ({ directives, body }) => ({ directives: undefined, body: [...directives, ...body] }),
   FunctionBody: ({ directives, body }) => ({ type: 'BlockStatement', directives: undefined, body: [...directives, ...body] }),
-  Directive: node => ({ type: 'ExpressionStatement', value: undefined, directive: node.value, expression: literal(node, cooked(node.value), quotedDirective(node.value)) }),
+  Directive: node => ({
+    type: 'ExpressionStatement', value: undefined, directive: node.value,
+    expression: literal(node, cooked(node.value), quotedDirective(node.value)),
+  }),
   FunctionDeclaration: () => ({ expression: false, generator: false, async: false }),
   FunctionExpression: () => ({ expression: false, generator: false, async: false }),
   ArrowFunctionExpression: ({ body }) => ({ id: null, expression: body.type !== 'BlockStatement', generator: false, async: false }),
@@ -34,13 +37,20 @@ const RESHAPE = {
   StringLiteral: node => literal(node, node.value),
   NumericLiteral: node => ({ ...literal(node, Number(node.key), node.raw), key: undefined }),
   BigIntLiteral: node => ({ ...literal(node, null, node.raw), key: undefined, bigint: node.key }),
-  RegExpLiteral: ({ pattern, flags, ...node }) => ({ ...literal(node, null, `/${pattern}/${flags}`), pattern: undefined, flags: undefined, regex: { pattern, flags } }),
-  TemplateLiteral: ({ quasis }) => ({ quasis: quasis.map((quasi, index) => ({ ...quasi, tail: index === quasis.length - 1 })) }),
+  RegExpLiteral: ({ pattern, flags, ...node }) => ({
+    ...literal(node, null, `/${pattern}/${flags}`), pattern: undefined, flags: undefined, regex: { pattern, flags },
+  }),
+  TemplateLiteral: ({ quasis }) => ({
+    quasis: quasis.map((quasi, index) => ({ ...quasi, tail: index === quasis.length - 1 })),
+  }),
   TemplateElement: ({ raw, cooked }) => ({ raw: undefined, cooked: undefined, value: { raw, cooked } }),
   PatternProperty: () => ({ kind: 'init', method: false }),
   TargetProperty: () => ({ kind: 'init', method: false }),
   UnaryExpression: () => ({ prefix: true }),
-  MetaProperty: ({ start, end, meta, property }) => ({ meta: { type: 'Identifier', start, end, name: meta }, property: { type: 'Identifier', start, end, name: property } }),
+  MetaProperty: ({ start, end, meta, property }) => ({
+    meta: { type: 'Identifier', start, end, name: meta },
+    property: { type: 'Identifier', start, end, name: property },
+  }),
 };
 
 function withClassBody({ start, end, body }) {

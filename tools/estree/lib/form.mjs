@@ -37,9 +37,6 @@ export function withoutSpans(node, kind = 'Program') {
   return { ...mapChildren(node, kind, withoutSpans), start: 0, end: 0 };
 }
 
-/** Whether some node of the tree has a span. */
-export const hasSpans = tree => nodes(tree).some(node => node.start !== 0 || node.end !== 0);
-
 /** The nodes of a tree in node order: the node with id 6 is the one at index 6. */
 export function nodes(node, kind = 'Program') {
   const found = [node];
@@ -62,13 +59,17 @@ function readNode(value, sort, path, reader) {
   if (typeof value?.type !== 'string') reader.refuse(value, path, 'it is no node');
   const shaped = reader.reshape(value, sort);
   const kind = kindNamed(sort, shaped.type);
-  if (kind === undefined) reader.refuse(value, `${path}/type`, isKindName(shaped.type) ? `${shaped.type} can't stand here` : `${shaped.type} has no form in the tree`);
+  if (kind === undefined) {
+    reader.refuse(value, `${path}/type`, `${shaped.type} ${isKindName(shaped.type) ? 'can\'t stand here' : 'has no form in the tree'}`);
+  }
   const node = { type: shaped.type };
   for (const field of ['start', 'end']) node[field] = readSpan(shaped[field] ?? 0, why => reader.refuse(value, `${path}/${field}`, why));
   for (const entry of entriesOf(kind)) {
-    const refuse = (why, below = '') => reader.refuse(value, `${path}/${entry.field}${below}`, why);
-    const read = entry.content === 'Child' ? readChildren(shaped, entry, `${path}/${entry.field}`, reader, refuse) : readAttribute(shaped[entry.field], entry, refuse);
-    if (read !== undefined) node[entry.field] = read;
+    const { field, content } = entry;
+    const refuse = why => reader.refuse(value, `${path}/${field}`, why);
+    if (content === 'Child') node[field] = readChildren(shaped, entry, `${path}/${field}`, reader, refuse);
+    else if (content === 'Refused') refuseAttribute(shaped[field], entry, refuse);
+    else node[field] = readAttribute(shaped[field], entry, refuse);
   }
   return node;
 }
@@ -91,11 +92,15 @@ function readChildren(node, entry, path, reader, refuse) {
   return list.map((item, index) => item === null && hasHoles(entry) ? null : child(item, index === list.length - 1, `${path}/${index}`));
 }
 
-/** A text or a truth value; nothing where the field is one that is refused and never written. */
+/** A field that is never written: only false, null or nothing may stand there. */
+function refuseAttribute(value, { field }, refuse) {
+  if (value) refuse(`${field} has no form in the tree`);
+}
+
+/** A text or a truth value. */
 function readAttribute(value, { field, content, rule }, refuse) {
   const isText = typeof value === 'string' && !/\p{Surrogate}/u.test(value);
   switch (content) {
-    case 'Refused': return value ? refuse(`${field} has no form in the tree`) : undefined;
     case 'Flag': return typeof (value ?? false) === 'boolean' ? value ?? false : refuse(`${field} is no truth value`);
     case 'RequiredFlag': return typeof value === 'boolean' ? value : refuse(`${field} is no truth value`);
     case 'OptionalText': return value == null ? null : isText ? value : refuse(`${field} is no text of Unicode scalar values`);

@@ -2,7 +2,7 @@
 import { createRequire } from 'node:module';
 
 const DEBIAN_MODULES = '/usr/share/nodejs';
-const NONE = 'no parser is installed: wanted is acorn or @babel/parser (Debian: apt-get install --no-install-recommends node-acorn node-babel7)';
+const NONE = 'no parser is installed: wanted is acorn or @babel/parser (Debian: node-acorn, node-babel7)';
 
 const acorn = installed('acorn');
 const babel = installed('@babel/parser');
@@ -76,7 +76,8 @@ function pluginForAttributes() {
 function withOffsets(value, change) {
   if (Array.isArray(value)) return value.map(item => withOffsets(item, change));
   if (typeof value !== 'object' || value === null) return value;
-  return Object.fromEntries(Object.entries(value).map(([field, below]) => [field, field === 'start' || field === 'end' ? change(below) : withOffsets(below, change)]));
+  const changed = (field, below) => field === 'start' || field === 'end' ? change(below) : withOffsets(below, change);
+  return Object.fromEntries(Object.entries(value).map(([field, below]) => [field, changed(field, below)]));
 }
 
 function parseInvalid(text, sourceType) {

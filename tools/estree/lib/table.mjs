@@ -21,7 +21,9 @@ const kindsOf = new Map([...ownKinds].map(([sort, name]) => [sort, kindsInList(s
 /** The texts that each rule allows; a rule that isn't here allows every text, `Name` all but the empty one. */
 const allowedTexts = new Map([['Meta', ['new', 'import']], ...wordLists(source('operators.rt'))]);
 
-if (entries.size !== kindNames.size || kindsOf.size === 0) throw new Error(`the table of fields in ${folder.pathname} is written in a way that this program doesn't read`);
+if (entries.size !== kindNames.size || kindsOf.size === 0) {
+  throw new Error(`the table of fields in ${folder.pathname} is written in a way that this program doesn't read`);
+}
 
 /** All kinds by name. */
 export const kinds = [...kindNames.keys()];
@@ -42,7 +44,10 @@ export const isList = entry => !['Required', 'Optional'].includes(entry.often);
 /** Whether a list may have holes. */
 export const hasHoles = entry => entry.often.startsWith('Elements');
 
-/** The sort of a child: a computed key or property is any expression, a private name stands left of `in` alone, and only the last may be a rest element. */
+/**
+ * The sort of a child: a computed key or property is any expression, a private name stands left of `in` alone, and
+ * only the last may be a rest element.
+ */
 export function sortAt(entry, node, isLast) {
   if ((entry.sort === 'PropertyKey' || entry.sort === 'MemberProperty') && node.computed === true) return 'Expression';
   if (entry.sort === 'BinaryLeft' && node.operator !== 'in') return 'Expression';
@@ -56,7 +61,8 @@ function kindsInList(sort, name) {
 
 /** A line as `Entry { field: FieldName::Body, content: Content::Child(Sort::Statement, Often::List) }` states it. */
 function entry(text) {
-  const [, field, content, first, often] = text.match(/field: FieldName::(\w+),\s*content: Content::(\w+)(?:\(\w+::(\w+)(?:, Often::(\w+))?\))?/);
+  const form = /field: FieldName::(\w+),\s*content: Content::(\w+)(?:\(\w+::(\w+)(?:, Often::(\w+))?\))?/;
+  const [, field, content, first, often] = text.match(form);
   const line = { field: fieldNames.get(field), content };
   if (content === 'Text') line.rule = first;
   if (content === 'Child') Object.assign(line, { sort: first, often });

@@ -23,11 +23,11 @@ export function loweredTextToTree(text, { module } = {}) {
 
 /**
  * Where a text and a tree part, if they do. Parentheses that the tree hasn't but its text needs are passed over: a
- * lowering makes none, and a parser may leave them out.
+ * lowering makes none, and a parser may leave them out. So are the spans of nodes that have none in the tree.
  */
 export function textDifference(text, tree, options) {
   const textTree = textToTree(text, options);
-  const difference = firstDifference(withoutExtra(textTree, tree), tree);
+  const difference = firstDifference(asIn(tree, textTree), tree);
   if (difference) return difference;
   const extra = parentheses(textTree).length - parentheses(tree).length;
   const needed = parentheses(withNeededParentheses(tree)).length - parentheses(tree).length;
@@ -37,6 +37,12 @@ export function textDifference(text, tree, options) {
 /** Where a printed text and its tree part: what the text needs beyond the tree comes back as nodes. */
 export function printedDifference(text, tree, { module, mayBeInvalid } = {}) {
   return firstDifference(textToTree(text, { module, mayBeInvalid, zero: true }), withoutSpans(withNeededParentheses(tree)));
+}
+
+/** Where the parentheses of a text and those that it needs part. */
+export function neededDifference(text) {
+  const tree = withoutSpans(textToTree(text));
+  return firstDifference(withNeededParentheses(withoutParentheses(tree, () => true)), tree);
 }
 
 /** Where a tree and what comes back of its ESTree part. */
@@ -76,10 +82,11 @@ function withoutParentheses(node, isDropped, kind = 'Program') {
   return mapChildren(node, kind, (child, childKind) => withoutParentheses(child, isDropped, childKind));
 }
 
-/** The left tree without the parentheses that stand where the right one has none. */
-function withoutExtra(left, right) {
-  if (typeof left !== 'object' || left === null) return left;
-  if (Array.isArray(left)) return left.map((item, index) => withoutExtra(item, right?.[index]));
-  if (left.type === 'ParenthesizedExpression' && right?.type !== left.type) return withoutExtra(left.expression, right);
-  return Object.fromEntries(Object.entries(left).map(([field, value]) => [field, withoutExtra(value, right?.[field])]));
+/** A text's tree without the parentheses and spans that the other one hasn't at that place. */
+function asIn(tree, textTree) {
+  if (typeof textTree !== 'object' || textTree === null) return textTree;
+  if (Array.isArray(textTree)) return textTree.map((item, index) => asIn(tree?.[index], item));
+  if (textTree.type === 'ParenthesizedExpression' && tree?.type !== textTree.type) return asIn(tree, textTree.expression);
+  const fields = Object.entries(textTree).map(([field, value]) => [field, asIn(tree?.[field], value)]);
+  return { ...Object.fromEntries(fields), ...(tree?.end === 0 && { start: 0, end: 0 }) };
 }
