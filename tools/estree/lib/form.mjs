@@ -38,9 +38,13 @@ export function withoutSpans(node, kind = 'Program') {
 }
 
 /** The nodes of a tree in node order: the node with id 6 is the one at index 6. */
-export function nodes(node, kind = 'Program') {
-  const found = [node];
-  mapChildren(node, kind, (child, childKind) => { found.push(...nodes(child, childKind)); });
+export function nodes(tree) {
+  const found = [];
+  const visit = (node, kind) => {
+    found.push(node);
+    mapChildren(node, kind, visit);
+  };
+  visit(tree, 'Program');
   return found;
 }
 
