@@ -5,5 +5,3 @@ pub mod construct;
 pub mod core_grammar;
 pub mod count;
 pub mod fields;
-#[cfg(test)]
-mod tests;
