@@ -9,6 +9,4 @@ mod pointer;
 pub mod program;
 pub mod reader;
 mod scalars;
-#[cfg(test)]
-mod tests;
 pub mod writer;
