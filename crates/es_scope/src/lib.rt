@@ -6,12 +6,8 @@ pub mod base;
 pub mod context;
 pub mod context_names;
 pub mod context_nodes;
-#[cfg(test)]
-mod context_tests;
 pub mod flags;
 pub mod names;
 pub mod scoping;
 pub mod scoping_changes;
-#[cfg(test)]
-mod tests;
 pub mod uids;

@@ -52,22 +52,6 @@ impl Scoping {
     ghost use Rattle.es_scope.specs.HoistScopes.{HoistsTo, is_hoist_scope};
     ghost use Rattle.es_scope.specs.Tables.{Finds, binding_in, is_mutated, parent_of, reference_at, reference_count, scope_count, scope_flags_of, symbol_count, symbol_flags_of, symbol_scope_of};
 
-    /// The table of these scopes, symbols and references. The first scope is the program's.
-    pub fn new(scopes: Vec<Scope>, symbols: Vec<Symbol>, references: Vec<Reference>) -> Scoping
-        requires outwards { AreOutwards scopes }
-        requires bound { AreBound scopes symbols }
-        requires rooted { 0 < vec_len scopes }
-        ensures scopes { result.scopes ≡ scopes }
-        ensures symbols { result.symbols ≡ symbols }
-        ensures references { result.references ≡ references }
-    {
-        Scoping {
-            scopes,
-            symbols,
-            references,
-        }
-    }
-
     /// How many scopes there are; their numbers are those below.
     pub fn scope_count(&self) -> usize
         ensures { result ≡ scope_count self.now }

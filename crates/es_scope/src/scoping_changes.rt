@@ -28,7 +28,11 @@ impl Scoping {
             bindings: HashMap::new(alloc),
         };
         let scopes = Vec::from_array(alloc, [root])?;
-        Ok(Scoping::new(scopes, Vec::new(alloc), Vec::new(alloc)))
+        Ok(Scoping {
+            scopes,
+            symbols: Vec::new(alloc),
+            references: Vec::new(alloc),
+        })
     }
 
     /// Adds a scope that binds nothing.
@@ -125,7 +129,7 @@ fn bind(
 }
 
 /// Notes the symbol that a reference writes, if it writes one.
-pub fn mutate(symbols: &mut [Symbol], reference: Reference)
+fn mutate(symbols: &mut [Symbol], reference: Reference)
     ensures { (n : ℕ) → slice_get symbols.new n ≡ option_map (mutated_by (writes_symbol n (plain_reference reference))) (slice_get symbols.old n) }
 {
     if !reference.flags.write {
