@@ -528,32 +528,3 @@ fn copy_of_optional(alloc: Global, text: Option<&str>) -> Result<Option<String>,
         }
     }
 }
-
-#[cfg(test)]
-mod tests {
-    use super::*;
-    use std::test::Fail;
-
-    #[test]
-    fn makes_reads_and_copies(rt: HostRuntime) -> Result<(), Fail> {
-        let made = Kind::new(
-            rt.alloc(),
-            AstType::NumericLiteral,
-            &[Some("0x10"), Some("16")],
-            &[],
-        )?;
-        let copy = made.clone_kind(rt.alloc())?;
-        assert_eq!(rt; copy.text(0), Some("0x10"));
-        assert_eq!(rt; copy.text(1), Some("16"));
-        assert_eq!(rt; copy.text(2), None);
-        let method = Kind::new(
-            rt.alloc(),
-            AstType::ObjectProperty,
-            &[Some("init")],
-            &[true, false, true],
-        )?;
-        assert_eq!(rt; method.text(0), Some("init"));
-        assert!(rt; method.flag(0) && !method.flag(1) && method.flag(2) && !method.flag(3));
-        Ok(())
-    }
-}

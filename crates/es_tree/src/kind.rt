@@ -11,7 +11,7 @@ use crate::operators::{
 
 /// The kind of a node, with all that is no child of it: texts, words, truth values, and the marks
 /// that the tables of scopes write into the tree.
-#[derive(Debug, Drop)]
+#[derive(Drop)]
 pub enum Kind {
     Program {
         source_type: SourceType,

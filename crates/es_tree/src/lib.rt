@@ -21,5 +21,3 @@ pub mod sort_kinds;
 pub mod sorts;
 pub mod statement_fields;
 pub mod table;
-#[cfg(test)]
-mod tests;

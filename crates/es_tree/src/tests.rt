@@ -1,4 +1,0 @@
-//! The options and the plain walks by example.
-
-mod options;
-mod walks;
