@@ -7,7 +7,7 @@ use Rattle.es_tree.specs.Words.{Text}
 use Rattle.es_tree.specs.Fresh.{is_among}
 use Rattle.es_tree.specs.HasForm.{sort_before_trees, has_form, fields_form, field_form, trees_form}
 use Rattle.es_tree.specs.Names.{first_text, is_name_place, is_reexport, own_name, names_if, names_in_fields, names_in_field, names_in_trees, names_of}
-use Rattle.es_tree.specs.StaticRules.{is_crowded_export, has_node}
+use Rattle.es_tree.specs.StaticRules.{breaks, is_crowded_export, has_node}
 use Rattle.es_tree.specs.Tree.{Tree, node, Label, Fields, done, ◌then◌, Field, missing, one, many, statements, Trees, empty, ◌before◌}
 use Rattle.es_tree.specs.Walks.{all_nodes, all_in_fields, all_in_field, all_in_trees}
 use Rattle.es_tree.specs.declared.ast_type.AstType.{AstType}
@@ -26,7 +26,7 @@ use Rattle.es_resolution.specs.Declarations.{first_mark}
 use Rattle.es_resolution.proofs.SymbolTrees.{own_symbols, resolved, resolved_tree, resolved_in, resolved_by, resolved_among}
 use Rattle.es_resolution.specs.Named.{IsUsed, OwnUsed, IsBelow, Named, NamedIn, NamedBy, NamedAll}
 use Rattle.es_resolution.proofs.Basics.{bytes_eq-self}
-use Rattle.es_resolution.specs.Laws.{is_whole_export}
+use Rattle.es_resolution.proofs.WholeExports.{is_whole_export, whole-exports}
 use Rattle.es_resolution.proofs.AllForms.{All, AllIn, AllBy, AllAmong, all-tree}
 use Rattle.es_resolution.proofs.Marks.{marked, role-kept}
 use Rattle.es_resolution.proofs.Starting.{is_below, own-low}
@@ -284,5 +284,5 @@ module _ (F : List Declared) (u : Text → Bool) where
         let whole = and_parts (all_nodes is_whole_export t) (all_in_trees is_whole_export ts) w in
         (named-tree p n true t (λ e. absurd (cc e)) q.0 whole.0 (first_used u (names_if true t) (names_in_trees ts) h), named-all p (n + scope_count_in t) ts q.1 whole.1 (later_used u (names_if true t) (names_in_trees ts) h))
 
-pub form-named : (p : Tree) → has_form s-Program p ≡ true → all_nodes is_whole_export p ≡ true → Named (is_among (names_of p)) (length (symbols_of p)) reads (resolved p)
-form-named p form whole = named-tree (symbols_of p) (is_among (names_of p)) (outermost p) 1 true p (λ e. absurd (cc e)) (all-tree IsSilentExport silent-export s-Program p form) whole (λ x e. e)
+pub form-named : (p : Tree) → has_form s-Program p ≡ true → breaks p ≡ [] → Named (is_among (names_of p)) (length (symbols_of p)) reads (resolved p)
+form-named p form valid = named-tree (symbols_of p) (is_among (names_of p)) (outermost p) 1 true p (λ e. absurd (cc e)) (all-tree IsSilentExport silent-export s-Program p form) (whole-exports p valid) (λ x e. e)

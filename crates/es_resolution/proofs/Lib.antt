@@ -17,5 +17,7 @@ pub mod Singles
 pub mod AllForms
 pub mod Forms
 pub mod Starting
+pub mod WholeExports
 pub mod Exports
 pub mod Sources
+pub mod Examples

@@ -10,13 +10,13 @@ use Rattle.es_tree.specs.Words.{Text}
 use Rattle.es_tree.specs.declared.ast_type.AstType.{AstType}
 use Rattle.es_tree.specs.declared.ast_type.AstType.TheVariants.{Program, Identifier, ClassDeclaration, ClassExpression}
 use Rattle.es_semantic.specs.Places.{Place, outermost, own_scope, own_scope_count, place_in, scope_count_in, scope_count_in_field, visits, visits_in_field}
-use Rattle.es_semantic.specs.ReferencesOf.{identifier_marks, marked_in_field, marked_in_fields, marked_in_trees, marked_tree, own_marks_of, own_reference, references_among}
+use Rattle.es_semantic.specs.ReferencesOf.{identifier_marks, marked_in_field, marked_in_fields, marked_in_trees, marked_program, marked_tree, own_marks_of, own_reference, references_among}
 use Rattle.es_semantic.specs.NodeMarks.{second_mark}
 use Rattle.es_semantic.specs.RolesOf.{reads}
 use Rattle.es_semantic.specs.SymbolsOf.{Declared, symbol_in, symbols_of}
 use Rattle.es_semantic.specs.declared.place.Role.{Role}
 use Rattle.es_semantic.specs.declared.place.Role.TheVariants.{Nothing, Binds}
-use Rattle.es_resolution.specs.Laws.{LawNamed, LawResolved, LawSingle, source}
+use Rattle.es_resolution.specs.Laws.{LawNamed, LawResolved, LawSingle, LawTable, source}
 use Rattle.es_resolution.specs.Named.{Named}
 use Rattle.es_resolution.specs.Resolved.{IsResolved}
 use Rattle.es_resolution.specs.Seen.{name_inside, seen, seen_among, seen_by, seen_in, seen_marks}
@@ -90,6 +90,9 @@ source-resolved p = scope-seen (symbol_in (symbols_of p)) (marked_tree (symbols_
 
 -- THE LAWS
 
+pub law_table_proof : LawTable
+law_table_proof p s h = λ i. seen (λ n x. h.bindings n x i) (marked_program p)
+
 pub law_resolved_proof : LawResolved
 law_resolved_proof p form = subst IsResolved (sym (source-resolved p)) (placed-resolved p (form-placed p form))
 
@@ -97,6 +100,6 @@ pub law_single_proof : LawSingle
 law_single_proof p form = subst IsSingle (sym (source-resolved p)) (placed-single p (form-placed p form))
 
 pub law_named_proof : LawNamed
-law_named_proof p in_use free form whole used low =
+law_named_proof p in_use free form valid used low =
     subst (Named in_use free reads) (sym (source-resolved p))
-    (named-more (is_among (names_of p)) in_use used (length (symbols_of p)) free low reads (resolved p) (form-named p form whole))
+    (named-more (is_among (names_of p)) in_use used (length (symbols_of p)) free low reads (resolved p) (form-named p form valid))

@@ -2,7 +2,12 @@
 //! functions do nothing: their contracts are laws over the definitions.
 #![tactic(auto)]
 
-ghost use Rattle.es_resolution.specs.Laws.{LawNamed, LawResolved, LawSingle};
+ghost use Rattle.es_resolution.specs.Laws.{LawNamed, LawResolved, LawSingle, LawTable};
+
+/// What is seen of a program with the marks of its scope table is the same for whoever has the table.
+pub fn law_table()
+    ensures { LawTable }
+{}
 
 /// A program that has form is resolved, as it is seen with the marks of its scope table.
 pub fn law_resolved()
@@ -14,7 +19,8 @@ pub fn law_single()
     ensures { LawSingle }
 {}
 
-/// The names and symbols that stand in such a program are in use, where those of its scope table are.
+/// The names and symbols that stand in such a program are in use, where the program's names and the symbols of its scope table are,
+/// and it breaks no static rule.
 pub fn law_named()
     ensures { LawNamed }
 {}
