@@ -20,4 +20,5 @@ pub mod Starting
 pub mod WholeExports
 pub mod Exports
 pub mod Sources
+pub mod WrittenSources
 pub mod Examples

@@ -9,7 +9,7 @@ use Rattle.es_tree.specs.Words.{Text}
 use Rattle.es_tree.specs.declared.table.Sort.TheVariants.{Program as s-Program}
 use Rattle.es_scope.specs.Tables.{binding_in}
 use Rattle.es_scope.specs.declared.scoping.Scoping.{Scoping}
-use Rattle.es_semantic.specs.ReferencesOf.{marked_program}
+use Rattle.es_semantic.specs.ReferencesOf.{is_mutated_of, marked_program}
 use Rattle.es_semantic.specs.RolesOf.{reads}
 use Rattle.es_semantic.specs.SymbolsOf.{symbol_in, symbols_of}
 use Rattle.es_semantic.specs.TableOf.{IsTableOf}
@@ -17,6 +17,7 @@ use Rattle.es_resolution.specs.Named.{Named}
 use Rattle.es_resolution.specs.Resolved.{IsResolved}
 use Rattle.es_resolution.specs.Seen.{seen}
 use Rattle.es_resolution.specs.Single.{IsSingle}
+use Rattle.es_resolution.specs.Written.{is_written}
 
 -- the program as a clause sees it, with the marks that `build_scoping` gives it
 abbrev pub source : Tree → Tree
@@ -38,3 +39,7 @@ LawSingle = (p : Tree) → has_form s-Program p ≡ true → IsSingle (source p)
 abbrev pub LawNamed : Type 0
 LawNamed = (p : Tree) (in_use : Text → Bool) (free : ℕ) → has_form s-Program p ≡ true → breaks p ≡ [] →
     ((x : Text) → is_among (names_of p) x ≡ true → in_use x ≡ true) → length (symbols_of p) ≤ free → Named in_use free reads (source p)
+
+-- The table holds a symbol to be written exactly where an identifier writes it: a symbol that isn't is steady.
+abbrev pub LawWritten : Type 0
+LawWritten = (p : Tree) (s : ℕ) → is_mutated_of p s ≡ is_written s reads (source p)

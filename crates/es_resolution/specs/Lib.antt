@@ -2,5 +2,6 @@ pub mod Declarations
 pub mod Resolved
 pub mod Single
 pub mod Named
+pub mod Written
 pub mod Seen
 pub mod Laws
