@@ -11,8 +11,9 @@ use Rattle.es_runs.specs.Open.{nothing_pending}
 use Rattle.es_runs.specs.OpenSteps.{Whole, Ledger, Spot, Steps}
 use Rattle.es_scope.specs.declared.ancestor.Ancestor.{Ancestor}
 use Rattle.es_visit.specs.declared.hook.Hook.{Hook}
+use Rattle.es_visit.specs.Counts.{just}
 use Rattle.es_visit.specs.Changes.{Part, ChangedBy, Changed, ChangedTrees, ChangedProgram, Listed}
-use Rattle.es_visit.specs.Laws.{Profile, AreApart, both_profile, HasNone, IsReady, is_row, Entered, Settled, Placed, MakesNone, Exited, KeepsIds, EnteredList, ExitedList, KeepsAllIds, EnteredParameters, ExitedParameters, EnteredProgram, ExitedProgram, Goes, GoesOut, one_call, most, opens, is_outermost}
+use Rattle.es_visit.specs.Laws.{Profile, AreApart, both_profile, HasNone, IsReady, is_row, Entered, Settled, Placed, MakesNone, Exited, KeepsIds, EnteredList, ExitedList, KeepsAllIds, EnteredParameters, ExitedParameters, EnteredProgram, ExitedProgram, Goes, GoesOut, GoesOutOfList, one_call, most, opens, is_outermost}
 use Rattle.es_visit.specs.Moments.{Moment, Fits, Kept, heft, HasRoom, is_inert, with_lists}
 use Rattle.es_visit.specs.Refusals.{Leads, RefusedBy, RefusedTree, RefusedTrees, RefusedList, RefusedProgram}
 use Rattle.es_visit.specs.Together.{neither}
@@ -271,21 +272,39 @@ most-still m n m' n' h i = most-least m' n' (most m n) (omega (arith, left-most 
 pub most-more : (m n m' n' k : ℕ) → m' ≤ m + k → n' ≤ n + k → most m' n' ≤ most m n + k
 most-more m n m' n' k h i = most-least m' n' (most m n + k) (omega (arith, left-most m n)) (omega (arith, right-most m n))
 
-module _ {X Y Z : Type 0} (first : Z → X) (second : Z → Y) (s : X → EnvOptions → Type 0) (r : Y → EnvOptions → Type 0) (m : X → Hook → ℕ → ℕ) (n : Y → Hook → ℕ → ℕ) (o : EnvOptions) {o' o'' : EnvOptions} (z z' : Z) (e : o' ≡ o) (e' : o'' ≡ o) where
-  pub goes_both : Goes s m o' (first z) (first z') → Goes r n o'' (second z) (second z') → Goes (λ z o. s (first z) o × r (second z) o) (λ z h j. most (m (first z) h j) (n (second z) h j)) o z z'
-  goes_both g h = record {
+module _ {X Y Z : Type 0} (first : Z → X) (second : Z → Y) (s : X → EnvOptions → Type 0) (r : Y → EnvOptions → Type 0) (m : X → Hook → ℕ → ℕ) (n : Y → Hook → ℕ → ℕ) (c : X → Hook → ℕ) (d : Y → Hook → ℕ) (o : EnvOptions) {o' o'' : EnvOptions} (z z' : Z) (e : o' ≡ o) (e' : o'' ≡ o) where
+  abbrev suits_both : Z → EnvOptions → Type 0
+  suits_both z o = s (first z) o × r (second z) o
+
+  abbrev tally_both : Z → Hook → ℕ → ℕ
+  tally_both z h j = most (m (first z) h j) (n (second z) h j)
+
+  abbrev entries_both : Z → Hook → ℕ
+  entries_both z h = most (c (first z) h) (d (second z) h)
+
+  pub goes_both : (hook : Hook) → Goes s m c o' hook (first z) (first z') → Goes r n d o'' hook (second z) (second z') → Goes suits_both tally_both entries_both o hook z z'
+  goes_both hook g h = record {
     suits_still = (subst (λ o. s (first z') o) e g.suits_still, subst (λ o. r (second z') o) e' h.suits_still);
     no_exit = λ w j. most-still _ _ _ _ (g.no_exit w j) (h.no_exit w j);
+    one_entry = λ w. most-more _ _ _ _ (one_call hook 1 w) (g.one_entry w) (h.one_entry w);
   }
 
-  pub goes_out_both : (hook : Hook) {i j k : ℕ} → i ≡ k → j ≡ k → GoesOut s m o' hook i (first z) (first z') → GoesOut r n o'' hook j (second z) (second z') → GoesOut (λ z o. s (first z) o × r (second z) o) (λ z h j. most (m (first z) h j) (n (second z) h j)) o hook k z z'
-  goes_out_both hook {k = k} d d' g h = record {
+  pub goes_out_of_both : GoesOutOfList s m c o' (first z) (first z') → GoesOutOfList r n d o'' (second z) (second z') → GoesOutOfList suits_both tally_both entries_both o z z'
+  goes_out_of_both g h = record {
     suits_still = (subst (λ o. s (first z') o) e g.suits_still, subst (λ o. r (second z') o) e' h.suits_still);
-    one_exit = λ w j. most-more _ _ _ _ (one_call hook k w j) (subst (λ i. m (first z') w j ≤ m (first z) w j + one_call hook i w j) d (g.one_exit w j)) (subst (λ i. n (second z') w j ≤ n (second z) w j + one_call hook i w j) d' (h.one_exit w j));
+    no_exit = λ w j. most-still _ _ _ _ (g.no_exit w j) (h.no_exit w j);
+    no_entry = λ w. most-still _ _ _ _ (g.no_entry w) (h.no_entry w);
+  }
+
+  pub goes_out_both : (hook : Hook) {i j k : ℕ} → i ≡ k → j ≡ k → GoesOut s m c o' hook i (first z) (first z') → GoesOut r n d o'' hook j (second z) (second z') → GoesOut suits_both tally_both entries_both o hook k z z'
+  goes_out_both hook {k = k} p q g h = record {
+    suits_still = (subst (λ o. s (first z') o) e g.suits_still, subst (λ o. r (second z') o) e' h.suits_still);
+    one_exit = λ w j. most-more _ _ _ _ (one_call hook (just k j) w) (subst (λ i. m (first z') w j ≤ m (first z) w j + one_call hook (just i j) w) p (g.one_exit w j)) (subst (λ i. n (second z') w j ≤ n (second z) w j + one_call hook (just i j) w) q (h.one_exit w j));
+    no_entry = λ w. most-still _ _ _ _ (g.no_entry w) (h.no_entry w);
   }
 
 pub ids_both : {t u v : Tree} → KeepsIds t u → KeepsIds u v → KeepsIds t v
-ids_both {t = t} {u = u} {v = v} g h = record { root = h.root ∙ g.root; all = λ f. omega (arith, g.all f, h.all f) }
+ids_both {t = t} {u = u} {v = v} g h = record { root = h.root ∙ g.root; all = λ m. omega (arith, g.all m, h.all m) }
 
 pub all_ids_both : (ts us vs : Trees) → KeepsAllIds ts us → KeepsAllIds us vs → KeepsAllIds ts vs
-all_ids_both ts us vs g h = λ f. omega (arith, g f, h f)
+all_ids_both ts us vs g h = λ m. omega (arith, g m, h m)

@@ -1,6 +1,7 @@
 -- The hooks of a node, one after the other.
 use Rattle.std.proofs.Common.{◌≡◌, ◌∙◌, ◌≤◌, ◌+◌, ◌==◌, ◌||◌, refl, sym, ap, subst, arith, ℕ, Bool, true, false, true≢false, Option, Some, None, inl, inr, List, [], ◌∷◌}
-use Rattle.std.specs.Prelude.{if◌then◌else◌, Result, Ok, Err, IfErr, IsErrAnd}
+use Rattle.std.proofs.lemmas.Bool.{eqb-true}
+use Rattle.std.specs.Prelude.{if◌then◌else◌, nat_le, Result, Ok, Err, IfErr, IsErrAnd}
 use Rattle.std.proofs.lemmas.Option.{none-some}
 use Rattle.es_tree.specs.Bare.{bare}
 use Rattle.es_tree.specs.Tree.{Tree, node, Label, Fields, kind_of, label_of, fields_of}
@@ -23,13 +24,13 @@ use Rattle.es_visit.specs.declared.site.Role.{Role}
 use Rattle.es_visit.specs.declared.site.Role.TheVariants.{Expression as r-Expression, Statement as r-Statement, Nothing}
 use Rattle.es_visit.specs.declared.site.Site.{Site}
 use Rattle.es_visit.specs.Hooks.{sort_of, hook_of_sort, hook_of_kind, hook_number}
-use Rattle.es_visit.specs.Counts.{count_ids, count_ids_in, just}
+use Rattle.es_visit.specs.Counts.{Measure, total, total_in, own_parameters, just, nodes_of, places_of}
 use Rattle.es_visit.specs.Moments.{Moment, Fits, of_program, in_field, in_node}
 use Rattle.es_visit.specs.Changes.{Changed, ChangedFields}
-use Rattle.es_visit.specs.Laws.{Profile, is_row, IsReady, IsStable, IsLawful, Entered, Settled, Placed, Exited, KeepsIds, Goes, one_call}
+use Rattle.es_visit.specs.Laws.{Profile, is_row, IsReady, IsStable, IsLawful, Entered, Settled, Placed, Exited, KeepsIds, one_call}
 use Rattle.es_visit.specs.Refusals.{RefusedTree}
 use Rattle.es_visit.specs.Sites.{role_at}
-use Rattle.es_visit.specs.Visits.{Visited, VisitedFields, EnteredSort, EnteredKind, EnteredNode, Counted, kind_call, GoesOutByKind, GoesOutBySort, GoesOutAtBody}
+use Rattle.es_visit.specs.Visits.{Visited, VisitedFields, EnteredSort, EnteredKind, EnteredNode, Counted, kind_call, GoesByKind, GoesBySort, GoesAtBody, GoesIn, GoesOutByKind, GoesOutBySort, GoesOutAtBody, GoesOutOfNode}
 use Rattle.es_visit.proofs.Changes.{changed_none, changed_then}
 use Rattle.es_visit.proofs.Reach.{changed_node}
 use Rattle.es_visit.proofs.Refused.{refused_after}
@@ -174,11 +175,12 @@ pub changed_inside : (p : EnvOptions → Profile) {a b c : Moment} (k : AstType)
 changed_inside p {b = b} {c = c} k l fs gs t e f =
     changed_then Fits e.changed (changed_node k l fs gs (subst (λ o. ChangedFields (p o).rule k b fs c gs) e.changed.kept.options f.changed))
 
-pub node_counted : {X : Type 0} {suits : X → EnvOptions → Type 0} {tally : X → Hook → ℕ → ℕ} {o o' o'' : EnvOptions} {x y z w : X} (k : AstType) (l : Label) (gs : Fields) (v : Tree) → o' ≡ o → o'' ≡ o' →
-    Goes suits tally o x y → Counted suits tally o' y z (λ f. count_ids_in f gs) → Counted suits tally o'' z w (λ f. f l.id) → KeepsIds (node k l gs) v → Counted suits tally o x w (λ f. count_ids f v)
+pub node_counted : {X : Type 0} {suits : X → EnvOptions → Type 0} {tally : X → Hook → ℕ → ℕ} {entries : X → Hook → ℕ} {o o' o'' : EnvOptions} {x y z w : X} (k : AstType) (l : Label) (gs : Fields) (v : Tree) → o' ≡ o → o'' ≡ o' →
+    GoesIn suits tally entries o x y → Counted suits tally entries o' y z (λ m. own_parameters m.parameters k + total_in m gs) → GoesOutOfNode suits tally entries o'' l.id z w → KeepsIds (node k l gs) v → Counted suits tally entries o x w (λ m. total m v)
 node_counted {suits = suits} {w = w} k l gs v e f a b c ids = record {
   suits_still = subst (λ u. suits w u) (f ∙ e) c.suits_still;
-  calls = λ h j. omega (arith, a.no_exit h j, b.calls h j, c.calls h j, ids.all (just j));
+  exits = λ h j. omega (arith, a.no_exit h j, b.exits h j, c.exits h j, ids.all (nodes_of j));
+  enters = λ h. omega (arith, a.enters h l.id, b.enters h, c.no_entry h, ids.all (places_of h));
 }
 
 module _ (p : EnvOptions → Profile) {a b c d : Moment} where
@@ -256,95 +258,109 @@ passes_on (Err x) e Q h q = subst Q (sym h) q
 pub moved : {A B : Type 0} (F : A → B → Type 0) {x y : A} {z w : B} → x ≡ y → z ≡ w → F y w → F x z
 moved F {x = x} {y = y} {w = w} e f h = subst (λ v. F x v) (sym f) (subst (λ u. F u w) (sym e) h)
 
--- EXIT HOOKS
+-- THE HOOKS OF A NODE ARE THREE
 
-never_expression : (k : AstType) (i j : ℕ) → kind_call (hook_of_kind k) i Expression j ≡ 0
-never_expression FunctionDeclaration i j = refl
-never_expression FunctionExpression i j = refl
-never_expression FunctionBody i j = refl
-never_expression ArrowFunctionExpression i j = refl
-never_expression StaticBlock i j = refl
-never_expression VariableDeclaration i j = refl
-never_expression CatchClause i j = refl
-never_expression TryStatement i j = refl
-never_expression ForInStatement i j = refl
-never_expression ForOfStatement i j = refl
-never_expression BigIntLiteral i j = refl
-never_expression ImportSpecifier i j = refl
-never_expression ExportSpecifier i j = refl
-never_expression ExportAllDeclaration i j = refl
-never_expression _ i j = refl
+-- whether the hook of this number is that of a kind
+abbrev numbers_kind : ℕ → Bool
+numbers_kind n = if n == 4 then true else if n == 5 then true else if n == 7 then true else nat_le 9 n
 
-never_statement : (k : AstType) (i j : ℕ) → kind_call (hook_of_kind k) i Statement j ≡ 0
-never_statement FunctionDeclaration i j = refl
-never_statement FunctionExpression i j = refl
-never_statement FunctionBody i j = refl
-never_statement ArrowFunctionExpression i j = refl
-never_statement StaticBlock i j = refl
-never_statement VariableDeclaration i j = refl
-never_statement CatchClause i j = refl
-never_statement TryStatement i j = refl
-never_statement ForInStatement i j = refl
-never_statement ForOfStatement i j = refl
-never_statement BigIntLiteral i j = refl
-never_statement ImportSpecifier i j = refl
-never_statement ExportSpecifier i j = refl
-never_statement ExportAllDeclaration i j = refl
-never_statement _ i j = refl
+numbered : (h : Hook) → numbers_kind (hook_number h) ≡ is_of_kind h
+numbered Program = refl
+numbered _ = refl
 
-never_body : (k : AstType) (i j : ℕ) → kind_call (hook_of_kind k) i ArrowFunctionBody j ≡ 0
-never_body FunctionDeclaration i j = refl
-never_body FunctionExpression i j = refl
-never_body FunctionBody i j = refl
-never_body ArrowFunctionExpression i j = refl
-never_body StaticBlock i j = refl
-never_body VariableDeclaration i j = refl
-never_body CatchClause i j = refl
-never_body TryStatement i j = refl
-never_body ForInStatement i j = refl
-never_body ForOfStatement i j = refl
-never_body BigIntLiteral i j = refl
-never_body ImportSpecifier i j = refl
-never_body ExportSpecifier i j = refl
-never_body ExportAllDeclaration i j = refl
-never_body _ i j = refl
+call_apart : (b : Bool) (n : ℕ) → b ≡ false → (if b then n else 0) ≡ 0
+call_apart true n e = absurd (true≢false e)
+call_apart false n e = refl
+
+apart : (g h : Hook) → is_of_kind g ≡ true → is_of_kind h ≡ false → (hook_number g == hook_number h) ≡ false
+apart g h e f = by (hook_number g == hook_number h) refl where
+  by : (b : Bool) → (hook_number g == hook_number h) ≡ b → b ≡ false
+  by true m = absurd (true≢false (sym e ∙ sym (numbered g) ∙ ap numbers_kind (eqb-true (hook_number g) (hook_number h) m) ∙ numbered h ∙ f))
+  by false m = refl
+
+-- a hook that is of no kind is not that of this kind
+never : (k : AstType) (n : ℕ) (h : Hook) → is_of_kind h ≡ false → kind_call (hook_of_kind k) n h ≡ 0
+never k n h f = by (hook_of_kind k) (always_of_kind k) where
+  by : (o : Option Hook) → hook_is_of_kind o ≡ true → kind_call o n h ≡ 0
+  by None e = refl
+  by (Some g) e = call_apart (hook_number g == hook_number h) n (apart g h e f)
 
 pub at_most : (b : Bool) (n : ℕ) → (if b then n else 0) ≤ n
 at_most true n = omega arith
 at_most false n = omega arith
 
-kind_once : (o : Option Hook) (i : ℕ) (h : Hook) (j : ℕ) → kind_call o i h j ≤ just i j
-kind_once None i h j = omega arith
-kind_once (Some g) i h j = at_most (hook_number g == hook_number h) (just i j)
+kind_once : (o : Option Hook) (n : ℕ) (h : Hook) → kind_call o n h ≤ n
+kind_once None n h = omega arith
+kind_once (Some g) n h = at_most (hook_number g == hook_number h) n
 
-one_of_all : (k : AstType) (i j : ℕ) (h : Hook) → kind_call (hook_of_kind k) i h j + (one_call Expression i h j + one_call Statement i h j) + one_call ArrowFunctionBody i h j ≤ just i j
-one_of_all k i j Expression = omega (arith, never_expression k i j)
-one_of_all k i j Statement = omega (arith, never_statement k i j)
-one_of_all k i j ArrowFunctionBody = omega (arith, never_body k i j)
-one_of_all k i j h = omega (arith, kind_once (hook_of_kind k) i h j)
+-- so much, but for the hooks of lists
+abbrev at_node : ℕ → Hook → ℕ
+at_node n Statements = 0
+at_node n FormalParameters = 0
+at_node n h = n
+
+one_of_all : (k : AstType) (n : ℕ) (h : Hook) → kind_call (hook_of_kind k) n h + (one_call Expression n h + one_call Statement n h) + one_call ArrowFunctionBody n h ≤ at_node n h
+one_of_all k n Expression = omega (arith, never k n Expression refl)
+one_of_all k n Statement = omega (arith, never k n Statement refl)
+one_of_all k n ArrowFunctionBody = omega (arith, never k n ArrowFunctionBody refl)
+one_of_all k n Statements = omega (arith, never k n Statements refl)
+one_of_all k n FormalParameters = omega (arith, never k n FormalParameters refl)
+one_of_all k n h = omega (arith, kind_once (hook_of_kind k) n h)
+
+at_node-most : (n : ℕ) (h : Hook) → at_node n h ≤ n
+at_node-most n Program = omega arith
+at_node-most n h = omega arith
+
+at_node-places : (h : Hook) (i : ℕ) → at_node 1 h ≡ (places_of h).node i
+at_node-places Program i = refl
+at_node-places _ i = refl
 
 pub just_either : (i j : ℕ) → just i j ≡ just j i
 just_either i j = grind arith
 
-module _ {X : Type 0} {suits : X → EnvOptions → Type 0} {tally : X → Hook → ℕ → ℕ} {o : EnvOptions} where
-  by_sort : {i : ℕ} {y z : X} → GoesOutBySort suits tally o i y z → (h : Hook) (j : ℕ) → tally z h j ≤ tally y h j + (one_call Expression i h j + one_call Statement i h j)
-  by_sort {i = i} {y = y} {z = z} g h j = elim g.one_exit as (λ _. tally z h j ≤ tally y h j + (one_call Expression i h j + one_call Statement i h j)) [
+module _ {X : Type 0} {suits : X → EnvOptions → Type 0} {tally : X → Hook → ℕ → ℕ} {entries : X → Hook → ℕ} where
+  by_sort : {o : EnvOptions} {i : ℕ} {y z : X} → GoesOutBySort suits tally entries o i y z → (h : Hook) (j : ℕ) → tally z h j ≤ tally y h j + (one_call Expression (just i j) h + one_call Statement (just i j) h)
+  by_sort {i = i} {y = y} {z = z} g h j = elim g.one_exit as (λ _. tally z h j ≤ tally y h j + (one_call Expression (just i j) h + one_call Statement (just i j) h)) [
     | inl none ↦ omega (arith, none h j)
-    | inr once ↦ elim once as (λ _. tally z h j ≤ tally y h j + (one_call Expression i h j + one_call Statement i h j)) [ inl e ↦ omega (arith, e h j) | inr s ↦ omega (arith, s h j) ]
+    | inr once ↦ elim once as (λ _. tally z h j ≤ tally y h j + (one_call Expression (just i j) h + one_call Statement (just i j) h)) [ inl e ↦ omega (arith, e h j) | inr s ↦ omega (arith, s h j) ]
   ]
 
-  at_body : {i : ℕ} {y z : X} → GoesOutAtBody suits tally o i y z → (h : Hook) (j : ℕ) → tally z h j ≤ tally y h j + one_call ArrowFunctionBody i h j
-  at_body {i = i} {y = y} {z = z} g h j = elim g.one_exit as (λ _. tally z h j ≤ tally y h j + one_call ArrowFunctionBody i h j) [ inl none ↦ omega (arith, none h j) | inr once ↦ omega (arith, once h j) ]
+  at_body : {o : EnvOptions} {i : ℕ} {y z : X} → GoesOutAtBody suits tally entries o i y z → (h : Hook) (j : ℕ) → tally z h j ≤ tally y h j + one_call ArrowFunctionBody (just i j) h
+  at_body {i = i} {y = y} {z = z} g h j = elim g.one_exit as (λ _. tally z h j ≤ tally y h j + one_call ArrowFunctionBody (just i j) h) [ inl none ↦ omega (arith, none h j) | inr once ↦ omega (arith, once h j) ]
 
-  -- the three exit hooks of a node are three hooks
-  pub exits_once : (k : AstType) {i : ℕ} {x y z w : X} → GoesOutByKind suits tally o k i x y → GoesOutBySort suits tally o i y z → GoesOutAtBody suits tally o i z w → Counted suits tally o x w (λ f. f i)
-  exits_once k {i = i} a b c = record {
-    suits_still = c.suits_still;
-    calls = λ h j. omega (arith, a.one_exit h j, by_sort b h j, at_body c h j, one_of_all k i j h, just_either i j);
+  in_by_sort : {o : EnvOptions} {y z : X} → GoesBySort suits tally entries o y z → (h : Hook) → entries z h ≤ entries y h + (one_call Expression 1 h + one_call Statement 1 h)
+  in_by_sort {y = y} {z = z} g h = elim g.one_entry as (λ _. entries z h ≤ entries y h + (one_call Expression 1 h + one_call Statement 1 h)) [
+    | inl none ↦ omega (arith, none h)
+    | inr once ↦ elim once as (λ _. entries z h ≤ entries y h + (one_call Expression 1 h + one_call Statement 1 h)) [ inl e ↦ omega (arith, e h) | inr s ↦ omega (arith, s h) ]
+  ]
+
+  in_at_body : {o : EnvOptions} {y z : X} → GoesAtBody suits tally entries o y z → (h : Hook) → entries z h ≤ entries y h + one_call ArrowFunctionBody 1 h
+  in_at_body {y = y} {z = z} g h = elim g.one_entry as (λ _. entries z h ≤ entries y h + one_call ArrowFunctionBody 1 h) [ inl none ↦ omega (arith, none h) | inr once ↦ omega (arith, once h) ]
+
+  -- the enter hooks of a node: of its place, its sort and its kind
+  pub enters_once : {o o' o'' : EnvOptions} (k : AstType) {x y z w : X} → o' ≡ o → o'' ≡ o' → GoesAtBody suits tally entries o x y → GoesBySort suits tally entries o' y z → GoesByKind suits tally entries o'' k z w → GoesIn suits tally entries o x w
+  enters_once k {w = w} e f a b c = record {
+    suits_still = subst (λ u. suits w u) (f ∙ e) c.suits_still;
+    no_exit = λ h j. omega (arith, a.no_exit h j, b.no_exit h j, c.no_exit h j);
+    enters = λ h i. omega (arith, in_at_body a h, in_by_sort b h, c.one_entry h, one_of_all k 1 h, at_node-places h i);
   }
 
-pub exits_after : {X : Type 0} {suits : X → EnvOptions → Type 0} {tally : X → Hook → ℕ → ℕ} {o o' o'' : EnvOptions} (k : AstType) {i i' i'' : ℕ} {x y z w : X} → o' ≡ o → o'' ≡ o' → i' ≡ i → i'' ≡ i' →
-    GoesOutByKind suits tally o k i x y → GoesOutBySort suits tally o' i' y z → GoesOutAtBody suits tally o'' i'' z w → Counted suits tally o x w (λ f. f i)
-exits_after {suits = suits} {tally = tally} {o = o} {o' = o'} {o'' = o''} k {i = i} {i' = i'} {i'' = i''} {y = y} {z = z} {w = w} e f q r a b c =
-    exits_once k a (subst (λ n. GoesOutBySort suits tally o n y z) q (subst (λ u. GoesOutBySort suits tally u i' y z) e b))
-    (subst (λ n. GoesOutAtBody suits tally o n z w) (r ∙ q) (subst (λ u. GoesOutAtBody suits tally u i'' z w) (f ∙ e) c))
+  -- its exit hooks, in the other order
+  pub exits_once : {o o' o'' : EnvOptions} (k : AstType) {i i' i'' : ℕ} {x y z w : X} → o' ≡ o → o'' ≡ o' → i' ≡ i → i'' ≡ i' → GoesOutByKind suits tally entries o k i x y → GoesOutBySort suits tally entries o' i' y z → GoesOutAtBody suits tally entries o'' i'' z w →
+      GoesOutOfNode suits tally entries o i x w
+  exits_once {o = o} {o' = o'} {o'' = o''} k {i = i} {i' = i'} {i'' = i''} {y = y} {z = z} {w = w} e f q r a b' c' =
+      let b : GoesOutBySort suits tally entries o' i y z = subst (λ n. GoesOutBySort suits tally entries o' n y z) q b' in
+      let c : GoesOutAtBody suits tally entries o'' i z w = subst (λ n. GoesOutAtBody suits tally entries o'' n z w) (r ∙ q) c' in
+      record {
+        suits_still = subst (λ u. suits w u) (f ∙ e) c.suits_still;
+        exits = λ h j. omega (arith, a.one_exit h j, by_sort b h j, at_body c h j, one_of_all k (just i j) h, at_node-most (just i j) h, just_either i j);
+        no_entry = λ h. omega (arith, a.no_entry h, b.no_entry h, c.no_entry h);
+      }
+
+  -- with a greater sum as well
+  pub counted_within : {o o' : EnvOptions} {x y : X} {sum more : Measure → ℕ} → o ≡ o' → ((m : Measure) → sum m ≤ more m) → Counted suits tally entries o x y sum → Counted suits tally entries o' x y more
+  counted_within {y = y} e g c = record {
+    suits_still = subst (λ u. suits y u) e c.suits_still;
+    exits = λ h j. omega (arith, c.exits h j, g (nodes_of j));
+    enters = λ h. omega (arith, c.enters h, g (places_of h));
+  }

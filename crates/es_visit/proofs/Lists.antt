@@ -1,7 +1,7 @@
 -- Lists of parameters and statement lists, between the hooks of the list.
 use Rattle.std.specs.Prelude.{not, cond}
 use Rattle.es_runs.specs.Open.{nothing_pending}
-use Rattle.std.proofs.Common.{◌∷◌, ◌&&◌, ◌≡◌, ◌∙◌, ◌<◌, refl, sym, subst, arith, ℕ, length, Bool, true, false}
+use Rattle.std.proofs.Common.{◌∷◌, ◌&&◌, ◌≡◌, ◌∙◌, ◌<◌, ◌≤◌, ◌+◌, refl, sym, subst, arith, ℕ, length, Bool, true, false}
 use Rattle.es_tree.specs.Tree.{Trees, statements}
 use Rattle.es_tree.specs.declared.error.LowerError.{LowerError}
 use Rattle.es_tree.specs.declared.options.EnvOptions.{EnvOptions}
@@ -9,10 +9,11 @@ use Rattle.es_runs.specs.Alike.{Need}
 use Rattle.es_runs.specs.OpenSteps.{Ledger, Spot}
 use Rattle.es_runs.specs.Weights.{trees_weight}
 use Rattle.es_visit.specs.declared.hook.Hook.{Hook}
-use Rattle.es_visit.specs.Counts.{count_ids_among, just}
+use Rattle.es_visit.specs.declared.hook.Hook.TheVariants.{Statements as StatementList, FormalParameters}
+use Rattle.es_visit.specs.Counts.{Measure, total_among, nodes_of, places_of}
 use Rattle.es_visit.specs.Moments.{Moment, Fits, heft, is_inert, with_lists}
 use Rattle.es_visit.specs.Changes.{ChangedTrees, Listed}
-use Rattle.es_visit.specs.Laws.{Profile, IsReady, IsLawful, is_outermost, opens, EnteredList, ExitedList, EnteredParameters, ExitedParameters, Goes, KeepsAllIds}
+use Rattle.es_visit.specs.Laws.{Profile, IsReady, IsLawful, is_outermost, opens, EnteredList, ExitedList, EnteredParameters, ExitedParameters, Goes, GoesOutOfList, KeepsAllIds, one_call}
 use Rattle.es_visit.specs.Refusals.{RefusedTrees, RefusedList}
 use Rattle.es_visit.specs.Visits.{VisitedTrees, VisitedField, Counted}
 use Rattle.es_visit.proofs.Changes.{changed_then, listed_trans}
@@ -79,9 +80,26 @@ opens_inert keeps a = at (keeps && not (is_outermost a.around)) where
   at true = refl
   at false = refl
 
-pub list_counted : {X : Type 0} {suits : X → EnvOptions → Type 0} {tally : X → Hook → ℕ → ℕ} {o o' o'' : EnvOptions} {x y z w : X} (us ws : Trees) → o' ≡ o → o'' ≡ o' →
-    Goes suits tally o x y → Counted suits tally o' y z (λ f. count_ids_among f us) → Goes suits tally o'' z w → KeepsAllIds us ws → Counted suits tally o x w (λ f. count_ids_among f ws)
-list_counted {suits = suits} {w = w} us ws e f a c b k = record {
-  suits_still = subst (λ u. suits w u) (f ∙ e) b.suits_still;
-  calls = λ h j. omega (arith, a.no_exit h j, c.calls h j, b.no_exit h j, k (just j));
-}
+-- the hook of the list itself
+statements_once : (h : Hook) → one_call StatementList 1 h ≤ (places_of h).list
+statements_once StatementList = omega arith
+statements_once h = omega arith
+
+parameters_once : (h : Hook) → one_call FormalParameters 1 h ≤ (places_of h).parameters
+parameters_once FormalParameters = omega arith
+parameters_once h = omega arith
+
+module _ {X : Type 0} {suits : X → EnvOptions → Type 0} {tally : X → Hook → ℕ → ℕ} {entries : X → Hook → ℕ} {o o' o'' : EnvOptions} {x y z w : X} (us ws : Trees) (e : o' ≡ o) (f : o'' ≡ o') where
+  between_hooks : (hook : Hook) (own : Measure → ℕ) → ((h : Hook) → one_call hook 1 h ≤ own (places_of h)) → Goes suits tally entries o hook x y → Counted suits tally entries o' y z (λ m. total_among m us) → GoesOutOfList suits tally entries o'' z w → KeepsAllIds us ws →
+      Counted suits tally entries o x w (λ m. own m + total_among m ws)
+  between_hooks hook own once a c b k = record {
+    suits_still = subst (λ u. suits w u) (f ∙ e) b.suits_still;
+    exits = λ h j. omega (arith, a.no_exit h j, c.exits h j, b.no_exit h j, k (nodes_of j));
+    enters = λ h. omega (arith, a.one_entry h, c.enters h, b.no_entry h, k (places_of h), once h);
+  }
+
+  pub statements_counted : Goes suits tally entries o StatementList x y → Counted suits tally entries o' y z (λ m. total_among m us) → GoesOutOfList suits tally entries o'' z w → KeepsAllIds us ws → Counted suits tally entries o x w (λ m. m.list + total_among m ws)
+  statements_counted = between_hooks StatementList (λ m. m.list) statements_once
+
+  pub parameters_counted : Goes suits tally entries o FormalParameters x y → Counted suits tally entries o' y z (λ m. total_among m us) → GoesOutOfList suits tally entries o'' z w → KeepsAllIds us ws → Counted suits tally entries o x w (λ m. m.parameters + total_among m ws)
+  parameters_counted = between_hooks FormalParameters (λ m. m.parameters) parameters_once

@@ -1,10 +1,9 @@
 -- A hook that changes nothing keeps its promise, where the type has no construct that it removes.
-use Rattle.std.proofs.Common.{◌≡◌, ℕ, Bool, true, false, refl, sym, arith, inl, true≢false}
+use Rattle.std.proofs.Common.{◌≡◌, Bool, true, false, refl, sym, arith, inl, true≢false}
 use Rattle.es_tree.specs.Tree.{Tree, Trees, kind_of, label_of, fields_of}
-use Rattle.es_tree.specs.declared.options.EnvOptions.{EnvOptions}
 use Rattle.es_statements.specs.declared.program.Program.{Program}
 use Rattle.es_visit.specs.declared.hook.Hook.{Hook}
-use Rattle.es_visit.specs.Laws.{Profile, HasNone, Entered, Settled, Placed, Exited, KeepsIds, EnteredList, ExitedList, KeepsAllIds, EnteredParameters, ExitedParameters, EnteredProgram, ExitedProgram, Goes, GoesOut}
+use Rattle.es_visit.specs.Laws.{Profile, HasNone, Entered, Settled, Placed, Exited, KeepsIds, EnteredList, ExitedList, KeepsAllIds, EnteredParameters, ExitedParameters, EnteredProgram, ExitedProgram}
 use Rattle.es_visit.specs.Moments.{Moment}
 use Rattle.es_visit.proofs.Changes.{changed_none, listed_none, program_none}
 
@@ -43,14 +42,7 @@ module _ (p : Profile) where
   exited_program_none false e a x = record { changed = program_none _ _; directives = refl; none = λ test f h. h; hooks = omega arith; finished = λ k. absurd (true≢false (sym k)) }
 
 pub ids_none : (t : Tree) → KeepsIds t t
-ids_none t = record { root = refl; all = λ f. omega arith }
+ids_none t = record { root = refl; all = λ m. omega arith }
 
 pub all_ids_none : (ts : Trees) → KeepsAllIds ts ts
-all_ids_none ts = λ f. omega arith
-
-module _ {X : Type 0} (suits : X → EnvOptions → Type 0) (tally : X → Hook → ℕ → ℕ) where
-  pub goes_none : (o : EnvOptions) (x : X) → suits x o → Goes suits tally o x x
-  goes_none o x s = record { suits_still = s; no_exit = λ h j. omega arith }
-
-  pub goes_out_none : (o : EnvOptions) (hook : Hook) (id : ℕ) (x : X) → suits x o → GoesOut suits tally o hook id x x
-  goes_out_none o hook id x s = record { suits_still = s; one_exit = λ h j. omega arith }
+all_ids_none ts = λ m. omega arith

@@ -19,7 +19,7 @@ use Rattle.es_visit.specs.Moments.{Moment, Pendings, moment, inside_of, heft, is
 use Rattle.es_visit.specs.Changes.{Changed, ChangedFields, ChangedField, ChangedTrees}
 use Rattle.es_visit.specs.Laws.{Profile, IsReady}
 use Rattle.es_visit.specs.Refusals.{RefusedFields, RefusedField, RefusedTree, RefusedTrees}
-use Rattle.es_visit.specs.Visits.{VisitedField, Visited, Counted}
+use Rattle.es_visit.specs.Visits.{VisitedField, Visited}
 use Rattle.es_visit.proofs.Changes.{changed_then}
 use Rattle.es_visit.proofs.Reach.{changed_fields, changed_trees}
 use Rattle.es_visit.proofs.Refused.{refused_after, refused_fields, refused_trees}
@@ -138,6 +138,3 @@ module _ (P : EnvOptions → Profile) {a b : Moment} (first items : List Tree) (
     room = omega (arith, r.room, lighter_tree l g);
     inert = g.kept.inert r.inert;
   }
-
-pub counted_at : {X : Type 0} {suits : X → EnvOptions → Type 0} {tally : X → Hook → ℕ → ℕ} {o o' : EnvOptions} {x y : X} {count : (ℕ → ℕ) → ℕ} → o ≡ o' → Counted suits tally o x y count → Counted suits tally o' x y count
-counted_at {suits = suits} {tally = tally} {x = x} {y = y} {count = count} e h = subst (λ u. Counted suits tally u x y count) e h

@@ -1,5 +1,5 @@
 -- A program, whose own list has its pair from the start.
-use Rattle.std.proofs.Common.{◌≡◌, ◌∙◌, ◌≤◌, ◌==◌, ◌&&◌, ◌∷◌, [], refl, sym, ap, subst, arith, ℕ, List, Bool, true, false, inl, inr}
+use Rattle.std.proofs.Common.{◌≡◌, ◌∙◌, ◌≤◌, ◌+◌, ◌==◌, ◌&&◌, ◌∷◌, [], refl, sym, ap, subst, arith, ℕ, List, Bool, true, false, inl, inr}
 use Rattle.std.specs.Prelude.{not, cond}
 use Rattle.es_tree.specs.Bare.{bare_label}
 use Rattle.es_tree.specs.Tree.{Trees, trees, label_of}
@@ -10,7 +10,7 @@ use Rattle.es_tree.specs.declared.options.EnvOptions.{EnvOptions}
 use Rattle.es_statements.specs.ProgramPlain.{plain_program}
 use Rattle.es_statements.specs.declared.program.Program.{Program}
 use Rattle.es_runs.specs.Alike.{Need, needs, all_of_it}
-use Rattle.es_runs.specs.Open.{Pending, nothing_pending, open_node, ends, ◌and◌, OpenField, children, list, opened_trees}
+use Rattle.es_runs.specs.Open.{nothing_pending, open_node, ends, ◌and◌, OpenField, children, list, opened_trees}
 use Rattle.es_runs.specs.OpenSteps.{Whole, whole_in, Ledger, ledger, Spot, Step, inside, in_first, in_later, Steps}
 use Rattle.es_runs.specs.Weights.{weight, trees_weight}
 use Rattle.es_runs.proofs.Weights.{trees_weight-bare, trees_size-bare}
@@ -22,7 +22,7 @@ use Rattle.es_visit.specs.Changes.{Listed, ChangedProgram, open_program}
 use Rattle.es_visit.specs.Laws.{Profile, IsReady, Goes, GoesOut, KeepsIds, one_call, IsLawful, is_outermost, opens, EnteredList, ExitedList, EnteredProgram, ExitedProgram, body_of, directives_of}
 use Rattle.es_visit.specs.Refusals.{SomeNode, SomeInField, RefusedList, RefusedProgram}
 use Rattle.es_visit.specs.Visits.{Counted, VisitedTrees, VisitedProgram}
-use Rattle.es_visit.specs.Counts.{count_ids, count_ids_among, just}
+use Rattle.es_visit.specs.Counts.{total, total_among, just, nodes_of, places_of}
 use Rattle.es_visit.specs.Hooks.{hook_number}
 use Rattle.es_visit.specs.declared.hook.Hook.TheVariants.{Program as WholeProgram}
 use Rattle.es_visit.proofs.Entering.{at_most, just_either}
@@ -140,13 +140,18 @@ program_ready {suits = suits} R u v x y s h r = record {
   inert = s.kept.inert r.inert;
 }
 
-one_program : (i : ℕ) (h : Hook) (j : ℕ) → one_call WholeProgram i h j ≤ just i j
-one_program i h j = at_most (hook_number WholeProgram == hook_number h) (just i j)
+program_once : (h : Hook) (i : ℕ) → one_call WholeProgram 1 h ≤ (places_of h).node i
+program_once WholeProgram i = omega arith
+program_once h i = omega arith
+
+program_exits : (i : ℕ) (h : Hook) (j : ℕ) → one_call WholeProgram (just i j) h ≤ just i j
+program_exits i h j = at_most (hook_number WholeProgram == hook_number h) (just i j)
 
 -- the nodes of the statements, and the program's own hook
-pub whole_counted : {X : Type 0} {suits : X → EnvOptions → Type 0} {tally : X → Hook → ℕ → ℕ} {o o' o'' : EnvOptions} {x y z w : X} (p q : Program) → o' ≡ o → o'' ≡ o' →
-    Goes suits tally o x y → Counted suits tally o' y z (λ f. count_ids_among f (trees p.body.items)) → GoesOut suits tally o'' WholeProgram p.id.0 z w → KeepsIds (plain_program p) (plain_program q) → Counted suits tally o x w (λ f. count_ids f (plain_program q))
+pub whole_counted : {X : Type 0} {suits : X → EnvOptions → Type 0} {tally : X → Hook → ℕ → ℕ} {entries : X → Hook → ℕ} {o o' o'' : EnvOptions} {x y z w : X} (p q : Program) → o' ≡ o → o'' ≡ o' →
+    Goes suits tally entries o WholeProgram x y → Counted suits tally entries o' y z (λ m. m.list + total_among m (trees p.body.items)) → GoesOut suits tally entries o'' WholeProgram p.id.0 z w → KeepsIds (plain_program p) (plain_program q) → Counted suits tally entries o x w (λ m. total m (plain_program q))
 whole_counted {suits = suits} {w = w} p q e f a c b k = record {
   suits_still = subst (λ u. suits w u) (f ∙ e) b.suits_still;
-  calls = λ h j. omega (arith, a.no_exit h j, c.calls h j, b.one_exit h j, one_program p.id.0 h j, just_either p.id.0 j, k.all (just j));
+  exits = λ h j. omega (arith, a.no_exit h j, c.exits h j, b.one_exit h j, program_exits p.id.0 h j, just_either p.id.0 j, k.all (nodes_of j));
+  enters = λ h. omega (arith, a.one_entry h, c.enters h, b.no_entry h, program_once h p.id.0, k.all (places_of h));
 }

@@ -15,7 +15,7 @@ use Rattle.es_statements.specs.ProgramPlain.{plain_program}
 use Rattle.es_statements.specs.declared.program.Program.{Program}
 use Rattle.es_visit.specs.declared.hook.Hook.{Hook}
 use Rattle.es_visit.specs.Hooks.{hook_of_sort, sort_of, hook_number, IsHooked}
-use Rattle.es_visit.specs.Counts.{count_ids, count_ids_among, just, hooks_in, hooks_in_trees}
+use Rattle.es_visit.specs.Counts.{Measure, total, total_among, just, hooks_in, hooks_in_trees}
 use Rattle.es_visit.specs.Moments.{Moment, with_lists, HasRoom, is_inert, IsFinished}
 use Rattle.es_visit.specs.Changes.{Changed, ChangedTrees, ChangedProgram, Listed}
 
@@ -89,10 +89,10 @@ pub record Exited (profile : Profile) (a : Moment) (t : Tree) (b : Moment) (u : 
   pub none : MakesNone profile.writes t u
   pub hooks : hooks_in t ≤ hooks_in u
 
--- the node keeps its id, and no node below it is taken away
+-- the node keeps its id, and no node, statement list or list of parameters is taken away
 pub record KeepsIds (t u : Tree) : Type 0 where
   pub root : (label_of u).id ≡ (label_of t).id
-  pub all : (f : ℕ → ℕ) → count_ids f t ≤ count_ids f u
+  pub all : (m : Measure) → total m t ≤ total m u
 
 -- HOOKS ON LISTS
 
@@ -117,7 +117,7 @@ pub record ExitedList (profile : Profile) (keeps : Bool) (a : Moment) (ts : Tree
   pub hooks : hooks_in_trees ts ≤ hooks_in_trees us
 
 abbrev pub KeepsAllIds : Trees → Trees → Type 0
-KeepsAllIds ts us = (f : ℕ → ℕ) → count_ids_among f ts ≤ count_ids_among f us
+KeepsAllIds ts us = (m : Measure) → total_among m ts ≤ total_among m us
 
 -- before and after the parameters of a function
 pub record EnteredParameters (profile : Profile) (a : Moment) (ts : Trees) (b : Moment) (us : Trees) : Type 0 where
@@ -149,31 +149,47 @@ pub record ExitedProgram (profile : Profile) (keeps : Bool) (a : Moment) (x : Pr
   -- a type that keeps the pairs leaves nothing pending
   pub finished : keeps ≡ true → IsFinished b
 
--- A TALLY OF EXIT HOOKS
+-- TALLIES OF HOOKS
 
--- How often a type's exit hooks were called at the nodes of an id, as far as the type keeps count.
+-- A type may count how often its exit hooks were called at the nodes of an id (`tally`), and how often its enter hooks were
+-- called (`entries`), as far as it keeps count. Entries have no id: an enter hook may put a made node, which has an id of its
+-- own, in the place of its node, and the node below it, where it gets the hook again.
 
--- no exit hook more
-abbrev pub Still : (Hook → ℕ → ℕ) → (Hook → ℕ → ℕ) → Type 0
-Still old new = (h : Hook) (j : ℕ) → new h j ≤ old h j
+abbrev pub NoExit : (Hook → ℕ → ℕ) → (Hook → ℕ → ℕ) → Type 0
+NoExit old new = (h : Hook) (j : ℕ) → new h j ≤ old h j
 
--- one for this hook at this id, and nothing for the others
-abbrev pub one_call : Hook → ℕ → Hook → ℕ → ℕ
-one_call g i h j = if hook_number g == hook_number h then just i j else 0
+abbrev pub NoEntry : (Hook → ℕ) → (Hook → ℕ) → Type 0
+NoEntry old new = (h : Hook) → new h ≤ old h
+
+-- so much for this hook, and nothing for the others
+abbrev pub one_call : Hook → ℕ → Hook → ℕ
+one_call g n h = if hook_number g == hook_number h then n else 0
 
 -- at most one more, of this hook at the node of this id
-abbrev pub Once : Hook → ℕ → (Hook → ℕ → ℕ) → (Hook → ℕ → ℕ) → Type 0
-Once g i old new = (h : Hook) (j : ℕ) → new h j ≤ old h j + one_call g i h j
+abbrev pub OneExit : Hook → ℕ → (Hook → ℕ → ℕ) → (Hook → ℕ → ℕ) → Type 0
+OneExit g i old new = (h : Hook) (j : ℕ) → new h j ≤ old h j + one_call g (just i j) h
 
--- A type that holds its settings goes on with them, and counts no exit hook.
-pub record Goes {X : Type 0} (suits : X → EnvOptions → Type 0) (tally : X → Hook → ℕ → ℕ) (o : EnvOptions) (x y : X) : Type 0 where
-  pub suits_still : suits y o
-  pub no_exit : Still (tally x) (tally y)
+-- at most one more, of this hook
+abbrev pub OneEntry : Hook → (Hook → ℕ) → (Hook → ℕ) → Type 0
+OneEntry g old new = (h : Hook) → new h ≤ old h + one_call g 1 h
 
--- It counts at most one more exit hook, this one at this node.
-pub record GoesOut {X : Type 0} (suits : X → EnvOptions → Type 0) (tally : X → Hook → ℕ → ℕ) (o : EnvOptions) (hook : Hook) (id : ℕ) (x y : X) : Type 0 where
+-- Before a node or a list: a type that holds its settings goes on with them, and counts this enter hook at most once.
+pub record Goes {X : Type 0} (suits : X → EnvOptions → Type 0) (tally : X → Hook → ℕ → ℕ) (entries : X → Hook → ℕ) (o : EnvOptions) (hook : Hook) (x y : X) : Type 0 where
   pub suits_still : suits y o
-  pub one_exit : Once hook id (tally x) (tally y)
+  pub no_exit : NoExit (tally x) (tally y)
+  pub one_entry : OneEntry hook (entries x) (entries y)
+
+-- After a node: it counts this exit hook at most once, at this node.
+pub record GoesOut {X : Type 0} (suits : X → EnvOptions → Type 0) (tally : X → Hook → ℕ → ℕ) (entries : X → Hook → ℕ) (o : EnvOptions) (hook : Hook) (id : ℕ) (x y : X) : Type 0 where
+  pub suits_still : suits y o
+  pub one_exit : OneExit hook id (tally x) (tally y)
+  pub no_entry : NoEntry (entries x) (entries y)
+
+-- After a list, which has no id: it counts no hook.
+pub record GoesOutOfList {X : Type 0} (suits : X → EnvOptions → Type 0) (tally : X → Hook → ℕ → ℕ) (entries : X → Hook → ℕ) (o : EnvOptions) (x y : X) : Type 0 where
+  pub suits_still : suits y o
+  pub no_exit : NoExit (tally x) (tally y)
+  pub no_entry : NoEntry (entries x) (entries y)
 
 -- TWO TYPES TOGETHER
 

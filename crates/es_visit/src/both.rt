@@ -44,6 +44,8 @@ impl<A: Lowering, B: Lowering> Lowering for Both<A, B> {
 
     ghost tally = { λ x h j. most (A.tally x.first h j) (B.tally x.second h j) };
 
+    ghost entries = { λ x h. most (A.entries x.first h) (B.entries x.second h) };
+
     fn keeps_pairs(&self) -> bool {
         self.first.keeps_pairs()
     }

@@ -15,7 +15,8 @@ pub trait Additions {
 
 /// What a type states of itself: under some options its rule, its constructs, and what it makes
 /// (`profile`), whether it keeps a pair of lists for each statement list (`keeps`), for which options its
-/// own settings are (`suits`), and how often its exit hooks were called, as far as it counts (`tally`).
+/// own settings are (`suits`), and how often its exit hooks were called at the nodes of an id (`tally`) and
+/// its enter hooks anywhere (`entries`), as far as it counts.
 pub trait Lowering {
     ghost profile: { Options → Profile };
 
@@ -24,6 +25,8 @@ pub trait Lowering {
     ghost suits: { Self → Options → Type 0 };
 
     ghost tally: { Self → AnyHook → ℕ → ℕ };
+
+    ghost entries: { Self → AnyHook → ℕ };
 
     /// Whether this type opens a pair of lists at the head of each statement list and writes it at the end.
     fn keeps_pairs(&self) -> bool

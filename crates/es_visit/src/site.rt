@@ -1,10 +1,10 @@
 //! What may stand at a place, by the table of fields.
-ghost use Rattle.std.specs.Prelude.{◌≡◌, ◌≤◌, ◌<◌};
+ghost use Rattle.std.specs.Prelude.{◌≡◌, ◌≤◌, ◌<◌, ℕ};
 ghost use Rattle.es_tree.specs.Tree.{kind_of, label_of};
 ghost use Rattle.es_scope.specs.Contexts.{table_of};
 ghost use Rattle.es_scope.specs.Tables.{scope_count};
-ghost use Rattle.es_visit.specs.Counts.{parameter_hooks};
-ghost use Rattle.es_visit.specs.Sites.{list_calls, role_at};
+ghost use Rattle.es_visit.specs.Counts.{parameters_at};
+ghost use Rattle.es_visit.specs.Sites.{parameters_in, role_at};
 
 use crate::hook::Sort as NodeSort;
 use es_scope::context::TraverseCtx;
@@ -118,7 +118,7 @@ pub(crate) fn scope_inside<S>(ctx: &TraverseCtx<S>, scope: Option<ScopeId>) -> S
 
 /// What may stand in this field of the parent, or in the list of it; fields count from 0.
 pub(crate) fn site_at(parent: Parent, index: usize) -> Site
-    ensures { list_calls result ≤ parameter_hooks parent.kind index }
+    ensures { (n : ℕ) → parameters_in n result ≤ parameters_at n parent.kind index }
 {
     match (parent.kind, index) {
         (AstType::FunctionDeclaration, 1) => Site::Parameters,
@@ -132,7 +132,7 @@ pub(crate) fn site_at(parent: Parent, index: usize) -> Site
 }
 
 fn site_of(sort: Sort, is_computed: bool) -> Site
-    ensures { list_calls result ≡ 0 }
+    ensures { (n : ℕ) → parameters_in n result ≡ 0 }
 {
     match sort {
         Sort::Statement => Site::Statement,

@@ -6,11 +6,11 @@ ghost use Rattle.es_tree.specs.Tree.{label_of, trees};
 ghost use Rattle.es_tree.specs.declared.options.EnvOptions.{EnvOptions as Options};
 ghost use Rattle.es_runs.specs.Weights.{trees_weight, weight};
 ghost use Rattle.es_statements.specs.ProgramPlain.{plain_program};
-ghost use Rattle.es_visit.specs.Laws.{Entered, EnteredList, EnteredParameters, EnteredProgram, Exited, ExitedList, ExitedParameters, ExitedProgram, Goes, GoesOut, IsLawful, IsReady, KeepsAllIds, KeepsIds, Placed, Settled, opens};
+ghost use Rattle.es_visit.specs.Laws.{Entered, EnteredList, EnteredParameters, EnteredProgram, Exited, ExitedList, ExitedParameters, ExitedProgram, Goes, GoesOut, GoesOutOfList, IsLawful, IsReady, KeepsAllIds, KeepsIds, Placed, Settled, opens};
 ghost use Rattle.es_visit.specs.Moments.{moment};
 ghost use Rattle.es_visit.specs.Refusals.{RefusedList, RefusedProgram, RefusedTree, RefusedTrees};
-ghost use Rattle.es_visit.specs.declared.hook.Hook.TheVariants.{ArrowFunctionBody, ArrowFunctionExpression, BigIntLiteral, CatchClause, ExportAllDeclaration, ExportSpecifier, Expression, ForInStatement, ForOfStatement, Function, FunctionBody, ImportSpecifier, Statement, StaticBlock, TryStatement, VariableDeclaration};
-ghost use Rattle.es_visit.specs.declared.hook.Hook.TheVariants.{Program as WholeProgram};
+ghost use Rattle.es_visit.specs.declared.hook.Hook.TheVariants.{ArrowFunctionBody, ArrowFunctionExpression, BigIntLiteral, CatchClause, ExportAllDeclaration, ExportSpecifier, Expression, ForInStatement, ForOfStatement, FormalParameters, Function, FunctionBody, ImportSpecifier, Statement, StaticBlock, TryStatement, VariableDeclaration};
+ghost use Rattle.es_visit.specs.declared.hook.Hook.TheVariants.{Program as WholeProgram, Statements as StatementList};
 
 use crate::hook::Hook;
 use crate::lowering::{Additions, Lowering};
@@ -32,7 +32,7 @@ pub trait Traverse<S: Additions>: Lowering {
     ) -> Result<(), LowerError>
         requires ready { IsReady Self.suits self.old (moment S.pending ctx.old) (weight (plain_program program.old)) }
         ensures entered { IfOk result (λ _. EnteredProgram (Self.profile ctx.old.options) (moment S.pending ctx.old) program.old (moment S.pending ctx.new) program.new) }
-        ensures goes { IfOk result (λ _. Goes Self.suits Self.tally ctx.old.options self.old self.new) }
+        ensures goes { IfOk result (λ _. Goes Self.suits Self.tally Self.entries ctx.old.options WholeProgram self.old self.new) }
         ensures refused { IfErr result (λ error. RefusedProgram (Self.profile ctx.old.options).rule (Self.profile ctx.old.options).refuses error (moment S.pending ctx.old) program.old) }
     {
         let _ = program;
@@ -49,7 +49,7 @@ pub trait Traverse<S: Additions>: Lowering {
         requires ready { IsReady Self.suits self.old (moment S.pending ctx.old) (weight (plain_program program.old)) }
         ensures exited { IfOk result (λ _. ExitedProgram (Self.profile ctx.old.options) Self.keeps (moment S.pending ctx.old) program.old (moment S.pending ctx.new) program.new) }
         ensures ids { IfOk result (λ _. KeepsIds (plain_program program.old) (plain_program program.new)) }
-        ensures goes { IfOk result (λ _. GoesOut Self.suits Self.tally ctx.old.options WholeProgram program.old.id.0 self.old self.new) }
+        ensures goes { IfOk result (λ _. GoesOut Self.suits Self.tally Self.entries ctx.old.options WholeProgram program.old.id.0 self.old self.new) }
         ensures refused { IfErr result (λ error. RefusedProgram (Self.profile ctx.old.options).rule (Self.profile ctx.old.options).refuses error (moment S.pending ctx.old) program.old) }
     {
         let _ = program;
@@ -68,7 +68,7 @@ pub trait Traverse<S: Additions>: Lowering {
     ) -> Result<(), LowerError>
         requires ready { IsReady Self.suits self.old (moment S.pending ctx.old) (trees_weight (bare_trees (trees statements.old.items))) }
         ensures entered { IfOk result (λ _. EnteredList (Self.profile ctx.old.options) Self.keeps (moment S.pending ctx.old) (bare_trees (trees statements.old.items)) (moment S.pending ctx.new) (bare_trees (trees statements.new.items))) }
-        ensures goes { IfOk result (λ _. Goes Self.suits Self.tally ctx.old.options self.old self.new) }
+        ensures goes { IfOk result (λ _. Goes Self.suits Self.tally Self.entries ctx.old.options StatementList self.old self.new) }
         ensures refused { IfErr result (λ error. RefusedList (Self.profile ctx.old.options).rule (Self.profile ctx.old.options).refuses error (opens Self.keeps (moment S.pending ctx.old)) (bare_trees (trees statements.old.items))) }
     {
         let _ = statements;
@@ -88,7 +88,7 @@ pub trait Traverse<S: Additions>: Lowering {
         requires ready { IsReady Self.suits self.old (moment S.pending ctx.old) (trees_weight (bare_trees (trees statements.old.items))) }
         ensures exited { IfOk result (λ _. ExitedList (Self.profile ctx.old.options) Self.keeps (moment S.pending ctx.old) (bare_trees (trees statements.old.items)) (moment S.pending ctx.new) (bare_trees (trees statements.new.items))) }
         ensures ids { IfOk result (λ _. KeepsAllIds (trees statements.old.items) (trees statements.new.items)) }
-        ensures goes { IfOk result (λ _. Goes Self.suits Self.tally ctx.old.options self.old self.new) }
+        ensures goes { IfOk result (λ _. GoesOutOfList Self.suits Self.tally Self.entries ctx.old.options self.old self.new) }
         ensures refused { IfErr result (λ error. RefusedList (Self.profile ctx.old.options).rule (Self.profile ctx.old.options).refuses error (moment S.pending ctx.old) (bare_trees (trees statements.old.items))) }
     {
         let _ = statements;
@@ -107,7 +107,7 @@ pub trait Traverse<S: Additions>: Lowering {
     ) -> Result<(), LowerError>
         requires ready { IsReady Self.suits self.old (moment S.pending ctx.old) (weight (bare node.old)) }
         ensures entered { IfOk result (λ _. Entered (Self.profile ctx.old.options) Statement (moment S.pending ctx.old) (bare node.old) (moment S.pending ctx.new) (bare node.new)) }
-        ensures goes { IfOk result (λ _. Goes Self.suits Self.tally ctx.old.options self.old self.new) }
+        ensures goes { IfOk result (λ _. Goes Self.suits Self.tally Self.entries ctx.old.options Statement self.old self.new) }
         ensures refused { IfErr result (λ error. RefusedTree (Self.profile ctx.old.options).rule (Self.profile ctx.old.options).refuses error (moment S.pending ctx.old) (bare node.old)) }
     {
         let _ = node;
@@ -127,7 +127,7 @@ pub trait Traverse<S: Additions>: Lowering {
         requires ready { IsReady Self.suits self.old (moment S.pending ctx.old) (weight (bare node.old)) }
         ensures exited { IfOk result (λ _. Exited (Self.profile ctx.old.options) (moment S.pending ctx.old) (bare node.old) (moment S.pending ctx.new) (bare node.new)) }
         ensures ids { IfOk result (λ _. KeepsIds node.old node.new) }
-        ensures goes { IfOk result (λ _. GoesOut Self.suits Self.tally ctx.old.options Statement (label_of node.old).id self.old self.new) }
+        ensures goes { IfOk result (λ _. GoesOut Self.suits Self.tally Self.entries ctx.old.options Statement (label_of node.old).id self.old self.new) }
         ensures refused { IfErr result (λ error. RefusedTree (Self.profile ctx.old.options).rule (Self.profile ctx.old.options).refuses error (moment S.pending ctx.old) (bare node.old)) }
     {
         let _ = node;
@@ -143,7 +143,7 @@ pub trait Traverse<S: Additions>: Lowering {
     ) -> Result<(), LowerError>
         requires ready { IsReady Self.suits self.old (moment S.pending ctx.old) (weight (bare node.old)) }
         ensures entered { IfOk result (λ _. Entered (Self.profile ctx.old.options) Expression (moment S.pending ctx.old) (bare node.old) (moment S.pending ctx.new) (bare node.new)) }
-        ensures goes { IfOk result (λ _. Goes Self.suits Self.tally ctx.old.options self.old self.new) }
+        ensures goes { IfOk result (λ _. Goes Self.suits Self.tally Self.entries ctx.old.options Expression self.old self.new) }
         ensures refused { IfErr result (λ error. RefusedTree (Self.profile ctx.old.options).rule (Self.profile ctx.old.options).refuses error (moment S.pending ctx.old) (bare node.old)) }
     {
         let _ = node;
@@ -163,7 +163,7 @@ pub trait Traverse<S: Additions>: Lowering {
         requires ready { IsReady Self.suits self.old (moment S.pending ctx.old) (weight (bare node.old)) }
         ensures exited { IfOk result (λ _. Exited (Self.profile ctx.old.options) (moment S.pending ctx.old) (bare node.old) (moment S.pending ctx.new) (bare node.new)) }
         ensures ids { IfOk result (λ _. KeepsIds node.old node.new) }
-        ensures goes { IfOk result (λ _. GoesOut Self.suits Self.tally ctx.old.options Expression (label_of node.old).id self.old self.new) }
+        ensures goes { IfOk result (λ _. GoesOut Self.suits Self.tally Self.entries ctx.old.options Expression (label_of node.old).id self.old self.new) }
         ensures refused { IfErr result (λ error. RefusedTree (Self.profile ctx.old.options).rule (Self.profile ctx.old.options).refuses error (moment S.pending ctx.old) (bare node.old)) }
     {
         let _ = node;
@@ -179,7 +179,7 @@ pub trait Traverse<S: Additions>: Lowering {
     ) -> Result<(), LowerError>
         requires ready { IsReady Self.suits self.old (moment S.pending ctx.old) (weight (bare node.old)) }
         ensures entered { IfOk result (λ _. Settled (Self.profile ctx.old.options) Function (moment S.pending ctx.old) (bare node.old) (moment S.pending ctx.new) (bare node.new)) }
-        ensures goes { IfOk result (λ _. Goes Self.suits Self.tally ctx.old.options self.old self.new) }
+        ensures goes { IfOk result (λ _. Goes Self.suits Self.tally Self.entries ctx.old.options Function self.old self.new) }
         ensures refused { IfErr result (λ error. RefusedTree (Self.profile ctx.old.options).rule (Self.profile ctx.old.options).refuses error (moment S.pending ctx.old) (bare node.old)) }
     {
         let _ = node;
@@ -195,7 +195,7 @@ pub trait Traverse<S: Additions>: Lowering {
         requires ready { IsReady Self.suits self.old (moment S.pending ctx.old) (weight (bare node.old)) }
         ensures exited { IfOk result (λ _. Exited (Self.profile ctx.old.options) (moment S.pending ctx.old) (bare node.old) (moment S.pending ctx.new) (bare node.new)) }
         ensures ids { IfOk result (λ _. KeepsIds node.old node.new) }
-        ensures goes { IfOk result (λ _. GoesOut Self.suits Self.tally ctx.old.options Function (label_of node.old).id self.old self.new) }
+        ensures goes { IfOk result (λ _. GoesOut Self.suits Self.tally Self.entries ctx.old.options Function (label_of node.old).id self.old self.new) }
         ensures refused { IfErr result (λ error. RefusedTree (Self.profile ctx.old.options).rule (Self.profile ctx.old.options).refuses error (moment S.pending ctx.old) (bare node.old)) }
     {
         let _ = node;
@@ -211,7 +211,7 @@ pub trait Traverse<S: Additions>: Lowering {
     ) -> Result<(), LowerError>
         requires ready { IsReady Self.suits self.old (moment S.pending ctx.old) (weight (bare node.old)) }
         ensures entered { IfOk result (λ _. Settled (Self.profile ctx.old.options) FunctionBody (moment S.pending ctx.old) (bare node.old) (moment S.pending ctx.new) (bare node.new)) }
-        ensures goes { IfOk result (λ _. Goes Self.suits Self.tally ctx.old.options self.old self.new) }
+        ensures goes { IfOk result (λ _. Goes Self.suits Self.tally Self.entries ctx.old.options FunctionBody self.old self.new) }
         ensures refused { IfErr result (λ error. RefusedTree (Self.profile ctx.old.options).rule (Self.profile ctx.old.options).refuses error (moment S.pending ctx.old) (bare node.old)) }
     {
         let _ = node;
@@ -231,7 +231,7 @@ pub trait Traverse<S: Additions>: Lowering {
         requires ready { IsReady Self.suits self.old (moment S.pending ctx.old) (weight (bare node.old)) }
         ensures exited { IfOk result (λ _. Exited (Self.profile ctx.old.options) (moment S.pending ctx.old) (bare node.old) (moment S.pending ctx.new) (bare node.new)) }
         ensures ids { IfOk result (λ _. KeepsIds node.old node.new) }
-        ensures goes { IfOk result (λ _. GoesOut Self.suits Self.tally ctx.old.options FunctionBody (label_of node.old).id self.old self.new) }
+        ensures goes { IfOk result (λ _. GoesOut Self.suits Self.tally Self.entries ctx.old.options FunctionBody (label_of node.old).id self.old self.new) }
         ensures refused { IfErr result (λ error. RefusedTree (Self.profile ctx.old.options).rule (Self.profile ctx.old.options).refuses error (moment S.pending ctx.old) (bare node.old)) }
     {
         let _ = node;
@@ -247,7 +247,7 @@ pub trait Traverse<S: Additions>: Lowering {
     ) -> Result<(), LowerError>
         requires ready { IsReady Self.suits self.old (moment S.pending ctx.old) (trees_weight (bare_trees (trees parameters.old.items))) }
         ensures entered { IfOk result (λ _. EnteredParameters (Self.profile ctx.old.options) (moment S.pending ctx.old) (bare_trees (trees parameters.old.items)) (moment S.pending ctx.new) (bare_trees (trees parameters.new.items))) }
-        ensures goes { IfOk result (λ _. Goes Self.suits Self.tally ctx.old.options self.old self.new) }
+        ensures goes { IfOk result (λ _. Goes Self.suits Self.tally Self.entries ctx.old.options FormalParameters self.old self.new) }
         ensures refused { IfErr result (λ error. RefusedTrees (Self.profile ctx.old.options).rule (Self.profile ctx.old.options).refuses error (moment S.pending ctx.old) (bare_trees (trees parameters.old.items))) }
     {
         let _ = parameters;
@@ -264,7 +264,7 @@ pub trait Traverse<S: Additions>: Lowering {
         requires ready { IsReady Self.suits self.old (moment S.pending ctx.old) (trees_weight (bare_trees (trees parameters.old.items))) }
         ensures exited { IfOk result (λ _. ExitedParameters (Self.profile ctx.old.options) (moment S.pending ctx.old) (bare_trees (trees parameters.old.items)) (moment S.pending ctx.new) (bare_trees (trees parameters.new.items))) }
         ensures ids { IfOk result (λ _. KeepsAllIds (trees parameters.old.items) (trees parameters.new.items)) }
-        ensures goes { IfOk result (λ _. Goes Self.suits Self.tally ctx.old.options self.old self.new) }
+        ensures goes { IfOk result (λ _. GoesOutOfList Self.suits Self.tally Self.entries ctx.old.options self.old self.new) }
         ensures refused { IfErr result (λ error. RefusedTrees (Self.profile ctx.old.options).rule (Self.profile ctx.old.options).refuses error (moment S.pending ctx.old) (bare_trees (trees parameters.old.items))) }
     {
         let _ = parameters;
@@ -280,7 +280,7 @@ pub trait Traverse<S: Additions>: Lowering {
     ) -> Result<(), LowerError>
         requires ready { IsReady Self.suits self.old (moment S.pending ctx.old) (weight (bare node.old)) }
         ensures entered { IfOk result (λ _. Settled (Self.profile ctx.old.options) ArrowFunctionExpression (moment S.pending ctx.old) (bare node.old) (moment S.pending ctx.new) (bare node.new)) }
-        ensures goes { IfOk result (λ _. Goes Self.suits Self.tally ctx.old.options self.old self.new) }
+        ensures goes { IfOk result (λ _. Goes Self.suits Self.tally Self.entries ctx.old.options ArrowFunctionExpression self.old self.new) }
         ensures refused { IfErr result (λ error. RefusedTree (Self.profile ctx.old.options).rule (Self.profile ctx.old.options).refuses error (moment S.pending ctx.old) (bare node.old)) }
     {
         let _ = node;
@@ -300,7 +300,7 @@ pub trait Traverse<S: Additions>: Lowering {
         requires ready { IsReady Self.suits self.old (moment S.pending ctx.old) (weight (bare node.old)) }
         ensures exited { IfOk result (λ _. Exited (Self.profile ctx.old.options) (moment S.pending ctx.old) (bare node.old) (moment S.pending ctx.new) (bare node.new)) }
         ensures ids { IfOk result (λ _. KeepsIds node.old node.new) }
-        ensures goes { IfOk result (λ _. GoesOut Self.suits Self.tally ctx.old.options ArrowFunctionExpression (label_of node.old).id self.old self.new) }
+        ensures goes { IfOk result (λ _. GoesOut Self.suits Self.tally Self.entries ctx.old.options ArrowFunctionExpression (label_of node.old).id self.old self.new) }
         ensures refused { IfErr result (λ error. RefusedTree (Self.profile ctx.old.options).rule (Self.profile ctx.old.options).refuses error (moment S.pending ctx.old) (bare node.old)) }
     {
         let _ = node;
@@ -316,7 +316,7 @@ pub trait Traverse<S: Additions>: Lowering {
     ) -> Result<(), LowerError>
         requires ready { IsReady Self.suits self.old (moment S.pending ctx.old) (weight (bare node.old)) }
         ensures entered { IfOk result (λ _. Placed (Self.profile ctx.old.options) (moment S.pending ctx.old) (bare node.old) (moment S.pending ctx.new) (bare node.new)) }
-        ensures goes { IfOk result (λ _. Goes Self.suits Self.tally ctx.old.options self.old self.new) }
+        ensures goes { IfOk result (λ _. Goes Self.suits Self.tally Self.entries ctx.old.options ArrowFunctionBody self.old self.new) }
         ensures refused { IfErr result (λ error. RefusedTree (Self.profile ctx.old.options).rule (Self.profile ctx.old.options).refuses error (moment S.pending ctx.old) (bare node.old)) }
     {
         let _ = node;
@@ -333,7 +333,7 @@ pub trait Traverse<S: Additions>: Lowering {
         requires ready { IsReady Self.suits self.old (moment S.pending ctx.old) (weight (bare node.old)) }
         ensures exited { IfOk result (λ _. Exited (Self.profile ctx.old.options) (moment S.pending ctx.old) (bare node.old) (moment S.pending ctx.new) (bare node.new)) }
         ensures ids { IfOk result (λ _. KeepsIds node.old node.new) }
-        ensures goes { IfOk result (λ _. GoesOut Self.suits Self.tally ctx.old.options ArrowFunctionBody (label_of node.old).id self.old self.new) }
+        ensures goes { IfOk result (λ _. GoesOut Self.suits Self.tally Self.entries ctx.old.options ArrowFunctionBody (label_of node.old).id self.old self.new) }
         ensures refused { IfErr result (λ error. RefusedTree (Self.profile ctx.old.options).rule (Self.profile ctx.old.options).refuses error (moment S.pending ctx.old) (bare node.old)) }
     {
         let _ = node;
@@ -349,7 +349,7 @@ pub trait Traverse<S: Additions>: Lowering {
     ) -> Result<(), LowerError>
         requires ready { IsReady Self.suits self.old (moment S.pending ctx.old) (weight (bare node.old)) }
         ensures entered { IfOk result (λ _. Settled (Self.profile ctx.old.options) StaticBlock (moment S.pending ctx.old) (bare node.old) (moment S.pending ctx.new) (bare node.new)) }
-        ensures goes { IfOk result (λ _. Goes Self.suits Self.tally ctx.old.options self.old self.new) }
+        ensures goes { IfOk result (λ _. Goes Self.suits Self.tally Self.entries ctx.old.options StaticBlock self.old self.new) }
         ensures refused { IfErr result (λ error. RefusedTree (Self.profile ctx.old.options).rule (Self.profile ctx.old.options).refuses error (moment S.pending ctx.old) (bare node.old)) }
     {
         let _ = node;
@@ -369,7 +369,7 @@ pub trait Traverse<S: Additions>: Lowering {
         requires ready { IsReady Self.suits self.old (moment S.pending ctx.old) (weight (bare node.old)) }
         ensures exited { IfOk result (λ _. Exited (Self.profile ctx.old.options) (moment S.pending ctx.old) (bare node.old) (moment S.pending ctx.new) (bare node.new)) }
         ensures ids { IfOk result (λ _. KeepsIds node.old node.new) }
-        ensures goes { IfOk result (λ _. GoesOut Self.suits Self.tally ctx.old.options StaticBlock (label_of node.old).id self.old self.new) }
+        ensures goes { IfOk result (λ _. GoesOut Self.suits Self.tally Self.entries ctx.old.options StaticBlock (label_of node.old).id self.old self.new) }
         ensures refused { IfErr result (λ error. RefusedTree (Self.profile ctx.old.options).rule (Self.profile ctx.old.options).refuses error (moment S.pending ctx.old) (bare node.old)) }
     {
         let _ = node;
@@ -385,7 +385,7 @@ pub trait Traverse<S: Additions>: Lowering {
     ) -> Result<(), LowerError>
         requires ready { IsReady Self.suits self.old (moment S.pending ctx.old) (weight (bare node.old)) }
         ensures entered { IfOk result (λ _. Settled (Self.profile ctx.old.options) VariableDeclaration (moment S.pending ctx.old) (bare node.old) (moment S.pending ctx.new) (bare node.new)) }
-        ensures goes { IfOk result (λ _. Goes Self.suits Self.tally ctx.old.options self.old self.new) }
+        ensures goes { IfOk result (λ _. Goes Self.suits Self.tally Self.entries ctx.old.options VariableDeclaration self.old self.new) }
         ensures refused { IfErr result (λ error. RefusedTree (Self.profile ctx.old.options).rule (Self.profile ctx.old.options).refuses error (moment S.pending ctx.old) (bare node.old)) }
     {
         let _ = node;
@@ -405,7 +405,7 @@ pub trait Traverse<S: Additions>: Lowering {
         requires ready { IsReady Self.suits self.old (moment S.pending ctx.old) (weight (bare node.old)) }
         ensures exited { IfOk result (λ _. Exited (Self.profile ctx.old.options) (moment S.pending ctx.old) (bare node.old) (moment S.pending ctx.new) (bare node.new)) }
         ensures ids { IfOk result (λ _. KeepsIds node.old node.new) }
-        ensures goes { IfOk result (λ _. GoesOut Self.suits Self.tally ctx.old.options VariableDeclaration (label_of node.old).id self.old self.new) }
+        ensures goes { IfOk result (λ _. GoesOut Self.suits Self.tally Self.entries ctx.old.options VariableDeclaration (label_of node.old).id self.old self.new) }
         ensures refused { IfErr result (λ error. RefusedTree (Self.profile ctx.old.options).rule (Self.profile ctx.old.options).refuses error (moment S.pending ctx.old) (bare node.old)) }
     {
         let _ = node;
@@ -421,7 +421,7 @@ pub trait Traverse<S: Additions>: Lowering {
     ) -> Result<(), LowerError>
         requires ready { IsReady Self.suits self.old (moment S.pending ctx.old) (weight (bare node.old)) }
         ensures entered { IfOk result (λ _. Settled (Self.profile ctx.old.options) CatchClause (moment S.pending ctx.old) (bare node.old) (moment S.pending ctx.new) (bare node.new)) }
-        ensures goes { IfOk result (λ _. Goes Self.suits Self.tally ctx.old.options self.old self.new) }
+        ensures goes { IfOk result (λ _. Goes Self.suits Self.tally Self.entries ctx.old.options CatchClause self.old self.new) }
         ensures refused { IfErr result (λ error. RefusedTree (Self.profile ctx.old.options).rule (Self.profile ctx.old.options).refuses error (moment S.pending ctx.old) (bare node.old)) }
     {
         let _ = node;
@@ -441,7 +441,7 @@ pub trait Traverse<S: Additions>: Lowering {
         requires ready { IsReady Self.suits self.old (moment S.pending ctx.old) (weight (bare node.old)) }
         ensures exited { IfOk result (λ _. Exited (Self.profile ctx.old.options) (moment S.pending ctx.old) (bare node.old) (moment S.pending ctx.new) (bare node.new)) }
         ensures ids { IfOk result (λ _. KeepsIds node.old node.new) }
-        ensures goes { IfOk result (λ _. GoesOut Self.suits Self.tally ctx.old.options CatchClause (label_of node.old).id self.old self.new) }
+        ensures goes { IfOk result (λ _. GoesOut Self.suits Self.tally Self.entries ctx.old.options CatchClause (label_of node.old).id self.old self.new) }
         ensures refused { IfErr result (λ error. RefusedTree (Self.profile ctx.old.options).rule (Self.profile ctx.old.options).refuses error (moment S.pending ctx.old) (bare node.old)) }
     {
         let _ = node;
@@ -457,7 +457,7 @@ pub trait Traverse<S: Additions>: Lowering {
     ) -> Result<(), LowerError>
         requires ready { IsReady Self.suits self.old (moment S.pending ctx.old) (weight (bare node.old)) }
         ensures entered { IfOk result (λ _. Settled (Self.profile ctx.old.options) TryStatement (moment S.pending ctx.old) (bare node.old) (moment S.pending ctx.new) (bare node.new)) }
-        ensures goes { IfOk result (λ _. Goes Self.suits Self.tally ctx.old.options self.old self.new) }
+        ensures goes { IfOk result (λ _. Goes Self.suits Self.tally Self.entries ctx.old.options TryStatement self.old self.new) }
         ensures refused { IfErr result (λ error. RefusedTree (Self.profile ctx.old.options).rule (Self.profile ctx.old.options).refuses error (moment S.pending ctx.old) (bare node.old)) }
     {
         let _ = node;
@@ -477,7 +477,7 @@ pub trait Traverse<S: Additions>: Lowering {
         requires ready { IsReady Self.suits self.old (moment S.pending ctx.old) (weight (bare node.old)) }
         ensures exited { IfOk result (λ _. Exited (Self.profile ctx.old.options) (moment S.pending ctx.old) (bare node.old) (moment S.pending ctx.new) (bare node.new)) }
         ensures ids { IfOk result (λ _. KeepsIds node.old node.new) }
-        ensures goes { IfOk result (λ _. GoesOut Self.suits Self.tally ctx.old.options TryStatement (label_of node.old).id self.old self.new) }
+        ensures goes { IfOk result (λ _. GoesOut Self.suits Self.tally Self.entries ctx.old.options TryStatement (label_of node.old).id self.old self.new) }
         ensures refused { IfErr result (λ error. RefusedTree (Self.profile ctx.old.options).rule (Self.profile ctx.old.options).refuses error (moment S.pending ctx.old) (bare node.old)) }
     {
         let _ = node;
@@ -493,7 +493,7 @@ pub trait Traverse<S: Additions>: Lowering {
     ) -> Result<(), LowerError>
         requires ready { IsReady Self.suits self.old (moment S.pending ctx.old) (weight (bare node.old)) }
         ensures entered { IfOk result (λ _. Settled (Self.profile ctx.old.options) ForInStatement (moment S.pending ctx.old) (bare node.old) (moment S.pending ctx.new) (bare node.new)) }
-        ensures goes { IfOk result (λ _. Goes Self.suits Self.tally ctx.old.options self.old self.new) }
+        ensures goes { IfOk result (λ _. Goes Self.suits Self.tally Self.entries ctx.old.options ForInStatement self.old self.new) }
         ensures refused { IfErr result (λ error. RefusedTree (Self.profile ctx.old.options).rule (Self.profile ctx.old.options).refuses error (moment S.pending ctx.old) (bare node.old)) }
     {
         let _ = node;
@@ -513,7 +513,7 @@ pub trait Traverse<S: Additions>: Lowering {
         requires ready { IsReady Self.suits self.old (moment S.pending ctx.old) (weight (bare node.old)) }
         ensures exited { IfOk result (λ _. Exited (Self.profile ctx.old.options) (moment S.pending ctx.old) (bare node.old) (moment S.pending ctx.new) (bare node.new)) }
         ensures ids { IfOk result (λ _. KeepsIds node.old node.new) }
-        ensures goes { IfOk result (λ _. GoesOut Self.suits Self.tally ctx.old.options ForInStatement (label_of node.old).id self.old self.new) }
+        ensures goes { IfOk result (λ _. GoesOut Self.suits Self.tally Self.entries ctx.old.options ForInStatement (label_of node.old).id self.old self.new) }
         ensures refused { IfErr result (λ error. RefusedTree (Self.profile ctx.old.options).rule (Self.profile ctx.old.options).refuses error (moment S.pending ctx.old) (bare node.old)) }
     {
         let _ = node;
@@ -529,7 +529,7 @@ pub trait Traverse<S: Additions>: Lowering {
     ) -> Result<(), LowerError>
         requires ready { IsReady Self.suits self.old (moment S.pending ctx.old) (weight (bare node.old)) }
         ensures entered { IfOk result (λ _. Settled (Self.profile ctx.old.options) ForOfStatement (moment S.pending ctx.old) (bare node.old) (moment S.pending ctx.new) (bare node.new)) }
-        ensures goes { IfOk result (λ _. Goes Self.suits Self.tally ctx.old.options self.old self.new) }
+        ensures goes { IfOk result (λ _. Goes Self.suits Self.tally Self.entries ctx.old.options ForOfStatement self.old self.new) }
         ensures refused { IfErr result (λ error. RefusedTree (Self.profile ctx.old.options).rule (Self.profile ctx.old.options).refuses error (moment S.pending ctx.old) (bare node.old)) }
     {
         let _ = node;
@@ -549,7 +549,7 @@ pub trait Traverse<S: Additions>: Lowering {
         requires ready { IsReady Self.suits self.old (moment S.pending ctx.old) (weight (bare node.old)) }
         ensures exited { IfOk result (λ _. Exited (Self.profile ctx.old.options) (moment S.pending ctx.old) (bare node.old) (moment S.pending ctx.new) (bare node.new)) }
         ensures ids { IfOk result (λ _. KeepsIds node.old node.new) }
-        ensures goes { IfOk result (λ _. GoesOut Self.suits Self.tally ctx.old.options ForOfStatement (label_of node.old).id self.old self.new) }
+        ensures goes { IfOk result (λ _. GoesOut Self.suits Self.tally Self.entries ctx.old.options ForOfStatement (label_of node.old).id self.old self.new) }
         ensures refused { IfErr result (λ error. RefusedTree (Self.profile ctx.old.options).rule (Self.profile ctx.old.options).refuses error (moment S.pending ctx.old) (bare node.old)) }
     {
         let _ = node;
@@ -565,7 +565,7 @@ pub trait Traverse<S: Additions>: Lowering {
     ) -> Result<(), LowerError>
         requires ready { IsReady Self.suits self.old (moment S.pending ctx.old) (weight (bare node.old)) }
         ensures entered { IfOk result (λ _. Settled (Self.profile ctx.old.options) BigIntLiteral (moment S.pending ctx.old) (bare node.old) (moment S.pending ctx.new) (bare node.new)) }
-        ensures goes { IfOk result (λ _. Goes Self.suits Self.tally ctx.old.options self.old self.new) }
+        ensures goes { IfOk result (λ _. Goes Self.suits Self.tally Self.entries ctx.old.options BigIntLiteral self.old self.new) }
         ensures refused { IfErr result (λ error. RefusedTree (Self.profile ctx.old.options).rule (Self.profile ctx.old.options).refuses error (moment S.pending ctx.old) (bare node.old)) }
     {
         let _ = node;
@@ -585,7 +585,7 @@ pub trait Traverse<S: Additions>: Lowering {
         requires ready { IsReady Self.suits self.old (moment S.pending ctx.old) (weight (bare node.old)) }
         ensures exited { IfOk result (λ _. Exited (Self.profile ctx.old.options) (moment S.pending ctx.old) (bare node.old) (moment S.pending ctx.new) (bare node.new)) }
         ensures ids { IfOk result (λ _. KeepsIds node.old node.new) }
-        ensures goes { IfOk result (λ _. GoesOut Self.suits Self.tally ctx.old.options BigIntLiteral (label_of node.old).id self.old self.new) }
+        ensures goes { IfOk result (λ _. GoesOut Self.suits Self.tally Self.entries ctx.old.options BigIntLiteral (label_of node.old).id self.old self.new) }
         ensures refused { IfErr result (λ error. RefusedTree (Self.profile ctx.old.options).rule (Self.profile ctx.old.options).refuses error (moment S.pending ctx.old) (bare node.old)) }
     {
         let _ = node;
@@ -601,7 +601,7 @@ pub trait Traverse<S: Additions>: Lowering {
     ) -> Result<(), LowerError>
         requires ready { IsReady Self.suits self.old (moment S.pending ctx.old) (weight (bare node.old)) }
         ensures entered { IfOk result (λ _. Settled (Self.profile ctx.old.options) ImportSpecifier (moment S.pending ctx.old) (bare node.old) (moment S.pending ctx.new) (bare node.new)) }
-        ensures goes { IfOk result (λ _. Goes Self.suits Self.tally ctx.old.options self.old self.new) }
+        ensures goes { IfOk result (λ _. Goes Self.suits Self.tally Self.entries ctx.old.options ImportSpecifier self.old self.new) }
         ensures refused { IfErr result (λ error. RefusedTree (Self.profile ctx.old.options).rule (Self.profile ctx.old.options).refuses error (moment S.pending ctx.old) (bare node.old)) }
     {
         let _ = node;
@@ -621,7 +621,7 @@ pub trait Traverse<S: Additions>: Lowering {
         requires ready { IsReady Self.suits self.old (moment S.pending ctx.old) (weight (bare node.old)) }
         ensures exited { IfOk result (λ _. Exited (Self.profile ctx.old.options) (moment S.pending ctx.old) (bare node.old) (moment S.pending ctx.new) (bare node.new)) }
         ensures ids { IfOk result (λ _. KeepsIds node.old node.new) }
-        ensures goes { IfOk result (λ _. GoesOut Self.suits Self.tally ctx.old.options ImportSpecifier (label_of node.old).id self.old self.new) }
+        ensures goes { IfOk result (λ _. GoesOut Self.suits Self.tally Self.entries ctx.old.options ImportSpecifier (label_of node.old).id self.old self.new) }
         ensures refused { IfErr result (λ error. RefusedTree (Self.profile ctx.old.options).rule (Self.profile ctx.old.options).refuses error (moment S.pending ctx.old) (bare node.old)) }
     {
         let _ = node;
@@ -637,7 +637,7 @@ pub trait Traverse<S: Additions>: Lowering {
     ) -> Result<(), LowerError>
         requires ready { IsReady Self.suits self.old (moment S.pending ctx.old) (weight (bare node.old)) }
         ensures entered { IfOk result (λ _. Settled (Self.profile ctx.old.options) ExportSpecifier (moment S.pending ctx.old) (bare node.old) (moment S.pending ctx.new) (bare node.new)) }
-        ensures goes { IfOk result (λ _. Goes Self.suits Self.tally ctx.old.options self.old self.new) }
+        ensures goes { IfOk result (λ _. Goes Self.suits Self.tally Self.entries ctx.old.options ExportSpecifier self.old self.new) }
         ensures refused { IfErr result (λ error. RefusedTree (Self.profile ctx.old.options).rule (Self.profile ctx.old.options).refuses error (moment S.pending ctx.old) (bare node.old)) }
     {
         let _ = node;
@@ -657,7 +657,7 @@ pub trait Traverse<S: Additions>: Lowering {
         requires ready { IsReady Self.suits self.old (moment S.pending ctx.old) (weight (bare node.old)) }
         ensures exited { IfOk result (λ _. Exited (Self.profile ctx.old.options) (moment S.pending ctx.old) (bare node.old) (moment S.pending ctx.new) (bare node.new)) }
         ensures ids { IfOk result (λ _. KeepsIds node.old node.new) }
-        ensures goes { IfOk result (λ _. GoesOut Self.suits Self.tally ctx.old.options ExportSpecifier (label_of node.old).id self.old self.new) }
+        ensures goes { IfOk result (λ _. GoesOut Self.suits Self.tally Self.entries ctx.old.options ExportSpecifier (label_of node.old).id self.old self.new) }
         ensures refused { IfErr result (λ error. RefusedTree (Self.profile ctx.old.options).rule (Self.profile ctx.old.options).refuses error (moment S.pending ctx.old) (bare node.old)) }
     {
         let _ = node;
@@ -673,7 +673,7 @@ pub trait Traverse<S: Additions>: Lowering {
     ) -> Result<(), LowerError>
         requires ready { IsReady Self.suits self.old (moment S.pending ctx.old) (weight (bare node.old)) }
         ensures entered { IfOk result (λ _. Settled (Self.profile ctx.old.options) ExportAllDeclaration (moment S.pending ctx.old) (bare node.old) (moment S.pending ctx.new) (bare node.new)) }
-        ensures goes { IfOk result (λ _. Goes Self.suits Self.tally ctx.old.options self.old self.new) }
+        ensures goes { IfOk result (λ _. Goes Self.suits Self.tally Self.entries ctx.old.options ExportAllDeclaration self.old self.new) }
         ensures refused { IfErr result (λ error. RefusedTree (Self.profile ctx.old.options).rule (Self.profile ctx.old.options).refuses error (moment S.pending ctx.old) (bare node.old)) }
     {
         let _ = node;
@@ -693,7 +693,7 @@ pub trait Traverse<S: Additions>: Lowering {
         requires ready { IsReady Self.suits self.old (moment S.pending ctx.old) (weight (bare node.old)) }
         ensures exited { IfOk result (λ _. Exited (Self.profile ctx.old.options) (moment S.pending ctx.old) (bare node.old) (moment S.pending ctx.new) (bare node.new)) }
         ensures ids { IfOk result (λ _. KeepsIds node.old node.new) }
-        ensures goes { IfOk result (λ _. GoesOut Self.suits Self.tally ctx.old.options ExportAllDeclaration (label_of node.old).id self.old self.new) }
+        ensures goes { IfOk result (λ _. GoesOut Self.suits Self.tally Self.entries ctx.old.options ExportAllDeclaration (label_of node.old).id self.old self.new) }
         ensures refused { IfErr result (λ error. RefusedTree (Self.profile ctx.old.options).rule (Self.profile ctx.old.options).refuses error (moment S.pending ctx.old) (bare node.old)) }
     {
         let _ = node;

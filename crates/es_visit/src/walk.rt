@@ -7,12 +7,12 @@ ghost use Rattle.es_tree.specs.Views.{plain_field, plain_fields};
 ghost use Rattle.es_runs.specs.Weights.{field_weight, fields_weight, trees_weight, weight};
 ghost use Rattle.es_scope.specs.Contexts.{around_of};
 ghost use Rattle.es_statements.specs.ProgramPlain.{plain_program};
-ghost use Rattle.es_visit.specs.Counts.{all_parameter_hooks, count_ids, count_ids_among, count_ids_at, count_ids_in, hooks_in, hooks_in_field, hooks_in_fields, hooks_in_trees};
-ghost use Rattle.es_visit.specs.Laws.{Exited, Goes, IsReady, KeepsIds, Placed};
+ghost use Rattle.es_visit.specs.Counts.{all_hooks, hooks_in, hooks_in_trees, own_parameters, total, total_among, total_at, total_in};
+ghost use Rattle.es_visit.specs.Laws.{Exited, IsReady, KeepsIds, Placed};
 ghost use Rattle.es_visit.specs.Moments.{IsFinished, moment};
 ghost use Rattle.es_visit.specs.Refusals.{RefusedField, RefusedFields, RefusedProgram, RefusedTree, RefusedTrees};
-ghost use Rattle.es_visit.specs.Sites.{list_calls};
-ghost use Rattle.es_visit.specs.Visits.{Counted, EnteredKind, EnteredNode, EnteredSort, GoesOutAtBody, GoesOutByKind, GoesOutBySort, Visited, VisitedField, VisitedFields, VisitedProgram, VisitedTrees};
+ghost use Rattle.es_visit.specs.Sites.{parameters_in};
+ghost use Rattle.es_visit.specs.Visits.{Counted, EnteredKind, EnteredNode, EnteredSort, GoesAtBody, GoesByKind, GoesBySort, GoesIn, GoesOutAtBody, GoesOutByKind, GoesOutBySort, GoesOutOfNode, Visited, VisitedField, VisitedFields, VisitedProgram, VisitedTrees};
 
 use crate::hook::{Hook, hook_of_kind, sort_of};
 use crate::lowering::Additions;
@@ -37,7 +37,7 @@ fn enter_sort<T: Traverse<S>, S: Additions, L: Ledger>(
 ) -> Result<(), LowerError>
     requires ready { IsReady T.suits t.old (moment S.pending ctx.old) (weight (bare node.old)) }
     ensures entered { IfOk result (λ _. EnteredSort (T.profile ctx.old.options) (moment S.pending ctx.old) (bare node.old) (moment S.pending ctx.new) (bare node.new)) }
-    ensures goes { IfOk result (λ _. Goes T.suits T.tally ctx.old.options t.old t.new) }
+    ensures goes { IfOk result (λ _. GoesBySort T.suits T.tally T.entries ctx.old.options t.old t.new) }
     ensures refused { IfErr result (λ error. RefusedTree (T.profile ctx.old.options).rule (T.profile ctx.old.options).refuses error (moment S.pending ctx.old) (bare node.old)) }
     ensures cost { IfOk result (λ _. steps.new ≤ steps.old + 1) }
 {
@@ -64,7 +64,7 @@ fn enter_kind<T: Traverse<S>, S: Additions, L: Ledger>(
 ) -> Result<(), LowerError>
     requires ready { IsReady T.suits t.old (moment S.pending ctx.old) (weight (bare node.old)) }
     ensures entered { IfOk result (λ _. EnteredKind (T.profile ctx.old.options) (moment S.pending ctx.old) (bare node.old) (moment S.pending ctx.new) (bare node.new)) }
-    ensures goes { IfOk result (λ _. Goes T.suits T.tally ctx.old.options t.old t.new) }
+    ensures goes { IfOk result (λ _. GoesByKind T.suits T.tally T.entries ctx.old.options (kind_of node.old) t.old t.new) }
     ensures refused { IfErr result (λ error. RefusedTree (T.profile ctx.old.options).rule (T.profile ctx.old.options).refuses error (moment S.pending ctx.old) (bare node.old)) }
     ensures cost { IfOk result (λ _. steps.new ≤ steps.old + 1) }
 {
@@ -101,7 +101,7 @@ fn exit_kind<T: Traverse<S>, S: Additions, L: Ledger>(
     requires ready { IsReady T.suits t.old (moment S.pending ctx.old) (weight (bare node.old)) }
     ensures exited { IfOk result (λ _. Exited (T.profile ctx.old.options) (moment S.pending ctx.old) (bare node.old) (moment S.pending ctx.new) (bare node.new)) }
     ensures ids { IfOk result (λ _. KeepsIds node.old node.new) }
-    ensures goes { IfOk result (λ _. GoesOutByKind T.suits T.tally ctx.old.options (kind_of node.old) (label_of node.old).id t.old t.new) }
+    ensures goes { IfOk result (λ _. GoesOutByKind T.suits T.tally T.entries ctx.old.options (kind_of node.old) (label_of node.old).id t.old t.new) }
     ensures refused { IfErr result (λ error. RefusedTree (T.profile ctx.old.options).rule (T.profile ctx.old.options).refuses error (moment S.pending ctx.old) (bare node.old)) }
     ensures cost { IfOk result (λ _. steps.new ≤ steps.old + 1) }
 {
@@ -139,7 +139,7 @@ fn exit_sort<T: Traverse<S>, S: Additions, L: Ledger>(
     requires ready { IsReady T.suits t.old (moment S.pending ctx.old) (weight (bare node.old)) }
     ensures exited { IfOk result (λ _. Exited (T.profile ctx.old.options) (moment S.pending ctx.old) (bare node.old) (moment S.pending ctx.new) (bare node.new)) }
     ensures ids { IfOk result (λ _. KeepsIds node.old node.new) }
-    ensures goes { IfOk result (λ _. GoesOutBySort T.suits T.tally ctx.old.options (label_of node.old).id t.old t.new) }
+    ensures goes { IfOk result (λ _. GoesOutBySort T.suits T.tally T.entries ctx.old.options (label_of node.old).id t.old t.new) }
     ensures refused { IfErr result (λ error. RefusedTree (T.profile ctx.old.options).rule (T.profile ctx.old.options).refuses error (moment S.pending ctx.old) (bare node.old)) }
     ensures cost { IfOk result (λ _. steps.new ≤ steps.old + 1) }
 {
@@ -167,7 +167,7 @@ fn enter_body<T: Traverse<S>, S: Additions, L: Ledger>(
 ) -> Result<(), LowerError>
     requires ready { IsReady T.suits t.old (moment S.pending ctx.old) (weight (bare node.old)) }
     ensures entered { IfOk result (λ _. Placed (T.profile ctx.old.options) (moment S.pending ctx.old) (bare node.old) (moment S.pending ctx.new) (bare node.new)) }
-    ensures goes { IfOk result (λ _. Goes T.suits T.tally ctx.old.options t.old t.new) }
+    ensures goes { IfOk result (λ _. GoesAtBody T.suits T.tally T.entries ctx.old.options t.old t.new) }
     ensures refused { IfErr result (λ error. RefusedTree (T.profile ctx.old.options).rule (T.profile ctx.old.options).refuses error (moment S.pending ctx.old) (bare node.old)) }
     ensures cost { IfOk result (λ _. steps.new ≤ steps.old + 1) }
 {
@@ -190,7 +190,7 @@ fn exit_body<T: Traverse<S>, S: Additions, L: Ledger>(
     requires ready { IsReady T.suits t.old (moment S.pending ctx.old) (weight (bare node.old)) }
     ensures exited { IfOk result (λ _. Exited (T.profile ctx.old.options) (moment S.pending ctx.old) (bare node.old) (moment S.pending ctx.new) (bare node.new)) }
     ensures ids { IfOk result (λ _. KeepsIds node.old node.new) }
-    ensures goes { IfOk result (λ _. GoesOutAtBody T.suits T.tally ctx.old.options (label_of node.old).id t.old t.new) }
+    ensures goes { IfOk result (λ _. GoesOutAtBody T.suits T.tally T.entries ctx.old.options (label_of node.old).id t.old t.new) }
     ensures refused { IfErr result (λ error. RefusedTree (T.profile ctx.old.options).rule (T.profile ctx.old.options).refuses error (moment S.pending ctx.old) (bare node.old)) }
     ensures cost { IfOk result (λ _. steps.new ≤ steps.old + 1) }
 {
@@ -212,7 +212,7 @@ fn enter_node<T: Traverse<S>, S: Additions, L: Ledger>(
 ) -> Result<(), LowerError>
     requires ready { IsReady T.suits t.old (moment S.pending ctx.old) (weight (bare node.old)) }
     ensures entered { IfOk result (λ _. EnteredNode (T.profile ctx.old.options) (moment S.pending ctx.old) (bare node.old) (moment S.pending ctx.new) (bare node.new)) }
-    ensures goes { IfOk result (λ _. Goes T.suits T.tally ctx.old.options t.old t.new) }
+    ensures goes { IfOk result (λ _. GoesIn T.suits T.tally T.entries ctx.old.options t.old t.new) }
     ensures refused { IfErr result (λ error. RefusedTree (T.profile ctx.old.options).rule (T.profile ctx.old.options).refuses error (moment S.pending ctx.old) (bare node.old)) }
     ensures cost { IfOk result (λ _. steps.new ≤ steps.old + 3) }
 {
@@ -233,7 +233,7 @@ fn exit_node<T: Traverse<S>, S: Additions, L: Ledger>(
     requires ready { IsReady T.suits t.old (moment S.pending ctx.old) (weight (bare node.old)) }
     ensures exited { IfOk result (λ _. Exited (T.profile ctx.old.options) (moment S.pending ctx.old) (bare node.old) (moment S.pending ctx.new) (bare node.new)) }
     ensures ids { IfOk result (λ _. KeepsIds node.old node.new) }
-    ensures calls { IfOk result (λ _. Counted T.suits T.tally ctx.old.options t.old t.new (λ f. f (label_of node.old).id)) }
+    ensures goes { IfOk result (λ _. GoesOutOfNode T.suits T.tally T.entries ctx.old.options (label_of node.old).id t.old t.new) }
     ensures refused { IfErr result (λ error. RefusedTree (T.profile ctx.old.options).rule (T.profile ctx.old.options).refuses error (moment S.pending ctx.old) (bare node.old)) }
     ensures cost { IfOk result (λ _. steps.new ≤ steps.old + 3) }
 {
@@ -256,7 +256,7 @@ pub(crate) fn visit_node<T: Traverse<S>, S: Additions, L: Ledger>(
     requires ready { IsReady T.suits t.old (moment S.pending ctx.old) (weight (bare node.old)) }
     requires deep { 0 < length (around_of ctx.old) }
     ensures visited { IfOk result (λ _. Visited (T.profile ctx.old.options) (moment S.pending ctx.old) (bare node.old) (moment S.pending ctx.new) (bare node.new)) }
-    ensures calls { IfOk result (λ _. Counted T.suits T.tally ctx.old.options t.old t.new (λ f. count_ids f node.new)) }
+    ensures calls { IfOk result (λ _. Counted T.suits T.tally T.entries ctx.old.options t.old t.new (λ m. total m node.new)) }
     ensures refused { IfErr result (λ error. RefusedTree (T.profile ctx.old.options).rule (T.profile ctx.old.options).refuses error (moment S.pending ctx.old) (bare node.old)) }
     ensures cost { IfOk result (λ _. steps.new ≤ steps.old + hooks_in node.new) }
 {
@@ -280,9 +280,9 @@ pub(crate) fn visit_fields<T: Traverse<S>, S: Additions, L: Ledger>(
     requires ready { IsReady T.suits t.old (moment S.pending ctx.old) (fields_weight (bare_fields (plain_fields fields.old.items))) }
     requires deep { 0 < length (around_of ctx.old) }
     ensures visited { IfOk result (λ _. VisitedFields (T.profile ctx.old.options) parent.kind (moment S.pending ctx.old) (bare_fields (plain_fields fields.old.items)) (moment S.pending ctx.new) (bare_fields (plain_fields fields.new.items))) }
-    ensures calls { IfOk result (λ _. Counted T.suits T.tally ctx.old.options t.old t.new (λ f. count_ids_in f (plain_fields fields.new.items))) }
+    ensures calls { IfOk result (λ _. Counted T.suits T.tally T.entries ctx.old.options t.old t.new (λ m. own_parameters m.parameters parent.kind + total_in m (plain_fields fields.new.items))) }
     ensures refused { IfErr result (λ error. RefusedFields (T.profile ctx.old.options).rule (T.profile ctx.old.options).refuses parent.kind error (moment S.pending ctx.old) (bare_fields (plain_fields fields.old.items))) }
-    ensures cost { IfOk result (λ _. steps.new ≤ steps.old + all_parameter_hooks parent.kind + hooks_in_fields (plain_fields fields.new.items)) }
+    ensures cost { IfOk result (λ _. steps.new ≤ steps.old + (own_parameters 2 parent.kind + total_in all_hooks (plain_fields fields.new.items))) }
 {
     for index in 0..fields.len() {
         let ancestor = Ancestor {
@@ -311,9 +311,9 @@ pub(crate) fn visit_field<T: Traverse<S>, S: Additions, L: Ledger>(
     requires ready { IsReady T.suits t.old (moment S.pending ctx.old) (field_weight (bare_field (plain_field field.old))) }
     requires deep { 1 < length (around_of ctx.old) }
     ensures visited { IfOk result (λ _. VisitedField (T.profile ctx.old.options) (moment S.pending ctx.old) (bare_field (plain_field field.old)) (moment S.pending ctx.new) (bare_field (plain_field field.new))) }
-    ensures calls { IfOk result (λ _. Counted T.suits T.tally ctx.old.options t.old t.new (λ f. count_ids_at f (plain_field field.new))) }
+    ensures calls { IfOk result (λ _. Counted T.suits T.tally T.entries ctx.old.options t.old t.new (λ m. parameters_in m.parameters site + total_at m (plain_field field.new))) }
     ensures refused { IfErr result (λ error. RefusedField (T.profile ctx.old.options).rule (T.profile ctx.old.options).refuses error (moment S.pending ctx.old) (bare_field (plain_field field.old))) }
-    ensures cost { IfOk result (λ _. steps.new ≤ steps.old + list_calls site + hooks_in_field (plain_field field.new)) }
+    ensures cost { IfOk result (λ _. steps.new ≤ steps.old + (parameters_in 2 site + total_at all_hooks (plain_field field.new))) }
 {
     match field {
         Field::Missing => {}
@@ -337,9 +337,9 @@ pub(crate) fn visit_list<T: Traverse<S>, S: Additions, L: Ledger>(
     requires ready { IsReady T.suits t.old (moment S.pending ctx.old) (trees_weight (bare_trees (trees nodes.old.items))) }
     requires deep { 0 < length (around_of ctx.old) }
     ensures visited { IfOk result (λ _. VisitedTrees (T.profile ctx.old.options) (moment S.pending ctx.old) (bare_trees (trees nodes.old.items)) (moment S.pending ctx.new) (bare_trees (trees nodes.new.items))) }
-    ensures calls { IfOk result (λ _. Counted T.suits T.tally ctx.old.options t.old t.new (λ f. count_ids_among f (trees nodes.new.items))) }
+    ensures calls { IfOk result (λ _. Counted T.suits T.tally T.entries ctx.old.options t.old t.new (λ m. parameters_in m.parameters site + total_among m (trees nodes.new.items))) }
     ensures refused { IfErr result (λ error. RefusedTrees (T.profile ctx.old.options).rule (T.profile ctx.old.options).refuses error (moment S.pending ctx.old) (bare_trees (trees nodes.old.items))) }
-    ensures cost { IfOk result (λ _. steps.new ≤ steps.old + list_calls site + hooks_in_trees (trees nodes.new.items)) }
+    ensures cost { IfOk result (λ _. steps.new ≤ steps.old + (parameters_in 2 site + hooks_in_trees (trees nodes.new.items))) }
 {
     if let Site::Parameters = site {
         visit_parameters(t, nodes, ctx, steps)?;
@@ -362,7 +362,7 @@ pub(crate) fn visit_nodes<T: Traverse<S>, S: Additions, L: Ledger>(
     requires ready { IsReady T.suits t.old (moment S.pending ctx.old) (trees_weight (bare_trees (trees nodes.old.items))) }
     requires deep { 0 < length (around_of ctx.old) }
     ensures visited { IfOk result (λ _. VisitedTrees (T.profile ctx.old.options) (moment S.pending ctx.old) (bare_trees (trees nodes.old.items)) (moment S.pending ctx.new) (bare_trees (trees nodes.new.items))) }
-    ensures calls { IfOk result (λ _. Counted T.suits T.tally ctx.old.options t.old t.new (λ f. count_ids_among f (trees nodes.new.items))) }
+    ensures calls { IfOk result (λ _. Counted T.suits T.tally T.entries ctx.old.options t.old t.new (λ m. total_among m (trees nodes.new.items))) }
     ensures refused { IfErr result (λ error. RefusedTrees (T.profile ctx.old.options).rule (T.profile ctx.old.options).refuses error (moment S.pending ctx.old) (bare_trees (trees nodes.old.items))) }
     ensures cost { IfOk result (λ _. steps.new ≤ steps.old + hooks_in_trees (trees nodes.new.items)) }
 {
@@ -384,7 +384,7 @@ pub(crate) fn visit_parameters<T: Traverse<S>, S: Additions, L: Ledger>(
     requires ready { IsReady T.suits t.old (moment S.pending ctx.old) (trees_weight (bare_trees (trees parameters.old.items))) }
     requires deep { 0 < length (around_of ctx.old) }
     ensures visited { IfOk result (λ _. VisitedTrees (T.profile ctx.old.options) (moment S.pending ctx.old) (bare_trees (trees parameters.old.items)) (moment S.pending ctx.new) (bare_trees (trees parameters.new.items))) }
-    ensures calls { IfOk result (λ _. Counted T.suits T.tally ctx.old.options t.old t.new (λ f. count_ids_among f (trees parameters.new.items))) }
+    ensures calls { IfOk result (λ _. Counted T.suits T.tally T.entries ctx.old.options t.old t.new (λ m. m.parameters + total_among m (trees parameters.new.items))) }
     ensures refused { IfErr result (λ error. RefusedTrees (T.profile ctx.old.options).rule (T.profile ctx.old.options).refuses error (moment S.pending ctx.old) (bare_trees (trees parameters.old.items))) }
     ensures cost { IfOk result (λ _. steps.new ≤ steps.old + 2 + hooks_in_trees (trees parameters.new.items)) }
 {
@@ -408,7 +408,7 @@ pub(crate) fn visit_statements<T: Traverse<S>, S: Additions, L: Ledger>(
     requires ready { IsReady T.suits t.old (moment S.pending ctx.old) (trees_weight (bare_trees (trees statements.old.items))) }
     requires deep { 1 < length (around_of ctx.old) }
     ensures visited { IfOk result (λ _. VisitedField (T.profile ctx.old.options) (moment S.pending ctx.old) (statement_list (bare_trees (trees statements.old.items))) (moment S.pending ctx.new) (statement_list (bare_trees (trees statements.new.items)))) }
-    ensures calls { IfOk result (λ _. Counted T.suits T.tally ctx.old.options t.old t.new (λ f. count_ids_among f (trees statements.new.items))) }
+    ensures calls { IfOk result (λ _. Counted T.suits T.tally T.entries ctx.old.options t.old t.new (λ m. m.list + total_among m (trees statements.new.items))) }
     ensures refused { IfErr result (λ error. RefusedField (T.profile ctx.old.options).rule (T.profile ctx.old.options).refuses error (moment S.pending ctx.old) (statement_list (bare_trees (trees statements.old.items)))) }
     ensures cost { IfOk result (λ _. steps.new ≤ steps.old + 2 + hooks_in_trees (trees statements.new.items)) }
 {
@@ -432,7 +432,7 @@ fn visit_program<T: Traverse<S>, S: Additions, L: Ledger>(
     requires ready { IsReady T.suits t.old (moment S.pending ctx.old) (weight (plain_program program.old)) }
     requires top { around_of ctx.old ≡ [] }
     ensures visited { IfOk result (λ _. VisitedProgram (T.profile ctx.old.options) (moment S.pending ctx.old) program.old (moment S.pending ctx.new) program.new) }
-    ensures calls { IfOk result (λ _. Counted T.suits T.tally ctx.old.options t.old t.new (λ f. count_ids_among f (trees program.new.body.items))) }
+    ensures calls { IfOk result (λ _. Counted T.suits T.tally T.entries ctx.old.options t.old t.new (λ m. m.list + total_among m (trees program.new.body.items))) }
     ensures refused { IfErr result (λ error. RefusedProgram (T.profile ctx.old.options).rule (T.profile ctx.old.options).refuses error (moment S.pending ctx.old) program.old) }
     ensures cost { IfOk result (λ _. steps.new ≤ steps.old + 2 + hooks_in_trees (trees program.new.body.items)) }
 {
@@ -467,7 +467,7 @@ pub fn traverse<T: Traverse<S>, S: Additions, L: Ledger>(
     requires top { around_of ctx.old ≡ [] }
     ensures visited { IfOk result (λ _. VisitedProgram (T.profile ctx.old.options) (moment S.pending ctx.old) program.old (moment S.pending ctx.new) program.new) }
     ensures finished { IfOk result (λ _. IsFinished (moment S.pending ctx.new)) }
-    ensures calls { IfOk result (λ _. Counted T.suits T.tally ctx.old.options t.old t.new (λ f. count_ids f (plain_program program.new))) }
+    ensures calls { IfOk result (λ _. Counted T.suits T.tally T.entries ctx.old.options t.old t.new (λ m. total m (plain_program program.new))) }
     ensures refused { IfErr result (λ error. RefusedProgram (T.profile ctx.old.options).rule (T.profile ctx.old.options).refuses error (moment S.pending ctx.old) program.old) }
     ensures cost { IfOk result (λ _. steps.new ≤ steps.old + hooks_in (plain_program program.new)) }
 {

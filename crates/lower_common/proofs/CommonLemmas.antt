@@ -17,7 +17,7 @@ use Rattle.es_runs.specs.OpenRules.{Writing, writes}
 use Rattle.es_runs.specs.OpenSteps.{ledger, Steps, stays, goes, Step, inside, in_first, in_later, acts_on_list}
 use Rattle.es_runs.specs.Weights.{weight, trees_weight}
 use Rattle.es_runs.proofs.Weights.{written_weight, written_size, trees_weight-bare, trees_size-bare}
-use Rattle.es_visit.specs.Counts.{count_ids_among, count_ids, hooks_in, hooks_in_trees}
+use Rattle.es_visit.specs.Counts.{Measure, total, total_among, hooks_in, hooks_in_trees}
 use Rattle.es_visit.specs.Moments.{Moment, heft, pending_nodes, with_lists, top, below, is_inert, lists_inert, are_inert, is_inert_node, whole_at, Kept}
 use Rattle.es_visit.specs.Changes.{Listed, ChangedProgram, open_program}
 use Rattle.es_visit.specs.Laws.{is_row, is_outermost, opens, EnteredList, ExitedList, ExitedProgram, KeepsAllIds, KeepsIds, body_of}
@@ -242,11 +242,11 @@ exited_program_empty a x e others = record {
   finished = λ _. record { own = ap top e; others = others };
 }
 
-program_ids_in : (x y : Program) → Rewrites x y → KeepsAllIds (trees x.body.items) (trees y.body.items) → (f : ℕ → ℕ) → count_ids f (plain_program x) ≤ count_ids f (plain_program y)
-program_ids_in x y same h f =
-    let d = ap (λ ds. count_ids_among f (trees ds)) same.directives in
-    let l = ap (λ l. f l.id) same.label in
-    omega (arith, h f)
+program_ids_in : (x y : Program) → Rewrites x y → KeepsAllIds (trees x.body.items) (trees y.body.items) → (m : Measure) → total m (plain_program x) ≤ total m (plain_program y)
+program_ids_in x y same h m =
+    let d = ap (λ ds. total_among m (trees ds)) same.directives in
+    let l = ap (λ l. m.node l.id) same.label in
+    omega (arith, h m)
 
 pub program_ids : (x y : Program) → Rewrites x y → KeepsAllIds (trees x.body.items) (trees y.body.items) → KeepsIds (plain_program x) (plain_program y)
 program_ids x y same h = record { root = ap (λ l. l.id) same.label; all = program_ids_in x y same h }

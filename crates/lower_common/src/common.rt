@@ -42,6 +42,8 @@ impl Lowering for Common {
 
     ghost tally = { λ x h j. 0 };
 
+    ghost entries = { λ x h. 0 };
+
     fn keeps_pairs(&self) -> bool {
         true
     }

@@ -26,6 +26,10 @@ suits_es2020 x o = (options_of x ≡ o.es2020) × (assumes_of x ≡ o.assumption
 abbrev pub no_tally : ES2020 → Hook → ℕ → ℕ
 no_tally x h id = 0
 
+-- no enter hook is counted
+abbrev pub no_entries : ES2020 → Hook → ℕ
+no_entries x h = 0
+
 -- which lowerings of ECMAScript 2021 are on
 abbrev pub es2021_options_of : ES2021 → ES2021Options
 es2021_options_of x = x.options

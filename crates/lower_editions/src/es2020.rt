@@ -31,7 +31,7 @@ impl ES2020 {
     ghost use Rattle.es_visit.specs.Refusals.{RefusedTree};
     ghost use Rattle.es_visit.specs.declared.hook.Hook.TheVariants.{Expression as AnyExpression};
     ghost use Rattle.lower_common.specs.Takings.{moment_of};
-    ghost use Rattle.lower_editions.specs.Editions.{assumes_of, no_tally, options_of};
+    ghost use Rattle.lower_editions.specs.Editions.{assumes_of, no_entries, no_tally, options_of};
     ghost use Rattle.lower_editions.specs.Profiles.{chains_profile, nullish_profile};
 
     /// The lowerings that these options ask for, where it is assumed or not that no value is
@@ -55,7 +55,7 @@ impl ES2020 {
     ) -> Result<(), LowerError>
         requires ready { IsReady suits_es2020 self.old (moment_of ctx.old) (weight (bare node.old)) }
         ensures entered { IfOk result (λ _. Entered (nullish_profile ctx.old.options) AnyExpression (moment_of ctx.old) (bare node.old) (moment_of ctx.new) (bare node.new)) }
-        ensures goes { IfOk result (λ _. Goes suits_es2020 no_tally ctx.old.options self.old self.new) }
+        ensures goes { IfOk result (λ _. Goes suits_es2020 no_tally no_entries ctx.old.options AnyExpression self.old self.new) }
         ensures refused { IfErr result (λ error. RefusedTree (nullish_profile ctx.old.options).rule (nullish_profile ctx.old.options).refuses error (moment_of ctx.old) (bare node.old)) }
     {
         if self.options.nullish_coalescing_operator {
@@ -73,7 +73,7 @@ impl ES2020 {
     ) -> Result<(), LowerError>
         requires ready { IsReady suits_es2020 self.old (moment_of ctx.old) (weight (bare node.old)) }
         ensures entered { IfOk result (λ _. Entered (chains_profile ctx.old.options) AnyExpression (moment_of ctx.old) (bare node.old) (moment_of ctx.new) (bare node.new)) }
-        ensures goes { IfOk result (λ _. Goes suits_es2020 no_tally ctx.old.options self.old self.new) }
+        ensures goes { IfOk result (λ _. Goes suits_es2020 no_tally no_entries ctx.old.options AnyExpression self.old self.new) }
         ensures refused { IfErr result (λ error. RefusedTree (chains_profile ctx.old.options).rule (chains_profile ctx.old.options).refuses error (moment_of ctx.old) (bare node.old)) }
     {
         if self.options.optional_chaining {
@@ -91,6 +91,8 @@ impl Lowering for ES2020 {
     ghost suits = { suits_es2020 };
 
     ghost tally = { λ x h id. 0 };
+
+    ghost entries = { λ x h. 0 };
 
     fn keeps_pairs(&self) -> bool {
         false

@@ -43,6 +43,8 @@ impl Lowering for ES2021 {
 
     ghost tally = { λ x h id. 0 };
 
+    ghost entries = { λ x h. 0 };
+
     fn keeps_pairs(&self) -> bool {
         false
     }

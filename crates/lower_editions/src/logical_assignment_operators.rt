@@ -50,6 +50,8 @@ impl Lowering for LogicalAssignmentOperators {
 
     ghost tally = { λ x h id. 0 };
 
+    ghost entries = { λ x h. 0 };
+
     fn keeps_pairs(&self) -> bool {
         false
     }

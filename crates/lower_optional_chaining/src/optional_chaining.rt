@@ -78,6 +78,8 @@ impl Lowering for OptionalChaining {
 
     ghost tally = { λ x h id. 0 };
 
+    ghost entries = { λ x h. 0 };
+
     fn keeps_pairs(&self) -> bool {
         false
     }

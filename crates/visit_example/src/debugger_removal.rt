@@ -65,6 +65,8 @@ impl Lowering for DebuggerRemoval {
 
     ghost tally = { λ x h j. 0 };
 
+    ghost entries = { λ x h. 0 };
+
     fn keeps_pairs(&self) -> bool {
         false
     }

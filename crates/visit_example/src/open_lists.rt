@@ -34,6 +34,8 @@ impl Lowering for OpenLists {
 
     ghost tally = { λ x h j. 0 };
 
+    ghost entries = { λ x h. 0 };
+
     fn keeps_pairs(&self) -> bool {
         true
     }

@@ -7,20 +7,20 @@ use Rattle.es_tree.specs.Views.{plain_field, plain_fields}
 use Rattle.es_runs.specs.Weights.{field_weight, fields_weight, trees_weight, weight}
 use Rattle.es_scope.specs.Contexts.{around_of}
 use Rattle.es_scope.specs.declared.ancestor.Ancestor.{Ancestor}
-use Rattle.es_visit.specs.Counts.{all_parameter_hooks, count_ids, hooks_in, just, parameter_hooks}
-use Rattle.es_visit.specs.Sites.{list_calls_before}
+use Rattle.es_visit.specs.Counts.{all_hooks, own_parameters, parameters_at, total}
+use Rattle.es_visit.specs.Sites.{parameters_before}
 use Rattle.es_visit.specs.Laws.{IsReady}
 use Rattle.es_visit.specs.Moments.{heft, moment, inside_of}
 use Rattle.es_visit.specs.Refusals.{RefusedField, RefusedFields, RefusedTree}
 use Rattle.es_visit.specs.Visits.{EnteredNode, VisitedField, VisitedFields, Visited}
 use Rattle.es_visit.proofs.Changes.{changed_none}
-use Rattle.es_visit.proofs.Entering.{passes_on, moved, refused_then, changed_inside, visited_node}
-use Rattle.es_visit.proofs.Lists.{refused_trees_then, visited_trees_then, visited_parameters, visited_statements, refused_by_nodes, refused_by_exit, list_counted}
-use Rattle.es_visit.proofs.Places.{moment_inside, moment_left, free_fields, free_trees, fields_more, free_more, refused_field_more, lighter_field, ready_field, trees_more, free_tree_more, refused_tree_more, lighter_tree, ready_tree, counted_at}
+use Rattle.es_visit.proofs.Entering.{passes_on, moved, refused_then, changed_inside, visited_node, node_counted, counted_within}
+use Rattle.es_visit.proofs.Lists.{refused_trees_then, visited_trees_then, visited_parameters, visited_statements, refused_by_nodes, refused_by_exit, parameters_counted, statements_counted}
+use Rattle.es_visit.proofs.Places.{moment_inside, moment_left, free_fields, free_trees, fields_more, free_more, refused_field_more, lighter_field, ready_field, trees_more, free_tree_more, refused_tree_more, lighter_tree, ready_tree}
 use Rattle.es_visit.proofs.OneField.{visited_missing, visited_one, visited_many, visited_list, refused_at_one, refused_at_many}
 use Rattle.es_visit.proofs.Refused.{refused_node, refused_statements}
 use Rattle.es_visit.proofs.SoFar.{so_far_none, so_far_more}
-use Rattle.es_visit.proofs.Sums.{fields_hooks-sum, fields_ids-sum, hooks_at, ids_at, trees_hooks-sum, trees_ids-sum, hooks-bare, trees_hooks-bare, list_calls-within}
+use Rattle.es_visit.proofs.Sums.{fields_total-sum, trees_total-sum, total_of, parameters-within}
 use Rattle.es_visit.proofs.walk.+visit.Goals.{visit_field-in-Missing, visit_field-in-One+in_ok-visit_node-in-One, visit_field-in-Many+in_ok-visit_list-in-Many, visit_field-in-Statements+in_ok-visit_statements-in-Statements}
 use Rattle.es_visit.proofs.walk.+visit.Goals as goal
 
@@ -34,7 +34,7 @@ visit_nodes-visit_node-requires g t c κs within =
     let here : get_or c.loop-index.nodes.items c.loop-index.index c.index_mut.result.now ≡ c.index_mut.result.now = sym c.index_mut.ensures.value in
     let light : heft (moment g.S.Additions.pending c.loop-index.ctx) + weight (bare c.index_mut.result.now) ≤ heft (moment g.S.Additions.pending c.args.ctx.now) + trees_weight (bare_trees (trees c.args.nodes.now.items)) =
     subst (λ x. heft (moment g.S.Additions.pending c.loop-index.ctx) + weight (bare x) ≤ heft (moment g.S.Additions.pending c.args.ctx.now) + trees_weight (bare_trees (trees c.args.nodes.now.items))) here (lighter_tree g.T.Lowering.profile c.args.nodes.now.items c.loop-index.nodes.items c.loop-index.index c.index_mut.result.now l c.loop-index.invariant.changed) in
-    let ready : IsReady g.T.Lowering.suits c.loop-index.t (moment g.S.Additions.pending c.loop-index.ctx) (weight (bare c.index_mut.result.now)) = subst (λ x. IsReady g.T.Lowering.suits c.loop-index.t (moment g.S.Additions.pending c.loop-index.ctx) (weight (bare x))) here (ready_tree g.T.Lowering.profile c.args.nodes.now.items c.loop-index.nodes.items c.loop-index.index c.index_mut.result.now c.args.t.now c.loop-index.t l c.loop-index.invariant.changed c.loop-index.invariant.so_far.suits_still c.requires.ready) in
+    let ready : IsReady g.T.Lowering.suits c.loop-index.t (moment g.S.Additions.pending c.loop-index.ctx) (weight (bare c.index_mut.result.now)) = subst (λ x. IsReady g.T.Lowering.suits c.loop-index.t (moment g.S.Additions.pending c.loop-index.ctx) (weight (bare x))) here (ready_tree g.T.Lowering.profile c.args.nodes.now.items c.loop-index.nodes.items c.loop-index.index c.index_mut.result.now c.args.t.now c.loop-index.t l c.loop-index.invariant.changed c.loop-index.invariant.so_far.calls.suits_still c.requires.ready) in
     let deep : 0 < length (around_of c.loop-index.ctx) = omega (arith, c.requires.deep, ap length c.loop-index.invariant.changed.kept.around) in
     grind (arith, light, ready, deep, c.requires.keeps)
 
@@ -54,8 +54,8 @@ visit_nodes-loop-index-preserved g t c =
     subst (λ x. Visited (g.T.Lowering.profile c.loop-index.ctx.options) (moment g.S.Additions.pending c.loop-index.ctx) (bare x) (moment g.S.Additions.pending c.visit_node.new.ctx) (bare c.visit_node.new.node)) (sym here) c.in_ok-visit_node.ensures.visited in
     record {
       changed = trees_more g.T.Lowering.profile c.args.nodes.now.items c.loop-index.nodes.items c.loop-index.index c.index_mut.result.now c.visit_node.new.node l c.loop-index.invariant.changed v;
-      so_far = so_far_more c.loop-index.invariant.so_far c.visit_node.new.node 0 l (free_tree_more g.T.Lowering.profile c.args.nodes.now.items c.loop-index.nodes.items c.loop-index.index c.index_mut.result.now c.visit_node.new.node c.loop-index.invariant.changed v)
-          (counted_at c.loop-index.invariant.changed.kept.options c.in_ok-visit_node.ensures.calls) (omega (arith, c.in_ok-visit_node.ensures.cost)) (omega arith);
+      so_far = so_far_more c.loop-index.invariant.so_far c.visit_node.new.node (λ n. 0) l (free_tree_more g.T.Lowering.profile c.args.nodes.now.items c.loop-index.nodes.items c.loop-index.index c.index_mut.result.now c.visit_node.new.node c.loop-index.invariant.changed v)
+          (counted_within c.loop-index.invariant.changed.kept.options (λ m. omega arith) c.in_ok-visit_node.ensures.calls) (omega (arith, c.in_ok-visit_node.ensures.cost)) (λ n. omega arith);
     }
 
 pub visit_nodes-returns-clause-visited : goal.visit_nodes-returns-clause-visited
@@ -64,14 +64,11 @@ visit_nodes-returns-clause-visited g t c =
 
 pub visit_nodes-returns-clause-calls : goal.visit_nodes-returns-clause-calls
 visit_nodes-returns-clause-calls g t c =
-    record {
-      suits_still = c.loop-index.invariant.so_far.suits_still;
-      calls = λ h j. omega (arith, c.loop-index.invariant.so_far.calls h j, trees_ids-sum (just j) c.loop-index.nodes.items, sum_by-take-le (count_ids (just j)) c.loop-index.nodes.items c.loop-index.index);
-    }
+    counted_within refl (λ m. omega (arith, trees_total-sum m c.loop-index.nodes.items, sum_by-take-le (total m) c.loop-index.nodes.items c.loop-index.index)) c.loop-index.invariant.so_far.calls
 
 pub visit_nodes-returns-clause-cost : goal.visit_nodes-returns-clause-cost
 visit_nodes-returns-clause-cost g t c =
-    omega (arith, c.loop-index.invariant.so_far.cost, trees_hooks-sum c.loop-index.nodes.items, sum_by-take-le hooks_in c.loop-index.nodes.items c.loop-index.index)
+    omega (arith, c.loop-index.invariant.so_far.cost, trees_total-sum all_hooks c.loop-index.nodes.items, sum_by-take-le (total all_hooks) c.loop-index.nodes.items c.loop-index.index)
 
 pub visit_fields-loop-index-init : goal.visit_fields-loop-index-init
 visit_fields-loop-index-init g t c =
@@ -86,7 +83,7 @@ visit_fields-visit_field-requires g t c κs within =
     let here : get_or c.loop-index.fields.items c.loop-index.index c.index_mut.result.now ≡ c.index_mut.result.now = sym c.index_mut.ensures.value in
     let light : heft (moment g.S.Additions.pending c.enter_place.new.self) + field_weight (bare_field (plain_field c.index_mut.result.now)) ≤ heft (moment g.S.Additions.pending c.args.ctx.now) + fields_weight (bare_fields (plain_fields c.args.fields.now.items)) =
     subst (λ y. heft (moment g.S.Additions.pending c.enter_place.new.self) + field_weight (bare_field (plain_field y)) ≤ heft (moment g.S.Additions.pending c.args.ctx.now) + fields_weight (bare_fields (plain_fields c.args.fields.now.items))) here (lighter_field g.T.Lowering.profile x c.args.fields.now.items c.loop-index.fields.items c.loop-index.index c.index_mut.result.now e l c.loop-index.invariant.changed) in
-    let ready : IsReady g.T.Lowering.suits c.loop-index.t (moment g.S.Additions.pending c.enter_place.new.self) (field_weight (bare_field (plain_field c.index_mut.result.now))) = subst (λ y. IsReady g.T.Lowering.suits c.loop-index.t (moment g.S.Additions.pending c.enter_place.new.self) (field_weight (bare_field (plain_field y)))) here (ready_field g.T.Lowering.profile x c.args.fields.now.items c.loop-index.fields.items c.loop-index.index c.index_mut.result.now c.args.t.now c.loop-index.t e l c.loop-index.invariant.changed c.loop-index.invariant.so_far.suits_still c.requires.ready) in
+    let ready : IsReady g.T.Lowering.suits c.loop-index.t (moment g.S.Additions.pending c.enter_place.new.self) (field_weight (bare_field (plain_field c.index_mut.result.now))) = subst (λ y. IsReady g.T.Lowering.suits c.loop-index.t (moment g.S.Additions.pending c.enter_place.new.self) (field_weight (bare_field (plain_field y)))) here (ready_field g.T.Lowering.profile x c.args.fields.now.items c.loop-index.fields.items c.loop-index.index c.index_mut.result.now c.args.t.now c.loop-index.t e l c.loop-index.invariant.changed c.loop-index.invariant.so_far.calls.suits_still c.requires.ready) in
     let deep : 1 < length (around_of c.enter_place.new.self) = omega (arith, c.requires.deep, ap length c.in_ok-enter_place.ensures.around, ap length c.loop-index.invariant.changed.kept.around) in
     grind (arith, light, ready, deep, c.requires.keeps)
 
@@ -117,11 +114,10 @@ visit_fields-loop-index-preserved g t c =
     let n : moment g.S.Additions.pending c.visit_field.new.ctx ≡ inside_of x (moment g.S.Additions.pending c.leave_place.new.self) =
     moment_left g.S.Additions.pending c.visit_field.new.ctx c.leave_place.new.self x (v.changed.kept.around ∙ c.in_ok-enter_place.ensures.around) c.leave_place.ensures.around c.leave_place.ensures.state c.leave_place.ensures.ast c.leave_place.ensures.options c.leave_place.ensures.table c.leave_place.ensures.names in
     let one_more : suc c.loop-index.index ≡ c.loop-index.index + 1 = omega arith in
-    let calls = ap (λ j. list_calls_before c.args.parent.kind j) one_more in
     record {
       changed = fields_more g.T.Lowering.profile x c.args.fields.now.items c.loop-index.fields.items c.loop-index.index c.index_mut.result.now c.visit_field.new.field e n refl l c.loop-index.invariant.changed v;
-      so_far = so_far_more c.loop-index.invariant.so_far c.visit_field.new.field (parameter_hooks c.args.parent.kind c.loop-index.index) l (free_more g.T.Lowering.profile x c.args.fields.now.items c.loop-index.fields.items c.loop-index.index c.index_mut.result.now c.visit_field.new.field e c.loop-index.invariant.changed v)
-          (counted_at (ap (λ y. y.options) e ∙ c.loop-index.invariant.changed.kept.options) c.in_ok-visit_field.ensures.calls) (omega (arith, c.in_ok-visit_field.ensures.cost, c.site_at.ensures)) (omega (arith, calls));
+      so_far = so_far_more c.loop-index.invariant.so_far c.visit_field.new.field (λ n. parameters_at n c.args.parent.kind c.loop-index.index) l (free_more g.T.Lowering.profile x c.args.fields.now.items c.loop-index.fields.items c.loop-index.index c.index_mut.result.now c.visit_field.new.field e c.loop-index.invariant.changed v)
+          (counted_within (ap (λ y. y.options) e ∙ c.loop-index.invariant.changed.kept.options) (λ m. omega (arith, c.site_at.ensures m.parameters)) c.in_ok-visit_field.ensures.calls) (omega (arith, c.in_ok-visit_field.ensures.cost, c.site_at.ensures 2)) (λ n. omega (arith, ap (λ j. parameters_before n c.args.parent.kind j) one_more));
     }
 
 pub visit_fields-returns-clause-visited : goal.visit_fields-returns-clause-visited
@@ -130,14 +126,11 @@ visit_fields-returns-clause-visited g t c =
 
 pub visit_fields-returns-clause-calls : goal.visit_fields-returns-clause-calls
 visit_fields-returns-clause-calls g t c =
-    record {
-      suits_still = c.loop-index.invariant.so_far.suits_still;
-      calls = λ h j. omega (arith, c.loop-index.invariant.so_far.calls h j, fields_ids-sum (just j) c.loop-index.fields.items, sum_by-take-le (ids_at (just j)) c.loop-index.fields.items c.loop-index.index);
-    }
+    counted_within refl (λ m. omega (arith, fields_total-sum m c.loop-index.fields.items, sum_by-take-le (total_of m) c.loop-index.fields.items c.loop-index.index, parameters-within m.parameters c.args.parent.kind c.loop-index.index)) c.loop-index.invariant.so_far.calls
 
 pub visit_fields-returns-clause-cost : goal.visit_fields-returns-clause-cost
 visit_fields-returns-clause-cost g t c =
-    omega (arith, c.loop-index.invariant.so_far.cost, fields_hooks-sum c.loop-index.fields.items, sum_by-take-le hooks_at c.loop-index.fields.items c.loop-index.index, list_calls-within c.args.parent.kind c.loop-index.index)
+    omega (arith, c.loop-index.invariant.so_far.cost, fields_total-sum all_hooks c.loop-index.fields.items, sum_by-take-le (total_of all_hooks) c.loop-index.fields.items c.loop-index.index, parameters-within 2 c.args.parent.kind c.loop-index.index)
 
 pub visit_parameters-returns-in_err-visit_nodes-clause-refused : goal.visit_parameters-returns-in_err-visit_nodes-clause-refused
 visit_parameters-returns-in_err-visit_nodes-clause-refused g t c =
@@ -154,11 +147,11 @@ visit_parameters-returns-clause-visited g t c =
 
 pub visit_parameters-returns-clause-calls : goal.visit_parameters-returns-clause-calls
 visit_parameters-returns-clause-calls g t c =
-    list_counted _ _ c.in_ok-enter_formal_parameters.ensures.entered.changed.kept.options c.in_ok-visit_nodes.ensures.visited.changed.kept.options c.in_ok-enter_formal_parameters.ensures.goes c.in_ok-visit_nodes.ensures.calls c.in_ok-exit_formal_parameters.ensures.goes c.in_ok-exit_formal_parameters.ensures.ids
+    parameters_counted _ _ c.in_ok-enter_formal_parameters.ensures.entered.changed.kept.options c.in_ok-visit_nodes.ensures.visited.changed.kept.options c.in_ok-enter_formal_parameters.ensures.goes c.in_ok-visit_nodes.ensures.calls c.in_ok-exit_formal_parameters.ensures.goes c.in_ok-exit_formal_parameters.ensures.ids
 
 pub visit_parameters-returns-clause-cost : goal.visit_parameters-returns-clause-cost
 visit_parameters-returns-clause-cost g t c =
-    omega (arith, c.in_ok-visit_nodes.ensures.cost, c.in_ok-exit_formal_parameters.ensures.exited.hooks, trees_hooks-bare (trees c.visit_nodes.new.nodes.items), trees_hooks-bare (trees c.exit_formal_parameters.new.parameters.items))
+    omega (arith, c.in_ok-visit_nodes.ensures.cost, c.in_ok-exit_formal_parameters.ensures.ids all_hooks)
 
 pub visit_statements-returns-in_err-enter_statements-clause-refused : goal.visit_statements-returns-in_err-enter_statements-clause-refused
 visit_statements-returns-in_err-enter_statements-clause-refused g t c =
@@ -181,11 +174,11 @@ visit_statements-returns-clause-visited g t c =
 
 pub visit_statements-returns-clause-calls : goal.visit_statements-returns-clause-calls
 visit_statements-returns-clause-calls g t c =
-    list_counted _ _ c.in_ok-enter_statements.ensures.entered.listed.kept.options c.in_ok-visit_nodes.ensures.visited.changed.kept.options c.in_ok-enter_statements.ensures.goes c.in_ok-visit_nodes.ensures.calls c.in_ok-exit_statements.ensures.goes c.in_ok-exit_statements.ensures.ids
+    statements_counted _ _ c.in_ok-enter_statements.ensures.entered.listed.kept.options c.in_ok-visit_nodes.ensures.visited.changed.kept.options c.in_ok-enter_statements.ensures.goes c.in_ok-visit_nodes.ensures.calls c.in_ok-exit_statements.ensures.goes c.in_ok-exit_statements.ensures.ids
 
 pub visit_statements-returns-clause-cost : goal.visit_statements-returns-clause-cost
 visit_statements-returns-clause-cost g t c =
-    omega (arith, c.in_ok-visit_nodes.ensures.cost, c.in_ok-exit_statements.ensures.exited.hooks, trees_hooks-bare (trees c.visit_nodes.new.nodes.items), trees_hooks-bare (trees c.exit_statements.new.statements.items))
+    omega (arith, c.in_ok-visit_nodes.ensures.cost, c.in_ok-exit_statements.ensures.ids all_hooks)
 
 pub visit_node-returns-in_err-visit_fields-clause-refused : goal.visit_node-returns-in_err-visit_fields-clause-refused
 visit_node-returns-in_err-visit_fields-clause-refused g t c =
@@ -229,16 +222,19 @@ visit_node-returns-clause-visited g t c =
     subst (λ q. VisitedFields (g.T.Lowering.profile c.enter_node.new.ctx.options) q (moment g.S.Additions.pending c.enter_node.new.ctx) fs (moment g.S.Additions.pending c.visit_fields.new.ctx) gs) kind c.in_ok-visit_fields.ensures.visited in
     visited_node g.T.Lowering.profile k (bare_label l) fs gs (bare c.args.node.now) _ (g.met.T.Traverse.lawful c.args.t.now c.args.ctx.now.options) entered v c.in_ok-exit_node.ensures.exited
 
-pub visit_node-returns-clause-cost : goal.visit_node-returns-clause-cost
-visit_node-returns-clause-cost g t c =
+pub visit_node-returns-clause-calls : goal.visit_node-returns-clause-calls
+visit_node-returns-clause-calls g t c =
     let a = c.node.inside in
     let k = (head_of a.kind).kind in
     let l = label a.id a.span (head_of a.kind) in
-    let fs = bare_fields (plain_fields a.fields.items) in
-    let entered : EnteredNode (g.T.Lowering.profile c.args.ctx.now.options) (moment g.S.Additions.pending c.args.ctx.now) (bare c.args.node.now) (moment g.S.Additions.pending c.enter_node.new.ctx) (node k (bare_label l) fs) =
-    subst (λ x. EnteredNode (g.T.Lowering.profile c.args.ctx.now.options) (moment g.S.Additions.pending c.args.ctx.now) (bare c.args.node.now) (moment g.S.Additions.pending c.enter_node.new.ctx) (bare x)) (sym c.node.view_is) c.in_ok-enter_node.ensures.entered in
     let kind : c.parent_of-parent.result.kind ≡ k = c.parent_of-parent.ensures.kind ∙ ap kind_of (sym c.node.view_is) in
-    omega (arith, c.in_ok-enter_node.ensures.cost, c.in_ok-visit_fields.ensures.cost, c.in_ok-exit_node.ensures.cost, c.in_ok-exit_node.ensures.exited.hooks, hooks-bare (node k l (plain_fields c.visit_fields.new.fields.items)), hooks-bare c.exit_node.new.node, ap all_parameter_hooks kind)
+    node_counted k l (plain_fields c.visit_fields.new.fields.items) c.exit_node.new.node c.in_ok-enter_node.ensures.entered.changed.kept.options c.in_ok-visit_fields.ensures.visited.changed.kept.options c.in_ok-enter_node.ensures.goes
+    (counted_within refl (λ m. omega (arith, ap (λ q. own_parameters m.parameters q) kind)) c.in_ok-visit_fields.ensures.calls) c.in_ok-exit_node.ensures.goes c.in_ok-exit_node.ensures.ids
+
+pub visit_node-returns-clause-cost : goal.visit_node-returns-clause-cost
+visit_node-returns-clause-cost g t c =
+    let kind : c.parent_of-parent.result.kind ≡ (head_of c.node.inside.kind).kind = c.parent_of-parent.ensures.kind ∙ ap kind_of (sym c.node.view_is) in
+    omega (arith, c.in_ok-enter_node.ensures.cost, c.in_ok-visit_fields.ensures.cost, c.in_ok-exit_node.ensures.cost, c.in_ok-exit_node.ensures.ids.all all_hooks, ap (λ q. own_parameters 2 q) kind)
 
 pub visit_field-returns-in_err-visit_node-in-One-clause-refused : goal.visit_field-returns-in_err-visit_node-in-One-clause-refused
 visit_field-returns-in_err-visit_node-in-One-clause-refused g t c =

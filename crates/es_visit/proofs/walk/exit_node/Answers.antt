@@ -1,6 +1,6 @@
 use Rattle.es_tree.specs.Bare.{bare}
 use Rattle.es_tree.specs.Tree.{kind_of}
-use Rattle.es_visit.proofs.Entering.{exited_then, exits_after, passes_on, refused_then}
+use Rattle.es_visit.proofs.Entering.{exited_then, exits_once, passes_on, refused_then}
 use Rattle.es_visit.proofs.walk.exit_node.Goals as goal
 
 pub returns-in_err-exit_sort-clause-refused : goal.returns-in_err-exit_sort-clause-refused
@@ -18,7 +18,7 @@ pub returns-clause-exited : goal.returns-clause-exited
 returns-clause-exited g c =
     exited_then g.T.Lowering.profile _ _ _ c.in_ok-exit_kind.ensures.exited (exited_then g.T.Lowering.profile _ _ _ c.in_ok-exit_sort.ensures.exited c.in_ok-exit_body.ensures.exited)
 
-pub returns-clause-calls : goal.returns-clause-calls
-returns-clause-calls g c =
-    exits_after (kind_of c.args.node.now) c.in_ok-exit_kind.ensures.exited.changed.kept.options c.in_ok-exit_sort.ensures.exited.changed.kept.options c.in_ok-exit_kind.ensures.ids.root c.in_ok-exit_sort.ensures.ids.root
+pub returns-clause-goes : goal.returns-clause-goes
+returns-clause-goes g c =
+    exits_once (kind_of c.args.node.now) c.in_ok-exit_kind.ensures.exited.changed.kept.options c.in_ok-exit_sort.ensures.exited.changed.kept.options c.in_ok-exit_kind.ensures.ids.root c.in_ok-exit_sort.ensures.ids.root
     c.in_ok-exit_kind.ensures.goes c.in_ok-exit_sort.ensures.goes c.in_ok-exit_body.ensures.goes

@@ -1,6 +1,7 @@
 use Rattle.std.proofs.Common.{◌∙◌, arith}
 use Rattle.es_statements.specs.ProgramPlain.{plain_program}
 use Rattle.es_runs.specs.Weights.{weight}
+use Rattle.es_visit.specs.Counts.{all_hooks}
 use Rattle.es_visit.specs.Laws.{IsReady}
 use Rattle.es_visit.specs.Moments.{moment}
 use Rattle.es_visit.proofs.Entering.{passes_on}
@@ -44,4 +45,4 @@ returns-clause-calls g c =
 
 pub returns-clause-cost : goal.returns-clause-cost
 returns-clause-cost g c =
-    omega (arith, c.in_ok-visit_program.ensures.cost, c.in_ok-exit_program.ensures.exited.hooks)
+    omega (arith, c.in_ok-visit_program.ensures.cost, c.in_ok-exit_program.ensures.ids.all all_hooks)

@@ -5,13 +5,14 @@ use Rattle.es_runs.specs.Weights.{trees_weight}
 use Rattle.es_runs.proofs.Weights.{trees_weight-bare}
 use Rattle.es_scope.specs.Contexts.{around_of}
 use Rattle.es_scope.specs.declared.ancestor.Ancestor.{Ancestor}
-use Rattle.es_visit.specs.Laws.{IsReady, body_of}
+use Rattle.es_visit.specs.Counts.{all_hooks}
+use Rattle.es_visit.specs.declared.hook.Hook.TheVariants.{Statements as StatementList}
+use Rattle.es_visit.specs.Laws.{Goes, IsReady, body_of}
 use Rattle.es_visit.specs.Moments.{heft, inside_of, is_inert, moment}
 use Rattle.es_visit.proofs.Entering.{passes_on}
-use Rattle.es_visit.proofs.Lists.{trees_ready, refused_by_nodes, refused_by_exit, list_ready, opens_heft, opens_inert, list_counted}
+use Rattle.es_visit.proofs.Lists.{trees_ready, refused_by_nodes, refused_by_exit, list_ready, opens_heft, opens_inert, statements_counted}
 use Rattle.es_visit.proofs.Places.{moment_inside, moment_left}
 use Rattle.es_visit.proofs.Programs.{program_place, visited_body, refused_body}
-use Rattle.es_visit.proofs.Sums.{trees_hooks-bare}
 use Rattle.es_visit.proofs.walk.visit_program.Goals as goal
 
 pub enter_statements-requires : goal.enter_statements-requires
@@ -108,12 +109,9 @@ returns-clause-visited g c =
 
 pub returns-clause-calls : goal.returns-clause-calls
 returns-clause-calls g c =
-    let place = c.args.program.now.id in
-    let x : Ancestor = program_place place in
-    let e : moment g.S.Additions.pending c.enter_place.new.self ≡ inside_of x (moment g.S.Additions.pending c.args.ctx.now) =
-    moment_inside g.S.Additions.pending c.args.ctx.now c.enter_place.new.self x c.in_ok-enter_place.ensures.around c.in_ok-enter_place.ensures.state c.in_ok-enter_place.ensures.ast c.in_ok-enter_place.ensures.options c.in_ok-enter_place.ensures.table c.in_ok-enter_place.ensures.names in
-    list_counted _ _ (c.in_ok-enter_statements.ensures.entered.listed.kept.options ∙ c.in_ok-enter_place.ensures.options) c.in_ok-visit_nodes.ensures.visited.changed.kept.options (record { suits_still = subst (λ o. g.T.Lowering.suits c.enter_statements.new.self o) c.in_ok-enter_place.ensures.options c.in_ok-enter_statements.ensures.goes.suits_still; no_exit = c.in_ok-enter_statements.ensures.goes.no_exit }) c.in_ok-visit_nodes.ensures.calls c.in_ok-exit_statements.ensures.goes c.in_ok-exit_statements.ensures.ids
+    statements_counted _ _ (c.in_ok-enter_statements.ensures.entered.listed.kept.options ∙ c.in_ok-enter_place.ensures.options) c.in_ok-visit_nodes.ensures.visited.changed.kept.options
+    (subst (λ o. Goes g.T.Lowering.suits g.T.Lowering.tally g.T.Lowering.entries o StatementList c.args.t.now c.enter_statements.new.self) c.in_ok-enter_place.ensures.options c.in_ok-enter_statements.ensures.goes) c.in_ok-visit_nodes.ensures.calls c.in_ok-exit_statements.ensures.goes c.in_ok-exit_statements.ensures.ids
 
 pub returns-clause-cost : goal.returns-clause-cost
 returns-clause-cost g c =
-    omega (arith, c.in_ok-visit_nodes.ensures.cost, c.in_ok-exit_statements.ensures.exited.hooks, trees_hooks-bare (trees c.visit_nodes.new.nodes.items), trees_hooks-bare (trees c.exit_statements.new.statements.items))
+    omega (arith, c.in_ok-visit_nodes.ensures.cost, c.in_ok-exit_statements.ensures.ids all_hooks)

@@ -11,7 +11,7 @@ pub returns-clause-entered : goal.returns-clause-entered
 returns-clause-entered g c = settled_both g.A.Lowering.profile g.B.Lowering.profile c.args.self.now.apart _ c.in_ok-enter_try_statement.ensures.entered c.in_ok-enter_try_statement-2.ensures.entered
 
 pub returns-clause-goes : goal.returns-clause-goes
-returns-clause-goes g c = goes_both _ _ g.A.Lowering.suits g.B.Lowering.suits g.A.Lowering.tally g.B.Lowering.tally _ _ _ refl c.in_ok-enter_try_statement.ensures.entered.changed.kept.options c.in_ok-enter_try_statement.ensures.goes c.in_ok-enter_try_statement-2.ensures.goes
+returns-clause-goes g c = goes_both _ _ g.A.Lowering.suits g.B.Lowering.suits g.A.Lowering.tally g.B.Lowering.tally g.A.Lowering.entries g.B.Lowering.entries _ _ _ refl c.in_ok-enter_try_statement.ensures.entered.changed.kept.options _ c.in_ok-enter_try_statement.ensures.goes c.in_ok-enter_try_statement-2.ensures.goes
 
 pub returns-in_err-enter_try_statement-clause-refused : goal.returns-in_err-enter_try_statement-clause-refused
 returns-in_err-enter_try_statement-clause-refused g c = let A = g.A.Lowering.profile in let B = g.B.Lowering.profile in

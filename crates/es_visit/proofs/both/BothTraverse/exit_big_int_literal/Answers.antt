@@ -14,7 +14,7 @@ pub returns-clause-ids : goal.returns-clause-ids
 returns-clause-ids g c = ids_both c.in_ok-exit_big_int_literal.ensures.ids c.in_ok-exit_big_int_literal-2.ensures.ids
 
 pub returns-clause-goes : goal.returns-clause-goes
-returns-clause-goes g c = goes_out_both _ _ g.A.Lowering.suits g.B.Lowering.suits g.A.Lowering.tally g.B.Lowering.tally _ _ _ c.in_ok-exit_big_int_literal.ensures.exited.changed.kept.options refl _ c.in_ok-exit_big_int_literal.ensures.ids.root refl c.in_ok-exit_big_int_literal-2.ensures.goes c.in_ok-exit_big_int_literal.ensures.goes
+returns-clause-goes g c = goes_out_both _ _ g.A.Lowering.suits g.B.Lowering.suits g.A.Lowering.tally g.B.Lowering.tally g.A.Lowering.entries g.B.Lowering.entries _ _ _ c.in_ok-exit_big_int_literal.ensures.exited.changed.kept.options refl _ c.in_ok-exit_big_int_literal.ensures.ids.root refl c.in_ok-exit_big_int_literal-2.ensures.goes c.in_ok-exit_big_int_literal.ensures.goes
 
 pub returns-in_err-exit_big_int_literal-clause-refused : goal.returns-in_err-exit_big_int_literal-clause-refused
 returns-in_err-exit_big_int_literal-clause-refused g c = let A = g.A.Lowering.profile in let B = g.B.Lowering.profile in

@@ -2,7 +2,7 @@ use Rattle.std.proofs.Common.{refl}
 use Rattle.es_tree.specs.Bare.{bare_trees}
 use Rattle.es_tree.specs.Tree.{trees}
 use Rattle.es_visit.specs.Moments.{moment}
-use Rattle.es_visit.proofs.BothHooks.{all_ids_both, both_of, exited_alone, exited_list_both, first_part, goes_both, list_refused, list_refused_later, passed_up, ready_later, second_part}
+use Rattle.es_visit.proofs.BothHooks.{all_ids_both, both_of, exited_alone, exited_list_both, first_part, goes_out_of_both, list_refused, list_refused_later, passed_up, ready_later, second_part}
 use Rattle.es_visit.proofs.both.BothTraverse.exit_statements.Goals as goal
 
 pub exit_statements-requires-2 : goal.exit_statements-requires-2
@@ -15,7 +15,7 @@ pub returns-clause-ids : goal.returns-clause-ids
 returns-clause-ids g c = all_ids_both _ _ _ c.in_ok-exit_statements.ensures.ids c.in_ok-exit_statements-2.ensures.ids
 
 pub returns-clause-goes : goal.returns-clause-goes
-returns-clause-goes g c = goes_both _ _ g.A.Lowering.suits g.B.Lowering.suits g.A.Lowering.tally g.B.Lowering.tally _ _ _ (exited_alone g.B.Lowering.keeps c.args.self.now.alone c.in_ok-exit_statements.ensures.exited).kept.options refl c.in_ok-exit_statements-2.ensures.goes c.in_ok-exit_statements.ensures.goes
+returns-clause-goes g c = goes_out_of_both _ _ g.A.Lowering.suits g.B.Lowering.suits g.A.Lowering.tally g.B.Lowering.tally g.A.Lowering.entries g.B.Lowering.entries _ _ _ (exited_alone g.B.Lowering.keeps c.args.self.now.alone c.in_ok-exit_statements.ensures.exited).kept.options refl c.in_ok-exit_statements-2.ensures.goes c.in_ok-exit_statements.ensures.goes
 
 pub returns-in_err-exit_statements-clause-refused : goal.returns-in_err-exit_statements-clause-refused
 returns-in_err-exit_statements-clause-refused g c = let A = g.A.Lowering.profile in let B = g.B.Lowering.profile in
