@@ -11,6 +11,7 @@ use Rattle.es_tree.specs.declared.error.LowerError.{LowerError}
 use Rattle.es_tree.specs.declared.error.LowerError.TheVariants.{Json, Option as e-Option, TooLarge, TooDeep, Shape, Invalid, Unsupported}
 use Rattle.es_tree.specs.declared.error.OptionName.{OptionName}
 use Rattle.es_tree.specs.declared.error.Rule.{Rule}
+use Rattle.es_tree.specs.declared.error.UnsupportedKind.{UnsupportedKind}
 use Rattle.es_tree.specs.declared.error.UnsupportedKind.TheVariants.{MathBound, NotBuilt}
 use Rattle.es_tree.specs.declared.ids.NodeId.{NodeId}
 use Rattle.es_tree.specs.declared.options.EnvOptions.{EnvOptions}
@@ -26,7 +27,7 @@ use Rattle.es_tree.specs.Causes.{rule_name, unsupported_name}
 use Rattle.es_json.specs.Pointer.{pointer}
 use Rattle.lower_command.specs.Answer.{line, refusal_text}
 use Rattle.lower_driver.specs.Shapes.{first_math_bound}
-use Rattle.lower_driver.specs.Sources.{IsReading, HasReading, Reads, IsUnread, IsBeyondCore, IsBroken, IsWithMath, IsCauseUnder}
+use Rattle.lower_driver.specs.Sources.{IsReading, HasReading, ReadsAs, IsSource, IsValueBeyondCore, IsBrokenValue, IsValueWithMath, IsCauseUnder}
 use Rattle.lower_command.specs.Job.{IsTakenSource}
 
 -- the two ask for the same as far as refusals go: what isn't done, and the shapes that aren't taken
@@ -34,15 +35,12 @@ pub record SameRefusals (o q : EnvOptions) : Type 0 where
   pub fault : first_fault o ≡ first_fault q
   pub power : o.es2016.exponentiation_operator ≡ q.es2016.exponentiation_operator
 
--- bytes read as one value, and as one program
+-- bytes read as one value, and a value is the form of one program
 one_value : (bytes : List ℕ) (v w : Data) → IsReading bytes v → IsReading bytes w → v ≡ w
 one_value bytes v w a b = let same : Some v ≡ Some w = sym a.reads ∙ b.reads in cc
 
-one_program : (bytes : List ℕ) (p q : Tree) → Reads bytes p → Reads bytes q → p ≡ q
-one_program bytes p q a b =
-    let same = one_value bytes b.value a.value b.reading a.reading in
-    let form : IsProgramForm a.value q = subst (λ v. IsProgramForm v q) same b.form in
-    one_tree_always s-Program a.value p q 0 a.form.form form.form a.order b.order a.marks b.marks
+one_program : (v : Data) (p q : Tree) → IsSource v p → IsSource v q → p ≡ q
+one_program v p q a b = one_tree_always s-Program v p q 0 a.form.form b.form.form a.order b.order a.marks b.marks
 
 -- the causes that the reader of programs has
 abbrev IsUnreadError : LowerError → Type 0
@@ -84,35 +82,38 @@ taken_as o q bytes same source = record {
 
 -- ONE CAUSE: an input has at most one line
 
--- a cause by what is known of the input
-data Known (o : EnvOptions) (bytes : List ℕ) : LowerError → Type 0 where
-  no_reading : (HasReading bytes → ⊥) → Known o bytes Json
-  unread : {error : LowerError} → IsUnreadError error → IsUnread bytes error → Known o bytes error
-  beyond_core : {id : NodeId} → IsBeyondCore bytes id → Known o bytes (Unsupported NotBuilt id)
-  broken : {rule : Rule} {id : NodeId} → IsBroken bytes (Invalid rule id) → Known o bytes (Invalid rule id)
-  with_math : {id : NodeId} → IsWithMath o bytes id → Known o bytes (Unsupported MathBound id)
+-- a cause by what is known of the value
+data Known (o : EnvOptions) (v : Data) : LowerError → Type 0 where
+  unread : {error : LowerError} → IsUnreadError error → IsRefusal v error → Known o v error
+  beyond_core : {id : NodeId} → IsValueBeyondCore v id → Known o v (Unsupported NotBuilt id)
+  broken : {rule : Rule} {id : NodeId} → IsBrokenValue v (Invalid rule id) → Known o v (Invalid rule id)
+  with_math : {id : NodeId} → IsValueWithMath o v id → Known o v (Unsupported MathBound id)
 
--- or by what the options ask for, where the bytes have a reading
+-- or by the bytes that have no reading, or by what the options ask for
 data Told (o : EnvOptions) (bytes : List ℕ) : LowerError → Type 0 where
+  no_reading : (HasReading bytes → ⊥) → Told o bytes Json
   uncarried : {name : OptionName} → HasReading bytes → first_fault o ≡ Some name → Told o bytes (e-Option name)
-  carried : {error : LowerError} → (HasReading bytes → first_fault o ≡ None) → Known o bytes error → Told o bytes error
+  carried : {error : LowerError} → first_fault o ≡ None → ReadsAs (λ v. Known o v error) bytes → Told o bytes error
 
 told : (o q : EnvOptions) (bytes : List ℕ) (error : LowerError) → SameRefusals o q → IsCauseUnder o bytes error → Told q bytes error
-told o q bytes Json same cause = carried (λ reading. absurd (cause reading)) (no_reading cause)
-told o q bytes (e-Option name) same cause = uncarried cause.0 (sym same.fault ∙ cause.1)
-told o q bytes (TooLarge n) same cause = carried (λ _. sym same.fault ∙ cause.0) (unread tt cause.1)
-told o q bytes (TooDeep n) same cause = carried (λ _. sym same.fault ∙ cause.0) (unread tt cause.1)
-told o q bytes (Shape path) same cause = carried (λ _. sym same.fault ∙ cause.0) (unread tt cause.1)
-told o q bytes (Unsupported NotBuilt id) same cause = carried (λ _. sym same.fault ∙ cause.0) (beyond_core cause.1)
-told o q bytes (Unsupported MathBound id) same cause = carried (λ _. sym same.fault ∙ cause.0) (with_math (record {
-  program = cause.1.program;
-  reads = cause.1.reads;
-  core = cause.1.core;
-  kept = cause.1.kept;
-  first = sym (same_shape o q cause.1.program same) ∙ cause.1.first;
-}))
-told o q bytes (Invalid rule id) same cause = carried (λ _. sym same.fault ∙ cause.0) (broken cause.1)
-told o q bytes _ same cause = absurd cause.1
+told o q bytes Json same cause = no_reading cause
+told o q bytes (e-Option name) same cause = uncarried (record { value = cause.value; reading = cause.reading }) (sym same.fault ∙ cause.holds)
+told o q bytes (TooLarge n) same cause = carried (sym same.fault ∙ cause.holds.0) (record { value = cause.value; reading = cause.reading; holds = unread tt cause.holds.1 })
+told o q bytes (TooDeep n) same cause = carried (sym same.fault ∙ cause.holds.0) (record { value = cause.value; reading = cause.reading; holds = unread tt cause.holds.1 })
+told o q bytes (Shape path) same cause = carried (sym same.fault ∙ cause.holds.0) (record { value = cause.value; reading = cause.reading; holds = unread tt cause.holds.1 })
+told o q bytes (Unsupported NotBuilt id) same cause = carried (sym same.fault ∙ cause.holds.0) (record { value = cause.value; reading = cause.reading; holds = beyond_core cause.holds.1 })
+told o q bytes (Unsupported MathBound id) same cause =
+    let math = cause.holds.1 in
+    carried (sym same.fault ∙ cause.holds.0) (record { value = cause.value; reading = cause.reading; holds = with_math (record {
+        program = math.program;
+        source = math.source;
+        core = math.core;
+        kept = math.kept;
+        first = sym (same_shape o q math.program same) ∙ math.first;
+      })
+    })
+told o q bytes (Invalid rule id) same cause = carried (sym same.fault ∙ cause.holds.0) (record { value = cause.value; reading = cause.reading; holds = broken cause.holds.1 })
+told o q bytes _ same cause = absurd cause.holds.1
 
 unread_line : (v : Data) (e f : LowerError) → IsUnreadError e → IsUnreadError f → IsRefusal v e → IsRefusal v f → refusal_text e ≡ refusal_text f
 unread_line v (TooLarge n) (TooLarge m) _ _ r s = ap (λ k. refusal_text (TooLarge k)) (r.1 ∙ sym s.1)
@@ -132,77 +133,67 @@ unread_line v (TooDeep n) _ _ told r s = absurd told
 unread_line v (Shape p) _ _ told r s = absurd told
 unread_line v _ f told _ r s = absurd told
 
-read_already : (bytes : List ℕ) (error : LowerError) (p : Tree) → IsUnreadError error → IsUnread bytes error → Reads bytes p → ⊥
-read_already bytes error p told u reads =
-    let same = one_value bytes reads.value u.value reads.reading u.reading in
-    no_refusal u.value p error (subst (λ v. IsProgramForm v p) same reads.form) u.refusal told
-
 break_line : (bs : List Break) (r s : Rule) (i j : NodeId) → IsFirstBreak bs (Invalid r i) → IsFirstBreak bs (Invalid s j) → refusal_text (Invalid r i) ≡ refusal_text (Invalid s j)
 break_line [] r s i j h g = absurd h
 break_line (b ∷ bs) r s i j h g = let same : (r, i.0) ≡ (s, j.0) = sym h ∙ g in ap (λ (x : Break). line (codes "lower: invalid " ++ rule_name x.0 ++ codes " at node " ++ decimal x.1)) same
 
-broken_anyway : (bytes : List ℕ) (rule : Rule) (id : NodeId) (p : Tree) → IsBroken bytes (Invalid rule id) → Reads bytes p → breaks p ≡ [] → ⊥
-broken_anyway bytes rule id p b reads kept =
-    let same = one_program bytes b.program p b.reads reads in
+broken_anyway : (v : Data) (rule : Rule) (id : NodeId) (p : Tree) → IsBrokenValue v (Invalid rule id) → IsSource v p → breaks p ≡ [] → ⊥
+broken_anyway v rule id p b source kept =
+    let same = one_program v b.program p b.source source in
     let first : IsFirstBreak (breaks p) (Invalid rule id) = subst (λ t. IsFirstBreak (breaks t) (Invalid rule id)) same b.first in
     subst (λ (bs : List Break). IsFirstBreak bs (Invalid rule id)) kept first
 
-one_line : (o : EnvOptions) (bytes : List ℕ) (e f : LowerError) → Known o bytes e → Known o bytes f → refusal_text e ≡ refusal_text f
-one_line o bytes _ _ (no_reading n) (no_reading m) = refl
-one_line o bytes _ _ (no_reading n) (unread told u) = absurd (n (record { value = u.value; reading = u.reading }))
-one_line o bytes _ _ (no_reading n) (beyond_core b) = absurd (n (record { value = b.reads.value; reading = b.reads.reading }))
-one_line o bytes _ _ (no_reading n) (broken b) = absurd (n (record { value = b.reads.value; reading = b.reads.reading }))
-one_line o bytes _ _ (unread told u) (no_reading n) = absurd (n (record { value = u.value; reading = u.reading }))
-one_line o bytes e f (unread told u) (unread also w) =
-    let same = one_value bytes u.value w.value u.reading w.reading in
-    unread_line w.value e f told also (subst (λ v. IsRefusal v e) same u.refusal) w.refusal
-one_line o bytes e _ (unread told u) (beyond_core b) = absurd (read_already bytes e b.program told u b.reads)
-one_line o bytes e _ (unread told u) (broken b) = absurd (read_already bytes e b.program told u b.reads)
-one_line o bytes _ _ (beyond_core b) (no_reading n) = absurd (n (record { value = b.reads.value; reading = b.reads.reading }))
-one_line o bytes _ f (beyond_core b) (unread told u) = absurd (read_already bytes f b.program told u b.reads)
-one_line o bytes _ _ (beyond_core {id = i} b) (beyond_core {id = j} d) =
-    let same = one_program bytes b.program d.program b.reads d.reads in
-    let ids : Some i.0 ≡ Some j.0 = sym (subst (λ p. first_node is_not_core p ≡ Some i.0) same b.first) ∙ d.first in
-    let number : i.0 ≡ j.0 = cc in
-    ap (λ (k : ℕ). line (codes "lower: unsupported " ++ unsupported_name NotBuilt ++ codes " at node " ++ decimal k)) number
-one_line o bytes _ _ (beyond_core {id = i} b) (broken d) =
-    let same = one_program bytes b.program d.program b.reads d.reads in
-    absurd (core_after_all d.program i.0 d.core (subst (λ p. first_node is_not_core p ≡ Some i.0) same b.first))
-one_line o bytes _ _ (broken b) (no_reading n) = absurd (n (record { value = b.reads.value; reading = b.reads.reading }))
-one_line o bytes _ f (broken b) (unread told u) = absurd (read_already bytes f b.program told u b.reads)
-one_line o bytes _ _ (broken b) (beyond_core {id = j} d) =
-    let same = one_program bytes d.program b.program d.reads b.reads in
-    absurd (core_after_all b.program j.0 b.core (subst (λ p. first_node is_not_core p ≡ Some j.0) same d.first))
-one_line o bytes _ _ (broken {rule = r} {id = i} b) (broken {rule = s} {id = j} d) =
-    let same = one_program bytes b.program d.program b.reads d.reads in
+beyond_anyway : (v : Data) (id : NodeId) (p : Tree) → IsValueBeyondCore v id → IsSource v p → is_core p ≡ true → ⊥
+beyond_anyway v id p b source core =
+    let same = one_program v b.program p b.source source in
+    core_after_all p id.0 core (subst (λ t. first_node is_not_core t ≡ Some id.0) same b.first)
+
+unsupported_line : (kind : UnsupportedKind) (m n : ℕ) → Some m ≡ Some n
+    → line (codes "lower: unsupported " ++ unsupported_name kind ++ codes " at node " ++ decimal m) ≡ line (codes "lower: unsupported " ++ unsupported_name kind ++ codes " at node " ++ decimal n)
+unsupported_line kind m n same =
+    let number : m ≡ n = cc in
+    ap (λ (k : ℕ). line (codes "lower: unsupported " ++ unsupported_name kind ++ codes " at node " ++ decimal k)) number
+
+one_line : (o : EnvOptions) (v : Data) (e f : LowerError) → Known o v e → Known o v f → refusal_text e ≡ refusal_text f
+one_line o v e f (unread told r) (unread also s) = unread_line v e f told also r s
+one_line o v e _ (unread told r) (beyond_core b) = absurd (no_refusal v b.program e b.source.form r told)
+one_line o v e _ (unread told r) (broken b) = absurd (no_refusal v b.program e b.source.form r told)
+one_line o v e _ (unread told r) (with_math b) = absurd (no_refusal v b.program e b.source.form r told)
+one_line o v _ f (beyond_core b) (unread told r) = absurd (no_refusal v b.program f b.source.form r told)
+one_line o v _ f (broken b) (unread told r) = absurd (no_refusal v b.program f b.source.form r told)
+one_line o v _ f (with_math b) (unread told r) = absurd (no_refusal v b.program f b.source.form r told)
+one_line o v _ _ (beyond_core {id = i} b) (beyond_core {id = j} d) =
+    let same = one_program v b.program d.program b.source d.source in
+    unsupported_line NotBuilt i.0 j.0 (sym (subst (λ p. first_node is_not_core p ≡ Some i.0) same b.first) ∙ d.first)
+one_line o v _ _ (beyond_core {id = i} b) (broken d) = absurd (beyond_anyway v i d.program b d.source d.core)
+one_line o v _ _ (beyond_core {id = i} b) (with_math d) = absurd (beyond_anyway v i d.program b d.source d.core)
+one_line o v _ _ (broken b) (beyond_core {id = j} d) = absurd (beyond_anyway v j b.program d b.source b.core)
+one_line o v _ _ (with_math b) (beyond_core {id = j} d) = absurd (beyond_anyway v j b.program d b.source b.core)
+one_line o v _ _ (broken {rule = r} {id = i} b) (broken {rule = s} {id = j} d) =
+    let same = one_program v b.program d.program b.source d.source in
     break_line (breaks d.program) r s i j (subst (λ p. IsFirstBreak (breaks p) (Invalid r i)) same b.first) d.first
-one_line o bytes _ _ (no_reading n) (with_math b) = absurd (n (record { value = b.reads.value; reading = b.reads.reading }))
-one_line o bytes _ _ (with_math b) (no_reading n) = absurd (n (record { value = b.reads.value; reading = b.reads.reading }))
-one_line o bytes e _ (unread told u) (with_math b) = absurd (read_already bytes e b.program told u b.reads)
-one_line o bytes _ f (with_math b) (unread told u) = absurd (read_already bytes f b.program told u b.reads)
-one_line o bytes _ _ (beyond_core {id = i} b) (with_math d) =
-    let same = one_program bytes b.program d.program b.reads d.reads in
-    absurd (core_after_all d.program i.0 d.core (subst (λ p. first_node is_not_core p ≡ Some i.0) same b.first))
-one_line o bytes _ _ (with_math b) (beyond_core {id = j} d) =
-    let same = one_program bytes d.program b.program d.reads b.reads in
-    absurd (core_after_all b.program j.0 b.core (subst (λ p. first_node is_not_core p ≡ Some j.0) same d.first))
-one_line o bytes _ _ (broken {rule = r} {id = i} b) (with_math d) = absurd (broken_anyway bytes r i d.program b d.reads d.kept)
-one_line o bytes _ _ (with_math b) (broken {rule = r} {id = i} d) = absurd (broken_anyway bytes r i b.program d b.reads b.kept)
-one_line o bytes _ _ (with_math {id = i} b) (with_math {id = j} d) =
-    let same = one_program bytes b.program d.program b.reads d.reads in
-    let ids : Some i.0 ≡ Some j.0 = sym (subst (λ p. first_math_bound o p ≡ Some i.0) same b.first) ∙ d.first in
-    let number : i.0 ≡ j.0 = cc in
-    ap (λ (k : ℕ). line (codes "lower: unsupported " ++ unsupported_name MathBound ++ codes " at node " ++ decimal k)) number
+one_line o v _ _ (broken {rule = r} {id = i} b) (with_math d) = absurd (broken_anyway v r i d.program b d.source d.kept)
+one_line o v _ _ (with_math b) (broken {rule = r} {id = i} d) = absurd (broken_anyway v r i b.program d b.source b.kept)
+one_line o v _ _ (with_math {id = i} b) (with_math {id = j} d) =
+    let same = one_program v b.program d.program b.source d.source in
+    unsupported_line MathBound i.0 j.0 (sym (subst (λ p. first_math_bound o p ≡ Some i.0) same b.first) ∙ d.first)
 
 -- what is told of the input, or of the options, is told in one line
 told_line : (o : EnvOptions) (bytes : List ℕ) (e f : LowerError) → Told o bytes e → Told o bytes f → refusal_text e ≡ refusal_text f
+told_line o bytes _ _ (no_reading n) (no_reading m) = refl
+told_line o bytes _ _ (no_reading n) (uncarried reading _) = absurd (n reading)
+told_line o bytes _ _ (no_reading n) (carried _ r) = absurd (n (record { value = r.value; reading = r.reading }))
+told_line o bytes _ _ (uncarried reading _) (no_reading n) = absurd (n reading)
+told_line o bytes _ _ (carried _ r) (no_reading n) = absurd (n (record { value = r.value; reading = r.reading }))
 told_line o bytes _ _ (uncarried {name = a} _ first) (uncarried {name = b} _ also) =
     let both : Some a ≡ Some b = sym first ∙ also in
     let same : a ≡ b = cc in
     ap (λ (name : OptionName). refusal_text (e-Option name)) same
-told_line o bytes _ _ (uncarried {name = a} reading first) (carried none _) = let both : Some a ≡ None = sym first ∙ none reading in absurd (cc)
-told_line o bytes _ _ (carried none _) (uncarried {name = a} reading first) = let both : Some a ≡ None = sym first ∙ none reading in absurd (cc)
-told_line o bytes e f (carried _ known) (carried _ also) = one_line o bytes e f known also
+told_line o bytes _ _ (uncarried {name = a} _ first) (carried none _) = let both : Some a ≡ None = sym first ∙ none in absurd (cc)
+told_line o bytes _ _ (carried none _) (uncarried {name = a} _ first) = let both : Some a ≡ None = sym first ∙ none in absurd (cc)
+told_line o bytes e f (carried _ r) (carried _ s) =
+    let same = one_value bytes r.value s.value r.reading s.reading in
+    one_line o s.value e f (subst (λ v. Known o v e) same r.holds) s.holds
 
 -- two causes of one input have one line
 pub one_cause : (o q : EnvOptions) (bytes : List ℕ) (e f : LowerError) → SameRefusals o q → IsCauseUnder q bytes e → IsCauseUnder o bytes f
@@ -211,21 +202,22 @@ one_cause o q bytes e f same cause other =
     told_line q bytes e f (told q q bytes e (record { fault = refl; power = refl }) cause) (told o q bytes f same other)
 
 -- a source that is taken is refused for no cause
-not_taken : (o : EnvOptions) (bytes : List ℕ) (error : LowerError) → Known o bytes error → IsTakenSource o bytes → ⊥
-not_taken o bytes _ (no_reading n) source = n (record { value = source.reads.value; reading = source.reads.reading })
-not_taken o bytes error (unread told u) source = read_already bytes error source.program told u source.reads
-not_taken o bytes _ (beyond_core {id = i} b) source =
-    let same = one_program bytes b.program source.program b.reads source.reads in
-    core_after_all source.program i.0 source.core (subst (λ p. first_node is_not_core p ≡ Some i.0) same b.first)
-not_taken o bytes _ (broken {rule = r} {id = i} b) source = broken_anyway bytes r i source.program b source.reads source.kept
-not_taken o bytes _ (with_math {id = i} b) source =
-    let same = one_program bytes b.program source.program b.reads source.reads in
-    let both : Some i.0 ≡ None = sym (subst (λ p. first_math_bound o p ≡ Some i.0) same b.first) ∙ source.taken in
+not_taken : (o : EnvOptions) (v : Data) (error : LowerError) (p : Tree) → Known o v error
+    → IsSource v p → is_core p ≡ true → breaks p ≡ [] → first_math_bound o p ≡ None → ⊥
+not_taken o v error p (unread told r) source core kept taken = no_refusal v p error source.form r told
+not_taken o v _ p (beyond_core {id = i} b) source core kept taken = beyond_anyway v i p b source core
+not_taken o v _ p (broken {rule = r} {id = i} b) source core kept taken = broken_anyway v r i p b source kept
+not_taken o v _ p (with_math {id = i} b) source core kept taken =
+    let same = one_program v b.program p b.source source in
+    let both : Some i.0 ≡ None = sym (subst (λ t. first_math_bound o t ≡ Some i.0) same b.first) ∙ taken in
     cc
 
 not_told : (o : EnvOptions) (bytes : List ℕ) (error : LowerError) → Told o bytes error → IsTakenSource o bytes → ⊥
+not_told o bytes _ (no_reading n) source = n (record { value = source.reads.value; reading = source.reads.reading })
 not_told o bytes _ (uncarried {name = name} _ first) source = let both : Some name ≡ None = sym first ∙ source.carried in cc
-not_told o bytes error (carried _ known) source = not_taken o bytes error known source
+not_told o bytes error (carried _ r) source =
+    let same = one_value bytes r.value source.reads.value r.reading source.reads.reading in
+    not_taken o source.reads.value error source.program (subst (λ v. Known o v error) same r.holds) source.reads.holds source.core source.kept source.taken
 
 pub not_refused : (o q : EnvOptions) (bytes : List ℕ) (error : LowerError) → SameRefusals o q → IsCauseUnder o bytes error → IsTakenSource q bytes → ⊥
 not_refused o q bytes error same cause source = not_told q bytes error (told o q bytes error same cause) source

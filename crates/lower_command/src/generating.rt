@@ -12,7 +12,7 @@ use crate::generated::generate_program;
 use es_nodes::count::count_nodes;
 use es_tree::error::LowerError;
 use es_tree::options::EnvOptions;
-use lower_driver::driver::{Lowered, lower_tree};
+use lower_driver::driver::{LoweredTree, lower_tree};
 use std::alloc::{AllocError, Global};
 
 /// The line of counts for the made script of this many statements, lowered as the options ask.
@@ -36,7 +36,7 @@ fn count_line(
     alloc: Global,
     count: u32,
     before: u64,
-    lowered: &Lowered,
+    lowered: &LoweredTree,
 ) -> Result<String, AllocError>
     ensures { IfOk result (λ line. string_bytes line
         ≡ generated_line count before (capped (tree_size lowered.now.program)) (length lowered.now.temporaries.items) (length lowered.now.warnings.items)) }

@@ -26,6 +26,6 @@ pub fn lower_text(alloc: Global, bytes: &[u8], options: &EnvOptions) -> Result<T
     let lowered = lower_bytes(alloc, bytes, options)?;
     let mut text = lowered.value.to_string(alloc)?;
     text.push_str("\n")?;
-    let warnings = warning_lines(alloc, &lowered.warnings)?;
+    let warnings = warning_lines(alloc, &lowered.tree.warnings)?;
     Ok(Texts { text, warnings })
 }

@@ -87,73 +87,27 @@ pub record HasReading (bytes : List ℕ) : Type 0 where
   pub value : Data
   pub reading : IsReading bytes value
 
+-- the bytes read as a value of which P holds
+pub record ReadsAs (P : Data → Type 0) (bytes : List ℕ) : Type 0 where
+  pub value : Data
+  pub reading : IsReading bytes value
+  pub holds : P value
+
+-- the bytes read as a value that is the form of this program
+abbrev pub Reads : List ℕ → Tree → Type 0
+Reads bytes program = ReadsAs (λ v. IsSource v program) bytes
+
 -- no value is read for this cause: there is none, or want of memory
 abbrev pub IsNoValue : List ℕ → LowerError → Type 0
 IsNoValue bytes Json = ¬ HasReading bytes
 IsNoValue bytes OutOfMemory = Unit {0}
 IsNoValue bytes _ = ⊥
 
--- the bytes read as a value that is the form of this program
-pub record Reads (bytes : List ℕ) (program : Tree) : Type 0 where
-  pub value : Data
-  pub reading : IsReading bytes value
-  pub form : IsProgramForm value program
-  pub order : IsNumbered 0 program
-  pub marks : IsUnmarked program
-
--- the bytes read as a core program that keeps the static rules
-pub record IsCoreSource (bytes : List ℕ) : Type 0 where
-  pub program : Tree
-  pub reads : Reads bytes program
-  pub core : is_core program ≡ true
-  pub kept : breaks program ≡ []
-
--- the bytes read as a value that the reader of programs refuses for this cause
-pub record IsUnread (bytes : List ℕ) (error : LowerError) : Type 0 where
-  pub value : Data
-  pub reading : IsReading bytes value
-  pub refusal : IsRefusal value error
-
--- the bytes read as a program whose first node, in node order, that no core program has is this
-pub record IsBeyondCore (bytes : List ℕ) (id : NodeId) : Type 0 where
-  pub program : Tree
-  pub reads : Reads bytes program
-  pub first : first_node is_not_core program ≡ Some id.0
-
--- the bytes read as a core program that breaks a static rule, first of all this one
-pub record IsBroken (bytes : List ℕ) (error : LowerError) : Type 0 where
-  pub program : Tree
-  pub reads : Reads bytes program
-  pub core : is_core program ≡ true
-  pub first : IsFirstBreak (breaks program) error
-
--- the bytes read as a core program that keeps the static rules, and these options ask to lower an exponentiation where it binds
--- `Math`, first of all at this node
-pub record IsWithMath (o : EnvOptions) (bytes : List ℕ) (id : NodeId) : Type 0 where
-  pub program : Tree
-  pub reads : Reads bytes program
-  pub core : is_core program ≡ true
-  pub kept : breaks program ≡ []
-  pub first : first_math_bound o program ≡ Some id.0
-
--- Why an input of these bytes is refused. Causes are told in this order: no reading as JSON, too many objects, nested
--- too deep, a place without form, a node that no core program has, a broken rule.
-abbrev pub IsCause : List ℕ → LowerError → Type 0
-IsCause bytes Json = ¬ HasReading bytes
-IsCause bytes (TooLarge count) = IsUnread bytes (TooLarge count)
-IsCause bytes (TooDeep depth) = IsUnread bytes (TooDeep depth)
-IsCause bytes (Shape path) = IsUnread bytes (Shape path)
-IsCause bytes (Unsupported NotBuilt id) = IsBeyondCore bytes id
-IsCause bytes (Invalid rule id) = IsBroken bytes (Invalid rule id)
-IsCause bytes _ = ⊥
-
--- The same where a run has options: what they ask for that isn't done comes after bytes with no reading, and before all
--- else; a shape that their lowerings don't take comes last.
+-- Why an input of these bytes is refused under these options: they have no reading as JSON, or the value that they read as
+-- is refused.
 abbrev pub IsCauseUnder : EnvOptions → List ℕ → LowerError → Type 0
 IsCauseUnder o bytes Json = ¬ HasReading bytes
-IsCauseUnder o bytes (e-Option name) = HasReading bytes × (first_fault o ≡ Some name)
-IsCauseUnder o bytes (Unsupported MathBound id) = (first_fault o ≡ None) × IsWithMath o bytes id
-IsCauseUnder o bytes error = (first_fault o ≡ None) × IsCause bytes error
+IsCauseUnder o bytes error = ReadsAs (λ v. IsValueCauseUnder o v error) bytes
 
 -- the cause of a refusal, or want of memory
 abbrev pub IsCauseOrMemory : EnvOptions → List ℕ → LowerError → Type 0

@@ -12,12 +12,12 @@ ghost use Rattle.es_tree.specs.declared.ast_type.AstType.TheVariants.{Program as
 ghost use Rattle.es_runs.specs.Open.{nothing_pending};
 ghost use Rattle.es_scope.specs.Contexts.{BindsNamesOf, around_of, made_of, table_of, uses_of};
 ghost use Rattle.lower_driver.specs.Copies.{IsCopy};
-ghost use Rattle.lower_driver.specs.Lowered.{IsLoweredBytes, IsLoweredFrom, IsLoweredValue};
+ghost use Rattle.lower_driver.specs.Lowered.{IsLoweredTree, IsLoweredValue};
 ghost use Rattle.lower_driver.specs.Shapes.{IsShapeOrMemory, IsTreeCauseOrMemory};
-ghost use Rattle.lower_driver.specs.Sources.{IsCauseOrMemory, IsCoreSource, IsCoreValue, IsValueCauseOrMemory};
+ghost use Rattle.lower_driver.specs.Sources.{IsCauseOrMemory, IsValueCauseOrMemory, ReadsAs};
 
 use crate::copies::copy_options;
-use crate::reading::{read_source, read_value};
+use crate::reading::{read_bytes, read_source};
 use crate::unsupported::find_unsupported;
 use crate::visiting::visit;
 use es_json::program::ReadProgram;
@@ -38,17 +38,24 @@ use lower_editions::es2020::ES2020;
 use serde_json::Value;
 use std::alloc::{AllocError, Global};
 
-/// What a run answers.
+/// What a program becomes.
 #[derive(Drop)]
-pub struct Lowered {
+pub struct LoweredTree {
     /// The lowered program.
     pub program: Node,
-    /// The same in the tree form.
-    pub value: Value,
     /// What the options ask to be warned of in the source, in node order.
     pub warnings: Vec<Warning>,
     /// The fresh names, in the order made.
     pub temporaries: Vec<String>,
+}
+
+/// What a run answers.
+#[derive(Drop)]
+pub struct Lowered {
+    /// What the program becomes.
+    pub tree: LoweredTree,
+    /// The lowered program in the tree form.
+    pub value: Value,
 }
 
 /// Lowers the core program that the value is the form of, as the options ask: its logical assignments, `??`,
@@ -61,27 +68,27 @@ pub struct Lowered {
 /// has; `Invalid` as `check_static` has it; `Unsupported(MathBound, node)` at the first exponentiation that
 /// would be lowered, where the program binds `Math`. It fails with `OutOfMemory` where memory runs out.
 pub fn lower(alloc: Global, source: &Value, options: &EnvOptions) -> Result<Lowered, LowerError>
-    ensures core { IfOk result (λ _. IsCoreValue (view source.now)) }
     ensures lowered { IfOk result (λ lowered. IsLoweredValue options.now (view source.now) lowered) }
     ensures options { IfOk result (λ _. first_fault options.now ≡ None) }
     ensures cause { IfErr result (λ error. IsValueCauseOrMemory options.now (view source.now) error) }
 {
     let read = read_source(alloc, source, options)?;
-    let lowered = lower_program(alloc, read, options)?;
-    Ok(lowered)
+    let tree = lower_program(alloc, read, options)?;
+    let value = write_program(alloc, &tree.program)?;
+    Ok(Lowered { tree, value })
 }
 
 /// The same for the bytes of a JSON value. Fails with `Json`, before all other causes, `Option(NotBuilt)`
 /// among them, where the bytes have no reading as one.
 pub fn lower_bytes(alloc: Global, bytes: &[u8], options: &EnvOptions) -> Result<Lowered, LowerError>
-    ensures core { IfOk result (λ _. IsCoreSource bytes.now) }
-    ensures lowered { IfOk result (λ lowered. IsLoweredBytes options.now bytes.now lowered) }
+    ensures lowered { IfOk result (λ lowered. ReadsAs (λ v. IsLoweredValue options.now v lowered) bytes.now) }
     ensures options { IfOk result (λ _. first_fault options.now ≡ None) }
     ensures cause { IfErr result (λ error. IsCauseOrMemory options.now bytes.now error) }
 {
-    let value = read_value(alloc, bytes)?;
-    let lowered = lower(alloc, &value, options)?;
-    Ok(lowered)
+    let read = read_bytes(alloc, bytes, options)?;
+    let tree = lower_program(alloc, read, options)?;
+    let value = write_program(alloc, &tree.program)?;
+    Ok(Lowered { tree, value })
 }
 
 /// The same for a core program that keeps the static rules and was made as a tree. Its ids and marks need
@@ -94,12 +101,12 @@ pub fn lower_tree(
     alloc: Global,
     read: ReadProgram,
     options: &EnvOptions,
-) -> Result<Lowered, LowerError>
+) -> Result<LoweredTree, LowerError>
     requires core { IsCoreProgram read.program }
     requires kept { breaks read.program ≡ [] }
     requires size { tree_size read.program < 2 ^ 20 }
     requires next { read.ast.next ≡ tree_size read.program }
-    ensures lowered { IfOk result (λ lowered. IsLoweredFrom options.now read.program lowered) }
+    ensures lowered { IfOk result (λ lowered. IsLoweredTree options.now read.program lowered) }
     ensures options { IfOk result (λ _. first_fault options.now ≡ None) }
     ensures cause { IfErr result (λ error. IsTreeCauseOrMemory options.now read.program error) }
 {
@@ -116,13 +123,13 @@ fn lower_program(
     alloc: Global,
     read: ReadProgram,
     options: &EnvOptions,
-) -> Result<Lowered, LowerError>
+) -> Result<LoweredTree, LowerError>
     requires core { IsCoreProgram read.program }
     requires kept { breaks read.program ≡ [] }
     requires size { tree_size read.program < 2 ^ 20 }
     requires next { read.ast.next ≡ tree_size read.program }
     requires carried { first_fault options.now ≡ None }
-    ensures lowered { IfOk result (λ lowered. IsLoweredFrom options.now read.program lowered) }
+    ensures lowered { IfOk result (λ lowered. IsLoweredTree options.now read.program lowered) }
     ensures cause { IfErr result (λ error. IsShapeOrMemory options.now read.program error) }
 {
     let ReadProgram {
@@ -138,10 +145,8 @@ fn lower_program(
     let mut program = Program::open(source);
     visit(&mut program, &mut ctx)?;
     let program = program.close(alloc)?;
-    let value = write_program(alloc, &program)?;
-    Ok(Lowered {
+    Ok(LoweredTree {
         program,
-        value,
         warnings,
         temporaries: ctx.into_uids(),
     })

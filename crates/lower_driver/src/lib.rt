@@ -4,7 +4,5 @@
 mod copies;
 pub mod driver;
 mod reading;
-#[cfg(test)]
-mod tests;
 mod unsupported;
 mod visiting;

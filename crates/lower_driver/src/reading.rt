@@ -1,11 +1,11 @@
 //! What a run is given, and why it is refused.
-ghost use Rattle.std.specs.Prelude.{◌≡◌, ◌<◌, ◌^◌, [], true, IfOk, IfErr, None};
+ghost use Rattle.std.specs.Prelude.{◌≡◌, ◌<◌, ◌^◌, [], IfOk, IfErr, None};
 ghost use Rattle.serde_json.specs.View.{view};
-ghost use Rattle.es_tree.specs.Core.{is_core};
+ghost use Rattle.es_tree.specs.Core.{IsCoreProgram};
 ghost use Rattle.es_tree.specs.Options.{first_fault};
 ghost use Rattle.es_tree.specs.StaticRules.{breaks};
 ghost use Rattle.es_tree.specs.Tree.{tree_size};
-ghost use Rattle.lower_driver.specs.Sources.{IsNoValue, IsReading, IsSource, IsValueCauseOrMemory};
+ghost use Rattle.lower_driver.specs.Sources.{IsCauseOrMemory, IsNoValue, IsReading, IsSource, IsValueCauseOrMemory, Reads};
 
 use es_json::program::{ReadProgram, read_program};
 use es_nodes::core_grammar::first_not_core;
@@ -15,16 +15,25 @@ use es_tree::options::{EnvOptions, options_fault};
 use serde_json::{Category, Value};
 use std::alloc::Global;
 
-/// The JSON value that the bytes are. Fails with `Json` where they have no reading.
-pub fn read_value(alloc: Global, bytes: &[u8]) -> Result<Value, LowerError>
-    ensures reading { IfOk result (λ value. IsReading bytes.now (view value)) }
-    ensures cause { IfErr result (λ error. IsNoValue bytes.now error) }
+/// The core program that the bytes read as, which keeps the static rules. Their value is let go once it is read.
+///
+/// Fails with `Json`, before all other causes, where the bytes have no reading, and else as `read_source` does.
+pub fn read_bytes(
+    alloc: Global,
+    bytes: &[u8],
+    options: &EnvOptions,
+) -> Result<ReadProgram, LowerError>
+    ensures source { IfOk result (λ read. Reads bytes.now read.program) }
+    ensures core { IfOk result (λ read. IsCoreProgram read.program) }
+    ensures kept { IfOk result (λ read. breaks read.program ≡ []) }
+    ensures size { IfOk result (λ read. tree_size read.program < 2 ^ 20) }
+    ensures next { IfOk result (λ read. read.ast.next ≡ tree_size read.program) }
+    ensures done { IfOk result (λ _. first_fault options.now ≡ None) }
+    ensures cause { IfErr result (λ error. IsCauseOrMemory options.now bytes.now error) }
 {
-    match Value::from_slice(alloc, bytes) {
-        Ok(value) => Ok(value),
-        Err(error) if error.classify() == Category::Memory => Err(LowerError::OutOfMemory),
-        Err(_error) => Err(LowerError::Json),
-    }
+    let value = read_value(alloc, bytes)?;
+    let read = read_source(alloc, &value, options)?;
+    Ok(read)
 }
 
 /// The core program that the value is the form of, which keeps the static rules.
@@ -39,7 +48,7 @@ pub fn read_source(
     options: &EnvOptions,
 ) -> Result<ReadProgram, LowerError>
     ensures source { IfOk result (λ read. IsSource (view value.now) read.program) }
-    ensures core { IfOk result (λ read. is_core read.program ≡ true) }
+    ensures core { IfOk result (λ read. IsCoreProgram read.program) }
     ensures kept { IfOk result (λ read. breaks read.program ≡ []) }
     ensures size { IfOk result (λ read. tree_size read.program < 2 ^ 20) }
     ensures next { IfOk result (λ read. read.ast.next ≡ tree_size read.program) }
@@ -55,4 +64,16 @@ pub fn read_source(
     }
     check_static(alloc, &read.program)?;
     Ok(read)
+}
+
+/// The JSON value that the bytes are. Fails with `Json` where they have no reading.
+fn read_value(alloc: Global, bytes: &[u8]) -> Result<Value, LowerError>
+    ensures reading { IfOk result (λ value. IsReading bytes.now (view value)) }
+    ensures cause { IfErr result (λ error. IsNoValue bytes.now error) }
+{
+    match Value::from_slice(alloc, bytes) {
+        Ok(value) => Ok(value),
+        Err(error) if error.classify() == Category::Memory => Err(LowerError::OutOfMemory),
+        Err(_error) => Err(LowerError::Json),
+    }
 }

@@ -11,24 +11,25 @@ returns-clause-taken c =
     let found = c.in_ok-lowered.ensures.lowered in
     record {
       carried = c.in_ok-lowered.ensures.options;
-      program = found.source;
-      reads = found.reads;
-      core = found.core;
-      kept = found.kept;
-      taken = found.lowered.taken;
+      program = found.holds.source;
+      reads = record { value = found.value; reading = found.reading; holds = found.holds.is_source };
+      core = found.holds.core;
+      kept = found.holds.kept;
+      taken = found.holds.lowered.taken;
     }
 
 -- The written program is what the source becomes, as `lower_bytes` has it.
 pub returns-clause-text : goal.returns-clause-text
 returns-clause-text c =
-    let l = c.in_ok-lowered.lowered in
+    let t = c.in_ok-lowered.lowered.tree in
     let found = c.in_ok-lowered.ensures.lowered in
+    let value = found.holds.value in
     record {
-      source = found.source;
-      written = l.program;
-      reads = found.reads;
-      names = map string_bytes l.temporaries.items;
-      lowers = found.lowered.lowers;
-      warned = c.in_ok-warnings.ensures ∙ ap (λ (ws : List Warning). warning_lines ws) (c.deref.ensures.value ∙ found.lowered.warnings);
-      text_is = c.in_ok-push_str.ensures.bytes ∙ ap (λ (t : List ℕ). t ++ 10 ∷ []) (c.in_ok-text.ensures.text (ap has_float found.lowered.value ∙ no_float-canonical l.program) ∙ ap compact_text found.lowered.value);
+      source = found.holds.source;
+      written = t.program;
+      reads = record { value = found.value; reading = found.reading; holds = found.holds.is_source };
+      names = map string_bytes t.temporaries.items;
+      lowers = found.holds.lowered.lowers;
+      warned = c.in_ok-warnings.ensures ∙ ap (λ (ws : List Warning). warning_lines ws) (c.deref.ensures.value ∙ found.holds.lowered.warnings);
+      text_is = c.in_ok-push_str.ensures.bytes ∙ ap (λ (b : List ℕ). b ++ 10 ∷ []) (c.in_ok-text.ensures.text (ap has_float value ∙ no_float-canonical t.program) ∙ ap compact_text value);
     }

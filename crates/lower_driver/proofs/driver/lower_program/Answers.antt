@@ -96,7 +96,6 @@ returns-clause-lowered c =
     record {
       lowers = subst (λ (names : List Text). Lowers c.args.options.now p c.in_ok-program.program names) (sym c.into_uids.ensures)
           (subst (λ (t : Tree). Lowers c.args.options.now p t (made_of after)) (sym c.in_ok-program.ensures) as_asked);
-      value = c.in_ok-value.ensures;
       warnings = c.in_ok-warnings.ensures;
       taken = sym (marked-shape c.args.options.now p q c.in_ok-scoping.ensures.marks) ∙ sym c.in_default.ensures.first;
     }

@@ -2,13 +2,18 @@ use Rattle.std.proofs.Common.{◌≡◌, true, ap, ◌∙◌, sym}
 use Rattle.std.proofs.lemmas.Result.{err_from_is_err_and}
 use Rattle.serde_json.specs.View.{view}
 use Rattle.es_tree.specs.Core.{is_core, is_core_node}
+use Rattle.es_tree.specs.declared.table.Sort.TheVariants.{Program as s-Program}
+use Rattle.es_json.proofs.FormHasForm.{form_has_form}
 use Rattle.es_tree.proofs.FirstNode.{is_none, all-first}
 use Rattle.lower_driver.specs.Sources.{IsSource}
 use Rattle.lower_driver.proofs.Causes.{broken_value}
 use Rattle.lower_driver.proofs.reading.read_source.Goals as goal
 
 pub returns-clause-core : goal.returns-clause-core
-returns-clause-core c = all-first is_core_node c.in_ok-read.read.program ∙ ap is_none (sym c.in_default-first_not_core.ensures)
+returns-clause-core c = record {
+  form = form_has_form s-Program (view c.args.value.now) c.in_ok-read.read.program c.in_ok-read.ensures.form.form;
+  core = all-first is_core_node c.in_ok-read.read.program ∙ ap is_none (sym c.in_default-first_not_core.ensures);
+}
 
 pub returns-in_err-check_static-clause-cause : goal.returns-in_err-check_static-clause-cause
 returns-in_err-check_static-clause-cause c =
