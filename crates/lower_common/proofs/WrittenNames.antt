@@ -1,21 +1,19 @@
--- Names that a reference writes once more, and those that the program's scope binds.
+-- Names that a reference writes once more, and names that are bound.
 use Rattle.std.proofs.Common.{◌≡◌, ℕ, ◌==◌, ◌&&◌, ◌||◌, Bool, true, false, not, is_some, Option, Some, None, refl, sym, ap, ◌∙◌}
 use Rattle.std.proofs.Math.Bool.{and-false, or-false}
 use Rattle.std.proofs.lemmas.Bool.{eqb-true, not-false}
+use Rattle.es_tree.specs.Fresh.{is_among}
 use Rattle.es_tree.specs.References.{writes_symbol}
 use Rattle.es_tree.specs.Words.{Text}
-use Rattle.es_scope.proofs.BoundContexts.{bound-read, found-bound, unfound-unbound}
+use Rattle.es_scope.proofs.BoundContexts.{bound-read}
 use Rattle.es_scope.proofs.SteadyContexts.{unused-unbound}
-use Rattle.es_scope.specs.Contexts.{Refers, bound_of, reference_to, steady_of, table_of, uses_of}
+use Rattle.es_scope.specs.Contexts.{Refers, made_of, reference_to, steady_of, table_of, uses_of}
 use Rattle.es_scope.specs.Tables.{binding_in, is_found_steady, is_mutated}
 use Rattle.es_scope.specs.declared.context.TraverseCtx.{TraverseCtx}
 use Rattle.es_scope.specs.declared.flags.ReferenceFlags.{ReferenceFlags}
 use Rattle.es_scope.specs.declared.scoping.Scoping.{Scoping}
-use Rattle.es_runs.specs.OpenRules.{is_bound_in}
-use Rattle.es_visit.specs.Moments.{whole_at}
 use Rattle.lower_common.specs.BoundNames.{binds_name}
-use Rattle.lower_common.specs.Takings.{ReadsMore, moment_of}
-use Rattle.lower_common.specs.declared.state.TransformState.{TransformState}
+use Rattle.lower_common.specs.Takings.{ReadsMore}
 
 -- NAMES THAT ARE WRITTEN
 
@@ -48,18 +46,14 @@ writes_again old new symbol flags name r own unsteady = record { names = r.names
 pub unused-unsteady : {S : Type 0} (ctx : TraverseCtx S) (x : Text) → uses_of ctx x ≡ false → steady_of ctx x ≡ false
 unused-unsteady ctx x unused = ap (is_found_steady (table_of ctx)) (unused-unbound ctx 0 x unused)
 
--- NAMES THAT THE PROGRAM'S SCOPE BINDS
+-- NAMES THAT ARE BOUND
 
--- one that it binds is a bound name or a fresh one
-pub scope-bound : (ctx : TraverseCtx TransformState) (x : Text) → binds_name ctx x ≡ true → is_bound_in (whole_at (moment_of ctx)) x ≡ true
-scope-bound ctx x = at (binding_in (table_of ctx) 0 x) refl where
-  at : (o : Option ℕ) → binding_in (table_of ctx) 0 x ≡ o → is_some o ≡ true → is_bound_in (whole_at (moment_of ctx)) x ≡ true
-  at (Some m) e h = found-bound ctx x m e
-  at None e h = absurd (cc h)
+bound_either : (found made : Bool) → (found || made) ≡ ((found && not made) || made)
+bound_either true true = refl
+bound_either true false = refl
+bound_either false true = refl
+bound_either false false = refl
 
--- one that it doesn't bind is no bound name
-pub scope-unbound : {S : Type 0} (ctx : TraverseCtx S) (x : Text) → binds_name ctx x ≡ false → bound_of ctx x ≡ false
-scope-unbound ctx x = at (binding_in (table_of ctx) 0 x) refl where
-  at : (o : Option ℕ) → binding_in (table_of ctx) 0 x ≡ o → is_some o ≡ false → bound_of ctx x ≡ false
-  at (Some m) e h = absurd (cc h)
-  at None e h = unfound-unbound ctx x e
+-- one that the program's scope binds, or a fresh one
+pub name-bound : {S : Type 0} (ctx : TraverseCtx S) (x : Text) → (is_some (binding_in (table_of ctx) 0 x) || is_among (made_of ctx) x) ≡ binds_name ctx x
+name-bound ctx x = bound_either (is_some (binding_in (table_of ctx) 0 x)) (is_among (made_of ctx) x)

@@ -1,10 +1,10 @@
--- The names that the program's scope binds.
-use Rattle.std.specs.Prelude.{Bool, is_some}
+-- The names that are bound: those of the program's scope, and fresh ones.
+use Rattle.std.specs.Prelude.{Bool, ◌||◌}
+use Rattle.es_tree.specs.Fresh.{is_among}
 use Rattle.es_tree.specs.Words.{Text}
-use Rattle.es_scope.specs.Contexts.{table_of}
-use Rattle.es_scope.specs.Tables.{binding_in}
+use Rattle.es_scope.specs.Contexts.{bound_of, made_of}
 use Rattle.es_scope.specs.declared.context.TraverseCtx.{TraverseCtx}
 
--- whether the program's scope binds a name
+-- whether a name is bound, as the rules ask for it
 abbrev pub binds_name : {S : Type 0} → TraverseCtx S → Text → Bool
-binds_name ctx x = is_some (binding_in (table_of ctx) 0 x)
+binds_name ctx x = bound_of ctx x || is_among (made_of ctx) x

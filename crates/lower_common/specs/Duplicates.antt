@@ -9,7 +9,7 @@ use Rattle.lower_common.specs.BoundNames.{binds_name}
 use Rattle.lower_common.specs.Takings.{Takes, moment_of}
 use Rattle.lower_common.specs.declared.state.TransformState.{TransformState}
 
--- the names that may be read again: those that the program's scope binds, and where it counts whether a name is written
+-- the names that may be read again: those that are bound, and where it counts whether a name is written
 -- only those that no reference writes
 abbrev pub read_again_in : Bool → TraverseCtx TransformState → Text → Bool
 read_again_in true ctx x = steady_of ctx x

@@ -4,17 +4,11 @@
 
 pub mod common;
 pub mod declarations;
-#[cfg(test)]
-mod doubling_tests;
 pub mod duplicate;
 pub mod made_nodes;
 pub mod parens;
 pub mod readings;
 pub mod state;
 pub mod temporaries;
-#[cfg(test)]
-mod temporaries_tests;
-#[cfg(test)]
-mod tests;
 pub mod uid_vars;
 pub mod warning;

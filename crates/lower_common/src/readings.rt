@@ -41,11 +41,11 @@ pub(crate) fn bound_symbol<S>(ctx: &TraverseCtx<S>, name: &str) -> Option<Symbol
     scoping.get_binding(scoping.root_scope_id(), name)
 }
 
-/// Whether the program's scope binds a name.
+/// Whether a name is bound: by the program's scope, or as a fresh name.
 pub fn is_bound<S>(name: &str, ctx: &TraverseCtx<S>) -> bool
     ensures { result ≡ binds_name ctx.now name.now }
 {
-    bound_symbol(ctx, name).is_some()
+    bound_symbol(ctx, name).is_some() || ctx.is_fresh_name(name)
 }
 
 /// Whether the program's scope binds a name and no reference writes it.
@@ -58,7 +58,7 @@ pub fn is_steady<S>(name: &str, ctx: &TraverseCtx<S>) -> bool
     }
 }
 
-/// Whether a name may be read again: the program's scope binds it, and, where it counts whether a name is
+/// Whether a name may be read again: it is bound, and, where it counts whether a name is
 /// written, no reference writes it.
 fn is_name_read_again(
     name: &str,
