@@ -22,7 +22,7 @@ use Rattle.es_semantic.specs.RolesOf.{reads, role_at}
 use Rattle.es_semantic.specs.SymbolsOf.{Declared, symbols_of}
 use Rattle.es_semantic.specs.declared.place.Role.{Role}
 use Rattle.es_semantic.specs.declared.place.Role.TheVariants.{Nothing}
-use Rattle.es_resolution.specs.Declarations.{first_mark}
+use Rattle.es_semantic.specs.NodeMarks.{first_mark}
 use Rattle.es_resolution.proofs.SymbolTrees.{own_symbols, resolved, resolved_tree, resolved_in, resolved_by, resolved_among}
 use Rattle.es_resolution.specs.Named.{IsUsed, OwnUsed, IsBelow, Named, NamedIn, NamedBy, NamedAll}
 use Rattle.es_resolution.proofs.Basics.{bytes_eq-self}

@@ -12,7 +12,7 @@ use Rattle.es_semantic.specs.SymbolsOf.{Declared, find, is_bound, is_symbol, sco
 use Rattle.es_semantic.specs.declared.place.Role.{Role}
 use Rattle.es_semantic.specs.declared.place.Role.TheVariants.{Nothing, Binds}
 use Rattle.es_tree.specs.Scopes.{own_text}
-use Rattle.es_resolution.specs.Declarations.{first_mark}
+use Rattle.es_semantic.specs.NodeMarks.{first_mark}
 use Rattle.es_resolution.proofs.SymbolTrees.{symbol_for, class_symbol, own_symbols}
 
 abbrev pub is_below : ℕ → Option ℕ → Bool
