@@ -1,5 +1,5 @@
-//! Tests over every kind of node, which stand on all the crates of opened forms. They are a crate of
-//! their own, so that they are proved once and not at each change of a lowering.
+//! Tests of trees, over the crates that read, make, copy, count and write them. They are a crate of
+//! their own, so that no library is proved twice for them.
 #![tactic(auto)]
 
 #[cfg(test)]
