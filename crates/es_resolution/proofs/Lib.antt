@@ -21,4 +21,5 @@ pub mod WholeExports
 pub mod Exports
 pub mod Sources
 pub mod WrittenSources
+pub mod AgreeingMarks
 pub mod Examples

@@ -9,11 +9,12 @@ use Rattle.es_tree.specs.Words.{Text}
 use Rattle.es_tree.specs.declared.table.Sort.TheVariants.{Program as s-Program}
 use Rattle.es_scope.specs.Tables.{binding_in}
 use Rattle.es_scope.specs.declared.scoping.Scoping.{Scoping}
-use Rattle.es_semantic.specs.ReferencesOf.{is_mutated_of, marked_program}
+use Rattle.es_semantic.specs.ReferencesOf.{is_mutated_of, marked_program, references_of}
 use Rattle.es_semantic.specs.RolesOf.{reads}
 use Rattle.es_semantic.specs.SymbolsOf.{symbol_in, symbols_of}
 use Rattle.es_semantic.specs.TableOf.{IsTableOf}
 use Rattle.es_resolution.specs.Named.{Named}
+use Rattle.es_resolution.specs.ReferenceMarks.{Agrees}
 use Rattle.es_resolution.specs.Resolved.{IsResolved}
 use Rattle.es_resolution.specs.Seen.{seen}
 use Rattle.es_resolution.specs.Single.{IsSingle}
@@ -43,3 +44,7 @@ LawNamed = (p : Tree) (in_use : Text → Bool) (free : ℕ) → has_form s-Progr
 -- The table holds a symbol to be written exactly where an identifier writes it: a symbol that isn't is steady.
 abbrev pub LawWritten : Type 0
 LawWritten = (p : Tree) (s : ℕ) → is_mutated_of p s ≡ is_written s reads (source p)
+
+-- an identifier that refers has its reference's symbol
+abbrev pub LawReferences : Type 0
+LawReferences = (p : Tree) → Agrees (references_of p) (marked_program p)

@@ -2,7 +2,7 @@
 //! functions do nothing: their contracts are laws over the definitions.
 #![tactic(auto)]
 
-ghost use Rattle.es_resolution.specs.Laws.{LawNamed, LawResolved, LawSingle, LawTable, LawWritten};
+ghost use Rattle.es_resolution.specs.Laws.{LawNamed, LawReferences, LawResolved, LawSingle, LawTable, LawWritten};
 
 /// What is seen of a program with the marks of its scope table is the same for whoever has the table.
 pub fn law_table()
@@ -28,4 +28,9 @@ pub fn law_named()
 /// A symbol of the scope table of a program is mutated exactly where an identifier of the program writes it.
 pub fn law_written()
     ensures { LawWritten }
+{}
+
+/// The reference that an identifier of a program is has the identifier's symbol.
+pub fn law_references()
+    ensures { LawReferences }
 {}
