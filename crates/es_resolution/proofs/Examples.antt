@@ -1,16 +1,20 @@
 -- A program as it is seen with the marks of its scope table, and others that are wrong: one isn't resolved, and one not single.
-use Rattle.std.proofs.Common.{◌≡◌, ℕ, refl, List, [], ◌∷◌}
+use Rattle.std.proofs.Common.{arith, ◌≡◌, ℕ, refl, List, [], ◌∷◌}
 use Rattle.std.specs.Prelude.{true, Option, Some, None, codes}
+use Rattle.es_tree.specs.Fresh.{is_among}
 use Rattle.es_tree.specs.HasForm.{has_form}
+use Rattle.es_tree.specs.Names.{names_of}
+use Rattle.es_tree.specs.StaticRules.{breaks}
 use Rattle.es_tree.specs.Tree.{Tree, node, Label, done, ◌then◌, missing, one, many, statements, empty, ◌before◌}
 use Rattle.es_tree.specs.Words.{Text}
 use Rattle.es_tree.specs.declared.ast_type.AstType.TheVariants.{Program, BlockStatement, ExpressionStatement, VariableDeclaration, VariableDeclarator, ClassDeclaration, Identifier}
 use Rattle.es_tree.specs.declared.table.Sort.TheVariants.{Program as s-Program}
 use Rattle.es_semantic.specs.RolesOf.{reads}
 use Rattle.es_resolution.specs.Laws.{source}
+use Rattle.es_resolution.specs.Named.{Named}
 use Rattle.es_resolution.specs.Resolved.{IsResolved, no_name}
-use Rattle.es_resolution.specs.Single.{scopes_with}
-use Rattle.es_resolution.proofs.Sources.{law_resolved_proof}
+use Rattle.es_resolution.specs.Single.{IsSingle, scopes_with}
+use Rattle.es_resolution.proofs.Sources.{law_named_proof, law_resolved_proof, law_single_proof}
 
 -- a node's label, with these marks
 abbrev said : List (Option Text) → List (Option ℕ) → Label
@@ -48,6 +52,16 @@ plain-form = refl
 
 resolved : IsResolved (marked 1 1)
 resolved = law_resolved_proof plain plain-form
+
+single : IsSingle (marked 1 1)
+single = law_single_proof plain plain-form
+
+plain-valid : breaks plain ≡ []
+plain-valid = refl
+
+-- its names and its four symbols are in use
+named : Named (is_among (names_of plain)) 4 reads (marked 1 1)
+named = law_named_proof plain (is_among (names_of plain)) 4 plain-form plain-valid (λ x e. e) (omega arith)
 
 -- the `b` of the block isn't the outer one
 wrong : IsResolved (marked 1 0) → ⊥
