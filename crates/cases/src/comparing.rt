@@ -38,8 +38,9 @@ impl Differences {
         let at = first_difference(found, wanted);
         let found = excerpt(found, at);
         let wanted = excerpt(wanted, at);
-        let difference =
-            format!(in self.alloc; "{what} at byte {at} `{found}`, and not `{wanted}`")?;
+        let difference = format!(in self.alloc;
+            "{what} at byte {at} `{found}`, and not `{wanted}`"
+        )?;
         self.tell(difference.as_str())
     }
 

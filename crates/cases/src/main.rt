@@ -54,10 +54,7 @@ fn run_words(rt: &(impl Env + Files + Print + AllocGlobal)) -> io::Result<Counts
     }
     println!(rt;
         "{} files, {} cases, {} of them wrong on purpose: {} differ",
-        counts.files,
-        counts.cases,
-        counts.wrong,
-        counts.differing
+        counts.files, counts.cases, counts.wrong, counts.differing
     )?;
     Ok(counts)
 }

@@ -44,7 +44,9 @@ pub fn complaint(
     match (kind, &case.differs) {
         (Kind::Right, None) => Ok(line),
         (Kind::Right, Some(_)) => {
-            let line = format!(in alloc; "{file}: {name}: is wrong on purpose, and its file isn't")?;
+            let line = format!(in alloc;
+                "{file}: {name}: is wrong on purpose, and its file isn't"
+            )?;
             Ok(Some(line))
         }
         (Kind::Wrong, Some(wanted)) if line.as_ref() == Some(wanted) => Ok(None),

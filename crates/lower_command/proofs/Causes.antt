@@ -104,13 +104,16 @@ told o q bytes (Shape path) same cause = carried (sym same.fault ∙ cause.holds
 told o q bytes (Unsupported NotBuilt id) same cause = carried (sym same.fault ∙ cause.holds.0) (record { value = cause.value; reading = cause.reading; holds = beyond_core cause.holds.1 })
 told o q bytes (Unsupported MathBound id) same cause =
     let math = cause.holds.1 in
-    carried (sym same.fault ∙ cause.holds.0) (record { value = cause.value; reading = cause.reading; holds = with_math (record {
+    carried (sym same.fault ∙ cause.holds.0) (record {
+      value = cause.value;
+      reading = cause.reading;
+      holds = with_math (record {
         program = math.program;
         source = math.source;
         core = math.core;
         kept = math.kept;
         first = sym (same_shape o q math.program same) ∙ math.first;
-      })
+      });
     })
 told o q bytes (Invalid rule id) same cause = carried (sym same.fault ∙ cause.holds.0) (record { value = cause.value; reading = cause.reading; holds = broken cause.holds.1 })
 told o q bytes _ same cause = absurd cause.holds.1

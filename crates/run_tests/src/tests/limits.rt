@@ -33,7 +33,12 @@ fn node_with(
     value: Value,
 ) -> Result<Map<String, Value>, AllocError> {
     let mut members = Map::new(alloc);
-    put(&mut members, alloc, "type", Value::try_from_str(alloc, ast_type)?)?;
+    put(
+        &mut members,
+        alloc,
+        "type",
+        Value::try_from_str(alloc, ast_type)?,
+    )?;
     put(&mut members, alloc, name, value)?;
     Ok(members)
 }
@@ -53,14 +58,24 @@ fn statement(alloc: Global, expression: Value) -> Result<Value, AllocError> {
 // `!a`, of any expression `a`
 fn negated(alloc: Global, argument: Value) -> Result<Value, AllocError> {
     let mut members = node_with(alloc, "UnaryExpression", "argument", argument)?;
-    put(&mut members, alloc, "operator", Value::try_from_str(alloc, "!")?)?;
+    put(
+        &mut members,
+        alloc,
+        "operator",
+        Value::try_from_str(alloc, "!")?,
+    )?;
     Ok(Value::Object(members))
 }
 
 // The script of these statements.
 fn script(alloc: Global, body: Vec<Value>) -> Result<Value, AllocError> {
     let mut members = node_with(alloc, "Program", "body", Value::Array(body))?;
-    put(&mut members, alloc, "sourceType", Value::try_from_str(alloc, "script")?)?;
+    put(
+        &mut members,
+        alloc,
+        "sourceType",
+        Value::try_from_str(alloc, "script")?,
+    )?;
     Ok(Value::Object(members))
 }
 
