@@ -3,21 +3,22 @@ use Rattle.std.proofs.Common.{◌≡◌, List, [], ◌∷◌, refl, sym, ap, sub
 use Rattle.std.specs.Prelude.{Bool, true, false, not, bytes_eq}
 use Rattle.es_tree.specs.Bare.{bare, bare_label, bare_trees}
 use Rattle.es_tree.specs.Heads.{head_of, label}
-use Rattle.es_tree.specs.Tree.{Tree, Label, done, ◌then◌, many, trees, kind_of}
+use Rattle.es_tree.specs.Tree.{Tree, Label, done, ◌then◌, one, many, trees, kind_of}
 use Rattle.es_tree.specs.Words.{Text, unary_operator_text}
-use Rattle.es_tree.specs.declared.ast_type.AstType.TheVariants.{CallExpression, ParenthesizedExpression, UnaryExpression}
-use Rattle.es_tree.specs.declared.kind.Kind.TheVariants.{CallExpression as k-CallExpression, ParenthesizedExpression as k-ParenthesizedExpression, UnaryExpression as k-UnaryExpression}
+use Rattle.es_tree.specs.declared.ast_type.AstType.TheVariants.{CallExpression, MemberExpression, ParenthesizedExpression, UnaryExpression}
+use Rattle.es_tree.specs.declared.kind.Kind.TheVariants.{CallExpression as k-CallExpression, MemberExpression as k-MemberExpression, ParenthesizedExpression as k-ParenthesizedExpression, UnaryExpression as k-UnaryExpression}
 use Rattle.es_tree.specs.declared.operators.UnaryOperator.{UnaryOperator}
 use Rattle.es_tree.specs.declared.operators.UnaryOperator.TheVariants.{Delete}
-use Rattle.es_expressions.specs.MembersPlain.{plain_call_expression}
+use Rattle.es_expressions.specs.MembersPlain.{plain_call_expression, plain_member_expression}
 use Rattle.es_expressions.specs.OperationsPlain.{plain_parenthesized_expression, plain_unary_expression}
 use Rattle.es_expressions.specs.declared.members.CallExpression.{CallExpression as AnyCall}
+use Rattle.es_expressions.specs.declared.members.MemberExpression.{MemberExpression as AnyMember}
 use Rattle.es_expressions.specs.declared.operations.ParenthesizedExpression.{ParenthesizedExpression as AnyParentheses}
 use Rattle.es_expressions.specs.declared.operations.UnaryExpression.{UnaryExpression as AnyUnary}
 use Rattle.es_scope.specs.Contexts.{around_of}
 use Rattle.es_scope.specs.declared.context.TraverseCtx.{TraverseCtx}
 use Rattle.es_runs.proofs.Named.{and_left}
-use Rattle.es_runs.specs.Alike.{Need, needs, the_callee, the_value, unary_need}
+use Rattle.es_runs.specs.Alike.{Need, needs, object_level, the_callee, the_value, unary_need}
 use Rattle.es_runs.specs.Alike.Level.{a_callee}
 use Rattle.es_runs.specs.Core.{unary_class}
 use Rattle.es_runs.specs.OpenSteps.{Ledger, Spot}
@@ -57,7 +58,7 @@ chosen_left : (m : Label) (ts : List Tree) (short long : Tree) → has_tests ts 
 chosen_left m [] short long h = absurd (cc h)
 chosen_left m (t ∷ ts) short long h = refl
 
-row_left : {no_all : Bool} {bound source steady in_use : Text → Bool} {xs : List Text} {n : Need} {t u : Tree} → OptionalChainingRule no_all bound source steady in_use xs n t u → is_left (kind_of u) ≡ true
+row_left : {no_all : Bool} {bound steady in_use : Text → Bool} {xs : List Text} {n : Need} {t u : Tree} → OptionalChainingRule no_all bound steady in_use xs n t u → is_left (kind_of u) ≡ true
 row_left (by_tests {m = m} {w = w} place walked some) = chosen_left m w.tests _ _ some
 row_left (as_callee {m = m} {w = w} place walked some bound) = chosen_left m w.tests _ _ some
 row_left (in_delete {m = m} {w = w} word is walked some) = chosen_left m w.tests _ _ some
@@ -92,6 +93,23 @@ lowered_call no_all old new t made e inner opened lowerable closed below =
     callee_level : (b : Bool) → b ≡ false → (the_callee b).level ≡ a_callee
     callee_level false h = refl
     callee_level true h = absurd (cc h)
+
+-- MEMBERS
+
+abbrev member_label : AnyMember → Label
+member_label e = bare_label (label e.id e.span (head_of (k-MemberExpression e.computed e.optional)))
+
+pub lowered_member : (no_all : Bool) (old new : TraverseCtx TransformState) (t made : Tree) (e : AnyMember) (inner : Tree) → plain_member_expression e ≡ t → is_lowerable t ≡ true → made ≡ plain_member_expression (record e { object = inner }) →
+    LowersBelow no_all false old new (bare e.object) (bare inner) → Lowers no_all old new (bare t) (bare made)
+lowered_member no_all old new t made e inner opened lowerable closed below =
+    let l = member_label e in
+    let unmarked = not_false e.optional (and_left (not e.optional) _ (ap is_lowerable opened ∙ lowerable)) in
+    let step = stepped_first MemberExpression l (one (bare e.property) then done) (bare e.object) (bare inner) refl (λ n f. object_takes e.optional unmarked) below in
+    subst (λ (v : Tree). Lowers no_all old new (bare v) (bare made)) opened (subst (λ (v : Tree). Lowers no_all old new (bare (plain_member_expression e)) (bare v)) (sym closed) (record { steps = step; left = refl }))
+  where
+    object_takes : (b : Bool) → b ≡ false → takes_value (object_level b) ≡ true
+    object_takes false h = refl
+    object_takes true h = absurd (cc h)
 
 -- UNARY OPERATORS
 

@@ -18,14 +18,12 @@ use Rattle.es_runs.specs.Runs.{identifier}
 use Rattle.es_runs.specs.Steps.{also_all}
 use Rattle.lower_common.proofs.BareBases.{node_base-bare}
 use Rattle.lower_common.proofs.Takings.{takes_reads, takes_trans}
-use Rattle.lower_common.specs.Parenthesized.{first_child}
 use Rattle.lower_common.specs.Takings.{ReadsMore, Takes, moment_of}
 use Rattle.lower_common.specs.Temporaries.{TakesTemporary}
 use Rattle.lower_common.specs.declared.state.TransformState.{TransformState}
 use Rattle.lower_common.specs.declared.temporaries.Temporary.{Temporary}
-use Rattle.lower_optional_chaining.specs.WayParts.{CallsMember, CallsStored, NamesMember, WritesMember, has_none, names_for, nodes_for, stands, test_nodes}
-use Rattle.lower_optional_chaining.specs.Ways.{CallsTo, IsWay, bound_at, call_label, held_name, source_at}
-use Rattle.lower_optional_chaining.specs.declared.receivers.Receiver.{Receiver}
+use Rattle.lower_optional_chaining.specs.WayParts.{CallsMember, CallsStored, WritesCallee, has_none, named_by, names_for, nodes_for, stands, test_nodes}
+use Rattle.lower_optional_chaining.specs.Ways.{CallsTo, IsWay, bound_at, call_label, held_name}
 use Rattle.lower_optional_chaining.specs.declared.way.Way.{Way as CodeWay}
 use Rattle.lower_optional_chaining.proofs.Receiving.{fresh_moved, member-bare, receiver_size, receives_moved}
 use Rattle.lower_optional_chaining.proofs.Standing.{current_is, not_standing, standing}
@@ -60,14 +58,14 @@ called_stored no_all old mid new l arguments tests callee stored t r made tested
     }
 
 -- of a member that was stored with its receiver
-pub called_member : (no_all first : Bool) (old mid next last new : TraverseCtx TransformState) (l : Label) (arguments : Trees) (tests : List Tree) (holder : Option Text) (callee written receiver stored : Tree) (t : Temporary) (v : Receiver) (r : CodeWay) → NamesMember first old mid holder callee (first_child callee) t v → WritesMember v callee written receiver → ReadsMore (nodes_for v) mid next →
+pub called_member : (no_all first : Bool) (old mid last new : TraverseCtx TransformState) (l : Label) (arguments : Trees) (tests : List Tree) (holder : Option Text) (callee written receiver stored : Tree) (t : Temporary) (r : CodeWay) → WritesCallee first old mid holder callee written receiver t →
     map bare r.tests.items ≡ tests ++ tests_of no_all (assign_node (identifier (string_bytes t.name)) written) (identifier (string_bytes t.name)) → stored ≡ identifier (string_bytes t.name) → bare r.current ≡ call_at l (call_method stored) (receiver before arguments) → held_name r.holder ≡ Some (string_bytes t.name) →
-    ReadsMore (2 + test_nodes no_all) next last → ReadsMore 2 last new → CallsMember no_all first old new l arguments tests holder callee r
-called_member no_all first old mid next last new l arguments tests holder callee written receiver stored t v r named wrote reads tested is current held more rest =
+    ReadsMore (2 + test_nodes no_all) mid last → ReadsMore 2 last new → CallsMember no_all first old new l arguments tests holder callee r
+called_member no_all first old mid last new l arguments tests holder callee written receiver stored t r made tested is current held more rest =
     let name = string_bytes t.name in
-    let object : first_child callee ≡ wrote.object = ap first_child wrote.member_is in
-    let names = subst (λ (o : Tree). NamesMember first old mid holder callee o t v) object named in
-    let size = receiver_size v wrote.object names.meant in
+    let v = made.how in
+    let wrote = made.wrote in
+    let size = receiver_size v wrote.object made.meant in
     record {
       k = wrote.k;
       computed = wrote.computed;
@@ -80,13 +78,13 @@ called_member no_all first old mid next last new l arguments tests holder callee
       ids = 3 + 3 * length (names_for v) + nodes_for v + (2 + test_nodes no_all) + 2;
       member_is = wrote.member_is;
       flags = wrote.flags;
-      fresh = names.fresh;
-      receives = names.receives;
-      unsteady = names.unsteady;
+      fresh = fresh_moved (λ y. refl) (ap (λ (c : Tree). node_base (named_by first callee c)) wrote.written_is) made.fresh;
+      receives = made.receives;
+      unsteady = made.unsteady;
       tests_are = tested ∙ ap (λ (c : Tree). tests ++ tests_of no_all (assign_node (identifier name) c) (identifier name)) wrote.written_is;
       current_is = current ∙ (λ i. call_at l (call_method (is i)) (wrote.receiver_is i before arguments));
       holder_is = held;
-      takes = takes_reads old last new (takes_reads old next last (takes_reads old mid next names.takes reads) more) rest;
+      takes = takes_reads old last new (takes_reads old mid last made.takes more) rest;
       sized = omega (arith, size);
     }
 
@@ -151,7 +149,7 @@ module _ (no_all : Bool) {begin old : TraverseCtx TransformState} {way : CodeWay
 
   -- a callee that is a member, with these names
   member_called : (new : TraverseCtx TransformState) (r : CodeWay) (first : Bool) (m : CallsMember no_all first old new (call_label span) arguments (map bare way.tests.items) (held_name way.holder) (bare e) r) (names : List Text) → Takes names m.ids (moment_of old) (moment_of new) → length names ≡ 1 + length m.names →
-      Called no_all (bound_at begin) (source_at begin) (steady_of begin) (uses_of begin) (call_label span) arguments w (stored_call no_all (call_label span) arguments w names m.name (member_at m.k m.computed m.written m.property) m.receiver) → CallsTo no_all begin new span arguments w h.ids r
+      Called no_all (bound_at begin) (steady_of begin) (uses_of begin) (call_label span) arguments w (stored_call no_all (call_label span) arguments w names m.name (member_at m.k m.computed m.written m.property) m.receiver) → CallsTo no_all begin new span arguments w h.ids r
   member_called new r first m names taken few called =
       let is = current_is h ts e tests below in
       let x = m.name in
@@ -188,7 +186,7 @@ module _ (no_all : Bool) {begin old : TraverseCtx TransformState} {way : CodeWay
       let c = m.name in
       let xs = m.names in
       member_called new r false m (xs ++ c ∷ []) m.takes (let n = length-append xs (c ∷ []) in omega (arith, n))
-      (by_later_member some (sym is ∙ m.member_is) m.flags (receives_moved h.takes.steady_is h.takes.used h.holder m.receives) (fresh_moved (λ x i. also_all xs (λ y. h.takes.used y i) x) (ap node_base is) m.fresh))
+      (by_later_member some (sym is ∙ m.member_is) m.flags (receives_moved h.takes.steady_is h.takes.used h.holder m.receives) (fresh_moved (λ x i. also_all xs (λ y. h.takes.used y i) x) refl m.fresh))
   in_turn new r false [] none q m = absurd (cc q)
   in_turn new r true (u ∷ us) some q m = absurd (cc q)
 

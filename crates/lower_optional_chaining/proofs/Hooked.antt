@@ -4,7 +4,7 @@ use Rattle.std.specs.Prelude.{Bool, true, false}
 use Rattle.es_tree.specs.Bare.{bare}
 use Rattle.es_tree.specs.Tree.{Tree, node, kind_of}
 use Rattle.es_tree.specs.declared.ast_type.AstType.{AstType}
-use Rattle.es_tree.specs.declared.ast_type.AstType.TheVariants.{CallExpression, ChainExpression, ConditionalExpression, UnaryExpression}
+use Rattle.es_tree.specs.declared.ast_type.AstType.TheVariants.{CallExpression, ChainExpression, ConditionalExpression, MemberExpression, UnaryExpression}
 use Rattle.es_scope.specs.declared.context.TraverseCtx.{TraverseCtx}
 use Rattle.es_runs.specs.OpenRules.{Chaining}
 use Rattle.es_runs.specs.OptionalChaining.{is_chain_kind}
@@ -26,12 +26,14 @@ left_sort : (k : AstType) → is_left k ≡ true → (h : Hook) → hook_of_sort
 left_sort ConditionalExpression e h s = cc s
 left_sort UnaryExpression e h s = cc s
 left_sort CallExpression e h s = cc s
+left_sort MemberExpression e h s = cc s
 left_sort _ e h s = absurd (cc e)
 
 left_cleared : (k : AstType) → is_left k ≡ true → is_chain_kind k ≡ false
 left_cleared ConditionalExpression e = refl
 left_cleared UnaryExpression e = refl
 left_cleared CallExpression e = refl
+left_cleared MemberExpression e = refl
 left_cleared _ e = absurd (cc e)
 
 -- THE HOOK

@@ -1,11 +1,11 @@
 -- Where the code says that a place takes the value of what stands there, it does.
-use Rattle.std.proofs.Common.{◌≡◌, ℕ, suc, zero, List, [], ◌∷◌, Option, Some, None, refl, drop, slice_get}
+use Rattle.std.proofs.Common.{◌≡◌, ℕ, suc, zero, List, [], ◌∷◌, Option, Some, None, refl, drop, slice_get, length, ◌≤◌, arith}
 use Rattle.std.specs.Prelude.{Bool, true, false}
 use Rattle.es_tree.specs.Words.{Text}
 use Rattle.es_tree.specs.declared.ast_type.AstType.{AstType}
 use Rattle.es_tree.specs.declared.ast_type.AstType.TheVariants.{AssignmentExpression, BinaryExpression, CallExpression, ChainExpression, MemberExpression, ParenthesizedExpression, UnaryExpression, UpdateExpression, VariableDeclaration, VariableDeclarator}
 use Rattle.es_scope.specs.declared.ancestor.Ancestor.{Ancestor}
-use Rattle.es_runs.specs.Alike.{Need, member_needs, needs}
+use Rattle.es_runs.specs.Alike.{Need, key_need, needs}
 use Rattle.es_runs.specs.Core.{flag}
 use Rattle.es_runs.specs.OptionalChaining.{takes_value}
 use Rattle.es_visit.specs.Moments.{Fits}
@@ -15,10 +15,9 @@ use Rattle.lower_optional_chaining.specs.Places.{or_by, takes_around, takes_in}
 
 -- THE TABLE
 
-member_takes : (form computed : Bool) (i : ℕ) → takes_value (member_needs form computed i).level ≡ true
-member_takes form computed zero = refl
-member_takes form true (suc i) = refl
-member_takes form false (suc i) = refl
+key_takes : (computed : Bool) → takes_value (key_need computed).level ≡ true
+key_takes true = refl
+key_takes false = refl
 
 field_takes : (k : AstType) (i : ℕ) (n : Need) (texts : List (Option Text)) (flags : List Bool) (outer : Bool) → (outer ≡ true → takes_value n.level ≡ true) → or_by (takes_in k i) outer ≡ true → takes_value (needs n k texts flags i).level ≡ true
 field_takes ParenthesizedExpression i n texts flags outer h e = h e
@@ -34,7 +33,8 @@ field_takes VariableDeclarator zero n texts flags outer h e = absurd (cc e)
 field_takes VariableDeclarator (suc i) n texts flags outer h e = refl
 field_takes BinaryExpression zero n texts flags outer h e = refl
 field_takes BinaryExpression (suc i) n texts flags outer h e = refl
-field_takes MemberExpression i n texts flags outer h e = member_takes n.form (flag flags) i
+field_takes MemberExpression zero n texts flags outer h e = absurd (cc e)
+field_takes MemberExpression (suc i) n texts flags outer h e = key_takes (flag flags)
 field_takes _ i n texts flags outer h e = refl
 
 -- THE ANCESTORS
@@ -56,3 +56,16 @@ around_passed [] zero a h tells = absurd (cc h)
 around_passed [] (suc i) a h tells = absurd (cc h)
 around_passed (x ∷ xs) zero a h tells = cc (h, tells)
 around_passed (x ∷ xs) (suc i) a h tells = around_passed xs i a h tells
+
+-- beyond the outermost ancestor no place takes a value
+pub around_outside : (xs : List Ancestor) (i : ℕ) → None ≡ slice_get xs i → takes_around (drop i xs) ≡ false
+around_outside [] zero h = refl
+around_outside [] (suc i) h = refl
+around_outside (x ∷ xs) zero h = absurd (cc h)
+around_outside (x ∷ xs) (suc i) h = around_outside xs i h
+
+pub around_past : (xs : List Ancestor) (i : ℕ) → length xs ≤ i → takes_around (drop i xs) ≡ false
+around_past [] zero h = refl
+around_past [] (suc i) h = refl
+around_past (x ∷ xs) zero h = absurd (omega (arith, h))
+around_past (x ∷ xs) (suc i) h = around_past xs i (omega (arith, h))

@@ -12,7 +12,7 @@ use Rattle.es_scope.specs.Contexts.{steady_of, uses_of}
 use Rattle.es_scope.specs.declared.context.TraverseCtx.{TraverseCtx}
 use Rattle.es_runs.proofs.ChainWeights.{single_name}
 use Rattle.es_runs.specs.Core.{flag_after}
-use Rattle.es_runs.specs.OptionalChaining.{BoundCallee, Receives, bind_node, is_member, is_name_among, member_at, or_held}
+use Rattle.es_runs.specs.OptionalChaining.{BoundCallee, Receives, bind_node, is_member, is_name_among, is_this_or_super, member_at, or_held}
 use Rattle.es_runs.specs.OptionalChaining.BoundCallee.{no_member, to_object}
 use Rattle.es_runs.specs.OptionalChaining.Receives.{by_this, by_name, by_temporary}
 use Rattle.lower_common.proofs.BareBases.{node_base-bare}
@@ -23,7 +23,7 @@ use Rattle.lower_common.specs.Takings.{ReadsMore, Takes, moment_of}
 use Rattle.lower_common.specs.Temporaries.{TakesTemporary}
 use Rattle.lower_common.specs.declared.state.TransformState.{TransformState}
 use Rattle.lower_common.specs.declared.temporaries.Temporary.{Temporary}
-use Rattle.lower_optional_chaining.specs.WayParts.{ChoosesReceiver, IsMeant, NamesMember, names_for, nodes_for, read_for, written_for}
+use Rattle.lower_optional_chaining.specs.WayParts.{ChoosesReceiver, IsMeant, WritesCallee, WritesMember, names_for, nodes_for, read_for, written_for}
 use Rattle.lower_optional_chaining.specs.Ways.{BindsTo, ReceivesTo, to_this}
 use Rattle.lower_optional_chaining.specs.declared.receivers.Receiver.{Receiver}
 use Rattle.lower_optional_chaining.specs.declared.receivers.Receiver.TheVariants.{This, Again, Stored}
@@ -121,32 +121,43 @@ bound_member old mid new holder member o1 r made m opened unmarked received wrot
       sized = omega (arith, received.sized, before, after);
     }
 
--- THE NAMES OF A CALLEE AND OF ITS RECEIVER
+-- A CALLEE WITH ITS RECEIVER
 
-module _ (old mid new : TraverseCtx TransformState) (holder : Option Text) (callee object : Tree) (t : Temporary) (r : Receiver) (child : object ≡ first_child callee) where
-  first_object : bare object ≡ first_child (bare callee)
-  first_object = ap bare child ∙ sym (first_child-bare callee)
+module _ (old : TraverseCtx TransformState) (holder : Option Text) (callee object : Tree) (t : Temporary) (r : Receiver) (child : object ≡ first_child callee) (written receiver : Tree) (wrote : WritesMember r (bare callee) written receiver) where
+  same_object : bare object ≡ wrote.object
+  same_object = ap bare child ∙ sym (first_child-bare callee) ∙ ap first_child wrote.member_is
 
-  -- the callee's first
-  pub named_first : (b : Bool) → b ≡ true → TakesTemporary old mid (node_base callee) t → ChoosesReceiver true mid new holder (bare object) r → NamesMember b old new holder (bare callee) (first_child (bare callee)) t r
-  named_first b e made chosen = subst (λ (a : Bool). NamesMember a old new holder (bare callee) (first_child (bare callee)) t r) (sym e) (subst (λ (o : Tree). NamesMember true old new holder (bare callee) o t r) first_object (record {
-    fresh = fresh_moved (λ y. refl) (sym (node_base-bare callee)) made.fresh;
-    receives = receives_moved made.takes.steady_is made.takes.used refl chosen.receives;
-    target = made.target;
-    meant = chosen.meant;
-    unsteady = made.unsteady;
-    takes = takes_trans made.takes chosen.takes;
-  }))
+  -- the callee's name first
+  pub written_first : (mid next new : TraverseCtx TransformState) (b : Bool) → b ≡ true → TakesTemporary old mid (node_base callee) t → ChoosesReceiver true mid next holder (bare object) r → ReadsMore (nodes_for r) next new → WritesCallee b old new holder (bare callee) written receiver t
+  written_first mid next new b e made chosen reads =
+      let name = string_bytes t.name in
+      let meant = subst (λ (o : Tree). IsMeant r o) same_object chosen.meant in
+      let taken = receives_moved made.takes.steady_is made.takes.used refl (subst (λ (o : Tree). Receives is_this_or_super (steady_of mid) (uses_of mid) holder (names_for r) o (written_for r o) (read_for r o)) same_object chosen.receives) in
+      subst (λ (a : Bool). WritesCallee a old new holder (bare callee) written receiver t) (sym e) (record {
+        how = r;
+        wrote = wrote;
+        meant = meant;
+        fresh = fresh_moved (λ y. refl) (sym (node_base-bare callee)) made.fresh;
+        receives = taken;
+        target = made.target;
+        unsteady = made.unsteady;
+        takes = takes_reads old next new (takes_trans made.takes chosen.takes) reads;
+      })
 
   -- or the receiver's
-  pub named_last : (b : Bool) → b ≡ false → ChoosesReceiver true old mid holder (bare object) r → TakesTemporary mid new (node_base callee) t → NamesMember b old new holder (bare callee) (first_child (bare callee)) t r
-  named_last b e chosen made =
-      let count : 3 * length (names_for r) + 3 ≡ 3 + 3 * length (names_for r) = omega arith in
-      subst (λ (a : Bool). NamesMember a old new holder (bare callee) (first_child (bare callee)) t r) (sym e) (subst (λ (o : Tree). NamesMember false old new holder (bare callee) o t r) first_object (record {
-        fresh = fresh_moved chosen.takes.used (sym (node_base-bare callee)) made.fresh;
-        receives = chosen.receives;
+  pub written_last : (mid next new : TraverseCtx TransformState) (b : Bool) (made_of : Tree) → b ≡ false → bare made_of ≡ written → ChoosesReceiver true old mid holder (bare object) r → ReadsMore (nodes_for r) mid next → TakesTemporary next new (node_base made_of) t → WritesCallee b old new holder (bare callee) written receiver t
+  written_last mid next new b made_of e is chosen reads made =
+      let name = string_bytes t.name in
+      let meant = subst (λ (o : Tree). IsMeant r o) same_object chosen.meant in
+      let count : 3 * length (names_for r) + nodes_for r + 3 ≡ 3 + 3 * length (names_for r) + nodes_for r = omega arith in
+      let taken = subst (λ (o : Tree). Receives is_this_or_super (steady_of old) (uses_of old) holder (names_for r) o (written_for r o) (read_for r o)) same_object chosen.receives in
+      subst (λ (a : Bool). WritesCallee a old new holder (bare callee) written receiver t) (sym e) (record {
+        how = r;
+        wrote = wrote;
+        meant = meant;
+        fresh = fresh_moved (λ y. reads.names.used y ∙ chosen.takes.used y) (sym (node_base-bare made_of) ∙ ap node_base is) made.fresh;
+        receives = taken;
         target = made.target;
-        meant = chosen.meant;
-        unsteady = sym (chosen.takes.steady_is (string_bytes t.name)) ∙ made.unsteady;
-        takes = subst (λ (n : ℕ). Takes (names_for r ++ string_bytes t.name ∷ []) n (moment_of old) (moment_of new)) count (takes_trans chosen.takes made.takes);
-      }))
+        unsteady = sym (chosen.takes.steady_is name) ∙ sym (reads.steady_is name) ∙ made.unsteady;
+        takes = subst (λ (n : ℕ). Takes (names_for r ++ name ∷ []) n (moment_of old) (moment_of new)) count (takes_trans (takes_reads old mid next chosen.takes reads) made.takes);
+      })

@@ -15,11 +15,10 @@ use Rattle.es_runs.specs.OptionalChaining.{Way, is_eval, is_name_among}
 use Rattle.lower_common.proofs.ReadAgain.{no_fields-bare}
 use Rattle.lower_common.specs.declared.state.TransformState.{TransformState}
 use Rattle.lower_optional_chaining.specs.WayParts.{but_eval, stands}
-use Rattle.lower_optional_chaining.specs.Ways.{IsWay, bound_at, source_at}
+use Rattle.lower_optional_chaining.specs.Ways.{IsWay, bound_at}
 use Rattle.lower_optional_chaining.specs.declared.way.Way.{Way as CodeWay}
 use Rattle.lower_common.proofs.Parenthesized.{without_parens-bare}
 use Rattle.lower_common.specs.BoundNames.{binds_name}
-use Rattle.lower_common.proofs.WrittenNames.{scope-bound, scope-unbound}
 
 -- TREES WITHOUT IDS AND MARKS
 
@@ -106,11 +105,10 @@ module _ {begin now : TraverseCtx TransformState} {way : CodeWay} {w : Way} (h :
       let t = without_parens w.current in
       let yes = sym (same_test (binds_name now)) ∙ s in
       let none = stands_none (binds_name now) w.tests t yes in
-      let here : is_name_among (bound_at now) t ≡ true = among_more (binds_name now) (bound_at now) (scope-bound now) t (stands_name (binds_name now) w.tests t yes) in
-      record { none = none; named = among_more (bound_at now) (bound_at begin) (λ x k. sym (bound_same (h.untaken none).0 x) ∙ k) t here }
+      record { none = none; named = among_more (binds_name now) (bound_at begin) (λ x k. sym (bound_same (h.untaken none).0 x) ∙ k) t (stands_name (binds_name now) w.tests t yes) }
 
-  pub not_standing : stands (binds_name now) ts e ≡ false → w.tests ≡ [] → is_name_among (source_at begin) (without_parens w.current) ≡ false
+  pub not_standing : stands (binds_name now) ts e ≡ false → w.tests ≡ [] → is_name_among (bound_at begin) (without_parens w.current) ≡ false
   not_standing s none =
       let t = without_parens w.current in
       let no = stands_not (binds_name now) w.tests t (sym (same_test (binds_name now)) ∙ s) none in
-      among_none (source_at now) (source_at begin) (λ x k. sym (h.takes.bound_is x) ∙ k) t (among_none (binds_name now) (source_at now) (scope-unbound now) t no)
+      among_none (binds_name now) (bound_at begin) (λ x k. sym (bound_same (h.untaken none).0 x) ∙ k) t no

@@ -3,7 +3,7 @@ use Rattle.std.specs.Prelude.{◌≡◌, Bool, true, false}
 use Rattle.es_tree.specs.Parens.{without_parens}
 use Rattle.es_tree.specs.Tree.{Tree, kind_of}
 use Rattle.es_tree.specs.declared.ast_type.AstType.{AstType}
-use Rattle.es_tree.specs.declared.ast_type.AstType.TheVariants.{CallExpression, ConditionalExpression, UnaryExpression}
+use Rattle.es_tree.specs.declared.ast_type.AstType.TheVariants.{CallExpression, ConditionalExpression, MemberExpression, UnaryExpression}
 use Rattle.es_scope.specs.declared.context.TraverseCtx.{TraverseCtx}
 use Rattle.es_runs.specs.Alike.{Need}
 use Rattle.es_runs.specs.Alike.Level.{a_callee}
@@ -37,5 +37,6 @@ LowersBelow no_all is_callee old new t u = StepsWhere (takes_by is_callee) (Chai
 abbrev pub is_left : AstType → Bool
 is_left ConditionalExpression = true
 is_left CallExpression = true
+is_left MemberExpression = true
 is_left UnaryExpression = true
 is_left _ = false

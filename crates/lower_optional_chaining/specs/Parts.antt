@@ -3,10 +3,10 @@ use Rattle.std.specs.Prelude.{◌≡◌, ◌&&◌, ◌+◌, Bool, true, false, n
 use Rattle.es_tree.specs.Bare.{bare}
 use Rattle.es_tree.specs.Names.{first_text}
 use Rattle.es_tree.specs.Tree.{Tree, node, Fields, done, ◌then◌, one, many}
-use Rattle.es_tree.specs.declared.ast_type.AstType.TheVariants.{CallExpression, ChainExpression, ParenthesizedExpression, UnaryExpression}
+use Rattle.es_tree.specs.declared.ast_type.AstType.TheVariants.{CallExpression, ChainExpression, MemberExpression, ParenthesizedExpression, UnaryExpression}
 use Rattle.es_tree.specs.declared.ids.Span.{Span}
 use Rattle.es_scope.specs.declared.context.TraverseCtx.{TraverseCtx}
-use Rattle.es_runs.specs.Core.{flag}
+use Rattle.es_runs.specs.Core.{flag, flag_after}
 use Rattle.es_runs.specs.OptionalChaining.{delete_node, has_tests, true_node, where_short}
 use Rattle.es_runs.specs.Rules.{void_zero_node}
 use Rattle.lower_common.specs.Replacings.{at_span}
@@ -47,10 +47,16 @@ abbrev pub calls_chain : Fields → Bool
 calls_chain (one f then (many arguments then done)) = has_chain f
 calls_chain _ = false
 
--- a chain, a call of one without a mark, or a unary operator with one as its operand
+-- an object that is a chain below parentheses, with a key
+abbrev pub reads_chain : Fields → Bool
+reads_chain (one o then (one p then done)) = has_chain o
+reads_chain _ = false
+
+-- a chain, a call or a member of one without a mark, or a unary operator with one as its operand
 abbrev pub is_lowerable : Tree → Bool
 is_lowerable (node ChainExpression l fs) = true
 is_lowerable (node CallExpression l fs) = not (flag l.flags) && calls_chain fs
+is_lowerable (node MemberExpression l fs) = not (flag_after l.flags) && reads_chain fs
 is_lowerable (node UnaryExpression l fs) = holds_chain fs
 is_lowerable _ = false
 

@@ -1,11 +1,11 @@
 -- Which places take the value of what stands there.
 use Rattle.std.specs.Prelude.{ℕ, ◌==◌, Bool, true, false, not, Option, Some, None, List, [], ◌∷◌}
 use Rattle.es_tree.specs.declared.ast_type.AstType.{AstType}
-use Rattle.es_tree.specs.declared.ast_type.AstType.TheVariants.{AssignmentExpression, CallExpression, ChainExpression, ParenthesizedExpression, UnaryExpression, UpdateExpression, VariableDeclaration, VariableDeclarator}
+use Rattle.es_tree.specs.declared.ast_type.AstType.TheVariants.{AssignmentExpression, CallExpression, ChainExpression, MemberExpression, ParenthesizedExpression, UnaryExpression, UpdateExpression, VariableDeclaration, VariableDeclarator}
 use Rattle.es_scope.specs.declared.ancestor.Ancestor.{Ancestor}
 
--- Whether this field of a node of this kind takes the value of what stands there, or isn't evaluated; of parentheses their
--- own place tells.
+-- Whether this field of a node of this kind takes the value of what stands there and no more, or isn't evaluated; of
+-- parentheses their own place tells. The object of a member may be marked, as the callee of a call.
 abbrev pub takes_in : AstType → ℕ → Option Bool
 takes_in ParenthesizedExpression i = None
 takes_in UnaryExpression i = Some false
@@ -13,6 +13,7 @@ takes_in UpdateExpression i = Some false
 takes_in ChainExpression i = Some false
 takes_in VariableDeclaration i = Some false
 takes_in CallExpression i = Some (not (i == 0))
+takes_in MemberExpression i = Some (not (i == 0))
 takes_in AssignmentExpression i = Some (not (i == 0))
 takes_in VariableDeclarator i = Some (not (i == 0))
 takes_in _ i = Some true

@@ -16,7 +16,7 @@ abbrev pub chaining_rows : Hook → AstType → Label → Fields → Bool
 chaining_rows Expression k l fs = is_chain_kind k
 chaining_rows _ k l fs = false
 
--- it leaves a conditional, or a call or a unary operator with one below, and refuses nowhere
+-- it leaves a conditional, or a call, a member or a unary operator with one below, and refuses nowhere
 abbrev pub chaining_profile : EnvOptions → Profile
 chaining_profile o = record {
   rule = Chaining o.assumptions.no_document_all;

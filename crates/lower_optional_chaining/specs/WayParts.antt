@@ -114,14 +114,10 @@ abbrev pub used_at_receiver : Bool → Text → (Text → Bool) → Text → Boo
 used_at_receiver true c in_use = also c in_use
 used_at_receiver false c in_use = in_use
 
--- The names of a callee that is a member and of its receiver were made.
-pub record NamesMember (callee_first : Bool) (old new : TraverseCtx TransformState) (holder : Option Text) (callee object : Tree) (t : Temporary) (r : Receiver) : Type 0 where
-  pub fresh : IsFreshName (used_at_callee callee_first (names_for r) (uses_of old)) (node_base callee) (string_bytes t.name)
-  pub receives : Receives is_this_or_super (steady_of old) (used_at_receiver callee_first (string_bytes t.name) (uses_of old)) holder (names_for r) object (written_for r object) (read_for r object)
-  pub target : bare t.target ≡ identifier (string_bytes t.name)
-  pub meant : IsMeant r object
-  pub unsteady : steady_of old (string_bytes t.name) ≡ false
-  pub takes : Takes (in_order callee_first (string_bytes t.name) (names_for r)) (3 + 3 * length (names_for r)) (moment_of old) (moment_of new)
+-- what the callee's temporary is named after: the member as it stood, or as it was written
+abbrev pub named_by : Bool → Tree → Tree → Tree
+named_by true callee written = callee
+named_by false callee written = written
 
 -- A member without a mark was written over its object as it is written for a receiver.
 pub record WritesMember (r : Receiver) (member written receiver : Tree) : Type 0 where
@@ -133,6 +129,17 @@ pub record WritesMember (r : Receiver) (member written receiver : Tree) : Type 0
   pub flags : k.flags ≡ computed ∷ false ∷ []
   pub written_is : written ≡ member_at k computed (written_for r object) property
   pub receiver_is : receiver ≡ read_for r object
+
+-- A callee that is a member was written with its receiver, and a temporary was made for it: first, or after the receiver.
+pub record WritesCallee (callee_first : Bool) (old new : TraverseCtx TransformState) (holder : Option Text) (callee written receiver : Tree) (t : Temporary) : Type 0 where
+  pub how : Receiver
+  pub wrote : WritesMember how callee written receiver
+  pub meant : IsMeant how wrote.object
+  pub fresh : IsFreshName (used_at_callee callee_first (names_for how) (uses_of old)) (node_base (named_by callee_first callee written)) (string_bytes t.name)
+  pub receives : Receives is_this_or_super (steady_of old) (used_at_receiver callee_first (string_bytes t.name) (uses_of old)) holder (names_for how) wrote.object (written_for how wrote.object) (read_for how wrote.object)
+  pub target : bare t.target ≡ identifier (string_bytes t.name)
+  pub unsteady : steady_of old (string_bytes t.name) ≡ false
+  pub takes : Takes (in_order callee_first (string_bytes t.name) (names_for how)) (3 + 3 * length (names_for how) + nodes_for how) (moment_of old) (moment_of new)
 
 -- CALLS
 
@@ -159,7 +166,7 @@ pub record CallsMember (no_all callee_first : Bool) (old new : TraverseCtx Trans
   pub ids : ℕ
   pub member_is : callee ≡ node MemberExpression k (one object then one property then done)
   pub flags : k.flags ≡ computed ∷ false ∷ []
-  pub fresh : IsFreshName (used_at_callee callee_first names (uses_of old)) (node_base callee) name
+  pub fresh : IsFreshName (used_at_callee callee_first names (uses_of old)) (node_base (named_by callee_first callee (member_at k computed written property))) name
   pub receives : Receives is_this_or_super (steady_of old) (used_at_receiver callee_first name (uses_of old)) holder names object written receiver
   pub unsteady : steady_of old name ≡ false
   pub tests_are : map bare way.tests.items ≡ tests ++ tests_of no_all (assign_node (identifier name) (member_at k computed written property)) (identifier name)

@@ -18,12 +18,9 @@ use Rattle.lower_optional_chaining.specs.declared.way.Way.{Way as CodeWay}
 
 -- THE NAMES OF A MOMENT
 
--- the names that are bound, and those of the source
+-- the names that are bound
 abbrev pub bound_at : TraverseCtx TransformState → Text → Bool
 bound_at ctx = is_bound_in (whole_at (moment_of ctx))
-
-abbrev pub source_at : TraverseCtx TransformState → Text → Bool
-source_at ctx = (whole_at (moment_of ctx)).bound
 
 -- WAYS
 
@@ -46,21 +43,21 @@ pub record IsWay (begin now : TraverseCtx TransformState) (way : CodeWay) (w : W
 pub record WalksTo (no_all : Bool) (begin now : TraverseCtx TransformState) (e : Tree) (way : CodeWay) : Type 0 where
   pub to : Way
   pub is : IsWay begin now way to
-  pub walked : Walked no_all (bound_at begin) (source_at begin) (steady_of begin) (uses_of begin) e to
+  pub walked : Walked no_all (bound_at begin) (steady_of begin) (uses_of begin) e to
   pub affords : AffordsWay is.ids e to
 
 -- the same before a marked step, where a chain in parentheses is gone on with
 pub record ContinuesTo (no_all : Bool) (begin now : TraverseCtx TransformState) (e : Tree) (way : CodeWay) : Type 0 where
   pub to : Way
   pub is : IsWay begin now way to
-  pub walked : Continued no_all (bound_at begin) (source_at begin) (steady_of begin) (uses_of begin) e to
+  pub walked : Continued no_all (bound_at begin) (steady_of begin) (uses_of begin) e to
   pub affords : AffordsWay is.ids e to
 
 -- what is current was tested before a marked member, and each made node took an id
 pub record TestsTo (no_all : Bool) (begin now : TraverseCtx TransformState) (w : Way) (ids : ℕ) (way : CodeWay) : Type 0 where
   pub to : Way
   pub is : IsWay begin now way to
-  pub tested : Tested no_all (bound_at begin) (source_at begin) (uses_of begin) w to
+  pub tested : Tested no_all (bound_at begin) (uses_of begin) w to
   pub more : ℕ
   pub counted : is.ids ≡ ids + more
   pub sized : way_size to ≡ more + way_size (stripped w)
@@ -73,7 +70,7 @@ call_label s = record (made [] (true ∷ [])) { start = s.start; stop = s.end }
 pub record CallsTo (no_all : Bool) (begin now : TraverseCtx TransformState) (span : Span) (arguments : Trees) (w : Way) (ids : ℕ) (way : CodeWay) : Type 0 where
   pub to : Way
   pub is : IsWay begin now way to
-  pub called : Called no_all (bound_at begin) (source_at begin) (steady_of begin) (uses_of begin) (call_label span) arguments w to
+  pub called : Called no_all (bound_at begin) (steady_of begin) (uses_of begin) (call_label span) arguments w to
   pub more : ℕ
   pub counted : is.ids ≡ ids + more
   pub sized : way_size to ≡ more + (1 + trees_size arguments) + way_size (stripped w)

@@ -5,13 +5,12 @@ ghost use Rattle.es_tree.specs.Tree.{◌before◌, label_of, tree_size, trees};
 ghost use Rattle.es_expressions.specs.MembersShapes.{IsMemberExpression};
 ghost use Rattle.es_runs.specs.Core.{flag_after};
 ghost use Rattle.es_runs.specs.OptionalChaining.{call_at, call_method, tests_of};
-ghost use Rattle.lower_common.specs.Parenthesized.{first_child};
 ghost use Rattle.lower_common.specs.Takings.{ReadsMore};
-ghost use Rattle.lower_optional_chaining.specs.WayParts.{CallsMember, CallsStored, NamesMember, has_none, test_nodes};
+ghost use Rattle.lower_optional_chaining.specs.WayParts.{CallsMember, CallsStored, WritesCallee, has_none, test_nodes};
 ghost use Rattle.lower_optional_chaining.specs.Ways.{call_label, held_name};
 
 use crate::members::{new_method, object_of};
-use crate::receivers::{Receiver, choose_receiver, write_member};
+use crate::receivers::{choose_receiver, write_member};
 use crate::tests_of::{test_name, test_stored};
 use crate::way::Way;
 use es_expressions::members::CallExpression;
@@ -120,25 +119,30 @@ pub(crate) fn call_value(
     })
 }
 
-/// The names of a callee that is a member and of its receiver, the callee's first or last.
-fn name_member(
-    callee: &Node,
+/// A callee that is a member as it is written, its receiver as it is read, and the temporary of the callee: that
+/// of the member as it stands, or, where the receiver comes first, as it is written.
+fn write_callee(
+    callee: Node,
     callee_first: bool,
     holder: &Option<String>,
     ctx: &mut TraverseCtx<TransformState>,
-) -> Result<(Temporary, Receiver), AllocError>
+) -> Result<(Node, Node, Temporary), AllocError>
+    requires member { IsMemberExpression callee }
+    requires unmarked { flag_after (label_of callee).flags ≡ false }
     requires there { 0 < length ctx.old.state.var_declarations }
-    requires room { ctx.old.ast.next + 6 < 2 ^ 32 - 1 }
-    ensures { IfOk result (λ r. NamesMember callee_first ctx.old ctx.new (held_name holder.now) (bare callee.now) (first_child (bare callee.now)) r.0 r.1) }
+    requires room { ctx.old.ast.next + 8 < 2 ^ 32 - 1 }
+    ensures { IfOk result (λ r. WritesCallee callee_first ctx.old ctx.new (held_name holder.now) (bare callee) (bare r.0) (bare r.1) r.2) }
 {
     if callee_first {
-        let temporary = new_temporary(callee, ctx)?;
-        let receiver = choose_receiver(object_of(callee), true, holder, ctx)?;
-        Ok((temporary, receiver))
+        let temporary = new_temporary(&callee, ctx)?;
+        let receiver = choose_receiver(object_of(&callee), true, holder, ctx)?;
+        let (written, read) = write_member(callee, receiver, ctx)?;
+        Ok((written, read, temporary))
     } else {
-        let receiver = choose_receiver(object_of(callee), true, holder, ctx)?;
-        let temporary = new_temporary(callee, ctx)?;
-        Ok((temporary, receiver))
+        let receiver = choose_receiver(object_of(&callee), true, holder, ctx)?;
+        let (written, read) = write_member(callee, receiver, ctx)?;
+        let temporary = new_temporary(&written, ctx)?;
+        Ok((written, read, temporary))
     }
 }
 
@@ -171,7 +175,7 @@ fn call_with<S>(
 }
 
 /// The way after a callee that is a member was stored with its receiver, tested and called. With no test so
-/// far the callee's name is made before the receiver's, and else after it.
+/// far the callee's name is made before the receiver's, and else after it, of the member with the receiver in it.
 pub(crate) fn call_member(
     tests: Vec<Node>,
     callee: Node,
@@ -186,8 +190,7 @@ pub(crate) fn call_member(
     requires room { ctx.old.ast.next + 19 < 2 ^ 32 - 1 }
     ensures { IfOk result (λ r. CallsMember no_document_all (has_none tests.items) ctx.old ctx.new (call_label call.span) (bare_trees (trees call.arguments.items)) (map bare tests.items) (held_name holder.now) (bare callee) r) }
 {
-    let (temporary, receiver) = name_member(&callee, tests.is_empty(), holder, ctx)?;
-    let (callee, receiver) = write_member(callee, receiver, ctx)?;
+    let (callee, receiver, temporary) = write_callee(callee, tests.is_empty(), holder, ctx)?;
     let way = test_stored(tests, callee, temporary, no_document_all, ctx)?;
     let way = call_with(way, receiver, call, ctx)?;
     Ok(way)

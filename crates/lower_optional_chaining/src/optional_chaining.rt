@@ -25,7 +25,7 @@
 ghost use Rattle.std.specs.Prelude.{◌≡◌, ◌<◌, IfErr, IfOk, false, length, true};
 ghost use Rattle.es_tree.specs.Bare.{bare};
 ghost use Rattle.es_tree.specs.Tree.{kind_of};
-ghost use Rattle.es_tree.specs.declared.ast_type.AstType.TheVariants.{CallExpression as AnyCallExpression, UnaryExpression as AnyUnaryExpression};
+ghost use Rattle.es_tree.specs.declared.ast_type.AstType.TheVariants.{CallExpression as AnyCallExpression, MemberExpression as AnyMemberExpression, UnaryExpression as AnyUnaryExpression};
 ghost use Rattle.es_runs.specs.Weights.{weight};
 ghost use Rattle.es_visit.specs.Moments.{HasRoom};
 ghost use Rattle.lower_common.specs.Takings.{moment_of};
@@ -37,7 +37,7 @@ ghost use Rattle.lower_optional_chaining.specs.Profiles.{chaining_profile};
 use crate::chains::{lower_chain, lower_delete};
 use crate::parts::{is_delete, is_lowerable};
 use crate::places::{lower_below, takes_value};
-use es_expressions::members::CallExpression;
+use es_expressions::members::{CallExpression, MemberExpression};
 use es_expressions::operations::UnaryExpression;
 use es_scope::context::TraverseCtx;
 use es_tree::error::LowerError;
@@ -90,8 +90,8 @@ impl Lowering for OptionalChaining {
 }
 
 impl Traverse<TransformState> for OptionalChaining {
-    /// Lowers a chain where its value is taken, and one that is called or the operand of a unary operator before
-    /// it is entered itself; what stands in it is visited afterwards. Answers an error only for want of memory,
+    /// Lowers a chain where its value is taken, and one that is called, the object of a member without a mark or
+    /// the operand of a unary operator before it is entered itself; what stands in it is visited afterwards. Answers an error only for want of memory,
     /// where no statement list is open that could declare a temporary, and for a chain that the static rules
     /// refuse.
     fn enter_expression(
@@ -112,7 +112,7 @@ impl Traverse<TransformState> for OptionalChaining {
     ghost lawful = { λ x o. chaining_lawful o };
 }
 
-/// What becomes of a chain, of a call of one, or of a unary operator with one as its operand.
+/// What becomes of a chain, of a call or a member of one, or of a unary operator with one as its operand.
 fn lower_at(
     node: Node,
     no_document_all: bool,
@@ -125,9 +125,13 @@ fn lower_at(
     ensures refused { IfErr result (λ error. error ≡ LowerError.OutOfMemory) }
 {
     let is_call = matches!(&node.kind, Kind::CallExpression { .. });
+    let is_member = matches!(&node.kind, Kind::MemberExpression { .. });
     let is_unary = matches!(&node.kind, Kind::UnaryExpression { .. });
     if is_call {
         let made = lower_called(node, no_document_all, ctx)?;
+        Ok(made)
+    } else if is_member {
+        let made = lower_object(node, no_document_all, ctx)?;
         Ok(made)
     } else if is_unary {
         let made = lower_operand(node, no_document_all, ctx)?;
@@ -169,6 +173,40 @@ fn lower_called(
         arguments,
     };
     let made = call.close(ctx.ast.alloc)?;
+    Ok(made)
+}
+
+/// A member without a mark with its object lowered, which is a chain below parentheses.
+fn lower_object(
+    node: Node,
+    no_document_all: bool,
+    ctx: &mut TraverseCtx<TransformState>,
+) -> Result<Node, LowerError>
+    requires lowerable { is_lowerable node ≡ true }
+    requires member { kind_of node ≡ AnyMemberExpression }
+    requires there { 0 < length ctx.old.state.var_declarations }
+    requires room { HasRoom (moment_of ctx.old) (weight (bare node)) }
+    ensures lowered { IfOk result (λ made. Lowers no_document_all ctx.old ctx.new (bare node) (bare made)) }
+    ensures refused { IfErr result (λ error. error ≡ LowerError.OutOfMemory) }
+{
+    let MemberExpression {
+        id,
+        span,
+        computed,
+        optional,
+        object,
+        property,
+    } = MemberExpression::open(node);
+    let object = lower_below(object, false, no_document_all, ctx)?;
+    let member = MemberExpression {
+        id,
+        span,
+        computed,
+        optional,
+        object,
+        property,
+    };
+    let made = member.close(ctx.ast.alloc)?;
     Ok(made)
 }
 

@@ -1,7 +1,7 @@
 //! Which nodes are chains, and which have one where they evaluate more of it than its value.
 ghost use Rattle.std.specs.Prelude.{◌≡◌};
 ghost use Rattle.es_tree.specs.Views.{plain_fields};
-ghost use Rattle.lower_optional_chaining.specs.Parts.{calls_chain, holds_chain, is_chain, is_delete, is_lowerable, is_parenthesized, is_single, is_unary};
+ghost use Rattle.lower_optional_chaining.specs.Parts.{calls_chain, holds_chain, is_chain, is_delete, is_lowerable, is_parenthesized, is_single, is_unary, reads_chain};
 
 use crate::places::has_chain;
 use es_tree::kind::Kind;
@@ -75,13 +75,27 @@ fn calls_chain(fields: &[Field]) -> bool
     }
 }
 
-/// Whether a node is a chain, a call of one without a mark, or a unary operator with one as its operand.
+/// Whether these are an object that is a chain below parentheses, and a key.
+fn reads_chain(fields: &[Field]) -> bool
+    ensures { result ≡ reads_chain (plain_fields fields.now) }
+{
+    match fields {
+        [Field::One(object), Field::One(..)] => has_chain(object),
+        _ => false,
+    }
+}
+
+/// Whether a node is a chain, a call or a member of one without a mark, or a unary operator with one as its
+/// operand.
 pub(crate) fn is_lowerable(node: &Node) -> bool
     ensures { result ≡ is_lowerable node.now }
 {
     match &node.kind {
         Kind::ChainExpression => true,
         Kind::CallExpression { optional } => !*optional && calls_chain(node.fields.as_slice()),
+        Kind::MemberExpression { optional, .. } => {
+            !*optional && reads_chain(node.fields.as_slice())
+        }
         Kind::UnaryExpression { .. } => holds_chain(node.fields.as_slice()),
         _ => false,
     }

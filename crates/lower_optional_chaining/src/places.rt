@@ -2,12 +2,11 @@
 ghost use Rattle.std.specs.Prelude.{◌≡◌, ◌<◌, IfErr, IfOk, false, length, true};
 ghost use Rattle.es_tree.specs.Bare.{bare};
 ghost use Rattle.es_scope.specs.Contexts.{around_of};
-ghost use Rattle.es_runs.specs.Alike.{Need};
 ghost use Rattle.es_runs.specs.Weights.{weight};
-ghost use Rattle.es_visit.specs.Moments.{Fits, HasRoom};
+ghost use Rattle.es_visit.specs.Moments.{HasRoom};
 ghost use Rattle.lower_common.specs.Takings.{moment_of};
-ghost use Rattle.lower_optional_chaining.specs.Chains.{LowersBelow, has_chain, takes_by};
-ghost use Rattle.lower_optional_chaining.specs.Places.{takes_in};
+ghost use Rattle.lower_optional_chaining.specs.Chains.{LowersBelow, has_chain};
+ghost use Rattle.lower_optional_chaining.specs.Places.{takes_around, takes_in};
 
 use crate::chains::lower_chain;
 use crate::parts::is_parenthesized;
@@ -28,8 +27,8 @@ pub(crate) fn has_chain(node: &Node) -> bool
     matches!(&strip_parens(node).kind, Kind::ChainExpression)
 }
 
-/// Whether this field of an ancestor takes the value of what stands there, or isn't evaluated; none of parentheses,
-/// of which their own place tells.
+/// Whether this field of an ancestor takes the value of what stands there and no more, or isn't evaluated; none
+/// of parentheses, of which their own place tells.
 fn takes_in(ancestor: Ancestor) -> Option<bool>
     ensures { result ≡ takes_in ancestor.kind ancestor.field }
 {
@@ -39,16 +38,18 @@ fn takes_in(ancestor: Ancestor) -> Option<bool>
         | AstType::UpdateExpression
         | AstType::ChainExpression
         | AstType::VariableDeclaration => Some(false),
-        AstType::CallExpression | AstType::AssignmentExpression | AstType::VariableDeclarator =>
-            Some(ancestor.field != 0),
+        AstType::CallExpression
+        | AstType::MemberExpression
+        | AstType::AssignmentExpression
+        | AstType::VariableDeclarator => Some(ancestor.field != 0),
         _ => Some(true),
     }
 }
 
 /// Whether the place takes the value of what stands there, or evaluates nothing: it is no operand of a unary
-/// operator, no callee, no target and no content of a chain, through parentheses.
+/// operator, no callee, no object of a member, no target and no content of a chain, through parentheses.
 pub(crate) fn takes_value(ctx: &TraverseCtx<TransformState>) -> bool
-    ensures { result ≡ true → (n : Need) → Fits (around_of ctx.now) n → takes_by false n }
+    ensures { result ≡ takes_around (around_of ctx.now) }
 {
     for place in 0..usize::MAX {
         let Some(ancestor) = ctx.ancestor(place) else {
