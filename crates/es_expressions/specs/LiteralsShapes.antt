@@ -1,5 +1,5 @@
 -- The shape of each kind of node.
-use Rattle.std.specs.Prelude.{[], ◌∷◌}
+use Rattle.std.specs.Prelude.{[]}
 use Rattle.es_tree.specs.Tree.{Tree}
 use Rattle.es_tree.specs.declared.ast_type.AstType.TheVariants.{
   Identifier,
