@@ -12,7 +12,7 @@ made=$(mktemp)
 trap 'rm -f "$made"' EXIT
 
 awk -v docs="$top/docs" '
-  function is_counted(line) { return line !~ /^[ \t]*$/ && line !~ /^[ \t]*--/ && line !~ /^(pub )?use / && line !~ /^[ \t]*(abbrev )?mutual[ \t]*$/ }
+  function is_counted(line) { return line !~ /^[ \t]*$/ && line !~ /^[ \t]*--/ && line !~ /^use / && line !~ /^pub use / }
 
   # The lines of a file, of all its definitions or of those that are wanted. A definition goes from its head to the next line at
   # the margin that begins with another name; in a block of mutual definitions the margin is two spaces further in.
@@ -21,12 +21,12 @@ awk -v docs="$top/docs" '
     total = 0; inside = (n == 0); mutual = 0; importing = 0
     while ((getline line < path) > 0) {
       if (importing) { if (line ~ /^}/) importing = 0; continue }
-      if (line ~ /^(pub )?use .*{[ \t]*$/) { importing = 1; continue }
-      if (line ~ /^(abbrev )?mutual[ \t]*$/) { mutual = 1; continue }
+      if (line ~ /^use .*[{][ \t]*$/) { importing = 1; continue }
+      if (line == "mutual" || line == "abbrev mutual") { mutual = 1; continue }
       if (line ~ /^[^ \t]/) mutual = 0
       if (mutual) sub(/^  /, "", line)
       if (n > 0 && line ~ /^[^ \t]/ && line !~ /^--/) {
-        head = line; sub(/^(abbrev )?(pub )?(abbrev )?(record |data )?/, "", head); sub(/[ :({].*/, "", head)
+        head = line; sub(/^abbrev /, "", head); sub(/^pub /, "", head); sub(/^abbrev /, "", head); sub(/^record /, "", head); sub(/^data /, "", head); sub(/[ :({].*/, "", head)
         inside = (head in wanted); if (inside) wanted[head] = 2
       }
       if (inside && is_counted(line)) total++
