@@ -64,7 +64,7 @@ assignment_acts (to_computed_member {m = m} {l = l} {t = t} {o = o} {k = k} {op 
 
 target_lowerable : {bound in_use : Text → Bool} {xs : List Text} {fs : List Tree} {s target read : Tree} → TargetTwice bound in_use xs fs s target read → is_power_target s ≡ true
 target_lowerable (bound_name h) = refl
-target_lowerable (other_name fresh) = refl
+target_lowerable (other_name unbound fresh) = refl
 target_lowerable (static_member flags object) = rw flags refl
 target_lowerable (private_member flags object) = rw flags refl
 target_lowerable (literal_key flags key object) = rw flags refl
@@ -84,7 +84,7 @@ is_chained ChainExpression l fs = true
 is_chained UnaryExpression l (one t then fs) = is_chain_kind (kind_of (without_parens t))
 is_chained _ l fs = false
 
-chaining_acts : {no_all : Bool} {bound source steady in_use : Text → Bool} {xs : List Text} {n : Need} {t u : Tree} → OptionalChainingRule no_all bound source steady in_use xs n t u → is_row is_chained t ≡ true
+chaining_acts : {no_all : Bool} {bound steady in_use : Text → Bool} {xs : List Text} {n : Need} {t u : Tree} → OptionalChainingRule no_all bound steady in_use xs n t u → is_row is_chained t ≡ true
 chaining_acts (by_tests level walked tested) = refl
 chaining_acts (as_callee level walked tested callee) = refl
 chaining_acts (in_delete texts chain walked tested) = ap (λ s. is_chain_kind (kind_of s)) chain

@@ -8,9 +8,6 @@ use Rattle.es_tree.specs.Words.{Text}
 use Rattle.es_tree.specs.declared.ids.NodeId.{NodeId}
 use Rattle.es_tree.specs.declared.error.LowerError.TheVariants.{Unsupported}
 use Rattle.es_tree.specs.declared.error.UnsupportedKind.TheVariants.{MathBound}
-use Rattle.es_scope.proofs.BoundContexts.{plain-unmade, unfound-unbound}
-use Rattle.es_scope.specs.Contexts.{bound_of, table_of}
-use Rattle.es_scope.specs.Tables.{binding_in}
 use Rattle.es_scope.specs.declared.context.TraverseCtx.{TraverseCtx}
 use Rattle.es_runs.proofs.OpenTrees.{closed-opened}
 use Rattle.es_runs.specs.Alike.{Need, all_of_it}
@@ -30,7 +27,6 @@ use Rattle.lower_common.specs.Replacings.{Replaces}
 use Rattle.lower_common.specs.Takings.{moment_of}
 use Rattle.lower_common.specs.declared.state.TransformState.{TransformState}
 use Rattle.lower_editions.proofs.BareNodes.{power-bare, row-bare}
-use Rattle.lower_editions.proofs.PowerTargets.{scope_bound}
 use Rattle.lower_editions.specs.PowerTargets.{bound_at}
 use Rattle.lower_editions.specs.Powers.{is_lowerable_power, is_power_made}
 use Rattle.lower_editions.specs.Profiles.{raising_profile}
@@ -52,25 +48,18 @@ left_unraised ctx t none = entered_alone raising_profile Expression (moment_of c
 
 -- `Math`
 
--- where the program's scope doesn't bind the name, no fresh name is it
+-- where it isn't bound, as the code asks for it
 pub math_unbound : (ctx : TraverseCtx TransformState) → binds_name ctx (codes "Math") ≡ false → bound_at ctx (codes "Math") ≡ false
-math_unbound ctx = at (binding_in (table_of ctx) 0 (codes "Math")) refl
-  where
-    neither : (a b : Bool) → a ≡ false → b ≡ false → (a || b) ≡ false
-    neither a b h g = rw h g
+math_unbound ctx h = h
 
-    at : (o : Option ℕ) → binding_in (table_of ctx) 0 (codes "Math") ≡ o → is_some o ≡ false → bound_at ctx (codes "Math") ≡ false
-    at (Some m) e h = absurd (cc h)
-    at None e h = neither (bound_of ctx (codes "Math")) _ (unfound-unbound ctx (codes "Math") e) (plain-unmade ctx (codes "Math") refl)
-
--- where it binds it, the node is refused
+-- where it is bound, the node is refused
 pub refused_raised : (ctx : TraverseCtx TransformState) (t : Tree) (id : NodeId) → is_row is_lowerable_power t ≡ true → binds_name ctx (codes "Math") ≡ true → RefusedTree raising_profile.rule raising_profile.refuses (Unsupported MathBound id) (moment_of ctx) (bare t)
 refused_raised ctx t id lowerable bound =
     inr (λ n fits. record {
       after = ledger_at (moment_of ctx);
       shape = opened (bare t);
       steps = stays;
-      there = here (bare t) (row-bare is_lowerable_power power-bare t ∙ lowerable) (scope_bound ctx (codes "Math") bound);
+      there = here (bare t) (row-bare is_lowerable_power power-bare t ∙ lowerable) bound;
     })
   where
     here : (s : Tree) → is_row is_lowerable_power s ≡ true → bound_at ctx (codes "Math") ≡ true → SomeNode (λ v. raising_profile.refuses (Unsupported MathBound id) (whole_at (moment_of ctx)) v) (opened s)

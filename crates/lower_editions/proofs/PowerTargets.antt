@@ -1,6 +1,6 @@
 -- A part of a target that is used twice, by what its code makes of it.
 use Rattle.std.proofs.Common.{◌≡◌, ℕ, ◌+◌, ◌≤◌, List, [], ◌∷◌, ◌++◌, append-nil, length-append, refl, sym, ap, subst, ◌∙◌, arith, Option, Some, None, is_some, string_bytes}
-use Rattle.std.specs.Prelude.{Bool, true, false, ◌||◌, not}
+use Rattle.std.specs.Prelude.{Bool, true, false, ◌&&◌, ◌||◌, not}
 use Rattle.es_tree.specs.Bare.{bare}
 use Rattle.es_tree.specs.Constructs.{is_private_name}
 use Rattle.es_tree.specs.Fresh.{IsFreshName, node_base}
@@ -8,9 +8,8 @@ use Rattle.es_tree.specs.Names.{first_text}
 use Rattle.es_tree.specs.Tree.{Tree, node, Label, done, ◌then◌, one, trees, tree_size, trees_size, kind_of, label_of, fields_of}
 use Rattle.es_tree.specs.Words.{Text}
 use Rattle.es_tree.specs.declared.ast_type.AstType.TheVariants.{BigIntLiteral, BooleanLiteral, Identifier, MemberExpression, NullLiteral, NumericLiteral, PrivateIdentifier, StringLiteral, Super}
-use Rattle.es_scope.proofs.BoundContexts.{found-bound}
 use Rattle.es_scope.specs.Contexts.{Refers, table_of, uses_of}
-use Rattle.es_scope.specs.Tables.{binding_in, symbol_count}
+use Rattle.es_scope.specs.Tables.{symbol_count}
 use Rattle.es_scope.specs.declared.context.TraverseCtx.{TraverseCtx}
 use Rattle.es_scope.specs.declared.context_names.BoundIdentifier.{BoundIdentifier}
 use Rattle.es_runs.proofs.Named.{and_left, and_right}
@@ -130,23 +129,21 @@ used_temporary R old new t first written read made rule =
 
 -- NAMES
 
-pub scope_bound : (ctx : TraverseCtx TransformState) (x : Text) → binds_name ctx x ≡ true → bound_at ctx x ≡ true
-scope_bound ctx x = at (binding_in (table_of ctx) 0 x) refl where
-  at : (o : Option ℕ) → binding_in (table_of ctx) 0 x ≡ o → is_some o ≡ true → bound_at ctx x ≡ true
-  at (Some m) e h = found-bound ctx x m e
-  at None e h = absurd (cc h)
-
 bound_target : (ctx : TraverseCtx TransformState) (in_use : Text → Bool) (t : Tree) → is_name t ≡ true → stays (names_that_stay true ctx) t ≡ true → TargetTwice (bound_at ctx) in_use [] [] t t t
-bound_target ctx in_use (node Identifier l done) h s = bound_name (scope_bound ctx (first_text l.texts) (and_left (binds_name ctx (first_text l.texts)) true s))
+bound_target ctx in_use (node Identifier l done) h s = bound_name (and_left (binds_name ctx (first_text l.texts)) true s)
 bound_target ctx in_use (node Identifier l (f then fs)) h s = absurd (cc h)
 bound_target ctx in_use (node _ l fs) h s = absurd (cc h)
 
-other_target : (bound in_use : Text → Bool) (t : Tree) (x : Text) → is_name t ≡ true → IsFreshName in_use (node_base t) x → TargetTwice bound in_use (x ∷ []) (assign_node (identifier x) t ∷ []) t t (identifier x)
-other_target bound in_use (node Identifier l done) x h fresh = other_name fresh
-other_target bound in_use (node Identifier l (f then fs)) x h fresh = absurd (cc h)
-other_target bound in_use (node _ l fs) x h fresh = absurd (cc h)
+no_more : (b : Bool) → (b && true) ≡ false → b ≡ false
+no_more true h = absurd (cc h)
+no_more false h = refl
 
--- a name that the program's scope binds
+other_target : (bound in_use : Text → Bool) (t : Tree) (x : Text) → is_name t ≡ true → stays bound t ≡ false → IsFreshName in_use (node_base t) x → TargetTwice bound in_use (x ∷ []) (assign_node (identifier x) t ∷ []) t t (identifier x)
+other_target bound in_use (node Identifier l done) x h goes fresh = other_name (no_more (bound (first_text l.texts)) goes) fresh
+other_target bound in_use (node Identifier l (f then fs)) x h goes fresh = absurd (cc h)
+other_target bound in_use (node _ l fs) x h goes fresh = absurd (cc h)
+
+-- a name that is bound
 pub used_bound : (old new : TraverseCtx TransformState) (t : Tree) (first : List Tree) (written read : Tree) → is_name t ≡ true → stays (names_that_stay true old) t ≡ true → first ≡ [] → written ≡ t → read ≡ t → ReadsMore 1 old new →
     UsedTwice (λ xs fs w again. TargetTwice (bound_at old) (uses_of old) xs fs t w again) 14 33 old new t first written read
 used_bound old new t first written read h s f e d reads =
@@ -154,9 +151,9 @@ used_bound old new t first written read h s f e d reads =
     used_alone (λ xs fs w again. TargetTwice (bound_at old) (uses_of old) xs fs t w again) 14 33 1 old new t t first written read f e d reads (bound_target old (uses_of old) t h s) leaf (omega arith) (omega (arith, leaf.alone)) (omega (arith, leaf.heavy))
 
 -- any other name, whose copy is assigned to a temporary
-pub used_in_front : (old mid last new : TraverseCtx TransformState) (t copy : Tree) (x : Text) (first : List Tree) (written read : Tree) → is_name t ≡ true → copy ≡ t → ReadsMore 1 old mid → IsFreshName (uses_of mid) (node_base copy) x → Takes (x ∷ []) 4 (moment_of mid) (moment_of last) → ReadsMore 1 last new →
+pub used_in_front : (old mid last new : TraverseCtx TransformState) (t copy : Tree) (x : Text) (first : List Tree) (written read : Tree) → is_name t ≡ true → stays (names_that_stay true old) t ≡ false → copy ≡ t → ReadsMore 1 old mid → IsFreshName (uses_of mid) (node_base copy) x → Takes (x ∷ []) 4 (moment_of mid) (moment_of last) → ReadsMore 1 last new →
     first ≡ assign_node (identifier x) copy ∷ [] → written ≡ t → read ≡ identifier x → UsedTwice (λ xs fs w again. TargetTwice (bound_at old) (uses_of old) xs fs t w again) 14 33 old new t first written read
-used_in_front old mid last new t copy x first written read h same before fresh taken after f e d =
+used_in_front old mid last new t copy x first written read h goes same before fresh taken after f e d =
     let leaf = name_alone t h in
     let g : first ≡ assign_node (identifier x) t ∷ [] = f ∙ ap (λ (s : Tree). assign_node (identifier x) s ∷ []) same in
     let fw = ap (λ (hs : List Tree). trees_weight (trees hs)) g in
@@ -169,7 +166,7 @@ used_in_front old mid last new t copy x first written read h same before fresh t
       names = x ∷ [];
       ids = 6;
       takes = takes_reads old last new (takes_trans (takes_none before) taken) after;
-      rule = moved (λ xs fs w again. TargetTwice (bound_at old) (uses_of old) xs fs t w again) g e d (other_target (bound_at old) (uses_of old) t x h (fresh_moved before.names.used (ap node_base same) fresh));
+      rule = moved (λ xs fs w again. TargetTwice (bound_at old) (uses_of old) xs fs t w again) g e d (other_target (bound_at old) (uses_of old) t x h goes (fresh_moved before.names.used (ap node_base same) fresh));
       few = omega arith;
       nodes = omega (arith, fz, ez, dz, leaf.alone);
       lighter = omega (arith, fw, ew, dw, leaf.heavy);
@@ -177,11 +174,17 @@ used_in_front old mid last new t copy x first written read h same before fresh t
 
 -- OBJECTS
 
+-- the code's names are those of the rule
+held_same : (by_name : Bool) (ctx : TraverseCtx TransformState) (t : Tree) → stays (held_names by_name ctx) t ≡ stays (names_that_stay by_name ctx) t
+held_same false ctx t = refl
+held_same true ctx t = refl
+
+pub goes_held : (by_name : Bool) (ctx : TraverseCtx TransformState) (t : Tree) → stays (names_that_stay by_name ctx) t ≡ false → stays (held_names by_name ctx) t ≡ false
+goes_held by_name ctx t h = held_same by_name ctx t ∙ h
+
 held : (by_name : Bool) (ctx : TraverseCtx TransformState) (t : Tree) → stays (names_that_stay by_name ctx) t ≡ true → stays (held_names by_name ctx) t ≡ true
 held false ctx t h = h
-held true ctx (node Super l fs) h = h
-held true ctx (node Identifier l fs) h = rw (scope_bound ctx (first_text l.texts) (and_left (binds_name ctx (first_text l.texts)) (has_no_fields fs) h)) (and_right (binds_name ctx (first_text l.texts)) (has_no_fields fs) h)
-held true ctx (node _ l fs) h = absurd (cc h)
+held true ctx t h = h
 
 -- where it is
 pub used_held : (by_name : Bool) (old new : TraverseCtx TransformState) (t : Tree) (first : List Tree) (written read : Tree) → stays (names_that_stay by_name old) t ≡ true → first ≡ [] → written ≡ t → read ≡ t → ReadsMore 1 old new →
@@ -190,8 +193,8 @@ used_held by_name old new t first written read h f e d reads =
     used_copies (λ xs fs w again. Holds (held_names by_name old) (uses_of old) xs fs t w × (again ≡ w)) old new t first written read f e d reads (Holds.where_it_is (held by_name old t h), refl) (stays_alone (names_that_stay by_name old) t h)
 
 -- by a temporary
-pub used_object : (names : Text → Bool) (old new : TraverseCtx TransformState) (t : Tree) (first : List Tree) (written read : Tree) → InTemporary old new t first written read → UsedTwice (λ xs fs w again. Holds names (uses_of old) xs fs t w × (again ≡ w)) 6 15 old new t first written read
-used_object names old new t first written read made = used_temporary (λ xs fs w again. Holds names (uses_of old) xs fs t w × (again ≡ w)) old new t first written read made (λ x fresh. (Holds.in_temporary fresh, refl))
+pub used_object : (names : Text → Bool) (old new : TraverseCtx TransformState) (t : Tree) (first : List Tree) (written read : Tree) → stays names t ≡ false → InTemporary old new t first written read → UsedTwice (λ xs fs w again. Holds names (uses_of old) xs fs t w × (again ≡ w)) 6 15 old new t first written read
+used_object names old new t first written read goes made = used_temporary (λ xs fs w again. Holds names (uses_of old) xs fs t w × (again ≡ w)) old new t first written read made (λ x fresh. (Holds.in_temporary goes fresh, refl))
 
 -- KEYS
 

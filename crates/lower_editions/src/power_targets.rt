@@ -1,6 +1,6 @@
 //! Targets of `**=` that are read and then written (ECMA-262, 13.15), with what stands in them evaluated once.
 //!
-//! What stays where it is: a name that the program's scope binds, `super`, a key without brackets, and a key
+//! What stays where it is: a name that is bound, `super`, a key without brackets, and a key
 //! that is a literal. All else takes a temporary, which is assigned in front. Where the key is evaluated, the
 //! object takes one too, even if it is a name, since the key may write it.
 ghost use Rattle.std.specs.Prelude.{◌≡◌, ◌+◌, ◌-◌, ◌^◌, ◌<◌, [], ◌∷◌, ◌++◌, IfOk, OnOk, false, length, map, true};
@@ -42,8 +42,7 @@ pub(crate) struct Twice {
     pub(crate) read: Node,
 }
 
-/// Whether an object stays where it is: `super`, and, where names may stay, a name that the program's scope
-/// binds.
+/// Whether an object stays where it is: `super`, and, where names may stay, a name that is bound.
 fn stays<S>(object: &Node, by_name: bool, ctx: &TraverseCtx<S>) -> bool
     ensures { result ≡ stays (names_that_stay by_name ctx.now) object.now }
 {
@@ -238,7 +237,7 @@ fn use_member(
     Ok(used)
 }
 
-/// A name. One that the program's scope doesn't bind is read in front.
+/// A name. One that isn't bound is read in front.
 fn use_name(target: Node, ctx: &mut TraverseCtx<TransformState>) -> Result<Twice, AllocError>
     requires target { is_name target ≡ true }
     requires there { 0 < length ctx.old.state.var_declarations }
@@ -257,6 +256,7 @@ fn use_name(target: Node, ctx: &mut TraverseCtx<TransformState>) -> Result<Twice
 /// `temporary = name` in front, the name written, and the temporary read.
 fn read_in_front(target: Node, ctx: &mut TraverseCtx<TransformState>) -> Result<Twice, AllocError>
     requires target { is_name target ≡ true }
+    requires unbound { stays (names_that_stay true ctx.old) target ≡ false }
     requires there { 0 < length ctx.old.state.var_declarations }
     requires room { ctx.old.ast.next + 6 < 2 ^ 32 - 1 }
     ensures { IfOk result (λ r. UsesTarget ctx.old ctx.new (bare target) r) }
