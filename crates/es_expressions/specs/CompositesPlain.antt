@@ -1,7 +1,7 @@
 -- What each kind of node is seen as.
 use Rattle.std.specs.Prelude.{map}
 use Rattle.es_tree.specs.Tree.{Tree, fields, done, ◌then◌, one, many, trees}
-use Rattle.es_tree.specs.Shapes.{maybe}
+use Rattle.es_tree.specs.Arity.{maybe}
 use Rattle.es_tree.specs.Views.{plain, plain_field}
 use Rattle.es_tree.specs.declared.kind.Kind.TheVariants.{
   ArrayExpression as k-ArrayExpression,

@@ -1,10 +1,10 @@
-pub mod LiteralsShapes
+pub mod LiteralsArity
 pub mod LiteralsPlain
-pub mod TemplatesShapes
+pub mod TemplatesArity
 pub mod TemplatesPlain
-pub mod OperationsShapes
+pub mod OperationsArity
 pub mod OperationsPlain
-pub mod MembersShapes
+pub mod MembersArity
 pub mod MembersPlain
-pub mod CompositesShapes
+pub mod CompositesArity
 pub mod CompositesPlain

@@ -1,6 +1,6 @@
 //! Literals of arrays and objects, functions and classes.
 ghost use Rattle.std.specs.Prelude.{IfOk, ◌≡◌, ◌+◌, ◌-◌, ◌^◌, ◌<◌, None};
-ghost use Rattle.es_expressions.specs.CompositesShapes.{
+ghost use Rattle.es_expressions.specs.CompositesArity.{
   IsArrayExpression,
   IsSpreadElement,
   IsObjectExpression,

@@ -1,6 +1,6 @@
 //! Names and literals.
 ghost use Rattle.std.specs.Prelude.{IfOk, ◌≡◌, ◌+◌, ◌-◌, ◌^◌, ◌<◌, None};
-ghost use Rattle.es_expressions.specs.LiteralsShapes.{IsIdentifier, IsPrivateIdentifier, IsThisExpression, IsSuper, IsNullLiteral, IsBooleanLiteral, IsNumericLiteral, IsBigIntLiteral, IsStringLiteral, IsRegExpLiteral};
+ghost use Rattle.es_expressions.specs.LiteralsArity.{IsIdentifier, IsPrivateIdentifier, IsThisExpression, IsSuper, IsNullLiteral, IsBooleanLiteral, IsNumericLiteral, IsBigIntLiteral, IsStringLiteral, IsRegExpLiteral};
 ghost use Rattle.es_expressions.specs.LiteralsPlain.{plain_identifier, plain_private_identifier, plain_this_expression, plain_super, plain_null_literal, plain_boolean_literal, plain_numeric_literal, plain_big_int_literal, plain_string_literal, plain_reg_exp_literal};
 
 use es_tree::builder::AstBuilder;

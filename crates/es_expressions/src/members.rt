@@ -1,6 +1,6 @@
 //! Members, calls and chains.
 ghost use Rattle.std.specs.Prelude.{IfOk, ◌≡◌, ◌+◌, ◌-◌, ◌^◌, ◌<◌, None};
-ghost use Rattle.es_expressions.specs.MembersShapes.{
+ghost use Rattle.es_expressions.specs.MembersArity.{
   IsMemberExpression,
   IsCallExpression,
   IsNewExpression,

@@ -1,6 +1,6 @@
 //! Operators with their operands.
 ghost use Rattle.std.specs.Prelude.{IfOk, ◌≡◌, ◌+◌, ◌-◌, ◌^◌, ◌<◌, None};
-ghost use Rattle.es_expressions.specs.OperationsShapes.{
+ghost use Rattle.es_expressions.specs.OperationsArity.{
   IsUnaryExpression,
   IsUpdateExpression,
   IsBinaryExpression,

@@ -1,6 +1,6 @@
 //! Templates and the parts of their text.
 ghost use Rattle.std.specs.Prelude.{IfOk, ◌≡◌, ◌+◌, ◌-◌, ◌^◌, ◌<◌, None};
-ghost use Rattle.es_expressions.specs.TemplatesShapes.{IsTemplateLiteral, IsTemplateElement};
+ghost use Rattle.es_expressions.specs.TemplatesArity.{IsTemplateLiteral, IsTemplateElement};
 ghost use Rattle.es_expressions.specs.TemplatesPlain.{plain_template_literal, plain_template_element};
 
 use es_tree::builder::AstBuilder;

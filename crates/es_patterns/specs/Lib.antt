@@ -1,4 +1,4 @@
-pub mod PatternsShapes
+pub mod PatternsArity
 pub mod PatternsPlain
-pub mod ModulesShapes
+pub mod ModulesArity
 pub mod ModulesPlain

@@ -1,6 +1,6 @@
 -- What each kind of node is seen as.
 use Rattle.es_tree.specs.Tree.{Tree, done, ◌then◌, one, many, trees}
-use Rattle.es_tree.specs.Shapes.{maybe}
+use Rattle.es_tree.specs.Arity.{maybe}
 use Rattle.es_tree.specs.Views.{plain}
 use Rattle.es_tree.specs.declared.kind.Kind.TheVariants.{
   ImportDeclaration as k-ImportDeclaration,

@@ -1,6 +1,6 @@
 //! Imports and exports.
 ghost use Rattle.std.specs.Prelude.{IfOk, ◌≡◌, ◌+◌, ◌-◌, ◌^◌, ◌<◌, None};
-ghost use Rattle.es_patterns.specs.ModulesShapes.{
+ghost use Rattle.es_patterns.specs.ModulesArity.{
   IsImportDeclaration,
   IsImportSpecifier,
   IsImportDefaultSpecifier,

@@ -1,6 +1,6 @@
 //! Binding patterns and assignment patterns.
 ghost use Rattle.std.specs.Prelude.{IfOk, ◌≡◌, ◌+◌, ◌-◌, ◌^◌, ◌<◌, None};
-ghost use Rattle.es_patterns.specs.PatternsShapes.{
+ghost use Rattle.es_patterns.specs.PatternsArity.{
   IsObjectPattern,
   IsPatternProperty,
   IsArrayPattern,

@@ -5,11 +5,11 @@ use Rattle.es_tree.specs.Words.{Text}
 use Rattle.es_tree.specs.Fresh.{also}
 use Rattle.es_tree.specs.Tree.{Tree}
 use Rattle.es_runs.specs.Alike.{Need}
-use Rattle.es_runs.specs.OpenRules.{assigning_row, chaining_row, coalescing_row, raising_row}
+use Rattle.es_runs.specs.OpenRules.{logical_assignment_rule, optional_chaining_rule, nullish_coalescing_rule, exponentiation_rule}
 use Rattle.es_runs.specs.OpenSteps.{Whole}
 
-abbrev pub core_row : Bool → Whole → List Text → Need → Tree → Tree → Type 0
-core_row no_all w xs n t u = assigning_row w xs n t u ⊎ (coalescing_row w xs n t u ⊎ chaining_row no_all w xs n t u) ⊎ raising_row w xs n t u
+abbrev pub core_rule : Bool → Whole → List Text → Need → Tree → Tree → Type 0
+core_rule no_all w xs n t u = logical_assignment_rule w xs n t u ⊎ (nullish_coalescing_rule w xs n t u ⊎ optional_chaining_rule no_all w xs n t u) ⊎ exponentiation_rule w xs n t u
 
 -- none of the names is in use, nor the same as an earlier one, nor `Math`
 pub data FreshInTurn : (Text → Bool) → List Text → Type 0 where

@@ -17,7 +17,7 @@ use Rattle.es_runs.proofs.Basic.{value_alike}
 use Rattle.es_runs.proofs.Everywhere.{near_like, near_words}
 use Rattle.es_runs.proofs.MathWords.{NoMathIn, NoMathWord}
 use Rattle.es_runs.proofs.Fresh.{near_self}
-use Rattle.es_runs.proofs.Steps.{Unnamed, near_place}
+use Rattle.es_runs.proofs.OnePlace.{Unnamed, near_place}
 use Rattle.es_runs.proofs.Laws.{same_run}
 use Rattle.es_runs.proofs.Written.{all_pending, one_of, scope_of-all_pending, cells_of-all_pending}
 

@@ -3,7 +3,7 @@ use Rattle.std.proofs.Common.{◌≡◌, ℕ, zero, suc, refl, sym, subst, ◌�
 use Rattle.std.specs.Prelude.{Bool, true, false, ◌||◌, bytes_eq, codes}
 use Rattle.es_tree.specs.Words.{Text}
 use Rattle.es_tree.specs.Fresh.{IsFreshName, candidate, also}
-use Rattle.es_runs.specs.Steps.{also_all}
+use Rattle.es_runs.specs.NullishCoalescing.{also_all}
 use Rattle.es_runs.proofs.CoreRows.{FreshInTurn}
 use Rattle.es_runs.proofs.CoreRows.FreshInTurn.{no_more, one_more}
 use Rattle.es_runs.proofs.Named.{or_both, or_first, or_second}

@@ -20,7 +20,7 @@ use Rattle.es_runs.specs.Runs.{SameRun, is_declared, none_hidden, outcome, run_w
 use Rattle.es_runs.specs.Runs.Outcome.{called_uncallable}
 use Rattle.es_runs.proofs.BareTrees.{declared_of-bare, names-bare, written-bare}
 use Rattle.es_runs.proofs.CoreAlike.{core_alike}
-use Rattle.es_runs.proofs.CoreRows.{core_row, FreshInTurn}
+use Rattle.es_runs.proofs.CoreRows.{core_rule, FreshInTurn}
 use Rattle.es_runs.proofs.CoreRules.{after, are_vars, before, names_more, place_run}
 use Rattle.es_runs.proofs.Declarations.{is_shaped, step_shaped}
 use Rattle.es_runs.proofs.DeclaredNames.{core-bare, core_shaped, declared_used, is_declared-declares}
@@ -37,7 +37,7 @@ use Rattle.es_runs.proofs.Temporary.{bytes_eq-flip}
 use Rattle.es_runs.proofs.TidyPlaces.{tidy_place}
 use Rattle.es_runs.proofs.Undeclaring.{step_undeclaring, undeclaring}
 use Rattle.es_runs.proofs.Untouched.{untouched}
-use Rattle.es_runs.proofs.WalksRows.{WhereTidy}
+use Rattle.es_runs.proofs.OptionalChaining.{WhereTidy}
 use Rattle.es_runs.proofs.WrittenNames.{step_unwritten}
 use Rattle.es_runs.proofs.Written.{all_pending, one_of, scope_of-all_pending}
 
@@ -93,7 +93,7 @@ negated false b e = rw (← e) refl
 
 module _ (no_all : Bool) (w : Whole) (xs : List Text) where
   abbrev Row : Need → Tree → Tree → Type 0
-  Row n a b = core_row no_all w xs n a b
+  Row n a b = core_rule no_all w xs n a b
 
   kinds : (n : Need) (a b : Tree) → Row n a b → RowKinds a b
   kinds n a b r = row_kind no_all w r
@@ -107,14 +107,14 @@ module _ (no_all : Bool) (w : Whole) (xs : List Text) where
   fresh_names : {n : Need} {t u : Tree} → OnePlace Row n t u → FreshInTurn w.in_use xs
   fresh_names r = somewhere Row (FreshInTurn w.in_use xs) (λ n a b k. row_fresh no_all w k) r
 
-  pub shaped_step : {n : Need} {t u : Tree} → OnePlace (core_row no_all w xs) n t u → is_shaped t ≡ true → (is_shaped u ≡ true) × (declared_of u ≡ declared_of t)
+  pub shaped_step : {n : Need} {t u : Tree} → OnePlace (core_rule no_all w xs) n t u → is_shaped t ≡ true → (is_shaped u ≡ true) × (declared_of u ≡ declared_of t)
   shaped_step r h = step_shaped Row kinds r h
 
   -- names in use keep their bindings
-  pub same_binding : {t u : Tree} (ds : List Declared) → OnePlace (core_row no_all w xs) all_of_it t u → (y : Text) → w.in_use y ≡ true → is_declared (all_pending xs ds) y ≡ is_declared ds y
+  pub same_binding : {t u : Tree} (ds : List Declared) → OnePlace (core_rule no_all w xs) all_of_it t u → (y : Text) → w.in_use y ≡ true → is_declared (all_pending xs ds) y ≡ is_declared ds y
   same_binding ds r y e = declared-all_pending xs ds y ∙ ap (λ b. b || is_declared ds y) (fresh_unused (fresh_names r) y e)
 
-  module _ (ds : List Declared) (t u : Tree) (h : Known w ds t) (r : OnePlace (core_row no_all w xs) all_of_it t u) where
+  module _ (ds : List Declared) (t u : Tree) (h : Known w ds t) (r : OnePlace (core_rule no_all w xs) all_of_it t u) where
     used_steady : (y : Text) → w.steady y ≡ true → w.in_use y ≡ true
     used_steady y e = used_where (w.in_use y) (λ free. absurd (cc (h.declared y free, h.bound y, h.steady y e)))
 

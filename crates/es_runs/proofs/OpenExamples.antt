@@ -8,7 +8,7 @@ use Rattle.es_tree.specs.declared.ast_type.AstType.TheVariants.{Program, Express
 use Rattle.es_runs.specs.Alike.{all_of_it}
 use Rattle.es_runs.specs.Runs.{made, identifier, program, var_statement}
 use Rattle.es_runs.specs.Rules.{member_node, tested_by}
-use Rattle.es_runs.specs.Steps.NullishRule.{with_temporary}
+use Rattle.es_runs.specs.NullishCoalescing.NullishCoalescingRule.{with_temporary}
 use Rattle.es_runs.specs.Open.{nothing_pending, with_vars, Open, opened, opened_trees}
 use Rattle.es_runs.specs.Open.Open.{open_node}
 use Rattle.es_runs.specs.Open.OpenFields.{ends, ◌and◌}

@@ -8,7 +8,7 @@ use Rattle.es_tree.specs.Tree.{Tree, node, Label, Fields, done, ◌then◌, stat
 use Rattle.es_tree.specs.declared.ast_type.AstType.{AstType}
 use Rattle.es_tree.specs.declared.ast_type.AstType.TheVariants.{Program}
 use Rattle.es_runs.specs.Alike.{Need, all_of_it}
-use Rattle.es_runs.specs.Doubling.{has_no_fields}
+use Rattle.es_runs.specs.Duplication.{has_no_fields}
 use Rattle.es_runs.specs.Rules.{OnePlace, OneField, InField, OneNode}
 use Rattle.es_runs.specs.Rules.OnePlace.{this_place, below}
 use Rattle.es_runs.specs.Rules.OneField.{first_field, later_field}
@@ -30,7 +30,7 @@ use Rattle.es_runs.specs.OpenRules.Replacing.{replaces}
 use Rattle.es_runs.specs.OpenRules.Writing.{writes}
 use Rattle.es_runs.proofs.Named.{and_left, and_right}
 use Rattle.es_runs.proofs.Kept.{trees_all}
-use Rattle.es_runs.proofs.CoreRows.{core_row}
+use Rattle.es_runs.proofs.CoreRows.{core_rule}
 use Rattle.es_runs.proofs.RowFacts.{is_row_kind}
 use Rattle.es_runs.proofs.RowKinds.{row_kind}
 use Rattle.es_runs.proofs.RowKeeps.{row_unlisted}
@@ -45,7 +45,7 @@ pub record Takes (w : Whole) (p : Pending) (s' : Ledger) (P : List Text → Type
   pub step : P names
 
 abbrev pub RuleOf : Bool → Whole → List Text → Need → Tree → Tree → Type 0
-RuleOf no_all w ys = core_row no_all w ys
+RuleOf no_all w ys = core_rule no_all w ys
 
 -- at a node the rules are those of the rows
 node_takes : (no_all : Bool) (w : Whole) (p : Pending) (n : Need) (s' : Ledger) (t u : Tree) → CoreRule no_all n (ledger w p) (at_node t) s' (at_node u) → Takes w p s' (λ ys. RuleOf no_all w ys n t u)

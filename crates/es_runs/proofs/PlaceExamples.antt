@@ -19,7 +19,7 @@ use Rattle.es_runs.specs.Machine.Result.{gives, stops}
 use Rattle.es_runs.specs.Rules.{tested}
 use Rattle.es_runs.specs.Runs.{IsWorldOf, RunAlike, Swapped, is_declared, made, program, scope_of, stands, var_statement}
 use Rattle.es_runs.proofs.Laws.{law_fresh_proof, law_place_proof}
-use Rattle.es_runs.proofs.Nullish.{tested_meaning}
+use Rattle.es_runs.proofs.NullishCoalescingValues.{tested_meaning}
 
 -- `l ?? r`
 abbrev coalescing_of : Tree → Tree → Tree

@@ -8,8 +8,8 @@ use Rattle.es_tree.specs.Tree.{Tree, node, Label, Fields, done, ◌then◌, miss
 use Rattle.es_tree.specs.declared.ast_type.AstType.{AstType}
 use Rattle.es_tree.specs.declared.ast_type.AstType.TheVariants.{AssignmentExpression, BinaryExpression, ChainExpression, Identifier, LogicalExpression, MemberExpression, ParenthesizedExpression, PrivateIdentifier, SequenceExpression, UnaryExpression}
 use Rattle.es_runs.specs.Alike.{Need}
-use Rattle.es_runs.specs.Doubling.{Doubles}
-use Rattle.es_runs.specs.Doubling.Doubles.{read_again, by_temporary}
+use Rattle.es_runs.specs.Duplication.{IsDuplicated}
+use Rattle.es_runs.specs.Duplication.IsDuplicated.{read_again, by_temporary}
 use Rattle.es_runs.specs.Exponentiation.{Holds, TargetTwice, ExponentiationRule, no_name, power_at, power_node, string_node, assigned_power}
 use Rattle.es_runs.specs.Exponentiation.Holds.{where_it_is, in_temporary}
 use Rattle.es_runs.specs.Exponentiation.TargetTwice.{bound_name, other_name, static_member, private_member, literal_key, other_key}
@@ -18,8 +18,8 @@ use Rattle.es_runs.specs.LogicalAssignment.{LogicalAssignmentRule}
 use Rattle.es_runs.specs.LogicalAssignment.LogicalAssignmentRule.{to_name, to_static_member, to_computed_member}
 use Rattle.es_runs.specs.Rules.{assign_node, member_node, tested}
 use Rattle.es_runs.specs.Runs.{made, identifier}
-use Rattle.es_runs.specs.Steps.{NullishRule, also_all}
-use Rattle.es_runs.specs.Steps.NullishRule.{with_temporary, reading_again}
+use Rattle.es_runs.specs.NullishCoalescing.{NullishCoalescingRule, also_all}
+use Rattle.es_runs.specs.NullishCoalescing.NullishCoalescingRule.{with_temporary, reading_again}
 
 -- the kinds of operators with two sides on which a row acts
 abbrev pub is_operator_kind : AstType → Bool
@@ -93,27 +93,27 @@ module _ (Good : Tree → Type 0) (Fine : Text → Type 0) (on : PassesOn Good F
   stripped : (t s : Tree) → without_parens t ≡ s → Good t → Good s
   stripped t s e h = subst Good e (below_parens Good on.inside t h)
 
-  doubles_good : (again in_use : Text → Bool) {xs : List Text} {e e1 e2 : Tree} → Doubles again in_use xs e e1 e2 → Each Fine xs → Good e → Good e1 × Good e2
-  doubles_good again in_use (read_again h) fine good = (good, good)
-  doubles_good again in_use (by_temporary {e = e} {x = x} h fresh) fine good = (on.takes x e fine.0 good, on.name x fine.0)
+  is_duplicated_good : (again in_use : Text → Bool) {xs : List Text} {e e1 e2 : Tree} → IsDuplicated again in_use xs e e1 e2 → Each Fine xs → Good e → Good e1 × Good e2
+  is_duplicated_good again in_use (read_again h) fine good = (good, good)
+  is_duplicated_good again in_use (by_temporary {e = e} {x = x} h fresh) fine good = (on.takes x e fine.0 good, on.name x fine.0)
 
   pub assignment_good : (steady in_use : Text → Bool) {xs : List Text} {n : Need} {a b : Tree} → LogicalAssignmentRule steady in_use xs n a b → Each Fine xs → Good a → Good b
   assignment_good steady in_use (to_name {m = m} {l = l} {t = t} {r = r} {op = op} texts assigning target) fine h =
       on.logical _ (node Identifier l done) (assign_node (node Identifier l done) r) (stripped t (node Identifier l done) target (on.left AssignmentExpression m t r refl h)) (on.to_name m _ l t r r h target (on.right AssignmentExpression m t r refl h))
   assignment_good steady in_use (to_static_member {m = m} {l = l} {k = k} {t = t} {r = r} {o = o} {o1 = o1} {o2 = o2} {op = op} texts assigning target flags object) fine h =
       let member = stripped t (node MemberExpression l (one o then (one (node Identifier k done) then done))) target (on.left AssignmentExpression m t r refl h) in
-      let objects = doubles_good steady in_use object fine (on.object l o (node Identifier k done) member) in
+      let objects = is_duplicated_good steady in_use object fine (on.object l o (node Identifier k done) member) in
       on.logical _ _ _ (on.static_member k o1 objects.0) (on.to_member _ _ o2 (node Identifier k done) r (on.static_member k o2 objects.1) (on.right AssignmentExpression m t r refl h))
   assignment_good steady in_use (to_computed_member {m = m} {l = l} {t = t} {r = r} {o = o} {o1 = o1} {o2 = o2} {k = k} {k1 = k1} {k2 = k2} {op = op} {xs = xs} {ys = ys} texts assigning target flags object key) fine h =
       let member = stripped t (node MemberExpression l (one o then (one k then done))) target (on.left AssignmentExpression m t r refl h) in
-      let objects = doubles_good steady in_use object (each_first Fine xs ys fine) (on.object l o k member) in
-      let keys = doubles_good steady (also_all xs in_use) key (each_second Fine xs ys fine) (on.key l o k flags member) in
+      let objects = is_duplicated_good steady in_use object (each_first Fine xs ys fine) (on.object l o k member) in
+      let keys = is_duplicated_good steady (also_all xs in_use) key (each_second Fine xs ys fine) (on.key l o k flags member) in
       on.logical _ _ _ (on.computed_member o1 k1 objects.0 keys.0) (on.to_member _ _ o2 k2 r (on.computed_member o2 k2 objects.1 keys.1) (on.right AssignmentExpression m t r refl h))
 
-  pub coalescing_good : (steady in_use : Text → Bool) {xs : List Text} {n : Need} {a b : Tree} → NullishRule steady in_use xs n a b → Each Fine xs → Good a → Good b
-  coalescing_good steady in_use (with_temporary {m = m} {l = l} {r = r} {x = x} texts again fresh) fine h =
+  pub nullish_coalescing_good : (steady in_use : Text → Bool) {xs : List Text} {n : Need} {a b : Tree} → NullishCoalescingRule steady in_use xs n a b → Each Fine xs → Good a → Good b
+  nullish_coalescing_good steady in_use (with_temporary {m = m} {l = l} {r = r} {x = x} texts again fresh) fine h =
       on.tests m _ _ r (on.takes x l fine.0 (on.left LogicalExpression m l r refl h)) (on.name x fine.0) (on.right LogicalExpression m l r refl h)
-  coalescing_good steady in_use (reading_again {m = m} {l = l} {r = r} texts again) fine h =
+  nullish_coalescing_good steady in_use (reading_again {m = m} {l = l} {r = r} texts again) fine h =
       let begin = on.left LogicalExpression m l r refl h in
       on.tests m l l r begin begin (on.right LogicalExpression m l r refl h)
 
@@ -159,8 +159,8 @@ module _ (Good : Tree → Type 0) (Fine : Text → Type 0) (on : PassesOn Good F
   assigned_good m [] target read r h g = h.written _ (power_node read r) (on.power (made [] []) read r h.reads g)
   assigned_good m (f ∷ fs) target read r h g = on.sequence _ ((f ∷ fs) ++ assign_node target (power_node read r) ∷ []) (each_both Good (f ∷ fs) (assign_node target (power_node read r) ∷ []) h.front (h.written _ (power_node read r) (on.power (made [] []) read r h.reads g), tt))
 
-  pub power_good : (bound in_use : Text → Bool) {xs : List Text} {n : Need} {a b : Tree} → ExponentiationRule bound in_use xs n a b → Each Fine xs → Good a → Good b
-  power_good bound in_use (power {m = m} {l = l} {r = r} texts left right) fine h = on.power m l r (on.left BinaryExpression m l r refl h) (on.right BinaryExpression m l r refl h)
-  power_good bound in_use (power_assignment {m = m} {t = t} {r = r} {target = target} {read = read} {fs = fs} texts right twice) fine h =
+  pub exponentiation_good : (bound in_use : Text → Bool) {xs : List Text} {n : Need} {a b : Tree} → ExponentiationRule bound in_use xs n a b → Each Fine xs → Good a → Good b
+  exponentiation_good bound in_use (power {m = m} {l = l} {r = r} texts left right) fine h = on.power m l r (on.left BinaryExpression m l r refl h) (on.right BinaryExpression m l r refl h)
+  exponentiation_good bound in_use (power_assignment {m = m} {t = t} {r = r} {target = target} {read = read} {fs = fs} texts right twice) fine h =
       let below = below_parens Good on.inside t (on.left AssignmentExpression m t r refl h) in
       assigned_good m fs target read r (target_good bound in_use m t r twice refl fine h below) (on.right AssignmentExpression m t r refl h)

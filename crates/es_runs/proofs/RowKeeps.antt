@@ -9,8 +9,8 @@ use Rattle.es_tree.specs.Walks.{all_nodes, all_in_fields, all_in_trees}
 use Rattle.es_tree.specs.declared.ast_type.AstType.{AstType}
 use Rattle.es_tree.specs.declared.ast_type.AstType.TheVariants.{AssignmentExpression, BinaryExpression, BooleanLiteral, CallExpression, ChainExpression, ConditionalExpression, Identifier, LogicalExpression, MemberExpression, NullLiteral, NumericLiteral, ParenthesizedExpression, PrivateIdentifier, SequenceExpression, StringLiteral, ThisExpression, UnaryExpression}
 use Rattle.es_runs.specs.Alike.{Need}
-use Rattle.es_runs.specs.Doubling.{Doubles}
-use Rattle.es_runs.specs.Doubling.Doubles.{read_again, by_temporary}
+use Rattle.es_runs.specs.Duplication.{IsDuplicated}
+use Rattle.es_runs.specs.Duplication.IsDuplicated.{read_again, by_temporary}
 use Rattle.es_runs.specs.Exponentiation.{Holds, TargetTwice, ExponentiationRule, no_name}
 use Rattle.es_runs.specs.Exponentiation.Holds.{where_it_is, in_temporary}
 use Rattle.es_runs.specs.Exponentiation.TargetTwice.{bound_name, other_name, static_member, private_member, literal_key, other_key}
@@ -18,35 +18,35 @@ use Rattle.es_runs.specs.Exponentiation.ExponentiationRule.{power, power_assignm
 use Rattle.es_runs.specs.LogicalAssignment.{LogicalAssignmentRule}
 use Rattle.es_runs.specs.LogicalAssignment.LogicalAssignmentRule.{to_name, to_static_member, to_computed_member}
 use Rattle.es_runs.specs.OpenRules.{is_bound_in}
-use Rattle.es_runs.specs.OpenRules.raising_row.{raises}
+use Rattle.es_runs.specs.OpenRules.exponentiation_rule.{raises}
 use Rattle.es_runs.specs.OpenSteps.{Whole}
 use Rattle.es_runs.specs.Rules.{in_place_of, null_node, void_zero_node}
 use Rattle.es_runs.specs.Runs.{made, identifier}
-use Rattle.es_runs.specs.Steps.{NullishRule, also_all}
-use Rattle.es_runs.specs.Steps.NullishRule.{with_temporary, reading_again}
-use Rattle.es_runs.proofs.CoreRows.{core_row, FreshInTurn}
+use Rattle.es_runs.specs.NullishCoalescing.{NullishCoalescingRule, also_all}
+use Rattle.es_runs.specs.NullishCoalescing.NullishCoalescingRule.{with_temporary, reading_again}
+use Rattle.es_runs.proofs.CoreRows.{core_rule, FreshInTurn}
 use Rattle.es_runs.proofs.CoreRows.FreshInTurn.{no_more}
-use Rattle.es_runs.proofs.ChainFacts.{ChainPassesOn, chaining_fresh, chaining_good}
+use Rattle.es_runs.proofs.OptionalChainingFacts.{ChainPassesOn, optional_chaining_fresh, optional_chaining_good}
 use Rattle.es_runs.proofs.FreshNames.{fresh_both, fresh_one}
 use Rattle.es_runs.proofs.Named.{and_left, and_right}
 use Rattle.es_runs.proofs.OpenForm.{no_list, unlisted}
-use Rattle.es_runs.proofs.RowFacts.{is_operator_kind, is_row_kind, Each, PassesOn, none_asked, assignment_good, coalescing_good, power_good}
+use Rattle.es_runs.proofs.RowFacts.{is_operator_kind, is_row_kind, Each, PassesOn, none_asked, assignment_good, nullish_coalescing_good, exponentiation_good}
 use Rattle.es_runs.proofs.RowKinds.{row_kind}
 
 -- FRESH NAMES
 
-doubles_fresh : (again in_use : Text → Bool) {xs : List Text} {e e1 e2 : Tree} → Doubles again in_use xs e e1 e2 → FreshInTurn in_use xs
-doubles_fresh again in_use (read_again h) = no_more
-doubles_fresh again in_use (by_temporary {x = x} h fresh) = fresh_one in_use _ x fresh
+is_duplicated_fresh : (again in_use : Text → Bool) {xs : List Text} {e e1 e2 : Tree} → IsDuplicated again in_use xs e e1 e2 → FreshInTurn in_use xs
+is_duplicated_fresh again in_use (read_again h) = no_more
+is_duplicated_fresh again in_use (by_temporary {x = x} h fresh) = fresh_one in_use _ x fresh
 
 assignment_fresh : (steady in_use : Text → Bool) {xs : List Text} {n : Need} {a b : Tree} → LogicalAssignmentRule steady in_use xs n a b → FreshInTurn in_use xs
 assignment_fresh steady in_use (to_name texts op target) = no_more
-assignment_fresh steady in_use (to_static_member texts op target flags object) = doubles_fresh steady in_use object
-assignment_fresh steady in_use (to_computed_member {xs = xs} texts op target flags object key) = fresh_both (doubles_fresh steady in_use object) (doubles_fresh steady (also_all xs in_use) key)
+assignment_fresh steady in_use (to_static_member texts op target flags object) = is_duplicated_fresh steady in_use object
+assignment_fresh steady in_use (to_computed_member {xs = xs} texts op target flags object key) = fresh_both (is_duplicated_fresh steady in_use object) (is_duplicated_fresh steady (also_all xs in_use) key)
 
-coalescing_fresh : (steady in_use : Text → Bool) {xs : List Text} {n : Need} {a b : Tree} → NullishRule steady in_use xs n a b → FreshInTurn in_use xs
-coalescing_fresh steady in_use (with_temporary {x = x} texts again fresh) = fresh_one in_use _ x fresh
-coalescing_fresh steady in_use (reading_again texts again) = no_more
+nullish_coalescing_fresh : (steady in_use : Text → Bool) {xs : List Text} {n : Need} {a b : Tree} → NullishCoalescingRule steady in_use xs n a b → FreshInTurn in_use xs
+nullish_coalescing_fresh steady in_use (with_temporary {x = x} texts again fresh) = fresh_one in_use _ x fresh
+nullish_coalescing_fresh steady in_use (reading_again texts again) = no_more
 
 holds_fresh : (bound in_use : Text → Bool) {xs : List Text} {fs : List Tree} {o o' : Tree} → Holds bound in_use xs fs o o' → FreshInTurn in_use xs
 holds_fresh bound in_use (where_it_is h) = no_more
@@ -60,25 +60,25 @@ target_fresh bound in_use (private_member flags object) = holds_fresh bound in_u
 target_fresh bound in_use (literal_key flags key object) = holds_fresh bound in_use object
 target_fresh bound in_use (other_key {xs = xs} {y = y} flags key object fresh) = fresh_both (holds_fresh no_name in_use object) (fresh_one (also_all xs in_use) _ y fresh)
 
-power_fresh : (bound in_use : Text → Bool) {xs : List Text} {n : Need} {a b : Tree} → ExponentiationRule bound in_use xs n a b → FreshInTurn in_use xs
-power_fresh bound in_use (power texts left right) = no_more
-power_fresh bound in_use (power_assignment texts right target) = target_fresh bound in_use target
+exponentiation_fresh : (bound in_use : Text → Bool) {xs : List Text} {n : Need} {a b : Tree} → ExponentiationRule bound in_use xs n a b → FreshInTurn in_use xs
+exponentiation_fresh bound in_use (power texts left right) = no_more
+exponentiation_fresh bound in_use (power_assignment texts right target) = target_fresh bound in_use target
 
 -- the names that a row takes are fresh, one after the other
-pub row_fresh : (no_all : Bool) (w : Whole) {xs : List Text} {n : Need} {a b : Tree} → core_row no_all w xs n a b → FreshInTurn w.in_use xs
+pub row_fresh : (no_all : Bool) (w : Whole) {xs : List Text} {n : Need} {a b : Tree} → core_rule no_all w xs n a b → FreshInTurn w.in_use xs
 row_fresh no_all w (inl r) = assignment_fresh w.steady w.in_use r
-row_fresh no_all w (inr (inl (inl r))) = coalescing_fresh w.steady w.in_use r
-row_fresh no_all w (inr (inl (inr r))) = chaining_fresh no_all (is_bound_in w) w.steady w.in_use r
-row_fresh no_all w (inr (inr (raises math r))) = power_fresh (is_bound_in w) w.in_use r
+row_fresh no_all w (inr (inl (inl r))) = nullish_coalescing_fresh w.steady w.in_use r
+row_fresh no_all w (inr (inl (inr r))) = optional_chaining_fresh no_all (is_bound_in w) w.steady w.in_use r
+row_fresh no_all w (inr (inr (raises math r))) = exponentiation_fresh (is_bound_in w) w.in_use r
 
 -- FACTS OF NODES
 
 -- a fact that goes from a node to its parts, and from parts to what rows make of them, is kept by a row
-pub row_good : (Good : Tree → Type 0) (Fine : Text → Type 0) → PassesOn Good Fine → ChainPassesOn Good Fine → (no_all : Bool) (w : Whole) {xs : List Text} {n : Need} {a b : Tree} → core_row no_all w xs n a b → Each Fine xs → Good a → Good b
+pub row_good : (Good : Tree → Type 0) (Fine : Text → Type 0) → PassesOn Good Fine → ChainPassesOn Good Fine → (no_all : Bool) (w : Whole) {xs : List Text} {n : Need} {a b : Tree} → core_rule no_all w xs n a b → Each Fine xs → Good a → Good b
 row_good Good Fine on chains no_all w (inl r) fine h = assignment_good Good Fine on w.steady w.in_use r fine h
-row_good Good Fine on chains no_all w (inr (inl (inl r))) fine h = coalescing_good Good Fine on w.steady w.in_use r fine h
-row_good Good Fine on chains no_all w (inr (inl (inr r))) fine h = chaining_good Good Fine chains no_all (is_bound_in w) w.steady w.in_use r fine h
-row_good Good Fine on chains no_all w (inr (inr (raises math r))) fine h = power_good Good Fine on (is_bound_in w) w.in_use r fine h
+row_good Good Fine on chains no_all w (inr (inl (inl r))) fine h = nullish_coalescing_good Good Fine on w.steady w.in_use r fine h
+row_good Good Fine on chains no_all w (inr (inl (inr r))) fine h = optional_chaining_good Good Fine chains no_all (is_bound_in w) w.steady w.in_use r fine h
+row_good Good Fine on chains no_all w (inr (inr (raises math r))) fine h = exponentiation_good Good Fine on (is_bound_in w) w.in_use r fine h
 
 -- A TEST OF EVERY NODE
 
@@ -263,7 +263,7 @@ module _ (test : AstType → Label → Fields → Bool) (part : AstType → Bool
     deletes = λ e h. makes_passing UnaryExpression _ refl (e ∷ []) (h, tt);
   }
 
-  pub row_passes : (no_all : Bool) (w : Whole) {xs : List Text} {n : Need} {a b : Tree} → core_row no_all w xs n a b → all_nodes test a ≡ true → all_nodes test b ≡ true
+  pub row_passes : (no_all : Bool) (w : Whole) {xs : List Text} {n : Need} {a b : Tree} → core_rule no_all w xs n a b → all_nodes test a ≡ true → all_nodes test b ≡ true
   row_passes no_all w {xs} {n} {a} {b} r h =
       let found : Passing b = row_good Passing (λ x. Unit {0}) test_passes_on chain_test_passes_on no_all w r (none_asked xs) (record { kind = allows.row_kinds (kind_of a) (row_kind no_all w r).acted; all = h }) in
       found.all
@@ -309,7 +309,7 @@ core_allows = record {
   received = λ l m f q r ts h g k. refl;
 }
 
-pub row_core : (no_all : Bool) (w : Whole) {xs : List Text} {n : Need} {a b : Tree} → core_row no_all w xs n a b → all_nodes is_core_node a ≡ true → all_nodes is_core_node b ≡ true
+pub row_core : (no_all : Bool) (w : Whole) {xs : List Text} {n : Need} {a b : Tree} → core_rule no_all w xs n a b → all_nodes is_core_node a ≡ true → all_nodes is_core_node b ≡ true
 row_core = row_passes is_core_node any_kind core_allows
 
 no_list-one_each : (ts : List Tree) → no_list (one_each ts) ≡ true
@@ -331,5 +331,5 @@ unlisted_allows = record {
   received = λ l m f q r ts h g k. refl;
 }
 
-pub row_unlisted : (no_all : Bool) (w : Whole) {xs : List Text} {n : Need} {a b : Tree} → core_row no_all w xs n a b → all_nodes unlisted a ≡ true → all_nodes unlisted b ≡ true
+pub row_unlisted : (no_all : Bool) (w : Whole) {xs : List Text} {n : Need} {a b : Tree} → core_rule no_all w xs n a b → all_nodes unlisted a ≡ true → all_nodes unlisted b ≡ true
 row_unlisted = row_passes unlisted any_kind unlisted_allows

@@ -15,8 +15,8 @@ use Rattle.es_runs.specs.OpenSteps.{Whole}
 use Rattle.es_runs.specs.OptionalChaining.{member_at}
 use Rattle.es_runs.specs.Rules.{binary_node, logical_node, null_node, void_zero_node}
 use Rattle.es_runs.specs.Runs.{made, identifier}
-use Rattle.es_runs.proofs.ChainFacts.{ChainPassesOn}
-use Rattle.es_runs.proofs.CoreRows.{core_row}
+use Rattle.es_runs.proofs.OptionalChainingFacts.{ChainPassesOn}
+use Rattle.es_runs.proofs.CoreRows.{core_rule}
 use Rattle.es_runs.proofs.Declarations.{is_name}
 use Rattle.es_runs.proofs.Kept.{Without, among_both}
 use Rattle.es_runs.proofs.Named.{or_both, or_first, or_second, among_first, among_second}
@@ -144,7 +144,7 @@ pub left_no_name : (k : AstType) → is_left_kind k ≡ true → is_name k ≡ f
 left_no_name Identifier e = absurd (cc e)
 left_no_name _ e = refl
 
-pub row_without : (no_all : Bool) (w : Whole) {xs : List Text} (y : Text) → one_of xs y ≡ false → bytes_eq (codes "Math") y ≡ false → {n : Need} {a b : Tree} (counts : Bool) → core_row no_all w xs n a b → Without y counts a → Without y counts b
+pub row_without : (no_all : Bool) (w : Whole) {xs : List Text} (y : Text) → one_of xs y ≡ false → bytes_eq (codes "Math") y ≡ false → {n : Need} {a b : Tree} (counts : Bool) → core_rule no_all w xs n a b → Without y counts a → Without y counts b
 row_without no_all w {xs} y other math {n} {a} {b} counts r h =
     let kinds = row_kind no_all w r in
     let free_before : is_among (names_if true a) y ≡ false = rw (same_names counts a (row_no_name (kind_of a) kinds.acted)) at h.free in
@@ -245,5 +245,5 @@ module _ (y : Text) where
     deletes = λ e h. each_unwritten (e ∷ []) (h, tt);
   }
 
-pub row_unwritten : (no_all : Bool) (w : Whole) {xs : List Text} (y : Text) → one_of xs y ≡ false → {n : Need} {a b : Tree} → core_row no_all w xs n a b → is_written y a ≡ false → is_written y b ≡ false
+pub row_unwritten : (no_all : Bool) (w : Whole) {xs : List Text} (y : Text) → one_of xs y ≡ false → {n : Need} {a b : Tree} → core_rule no_all w xs n a b → is_written y a ≡ false → is_written y b ≡ false
 row_unwritten no_all w {xs} y other r h = row_good (Unwritten y) (λ x. bytes_eq x y ≡ false) (unwritten_passes_on y) (unwritten_in_chains y) no_all w r (others xs y other) h

@@ -25,9 +25,9 @@ pub record RowPlace (bound steady : Text → Bool) (w v : World) (xs : List Text
   pub untouched : touches (bad_names (one_of xs) steady) n a ≡ false
 
 -- a row whose two nodes are alike there
-abbrev pub IsRowAlike : (bound steady : Text → Bool) (xs : List Text) → (Need → Tree → Tree → Type 0) → Type 0
-IsRowAlike bound steady xs R = (w v : World) (n : Need) (a b : Tree) → RowPlace bound steady w v xs n a → R n a b → Like (set_cells (one_of xs)) w v n (meaning w a) (meaning v b)
+abbrev pub IsRuleAlike : (bound steady : Text → Bool) (xs : List Text) → (Need → Tree → Tree → Type 0) → Type 0
+IsRuleAlike bound steady xs R = (w v : World) (n : Need) (a b : Tree) → RowPlace bound steady w v xs n a → R n a b → Like (set_cells (one_of xs)) w v n (meaning w a) (meaning v b)
 
 -- or are where it is assumed or not that no value is `document.all`
-abbrev pub IsRowAlikeWhere : (no_all : Bool) (bound steady : Text → Bool) (xs : List Text) → (Need → Tree → Tree → Type 0) → Type 0
-IsRowAlikeWhere no_all bound steady xs R = (w v : World) (n : Need) (a b : Tree) → w.counts_all ≡ not no_all → RowPlace bound steady w v xs n a → R n a b → Like (set_cells (one_of xs)) w v n (meaning w a) (meaning v b)
+abbrev pub IsRuleAlikeWhere : (no_all : Bool) (bound steady : Text → Bool) (xs : List Text) → (Need → Tree → Tree → Type 0) → Type 0
+IsRuleAlikeWhere no_all bound steady xs R = (w v : World) (n : Need) (a b : Tree) → w.counts_all ≡ not no_all → RowPlace bound steady w v xs n a → R n a b → Like (set_cells (one_of xs)) w v n (meaning w a) (meaning v b)

@@ -8,17 +8,17 @@ use Rattle.es_tree.specs.declared.ast_type.AstType.TheVariants.{AssignmentExpres
 use Rattle.es_runs.specs.Alike.{Need}
 use Rattle.es_runs.specs.Core.{flag, flag_after}
 use Rattle.es_runs.specs.OpenRules.{is_bound_in}
-use Rattle.es_runs.specs.OpenRules.raising_row.{raises}
+use Rattle.es_runs.specs.OpenRules.exponentiation_rule.{raises}
 use Rattle.es_runs.specs.OpenSteps.{Whole}
 use Rattle.es_runs.specs.Rules.{OnePlace, OneField, InField, OneNode, is_marked, on_spine, strays, strays_fields, strays_field, strays_nodes}
 use Rattle.es_runs.specs.Rules.OnePlace.{this_place, below}
 use Rattle.es_runs.specs.Rules.OneField.{first_field, later_field}
 use Rattle.es_runs.specs.Rules.InField.{in_one, in_many, in_statements}
 use Rattle.es_runs.specs.Rules.OneNode.{first_node, later_node}
-use Rattle.es_runs.proofs.ChainTidy.{chaining_tidy}
-use Rattle.es_runs.proofs.CoreRows.{core_row}
+use Rattle.es_runs.proofs.OptionalChainingTidy.{optional_chaining_tidy}
+use Rattle.es_runs.proofs.CoreRows.{core_rule}
 use Rattle.es_runs.proofs.Named.{or_both, or_first, or_second}
-use Rattle.es_runs.proofs.RowFacts.{is_operator_kind, is_row_kind, Each, PassesOn, none_asked, assignment_good, coalescing_good, power_good}
+use Rattle.es_runs.proofs.RowFacts.{is_operator_kind, is_row_kind, Each, PassesOn, none_asked, assignment_good, nullish_coalescing_good, exponentiation_good}
 use Rattle.es_runs.proofs.RowKinds.{row_kind}
 
 -- ON A SPINE
@@ -115,38 +115,38 @@ tidy_passes_on = record {
   sequence = λ m fs h. or_both (strays_nodes false (trees fs)) false (trees_tidy fs h) refl;
 }
 
-off_spine : (no_all : Bool) (w : Whole) {xs : List Text} {n : Need} {a b : Tree} → core_row no_all w xs n a b → Tidy a → Tidy b
+off_spine : (no_all : Bool) (w : Whole) {xs : List Text} {n : Need} {a b : Tree} → core_rule no_all w xs n a b → Tidy a → Tidy b
 off_spine no_all w {xs} (inl r) h = assignment_good Tidy (λ x. Unit {0}) tidy_passes_on w.steady w.in_use r (none_asked xs) h
-off_spine no_all w {xs} (inr (inl (inl r))) h = coalescing_good Tidy (λ x. Unit {0}) tidy_passes_on w.steady w.in_use r (none_asked xs) h
-off_spine no_all w {xs} (inr (inl (inr r))) h = chaining_tidy no_all (is_bound_in w) w.steady w.in_use r h
-off_spine no_all w {xs} (inr (inr (raises math r))) h = power_good Tidy (λ x. Unit {0}) tidy_passes_on (is_bound_in w) w.in_use r (none_asked xs) h
+off_spine no_all w {xs} (inr (inl (inl r))) h = nullish_coalescing_good Tidy (λ x. Unit {0}) tidy_passes_on w.steady w.in_use r (none_asked xs) h
+off_spine no_all w {xs} (inr (inl (inr r))) h = optional_chaining_tidy no_all (is_bound_in w) w.steady w.in_use r h
+off_spine no_all w {xs} (inr (inr (raises math r))) h = exponentiation_good Tidy (λ x. Unit {0}) tidy_passes_on (is_bound_in w) w.in_use r (none_asked xs) h
 
 -- where the node stands on a chain's spine or not
-pub row_tidy : (no_all : Bool) (w : Whole) {xs : List Text} {n : Need} {a b : Tree} → core_row no_all w xs n a b → (on : Bool) → strays on a ≡ false → strays on b ≡ false
+pub row_tidy : (no_all : Bool) (w : Whole) {xs : List Text} {n : Need} {a b : Tree} → core_rule no_all w xs n a b → (on : Bool) → strays on a ≡ false → strays on b ≡ false
 row_tidy no_all w {xs} {n} {a} {b} r on h = anywhere_tidy on b (off_spine no_all w r (acted_tidy on a (row_kind no_all w r).acted h))
 
 -- STEPS
 
 module _ (no_all : Bool) (w : Whole) (xs : List Text) where
   mutual
-    pub step_tidy : {n : Need} {t u : Tree} → OnePlace (core_row no_all w xs) n t u → (on : Bool) → strays on t ≡ false → strays on u ≡ false
+    pub step_tidy : {n : Need} {t u : Tree} → OnePlace (core_rule no_all w xs) n t u → (on : Bool) → strays on t ≡ false → strays on u ≡ false
     step_tidy (this_place r) on h = row_tidy no_all w r on h
     step_tidy (below {k = k} {l = l} {fs = fs} {gs = gs} r) on h =
         or_both (is_marked k l.flags && not on) (strays_fields (on_spine k on) gs) (or_first (is_marked k l.flags && not on) (strays_fields (on_spine k on) fs) h)
         (step_tidy_fields r (on_spine k on) (or_second (is_marked k l.flags && not on) (strays_fields (on_spine k on) fs) h))
 
-    step_tidy_fields : {c : ℕ → Need} {fs gs : Fields} → OneField (core_row no_all w xs) c fs gs → (on : Bool) → strays_fields on fs ≡ false → strays_fields on gs ≡ false
+    step_tidy_fields : {c : ℕ → Need} {fs gs : Fields} → OneField (core_rule no_all w xs) c fs gs → (on : Bool) → strays_fields on fs ≡ false → strays_fields on gs ≡ false
     step_tidy_fields (first_field {f = f} {g = g} {fs = fs} r) on h =
         or_both (strays_field on g) (strays_fields false fs) (step_tidy_field r on (or_first (strays_field on f) (strays_fields false fs) h)) (or_second (strays_field on f) (strays_fields false fs) h)
     step_tidy_fields (later_field {f = f} {fs = fs} {gs = gs} r) on h =
         or_both (strays_field on f) (strays_fields false gs) (or_first (strays_field on f) (strays_fields false fs) h) (step_tidy_fields r false (or_second (strays_field on f) (strays_fields false fs) h))
 
-    step_tidy_field : {n : Need} {f g : Field} → InField (core_row no_all w xs) n f g → (on : Bool) → strays_field on f ≡ false → strays_field on g ≡ false
+    step_tidy_field : {n : Need} {f g : Field} → InField (core_rule no_all w xs) n f g → (on : Bool) → strays_field on f ≡ false → strays_field on g ≡ false
     step_tidy_field (in_one r) on h = step_tidy r on h
     step_tidy_field (in_many r) on h = step_tidy_trees r on h
     step_tidy_field (in_statements r) on h = step_tidy_trees r on h
 
-    step_tidy_trees : {n : Need} {ts us : Trees} → OneNode (core_row no_all w xs) n ts us → (on : Bool) → strays_nodes on ts ≡ false → strays_nodes on us ≡ false
+    step_tidy_trees : {n : Need} {ts us : Trees} → OneNode (core_rule no_all w xs) n ts us → (on : Bool) → strays_nodes on ts ≡ false → strays_nodes on us ≡ false
     step_tidy_trees (first_node {a = a} {b = b} {xs = ts} r) on h =
         or_both (strays on b) (strays_nodes on ts) (step_tidy r on (or_first (strays on a) (strays_nodes on ts) h)) (or_second (strays on a) (strays_nodes on ts) h)
     step_tidy_trees (later_node {a = a} {xs = ts} {ys = us} r) on h =

@@ -21,8 +21,8 @@ use Rattle.es_runs.specs.OpenSteps.Ledger.{ledger}
 use Rattle.es_runs.specs.OpenRules.{with_names, CoreRule}
 use Rattle.es_runs.specs.OpenRules.Replacing.{replaces}
 use Rattle.es_runs.specs.OpenRules.Writing.{writes}
-use Rattle.es_runs.proofs.ChainFacts.{ChainPassesOn}
-use Rattle.es_runs.proofs.CoreRows.{core_row}
+use Rattle.es_runs.proofs.OptionalChainingFacts.{ChainPassesOn}
+use Rattle.es_runs.proofs.CoreRows.{core_rule}
 use Rattle.es_runs.proofs.RowFacts.{Each, PassesOn, none_asked}
 use Rattle.es_runs.proofs.RowKeeps.{row_good}
 use Rattle.es_runs.proofs.Named.{and_left, and_right, or_both, or_first, or_second}
@@ -190,7 +190,7 @@ more_sided xs p h =
     (append_all sided p.vars (map declarator_node xs) (and_left (all_in_trees sided (trees p.vars)) (all_in_trees sided (trees p.lets)) h) (made_sided xs))
     (and_right (all_in_trees sided (trees p.vars)) (all_in_trees sided (trees p.lets)) h)
 
-row_sided : (no_all : Bool) (w : Whole) (p : Pending) (xs : List Text) (n : Need) (t u : Tree) → core_row no_all w xs n t u → Passes sided (ledger w p) (all_nodes sided t) → Passes sided (ledger (with_names xs w) (with_vars xs p)) (all_nodes sided u)
+row_sided : (no_all : Bool) (w : Whole) (p : Pending) (xs : List Text) (n : Need) (t u : Tree) → core_rule no_all w xs n t u → Passes sided (ledger w p) (all_nodes sided t) → Passes sided (ledger (with_names xs w) (with_vars xs p)) (all_nodes sided u)
 row_sided no_all w p xs n t u r h = record { around = more_sided xs p h.around; here = row_good Sided (λ x. Unit {0}) sided_passes_on sided_in_chains no_all w r (none_asked xs) h.here }
 
 rule_sided : (no_all : Bool) (n : Need) (s : Ledger) (x : Spot) (s' : Ledger) (y : Spot) → CoreRule no_all n s x s' y → Passes sided s (spot_all sided x) → Passes sided s' (spot_all sided y)
@@ -224,8 +224,8 @@ reached_sided no_all p q names reached h =
 -- NO `??` IS LEFT
 
 -- `l ?? r`, with both sides
-abbrev pub is_sided_coalescing : AstType → Label → Fields → Bool
-is_sided_coalescing k l fs = is_nullish_coalescing k l fs && two_sides fs
+abbrev pub is_sided_nullish_coalescing : AstType → Label → Fields → Bool
+is_sided_nullish_coalescing k l fs = is_nullish_coalescing k l fs && two_sides fs
 
 own_none : (a b : Bool) → (if a then b else true) ≡ true → (a && b) ≡ false → a ≡ false
 own_none true b h g = absurd (cc (h, g))
@@ -233,28 +233,28 @@ own_none false b h g = refl
 
 mutual
   -- where each has its sides and none with sides is left, none is left
-  pub none_left : (t : Tree) → all_nodes sided t ≡ true → any_node is_sided_coalescing t ≡ false → has_nullish_coalescing t ≡ false
+  pub none_left : (t : Tree) → all_nodes sided t ≡ true → any_node is_sided_nullish_coalescing t ≡ false → has_nullish_coalescing t ≡ false
   none_left (node k l fs) h g =
       or_both (is_nullish_coalescing k l fs) (any_in_fields is_nullish_coalescing fs)
-      (own_none (is_nullish_coalescing k l fs) (two_sides fs) (and_left (sided k l fs) (all_in_fields sided fs) h) (or_first (is_sided_coalescing k l fs) (any_in_fields is_sided_coalescing fs) g))
-      (none_in_fields fs (and_right (sided k l fs) (all_in_fields sided fs) h) (or_second (is_sided_coalescing k l fs) (any_in_fields is_sided_coalescing fs) g))
+      (own_none (is_nullish_coalescing k l fs) (two_sides fs) (and_left (sided k l fs) (all_in_fields sided fs) h) (or_first (is_sided_nullish_coalescing k l fs) (any_in_fields is_sided_nullish_coalescing fs) g))
+      (none_in_fields fs (and_right (sided k l fs) (all_in_fields sided fs) h) (or_second (is_sided_nullish_coalescing k l fs) (any_in_fields is_sided_nullish_coalescing fs) g))
 
-  none_in_fields : (fs : Fields) → all_in_fields sided fs ≡ true → any_in_fields is_sided_coalescing fs ≡ false → any_in_fields is_nullish_coalescing fs ≡ false
+  none_in_fields : (fs : Fields) → all_in_fields sided fs ≡ true → any_in_fields is_sided_nullish_coalescing fs ≡ false → any_in_fields is_nullish_coalescing fs ≡ false
   none_in_fields done h g = refl
   none_in_fields (f then fs) h g =
       or_both (any_in_field is_nullish_coalescing f) (any_in_fields is_nullish_coalescing fs)
-      (none_in_field f (and_left (all_in_field sided f) (all_in_fields sided fs) h) (or_first (any_in_field is_sided_coalescing f) (any_in_fields is_sided_coalescing fs) g))
-      (none_in_fields fs (and_right (all_in_field sided f) (all_in_fields sided fs) h) (or_second (any_in_field is_sided_coalescing f) (any_in_fields is_sided_coalescing fs) g))
+      (none_in_field f (and_left (all_in_field sided f) (all_in_fields sided fs) h) (or_first (any_in_field is_sided_nullish_coalescing f) (any_in_fields is_sided_nullish_coalescing fs) g))
+      (none_in_fields fs (and_right (all_in_field sided f) (all_in_fields sided fs) h) (or_second (any_in_field is_sided_nullish_coalescing f) (any_in_fields is_sided_nullish_coalescing fs) g))
 
-  none_in_field : (f : Field) → all_in_field sided f ≡ true → any_in_field is_sided_coalescing f ≡ false → any_in_field is_nullish_coalescing f ≡ false
+  none_in_field : (f : Field) → all_in_field sided f ≡ true → any_in_field is_sided_nullish_coalescing f ≡ false → any_in_field is_nullish_coalescing f ≡ false
   none_in_field missing h g = refl
   none_in_field (one t) h g = none_left t h g
   none_in_field (many ts) h g = none_in_trees ts h g
   none_in_field (statements ts) h g = none_in_trees ts h g
 
-  none_in_trees : (ts : Trees) → all_in_trees sided ts ≡ true → any_in_trees is_sided_coalescing ts ≡ false → any_in_trees is_nullish_coalescing ts ≡ false
+  none_in_trees : (ts : Trees) → all_in_trees sided ts ≡ true → any_in_trees is_sided_nullish_coalescing ts ≡ false → any_in_trees is_nullish_coalescing ts ≡ false
   none_in_trees empty h g = refl
   none_in_trees (t before ts) h g =
       or_both (any_node is_nullish_coalescing t) (any_in_trees is_nullish_coalescing ts)
-      (none_left t (and_left (all_nodes sided t) (all_in_trees sided ts) h) (or_first (any_node is_sided_coalescing t) (any_in_trees is_sided_coalescing ts) g))
-      (none_in_trees ts (and_right (all_nodes sided t) (all_in_trees sided ts) h) (or_second (any_node is_sided_coalescing t) (any_in_trees is_sided_coalescing ts) g))
+      (none_left t (and_left (all_nodes sided t) (all_in_trees sided ts) h) (or_first (any_node is_sided_nullish_coalescing t) (any_in_trees is_sided_nullish_coalescing ts) g))
+      (none_in_trees ts (and_right (all_nodes sided t) (all_in_trees sided ts) h) (or_second (any_node is_sided_nullish_coalescing t) (any_in_trees is_sided_nullish_coalescing ts) g))

@@ -17,14 +17,14 @@ use Rattle.es_tree.specs.declared.place.Place.{Place}
 use Rattle.es_tree.specs.declared.place.Place.TheVariants.{Other, ProgramBody, Spine, Target, Declarator, Declared}
 use Rattle.es_runs.specs.Alike.{Need}
 use Rattle.es_runs.specs.OpenRules.{is_bound_in}
-use Rattle.es_runs.specs.OpenRules.raising_row.{raises}
+use Rattle.es_runs.specs.OpenRules.exponentiation_rule.{raises}
 use Rattle.es_runs.specs.OpenSteps.{Whole}
 use Rattle.es_runs.specs.Rules.{binary_node, null_node, void_zero_node}
 use Rattle.es_runs.specs.Runs.{identifier}
-use Rattle.es_runs.proofs.ChainStatics.{chaining_keeps}
-use Rattle.es_runs.proofs.CoreRows.{core_row}
+use Rattle.es_runs.proofs.OptionalChainingStatics.{optional_chaining_keeps}
+use Rattle.es_runs.proofs.CoreRows.{core_rule}
 use Rattle.es_runs.proofs.Declarations.{is_declaration}
-use Rattle.es_runs.proofs.RowFacts.{is_operator_kind, is_row_kind, Each, PassesOn, assignment_good, coalescing_good, power_good}
+use Rattle.es_runs.proofs.RowFacts.{is_operator_kind, is_row_kind, Each, PassesOn, assignment_good, nullish_coalescing_good, exponentiation_good}
 use Rattle.es_runs.proofs.RowKinds.{is_left_kind, RowKinds, row_kind}
 use Rattle.es_runs.proofs.StaticKeeps.{Own, Keeps, KeepsTrees, assigns, free_own, member_keeps, moved_fields, name_keeps, name_target, null_keeps, quiet_value, to_spine, zero_keeps}
 
@@ -231,14 +231,14 @@ none_asked [] = tt
 none_asked (x ∷ xs) = (tt, none_asked xs)
 
 -- a row keeps the rules anywhere else
-kept_elsewhere : (no_all : Bool) (w : Whole) {xs : List Text} {n : Need} {a b : Tree} → core_row no_all w xs n a b → Keeps Other a → Keeps Other b
+kept_elsewhere : (no_all : Bool) (w : Whole) {xs : List Text} {n : Need} {a b : Tree} → core_rule no_all w xs n a b → Keeps Other a → Keeps Other b
 kept_elsewhere no_all w {xs} (inl r) h = assignment_good (Keeps Other) (λ x. Unit {0}) keeps_passes_on w.steady w.in_use r (none_asked xs) h
-kept_elsewhere no_all w {xs} (inr (inl (inl r))) h = coalescing_good (Keeps Other) (λ x. Unit {0}) keeps_passes_on w.steady w.in_use r (none_asked xs) h
-kept_elsewhere no_all w (inr (inl (inr r))) h = chaining_keeps no_all (is_bound_in w) w.steady w.in_use r h
-kept_elsewhere no_all w {xs} (inr (inr (raises math r))) h = power_good (Keeps Other) (λ x. Unit {0}) keeps_passes_on (is_bound_in w) w.in_use r (none_asked xs) h
+kept_elsewhere no_all w {xs} (inr (inl (inl r))) h = nullish_coalescing_good (Keeps Other) (λ x. Unit {0}) keeps_passes_on w.steady w.in_use r (none_asked xs) h
+kept_elsewhere no_all w (inr (inl (inr r))) h = optional_chaining_keeps no_all (is_bound_in w) w.steady w.in_use r h
+kept_elsewhere no_all w {xs} (inr (inr (raises math r))) h = exponentiation_good (Keeps Other) (λ x. Unit {0}) keeps_passes_on (is_bound_in w) w.in_use r (none_asked xs) h
 
 -- a row keeps the rules at each place
-pub row_keeps : (no_all : Bool) (w : Whole) {xs : List Text} {n : Need} {a b : Tree} → core_row no_all w xs n a b → (p : Place) → Keeps p a → Keeps p b
+pub row_keeps : (no_all : Bool) (w : Whole) {xs : List Text} {n : Need} {a b : Tree} → core_rule no_all w xs n a b → (p : Place) → Keeps p a → Keeps p b
 row_keeps no_all w {a = a} {b = b} r p h = at p (is_target p) refl h
   where
     kinds : RowKinds a b

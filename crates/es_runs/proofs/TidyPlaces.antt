@@ -12,7 +12,7 @@ use Rattle.es_runs.specs.Rules.OneNode.{first_node, later_node}
 use Rattle.es_runs.proofs.Fresh.{or_left, or_right}
 use Rattle.es_runs.proofs.RowFacts.{is_row_kind}
 use Rattle.es_runs.proofs.RowKinds.{RowKinds}
-use Rattle.es_runs.proofs.WalksRows.{WhereTidy}
+use Rattle.es_runs.proofs.OptionalChaining.{WhereTidy}
 
 -- on such a node itself no mark may stand, so a chain around it makes no difference
 off_spine : (on : Bool) (a : Tree) → is_row_kind (kind_of a) ≡ true → strays on a ≡ false → strays false a ≡ false

@@ -14,7 +14,7 @@ use Rattle.es_runs.specs.Rules.OnePlace.{this_place, below}
 use Rattle.es_runs.specs.Rules.OneField.{first_field, later_field}
 use Rattle.es_runs.specs.Rules.InField.{in_one, in_many, in_statements}
 use Rattle.es_runs.specs.Rules.OneNode.{first_node, later_node}
-use Rattle.es_runs.proofs.CoreRows.{core_row}
+use Rattle.es_runs.proofs.CoreRows.{core_rule}
 use Rattle.es_runs.proofs.Declarations.{is_declaration, is_program_kind}
 use Rattle.es_runs.proofs.Kept.{step_all}
 use Rattle.es_runs.proofs.Named.{and_left, and_right}
@@ -205,14 +205,14 @@ undeclaring_allows = record {
   received = λ l m f q r ts h g k. call_stands m q (r before ts) g (and_from (may_stand CallExpression (kind_of r)) (trees_stand CallExpression ts) (part_stands CallExpression (kind_of r) refl k) (arguments_stand l f ts h));
 }
 
-pub row_undeclaring : (no_all : Bool) (w : Whole) {xs : List Text} {n : Need} {a b : Tree} → core_row no_all w xs n a b → all_nodes undeclaring a ≡ true → all_nodes undeclaring b ≡ true
+pub row_undeclaring : (no_all : Bool) (w : Whole) {xs : List Text} {n : Need} {a b : Tree} → core_rule no_all w xs n a b → all_nodes undeclaring a ≡ true → all_nodes undeclaring b ≡ true
 row_undeclaring = row_passes undeclaring is_part undeclaring_allows
 
 -- STEPS OF ROWS
 
 module _ (no_all : Bool) (w : Whole) (xs : List Text) where
   abbrev Row : Need → Tree → Tree → Type 0
-  Row n a b = core_row no_all w xs n a b
+  Row n a b = core_rule no_all w xs n a b
 
   -- where a node stands, what a row leaves in its place may stand
   row_stands : (k j i : AstType) → is_row_kind j ≡ true → is_left_kind i ≡ true → may_stand k j ≡ true → may_stand k i ≡ true
@@ -274,9 +274,9 @@ module _ (no_all : Bool) (w : Whole) (xs : List Text) where
   formed-same _ r = refl
 
   -- a node above the place passes as before
-  pub undeclaring_above : (k : AstType) (l : Label) (c : ℕ → Need) (fs gs : Fields) → OneField (core_row no_all w xs) c fs gs → undeclaring k l fs ≡ true → undeclaring k l gs ≡ true
+  pub undeclaring_above : (k : AstType) (l : Label) (c : ℕ → Need) (fs gs : Fields) → OneField (core_rule no_all w xs) c fs gs → undeclaring k l fs ≡ true → undeclaring k l gs ≡ true
   undeclaring_above k l c fs gs r h =
       and_from (fields_stand k gs) (is_formed k gs) (fields_still k r (and_left (fields_stand k fs) (is_formed k fs) h)) (formed-same k r ∙ and_right (fields_stand k fs) (is_formed k fs) h)
 
-  pub step_undeclaring : {n : Need} {t u : Tree} → OnePlace (core_row no_all w xs) n t u → all_nodes undeclaring t ≡ true → all_nodes undeclaring u ≡ true
-  step_undeclaring r h = step_all undeclaring (core_row no_all w xs) undeclaring_above (λ n a b. row_undeclaring no_all w) r h
+  pub step_undeclaring : {n : Need} {t u : Tree} → OnePlace (core_rule no_all w xs) n t u → all_nodes undeclaring t ≡ true → all_nodes undeclaring u ≡ true
+  step_undeclaring r h = step_all undeclaring (core_rule no_all w xs) undeclaring_above (λ n a b. row_undeclaring no_all w) r h

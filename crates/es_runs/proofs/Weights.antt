@@ -9,7 +9,7 @@ use Rattle.es_tree.specs.declared.ast_type.AstType.{AstType}
 use Rattle.es_tree.specs.declared.ast_type.AstType.TheVariants.{AssignmentExpression, BinaryExpression, CallExpression, LogicalExpression, MemberExpression}
 use Rattle.es_runs.specs.Rules.{is_marked, tested, tested_by}
 use Rattle.es_runs.specs.Open.{Pending, declarator_node, written, declared, with_vars}
-use Rattle.es_runs.specs.LogicalAssignment.{is_assigning}
+use Rattle.es_runs.specs.LogicalAssignment.{is_logical_assignment_operator}
 use Rattle.es_runs.specs.Weights.{own_weight, weight, fields_weight, field_weight, trees_weight, declarators_weight, declarators_size, pending_weight, pending_size}
 
 -- BARE TREES
@@ -66,7 +66,7 @@ own_bound : (k : AstType) (l : Label) (fs : Fields) → own_weight k l fs ≤ 60
 own_bound LogicalExpression l fs = if_bound (bytes_eq (first_text l.texts) (codes "??")) 28 0 60 (omega arith) (omega arith)
 own_bound BinaryExpression l fs = if_bound (bytes_eq (first_text l.texts) (codes "**")) 8 0 60 (omega arith) (omega arith)
 own_bound AssignmentExpression l fs =
-    if_bound (bytes_eq (first_text l.texts) (codes "**=")) 44 (if is_assigning (first_text l.texts) then 60 else 0) 60 (omega arith) (if_bound (is_assigning (first_text l.texts)) 60 0 60 (omega arith) (omega arith))
+    if_bound (bytes_eq (first_text l.texts) (codes "**=")) 44 (if is_logical_assignment_operator (first_text l.texts) then 60 else 0) 60 (omega arith) (if_bound (is_logical_assignment_operator (first_text l.texts)) 60 0 60 (omega arith) (omega arith))
 own_bound MemberExpression l fs = if_bound (is_marked MemberExpression l.flags) 28 0 60 (omega arith) (omega arith)
 own_bound CallExpression l fs = if_bound (is_marked CallExpression l.flags) 44 0 60 (omega arith) (omega arith)
 own_bound _ l fs = omega arith
@@ -112,11 +112,11 @@ mutual
 -- THE ROW OF `??`
 
 -- `l ?? r`
-pub coalescing_weight : (m : Label) (l r : Tree) → m.texts ≡ Some (codes "??") ∷ [] → weight (node LogicalExpression m (one l then (one r then done))) ≡ 29 + weight l + weight r
-coalescing_weight m l r e = rw (ap first_text e) (omega arith)
+pub nullish_coalescing_weight : (m : Label) (l r : Tree) → m.texts ≡ Some (codes "??") ∷ [] → weight (node LogicalExpression m (one l then (one r then done))) ≡ 29 + weight l + weight r
+nullish_coalescing_weight m l r e = rw (ap first_text e) (omega arith)
 
-pub coalescing_size : (m : Label) (l r : Tree) → tree_size (node LogicalExpression m (one l then (one r then done))) ≡ 1 + tree_size l + tree_size r
-coalescing_size m l r = omega arith
+pub nullish_coalescing_size : (m : Label) (l r : Tree) → tree_size (node LogicalExpression m (one l then (one r then done))) ≡ 1 + tree_size l + tree_size r
+nullish_coalescing_size m l r = omega arith
 
 pub tested_weight : (m : Label) (begin again r : Tree) → weight (tested m begin again r) ≡ 7 + weight begin + weight again + weight again + weight r
 tested_weight m begin again r = omega arith

@@ -10,10 +10,10 @@ use Rattle.es_tree.specs.Parens.{without_parens}
 use Rattle.es_tree.specs.Tree.{Tree, node, Label, done, ◌then◌, one, many, empty, ◌before◌, trees, kind_of}
 use Rattle.es_tree.specs.declared.ast_type.AstType.TheVariants.{AssignmentExpression, BigIntLiteral, BinaryExpression, BooleanLiteral, CallExpression, Identifier, MemberExpression, NullLiteral, NumericLiteral, PrivateIdentifier, SequenceExpression, StringLiteral, Super}
 use Rattle.es_runs.specs.Alike.{Need}
-use Rattle.es_runs.specs.Doubling.{has_no_fields}
+use Rattle.es_runs.specs.Duplication.{has_no_fields}
 use Rattle.es_runs.specs.Rules.{assign_node, in_place_of, member_node}
 use Rattle.es_runs.specs.Runs.{made, identifier}
-use Rattle.es_runs.specs.Steps.{also_all}
+use Rattle.es_runs.specs.NullishCoalescing.{also_all}
 
 -- MADE NODES
 

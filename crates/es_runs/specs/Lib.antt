@@ -3,8 +3,8 @@ pub mod Core
 pub mod Alike
 pub mod Runs
 pub mod Rules
-pub mod Steps
-pub mod Doubling
+pub mod NullishCoalescing
+pub mod Duplication
 pub mod LogicalAssignment
 pub mod Exponentiation
 pub mod OptionalChaining
@@ -12,6 +12,6 @@ pub mod Open
 pub mod OpenSteps
 pub mod OpenRules
 pub mod Weights
-pub mod ChainWeights
+pub mod OptionalChainingWeights
 pub mod OpenLaws
 pub mod StaticLaws

@@ -7,7 +7,7 @@ use Rattle.es_tree.specs.Tree.{Tree, Trees}
 use Rattle.es_runs.specs.Alike.{Need}
 use Rattle.es_runs.specs.Open.{Pending, nothing_pending, written, with_vars}
 use Rattle.es_runs.specs.OpenSteps.{Whole, Ledger, ledger, Spot, at_node, at_list}
-use Rattle.es_runs.specs.Steps.{NullishRule, also_all}
+use Rattle.es_runs.specs.NullishCoalescing.{NullishCoalescingRule, also_all}
 use Rattle.es_runs.specs.Exponentiation.{ExponentiationRule}
 use Rattle.es_runs.specs.LogicalAssignment.{LogicalAssignmentRule}
 use Rattle.es_runs.specs.OptionalChaining.{OptionalChainingRule}
@@ -26,36 +26,36 @@ pub data Replacing (R : Whole → List Text → Need → Tree → Tree → Type 
   replaces : {n : Need} {w : Whole} {p : Pending} {t u : Tree} (xs : List Text) → R w xs n t u → Replacing R n (ledger w p) (at_node t) (ledger (with_names xs w) (with_vars xs p)) (at_node u)
 
 -- `??`
-abbrev pub coalescing_row : Whole → List Text → Need → Tree → Tree → Type 0
-coalescing_row w = NullishRule w.steady w.in_use
+abbrev pub nullish_coalescing_rule : Whole → List Text → Need → Tree → Tree → Type 0
+nullish_coalescing_rule w = NullishCoalescingRule w.steady w.in_use
 
-abbrev pub Coalescing : Need → Ledger → Spot → Ledger → Spot → Type 0
-Coalescing = Replacing coalescing_row
+abbrev pub OpenNullishCoalescing : Need → Ledger → Spot → Ledger → Spot → Type 0
+OpenNullishCoalescing = Replacing nullish_coalescing_rule
 
 -- `||=`, `&&=` and `??=`
-abbrev pub assigning_row : Whole → List Text → Need → Tree → Tree → Type 0
-assigning_row w = LogicalAssignmentRule w.steady w.in_use
+abbrev pub logical_assignment_rule : Whole → List Text → Need → Tree → Tree → Type 0
+logical_assignment_rule w = LogicalAssignmentRule w.steady w.in_use
 
-abbrev pub Assigning : Need → Ledger → Spot → Ledger → Spot → Type 0
-Assigning = Replacing assigning_row
+abbrev pub OpenLogicalAssignment : Need → Ledger → Spot → Ledger → Spot → Type 0
+OpenLogicalAssignment = Replacing logical_assignment_rule
 
 -- names that may stand again: those that the source binds, and fresh ones
 abbrev pub is_bound_in : Whole → Text → Bool
 is_bound_in w x = w.bound x || is_among w.made x
 
 -- `**` and `**=`, where the name `Math` isn't bound
-pub data raising_row (w : Whole) (xs : List Text) (n : Need) (t u : Tree) : Type 0 where
-  raises : is_bound_in w (codes "Math") ≡ false → ExponentiationRule (is_bound_in w) w.in_use xs n t u → raising_row w xs n t u
+pub data exponentiation_rule (w : Whole) (xs : List Text) (n : Need) (t u : Tree) : Type 0 where
+  raises : is_bound_in w (codes "Math") ≡ false → ExponentiationRule (is_bound_in w) w.in_use xs n t u → exponentiation_rule w xs n t u
 
-abbrev pub Raising : Need → Ledger → Spot → Ledger → Spot → Type 0
-Raising = Replacing raising_row
+abbrev pub OpenExponentiation : Need → Ledger → Spot → Ledger → Spot → Type 0
+OpenExponentiation = Replacing exponentiation_rule
 
 -- chains, where it is assumed or not that no value is `document.all`
-abbrev pub chaining_row : Bool → Whole → List Text → Need → Tree → Tree → Type 0
-chaining_row no_all w = OptionalChainingRule no_all (is_bound_in w) w.steady w.in_use
+abbrev pub optional_chaining_rule : Bool → Whole → List Text → Need → Tree → Tree → Type 0
+optional_chaining_rule no_all w = OptionalChainingRule no_all (is_bound_in w) w.steady w.in_use
 
-abbrev pub Chaining : Bool → Need → Ledger → Spot → Ledger → Spot → Type 0
-Chaining no_all = Replacing (chaining_row no_all)
+abbrev pub OpenOptionalChaining : Bool → Need → Ledger → Spot → Ledger → Spot → Type 0
+OpenOptionalChaining no_all = Replacing (optional_chaining_rule no_all)
 
 -- what is pending for a list is written at its top
 pub data Writing : Need → Ledger → Spot → Ledger → Spot → Type 0 where
@@ -72,8 +72,8 @@ where_on false R = λ n s x s' y. ⊥
 
 -- the rules of core programs
 abbrev pub CoreRule : Bool → Need → Ledger → Spot → Ledger → Spot → Type 0
-CoreRule no_all = either_rule Writing (either_rule Assigning (either_rule (either_rule Coalescing (Chaining no_all)) Raising))
+CoreRule no_all = either_rule Writing (either_rule OpenLogicalAssignment (either_rule (either_rule OpenNullishCoalescing (OpenOptionalChaining no_all)) OpenExponentiation))
 
 -- those that options ask for
 abbrev pub rule_under : EnvOptions → Need → Ledger → Spot → Ledger → Spot → Type 0
-rule_under o = either_rule Writing (either_rule (where_on o.es2021.logical_assignment_operators Assigning) (either_rule (either_rule (where_on o.es2020.nullish_coalescing_operator Coalescing) (where_on o.es2020.optional_chaining (Chaining o.assumptions.no_document_all))) (where_on o.es2016.exponentiation_operator Raising)))
+rule_under o = either_rule Writing (either_rule (where_on o.es2021.logical_assignment_operators OpenLogicalAssignment) (either_rule (either_rule (where_on o.es2020.nullish_coalescing_operator OpenNullishCoalescing) (where_on o.es2020.optional_chaining (OpenOptionalChaining o.assumptions.no_document_all))) (where_on o.es2016.exponentiation_operator OpenExponentiation)))

@@ -11,10 +11,10 @@ use Rattle.es_tree.specs.declared.ast_type.AstType.{AstType}
 use Rattle.es_tree.specs.declared.ast_type.AstType.TheVariants.{BooleanLiteral, CallExpression, ChainExpression, Identifier, MemberExpression, Super, ThisExpression, UnaryExpression}
 use Rattle.es_runs.specs.Alike.{Level, Need}
 use Rattle.es_runs.specs.Alike.Level.{no_evaluation, value_alone, an_operand_of_typeof, a_callee}
-use Rattle.es_runs.specs.Doubling.{has_no_fields}
+use Rattle.es_runs.specs.Duplication.{has_no_fields}
 use Rattle.es_runs.specs.Rules.{assign_node, binary_node, conditional_at, in_place_of, logical_node, member_node, null_node, void_zero_node}
 use Rattle.es_runs.specs.Runs.{made, identifier}
-use Rattle.es_runs.specs.Steps.{also_all}
+use Rattle.es_runs.specs.NullishCoalescing.{also_all}
 
 -- NAMES
 
@@ -35,9 +35,9 @@ or_held (Some y) names x = bytes_eq x y || names x
 -- TESTS
 
 -- whether `e`, read again as `again`, is null or undefined; where no value is `document.all`, one loose test tells
-abbrev pub tests_of : Bool → Tree → Tree → List Tree
-tests_of true e again = binary_node (codes "==") e null_node ∷ []
-tests_of false e again = binary_node (codes "===") e null_node ∷ binary_node (codes "===") again void_zero_node ∷ []
+abbrev pub null_checks : Bool → Tree → Tree → List Tree
+null_checks true e again = binary_node (codes "==") e null_node ∷ []
+null_checks false e again = binary_node (codes "===") e null_node ∷ binary_node (codes "===") again void_zero_node ∷ []
 
 -- `t || u || ..`
 abbrev pub joined_by_or : Tree → List Tree → Tree
@@ -107,7 +107,7 @@ call_method c = member_node false c (identifier (codes "call"))
 -- after a callee is stored as c with its receiver r
 abbrev pub stored_call : Bool → Label → Trees → Way → List Text → Text → Tree → Tree → Way
 stored_call no_all l arguments w names c callee r = record {
-  tests = w.tests ++ tests_of no_all (assign_node (identifier c) callee) (identifier c);
+  tests = w.tests ++ null_checks no_all (assign_node (identifier c) callee) (identifier c);
   current = call_at l (call_method (identifier c)) (r before arguments);
   holder = Some c;
   taken = w.taken ++ names;
@@ -116,19 +116,19 @@ stored_call no_all l arguments w names c callee r = record {
 -- before a marked member: a name that may be read again is tested as it is, and everything else is stored
 pub data Tested (no_all : Bool) (bound in_use : Text → Bool) : Way → Way → Type 0 where
   as_name : {w : Way} → w.tests ≡ [] → is_name_among bound (without_parens w.current) ≡ true →
-      Tested no_all bound in_use w (record w { tests = tests_of no_all (without_parens w.current) (without_parens w.current); current = without_parens w.current })
+      Tested no_all bound in_use w (record w { tests = null_checks no_all (without_parens w.current) (without_parens w.current); current = without_parens w.current })
   in_holder : {w : Way} {x : Text} → w.holder ≡ Some x →
-      Tested no_all bound in_use w (record w { tests = w.tests ++ tests_of no_all (assign_node (identifier x) (without_parens w.current)) (identifier x); current = identifier x })
+      Tested no_all bound in_use w (record w { tests = w.tests ++ null_checks no_all (assign_node (identifier x) (without_parens w.current)) (identifier x); current = identifier x })
   in_temporary : {w : Way} {x : Text} → (w.tests ≡ [] → is_name_among bound (without_parens w.current) ≡ false) → w.holder ≡ None → IsFreshName (also_all w.taken in_use) (node_base w.current) x →
-      Tested no_all bound in_use w (record { tests = w.tests ++ tests_of no_all (assign_node (identifier x) (without_parens w.current)) (identifier x); current = identifier x; holder = Some x; taken = w.taken ++ x ∷ [] })
+      Tested no_all bound in_use w (record { tests = w.tests ++ null_checks no_all (assign_node (identifier x) (without_parens w.current)) (identifier x); current = identifier x; holder = Some x; taken = w.taken ++ x ∷ [] })
 
 -- at a marked call: a name that may be read again is tested as it is; a callee is stored, and with it its receiver
 pub data Called (no_all : Bool) (bound steady in_use : Text → Bool) (l : Label) (arguments : Trees) : Way → Way → Type 0 where
   by_name : {w : Way} → w.tests ≡ [] → is_name_among bound (without_parens w.current) ≡ true →
-      Called no_all bound steady in_use l arguments w (record w { tests = tests_of no_all (without_parens w.current) (without_parens w.current); current = call_at l (without_parens w.current) arguments })
+      Called no_all bound steady in_use l arguments w (record w { tests = null_checks no_all (without_parens w.current) (without_parens w.current); current = call_at l (without_parens w.current) arguments })
   by_value : {w : Way} {c : Text} → (w.tests ≡ [] → is_name_among bound (without_parens w.current) ≡ false) → is_member (without_parens w.current) ≡ false →
       IsFreshName (also_all w.taken in_use) (node_base (without_parens w.current)) c →
-      Called no_all bound steady in_use l arguments w (record { tests = w.tests ++ tests_of no_all (assign_node (identifier c) (without_parens w.current)) (identifier c); current = call_at l (identifier c) arguments; holder = Some c; taken = w.taken ++ c ∷ [] })
+      Called no_all bound steady in_use l arguments w (record { tests = w.tests ++ null_checks no_all (assign_node (identifier c) (without_parens w.current)) (identifier c); current = call_at l (identifier c) arguments; holder = Some c; taken = w.taken ++ c ∷ [] })
   -- with no test so far the callee's name is made before the receiver's
   by_first_member : {w : Way} {k : Label} {computed : Bool} {o o1 p r : Tree} {c : Text} {xs : List Text} → w.tests ≡ [] → without_parens w.current ≡ node MemberExpression k (one o then one p then done) → k.flags ≡ computed ∷ false ∷ [] →
       IsFreshName (also_all w.taken in_use) (node_base (without_parens w.current)) c → Receives is_this_or_super steady (also c (also_all w.taken in_use)) w.holder xs o o1 r →

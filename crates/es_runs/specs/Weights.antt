@@ -7,14 +7,14 @@ use Rattle.es_tree.specs.Tree.{Tree, node, Label, Fields, done, ◌then◌, Fiel
 use Rattle.es_tree.specs.Names.{first_text}
 use Rattle.es_tree.specs.Words.{Text}
 use Rattle.es_tree.specs.declared.ast_type.AstType.TheVariants.{AssignmentExpression, BinaryExpression, CallExpression, ChainExpression, LogicalExpression, MemberExpression}
-use Rattle.es_runs.specs.LogicalAssignment.{is_assigning}
+use Rattle.es_runs.specs.LogicalAssignment.{is_logical_assignment_operator}
 use Rattle.es_runs.specs.Open.{Pending, Additions, Import}
 use Rattle.es_runs.specs.Rules.{is_marked}
 
 -- `t **= r` makes sixteen nodes and two declarators of two with their statements, `t op= r` ten, `??` not counted, and two
 -- such declarators
 abbrev pub assignment_weight : Text → ℕ
-assignment_weight op = if bytes_eq op (codes "**=") then 44 else (if is_assigning op then 60 else 0)
+assignment_weight op = if bytes_eq op (codes "**=") then 44 else (if is_logical_assignment_operator op then 60 else 0)
 
 -- `??` makes eleven nodes, a declarator of two, and a statement: fourteen; `l ** r` makes four. A marked member makes eleven
 -- and one declarator; a marked call sixteen and two; a chain nine at most, the member `bind` and its receiver among them,

@@ -1,8 +1,8 @@
-pub mod ProgramShapes
+pub mod ProgramArity
 pub mod ProgramPlain
-pub mod LoopsShapes
+pub mod LoopsArity
 pub mod LoopsPlain
-pub mod ControlShapes
+pub mod ControlArity
 pub mod ControlPlain
-pub mod FunctionsShapes
+pub mod FunctionsArity
 pub mod FunctionsPlain

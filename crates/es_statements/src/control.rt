@@ -1,6 +1,6 @@
 //! Branches, `try`, labels, and the statements that leave a function.
 ghost use Rattle.std.specs.Prelude.{IfOk, ◌≡◌, ◌+◌, ◌-◌, ◌^◌, ◌<◌, None};
-ghost use Rattle.es_statements.specs.ControlShapes.{IsIfStatement, IsSwitchStatement, IsSwitchCase, IsTryStatement, IsCatchClause, IsReturnStatement, IsThrowStatement, IsLabeledStatement};
+ghost use Rattle.es_statements.specs.ControlArity.{IsIfStatement, IsSwitchStatement, IsSwitchCase, IsTryStatement, IsCatchClause, IsReturnStatement, IsThrowStatement, IsLabeledStatement};
 ghost use Rattle.es_statements.specs.ControlPlain.{plain_if_statement, plain_switch_statement, plain_switch_case, plain_try_statement, plain_catch_clause, plain_return_statement, plain_throw_statement, plain_labeled_statement};
 
 use es_tree::builder::AstBuilder;

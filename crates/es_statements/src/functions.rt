@@ -1,6 +1,6 @@
 //! Functions and classes.
 ghost use Rattle.std.specs.Prelude.{IfOk, ◌≡◌, ◌+◌, ◌-◌, ◌^◌, ◌<◌, None};
-ghost use Rattle.es_statements.specs.FunctionsShapes.{
+ghost use Rattle.es_statements.specs.FunctionsArity.{
   IsFunctionDeclaration,
   IsFunctionBody,
   IsClassDeclaration,

@@ -1,6 +1,6 @@
 //! Loops, and the statements that leave or go on with one.
 ghost use Rattle.std.specs.Prelude.{IfOk, ◌≡◌, ◌+◌, ◌-◌, ◌^◌, ◌<◌, None};
-ghost use Rattle.es_statements.specs.LoopsShapes.{IsForStatement, IsForInStatement, IsForOfStatement, IsWhileStatement, IsDoWhileStatement, IsBreakStatement, IsContinueStatement};
+ghost use Rattle.es_statements.specs.LoopsArity.{IsForStatement, IsForInStatement, IsForOfStatement, IsWhileStatement, IsDoWhileStatement, IsBreakStatement, IsContinueStatement};
 ghost use Rattle.es_statements.specs.LoopsPlain.{plain_for_statement, plain_for_in_statement, plain_for_of_statement, plain_while_statement, plain_do_while_statement, plain_break_statement, plain_continue_statement};
 
 use es_tree::builder::AstBuilder;

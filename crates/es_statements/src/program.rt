@@ -1,6 +1,6 @@
 //! The program, its plain statements and declarations.
 ghost use Rattle.std.specs.Prelude.{IfOk, ◌≡◌, ◌+◌, ◌-◌, ◌^◌, ◌<◌, None};
-ghost use Rattle.es_statements.specs.ProgramShapes.{IsProgram, IsDirective, IsExpressionStatement, IsBlockStatement, IsEmptyStatement, IsDebuggerStatement, IsVariableDeclaration, IsVariableDeclarator};
+ghost use Rattle.es_statements.specs.ProgramArity.{IsProgram, IsDirective, IsExpressionStatement, IsBlockStatement, IsEmptyStatement, IsDebuggerStatement, IsVariableDeclaration, IsVariableDeclarator};
 ghost use Rattle.es_statements.specs.ProgramPlain.{plain_program, plain_directive, plain_expression_statement, plain_block_statement, plain_empty_statement, plain_debugger_statement, plain_variable_declaration, plain_variable_declarator};
 
 use es_tree::builder::AstBuilder;

@@ -6,8 +6,8 @@ pub mod Heads
 pub mod Views
 pub mod Falls
 pub mod Plain
-pub mod Shapes
-pub mod Shaped
+pub mod Arity
+pub mod ArityFacts
 pub mod Attributes
 pub mod Order
 pub mod Agree

@@ -2,7 +2,7 @@
 ghost use Rattle.std.specs.Prelude.{◌≡◌, length, option_copied};
 ghost use Rattle.es_tree.specs.Children.{child_at, only_child};
 ghost use Rattle.es_tree.specs.Plain.{plain_parts};
-ghost use Rattle.es_tree.specs.Shapes.{IsMany, IsMaybe, IsOne, IsStatements, maybe};
+ghost use Rattle.es_tree.specs.Arity.{IsMany, IsMaybe, IsOne, IsStatements, maybe};
 ghost use Rattle.es_tree.specs.Tree.{fields_of, many, one, statements, trees};
 ghost use Rattle.es_tree.specs.Views.{plain_field};
 

@@ -13,7 +13,7 @@ use Rattle.es_scope.specs.declared.ancestor.Ancestor.{Ancestor}
 use Rattle.es_visit.specs.declared.hook.Hook.{Hook}
 use Rattle.es_visit.specs.Counts.{just}
 use Rattle.es_visit.specs.Changes.{Part, ChangedBy, Changed, ChangedTrees, ChangedProgram, Listed}
-use Rattle.es_visit.specs.Laws.{Profile, AreApart, both_profile, HasNone, IsReady, is_row, Entered, Settled, Placed, MakesNone, Exited, KeepsIds, EnteredList, ExitedList, KeepsAllIds, EnteredParameters, ExitedParameters, EnteredProgram, ExitedProgram, Goes, GoesOut, GoesOutOfList, one_call, most, opens, is_outermost}
+use Rattle.es_visit.specs.Laws.{Profile, AreApart, both_profile, HasNone, IsReady, is_construct, Entered, Settled, Placed, MakesNone, Exited, KeepsIds, EnteredList, ExitedList, KeepsAllIds, EnteredParameters, ExitedParameters, EnteredProgram, ExitedProgram, Goes, GoesOut, GoesOutOfList, one_call, most, opens, is_outermost}
 use Rattle.es_visit.specs.Moments.{Moment, Fits, Kept, heft, HasRoom, is_inert, with_lists}
 use Rattle.es_visit.specs.Refusals.{Leads, RefusedBy, RefusedTree, RefusedTrees, RefusedList, RefusedProgram}
 use Rattle.es_visit.specs.Together.{neither}
@@ -200,7 +200,7 @@ module _ (P Q : EnvOptions → Profile) (apart : (o : EnvOptions) → AreApart (
       record {
         changed = changed_both P Q (both_of P Q) (first_part P Q) (second_part P Q) _ _ _ g.changed h.changed;
         sort = λ i s. elim (h.sort i s) [ inl before ↦ g.sort i before | inr this ↦ inr this ];
-        cleared = neither (is_row (p.rows hook) v) (is_row (q.rows hook) v) (elim k.order [ inl i ↦ subst (λ w. is_row (p.rows hook) w ≡ false) (sym i) g.cleared | inr m ↦ (apart a.options).makes hook v m ]) k.cleared;
+        cleared = neither (is_construct (p.constructs hook) v) (is_construct (q.constructs hook) v) (elim k.order [ inl i ↦ subst (λ w. is_construct (p.constructs hook) w ≡ false) (sym i) g.cleared | inr m ↦ (apart a.options).makes hook v m ]) k.cleared;
         order = elim k.order [ inl i ↦ same i | inr m ↦ inr (inr m) ];
       }
 
@@ -211,14 +211,14 @@ module _ (P Q : EnvOptions → Profile) (apart : (o : EnvOptions) → AreApart (
       let same : (v ≡ u) → (v ≡ t) ⊎ (both_of P Q a.options).writes v = λ i. elim g.order [ inl j ↦ inl (i ∙ j) | inr m ↦ inr (inl (subst p.writes (sym i) m)) ] in
       record {
         changed = changed_both P Q (both_of P Q) (first_part P Q) (second_part P Q) _ _ _ g.changed h.changed;
-        cleared = neither (is_row (p.rows hook) v) (is_row (q.rows hook) v) (elim k.order [ inl i ↦ subst (λ w. is_row (p.rows hook) w ≡ false) (sym i) g.cleared | inr m ↦ (apart a.options).second_writes hook v m ]) k.cleared;
+        cleared = neither (is_construct (p.constructs hook) v) (is_construct (q.constructs hook) v) (elim k.order [ inl i ↦ subst (λ w. is_construct (p.constructs hook) w ≡ false) (sym i) g.cleared | inr m ↦ (apart a.options).second_writes hook v m ]) k.cleared;
         order = elim k.order [ inl i ↦ same i | inr m ↦ inr (inr m) ];
       }
 
 -- CONSTRUCTS OF NEITHER
 
-pub none_of_both : (p q : Profile) (hook : Hook) → HasNone (p.rows hook) → HasNone (q.rows hook) → HasNone ((both_profile p q).rows hook)
-none_of_both p q hook f g = λ k l fs. neither (p.rows hook k l fs) (q.rows hook k l fs) (f k l fs) (g k l fs)
+pub none_of_both : (p q : Profile) (hook : Hook) → HasNone (p.constructs hook) → HasNone (q.constructs hook) → HasNone ((both_profile p q).constructs hook)
+none_of_both p q hook f g = λ k l fs. neither (p.constructs hook k l fs) (q.constructs hook k l fs) (f k l fs) (g k l fs)
 
 -- LISTS, WITH THEIR OWN PAIRS
 

@@ -27,7 +27,7 @@ use Rattle.es_visit.specs.Hooks.{sort_of, hook_of_sort, hook_of_kind, hook_numbe
 use Rattle.es_visit.specs.Counts.{Measure, total, total_in, own_parameters, just, nodes_of, places_of}
 use Rattle.es_visit.specs.Moments.{Moment, Fits, of_program, in_field, in_node}
 use Rattle.es_visit.specs.Changes.{Changed, ChangedFields}
-use Rattle.es_visit.specs.Laws.{Profile, is_row, IsReady, IsStable, IsLawful, Entered, Settled, Placed, Exited, KeepsIds, one_call}
+use Rattle.es_visit.specs.Laws.{Profile, is_construct, IsReady, IsStable, IsLawful, Entered, Settled, Placed, Exited, KeepsIds, one_call}
 use Rattle.es_visit.specs.Refusals.{RefusedTree}
 use Rattle.es_visit.specs.Sites.{role_at}
 use Rattle.es_visit.specs.Visits.{Visited, VisitedFields, EnteredSort, EnteredKind, EnteredNode, Counted, kind_call, GoesByKind, GoesBySort, GoesAtBody, GoesIn, GoesOutByKind, GoesOutBySort, GoesOutAtBody, GoesOutOfNode}
@@ -70,7 +70,7 @@ module _ (p : Profile) where
   pub entered_sort : (site : Site) (r : Role) {a b : Moment} (t u : Tree) → role_at (sort_of (kind_of t)) site ≡ r → Entered p (hook_of_role r) a t b u → EnteredSort p a t b u
   entered_sort site r t u e h = record {
     changed = h.changed;
-    cleared = λ g s. subst (λ i. is_row (p.rows i) u ≡ false) (sym (elim (h.sort g s) [ inl before ↦ only_role _ site g before ∙ ap hook_of_role e | inr this ↦ this ])) h.cleared;
+    cleared = λ g s. subst (λ i. is_construct (p.constructs i) u ≡ false) (sym (elim (h.sort g s) [ inl before ↦ only_role _ site g before ∙ ap hook_of_role e | inr this ↦ this ])) h.cleared;
   }
 
   pub entered_no_sort : (site : Site) (a : Moment) (t : Tree) → role_at (sort_of (kind_of t)) site ≡ Nothing → EnteredSort p a t a t
@@ -84,7 +84,7 @@ module _ (p : Profile) where
   pub entered_kind : (h : Hook) {a b : Moment} (t u : Tree) → hook_of_kind (kind_of t) ≡ Some h → Settled p h a t b u → EnteredKind p a t b u
   entered_kind h t u e s = record {
     changed = s.changed;
-    cleared = λ g k. subst (λ i. is_row (p.rows i) u ≡ false) (same_hook (sym e ∙ k)) s.cleared;
+    cleared = λ g k. subst (λ i. is_construct (p.constructs i) u ≡ false) (same_hook (sym e ∙ k)) s.cleared;
     order = s.order;
   }
 
@@ -106,13 +106,13 @@ module _ (p : EnvOptions → Profile) {a b c : Moment} where
   pub entered_both : (t u v : Tree) → IsLawful (p a.options) → EnteredSort (p a.options) a t b u → EnteredKind (p b.options) b u c v → EnteredNode (p a.options) a t c v
   entered_both t u v law s k' =
       let k : EnteredKind (p a.options) b u c v = subst (λ o. EnteredKind (p o) b u c v) s.changed.kept.options k' in
-      let rows : Hook → AstType → Label → Fields → Bool = (p a.options).rows in
+      let constructs : Hook → AstType → Label → Fields → Bool = (p a.options).constructs in
       record {
         changed = changed_then Fits s.changed k.changed;
-        cleared = λ h. elim k.order as (λ _. is_row (rows h) v ≡ false) [
-          | inl same ↦ clear_unless (is_row (rows h) v) (λ r.
-              elim (law.placed h (kind_of v) (label_of v) (fields_of v) r) as (λ _. is_row (rows h) v ≡ false) [
-                | inl by_sort ↦ subst (λ w. is_row (rows h) w ≡ false) (sym same) (s.cleared h (subst (λ w. hook_of_sort (sort_of (kind_of w)) ≡ Some h) same by_sort))
+        cleared = λ h. elim k.order as (λ _. is_construct (constructs h) v ≡ false) [
+          | inl same ↦ clear_unless (is_construct (constructs h) v) (λ r.
+              elim (law.placed h (kind_of v) (label_of v) (fields_of v) r) as (λ _. is_construct (constructs h) v ≡ false) [
+                | inl by_sort ↦ subst (λ w. is_construct (constructs h) w ≡ false) (sym same) (s.cleared h (subst (λ w. hook_of_sort (sort_of (kind_of w)) ≡ Some h) same by_sort))
                 | inr by_kind ↦ k.cleared h (subst (λ w. hook_of_kind (kind_of w) ≡ Some h) same by_kind)
               ])
           | inr own ↦ law.own h v own
@@ -156,16 +156,16 @@ fits_somewhere : (xs : List Ancestor) → (n : Need) × Fits xs n
 fits_somewhere [] = (all_of_it, of_program)
 fits_somewhere (x ∷ xs) = (needs (fits_somewhere xs).0 x.kind [] [] x.field, in_field x [] [] (fits_somewhere xs).1)
 
-module _ {R : Need → Ledger → Spot → Ledger → Spot → Type 0} (rows : AstType → Label → Fields → Bool) where
-  stable_steps : IsStable R rows → (c : ℕ → Need) (k : AstType) (l : Label) {s s' : Ledger} {fs gs : OpenFields} → Steps (FieldsStep R c) s fs s' gs → rows k l (closed_fields fs) ≡ false → rows k l (closed_fields gs) ≡ false
+module _ {R : Need → Ledger → Spot → Ledger → Spot → Type 0} (constructs : AstType → Label → Fields → Bool) where
+  stable_steps : IsStable R constructs → (c : ℕ → Need) (k : AstType) (l : Label) {s s' : Ledger} {fs gs : OpenFields} → Steps (FieldsStep R c) s fs s' gs → constructs k l (closed_fields fs) ≡ false → constructs k l (closed_fields gs) ≡ false
   stable_steps st c k l stays h = h
   stable_steps st c k l (goes r rs) h = stable_steps st c k l rs (st c _ _ k l _ _ r h)
 
-  still_none : IsStable R rows → (k : AstType) (l : Label) {a b : Moment} (fs gs : Fields) → ChangedFields R k a fs b gs → rows k l fs ≡ false → rows k l gs ≡ false
+  still_none : IsStable R constructs → (k : AstType) (l : Label) {a b : Moment} (fs gs : Fields) → ChangedFields R k a fs b gs → constructs k l fs ≡ false → constructs k l gs ≡ false
   still_none st k l {a = a} fs gs h e =
       let place = fits_somewhere a.around in
-      subst (λ xs. rows k l xs ≡ false) (closed-opened-fields gs)
-      (stable_steps st (needs place.0 k [] []) k l (h.steps (needs place.0 k [] []) (in_node [] [] place.1)) (subst (λ xs. rows k l xs ≡ false) (sym (closed-opened-fields fs)) e))
+      subst (λ xs. constructs k l xs ≡ false) (closed-opened-fields gs)
+      (stable_steps st (needs place.0 k [] []) k l (h.steps (needs place.0 k [] []) (in_node [] [] place.1)) (subst (λ xs. constructs k l xs ≡ false) (sym (closed-opened-fields fs)) e))
 
 none_of : (x y : Bool) → x ≡ false → y ≡ false → (x || y) ≡ false
 none_of x y e f = rw (e, f)
@@ -193,8 +193,8 @@ module _ (p : EnvOptions → Profile) {a b c d : Moment} where
       let x : Exited (p a.options) c (node k l gs) d v = subst (λ o. Exited (p o) c (node k l gs) d v) first.kept.options x' in
       record {
         changed = changed_then Fits first x.changed;
-        free = λ h. x.none ((p a.options).rows h) (λ w own. law.own h w own)
-            (none_of ((p a.options).rows h k l gs) (any_in_fields ((p a.options).rows h) gs) (still_none ((p a.options).rows h) (law.stable h) k l fs gs f.changed (e.cleared h)) (f.free h));
+        free = λ h. x.none ((p a.options).constructs h) (λ w own. law.own h w own)
+            (none_of ((p a.options).constructs h k l gs) (any_in_fields ((p a.options).constructs h) gs) (still_none ((p a.options).constructs h) (law.stable h) k l fs gs f.changed (e.cleared h)) (f.free h));
       }
 
 -- the hooks of kinds

@@ -41,7 +41,7 @@ module _ (P : EnvOptions → Profile) {a b c d : Moment} (ts us vs ws : Trees) w
   visited_parameters law e v x' =
       let m : VisitedTrees (P a.options) a ts c vs = visited_trees_then P ts us vs e.changed v in
       let x : ExitedParameters (P a.options) c vs d ws = subst (λ o. ExitedParameters (P o) c vs d ws) m.changed.kept.options x' in
-      record { changed = changed_then Fits m.changed x.changed; free = λ h. x.none ((P a.options).rows h) (λ t own. law.own h t own) (m.free h) }
+      record { changed = changed_then Fits m.changed x.changed; free = λ h. x.none ((P a.options).constructs h) (λ t own. law.own h t own) (m.free h) }
 
   -- a statement list that isn't the program's
   pub visited_statements : (keeps : Bool) → keeps ≡ true → 1 < length a.around → IsLawful (P a.options) → EnteredList (P a.options) keeps a ts b us → VisitedTrees (P b.options) b us c vs → ExitedList (P c.options) keeps c vs d ws →
@@ -49,7 +49,7 @@ module _ (P : EnvOptions → Profile) {a b c d : Moment} (ts us vs ws : Trees) w
   visited_statements keeps k l law e v' x' =
       let v : VisitedTrees (P a.options) b us c vs = subst (λ o. VisitedTrees (P o) b us c vs) e.listed.kept.options v' in
       let x : ExitedList (P a.options) keeps c vs d ws = subst (λ o. ExitedList (P o) keeps c vs d ws) (v.changed.kept.options ∙ e.listed.kept.options) x' in
-      record { changed = changed_statements keeps k l e.listed v.changed x.listed; free = λ h. x.none ((P a.options).rows h) (λ t own. law.own h t own) (v.free h) }
+      record { changed = changed_statements keeps k l e.listed v.changed x.listed; free = λ h. x.none ((P a.options).constructs h) (λ t own. law.own h t own) (v.free h) }
 
 module _ (P : EnvOptions → Profile) {a b : Moment} (ts us : Trees) {e : LowerError} where
   pub refused_by_nodes : Listed (P a.options).rule a ts b us → RefusedTrees (P b.options).rule (P b.options).refuses e b us → RefusedList (P a.options).rule (P a.options).refuses e a ts

@@ -8,10 +8,10 @@ use Rattle.es_visit.specs.Moments.{Moment}
 use Rattle.es_visit.proofs.Changes.{changed_none, listed_none, program_none}
 
 module _ (p : Profile) where
-  pub entered_none : (hook : Hook) → HasNone (p.rows hook) → (a : Moment) (t : Tree) → Entered p hook a t a t
+  pub entered_none : (hook : Hook) → HasNone (p.constructs hook) → (a : Moment) (t : Tree) → Entered p hook a t a t
   entered_none hook none a t = record { changed = changed_none _ _; sort = λ h s. inl s; cleared = none (kind_of t) (label_of t) (fields_of t); order = inl refl }
 
-  pub settled_none : (hook : Hook) → HasNone (p.rows hook) → (a : Moment) (t : Tree) → Settled p hook a t a t
+  pub settled_none : (hook : Hook) → HasNone (p.constructs hook) → (a : Moment) (t : Tree) → Settled p hook a t a t
   settled_none hook none a t = record { changed = changed_none _ _; cleared = none (kind_of t) (label_of t) (fields_of t); order = inl refl }
 
   pub placed_none : (a : Moment) (t : Tree) → Placed p a t a t

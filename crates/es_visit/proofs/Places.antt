@@ -60,21 +60,21 @@ module _ {S : Type 0} (pending : S → Pendings) (old new : TraverseCtx S) (x : 
 -- FREE PARTS
 
 abbrev pub FreeField : Profile → NodeField → Type 0
-FreeField p f = (h : Hook) → any_in_field (p.rows h) (bare_field (plain_field f)) ≡ false
+FreeField p f = (h : Hook) → any_in_field (p.constructs h) (bare_field (plain_field f)) ≡ false
 
 abbrev pub FreeTree : Profile → Tree → Type 0
-FreeTree p t = (h : Hook) → any_node (p.rows h) (bare t) ≡ false
+FreeTree p t = (h : Hook) → any_node (p.constructs h) (bare t) ≡ false
 
 neither : (a b : Bool) → a ≡ false → b ≡ false → (a || b) ≡ false
 neither a b e d = rw (e, d)
 
-pub free_fields : (p : Profile) (xs : List NodeField) → ((k : ℕ) (d : NodeField) → k < length xs → FreeField p (get_or xs k d)) → (h : Hook) → any_in_fields (p.rows h) (bare_fields (plain_fields xs)) ≡ false
+pub free_fields : (p : Profile) (xs : List NodeField) → ((k : ℕ) (d : NodeField) → k < length xs → FreeField p (get_or xs k d)) → (h : Hook) → any_in_fields (p.constructs h) (bare_fields (plain_fields xs)) ≡ false
 free_fields p [] f h = refl
-free_fields p (x ∷ xs) f h = neither (any_in_field (p.rows h) (bare_field (plain_field x))) (any_in_fields (p.rows h) (bare_fields (plain_fields xs))) (f 0 x (omega arith) h) (free_fields p xs (λ k d l. f (suc k) d (omega (arith, l))) h)
+free_fields p (x ∷ xs) f h = neither (any_in_field (p.constructs h) (bare_field (plain_field x))) (any_in_fields (p.constructs h) (bare_fields (plain_fields xs))) (f 0 x (omega arith) h) (free_fields p xs (λ k d l. f (suc k) d (omega (arith, l))) h)
 
-pub free_trees : (p : Profile) (xs : List Tree) → ((k : ℕ) (d : Tree) → k < length xs → FreeTree p (get_or xs k d)) → (h : Hook) → any_in_trees (p.rows h) (bare_trees (trees xs)) ≡ false
+pub free_trees : (p : Profile) (xs : List Tree) → ((k : ℕ) (d : Tree) → k < length xs → FreeTree p (get_or xs k d)) → (h : Hook) → any_in_trees (p.constructs h) (bare_trees (trees xs)) ≡ false
 free_trees p [] f h = refl
-free_trees p (x ∷ xs) f h = neither (any_node (p.rows h) (bare x)) (any_in_trees (p.rows h) (bare_trees (trees xs))) (f 0 x (omega arith) h) (free_trees p xs (λ k d l. f (suc k) d (omega (arith, l))) h)
+free_trees p (x ∷ xs) f h = neither (any_node (p.constructs h) (bare x)) (any_in_trees (p.constructs h) (bare_trees (trees xs))) (f 0 x (omega arith) h) (free_trees p xs (λ k d l. f (suc k) d (omega (arith, l))) h)
 
 -- ONE FIELD MORE
 

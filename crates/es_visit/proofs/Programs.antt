@@ -84,7 +84,7 @@ module _ (P : EnvOptions → Profile) (keeps : Bool) (place : NodeId) (x y : Pro
       record {
         changed = changed_program place x y a d top same (subst (λ q. Listed (P a.options).rule (inside_of (program_place place) a) (body_of x) q (body_of y)) f (subst (λ q. Listed (P a.options).rule q (body_of x) n (body_of y)) e outer));
         directives = same.directives;
-        free = λ q. h.none ((P a.options).rows q) (λ t own. law.own q t own) (v.free q);
+        free = λ q. h.none ((P a.options).constructs q) (λ t own. law.own q t own) (v.free q);
       }
 
 -- the hooks of the program around it
@@ -95,7 +95,7 @@ visited_whole P keeps {a = a} {b = b} {c = c} {d = d} x y z w law e v' h' =
     record {
       changed = program_trans e.changed (program_trans v.changed h.changed);
       directives = h.directives ∙ v.directives ∙ e.directives;
-      free = λ q. h.none ((P a.options).rows q) (λ t own. law.own q t own) (v.free q);
+      free = λ q. h.none ((P a.options).constructs q) (λ t own. law.own q t own) (v.free q);
     }
 
 -- REFUSALS

@@ -23,18 +23,18 @@ use Rattle.es_visit.specs.Changes.{Changed, ChangedTrees, ChangedProgram, Listed
 -- node, what it puts in the place of a node on the way in, what it puts or writes later, and where it refuses.
 pub record Profile : Type 1 where
   pub rule : Need → Ledger → Spot → Ledger → Spot → Type 0
-  pub rows : Hook → AstType → Label → Fields → Bool
+  pub constructs : Hook → AstType → Label → Fields → Bool
   pub makes : Tree → Type 0
   pub writes : Tree → Type 0
   pub refuses : LowerError → Whole → Tree → Type 0
 
 -- whether a node is a construct
-abbrev pub is_row : (AstType → Label → Fields → Bool) → Tree → Bool
-is_row rows t = rows (kind_of t) (label_of t) (fields_of t)
+abbrev pub is_construct : (AstType → Label → Fields → Bool) → Tree → Bool
+is_construct constructs t = constructs (kind_of t) (label_of t) (fields_of t)
 
 -- no node is a construct
 abbrev pub HasNone : (AstType → Label → Fields → Bool) → Type 0
-HasNone rows = (k : AstType) (l : Label) (fs : Fields) → rows k l fs ≡ false
+HasNone constructs = (k : AstType) (l : Label) (fs : Fields) → constructs k l fs ≡ false
 
 -- LAWS OF A TYPE
 
@@ -47,14 +47,14 @@ pub record IsReady {X : Type 0} (suits : X → EnvOptions → Type 0) (x : X) (a
 
 -- steps among the fields of a node make it no construct
 abbrev pub IsStable : (Need → Ledger → Spot → Ledger → Spot → Type 0) → (AstType → Label → Fields → Bool) → Type 0
-IsStable R rows = (c : ℕ → Need) (s s' : Ledger) (k : AstType) (l : Label) (fs gs : OpenFields) → FieldsStep R c s fs s' gs → rows k l (closed_fields fs) ≡ false → rows k l (closed_fields gs) ≡ false
+IsStable R constructs = (c : ℕ → Need) (s s' : Ledger) (k : AstType) (l : Label) (fs gs : OpenFields) → FieldsStep R c s fs s' gs → constructs k l (closed_fields fs) ≡ false → constructs k l (closed_fields gs) ≡ false
 
 pub record IsLawful (profile : Profile) : Type 0 where
-  pub stable : (h : Hook) → IsStable profile.rule (profile.rows h)
+  pub stable : (h : Hook) → IsStable profile.rule (profile.constructs h)
   -- a node that is a construct gets the hook that removes it
-  pub placed : (h : Hook) (k : AstType) (l : Label) (fs : Fields) → profile.rows h k l fs ≡ true → IsHooked h k
+  pub placed : (h : Hook) (k : AstType) (l : Label) (fs : Fields) → profile.constructs h k l fs ≡ true → IsHooked h k
   -- what is written is no construct
-  pub own : (h : Hook) (t : Tree) → profile.writes t → is_row (profile.rows h) t ≡ false
+  pub own : (h : Hook) (t : Tree) → profile.writes t → is_construct (profile.constructs h) t ≡ false
 
 -- HOOKS ON NODES
 
@@ -66,13 +66,13 @@ KeepsSort hook t u = (h : Hook) → hook_of_sort (sort_of (kind_of u)) ≡ Some 
 pub record Entered (profile : Profile) (hook : Hook) (a : Moment) (t : Tree) (b : Moment) (u : Tree) : Type 0 where
   pub changed : Changed profile.rule a t b u
   pub sort : KeepsSort hook t u
-  pub cleared : is_row (profile.rows hook) u ≡ false
+  pub cleared : is_construct (profile.constructs hook) u ≡ false
   pub order : (u ≡ t) ⊎ profile.makes u
 
 -- before the children of a node, by its kind
 pub record Settled (profile : Profile) (hook : Hook) (a : Moment) (t : Tree) (b : Moment) (u : Tree) : Type 0 where
   pub changed : Changed profile.rule a t b u
-  pub cleared : is_row (profile.rows hook) u ≡ false
+  pub cleared : is_construct (profile.constructs hook) u ≡ false
   pub order : (u ≡ t) ⊎ profile.writes u
 
 -- before the body of an arrow, as such
@@ -81,7 +81,7 @@ pub record Placed (profile : Profile) (a : Moment) (t : Tree) (b : Moment) (u : 
 
 -- A test that is false of what a type writes is so after its exit hook where it was before.
 abbrev pub MakesNone : (Tree → Type 0) → Tree → Tree → Type 0
-MakesNone writes t u = (test : AstType → Label → Fields → Bool) → ((v : Tree) → writes v → is_row test v ≡ false) → any_node test t ≡ false → any_node test u ≡ false
+MakesNone writes t u = (test : AstType → Label → Fields → Bool) → ((v : Tree) → writes v → is_construct test v ≡ false) → any_node test t ≡ false → any_node test u ≡ false
 
 -- after the children
 pub record Exited (profile : Profile) (a : Moment) (t : Tree) (b : Moment) (u : Tree) : Type 0 where
@@ -113,7 +113,7 @@ pub record EnteredList (profile : Profile) (keeps : Bool) (a : Moment) (ts : Tre
 -- after them: it was on top before
 pub record ExitedList (profile : Profile) (keeps : Bool) (a : Moment) (ts : Trees) (b : Moment) (us : Trees) : Type 0 where
   pub listed : Listed profile.rule a ts (opens keeps b) us
-  pub none : (test : AstType → Label → Fields → Bool) → ((v : Tree) → profile.writes v → is_row test v ≡ false) → any_in_trees test ts ≡ false → any_in_trees test us ≡ false
+  pub none : (test : AstType → Label → Fields → Bool) → ((v : Tree) → profile.writes v → is_construct test v ≡ false) → any_in_trees test ts ≡ false → any_in_trees test us ≡ false
   pub hooks : hooks_in_trees ts ≤ hooks_in_trees us
 
 abbrev pub KeepsAllIds : Trees → Trees → Type 0
@@ -125,7 +125,7 @@ pub record EnteredParameters (profile : Profile) (a : Moment) (ts : Trees) (b : 
 
 pub record ExitedParameters (profile : Profile) (a : Moment) (ts : Trees) (b : Moment) (us : Trees) : Type 0 where
   pub changed : ChangedTrees profile.rule a ts b us
-  pub none : (test : AstType → Label → Fields → Bool) → ((v : Tree) → profile.writes v → is_row test v ≡ false) → any_in_trees test ts ≡ false → any_in_trees test us ≡ false
+  pub none : (test : AstType → Label → Fields → Bool) → ((v : Tree) → profile.writes v → is_construct test v ≡ false) → any_in_trees test ts ≡ false → any_in_trees test us ≡ false
   pub hooks : hooks_in_trees ts ≤ hooks_in_trees us
 
 -- HOOKS ON THE PROGRAM
@@ -144,7 +144,7 @@ pub record EnteredProgram (profile : Profile) (a : Moment) (x : Program) (b : Mo
 pub record ExitedProgram (profile : Profile) (keeps : Bool) (a : Moment) (x : Program) (b : Moment) (y : Program) : Type 0 where
   pub changed : ChangedProgram profile.rule a x b y
   pub directives : directives_of y ≡ directives_of x
-  pub none : (test : AstType → Label → Fields → Bool) → ((v : Tree) → profile.writes v → is_row test v ≡ false) → any_in_trees test (body_of x) ≡ false → any_in_trees test (body_of y) ≡ false
+  pub none : (test : AstType → Label → Fields → Bool) → ((v : Tree) → profile.writes v → is_construct test v ≡ false) → any_in_trees test (body_of x) ≡ false → any_in_trees test (body_of y) ≡ false
   pub hooks : hooks_in (plain_program x) ≤ hooks_in (plain_program y)
   -- a type that keeps the pairs leaves nothing pending
   pub finished : keeps ≡ true → IsFinished b
@@ -197,7 +197,7 @@ pub record GoesOutOfList {X : Type 0} (suits : X → EnvOptions → Type 0) (tal
 abbrev pub both_profile : Profile → Profile → Profile
 both_profile p q = record {
   rule = either_rule p.rule q.rule;
-  rows = λ h k l fs. p.rows h k l fs || q.rows h k l fs;
+  constructs = λ h k l fs. p.constructs h k l fs || q.constructs h k l fs;
   makes = λ t. p.makes t ⊎ q.makes t;
   writes = λ t. p.writes t ⊎ q.writes t;
   refuses = λ e w t. p.refuses e w t ⊎ q.refuses e w t;
@@ -206,11 +206,11 @@ both_profile p q = record {
 -- The second type makes no construct of the first, neither writes one of the other, and the steps of neither make a node
 -- above them one.
 pub record AreApart (first second : Profile) : Type 0 where
-  pub makes : (h : Hook) (t : Tree) → second.makes t → is_row (first.rows h) t ≡ false
-  pub first_writes : (h : Hook) (t : Tree) → first.writes t → is_row (second.rows h) t ≡ false
-  pub second_writes : (h : Hook) (t : Tree) → second.writes t → is_row (first.rows h) t ≡ false
-  pub first_stable : (h : Hook) → IsStable second.rule (first.rows h)
-  pub second_stable : (h : Hook) → IsStable first.rule (second.rows h)
+  pub makes : (h : Hook) (t : Tree) → second.makes t → is_construct (first.constructs h) t ≡ false
+  pub first_writes : (h : Hook) (t : Tree) → first.writes t → is_construct (second.constructs h) t ≡ false
+  pub second_writes : (h : Hook) (t : Tree) → second.writes t → is_construct (first.constructs h) t ≡ false
+  pub first_stable : (h : Hook) → IsStable second.rule (first.constructs h)
+  pub second_stable : (h : Hook) → IsStable first.rule (second.constructs h)
 
 -- the greater of two counts
 abbrev pub most : ℕ → ℕ → ℕ

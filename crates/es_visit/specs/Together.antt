@@ -4,7 +4,7 @@ use Rattle.es_runs.specs.Alike.{Need}
 use Rattle.es_runs.specs.Open.{Open, OpenFields, OpenField, OpenTrees, closed_fields}
 use Rattle.es_runs.specs.OpenRules.{either_rule}
 use Rattle.es_runs.specs.OpenSteps.{Ledger, Spot, Step, acts, inside, FieldsStep, in_first, in_later, FieldStep, in_child, in_children, within, acts_on_list, TreesStep, in_head, in_tail}
-use Rattle.es_visit.specs.Laws.{Profile, AreApart, IsLawful, both_profile, is_row}
+use Rattle.es_visit.specs.Laws.{Profile, AreApart, IsLawful, both_profile, is_construct}
 
 -- A STEP OF EITHER IS A STEP OF ONE
 
@@ -51,15 +51,15 @@ either_true false b h = inr h
 pub both_lawful : (p q : Profile) → IsLawful p → IsLawful q → AreApart p q → IsLawful (both_profile p q)
 both_lawful p q f g apart = record {
   stable = λ h c s s' k l fs gs step free.
-      let x = left_false (p.rows h k l (closed_fields fs)) (q.rows h k l (closed_fields fs)) free in
-      let y = right_false (p.rows h k l (closed_fields fs)) (q.rows h k l (closed_fields fs)) free in
+      let x = left_false (p.constructs h k l (closed_fields fs)) (q.constructs h k l (closed_fields fs)) free in
+      let y = right_false (p.constructs h k l (closed_fields fs)) (q.constructs h k l (closed_fields fs)) free in
       elim (split_fields step) [
-        | inl i ↦ neither (p.rows h k l (closed_fields gs)) (q.rows h k l (closed_fields gs)) (f.stable h c s s' k l fs gs i x) (apart.second_stable h c s s' k l fs gs i y)
-        | inr j ↦ neither (p.rows h k l (closed_fields gs)) (q.rows h k l (closed_fields gs)) (apart.first_stable h c s s' k l fs gs j x) (g.stable h c s s' k l fs gs j y)
+        | inl i ↦ neither (p.constructs h k l (closed_fields gs)) (q.constructs h k l (closed_fields gs)) (f.stable h c s s' k l fs gs i x) (apart.second_stable h c s s' k l fs gs i y)
+        | inr j ↦ neither (p.constructs h k l (closed_fields gs)) (q.constructs h k l (closed_fields gs)) (apart.first_stable h c s s' k l fs gs j x) (g.stable h c s s' k l fs gs j y)
       ];
-  placed = λ h k l fs m. elim (either_true (p.rows h k l fs) (q.rows h k l fs) m) [ inl i ↦ f.placed h k l fs i | inr j ↦ g.placed h k l fs j ];
+  placed = λ h k l fs m. elim (either_true (p.constructs h k l fs) (q.constructs h k l fs) m) [ inl i ↦ f.placed h k l fs i | inr j ↦ g.placed h k l fs j ];
   own = λ h t w. elim w [
-    | inl i ↦ neither (is_row (p.rows h) t) (is_row (q.rows h) t) (f.own h t i) (apart.first_writes h t i)
-    | inr j ↦ neither (is_row (p.rows h) t) (is_row (q.rows h) t) (apart.second_writes h t j) (g.own h t j)
+    | inl i ↦ neither (is_construct (p.constructs h) t) (is_construct (q.constructs h) t) (f.own h t i) (apart.first_writes h t i)
+    | inr j ↦ neither (is_construct (p.constructs h) t) (is_construct (q.constructs h) t) (apart.second_writes h t j) (g.own h t j)
   ];
 }

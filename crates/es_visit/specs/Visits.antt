@@ -11,45 +11,45 @@ use Rattle.es_visit.specs.Counts.{Measure, just, nodes_of, places_of}
 use Rattle.es_visit.specs.Hooks.{hook_of_kind, hook_of_sort, sort_of}
 use Rattle.es_visit.specs.Moments.{Moment}
 use Rattle.es_visit.specs.Changes.{Changed, ChangedFields, ChangedField, ChangedTrees, ChangedProgram}
-use Rattle.es_visit.specs.Laws.{Profile, NoExit, NoEntry, OneExit, OneEntry, is_row, one_call, body_of, directives_of}
+use Rattle.es_visit.specs.Laws.{Profile, NoExit, NoEntry, OneExit, OneEntry, is_construct, one_call, body_of, directives_of}
 
 -- A part was changed by the type's rule, and holds no construct of the type.
 pub record Visited (profile : Profile) (a : Moment) (t : Tree) (b : Moment) (u : Tree) : Type 0 where
   pub changed : Changed profile.rule a t b u
-  pub free : (h : Hook) → any_node (profile.rows h) u ≡ false
+  pub free : (h : Hook) → any_node (profile.constructs h) u ≡ false
 
 pub record VisitedFields (profile : Profile) (k : AstType) (a : Moment) (fs : Fields) (b : Moment) (gs : Fields) : Type 0 where
   pub changed : ChangedFields profile.rule k a fs b gs
-  pub free : (h : Hook) → any_in_fields (profile.rows h) gs ≡ false
+  pub free : (h : Hook) → any_in_fields (profile.constructs h) gs ≡ false
 
 pub record VisitedField (profile : Profile) (a : Moment) (f : Field) (b : Moment) (g : Field) : Type 0 where
   pub changed : ChangedField profile.rule a f b g
-  pub free : (h : Hook) → any_in_field (profile.rows h) g ≡ false
+  pub free : (h : Hook) → any_in_field (profile.constructs h) g ≡ false
 
 pub record VisitedTrees (profile : Profile) (a : Moment) (ts : Trees) (b : Moment) (us : Trees) : Type 0 where
   pub changed : ChangedTrees profile.rule a ts b us
-  pub free : (h : Hook) → any_in_trees (profile.rows h) us ≡ false
+  pub free : (h : Hook) → any_in_trees (profile.constructs h) us ≡ false
 
 pub record VisitedProgram (profile : Profile) (a : Moment) (x : Program) (b : Moment) (y : Program) : Type 0 where
   pub changed : ChangedProgram profile.rule a x b y
   pub directives : directives_of y ≡ directives_of x
-  pub free : (h : Hook) → any_in_trees (profile.rows h) (body_of y) ≡ false
+  pub free : (h : Hook) → any_in_trees (profile.constructs h) (body_of y) ≡ false
 
 -- The enter hook of a node by its sort: it is no construct that this hook removes.
 pub record EnteredSort (profile : Profile) (a : Moment) (t : Tree) (b : Moment) (u : Tree) : Type 0 where
   pub changed : Changed profile.rule a t b u
-  pub cleared : (h : Hook) → hook_of_sort (sort_of (kind_of u)) ≡ Some h → is_row (profile.rows h) u ≡ false
+  pub cleared : (h : Hook) → hook_of_sort (sort_of (kind_of u)) ≡ Some h → is_construct (profile.constructs h) u ≡ false
 
 -- The enter hook of a node by its kind.
 pub record EnteredKind (profile : Profile) (a : Moment) (t : Tree) (b : Moment) (u : Tree) : Type 0 where
   pub changed : Changed profile.rule a t b u
-  pub cleared : (h : Hook) → hook_of_kind (kind_of t) ≡ Some h → is_row (profile.rows h) u ≡ false
+  pub cleared : (h : Hook) → hook_of_kind (kind_of t) ≡ Some h → is_construct (profile.constructs h) u ≡ false
   pub order : (u ≡ t) ⊎ profile.writes u
 
 -- All enter hooks of a node: it is no construct any more.
 pub record EnteredNode (profile : Profile) (a : Moment) (t : Tree) (b : Moment) (u : Tree) : Type 0 where
   pub changed : Changed profile.rule a t b u
-  pub cleared : (h : Hook) → is_row (profile.rows h) u ≡ false
+  pub cleared : (h : Hook) → is_construct (profile.constructs h) u ≡ false
 
 -- A type goes on with its settings, and counts at most so many calls more: of its exit hooks as this sums to over the nodes
 -- of an id, of each enter hook as it does over the places that may get it.

@@ -34,5 +34,5 @@ pub trait Lowering {
 
     /// Whether this enter hook removes constructs of the type. False says that it has none.
     fn acts(&self, hook: Hook) -> bool
-        ensures { (o : Options) → suits self.now o → result ≡ false → HasNone ((profile o).rows hook) };
+        ensures { (o : Options) → suits self.now o → result ≡ false → HasNone ((profile o).constructs hook) };
 }

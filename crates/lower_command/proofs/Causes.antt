@@ -26,7 +26,7 @@ use Rattle.std.specs.Fmt.{decimal}
 use Rattle.es_tree.specs.Causes.{rule_name, unsupported_name}
 use Rattle.es_json.specs.Pointer.{pointer}
 use Rattle.lower_command.specs.Answer.{line, refusal_text}
-use Rattle.lower_driver.specs.Shapes.{first_math_bound}
+use Rattle.lower_driver.specs.UnsupportedPrograms.{first_math_bound}
 use Rattle.lower_driver.specs.Sources.{IsReading, HasReading, ReadsAs, IsSource, IsValueBeyondCore, IsBrokenValue, IsValueWithMath, IsCauseUnder}
 use Rattle.lower_command.specs.Job.{IsTakenSource}
 

@@ -18,7 +18,7 @@ use Rattle.es_tree.specs.declared.place.Place.TheVariants.{ProgramBody}
 use Rattle.es_tree.specs.declared.table.Sort.{Sort}
 use Rattle.es_tree.specs.declared.table.Sort.TheVariants.{Statement as s-Statement}
 use Rattle.es_tree.proofs.CoreBreaks.{breaks-core}
-use Rattle.lower_driver.specs.Shapes.{first_math_bound}
+use Rattle.lower_driver.specs.UnsupportedPrograms.{first_math_bound}
 use Rattle.lower_command.specs.Generated.{generated, generated_statement, nodes_of_first, start_of, statement_for}
 
 abbrev pub is_big_int : AstType → Label → Fields → Bool

@@ -4,7 +4,7 @@ use Rattle.es_tree.specs.declared.error.LowerError.{LowerError}
 use Rattle.es_tree.specs.declared.error.LowerError.TheVariants.{Option as e-Option, OutOfMemory, Unsupported}
 use Rattle.es_tree.specs.declared.error.UnsupportedKind.TheVariants.{MathBound}
 use Rattle.es_tree.specs.declared.options.EnvOptions.{EnvOptions}
-use Rattle.lower_driver.specs.Shapes.{IsTreeCauseOrMemory}
+use Rattle.lower_driver.specs.UnsupportedPrograms.{IsTreeCauseOrMemory}
 use Rattle.lower_command.specs.Answer.{generated_line, refusal_text}
 use Rattle.lower_command.specs.Generated.{generated}
 use Rattle.lower_command.specs.Refusals.{IsNoMemory}

@@ -3,7 +3,7 @@ ghost use Rattle.std.specs.Prelude.{◌≡◌, ◌≤◌, IfErr, IfOk, None, len
 ghost use Rattle.es_tree.specs.Capped.{capped};
 ghost use Rattle.es_tree.specs.Options.{first_fault};
 ghost use Rattle.es_tree.specs.Tree.{tree_size};
-ghost use Rattle.lower_driver.specs.Shapes.{IsTreeCauseOrMemory};
+ghost use Rattle.lower_driver.specs.UnsupportedPrograms.{IsTreeCauseOrMemory};
 ghost use Rattle.lower_command.specs.Answer.{generated_line};
 ghost use Rattle.lower_command.specs.Generated.{generated};
 ghost use Rattle.lower_command.specs.Job.{IsGeneratedLine};

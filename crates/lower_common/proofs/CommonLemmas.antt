@@ -20,7 +20,7 @@ use Rattle.es_runs.proofs.Weights.{written_weight, written_size, trees_weight-ba
 use Rattle.es_visit.specs.Counts.{Measure, total, total_among, hooks_in, hooks_in_trees}
 use Rattle.es_visit.specs.Moments.{Moment, heft, pending_nodes, with_lists, top, below, is_inert, lists_inert, are_inert, is_inert_node, whole_at, Kept}
 use Rattle.es_visit.specs.Changes.{Listed, ChangedProgram, open_program}
-use Rattle.es_visit.specs.Laws.{is_row, is_outermost, opens, EnteredList, ExitedList, ExitedProgram, KeepsAllIds, KeepsIds, body_of}
+use Rattle.es_visit.specs.Laws.{is_construct, is_outermost, opens, EnteredList, ExitedList, ExitedProgram, KeepsAllIds, KeepsIds, body_of}
 use Rattle.es_visit.proofs.Changes.{listed_none, program_none}
 use Rattle.lower_common.specs.CommonLaws.{common_profile, MayBeWritten, after_writing}
 
@@ -39,7 +39,7 @@ or_false true b g h = absurd (true≢false g)
 or_false false b g h = h
 
 -- a test that is false of each inert node
-module _ (test : AstType → Label → Fields → Bool) (f : (v : Tree) → MayBeWritten v → is_row test v ≡ false) where
+module _ (test : AstType → Label → Fields → Bool) (f : (v : Tree) → MayBeWritten v → is_construct test v ≡ false) where
   mutual
     none_in_node : (t : Tree) → all_nodes is_inert_node t ≡ true → any_node test t ≡ false
     none_in_node (node k l fs) e =

@@ -6,6 +6,6 @@ pub mod Inert
 pub mod Takings
 pub mod BareBases
 pub mod ReadAgain
-pub mod Doubled
+pub mod Duplicated
 pub mod Parenthesized
 pub mod Replaced

@@ -13,7 +13,7 @@ use Rattle.es_tree.specs.declared.ids.Span.{Span}
 use Rattle.es_tree.specs.declared.kind.Kind.{Kind as NodeKind}
 use Rattle.es_tree.specs.declared.node.Field.{Field as NodeField}
 use Rattle.es_runs.proofs.Named.{and_right}
-use Rattle.es_runs.specs.Doubling.{doubled_base, has_no_fields, is_plain_template, is_read_again}
+use Rattle.es_runs.specs.Duplication.{duplicate_base, has_no_fields, is_plain_template, is_read_again}
 use Rattle.lower_common.proofs.BareBases.{node_base-bare}
 
 -- AS THE CODE SEES THEM
@@ -98,9 +98,9 @@ read_again-bare again (node StringLiteral l fs) = no_fields-bare fs
 read_again-bare again (node TemplateLiteral l fs) = plain_template-bare fs
 read_again-bare again (node _ l fs) = refl
 
-pub doubled_base-bare : (t : Tree) → doubled_base (bare t) ≡ doubled_base t
-doubled_base-bare (node Identifier l fs) = refl
-doubled_base-bare (node k l fs) = node_base-bare (node k l fs)
+pub duplicate_base-bare : (t : Tree) → duplicate_base (bare t) ≡ duplicate_base t
+duplicate_base-bare (node Identifier l fs) = refl
+duplicate_base-bare (node k l fs) = node_base-bare (node k l fs)
 
 -- SIZES
 

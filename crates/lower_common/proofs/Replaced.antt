@@ -21,7 +21,7 @@ use Rattle.es_runs.specs.OpenSteps.Steps.{stays, goes}
 use Rattle.es_runs.specs.Weights.{additions_size, additions_weight, own_weight}
 use Rattle.es_visit.specs.declared.hook.Hook.{Hook}
 use Rattle.es_visit.specs.Changes.{Changed}
-use Rattle.es_visit.specs.Laws.{Entered, KeepsSort, Profile, is_row}
+use Rattle.es_visit.specs.Laws.{Entered, KeepsSort, Profile, is_construct}
 use Rattle.es_visit.specs.Moments.{Fits, Moment, Kept, are_inert, below, ledger_at, lists_inert, lists_size, lists_weight, top, whole_at}
 use Rattle.es_visit.proofs.Changes.{changed_none}
 use Rattle.es_visit.proofs.EitherSteps.{step_into}
@@ -90,17 +90,17 @@ changed_stepped fits R rule old new t u r there place into =
 
 -- by a step of a profile, where it leaves none of the hook's constructs
 pub entered_where : (p : Profile) (h : Hook) {fits : Need → Type 0} {R : Need → Ledger → Spot → Ledger → Spot → Type 0} (old new : TraverseCtx TransformState) (t u : Tree) → StepsWhere fits R old new t u → 0 < length (moment_of old).lists → ((n : Need) → Fits (moment_of old).around n → fits n) →
-    ((n : Need) (s s' : Ledger) (x y : Spot) → R n s x s' y → p.rule n s x s' y) → KeepsSort h t u → is_row (p.rows h) u ≡ false → p.makes u → Entered p h (moment_of old) t (moment_of new) u
+    ((n : Need) (s s' : Ledger) (x y : Spot) → R n s x s' y → p.rule n s x s' y) → KeepsSort h t u → is_construct (p.constructs h) u ≡ false → p.makes u → Entered p h (moment_of old) t (moment_of new) u
 entered_where p h {fits} {R} old new t u r there place rule sort cleared made = record { changed = changed_stepped fits R p.rule old new t u r there place rule; sort = sort; cleared = cleared; order = inr made }
 
 -- by a row, whatever its place takes of it
 pub entered_replaced : (p : Profile) (h : Hook) {R : Whole → List Text → Need → Tree → Tree → Type 0} (old new : TraverseCtx TransformState) (t u : Tree) → Replaces R old new t u → 0 < length (moment_of old).lists →
-    ((n : Need) (s s' : Ledger) (x y : Spot) → Replacing R n s x s' y → p.rule n s x s' y) → KeepsSort h t u → is_row (p.rows h) u ≡ false → p.makes u → Entered p h (moment_of old) t (moment_of new) u
+    ((n : Need) (s s' : Ledger) (x y : Spot) → Replacing R n s x s' y → p.rule n s x s' y) → KeepsSort h t u → is_construct (p.constructs h) u ≡ false → p.makes u → Entered p h (moment_of old) t (moment_of new) u
 entered_replaced p h old new t u r there rule sort cleared made = entered_where p h old new t u (stepped r) there (λ n f. tt) rule sort cleared made
 
 -- A NODE THAT WAS LEFT ALONE
 
-pub entered_alone : (p : Profile) (h : Hook) (a : Moment) (t : Tree) → is_row (p.rows h) t ≡ false → Entered p h a t a t
+pub entered_alone : (p : Profile) (h : Hook) (a : Moment) (t : Tree) → is_construct (p.constructs h) t ≡ false → Entered p h a t a t
 entered_alone p h a t none = record { changed = changed_none a _; sort = λ g s. inl s; cleared = none; order = inl refl }
 
 -- BY OTHER NAMES

@@ -9,7 +9,7 @@ use Rattle.es_scope.specs.Tables.{symbol_count}
 use Rattle.es_scope.specs.declared.context.TraverseCtx.{TraverseCtx}
 use Rattle.es_scope.specs.declared.flags.ReferenceFlags.{ReferenceFlags}
 use Rattle.es_runs.specs.Open.{Pending, with_vars}
-use Rattle.es_runs.specs.Steps.{also_all}
+use Rattle.es_runs.specs.NullishCoalescing.{also_all}
 use Rattle.es_visit.specs.Moments.{Moment}
 use Rattle.lower_common.specs.Stacks.{with_top}
 use Rattle.lower_common.specs.Takings.{ReadsMore, Takes, WritesOnce, moment_of, writing}

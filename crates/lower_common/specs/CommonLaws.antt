@@ -4,20 +4,20 @@ use Rattle.es_tree.specs.Tree.{Tree}
 use Rattle.es_runs.specs.Open.{no_additions}
 use Rattle.es_runs.specs.OpenRules.{Writing}
 use Rattle.std.proofs.Common.{refl, sym, true≢false}
-use Rattle.es_visit.specs.Laws.{IsLawful, Profile, is_row}
+use Rattle.es_visit.specs.Laws.{IsLawful, Profile, is_construct}
 use Rattle.es_visit.specs.Moments.{Moment, Pendings, below, is_inert_node, top}
 use Rattle.lower_common.specs.Stacks.{declarations_written}
 use Rattle.lower_common.specs.declared.state.TransformState.{TransformState}
 
 -- The nodes that may be written: declarations by `var` and `let` among them, and all that may stand in what is pending.
 abbrev pub MayBeWritten : Tree → Type 0
-MayBeWritten t = is_row is_inert_node t ≡ true
+MayBeWritten t = is_construct is_inert_node t ≡ true
 
 -- it writes what is pending, removes no construct and refuses nothing
 abbrev pub common_profile : Profile
 common_profile = record {
   rule = Writing;
-  rows = λ h k l fs. false;
+  constructs = λ h k l fs. false;
   makes = λ t. ⊥;
   writes = MayBeWritten;
   refuses = λ e w t. ⊥;

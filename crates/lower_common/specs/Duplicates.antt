@@ -1,10 +1,10 @@
--- What doubling an expression leaves: its first use, and so many further ones.
+-- What duplication an expression leaves: its first use, and so many further ones.
 use Rattle.std.specs.Prelude.{◌≡◌, ℕ, zero, suc, ◌+◌, ◌*◌, Bool, true, false, List, [], ◌∷◌, length}
 use Rattle.es_tree.specs.Tree.{Tree, tree_size}
 use Rattle.es_tree.specs.Words.{Text}
 use Rattle.es_scope.specs.Contexts.{steady_of, uses_of}
 use Rattle.es_scope.specs.declared.context.TraverseCtx.{TraverseCtx}
-use Rattle.es_runs.specs.Doubling.{Doubles}
+use Rattle.es_runs.specs.Duplication.{IsDuplicated}
 use Rattle.lower_common.specs.BoundNames.{binds_name}
 use Rattle.lower_common.specs.Takings.{Takes, moment_of}
 use Rattle.lower_common.specs.declared.state.TransformState.{TransformState}
@@ -24,7 +24,7 @@ repeated (suc n) t = t ∷ repeated n t
 pub record Duplicates (written_counts : Bool) (count : ℕ) (old new : TraverseCtx TransformState) (e first : Tree) (others : List Tree) : Type 0 where
   pub names : List Text
   pub again : Tree
-  pub doubles : Doubles (read_again_in written_counts old) (uses_of old) names e first again
+  pub is_duplicated : IsDuplicated (read_again_in written_counts old) (uses_of old) names e first again
   pub others_are : others ≡ repeated count again
   pub ids : ℕ
   pub takes : Takes names ids (moment_of old) (moment_of new)

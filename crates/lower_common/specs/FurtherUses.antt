@@ -1,4 +1,4 @@
--- The uses of an expression that is doubled, one after another.
+-- The uses of an expression that is duplicated, one after another.
 use Rattle.std.specs.Prelude.{◌≡◌, ℕ, ◌+◌, ◌*◌, ◌<◌, ◌≤◌, Bool, List, string_bytes}
 use Rattle.es_tree.specs.Tree.{Tree, tree_size}
 use Rattle.es_scope.specs.Contexts.{table_of}
@@ -22,7 +22,7 @@ IsKnown s ByCopy = Unit {0}
 IsKnown s (ByTemporary b) = b.symbol_id.0 < symbol_count s
 
 -- An expression with so many further uses, each of which is written like this: one more takes at most two nodes.
-pub record DoubledSoFar (written_counts : Bool) (count : ℕ) (old new : TraverseCtx TransformState) (e first : Tree) (again : Again) (others : List Tree) : Type 0 where
+pub record DuplicatedSoFar (written_counts : Bool) (count : ℕ) (old new : TraverseCtx TransformState) (e first : Tree) (again : Again) (others : List Tree) : Type 0 where
   pub duplicates : Duplicates written_counts count old new e first others
   pub again_is : duplicates.again ≡ read_by first again
   pub small : tree_size (read_by first again) ≤ 2

@@ -5,7 +5,7 @@ use Rattle.es_scope.specs.Contexts.{KeepsNames, KeptBeside, Refers, bound_of, st
 use Rattle.es_scope.specs.declared.context.TraverseCtx.{TraverseCtx}
 use Rattle.es_scope.specs.declared.flags.ReferenceFlags.{ReferenceFlags}
 use Rattle.es_runs.specs.Open.{with_vars}
-use Rattle.es_runs.specs.Steps.{also_all}
+use Rattle.es_runs.specs.NullishCoalescing.{also_all}
 use Rattle.es_visit.specs.Moments.{Moment, moment}
 use Rattle.lower_common.specs.CommonLaws.{pending_of}
 use Rattle.lower_common.specs.Stacks.{with_top}

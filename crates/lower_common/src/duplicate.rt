@@ -1,4 +1,4 @@
-//! Doubling: an expression that is read more than once. What gives the same each time is written down again,
+//! Duplication: an expression that is read more than once. What gives the same each time is written down again,
 //! and all else takes a temporary, to which its first use assigns it.
 //!
 //! The expression goes in by value. What comes out is the expression at its first use, and as many further
@@ -10,9 +10,9 @@ ghost use Rattle.es_tree.specs.Fresh.{IsFreshName};
 ghost use Rattle.es_tree.specs.Tree.{tree_size};
 ghost use Rattle.es_scope.specs.Contexts.{table_of, uses_of};
 ghost use Rattle.es_scope.specs.Tables.{symbol_count};
-ghost use Rattle.es_runs.specs.Doubling.{doubled_base};
+ghost use Rattle.es_runs.specs.Duplication.{duplicate_base};
 ghost use Rattle.lower_common.specs.Duplicates.{Duplicates};
-ghost use Rattle.lower_common.specs.FurtherUses.{DoubledSoFar, IsKnown, read_by};
+ghost use Rattle.lower_common.specs.FurtherUses.{DuplicatedSoFar, IsKnown, read_by};
 ghost use Rattle.lower_common.specs.Takings.{ReadsMore};
 ghost use Rattle.lower_common.specs.UidVars.{DeclaresVar};
 
@@ -49,7 +49,7 @@ pub fn duplicate_expression(
 ) -> Result<(Expression, Expression), AllocError>
     requires there { 0 < length ctx.old.state.var_declarations }
     requires room { ctx.old.ast.next + 6 < 2 ^ 32 - 1 }
-    ensures doubled { IfOk result (λ r. Duplicates mutated_symbol_needs_temp_var 1 ctx.old ctx.new (bare expression) (bare r.0) (bare r.1 ∷ [])) }
+    ensures duplicated { IfOk result (λ r. Duplicates mutated_symbol_needs_temp_var 1 ctx.old ctx.new (bare expression) (bare r.0) (bare r.1 ∷ [])) }
 {
     let (first, again) = first_use(expression, mutated_symbol_needs_temp_var, ctx)?;
     let second = further_use(&first, &again, ctx)?;
@@ -65,7 +65,7 @@ pub fn duplicate_expression_twice(
 ) -> Result<(Expression, Expression, Expression), AllocError>
     requires there { 0 < length ctx.old.state.var_declarations }
     requires room { ctx.old.ast.next + 8 < 2 ^ 32 - 1 }
-    ensures doubled { IfOk result (λ r. Duplicates mutated_symbol_needs_temp_var 2 ctx.old ctx.new (bare expression) (bare r.0) (bare r.1 ∷ bare r.2 ∷ [])) }
+    ensures duplicated { IfOk result (λ r. Duplicates mutated_symbol_needs_temp_var 2 ctx.old ctx.new (bare expression) (bare r.0) (bare r.1 ∷ bare r.2 ∷ [])) }
 {
     let (first, again) = first_use(expression, mutated_symbol_needs_temp_var, ctx)?;
     let second = further_use(&first, &again, ctx)?;
@@ -82,7 +82,7 @@ pub fn duplicate_expression_multiple<const N: usize>(
 ) -> Result<(Expression, Vec<Expression>), AllocError>
     requires there { 0 < length ctx.old.state.var_declarations }
     requires room { ctx.old.ast.next + 2 * N + 4 < 2 ^ 32 - 1 }
-    ensures doubled { IfOk result (λ r. Duplicates mutated_symbol_needs_temp_var N ctx.old ctx.new (bare expression) (bare r.0) (map bare r.1.items)) }
+    ensures duplicated { IfOk result (λ r. Duplicates mutated_symbol_needs_temp_var N ctx.old ctx.new (bare expression) (bare r.0) (map bare r.1.items)) }
 {
     let (first, again) = first_use(expression, mutated_symbol_needs_temp_var, ctx)?;
     let mut others = Vec::with_capacity(ctx.ast.alloc, N)?;
@@ -100,7 +100,7 @@ fn first_use(
 ) -> Result<(Expression, Again), AllocError>
     requires there { 0 < length ctx.old.state.var_declarations }
     requires room { ctx.old.ast.next + 4 < 2 ^ 32 - 1 }
-    ensures begun { IfOk result (λ r. DoubledSoFar mutated_symbol_needs_temp_var 0 ctx.old ctx.new (bare expression) (bare r.0) r.1 []) }
+    ensures begun { IfOk result (λ r. DuplicatedSoFar mutated_symbol_needs_temp_var 0 ctx.old ctx.new (bare expression) (bare r.0) r.1 []) }
 {
     if is_read_again(&expression, mutated_symbol_needs_temp_var, ctx) {
         return Ok((expression, Again::ByCopy));
@@ -121,7 +121,7 @@ fn create_temporary(
 ) -> Result<BoundIdentifier, AllocError>
     requires there { 0 < length ctx.old.state.var_declarations }
     requires room { ctx.old.ast.next + 2 < 2 ^ 32 }
-    ensures fresh { IfOk result (λ b. IsFreshName (uses_of ctx.old) (doubled_base expression.now) (string_bytes b.name)) }
+    ensures fresh { IfOk result (λ b. IsFreshName (uses_of ctx.old) (duplicate_base expression.now) (string_bytes b.name)) }
     ensures declared { IfOk result (λ b. DeclaresVar ctx.old ctx.new (string_bytes b.name)) }
     ensures symbol { IfOk result (λ b. b.symbol_id.0 ≡ symbol_count (table_of ctx.old)) }
 {

@@ -6,7 +6,7 @@ ghost use Rattle.es_tree.specs.Tree.{◌then◌, done, many, tree_size, trees};
 ghost use Rattle.es_tree.specs.Views.{plain_fields};
 ghost use Rattle.es_scope.specs.Contexts.{steady_of, table_of};
 ghost use Rattle.es_scope.specs.Tables.{binding_in, symbol_count};
-ghost use Rattle.es_runs.specs.Doubling.{is_plain_template, is_read_again};
+ghost use Rattle.es_runs.specs.Duplication.{is_plain_template, is_read_again};
 ghost use Rattle.lower_common.specs.BoundNames.{binds_name};
 ghost use Rattle.lower_common.specs.Duplicates.{read_again_in};
 ghost use Rattle.lower_common.specs.TemplateParts.{is_cooked_part};

@@ -17,24 +17,24 @@ use Rattle.es_runs.specs.Alike.{Need}
 use Rattle.es_runs.specs.Exponentiation.{ExponentiationRule, TargetTwice}
 use Rattle.es_runs.specs.Exponentiation.ExponentiationRule.{power, power_assignment}
 use Rattle.es_runs.specs.Exponentiation.TargetTwice.{bound_name, other_name, static_member, private_member, literal_key, other_key}
-use Rattle.es_runs.specs.LogicalAssignment.{LogicalAssignmentRule, is_assigning}
+use Rattle.es_runs.specs.LogicalAssignment.{LogicalAssignmentRule, is_logical_assignment_operator}
 use Rattle.es_runs.specs.LogicalAssignment.LogicalAssignmentRule.{to_name, to_static_member, to_computed_member}
 use Rattle.es_runs.specs.Open.{Pending, nothing_pending, written}
 use Rattle.es_runs.specs.OpenSteps.{Ledger, Spot, Whole, at_node, at_list}
-use Rattle.es_runs.specs.OpenRules.{Assigning, Chaining, Coalescing, Raising, Replacing, Writing, rule_under, where_on}
+use Rattle.es_runs.specs.OpenRules.{OpenLogicalAssignment, OpenOptionalChaining, OpenNullishCoalescing, OpenExponentiation, Replacing, Writing, rule_under, where_on}
 use Rattle.es_runs.specs.OpenRules.Replacing.{replaces}
-use Rattle.es_runs.specs.OpenRules.raising_row.{raises}
+use Rattle.es_runs.specs.OpenRules.exponentiation_rule.{raises}
 use Rattle.es_runs.specs.OpenRules.Writing.{writes}
 use Rattle.es_runs.specs.OptionalChaining.{OptionalChainingRule, is_chain_kind}
 use Rattle.es_runs.specs.OptionalChaining.OptionalChainingRule.{by_tests, as_callee, in_delete}
-use Rattle.es_runs.specs.Steps.{NullishRule}
-use Rattle.es_runs.specs.Steps.NullishRule.{with_temporary, reading_again}
+use Rattle.es_runs.specs.NullishCoalescing.{NullishCoalescingRule}
+use Rattle.es_runs.specs.NullishCoalescing.NullishCoalescingRule.{with_temporary, reading_again}
 use Rattle.es_runs.proofs.Named.{and_left, and_right, or_both, or_first, or_second}
 use Rattle.es_runs.proofs.RowFacts.{below_parens}
 use Rattle.es_runs.proofs.Stripped.{stripped_core}
-use Rattle.es_visit.specs.Laws.{is_row}
-use Rattle.lower_editions.specs.Assignings.{is_doubled_target, is_lowerable_assignment}
-use Rattle.lower_editions.specs.Powers.{is_lowerable_power, is_power_target}
+use Rattle.es_visit.specs.Laws.{is_construct}
+use Rattle.lower_editions.specs.LogicalAssignments.{is_duplicated_target, is_lowerable_logical_assignment}
+use Rattle.lower_editions.specs.Exponentiations.{is_lowerable_exponentiation, is_exponentiation_target}
 use Rattle.lower_editions.proofs.BareNodes.{assignment-bare, power-bare}
 use Rattle.lower_common.proofs.Parenthesized.{without_parens-bare}
 use Rattle.lower_driver.proofs.Built.{has_built_construct, is_built_construct}
@@ -47,22 +47,22 @@ use Rattle.lower_driver.proofs.Walked.{none_follows}
 by_text : (P : Text → Bool) (m : Label) (x : Text) → m.texts ≡ Some x ∷ [] → P x ≡ true → P (first_text m.texts) ≡ true
 by_text P m x e h = ap (λ texts. P (first_text texts)) e ∙ h
 
-coalescing_acts : {steady in_use : Text → Bool} {xs : List Text} {n : Need} {t u : Tree} → NullishRule steady in_use xs n t u → is_row is_nullish_coalescing t ≡ true
-coalescing_acts (with_temporary {m = m} texts again fresh) = by_text (λ x. bytes_eq x (codes "??")) m (codes "??") texts refl
-coalescing_acts (reading_again {m = m} texts again) = by_text (λ x. bytes_eq x (codes "??")) m (codes "??") texts refl
+nullish_coalescing_acts : {steady in_use : Text → Bool} {xs : List Text} {n : Need} {t u : Tree} → NullishCoalescingRule steady in_use xs n t u → is_construct is_nullish_coalescing t ≡ true
+nullish_coalescing_acts (with_temporary {m = m} texts again fresh) = by_text (λ x. bytes_eq x (codes "??")) m (codes "??") texts refl
+nullish_coalescing_acts (reading_again {m = m} texts again) = by_text (λ x. bytes_eq x (codes "??")) m (codes "??") texts refl
 
 -- the target of an assignment
-at_target : (m : Label) (t s : Tree) (op : Text) → m.texts ≡ Some op ∷ [] → is_assigning op ≡ true → without_parens t ≡ s → is_doubled_target s ≡ true → (is_assigning (first_text m.texts) && is_doubled_target (without_parens t)) ≡ true
-at_target m t s op texts assigning target doubled = and_from (is_assigning (first_text m.texts)) (is_doubled_target (without_parens t)) (by_text is_assigning m op texts assigning) (ap is_doubled_target target ∙ doubled)
+at_target : (m : Label) (t s : Tree) (op : Text) → m.texts ≡ Some op ∷ [] → is_logical_assignment_operator op ≡ true → without_parens t ≡ s → is_duplicated_target s ≡ true → (is_logical_assignment_operator (first_text m.texts) && is_duplicated_target (without_parens t)) ≡ true
+at_target m t s op texts assigning target duplicated = and_from (is_logical_assignment_operator (first_text m.texts)) (is_duplicated_target (without_parens t)) (by_text is_logical_assignment_operator m op texts assigning) (ap is_duplicated_target target ∙ duplicated)
 
-assignment_acts : {steady in_use : Text → Bool} {xs : List Text} {n : Need} {t u : Tree} → LogicalAssignmentRule steady in_use xs n t u → is_row is_lowerable_assignment t ≡ true
+assignment_acts : {steady in_use : Text → Bool} {xs : List Text} {n : Need} {t u : Tree} → LogicalAssignmentRule steady in_use xs n t u → is_construct is_lowerable_logical_assignment t ≡ true
 assignment_acts (to_name {m = m} {l = l} {t = t} {op = op} texts assigning target) = at_target m t (node Identifier l done) op texts assigning target refl
 assignment_acts (to_static_member {m = m} {l = l} {k = k} {t = t} {o = o} {op = op} texts assigning target flags object) =
     at_target m t (node MemberExpression l (one o then (one (node Identifier k done) then done))) op texts assigning target (rw flags refl)
 assignment_acts (to_computed_member {m = m} {l = l} {t = t} {o = o} {k = k} {op = op} texts assigning target flags object key) =
     at_target m t (node MemberExpression l (one o then (one k then done))) op texts assigning target (rw flags refl)
 
-target_lowerable : {bound in_use : Text → Bool} {xs : List Text} {fs : List Tree} {s target read : Tree} → TargetTwice bound in_use xs fs s target read → is_power_target s ≡ true
+target_lowerable : {bound in_use : Text → Bool} {xs : List Text} {fs : List Tree} {s target read : Tree} → TargetTwice bound in_use xs fs s target read → is_exponentiation_target s ≡ true
 target_lowerable (bound_name h) = refl
 target_lowerable (other_name unbound fresh) = refl
 target_lowerable (static_member flags object) = rw flags refl
@@ -70,12 +70,12 @@ target_lowerable (private_member flags object) = rw flags refl
 target_lowerable (literal_key flags key object) = rw flags refl
 target_lowerable (other_key flags key object fresh) = rw flags refl
 
-pub power_acts : {bound in_use : Text → Bool} {xs : List Text} {n : Need} {t u : Tree} → ExponentiationRule bound in_use xs n t u → is_row is_lowerable_power t ≡ true
-power_acts (power {m = m} {l = l} {r = r} texts left right) =
+pub exponentiation_acts : {bound in_use : Text → Bool} {xs : List Text} {n : Need} {t u : Tree} → ExponentiationRule bound in_use xs n t u → is_construct is_lowerable_exponentiation t ≡ true
+exponentiation_acts (power {m = m} {l = l} {r = r} texts left right) =
     and_from (bytes_eq (first_text m.texts) (codes "**") && not (is_big_int (kind_of l))) (not (is_big_int (kind_of r)))
     (and_from (bytes_eq (first_text m.texts) (codes "**")) (not (is_big_int (kind_of l))) (by_text (λ x. bytes_eq x (codes "**")) m (codes "**") texts refl) (ap not left)) (ap not right)
-power_acts (power_assignment {m = m} {t = t} {r = r} texts right target) =
-    and_from (bytes_eq (first_text m.texts) (codes "**=") && not (is_big_int (kind_of r))) (is_power_target (without_parens t))
+exponentiation_acts (power_assignment {m = m} {t = t} {r = r} texts right target) =
+    and_from (bytes_eq (first_text m.texts) (codes "**=") && not (is_big_int (kind_of r))) (is_exponentiation_target (without_parens t))
     (and_from (bytes_eq (first_text m.texts) (codes "**=")) (not (is_big_int (kind_of r))) (by_text (λ x. bytes_eq x (codes "**=")) m (codes "**=") texts refl) (ap not right)) (target_lowerable target)
 
 -- a chain, and a unary operator on one, as `delete`
@@ -84,10 +84,10 @@ is_chained ChainExpression l fs = true
 is_chained UnaryExpression l (one t then fs) = is_chain_kind (kind_of (without_parens t))
 is_chained _ l fs = false
 
-chaining_acts : {no_all : Bool} {bound steady in_use : Text → Bool} {xs : List Text} {n : Need} {t u : Tree} → OptionalChainingRule no_all bound steady in_use xs n t u → is_row is_chained t ≡ true
-chaining_acts (by_tests level walked tested) = refl
-chaining_acts (as_callee level walked tested callee) = refl
-chaining_acts (in_delete texts chain walked tested) = ap (λ s. is_chain_kind (kind_of s)) chain
+optional_chaining_acts : {no_all : Bool} {bound steady in_use : Text → Bool} {xs : List Text} {n : Need} {t u : Tree} → OptionalChainingRule no_all bound steady in_use xs n t u → is_construct is_chained t ≡ true
+optional_chaining_acts (by_tests level walked tested) = refl
+optional_chaining_acts (as_callee level walked tested callee) = refl
+optional_chaining_acts (in_delete texts chain walked tested) = ap (λ s. is_chain_kind (kind_of s)) chain
 
 -- THE RULES THAT OPTIONS ASK FOR
 
@@ -99,10 +99,10 @@ where_it_is_on false R n s x s' y r = absurd r
 -- the nodes at which they act
 abbrev pub is_acted_on : EnvOptions → AstType → Label → Fields → Bool
 is_acted_on o k l fs =
-    (o.es2021.logical_assignment_operators && is_lowerable_assignment k l fs)
+    (o.es2021.logical_assignment_operators && is_lowerable_logical_assignment k l fs)
     || (o.es2020.nullish_coalescing_operator && is_nullish_coalescing k l fs)
     || (o.es2020.optional_chaining && is_chained k l fs)
-    || (o.es2016.exponentiation_operator && is_lowerable_power k l fs)
+    || (o.es2016.exponentiation_operator && is_lowerable_exponentiation k l fs)
 
 or_left : (a b : Bool) → a ≡ true → (a || b) ≡ true
 or_left a b e = rw e refl
@@ -118,17 +118,17 @@ writing_lists n s s' p q ts us (writes) h = (refl, refl, ap (λ o. written o ts)
 no_list : {R : Whole → List Text → Need → Tree → Tree → Type 0} (n : Need) (s s' : Ledger) (p q : Pending) (ts us : Trees) → Replacing R n s (at_list p ts) s' (at_list q us) → ⊥
 no_list n s s' p q ts us r = elim r [ ]
 
-assigning_nodes : (n : Need) (s s' : Ledger) (t u : Tree) → Assigning n s (at_node t) s' (at_node u) → is_row is_lowerable_assignment t ≡ true
-assigning_nodes n _ _ t u (replaces xs r) = assignment_acts r
+logical_assignment_nodes : (n : Need) (s s' : Ledger) (t u : Tree) → OpenLogicalAssignment n s (at_node t) s' (at_node u) → is_construct is_lowerable_logical_assignment t ≡ true
+logical_assignment_nodes n _ _ t u (replaces xs r) = assignment_acts r
 
-coalescing_nodes : (n : Need) (s s' : Ledger) (t u : Tree) → Coalescing n s (at_node t) s' (at_node u) → is_row is_nullish_coalescing t ≡ true
-coalescing_nodes n _ _ t u (replaces xs r) = coalescing_acts r
+nullish_coalescing_nodes : (n : Need) (s s' : Ledger) (t u : Tree) → OpenNullishCoalescing n s (at_node t) s' (at_node u) → is_construct is_nullish_coalescing t ≡ true
+nullish_coalescing_nodes n _ _ t u (replaces xs r) = nullish_coalescing_acts r
 
-chaining_nodes : (no_all : Bool) (n : Need) (s s' : Ledger) (t u : Tree) → Chaining no_all n s (at_node t) s' (at_node u) → is_row is_chained t ≡ true
-chaining_nodes no_all n _ _ t u (replaces xs r) = chaining_acts r
+optional_chaining_nodes : (no_all : Bool) (n : Need) (s s' : Ledger) (t u : Tree) → OpenOptionalChaining no_all n s (at_node t) s' (at_node u) → is_construct is_chained t ≡ true
+optional_chaining_nodes no_all n _ _ t u (replaces xs r) = optional_chaining_acts r
 
-raising_nodes : (n : Need) (s s' : Ledger) (t u : Tree) → Raising n s (at_node t) s' (at_node u) → is_row is_lowerable_power t ≡ true
-raising_nodes n _ _ t u (replaces xs (raises free r)) = power_acts r
+exponentiation_nodes : (n : Need) (s s' : Ledger) (t u : Tree) → OpenExponentiation n s (at_node t) s' (at_node u) → is_construct is_lowerable_exponentiation t ≡ true
+exponentiation_nodes n _ _ t u (replaces xs (raises free r)) = exponentiation_acts r
 
 -- where a setting is on
 pub less_where_on : (on a b : Bool) → (a ≡ false → b ≡ false) → (on && a) ≡ false → (on && b) ≡ false
@@ -159,38 +159,38 @@ module _ (a b c d : Bool) where
 module _ (o : EnvOptions) where
   -- the four tests of the nodes at which rules act
   abbrev is_assigned : Tree → Bool
-  is_assigned t = o.es2021.logical_assignment_operators && is_row is_lowerable_assignment t
+  is_assigned t = o.es2021.logical_assignment_operators && is_construct is_lowerable_logical_assignment t
 
   abbrev is_coalesced : Tree → Bool
-  is_coalesced t = o.es2020.nullish_coalescing_operator && is_row is_nullish_coalescing t
+  is_coalesced t = o.es2020.nullish_coalescing_operator && is_construct is_nullish_coalescing t
 
   abbrev is_opened : Tree → Bool
-  is_opened t = o.es2020.optional_chaining && is_row is_chained t
+  is_opened t = o.es2020.optional_chaining && is_construct is_chained t
 
   abbrev is_raised : Tree → Bool
-  is_raised t = o.es2016.exponentiation_operator && is_row is_lowerable_power t
+  is_raised t = o.es2016.exponentiation_operator && is_construct is_lowerable_exponentiation t
 
-  acting_nodes : (n : Need) (s s' : Ledger) (t u : Tree) → rule_under o n s (at_node t) s' (at_node u) → is_row (is_acted_on o) t ≡ true
+  acting_nodes : (n : Need) (s s' : Ledger) (t u : Tree) → rule_under o n s (at_node t) s' (at_node u) → is_construct (is_acted_on o) t ≡ true
   acting_nodes n s s' t u (inl r) = elim r [ ]
   acting_nodes n s s' t u (inr (inl r)) =
-      let on = where_it_is_on o.es2021.logical_assignment_operators Assigning n s (at_node t) s' (at_node u) r in
-      by_first (is_assigned t) (is_coalesced t) (is_opened t) (is_raised t) (and_from o.es2021.logical_assignment_operators (is_row is_lowerable_assignment t) on.0 (assigning_nodes n s s' t u on.1))
+      let on = where_it_is_on o.es2021.logical_assignment_operators OpenLogicalAssignment n s (at_node t) s' (at_node u) r in
+      by_first (is_assigned t) (is_coalesced t) (is_opened t) (is_raised t) (and_from o.es2021.logical_assignment_operators (is_construct is_lowerable_logical_assignment t) on.0 (logical_assignment_nodes n s s' t u on.1))
   acting_nodes n s s' t u (inr (inr (inl (inl r)))) =
-      let on = where_it_is_on o.es2020.nullish_coalescing_operator Coalescing n s (at_node t) s' (at_node u) r in
-      by_second (is_assigned t) (is_coalesced t) (is_opened t) (is_raised t) (and_from o.es2020.nullish_coalescing_operator (is_row is_nullish_coalescing t) on.0 (coalescing_nodes n s s' t u on.1))
+      let on = where_it_is_on o.es2020.nullish_coalescing_operator OpenNullishCoalescing n s (at_node t) s' (at_node u) r in
+      by_second (is_assigned t) (is_coalesced t) (is_opened t) (is_raised t) (and_from o.es2020.nullish_coalescing_operator (is_construct is_nullish_coalescing t) on.0 (nullish_coalescing_nodes n s s' t u on.1))
   acting_nodes n s s' t u (inr (inr (inl (inr r)))) =
-      let on = where_it_is_on o.es2020.optional_chaining (Chaining o.assumptions.no_document_all) n s (at_node t) s' (at_node u) r in
-      by_third (is_assigned t) (is_coalesced t) (is_opened t) (is_raised t) (and_from o.es2020.optional_chaining (is_row is_chained t) on.0 (chaining_nodes o.assumptions.no_document_all n s s' t u on.1))
+      let on = where_it_is_on o.es2020.optional_chaining (OpenOptionalChaining o.assumptions.no_document_all) n s (at_node t) s' (at_node u) r in
+      by_third (is_assigned t) (is_coalesced t) (is_opened t) (is_raised t) (and_from o.es2020.optional_chaining (is_construct is_chained t) on.0 (optional_chaining_nodes o.assumptions.no_document_all n s s' t u on.1))
   acting_nodes n s s' t u (inr (inr (inr r))) =
-      let on = where_it_is_on o.es2016.exponentiation_operator Raising n s (at_node t) s' (at_node u) r in
-      by_fourth (is_assigned t) (is_coalesced t) (is_opened t) (is_raised t) (and_from o.es2016.exponentiation_operator (is_row is_lowerable_power t) on.0 (raising_nodes n s s' t u on.1))
+      let on = where_it_is_on o.es2016.exponentiation_operator OpenExponentiation n s (at_node t) s' (at_node u) r in
+      by_fourth (is_assigned t) (is_coalesced t) (is_opened t) (is_raised t) (and_from o.es2016.exponentiation_operator (is_construct is_lowerable_exponentiation t) on.0 (exponentiation_nodes n s s' t u on.1))
 
   acting_lists : (n : Need) (s s' : Ledger) (p q : Pending) (ts us : Trees) → rule_under o n s (at_list p ts) s' (at_list q us) → p ≡ nothing_pending → (s' ≡ s) × (q ≡ nothing_pending) × (us ≡ ts)
   acting_lists n s s' p q ts us (inl r) h = writing_lists n s s' p q ts us r h
-  acting_lists n s s' p q ts us (inr (inl r)) h = absurd (no_list n s s' p q ts us (where_it_is_on o.es2021.logical_assignment_operators Assigning n s (at_list p ts) s' (at_list q us) r).1)
-  acting_lists n s s' p q ts us (inr (inr (inl (inl r)))) h = absurd (no_list n s s' p q ts us (where_it_is_on o.es2020.nullish_coalescing_operator Coalescing n s (at_list p ts) s' (at_list q us) r).1)
-  acting_lists n s s' p q ts us (inr (inr (inl (inr r)))) h = absurd (no_list n s s' p q ts us (where_it_is_on o.es2020.optional_chaining (Chaining o.assumptions.no_document_all) n s (at_list p ts) s' (at_list q us) r).1)
-  acting_lists n s s' p q ts us (inr (inr (inr r))) h = absurd (no_list n s s' p q ts us (where_it_is_on o.es2016.exponentiation_operator Raising n s (at_list p ts) s' (at_list q us) r).1)
+  acting_lists n s s' p q ts us (inr (inl r)) h = absurd (no_list n s s' p q ts us (where_it_is_on o.es2021.logical_assignment_operators OpenLogicalAssignment n s (at_list p ts) s' (at_list q us) r).1)
+  acting_lists n s s' p q ts us (inr (inr (inl (inl r)))) h = absurd (no_list n s s' p q ts us (where_it_is_on o.es2020.nullish_coalescing_operator OpenNullishCoalescing n s (at_list p ts) s' (at_list q us) r).1)
+  acting_lists n s s' p q ts us (inr (inr (inl (inr r)))) h = absurd (no_list n s s' p q ts us (where_it_is_on o.es2020.optional_chaining (OpenOptionalChaining o.assumptions.no_document_all) n s (at_list p ts) s' (at_list q us) r).1)
+  acting_lists n s s' p q ts us (inr (inr (inr r))) h = absurd (no_list n s s' p q ts us (where_it_is_on o.es2016.exponentiation_operator OpenExponentiation n s (at_list p ts) s' (at_list q us) r).1)
 
   pub acting_idle : IsIdle (is_acted_on o) (rule_under o)
   acting_idle = record { nodes = acting_nodes; lists = acting_lists }
@@ -235,27 +235,27 @@ not_left false b h g = refl
 also_less : (a b : Bool) → a ≡ false → (a && b) ≡ false
 also_less a b h = rw h refl
 
-no_assignment : (k : AstType) (l : Label) (fs : Fields) → all_in_fields is_core_node fs ≡ true → is_logical_assignment k l fs ≡ false → is_lowerable_assignment k l fs ≡ false
+no_assignment : (k : AstType) (l : Label) (fs : Fields) → all_in_fields is_core_node fs ≡ true → is_logical_assignment k l fs ≡ false → is_lowerable_logical_assignment k l fs ≡ false
 no_assignment AssignmentExpression l (one t then (one r then done)) core h =
     let public : is_private_member (kind_of (without_parens t)) (fields_of (without_parens t)) ≡ false = core_public (without_parens t) (stripped_core t (and_left (all_nodes is_core_node t) (all_nodes is_core_node r && true) core)) in
-    let none = not_left (is_assigning (first_text l.texts)) (not (is_private_member (kind_of (without_parens t)) (fields_of (without_parens t)))) (ap not public) h in
-    ap (λ b. b && is_doubled_target (without_parens t)) none
+    let none = not_left (is_logical_assignment_operator (first_text l.texts)) (not (is_private_member (kind_of (without_parens t)) (fields_of (without_parens t)))) (ap not public) h in
+    ap (λ b. b && is_duplicated_target (without_parens t)) none
 no_assignment AssignmentExpression l _ core h = refl
 no_assignment _ l fs core h = refl
 
-no_power : (k : AstType) (l : Label) (fs : Fields) → is_exponentiation k l fs ≡ false → is_lowerable_power k l fs ≡ false
-no_power BinaryExpression l (one a then (one b then done)) h = h
-no_power BinaryExpression l _ h = refl
-no_power AssignmentExpression l (one t then (one r then done)) h = also_less (bytes_eq (first_text l.texts) (codes "**=") && not (is_big_int (kind_of r))) (is_power_target (without_parens t)) h
-no_power AssignmentExpression l _ h = refl
-no_power _ l fs h = refl
+no_exponentiation : (k : AstType) (l : Label) (fs : Fields) → is_exponentiation k l fs ≡ false → is_lowerable_exponentiation k l fs ≡ false
+no_exponentiation BinaryExpression l (one a then (one b then done)) h = h
+no_exponentiation BinaryExpression l _ h = refl
+no_exponentiation AssignmentExpression l (one t then (one r then done)) h = also_less (bytes_eq (first_text l.texts) (codes "**=") && not (is_big_int (kind_of r))) (is_exponentiation_target (without_parens t)) h
+no_exponentiation AssignmentExpression l _ h = refl
+no_exponentiation _ l fs h = refl
 
 -- where no node passes a test, the node itself doesn't
-own_fails : (test : AstType → Label → Fields → Bool) (t : Tree) → any_node test t ≡ false → is_row test t ≡ false
+own_fails : (test : AstType → Label → Fields → Bool) (t : Tree) → any_node test t ≡ false → is_construct test t ≡ false
 own_fails test (node k l fs) h = or_first (test k l fs) (any_in_fields test fs) h
 
 -- nor what stands below its parentheses
-below_fails : (test : AstType → Label → Fields → Bool) (t : Tree) → any_node test t ≡ false → is_row test (without_parens t) ≡ false
+below_fails : (test : AstType → Label → Fields → Bool) (t : Tree) → any_node test t ≡ false → is_construct test (without_parens t) ≡ false
 below_fails test t h = own_fails test (without_parens t) (below_parens (λ s. any_node test s ≡ false) inside t h)
   where
     inside : (l : Label) (s : Tree) (fs : Fields) → any_node test (node ParenthesizedExpression l (one s then fs)) ≡ false → any_node test s ≡ false
@@ -275,7 +275,7 @@ module _ (o : EnvOptions) where
       let d = o.es2016.exponentiation_operator && is_exponentiation k l fs in
       ap (λ x. o.es2020.optional_chaining && x) (sym (chain_kind k l fs)) ∙ or_second (a || b) c (or_first (a || b || c) d h)
 
-  own_chain : (t : Tree) → is_row (is_built_construct o) t ≡ false → (o.es2020.optional_chaining && is_chain_kind (kind_of t)) ≡ false
+  own_chain : (t : Tree) → is_construct (is_built_construct o) t ≡ false → (o.es2020.optional_chaining && is_chain_kind (kind_of t)) ≡ false
   own_chain (node k l fs) h = no_built_chain k l fs h
 
   no_chained : (k : AstType) (l : Label) (fs : Fields) → any_in_fields (is_built_construct o) fs ≡ false → (o.es2020.optional_chaining && is_chain k l fs) ≡ false → (o.es2020.optional_chaining && is_chained k l fs) ≡ false
@@ -286,9 +286,9 @@ module _ (o : EnvOptions) where
   none_acted_on : (k : AstType) (l : Label) (fs : Fields) → is_core_node k l fs ≡ true → all_in_fields is_core_node fs ≡ true → is_built_construct o k l fs ≡ false → any_in_fields (is_built_construct o) fs ≡ false → is_acted_on o k l fs ≡ false
   none_acted_on k l fs own core h below =
       less (o.es2021.logical_assignment_operators && is_logical_assignment k l fs) (o.es2020.nullish_coalescing_operator && is_nullish_coalescing k l fs) (o.es2020.optional_chaining && is_chain k l fs) (o.es2016.exponentiation_operator && is_exponentiation k l fs)
-      (o.es2021.logical_assignment_operators && is_lowerable_assignment k l fs) (o.es2020.nullish_coalescing_operator && is_nullish_coalescing k l fs) (o.es2020.optional_chaining && is_chained k l fs) (o.es2016.exponentiation_operator && is_lowerable_power k l fs)
-      (less_where_on o.es2021.logical_assignment_operators (is_logical_assignment k l fs) (is_lowerable_assignment k l fs) (no_assignment k l fs core)) (λ e. e) (no_chained k l fs below)
-      (less_where_on o.es2016.exponentiation_operator (is_exponentiation k l fs) (is_lowerable_power k l fs) (no_power k l fs)) h
+      (o.es2021.logical_assignment_operators && is_lowerable_logical_assignment k l fs) (o.es2020.nullish_coalescing_operator && is_nullish_coalescing k l fs) (o.es2020.optional_chaining && is_chained k l fs) (o.es2016.exponentiation_operator && is_lowerable_exponentiation k l fs)
+      (less_where_on o.es2021.logical_assignment_operators (is_logical_assignment k l fs) (is_lowerable_logical_assignment k l fs) (no_assignment k l fs core)) (λ e. e) (no_chained k l fs below)
+      (less_where_on o.es2016.exponentiation_operator (is_exponentiation k l fs) (is_lowerable_exponentiation k l fs) (no_exponentiation k l fs)) h
 
   -- where a core program has no construct, no rule acts at any of its nodes
   pub none_acts : (p : Tree) → all_nodes is_core_node p ≡ true → has_built_construct o p ≡ false → any_node (is_acted_on o) p ≡ false

@@ -5,12 +5,12 @@ pub mod Canonical
 pub mod Acting
 pub mod Rules
 pub mod MathUnbound
-pub mod NoPowers
+pub mod NoExponentiations
 pub mod NoRefusals
 pub mod Causes
 pub mod TableNames
 pub mod Marked
-pub mod Shapes
+pub mod UnsupportedPrograms
 pub mod Contexts
 pub mod OpenedProgram
 pub mod NoneLeft

@@ -25,16 +25,16 @@ use Rattle.es_runs.proofs.BareTrees.{all-bare}
 use Rattle.es_runs.proofs.Named.{and_left, and_right}
 use Rattle.es_runs.proofs.OpenTests.{all-opened, open_all, open_all_fields, open_all_field, open_all_trees, pending_all}
 use Rattle.es_visit.specs.Changes.{open_program}
-use Rattle.es_visit.specs.Laws.{is_row}
+use Rattle.es_visit.specs.Laws.{is_construct}
 use Rattle.es_visit.specs.Moments.{Moment, top, whole_at}
 use Rattle.es_visit.specs.Refusals.{SomeNode, SomeInFields, SomeInField, SomeInTrees, RefusedProgram}
 use Rattle.es_visit.specs.Starts.{IsStart}
-use Rattle.lower_editions.specs.Powers.{is_lowerable_power}
+use Rattle.lower_editions.specs.Exponentiations.{is_lowerable_exponentiation}
 use Rattle.lower_editions.proofs.BareNodes.{power-bare}
-use Rattle.lower_driver.specs.Shapes.{first_math_bound}
+use Rattle.lower_driver.specs.UnsupportedPrograms.{first_math_bound}
 use Rattle.lower_driver.specs.Visits.{visit_profile}
 use Rattle.lower_driver.proofs.MathUnbound.{MathUnbound, still_unbound}
-use Rattle.lower_driver.proofs.NoPowers.{no_power, still_powerless}
+use Rattle.lower_driver.proofs.NoExponentiations.{no_exponentiation, still_powerless}
 use Rattle.lower_driver.proofs.Rules.{rule_core, steps_under}
 
 -- SOME NODE
@@ -43,7 +43,7 @@ use Rattle.lower_driver.proofs.Rules.{rule_core, steps_under}
 record Found (test : AstType → Label → Fields → Bool) (P : Tree → Type 0) (part : Bool) : Type 0 where
   tree : Tree
   there : P tree
-  passes : part ≡ true → is_row test tree ≡ true
+  passes : part ≡ true → is_construct test tree ≡ true
 
 module _ (test : AstType → Label → Fields → Bool) (P : Tree → Type 0) where
   mutual
@@ -72,7 +72,7 @@ module _ (test : AstType → Label → Fields → Bool) (P : Tree → Type 0) wh
 -- only exponentiation refuses: where it is on, at a node that it lowers, where `Math` is bound
 record Refusing (o : EnvOptions) (w : Whole) (t : Tree) : Type 0 where
   on : o.es2016.exponentiation_operator ≡ true
-  lowered : is_row is_lowerable_power t ≡ true
+  lowered : is_construct is_lowerable_exponentiation t ≡ true
   bound : is_bound_in w (codes "Math") ≡ true
 
 refusing : (o : EnvOptions) (e : LowerError) (w : Whole) (t : Tree) → (visit_profile o).refuses e w t → Refusing o w t
@@ -84,17 +84,17 @@ refusing o e w t (inr (inr (inr h))) = record { on = h.0; lowered = h.1.1; bound
 
 -- WHERE THE SOURCE HAS NO SUCH NODE
 
-power_kept-bare : (k : AstType) (l : Label) (fs : Fields) → no_power k (bare_label l) (bare_fields fs) ≡ no_power k l fs
-power_kept-bare k l fs = ap not (power-bare k l fs)
+exponentiation_kept-bare : (k : AstType) (l : Label) (fs : Fields) → no_exponentiation k (bare_label l) (bare_fields fs) ≡ no_exponentiation k l fs
+exponentiation_kept-bare k l fs = ap not (power-bare k l fs)
 
 not_twice : (b : Bool) → not (not b) ≡ b
 not_twice true = refl
 not_twice false = refl
 
-none_stands : (p : Tree) → first_node is_lowerable_power p ≡ None → all_nodes no_power p ≡ true
+none_stands : (p : Tree) → first_node is_lowerable_exponentiation p ≡ None → all_nodes no_exponentiation p ≡ true
 none_stands p none =
-    let same : first_node (λ k l fs. not (no_power k l fs)) p ≡ first_node is_lowerable_power p = ap (λ (test : AstType → Label → Fields → Bool). first_node test p) (λ i k l fs. not_twice (is_lowerable_power k l fs) i) in
-    all-first no_power p ∙ ap is_none (same ∙ none)
+    let same : first_node (λ k l fs. not (no_exponentiation k l fs)) p ≡ first_node is_lowerable_exponentiation p = ap (λ (test : AstType → Label → Fields → Bool). first_node test p) (λ i k l fs. not_twice (is_lowerable_exponentiation k l fs) i) in
+    all-first no_exponentiation p ∙ ap is_none (same ∙ none)
 
 module _ (o : EnvOptions) (p : Tree) (a : Moment) (x : Program) (same : bare (plain_program x) ≡ bare p) (start : IsStart p a) where
   -- what the steps of the visit begin with
@@ -103,18 +103,18 @@ module _ (o : EnvOptions) (p : Tree) (a : Moment) (x : Program) (same : bare (pl
       let at_start : open_program (top a.lists) x ≡ opened (bare p) = ap (λ ps. open_program (top ps) x) start.lists ∙ ap opened same in
       steps_under (rule_under o) (CoreRule o.assumptions.no_document_all) (rule_core o) (subst (λ (t : Open). Steps (Step (rule_under o) all_of_it) (ledger (whole_at a) nothing_pending) t s' u) at_start steps)
 
-  none_there : {s' : Ledger} {u : Open} → Steps (Step (CoreRule o.assumptions.no_document_all) all_of_it) (ledger (whole_at a) nothing_pending) (opened (bare p)) s' u → first_node is_lowerable_power p ≡ None → open_all no_power u ≡ true
-  none_there steps none = (still_powerless o.assumptions.no_document_all steps (record { around = refl; here = all-opened no_power (bare p) ∙ all-bare no_power power_kept-bare p ∙ none_stands p none })).here
+  none_there : {s' : Ledger} {u : Open} → Steps (Step (CoreRule o.assumptions.no_document_all) all_of_it) (ledger (whole_at a) nothing_pending) (opened (bare p)) s' u → first_node is_lowerable_exponentiation p ≡ None → open_all no_exponentiation u ≡ true
+  none_there steps none = (still_powerless o.assumptions.no_document_all steps (record { around = refl; here = all-opened no_exponentiation (bare p) ∙ all-bare no_exponentiation exponentiation_kept-bare p ∙ none_stands p none })).here
 
   unbound_there : {s' : Ledger} {u : Open} → Steps (Step (CoreRule o.assumptions.no_document_all) all_of_it) (ledger (whole_at a) nothing_pending) (opened (bare p)) s' u → declares (declared_of p) (codes "Math") ≡ false → MathUnbound (whole_in s')
   unbound_there steps undeclared =
       still_unbound o.assumptions.no_document_all steps (ap (λ b. b || is_among a.made (codes "Math")) (start.bound (codes "Math") ∙ undeclared) ∙ ap (λ ns. is_among ns (codes "Math")) start.made)
 
-  impossible : (e : LowerError) (s' : Ledger) (u : Open) (b : Bool) → Steps (Step (CoreRule o.assumptions.no_document_all) all_of_it) (ledger (whole_at a) nothing_pending) (opened (bare p)) s' u → (found : Found no_power ((visit_profile o).refuses e (whole_in s')) (open_all no_power u)) →
-      declares (declared_of p) (codes "Math") ≡ b → (if o.es2016.exponentiation_operator && b then first_node is_lowerable_power p else None) ≡ None → ⊥
+  impossible : (e : LowerError) (s' : Ledger) (u : Open) (b : Bool) → Steps (Step (CoreRule o.assumptions.no_document_all) all_of_it) (ledger (whole_at a) nothing_pending) (opened (bare p)) s' u → (found : Found no_exponentiation ((visit_profile o).refuses e (whole_in s')) (open_all no_exponentiation u)) →
+      declares (declared_of p) (codes "Math") ≡ b → (if o.es2016.exponentiation_operator && b then first_node is_lowerable_exponentiation p else None) ≡ None → ⊥
   impossible e s' u true steps found declared none =
       let refused = refusing o e (whole_in s') found.tree found.there in
-      let first : first_node is_lowerable_power p ≡ None = ap (λ b. if b && true then first_node is_lowerable_power p else None) (sym refused.on) ∙ none in
+      let first : first_node is_lowerable_exponentiation p ≡ None = ap (λ b. if b && true then first_node is_lowerable_exponentiation p else None) (sym refused.on) ∙ none in
       absurd (cc (refused.lowered, found.passes (none_there steps first)))
   impossible e s' u false steps found undeclared none =
       let refused = refusing o e (whole_in s') found.tree found.there in
@@ -124,4 +124,4 @@ module _ (o : EnvOptions) (p : Tree) (a : Moment) (x : Program) (same : bare (pl
   pub memory_alone : (e : LowerError) → first_math_bound o p ≡ None → RefusedProgram (visit_profile o).rule (visit_profile o).refuses e a x → e ≡ OutOfMemory
   memory_alone e none (inl memory) = memory
   memory_alone e none (inr h) =
-      absurd (impossible e h.after h.shape (declares (declared_of p) (codes "Math")) (begun h.steps) (find_node no_power ((visit_profile o).refuses e (whole_in h.after)) h.shape h.there) refl none)
+      absurd (impossible e h.after h.shape (declares (declared_of p) (codes "Math")) (begun h.steps) (find_node no_exponentiation ((visit_profile o).refuses e (whole_in h.after)) h.shape h.there) refl none)

@@ -19,11 +19,11 @@ use Rattle.es_statements.specs.declared.program.Program.{Program}
 use Rattle.es_runs.specs.OptionalChaining.{is_chain_kind}
 use Rattle.es_runs.proofs.Named.{and_left, and_right, or_both}
 use Rattle.es_visit.specs.Laws.{body_of, directives_of}
-use Rattle.lower_editions.specs.Assignings.{is_lowerable_assignment}
-use Rattle.lower_editions.specs.Coalescings.{is_lowerable_coalescing}
-use Rattle.lower_editions.specs.Powers.{is_lowerable_power}
+use Rattle.lower_editions.specs.LogicalAssignments.{is_lowerable_logical_assignment}
+use Rattle.lower_editions.specs.NullishCoalescings.{is_lowerable_nullish_coalescing}
+use Rattle.lower_editions.specs.Exponentiations.{is_lowerable_exponentiation}
 use Rattle.lower_editions.proofs.BareNodes.{assignment-bare, coalescing-bare, power-bare}
-use Rattle.lower_editions.proofs.NoneLeft.{is_settled, settled_assignment, settled_coalescing, settled_power}
+use Rattle.lower_editions.proofs.NoneLeft.{is_settled, settled_assignment, settled_nullish_coalescing, settled_exponentiation}
 use Rattle.lower_driver.specs.Rules.{is_lowered_under}
 use Rattle.lower_driver.proofs.Built.{has_built_construct, is_built_construct}
 use Rattle.lower_driver.proofs.Acting.{chain_kind, less, less_where_on}
@@ -33,12 +33,12 @@ use Rattle.lower_driver.proofs.Walked.{any-bare-trees, none_among}
 
 none_there : (o : EnvOptions) (k : AstType) (l : Label) (fs : Fields) → is_settled k l fs ≡ true → all_in_fields is_settled fs ≡ true → is_lowered_under o k l fs ≡ false → any_in_fields (is_lowered_under o) fs ≡ false → is_built_construct o k l fs ≡ false
 none_there o k l fs settled below h clear =
-    less (o.es2021.logical_assignment_operators && is_lowerable_assignment k l fs) (o.es2020.nullish_coalescing_operator && is_lowerable_coalescing k l fs) (o.es2020.optional_chaining && is_chain_kind k) (o.es2016.exponentiation_operator && is_lowerable_power k l fs)
+    less (o.es2021.logical_assignment_operators && is_lowerable_logical_assignment k l fs) (o.es2020.nullish_coalescing_operator && is_lowerable_nullish_coalescing k l fs) (o.es2020.optional_chaining && is_chain_kind k) (o.es2016.exponentiation_operator && is_lowerable_exponentiation k l fs)
     (o.es2021.logical_assignment_operators && is_logical_assignment k l fs) (o.es2020.nullish_coalescing_operator && is_nullish_coalescing k l fs) (o.es2020.optional_chaining && is_chain k l fs) (o.es2016.exponentiation_operator && is_exponentiation k l fs)
-    (less_where_on o.es2021.logical_assignment_operators (is_lowerable_assignment k l fs) (is_logical_assignment k l fs) (settled_assignment k l fs settled))
-    (less_where_on o.es2020.nullish_coalescing_operator (is_lowerable_coalescing k l fs) (is_nullish_coalescing k l fs) (settled_coalescing k l fs settled))
+    (less_where_on o.es2021.logical_assignment_operators (is_lowerable_logical_assignment k l fs) (is_logical_assignment k l fs) (settled_assignment k l fs settled))
+    (less_where_on o.es2020.nullish_coalescing_operator (is_lowerable_nullish_coalescing k l fs) (is_nullish_coalescing k l fs) (settled_nullish_coalescing k l fs settled))
     (less_where_on o.es2020.optional_chaining (is_chain_kind k) (is_chain k l fs) (λ e. chain_kind k l fs ∙ e))
-    (less_where_on o.es2016.exponentiation_operator (is_lowerable_power k l fs) (is_exponentiation k l fs) (settled_power k l fs settled)) h
+    (less_where_on o.es2016.exponentiation_operator (is_lowerable_exponentiation k l fs) (is_exponentiation k l fs) (settled_exponentiation k l fs settled)) h
 
 lowered-bare : (o : EnvOptions) (k : AstType) (l : Label) (fs : Fields) → is_lowered_under o k (bare_label l) (bare_fields fs) ≡ is_lowered_under o k l fs
 lowered-bare o k l fs = λ i.

@@ -4,12 +4,12 @@ use Rattle.std.specs.Prelude.{true, false, ◌&&◌}
 use Rattle.es_tree.proofs.NodeForm.{node_form}
 use Rattle.es_tree.specs.Attributes.{child_entries}
 use Rattle.es_tree.specs.HasForm.{is_of_sort, elements_of, match_option, has_form, elements_form, fields_form, trees_form}
-use Rattle.es_tree.specs.Shapes.{Fits, list, statement_list}
+use Rattle.es_tree.specs.Arity.{Fits, list, statement_list}
 use Rattle.es_tree.specs.Tree.{Tree, node, Label, Fields, done, ◌then◌, missing, one, many, statements}
 use Rattle.es_tree.specs.declared.ast_type.AstType.{AstType}
 use Rattle.es_tree.specs.declared.ast_type.AstType.TheVariants.{Program}
 use Rattle.es_tree.specs.declared.table.Sort.TheVariants.{Program as s-Program, Statement as s-Statement, Directive as s-Directive}
-use Rattle.es_statements.specs.ProgramShapes.{IsProgram}
+use Rattle.es_statements.specs.ProgramArity.{IsProgram}
 use Rattle.es_runs.proofs.Named.{and_right}
 
 abbrev ChildrenForm : AstType → Label → Fields → Type 0

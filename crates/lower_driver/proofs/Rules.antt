@@ -15,7 +15,7 @@ use Rattle.es_runs.specs.OpenSteps.FieldsStep.{in_first, in_later}
 use Rattle.es_runs.specs.OpenSteps.FieldStep.{in_child, in_children, within, acts_on_list}
 use Rattle.es_runs.specs.OpenSteps.TreesStep.{in_head, in_tail}
 use Rattle.es_runs.specs.OpenSteps.Steps.{stays, goes}
-use Rattle.es_runs.specs.OpenRules.{Assigning, Chaining, Coalescing, Raising, CoreRule, rule_under}
+use Rattle.es_runs.specs.OpenRules.{OpenLogicalAssignment, OpenOptionalChaining, OpenNullishCoalescing, OpenExponentiation, CoreRule, rule_under}
 use Rattle.es_runs.proofs.OpenTrees.{closed-opened}
 use Rattle.lower_driver.proofs.Built.{has_built_construct}
 use Rattle.lower_driver.proofs.Acting.{acted-bare, acting_idle, is_acted_on, none_acts, where_it_is_on}
@@ -51,10 +51,10 @@ module _ (R Q : Need → Ledger → Spot → Ledger → Spot → Type 0) (under 
 -- whatever the options ask for, the rule is among those of core programs
 pub rule_core : (o : EnvOptions) (n : Need) (s : Ledger) (x : Spot) (s' : Ledger) (y : Spot) → rule_under o n s x s' y → CoreRule o.assumptions.no_document_all n s x s' y
 rule_core o n s x s' y (inl r) = inl r
-rule_core o n s x s' y (inr (inl r)) = inr (inl (where_it_is_on o.es2021.logical_assignment_operators Assigning n s x s' y r).1)
-rule_core o n s x s' y (inr (inr (inl (inl r)))) = inr (inr (inl (inl (where_it_is_on o.es2020.nullish_coalescing_operator Coalescing n s x s' y r).1)))
-rule_core o n s x s' y (inr (inr (inl (inr r)))) = inr (inr (inl (inr (where_it_is_on o.es2020.optional_chaining (Chaining o.assumptions.no_document_all) n s x s' y r).1)))
-rule_core o n s x s' y (inr (inr (inr r))) = inr (inr (inr (where_it_is_on o.es2016.exponentiation_operator Raising n s x s' y r).1))
+rule_core o n s x s' y (inr (inl r)) = inr (inl (where_it_is_on o.es2021.logical_assignment_operators OpenLogicalAssignment n s x s' y r).1)
+rule_core o n s x s' y (inr (inr (inl (inl r)))) = inr (inr (inl (inl (where_it_is_on o.es2020.nullish_coalescing_operator OpenNullishCoalescing n s x s' y r).1)))
+rule_core o n s x s' y (inr (inr (inl (inr r)))) = inr (inr (inl (inr (where_it_is_on o.es2020.optional_chaining (OpenOptionalChaining o.assumptions.no_document_all) n s x s' y r).1)))
+rule_core o n s x s' y (inr (inr (inr r))) = inr (inr (inr (where_it_is_on o.es2016.exponentiation_operator OpenExponentiation n s x s' y r).1))
 
 pub reached_under : (o : EnvOptions) (p q : Tree) (names : List Text) → Reached (rule_under o) p names q → Reached (CoreRule o.assumptions.no_document_all) p names q
 reached_under o p q names h = record { whole = h.whole; steps = steps_under (rule_under o) (CoreRule o.assumptions.no_document_all) (rule_core o) h.steps; made = h.made; others = h.others }

@@ -19,7 +19,7 @@ use Rattle.es_runs.specs.OpenSteps.TreesStep.{in_head, in_tail}
 use Rattle.es_runs.specs.OpenSteps.Steps.{stays, goes}
 use Rattle.es_runs.proofs.Named.{or_first, or_second}
 use Rattle.es_runs.proofs.OpenTrees.{closed-opened-fields}
-use Rattle.es_visit.specs.Laws.{is_row}
+use Rattle.es_visit.specs.Laws.{is_construct}
 
 -- CLEAR TREES
 
@@ -70,7 +70,7 @@ pub record Same {X : Type 0} (s : Ledger) (x : X) (s' : Ledger) (y : X) : Type 0
 
 -- A rule that acts at a node only where it passes a test, and leaves a list with nothing pending as it is.
 pub record IsIdle (test : AstType → Label → Fields → Bool) (R : Need → Ledger → Spot → Ledger → Spot → Type 0) : Type 0 where
-  pub nodes : (n : Need) (s s' : Ledger) (t u : Tree) → R n s (at_node t) s' (at_node u) → is_row test t ≡ true
+  pub nodes : (n : Need) (s s' : Ledger) (t u : Tree) → R n s (at_node t) s' (at_node u) → is_construct test t ≡ true
   pub lists : (n : Need) (s s' : Ledger) (p q : Pending) (ts us : Trees) → R n s (at_list p ts) s' (at_list q us) → p ≡ nothing_pending → (s' ≡ s) × (q ≡ nothing_pending) × (us ≡ ts)
 
 module _ (test : AstType → Label → Fields → Bool) (R : Need → Ledger → Spot → Ledger → Spot → Type 0) (idle : IsIdle test R) where

@@ -29,9 +29,9 @@ use Rattle.es_visit.specs.Moments.{Moment, IsFinished, heft, is_inert, HasRoom}
 use Rattle.es_visit.specs.Visits.{VisitedProgram}
 use Rattle.es_visit.specs.declared.hook.Hook.TheVariants.{Expression}
 use Rattle.es_visit.proofs.Whole.{reached_whole}
-use Rattle.lower_editions.specs.Assignings.{is_lowerable_assignment}
-use Rattle.lower_editions.specs.Coalescings.{is_lowerable_coalescing}
-use Rattle.lower_editions.specs.Powers.{is_lowerable_power}
+use Rattle.lower_editions.specs.LogicalAssignments.{is_lowerable_logical_assignment}
+use Rattle.lower_editions.specs.NullishCoalescings.{is_lowerable_nullish_coalescing}
+use Rattle.lower_editions.specs.Exponentiations.{is_lowerable_exponentiation}
 use Rattle.lower_driver.specs.Copies.{IsCopy}
 use Rattle.lower_driver.specs.Lowers.{Lowers}
 use Rattle.lower_driver.specs.Rules.{is_lowered_under}
@@ -100,10 +100,10 @@ or_regrouped true b c d = refl
 or_regrouped false b c d = refl
 
 -- what the visit by its type leaves no node of
-lowered_rows : (o : EnvOptions) → is_lowered_under o ≡ (visit_profile o).rows Expression
+lowered_rows : (o : EnvOptions) → is_lowered_under o ≡ (visit_profile o).constructs Expression
 lowered_rows o = λ i k l fs.
-    or_regrouped (o.es2021.logical_assignment_operators && is_lowerable_assignment k l fs) (o.es2020.nullish_coalescing_operator && is_lowerable_coalescing k l fs) (o.es2020.optional_chaining && is_chain_kind k)
-    (o.es2016.exponentiation_operator && is_lowerable_power k l fs) i
+    or_regrouped (o.es2021.logical_assignment_operators && is_lowerable_logical_assignment k l fs) (o.es2020.nullish_coalescing_operator && is_lowerable_nullish_coalescing k l fs) (o.es2020.optional_chaining && is_chain_kind k)
+    (o.es2016.exponentiation_operator && is_lowerable_exponentiation k l fs) i
 
 -- the visit by its type
 pub visit_by_type : (o : EnvOptions) (a b : Moment) (x y : Program) → VisitedProgram (visit_profile o) a x b y → IsFinished b → IsVisit o a x b y

@@ -2,6 +2,6 @@ pub mod Copies
 pub mod Lowered
 pub mod Lowers
 pub mod Rules
-pub mod Shapes
+pub mod UnsupportedPrograms
 pub mod Sources
 pub mod Visits

@@ -9,7 +9,7 @@ use Rattle.es_tree.specs.declared.options.EnvOptions.{EnvOptions}
 use Rattle.es_json.specs.Canonical.{canonical}
 use Rattle.lower_editions.specs.Warnings.{warnings_of}
 use Rattle.lower_driver.specs.Lowers.{Lowers}
-use Rattle.lower_driver.specs.Shapes.{first_math_bound}
+use Rattle.lower_driver.specs.UnsupportedPrograms.{first_math_bound}
 use Rattle.lower_driver.specs.Sources.{IsSource}
 use Rattle.lower_driver.specs.declared.driver.Lowered.{Lowered}
 use Rattle.lower_driver.specs.declared.driver.LoweredTree.{LoweredTree}

@@ -13,7 +13,7 @@ use Rattle.es_tree.specs.declared.error.LowerError.TheVariants.{Json, Option as 
 use Rattle.es_tree.specs.declared.error.UnsupportedKind.TheVariants.{MathBound, NotBuilt}
 use Rattle.es_tree.specs.declared.ids.NodeId.{NodeId}
 use Rattle.es_tree.specs.declared.options.EnvOptions.{EnvOptions}
-use Rattle.lower_driver.specs.Shapes.{first_math_bound}
+use Rattle.lower_driver.specs.UnsupportedPrograms.{first_math_bound}
 use Rattle.es_json.specs.Programs.{IsProgramForm, IsRefusal}
 
 -- VALUES

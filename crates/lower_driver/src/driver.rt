@@ -13,7 +13,7 @@ ghost use Rattle.es_runs.specs.Open.{nothing_pending};
 ghost use Rattle.es_scope.specs.Contexts.{BindsNamesOf, around_of, made_of, table_of, uses_of};
 ghost use Rattle.lower_driver.specs.Copies.{IsCopy};
 ghost use Rattle.lower_driver.specs.Lowered.{IsLoweredTree, IsLoweredValue};
-ghost use Rattle.lower_driver.specs.Shapes.{IsShapeOrMemory, IsTreeCauseOrMemory};
+ghost use Rattle.lower_driver.specs.UnsupportedPrograms.{IsUnsupportedOrMemory, IsTreeCauseOrMemory};
 ghost use Rattle.lower_driver.specs.Sources.{IsCauseOrMemory, IsValueCauseOrMemory, ReadsAs};
 
 use crate::copies::copy_options;
@@ -130,7 +130,7 @@ fn lower_program(
     requires next { read.ast.next ≡ tree_size read.program }
     requires carried { first_fault options.now ≡ None }
     ensures lowered { IfOk result (λ lowered. IsLoweredTree options.now read.program lowered) }
-    ensures cause { IfErr result (λ error. IsShapeOrMemory options.now read.program error) }
+    ensures cause { IfErr result (λ error. IsUnsupportedOrMemory options.now read.program error) }
 {
     let ReadProgram {
         program: mut source,

@@ -3,15 +3,15 @@ ghost use Rattle.std.specs.Prelude.{◌≡◌, IfSome, option_map};
 ghost use Rattle.es_tree.specs.Views.{plain_field};
 ghost use Rattle.es_tree.specs.Walks.{first_in_field, first_node};
 ghost use Rattle.es_tree.specs.declared.error.UnsupportedKind.TheVariants.{MathBound as IsMathBound};
-ghost use Rattle.lower_editions.specs.Powers.{is_lowerable_power};
-ghost use Rattle.lower_driver.specs.Shapes.{BindsDeclared, binds, first_math_bound};
+ghost use Rattle.lower_editions.specs.Exponentiations.{is_lowerable_exponentiation};
+ghost use Rattle.lower_driver.specs.UnsupportedPrograms.{BindsDeclared, binds, first_math_bound};
 
 use es_scope::scoping::Scoping;
 use es_tree::error::UnsupportedKind;
 use es_tree::ids::NodeId;
 use es_tree::node::{Field, Node};
 use es_tree::options::EnvOptions;
-use lower_editions::power_tests::is_lowerable;
+use lower_editions::exponentiation_constructs::is_lowerable;
 
 /// The first node, in node order, that no lowering takes which the options ask for, and why; none where they
 /// take all. The table is that of the program. It takes no memory.
@@ -29,7 +29,7 @@ pub fn find_unsupported(
     if !options.es2016.exponentiation_operator || !binds(scoping, "Math") {
         return None;
     }
-    let node = first_power(program)?;
+    let node = first_exponentiation(program)?;
     Some((UnsupportedKind::MathBound, node))
 }
 
@@ -42,14 +42,14 @@ fn binds(scoping: &Scoping, name: &str) -> bool
 
 /// The first node in node order that the lowering of exponentiation takes, or none.
 #[cycle(powers)]
-fn first_power(node: &Node) -> Option<NodeId>
-    ensures { option_map (λ id. id.0) result ≡ first_node is_lowerable_power node.now }
+fn first_exponentiation(node: &Node) -> Option<NodeId>
+    ensures { option_map (λ id. id.0) result ≡ first_node is_lowerable_exponentiation node.now }
 {
     if is_lowerable(node) {
         return Some(node.id);
     }
     for field in &node.fields {
-        if let Some(id) = first_power_in(field) {
+        if let Some(id) = first_exponentiation_in(field) {
             return Some(id);
         }
     }
@@ -57,15 +57,15 @@ fn first_power(node: &Node) -> Option<NodeId>
 }
 
 #[cycle(powers)]
-fn first_power_in(field: &Field) -> Option<NodeId>
-    ensures { option_map (λ id. id.0) result ≡ first_in_field is_lowerable_power (plain_field field.now) }
+fn first_exponentiation_in(field: &Field) -> Option<NodeId>
+    ensures { option_map (λ id. id.0) result ≡ first_in_field is_lowerable_exponentiation (plain_field field.now) }
 {
     match field {
         Field::Missing => None,
-        Field::One(node) => first_power(node),
+        Field::One(node) => first_exponentiation(node),
         Field::Many(nodes) | Field::Statements(nodes) => {
             for node in nodes {
-                if let Some(id) = first_power(node) {
+                if let Some(id) = first_exponentiation(node) {
                     return Some(id);
                 }
             }

@@ -7,7 +7,7 @@ use Rattle.es_tree.specs.declared.ids.NodeId.{NodeId}
 use Rattle.es_tree.specs.declared.ids.Span.{Span}
 use Rattle.es_tree.specs.declared.kind.Kind.{Kind as NodeKind}
 use Rattle.es_tree.specs.declared.node.Field.{Field as NodeField}
-use Rattle.es_runs.specs.Doubling.{has_no_fields}
+use Rattle.es_runs.specs.Duplication.{has_no_fields}
 use Rattle.lower_common.proofs.ReadAgain.{no_fields}
 
 -- such a test at a node of one of these kinds, as its code sees it

@@ -19,8 +19,8 @@ use Rattle.es_tree.specs.declared.ast_type.AstType.TheVariants.{AssignmentExpres
 use Rattle.es_tree.specs.declared.place.Place.{Place}
 use Rattle.es_tree.specs.declared.place.Place.TheVariants.{Other, Target}
 use Rattle.es_tree.specs.declared.table.Sort.TheVariants.{Expression as s-Expression}
-use Rattle.es_runs.specs.Doubling.{has_no_fields}
-use Rattle.es_runs.specs.LogicalAssignment.{is_assigning}
+use Rattle.es_runs.specs.Duplication.{has_no_fields}
+use Rattle.es_runs.specs.LogicalAssignment.{is_logical_assignment_operator}
 use Rattle.es_runs.specs.OpenRules.{CoreRule}
 use Rattle.es_runs.specs.OpenSteps.{Reached}
 use Rattle.es_runs.proofs.Named.{and_left, and_right, or_both, or_first, or_second}
@@ -29,9 +29,9 @@ use Rattle.es_runs.proofs.StaticBare.{bare_keeps}
 use Rattle.es_runs.proofs.StaticKeeps.{Keeps, KeepsFields, KeepsField, KeepsTrees, each_own, visits_keep}
 use Rattle.es_runs.proofs.StaticLaws.{reached_breaks}
 use Rattle.es_runs.proofs.Temporary.{bytes_eq-equal}
-use Rattle.lower_editions.specs.Assignings.{has_doubled_key, is_doubled_target, is_lowerable_assignment}
-use Rattle.lower_editions.specs.Coalescings.{is_leaf_where_read, is_lowerable_coalescing}
-use Rattle.lower_editions.specs.Powers.{has_power_key, is_power_target, is_lowerable_power}
+use Rattle.lower_editions.specs.LogicalAssignments.{has_duplicated_key, is_duplicated_target, is_lowerable_logical_assignment}
+use Rattle.lower_editions.specs.NullishCoalescings.{is_leaf_where_read, is_lowerable_nullish_coalescing}
+use Rattle.lower_editions.specs.Exponentiations.{has_exponentiation_key, is_exponentiation_target, is_lowerable_exponentiation}
 use Rattle.lower_editions.specs.Stable.{on_two}
 use Rattle.lower_editions.proofs.WellMade.{is_plain_key, is_shaped, reached_shaped, shaped-bare}
 
@@ -40,9 +40,9 @@ use Rattle.lower_editions.proofs.WellMade.{is_plain_key, is_shaped, reached_shap
 -- whether the node is lowered where it is one of the constructs
 abbrev pub is_settled : AstType → Label → Fields → Bool
 is_settled k l fs =
-    (not (is_nullish_coalescing k l fs) || is_lowerable_coalescing k l fs)
-    && (not (is_logical_assignment k l fs) || is_lowerable_assignment k l fs)
-    && (not (is_exponentiation k l fs) || is_lowerable_power k l fs)
+    (not (is_nullish_coalescing k l fs) || is_lowerable_nullish_coalescing k l fs)
+    && (not (is_logical_assignment k l fs) || is_lowerable_logical_assignment k l fs)
+    && (not (is_exponentiation k l fs) || is_lowerable_exponentiation k l fs)
 
 implied : (a b : Bool) → (a ≡ true → b ≡ true) → (not a || b) ≡ true
 implied true b f = f refl
@@ -61,9 +61,9 @@ by_two P Q f _ h = absurd (cc h)
 
 -- what can be assigned to with an operator
 abbrev IsTarget : Tree → Type 0
-IsTarget t = (is_doubled_target t ≡ true) × (is_power_target t ≡ true)
+IsTarget t = (is_duplicated_target t ≡ true) × (is_exponentiation_target t ≡ true)
 
-key_of : (flags : List Bool) (t : Tree) → flag_at 1 flags ≡ false → is_plain_key flags (kind_of t) ≡ true → all_nodes is_shaped t ≡ true → (has_doubled_key flags t ≡ true) × (has_power_key flags t ≡ true)
+key_of : (flags : List Bool) (t : Tree) → flag_at 1 flags ≡ false → is_plain_key flags (kind_of t) ≡ true → all_nodes is_shaped t ≡ true → (has_duplicated_key flags t ≡ true) × (has_exponentiation_key flags t ≡ true)
 key_of (true ∷ false ∷ []) t e p h = (refl, refl)
 key_of (false ∷ false ∷ []) (node Identifier l fs) e p h = let none = and_left (has_no_fields fs) (all_in_fields is_shaped fs) h in (none, none)
 key_of (false ∷ false ∷ []) (node _ l fs) e p h = absurd (cc p)
@@ -124,29 +124,29 @@ all_three a b c h g d = rw (h, g, d) refl
 logical_settled : (l : Label) (a b : Tree) → all_nodes is_shaped a ≡ true → is_settled LogicalExpression l (one a then (one b then done)) ≡ true
 logical_settled l a b h =
     let fs = one a then (one b then done) in
-    all_three (not (is_nullish_coalescing LogicalExpression l fs) || is_lowerable_coalescing LogicalExpression l fs) true true
-    (implied (is_nullish_coalescing LogicalExpression l fs) (is_lowerable_coalescing LogicalExpression l fs) (λ e. and_from (is_nullish_coalescing LogicalExpression l fs) (is_leaf_where_read a) e (leaf_settled a h))) refl refl
+    all_three (not (is_nullish_coalescing LogicalExpression l fs) || is_lowerable_nullish_coalescing LogicalExpression l fs) true true
+    (implied (is_nullish_coalescing LogicalExpression l fs) (is_lowerable_nullish_coalescing LogicalExpression l fs) (λ e. and_from (is_nullish_coalescing LogicalExpression l fs) (is_leaf_where_read a) e (leaf_settled a h))) refl refl
 
 binary_settled : (l : Label) (a b : Tree) → is_settled BinaryExpression l (one a then (one b then done)) ≡ true
-binary_settled l a b = let fs = one a then (one b then done) in implied (is_exponentiation BinaryExpression l fs) (is_lowerable_power BinaryExpression l fs) (λ e. e)
+binary_settled l a b = let fs = one a then (one b then done) in implied (is_exponentiation BinaryExpression l fs) (is_lowerable_exponentiation BinaryExpression l fs) (λ e. e)
 
 assignment_settled : (l : Label) (t r : Tree) → all_nodes is_shaped t ≡ true → Keeps (target_place (first_text l.texts)) t → is_settled AssignmentExpression l (one t then (one r then done)) ≡ true
 assignment_settled l t r h keeps =
-    all_three true (not (is_logical_assignment AssignmentExpression l fs) || is_lowerable_assignment AssignmentExpression l fs) (not (is_exponentiation AssignmentExpression l fs) || is_lowerable_power AssignmentExpression l fs) refl
-    (implied (is_logical_assignment AssignmentExpression l fs) (is_lowerable_assignment AssignmentExpression l fs) doubled) (implied (is_exponentiation AssignmentExpression l fs) (is_lowerable_power AssignmentExpression l fs) raised)
+    all_three true (not (is_logical_assignment AssignmentExpression l fs) || is_lowerable_logical_assignment AssignmentExpression l fs) (not (is_exponentiation AssignmentExpression l fs) || is_lowerable_exponentiation AssignmentExpression l fs) refl
+    (implied (is_logical_assignment AssignmentExpression l fs) (is_lowerable_logical_assignment AssignmentExpression l fs) duplicated) (implied (is_exponentiation AssignmentExpression l fs) (is_lowerable_exponentiation AssignmentExpression l fs) raised)
   where
     fs : Fields
     fs = one t then (one r then done)
 
-    doubled : is_logical_assignment AssignmentExpression l (one t then (one r then done)) ≡ true → is_lowerable_assignment AssignmentExpression l (one t then (one r then done)) ≡ true
-    doubled e =
-        let assigning = and_left (is_assigning (first_text l.texts)) (not (is_private_target (one t))) e in
-        and_from (is_assigning (first_text l.texts)) (is_doubled_target (without_parens t)) assigning (compound_target (first_text l.texts) t (no_plain is_assigning (first_text l.texts) refl assigning) h keeps).0
+    duplicated : is_logical_assignment AssignmentExpression l (one t then (one r then done)) ≡ true → is_lowerable_logical_assignment AssignmentExpression l (one t then (one r then done)) ≡ true
+    duplicated e =
+        let assigning = and_left (is_logical_assignment_operator (first_text l.texts)) (not (is_private_target (one t))) e in
+        and_from (is_logical_assignment_operator (first_text l.texts)) (is_duplicated_target (without_parens t)) assigning (compound_target (first_text l.texts) t (no_plain is_logical_assignment_operator (first_text l.texts) refl assigning) h keeps).0
 
-    raised : is_exponentiation AssignmentExpression l (one t then (one r then done)) ≡ true → is_lowerable_power AssignmentExpression l (one t then (one r then done)) ≡ true
+    raised : is_exponentiation AssignmentExpression l (one t then (one r then done)) ≡ true → is_lowerable_exponentiation AssignmentExpression l (one t then (one r then done)) ≡ true
     raised e =
         let raising = and_left (bytes_eq (first_text l.texts) (codes "**=")) (not (is_big_int (kind_of r))) e in
-        and_from (bytes_eq (first_text l.texts) (codes "**=") && not (is_big_int (kind_of r))) (is_power_target (without_parens t)) e (compound_target (first_text l.texts) t (no_plain (λ op. bytes_eq op (codes "**=")) (first_text l.texts) refl raising) h keeps).1
+        and_from (bytes_eq (first_text l.texts) (codes "**=") && not (is_big_int (kind_of r))) (is_exponentiation_target (without_parens t)) e (compound_target (first_text l.texts) t (no_plain (λ op. bytes_eq op (codes "**=")) (first_text l.texts) refl raising) h keeps).1
 
 -- WHERE EACH NODE IS WELL MADE AND KEEPS THE RULES
 
@@ -222,23 +222,23 @@ module _ (settled wanted lowerable : AstType → Label → Fields → Bool) (own
         (none_among ts (and_right (all_nodes settled t) (all_in_trees settled ts) h) (or_second (any_node lowerable t) (any_in_trees lowerable ts) g))
 
 -- the three constructs at one node
-pub settled_coalescing : (k : AstType) (l : Label) (fs : Fields) → is_settled k l fs ≡ true → is_lowerable_coalescing k l fs ≡ false → is_nullish_coalescing k l fs ≡ false
-settled_coalescing k l fs h g =
-    let a = not (is_nullish_coalescing k l fs) || is_lowerable_coalescing k l fs in
-    let b = not (is_logical_assignment k l fs) || is_lowerable_assignment k l fs in
-    let c = not (is_exponentiation k l fs) || is_lowerable_power k l fs in
-    not_left (is_nullish_coalescing k l fs) (is_lowerable_coalescing k l fs) (and_left a b (and_left (a && b) c h)) g
+pub settled_nullish_coalescing : (k : AstType) (l : Label) (fs : Fields) → is_settled k l fs ≡ true → is_lowerable_nullish_coalescing k l fs ≡ false → is_nullish_coalescing k l fs ≡ false
+settled_nullish_coalescing k l fs h g =
+    let a = not (is_nullish_coalescing k l fs) || is_lowerable_nullish_coalescing k l fs in
+    let b = not (is_logical_assignment k l fs) || is_lowerable_logical_assignment k l fs in
+    let c = not (is_exponentiation k l fs) || is_lowerable_exponentiation k l fs in
+    not_left (is_nullish_coalescing k l fs) (is_lowerable_nullish_coalescing k l fs) (and_left a b (and_left (a && b) c h)) g
 
-pub settled_assignment : (k : AstType) (l : Label) (fs : Fields) → is_settled k l fs ≡ true → is_lowerable_assignment k l fs ≡ false → is_logical_assignment k l fs ≡ false
+pub settled_assignment : (k : AstType) (l : Label) (fs : Fields) → is_settled k l fs ≡ true → is_lowerable_logical_assignment k l fs ≡ false → is_logical_assignment k l fs ≡ false
 settled_assignment k l fs h g =
-    let a = not (is_nullish_coalescing k l fs) || is_lowerable_coalescing k l fs in
-    let b = not (is_logical_assignment k l fs) || is_lowerable_assignment k l fs in
-    let c = not (is_exponentiation k l fs) || is_lowerable_power k l fs in
-    not_left (is_logical_assignment k l fs) (is_lowerable_assignment k l fs) (and_right a b (and_left (a && b) c h)) g
+    let a = not (is_nullish_coalescing k l fs) || is_lowerable_nullish_coalescing k l fs in
+    let b = not (is_logical_assignment k l fs) || is_lowerable_logical_assignment k l fs in
+    let c = not (is_exponentiation k l fs) || is_lowerable_exponentiation k l fs in
+    not_left (is_logical_assignment k l fs) (is_lowerable_logical_assignment k l fs) (and_right a b (and_left (a && b) c h)) g
 
-pub settled_power : (k : AstType) (l : Label) (fs : Fields) → is_settled k l fs ≡ true → is_lowerable_power k l fs ≡ false → is_exponentiation k l fs ≡ false
-settled_power k l fs h g =
-    let a = not (is_nullish_coalescing k l fs) || is_lowerable_coalescing k l fs in
-    let b = not (is_logical_assignment k l fs) || is_lowerable_assignment k l fs in
-    let c = not (is_exponentiation k l fs) || is_lowerable_power k l fs in
-    not_left (is_exponentiation k l fs) (is_lowerable_power k l fs) (and_right (a && b) c h) g
+pub settled_exponentiation : (k : AstType) (l : Label) (fs : Fields) → is_settled k l fs ≡ true → is_lowerable_exponentiation k l fs ≡ false → is_exponentiation k l fs ≡ false
+settled_exponentiation k l fs h g =
+    let a = not (is_nullish_coalescing k l fs) || is_lowerable_nullish_coalescing k l fs in
+    let b = not (is_logical_assignment k l fs) || is_lowerable_logical_assignment k l fs in
+    let c = not (is_exponentiation k l fs) || is_lowerable_exponentiation k l fs in
+    not_left (is_exponentiation k l fs) (is_lowerable_exponentiation k l fs) (and_right (a && b) c h) g

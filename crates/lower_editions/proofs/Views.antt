@@ -9,8 +9,8 @@ use Rattle.es_tree.specs.declared.ids.Span.{Span}
 use Rattle.es_tree.specs.declared.kind.Kind.{Kind as NodeKind}
 use Rattle.es_tree.specs.declared.node.Field.{Field as NodeField}
 use Rattle.es_tree.specs.declared.node.Field.TheVariants.{Missing, One, Many, Statements}
-use Rattle.es_runs.specs.Doubling.{has_no_fields}
-use Rattle.lower_editions.specs.Coalescings.{has_sides, is_leaf_where_read}
+use Rattle.es_runs.specs.Duplication.{has_no_fields}
+use Rattle.lower_editions.specs.NullishCoalescings.{has_sides, is_leaf_where_read}
 
 some_fields : (n : ℕ) → (suc n == 0) ≡ false
 some_fields n = at (suc n == 0) refl where

@@ -21,22 +21,22 @@ use Rattle.es_tree.specs.declared.table.Often.TheVariants.{Required, Optional, L
 use Rattle.es_tree.specs.declared.table.Content.{Content}
 use Rattle.es_tree.specs.declared.table.Content.TheVariants.{Child as c-Child}
 use Rattle.es_runs.specs.Alike.{Need}
-use Rattle.es_runs.specs.Doubling.{has_no_fields}
+use Rattle.es_runs.specs.Duplication.{has_no_fields}
 use Rattle.es_runs.specs.Open.{Pending, OpenFields, closed_fields, declarator_node, declared, with_vars}
 use Rattle.es_runs.specs.OpenSteps.{Whole, Ledger, Spot, FieldsStep, Reached}
 use Rattle.es_runs.specs.OpenSteps.Ledger.{ledger}
-use Rattle.es_runs.specs.OpenRules.{with_names, Assigning, Chaining, Coalescing, Raising, Writing, CoreRule, either_rule}
+use Rattle.es_runs.specs.OpenRules.{with_names, OpenLogicalAssignment, OpenOptionalChaining, OpenNullishCoalescing, OpenExponentiation, Writing, CoreRule, either_rule}
 use Rattle.es_runs.specs.OpenRules.Replacing.{replaces}
 use Rattle.es_runs.specs.OpenRules.Writing.{writes}
 use Rattle.es_runs.specs.OptionalChaining.{member_at}
 use Rattle.es_runs.proofs.BareTrees.{all-bare}
-use Rattle.es_runs.proofs.ChainFacts.{ChainPassesOn}
-use Rattle.es_runs.proofs.CoreRows.{core_row}
+use Rattle.es_runs.proofs.OptionalChainingFacts.{ChainPassesOn}
+use Rattle.es_runs.proofs.CoreRows.{core_rule}
 use Rattle.es_runs.proofs.Named.{and_left, and_right}
 use Rattle.es_runs.proofs.OpenTests.{all-opened, pending_all, Passes, spot_all, steps_pass}
 use Rattle.es_runs.proofs.RowFacts.{Each, PassesOn, none_asked}
 use Rattle.es_runs.proofs.RowKeeps.{row_good}
-use Rattle.lower_editions.specs.Stable.{AreKept, IsCalm, IsKept, assigning_calm, chaining_calm, coalescing_calm, either_calm, is_looked_at, none_kept, on_two, raising_calm, test_kept, two_kept, writing_calm}
+use Rattle.lower_editions.specs.Stable.{AreKept, IsCalm, IsKept, logical_assignment_calm, optional_chaining_calm, nullish_coalescing_calm, either_calm, is_looked_at, none_kept, on_two, exponentiation_calm, test_kept, two_kept, writing_calm}
 use Rattle.lower_editions.proofs.BareNodes.{no_fields-bare, two-bare}
 
 -- WELL MADE NODES
@@ -191,9 +191,9 @@ module _ (no_all : Bool) where
   -- the rules of core programs neither take away a name nor make one in the place of another node
   core_calm : IsCalm (CoreRule no_all)
   core_calm =
-      either_calm Writing (either_rule Assigning (either_rule (either_rule Coalescing (Chaining no_all)) Raising)) writing_calm
-      (either_calm Assigning (either_rule (either_rule Coalescing (Chaining no_all)) Raising) assigning_calm
-      (either_calm (either_rule Coalescing (Chaining no_all)) Raising (either_calm Coalescing (Chaining no_all) coalescing_calm (chaining_calm no_all)) raising_calm))
+      either_calm Writing (either_rule OpenLogicalAssignment (either_rule (either_rule OpenNullishCoalescing (OpenOptionalChaining no_all)) OpenExponentiation)) writing_calm
+      (either_calm OpenLogicalAssignment (either_rule (either_rule OpenNullishCoalescing (OpenOptionalChaining no_all)) OpenExponentiation) logical_assignment_calm
+      (either_calm (either_rule OpenNullishCoalescing (OpenOptionalChaining no_all)) OpenExponentiation (either_calm OpenNullishCoalescing (OpenOptionalChaining no_all) nullish_coalescing_calm (optional_chaining_calm no_all)) exponentiation_calm))
 
   key_kept : (flags : List Bool) → IsKept (CoreRule no_all) (λ t. is_plain_key flags (kind_of t))
   key_kept flags = test_kept (CoreRule no_all) core_calm (λ t. is_plain_key flags (kind_of t)) (is_plain_key flags NullLiteral) (key_other flags) (λ k l c s s' fs gs r. refl)
@@ -317,7 +317,7 @@ more_shaped xs p h =
     (and_right (all_in_trees is_shaped (trees p.vars)) (all_in_trees is_shaped (trees p.lets)) h)
 
 module _ (no_all : Bool) where
-  row_shaped : (w : Whole) (p : Pending) (xs : List Text) (n : Need) (t u : Tree) → core_row no_all w xs n t u → Passes is_shaped (ledger w p) (all_nodes is_shaped t) → Passes is_shaped (ledger (with_names xs w) (with_vars xs p)) (all_nodes is_shaped u)
+  row_shaped : (w : Whole) (p : Pending) (xs : List Text) (n : Need) (t u : Tree) → core_rule no_all w xs n t u → Passes is_shaped (ledger w p) (all_nodes is_shaped t) → Passes is_shaped (ledger (with_names xs w) (with_vars xs p)) (all_nodes is_shaped u)
   row_shaped w p xs n t u r h = record { around = more_shaped xs p h.around; here = row_good Shaped (λ x. Unit {0}) shaped_passes_on chains_pass_on no_all w r (none_asked xs) h.here }
 
   rule_shaped : (n : Need) (s : Ledger) (x : Spot) (s' : Ledger) (y : Spot) → CoreRule no_all n s x s' y → Passes is_shaped s (spot_all is_shaped x) → Passes is_shaped s' (spot_all is_shaped y)

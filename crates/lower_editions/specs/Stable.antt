@@ -9,9 +9,9 @@ use Rattle.es_tree.specs.Tree.{Tree, node, Label, Fields, done, ◌then◌, one,
 use Rattle.es_tree.specs.declared.ast_type.AstType.{AstType}
 use Rattle.es_tree.specs.declared.ast_type.AstType.TheVariants.{AssignmentExpression, BigIntLiteral, BinaryExpression, Identifier, LogicalExpression, MemberExpression, ParenthesizedExpression, PrivateIdentifier, ThisExpression}
 use Rattle.es_runs.specs.Alike.{Need}
-use Rattle.es_runs.specs.Doubling.{has_no_fields}
+use Rattle.es_runs.specs.Duplication.{has_no_fields}
 use Rattle.es_runs.specs.Exponentiation.ExponentiationRule.{power, power_assignment}
-use Rattle.es_runs.specs.LogicalAssignment.{is_assigning}
+use Rattle.es_runs.specs.LogicalAssignment.{is_logical_assignment_operator}
 use Rattle.es_runs.specs.LogicalAssignment.LogicalAssignmentRule.{to_name, to_static_member, to_computed_member}
 use Rattle.es_runs.specs.OptionalChaining.{delete_node, has_tests, true_node, where_short}
 use Rattle.es_runs.specs.OptionalChaining.OptionalChainingRule.{by_tests, as_callee, in_delete}
@@ -24,18 +24,18 @@ use Rattle.es_runs.specs.OpenSteps.Step.{acts, inside}
 use Rattle.es_runs.specs.OpenSteps.FieldsStep.{in_first, in_later}
 use Rattle.es_runs.specs.OpenSteps.FieldStep.{in_child, in_children, within, acts_on_list}
 use Rattle.es_runs.specs.OpenSteps.TreesStep.{in_head, in_tail}
-use Rattle.es_runs.specs.OpenRules.{Assigning, Chaining, Coalescing, Raising, Writing, either_rule, where_on}
+use Rattle.es_runs.specs.OpenRules.{OpenLogicalAssignment, OpenOptionalChaining, OpenNullishCoalescing, OpenExponentiation, Writing, either_rule, where_on}
 use Rattle.es_runs.specs.OpenRules.Replacing.{replaces}
-use Rattle.es_runs.specs.OpenRules.raising_row.{raises}
-use Rattle.es_runs.specs.Steps.NullishRule.{with_temporary, reading_again}
+use Rattle.es_runs.specs.OpenRules.exponentiation_rule.{raises}
+use Rattle.es_runs.specs.NullishCoalescing.NullishCoalescingRule.{with_temporary, reading_again}
 use Rattle.es_runs.proofs.OpenTrees.{closed-opened}
 use Rattle.es_visit.specs.declared.hook.Hook.{Hook}
 use Rattle.es_visit.specs.declared.hook.Hook.TheVariants.{Expression}
 use Rattle.es_visit.specs.Laws.{IsStable}
-use Rattle.lower_editions.specs.Assignings.{has_doubled_key, is_doubled_target, is_lowerable_assignment}
-use Rattle.lower_editions.specs.Coalescings.{has_sides, is_leaf_where_read, is_lowerable_coalescing}
-use Rattle.lower_editions.specs.Powers.{has_power_key, is_power_target, is_lowerable_power}
-use Rattle.lower_editions.specs.Profiles.{assigning_rows, coalescing_rows, raising_rows}
+use Rattle.lower_editions.specs.LogicalAssignments.{has_duplicated_key, is_duplicated_target, is_lowerable_logical_assignment}
+use Rattle.lower_editions.specs.NullishCoalescings.{has_sides, is_leaf_where_read, is_lowerable_nullish_coalescing}
+use Rattle.lower_editions.specs.Exponentiations.{has_exponentiation_key, is_exponentiation_target, is_lowerable_exponentiation}
+use Rattle.lower_editions.specs.Profiles.{logical_assignment_constructs, nullish_coalescing_constructs, exponentiation_constructs}
 
 -- CALM RULES
 
@@ -53,29 +53,29 @@ is_looked_at _ = false
 abbrev pub IsCalm : (Need → Ledger → Spot → Ledger → Spot → Type 0) → Type 0
 IsCalm R = (n : Need) (s s' : Ledger) (t u : Tree) → R n s (at_node t) s' (at_node u) → (is_looked_at (kind_of t) ≡ false) × (is_looked_at (kind_of u) ≡ false)
 
-pub coalescing_calm : IsCalm Coalescing
-coalescing_calm n _ _ _ _ (replaces xs (with_temporary texts again fresh)) = (refl, refl)
-coalescing_calm n _ _ _ _ (replaces xs (reading_again texts again)) = (refl, refl)
+pub nullish_coalescing_calm : IsCalm OpenNullishCoalescing
+nullish_coalescing_calm n _ _ _ _ (replaces xs (with_temporary texts again fresh)) = (refl, refl)
+nullish_coalescing_calm n _ _ _ _ (replaces xs (reading_again texts again)) = (refl, refl)
 
-pub assigning_calm : IsCalm Assigning
-assigning_calm n _ _ _ _ (replaces xs (to_name texts op target)) = (refl, refl)
-assigning_calm n _ _ _ _ (replaces xs (to_static_member texts op target flags doubled)) = (refl, refl)
-assigning_calm n _ _ _ _ (replaces xs (to_computed_member texts op target flags doubled key)) = (refl, refl)
+pub logical_assignment_calm : IsCalm OpenLogicalAssignment
+logical_assignment_calm n _ _ _ _ (replaces xs (to_name texts op target)) = (refl, refl)
+logical_assignment_calm n _ _ _ _ (replaces xs (to_static_member texts op target flags duplicated)) = (refl, refl)
+logical_assignment_calm n _ _ _ _ (replaces xs (to_computed_member texts op target flags duplicated key)) = (refl, refl)
 
-pub raising_calm : IsCalm Raising
-raising_calm n _ _ _ _ (replaces xs (raises free (power texts left right))) = (refl, refl)
-raising_calm n _ _ _ _ (replaces xs (raises free (power_assignment {fs = []} texts right target))) = (refl, refl)
-raising_calm n _ _ _ _ (replaces xs (raises free (power_assignment {fs = f ∷ fs} texts right target))) = (refl, refl)
+pub exponentiation_calm : IsCalm OpenExponentiation
+exponentiation_calm n _ _ _ _ (replaces xs (raises free (power texts left right))) = (refl, refl)
+exponentiation_calm n _ _ _ _ (replaces xs (raises free (power_assignment {fs = []} texts right target))) = (refl, refl)
+exponentiation_calm n _ _ _ _ (replaces xs (raises free (power_assignment {fs = f ∷ fs} texts right target))) = (refl, refl)
 
 -- where something was tested, a conditional stands
 short_calm : (m : Label) (ts : List Tree) (short long : Tree) → has_tests ts ≡ true → is_looked_at (kind_of (where_short m ts short long)) ≡ false
 short_calm m [] short long h = absurd (cc h)
 short_calm m (t ∷ ts) short long h = refl
 
-pub chaining_calm : (no_all : Bool) → IsCalm (Chaining no_all)
-chaining_calm no_all n _ _ _ _ (replaces xs (by_tests {m = m} {w = w} level walked tested)) = (refl, short_calm m w.tests void_zero_node w.current tested)
-chaining_calm no_all n _ _ _ _ (replaces xs (as_callee {m = m} {d = d} {w = w} level walked tested callee)) = (refl, short_calm m w.tests void_zero_node d tested)
-chaining_calm no_all n _ _ _ _ (replaces xs (in_delete {m = m} {w = w} texts inner walked tested)) = (refl, short_calm m w.tests true_node (delete_node w.current) tested)
+pub optional_chaining_calm : (no_all : Bool) → IsCalm (OpenOptionalChaining no_all)
+optional_chaining_calm no_all n _ _ _ _ (replaces xs (by_tests {m = m} {w = w} level walked tested)) = (refl, short_calm m w.tests void_zero_node w.current tested)
+optional_chaining_calm no_all n _ _ _ _ (replaces xs (as_callee {m = m} {d = d} {w = w} level walked tested callee)) = (refl, short_calm m w.tests void_zero_node d tested)
+optional_chaining_calm no_all n _ _ _ _ (replaces xs (in_delete {m = m} {w = w} texts inner walked tested)) = (refl, short_calm m w.tests true_node (delete_node w.current) tested)
 
 -- what is written is written at no node
 pub writing_calm : IsCalm Writing
@@ -196,50 +196,50 @@ big_other : (t : Tree) → is_looked_at (kind_of t) ≡ false → is_big_int (ki
 big_other (node BigIntLiteral l fs) h = absurd (cc h)
 big_other (node _ l fs) h = refl
 
-doubled_key_other : (flags : List Bool) (t : Tree) → is_looked_at (kind_of t) ≡ false → has_doubled_key flags t ≡ has_doubled_key flags null_node
-doubled_key_other (true ∷ false ∷ []) t h = refl
-doubled_key_other (false ∷ false ∷ []) (node Identifier l fs) h = absurd (cc h)
-doubled_key_other _ _ h = refl
+duplicated_key_other : (flags : List Bool) (t : Tree) → is_looked_at (kind_of t) ≡ false → has_duplicated_key flags t ≡ has_duplicated_key flags null_node
+duplicated_key_other (true ∷ false ∷ []) t h = refl
+duplicated_key_other (false ∷ false ∷ []) (node Identifier l fs) h = absurd (cc h)
+duplicated_key_other _ _ h = refl
 
-power_key_other : (flags : List Bool) (t : Tree) → is_looked_at (kind_of t) ≡ false → has_power_key flags t ≡ has_power_key flags null_node
-power_key_other (true ∷ false ∷ []) t h = refl
-power_key_other (false ∷ false ∷ []) (node Identifier l fs) h = absurd (cc h)
-power_key_other (false ∷ false ∷ []) (node PrivateIdentifier l fs) h = absurd (cc h)
-power_key_other _ _ h = refl
+exponentiation_key_other : (flags : List Bool) (t : Tree) → is_looked_at (kind_of t) ≡ false → has_exponentiation_key flags t ≡ has_exponentiation_key flags null_node
+exponentiation_key_other (true ∷ false ∷ []) t h = refl
+exponentiation_key_other (false ∷ false ∷ []) (node Identifier l fs) h = absurd (cc h)
+exponentiation_key_other (false ∷ false ∷ []) (node PrivateIdentifier l fs) h = absurd (cc h)
+exponentiation_key_other _ _ h = refl
 
-doubled_target_other : (t : Tree) → is_looked_at (kind_of t) ≡ false → is_doubled_target t ≡ false
-doubled_target_other (node Identifier l fs) h = absurd (cc h)
-doubled_target_other (node MemberExpression l fs) h = absurd (cc h)
-doubled_target_other (node _ l fs) h = refl
+duplicated_target_other : (t : Tree) → is_looked_at (kind_of t) ≡ false → is_duplicated_target t ≡ false
+duplicated_target_other (node Identifier l fs) h = absurd (cc h)
+duplicated_target_other (node MemberExpression l fs) h = absurd (cc h)
+duplicated_target_other (node _ l fs) h = refl
 
-power_target_other : (t : Tree) → is_looked_at (kind_of t) ≡ false → is_power_target t ≡ false
-power_target_other (node Identifier l fs) h = absurd (cc h)
-power_target_other (node MemberExpression l fs) h = absurd (cc h)
-power_target_other (node _ l fs) h = refl
+exponentiation_target_other : (t : Tree) → is_looked_at (kind_of t) ≡ false → is_exponentiation_target t ≡ false
+exponentiation_target_other (node Identifier l fs) h = absurd (cc h)
+exponentiation_target_other (node MemberExpression l fs) h = absurd (cc h)
+exponentiation_target_other (node _ l fs) h = refl
 
-pub doubled_member : (l : Label) (fs : Fields) → is_doubled_target (node MemberExpression l fs) ≡ on_two (λ o k. has_doubled_key l.flags k) fs
-doubled_member l (one o then (one k then done)) = refl
-doubled_member l _ = refl
+pub duplicated_member : (l : Label) (fs : Fields) → is_duplicated_target (node MemberExpression l fs) ≡ on_two (λ o k. has_duplicated_key l.flags k) fs
+duplicated_member l (one o then (one k then done)) = refl
+duplicated_member l _ = refl
 
-pub power_member : (l : Label) (fs : Fields) → is_power_target (node MemberExpression l fs) ≡ on_two (λ o k. has_power_key l.flags k) fs
-power_member l (one o then (one k then done)) = refl
-power_member l _ = refl
+pub exponentiation_member : (l : Label) (fs : Fields) → is_exponentiation_target (node MemberExpression l fs) ≡ on_two (λ o k. has_exponentiation_key l.flags k) fs
+exponentiation_member l (one o then (one k then done)) = refl
+exponentiation_member l _ = refl
 
 pub sides_two : (fs : Fields) → has_sides fs ≡ on_two (λ a b. is_leaf_where_read a) fs
 sides_two (one a then (one b then done)) = refl
 sides_two _ = refl
 
-pub assignment_two : (l : Label) (fs : Fields) → is_lowerable_assignment AssignmentExpression l fs ≡ on_two (λ t r. is_assigning (first_text l.texts) && is_doubled_target (without_parens t)) fs
+pub assignment_two : (l : Label) (fs : Fields) → is_lowerable_logical_assignment AssignmentExpression l fs ≡ on_two (λ t r. is_logical_assignment_operator (first_text l.texts) && is_duplicated_target (without_parens t)) fs
 assignment_two l (one a then (one b then done)) = refl
 assignment_two l _ = refl
 
-pub power_two : (l : Label) (fs : Fields) → is_lowerable_power BinaryExpression l fs ≡ on_two (λ a b. bytes_eq (first_text l.texts) (codes "**") && not (is_big_int (kind_of a)) && not (is_big_int (kind_of b))) fs
-power_two l (one a then (one b then done)) = refl
-power_two l _ = refl
+pub exponentiation_two : (l : Label) (fs : Fields) → is_lowerable_exponentiation BinaryExpression l fs ≡ on_two (λ a b. bytes_eq (first_text l.texts) (codes "**") && not (is_big_int (kind_of a)) && not (is_big_int (kind_of b))) fs
+exponentiation_two l (one a then (one b then done)) = refl
+exponentiation_two l _ = refl
 
-pub power_assignment_two : (l : Label) (fs : Fields) → is_lowerable_power AssignmentExpression l fs ≡ on_two (λ t r. bytes_eq (first_text l.texts) (codes "**=") && not (is_big_int (kind_of r)) && is_power_target (without_parens t)) fs
-power_assignment_two l (one a then (one b then done)) = refl
-power_assignment_two l _ = refl
+pub exponentiation_assignment_two : (l : Label) (fs : Fields) → is_lowerable_exponentiation AssignmentExpression l fs ≡ on_two (λ t r. bytes_eq (first_text l.texts) (codes "**=") && not (is_big_int (kind_of r)) && is_exponentiation_target (without_parens t)) fs
+exponentiation_assignment_two l (one a then (one b then done)) = refl
+exponentiation_assignment_two l _ = refl
 
 module _ (R : Need → Ledger → Spot → Ledger → Spot → Type 0) (calm : IsCalm R) where
   leaf_kept : IsKept R is_leaf_where_read
@@ -253,83 +253,83 @@ module _ (R : Need → Ledger → Spot → Ledger → Spot → Type 0) (calm : I
   pub big_kept : IsKept R (λ t. is_big_int (kind_of t))
   big_kept = test_kept R calm (λ t. is_big_int (kind_of t)) false big_other (λ k l c s s' fs gs r. refl)
 
-  doubled_key_kept : (flags : List Bool) → IsKept R (has_doubled_key flags)
-  doubled_key_kept flags = test_kept R calm (has_doubled_key flags) (has_doubled_key flags null_node) (doubled_key_other flags) (own flags)
+  duplicated_key_kept : (flags : List Bool) → IsKept R (has_duplicated_key flags)
+  duplicated_key_kept flags = test_kept R calm (has_duplicated_key flags) (has_duplicated_key flags null_node) (duplicated_key_other flags) (own flags)
     where
-      own : (flags : List Bool) (k : AstType) (l : Label) → AreKept R (λ fs. has_doubled_key flags (node k l fs))
+      own : (flags : List Bool) (k : AstType) (l : Label) → AreKept R (λ fs. has_duplicated_key flags (node k l fs))
       own (true ∷ false ∷ []) k l = λ c s s' fs gs r. refl
       own (false ∷ false ∷ []) Identifier l = none_kept R
       own _ _ l = λ c s s' fs gs r. refl
 
-  power_key_kept : (flags : List Bool) → IsKept R (has_power_key flags)
-  power_key_kept flags = test_kept R calm (has_power_key flags) (has_power_key flags null_node) (power_key_other flags) (own flags)
+  exponentiation_key_kept : (flags : List Bool) → IsKept R (has_exponentiation_key flags)
+  exponentiation_key_kept flags = test_kept R calm (has_exponentiation_key flags) (has_exponentiation_key flags null_node) (exponentiation_key_other flags) (own flags)
     where
-      own : (flags : List Bool) (k : AstType) (l : Label) → AreKept R (λ fs. has_power_key flags (node k l fs))
+      own : (flags : List Bool) (k : AstType) (l : Label) → AreKept R (λ fs. has_exponentiation_key flags (node k l fs))
       own (true ∷ false ∷ []) k l = λ c s s' fs gs r. refl
       own (false ∷ false ∷ []) Identifier l = none_kept R
       own (false ∷ false ∷ []) PrivateIdentifier l = none_kept R
       own _ _ l = λ c s s' fs gs r. refl
 
-  doubled_target_kept : IsKept R (λ t. is_doubled_target (without_parens t))
-  doubled_target_kept = below_kept R calm is_doubled_target false doubled_target_other own
+  duplicated_target_kept : IsKept R (λ t. is_duplicated_target (without_parens t))
+  duplicated_target_kept = below_kept R calm is_duplicated_target false duplicated_target_other own
     where
-      own : (k : AstType) (l : Label) → AreKept R (λ fs. is_doubled_target (node k l fs))
+      own : (k : AstType) (l : Label) → AreKept R (λ fs. is_duplicated_target (node k l fs))
       own Identifier l = none_kept R
-      own MemberExpression l = said_kept R (λ fs. is_doubled_target (node MemberExpression l fs)) (on_two (λ o k. has_doubled_key l.flags k)) (doubled_member l) (two_kept R (λ o k. has_doubled_key l.flags k) (λ b n s s' o u r. refl) (λ a. doubled_key_kept l.flags))
+      own MemberExpression l = said_kept R (λ fs. is_duplicated_target (node MemberExpression l fs)) (on_two (λ o k. has_duplicated_key l.flags k)) (duplicated_member l) (two_kept R (λ o k. has_duplicated_key l.flags k) (λ b n s s' o u r. refl) (λ a. duplicated_key_kept l.flags))
       own _ l = λ c s s' fs gs r. refl
 
-  power_target_kept : IsKept R (λ t. is_power_target (without_parens t))
-  power_target_kept = below_kept R calm is_power_target false power_target_other own
+  exponentiation_target_kept : IsKept R (λ t. is_exponentiation_target (without_parens t))
+  exponentiation_target_kept = below_kept R calm is_exponentiation_target false exponentiation_target_other own
     where
-      own : (k : AstType) (l : Label) → AreKept R (λ fs. is_power_target (node k l fs))
+      own : (k : AstType) (l : Label) → AreKept R (λ fs. is_exponentiation_target (node k l fs))
       own Identifier l = none_kept R
-      own MemberExpression l = said_kept R (λ fs. is_power_target (node MemberExpression l fs)) (on_two (λ o k. has_power_key l.flags k)) (power_member l) (two_kept R (λ o k. has_power_key l.flags k) (λ b n s s' o u r. refl) (λ a. power_key_kept l.flags))
+      own MemberExpression l = said_kept R (λ fs. is_exponentiation_target (node MemberExpression l fs)) (on_two (λ o k. has_exponentiation_key l.flags k)) (exponentiation_member l) (two_kept R (λ o k. has_exponentiation_key l.flags k) (λ b n s s' o u r. refl) (λ a. exponentiation_key_kept l.flags))
       own _ l = λ c s s' fs gs r. refl
 
   -- THE CONSTRUCTS
 
-  pub coalescing_kept : (k : AstType) (l : Label) → AreKept R (is_lowerable_coalescing k l)
-  coalescing_kept LogicalExpression l = λ c s s' fs gs r. ap (λ b. is_nullish_coalescing LogicalExpression l done && b) (sides c s s' fs gs r)
+  pub nullish_coalescing_kept : (k : AstType) (l : Label) → AreKept R (is_lowerable_nullish_coalescing k l)
+  nullish_coalescing_kept LogicalExpression l = λ c s s' fs gs r. ap (λ b. is_nullish_coalescing LogicalExpression l done && b) (sides c s s' fs gs r)
     where
       sides : AreKept R has_sides
       sides = said_kept R has_sides (on_two (λ a b. is_leaf_where_read a)) sides_two (two_kept R (λ a b. is_leaf_where_read a) (λ b. leaf_kept) (λ a n s s' o u r. refl))
-  coalescing_kept _ l = λ c s s' fs gs r. refl
+  nullish_coalescing_kept _ l = λ c s s' fs gs r. refl
 
-  pub assignment_kept : (k : AstType) (l : Label) → AreKept R (is_lowerable_assignment k l)
-  assignment_kept AssignmentExpression l = said_kept R (is_lowerable_assignment AssignmentExpression l) (on_two P) (assignment_two l) (two_kept R P (λ b n s s' o u r. ap (λ x. is_assigning (first_text l.texts) && x) (doubled_target_kept n s s' o u r)) (λ a n s s' o u r. refl))
+  pub assignment_kept : (k : AstType) (l : Label) → AreKept R (is_lowerable_logical_assignment k l)
+  assignment_kept AssignmentExpression l = said_kept R (is_lowerable_logical_assignment AssignmentExpression l) (on_two P) (assignment_two l) (two_kept R P (λ b n s s' o u r. ap (λ x. is_logical_assignment_operator (first_text l.texts) && x) (duplicated_target_kept n s s' o u r)) (λ a n s s' o u r. refl))
     where
       P : Tree → Tree → Bool
-      P t r = is_assigning (first_text l.texts) && is_doubled_target (without_parens t)
+      P t r = is_logical_assignment_operator (first_text l.texts) && is_duplicated_target (without_parens t)
   assignment_kept _ l = λ c s s' fs gs r. refl
 
-  pub power_kept : (k : AstType) (l : Label) → AreKept R (is_lowerable_power k l)
-  power_kept BinaryExpression l =
-      said_kept R (is_lowerable_power BinaryExpression l) (on_two P) (power_two l)
+  pub exponentiation_kept : (k : AstType) (l : Label) → AreKept R (is_lowerable_exponentiation k l)
+  exponentiation_kept BinaryExpression l =
+      said_kept R (is_lowerable_exponentiation BinaryExpression l) (on_two P) (exponentiation_two l)
       (two_kept R P (λ b n s s' o u r. ap (λ x. bytes_eq (first_text l.texts) (codes "**") && not x && not (is_big_int (kind_of b))) (big_kept n s s' o u r)) (λ a n s s' o u r. ap (λ x. bytes_eq (first_text l.texts) (codes "**") && not (is_big_int (kind_of a)) && not x) (big_kept n s s' o u r)))
     where
       P : Tree → Tree → Bool
       P a b = bytes_eq (first_text l.texts) (codes "**") && not (is_big_int (kind_of a)) && not (is_big_int (kind_of b))
-  power_kept AssignmentExpression l =
-      said_kept R (is_lowerable_power AssignmentExpression l) (on_two P) (power_assignment_two l)
-      (two_kept R P (λ b n s s' o u r. ap (λ x. bytes_eq (first_text l.texts) (codes "**=") && not (is_big_int (kind_of b)) && x) (power_target_kept n s s' o u r)) (λ a n s s' o u r. ap (λ x. bytes_eq (first_text l.texts) (codes "**=") && not x && is_power_target (without_parens a)) (big_kept n s s' o u r)))
+  exponentiation_kept AssignmentExpression l =
+      said_kept R (is_lowerable_exponentiation AssignmentExpression l) (on_two P) (exponentiation_assignment_two l)
+      (two_kept R P (λ b n s s' o u r. ap (λ x. bytes_eq (first_text l.texts) (codes "**=") && not (is_big_int (kind_of b)) && x) (exponentiation_target_kept n s s' o u r)) (λ a n s s' o u r. ap (λ x. bytes_eq (first_text l.texts) (codes "**=") && not x && is_exponentiation_target (without_parens a)) (big_kept n s s' o u r)))
     where
       P : Tree → Tree → Bool
-      P t r = bytes_eq (first_text l.texts) (codes "**=") && not (is_big_int (kind_of r)) && is_power_target (without_parens t)
-  power_kept _ l = λ c s s' fs gs r. refl
+      P t r = bytes_eq (first_text l.texts) (codes "**=") && not (is_big_int (kind_of r)) && is_exponentiation_target (without_parens t)
+  exponentiation_kept _ l = λ c s s' fs gs r. refl
 
 -- ROWS OF HOOKS
 
-kept_stable : (R : Need → Ledger → Spot → Ledger → Spot → Type 0) (rows : AstType → Label → Fields → Bool) → ((k : AstType) (l : Label) → AreKept R (rows k l)) → IsStable R rows
-kept_stable R rows kept c s s' k l fs gs r e = sym (kept k l c s s' fs gs r) ∙ e
+kept_stable : (R : Need → Ledger → Spot → Ledger → Spot → Type 0) (constructs : AstType → Label → Fields → Bool) → ((k : AstType) (l : Label) → AreKept R (constructs k l)) → IsStable R constructs
+kept_stable R constructs kept c s s' k l fs gs r e = sym (kept k l c s s' fs gs r) ∙ e
 
-pub coalescing_stable : (R : Need → Ledger → Spot → Ledger → Spot → Type 0) → IsCalm R → (h : Hook) → IsStable R (coalescing_rows h)
-coalescing_stable R calm Expression = kept_stable R is_lowerable_coalescing (coalescing_kept R calm)
-coalescing_stable R calm _ = λ c s s' k l fs gs r e. refl
+pub nullish_coalescing_stable : (R : Need → Ledger → Spot → Ledger → Spot → Type 0) → IsCalm R → (h : Hook) → IsStable R (nullish_coalescing_constructs h)
+nullish_coalescing_stable R calm Expression = kept_stable R is_lowerable_nullish_coalescing (nullish_coalescing_kept R calm)
+nullish_coalescing_stable R calm _ = λ c s s' k l fs gs r e. refl
 
-pub assigning_stable : (R : Need → Ledger → Spot → Ledger → Spot → Type 0) → IsCalm R → (h : Hook) → IsStable R (assigning_rows h)
-assigning_stable R calm Expression = kept_stable R is_lowerable_assignment (assignment_kept R calm)
-assigning_stable R calm _ = λ c s s' k l fs gs r e. refl
+pub logical_assignment_stable : (R : Need → Ledger → Spot → Ledger → Spot → Type 0) → IsCalm R → (h : Hook) → IsStable R (logical_assignment_constructs h)
+logical_assignment_stable R calm Expression = kept_stable R is_lowerable_logical_assignment (assignment_kept R calm)
+logical_assignment_stable R calm _ = λ c s s' k l fs gs r e. refl
 
-pub raising_stable : (R : Need → Ledger → Spot → Ledger → Spot → Type 0) → IsCalm R → (h : Hook) → IsStable R (raising_rows h)
-raising_stable R calm Expression = kept_stable R is_lowerable_power (power_kept R calm)
-raising_stable R calm _ = λ c s s' k l fs gs r e. refl
+pub exponentiation_stable : (R : Need → Ledger → Spot → Ledger → Spot → Type 0) → IsCalm R → (h : Hook) → IsStable R (exponentiation_constructs h)
+exponentiation_stable R calm Expression = kept_stable R is_lowerable_exponentiation (exponentiation_kept R calm)
+exponentiation_stable R calm _ = λ c s s' k l fs gs r e. refl

@@ -32,7 +32,7 @@ impl ES2020 {
     ghost use Rattle.es_visit.specs.declared.hook.Hook.TheVariants.{Expression as AnyExpression};
     ghost use Rattle.lower_common.specs.Takings.{moment_of};
     ghost use Rattle.lower_editions.specs.Editions.{assumes_of, no_entries, no_tally, options_of};
-    ghost use Rattle.lower_editions.specs.Profiles.{chains_profile, nullish_profile};
+    ghost use Rattle.lower_editions.specs.Profiles.{optional_chaining_under, nullish_coalescing_under};
 
     /// The lowerings that these options ask for, where it is assumed or not that no value is
     /// `document.all`. It takes no memory.
@@ -48,15 +48,15 @@ impl ES2020 {
     }
 
     /// Lowers nullish coalescing, where it is on (ECMA-262, 13.13). Answers an error only for want of memory.
-    fn enter_coalescing(
+    fn enter_nullish_coalescing(
         &mut self,
         node: &mut Expression,
         ctx: &mut TraverseCtx<TransformState>,
     ) -> Result<(), LowerError>
         requires ready { IsReady suits_es2020 self.old (moment_of ctx.old) (weight (bare node.old)) }
-        ensures entered { IfOk result (λ _. Entered (nullish_profile ctx.old.options) AnyExpression (moment_of ctx.old) (bare node.old) (moment_of ctx.new) (bare node.new)) }
+        ensures entered { IfOk result (λ _. Entered (nullish_coalescing_under ctx.old.options) AnyExpression (moment_of ctx.old) (bare node.old) (moment_of ctx.new) (bare node.new)) }
         ensures goes { IfOk result (λ _. Goes suits_es2020 no_tally no_entries ctx.old.options AnyExpression self.old self.new) }
-        ensures refused { IfErr result (λ error. RefusedTree (nullish_profile ctx.old.options).rule (nullish_profile ctx.old.options).refuses error (moment_of ctx.old) (bare node.old)) }
+        ensures refused { IfErr result (λ error. RefusedTree (nullish_coalescing_under ctx.old.options).rule (nullish_coalescing_under ctx.old.options).refuses error (moment_of ctx.old) (bare node.old)) }
     {
         if self.options.nullish_coalescing_operator {
             self.nullish_coalescing_operator
@@ -72,9 +72,9 @@ impl ES2020 {
         ctx: &mut TraverseCtx<TransformState>,
     ) -> Result<(), LowerError>
         requires ready { IsReady suits_es2020 self.old (moment_of ctx.old) (weight (bare node.old)) }
-        ensures entered { IfOk result (λ _. Entered (chains_profile ctx.old.options) AnyExpression (moment_of ctx.old) (bare node.old) (moment_of ctx.new) (bare node.new)) }
+        ensures entered { IfOk result (λ _. Entered (optional_chaining_under ctx.old.options) AnyExpression (moment_of ctx.old) (bare node.old) (moment_of ctx.new) (bare node.new)) }
         ensures goes { IfOk result (λ _. Goes suits_es2020 no_tally no_entries ctx.old.options AnyExpression self.old self.new) }
-        ensures refused { IfErr result (λ error. RefusedTree (chains_profile ctx.old.options).rule (chains_profile ctx.old.options).refuses error (moment_of ctx.old) (bare node.old)) }
+        ensures refused { IfErr result (λ error. RefusedTree (optional_chaining_under ctx.old.options).rule (optional_chaining_under ctx.old.options).refuses error (moment_of ctx.old) (bare node.old)) }
     {
         if self.options.optional_chaining {
             self.optional_chaining.enter_expression(node, ctx)?;
@@ -111,7 +111,7 @@ impl Traverse<TransformState> for ES2020 {
         node: &mut Expression,
         ctx: &mut TraverseCtx<TransformState>,
     ) -> Result<(), LowerError> {
-        self.enter_coalescing(node, ctx)?;
+        self.enter_nullish_coalescing(node, ctx)?;
         self.enter_chains(node, ctx)?;
         Ok(())
     }

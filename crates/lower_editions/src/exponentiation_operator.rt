@@ -10,7 +10,7 @@
 //! | `o[k] **= v` | `_o = o, _k = k, _o[_k] = Math.pow(_o[_k], v)` |
 //! | `o[1] **= v`, where the program's scope binds `o` | `o[1] = Math.pow(o[1], v)` |
 //!
-//! Its rule is `raising_row` (es_runs, specs/OpenRules.antt), by the rows of specs/Exponentiation.antt there.
+//! Its rule is `exponentiation_rule` (es_runs, specs/OpenRules.antt), by the rows of specs/Exponentiation.antt there.
 //!
 //! Where it differs from the lowering of oxc_transformer:
 //!
@@ -20,11 +20,11 @@
 //! - A regular expression as a key takes a temporary, since it is a new object each time.
 //! - Parentheses around a target are dropped.
 ghost use Rattle.std.specs.Prelude.{◌≡◌, false, true};
-ghost use Rattle.lower_editions.specs.Lawful.{raising_lawful};
-ghost use Rattle.lower_editions.specs.Profiles.{raising_profile};
+ghost use Rattle.lower_editions.specs.Lawful.{exponentiation_lawful};
+ghost use Rattle.lower_editions.specs.Profiles.{exponentiation_profile};
 
-use crate::power_tests::is_lowerable;
-use crate::powers::lower_power;
+use crate::exponentiation_constructs::is_lowerable;
+use crate::exponentiation_nodes::lower_exponentiation;
 use es_scope::context::TraverseCtx;
 use es_tree::error::{LowerError, UnsupportedKind};
 use es_tree::sorts::Expression;
@@ -48,7 +48,7 @@ impl ExponentiationOperator {
 }
 
 impl Lowering for ExponentiationOperator {
-    ghost profile = { λ o. raising_profile };
+    ghost profile = { λ o. exponentiation_profile };
 
     ghost keeps = { false };
 
@@ -85,9 +85,9 @@ impl Traverse<TransformState> for ExponentiationOperator {
             return Err(LowerError::OutOfMemory);
         }
         let taken = mem::replace(node, new_placeholder(ctx.ast.alloc));
-        *node = lower_power(taken, ctx)?;
+        *node = lower_exponentiation(taken, ctx)?;
         Ok(())
     }
 
-    ghost lawful = { λ x o. raising_lawful };
+    ghost lawful = { λ x o. exponentiation_lawful };
 }

@@ -15,11 +15,11 @@
 //! Its rule is `LogicalAssignmentRule` of es_runs. It differs from the crate in that a member with a private
 //! name stays as it is, and in that parentheses around the target are dropped.
 ghost use Rattle.std.specs.Prelude.{◌≡◌, false, true};
-ghost use Rattle.lower_editions.specs.Lawful.{assigning_lawful};
-ghost use Rattle.lower_editions.specs.Profiles.{assigning_profile};
+ghost use Rattle.lower_editions.specs.Lawful.{logical_assignment_lawful};
+ghost use Rattle.lower_editions.specs.Profiles.{logical_assignment_profile};
 
-use crate::assigning::lower_assignment;
-use crate::assigning_tests::is_lowerable;
+use crate::logical_assignment_constructs::is_lowerable;
+use crate::logical_assignment_nodes::lower_assignment;
 use es_scope::context::TraverseCtx;
 use es_tree::error::LowerError;
 use es_tree::sorts::Expression;
@@ -42,7 +42,7 @@ impl LogicalAssignmentOperators {
 }
 
 impl Lowering for LogicalAssignmentOperators {
-    ghost profile = { λ o. assigning_profile };
+    ghost profile = { λ o. logical_assignment_profile };
 
     ghost keeps = { false };
 
@@ -79,5 +79,5 @@ impl Traverse<TransformState> for LogicalAssignmentOperators {
         Ok(())
     }
 
-    ghost lawful = { λ x o. assigning_lawful };
+    ghost lawful = { λ x o. logical_assignment_lawful };
 }

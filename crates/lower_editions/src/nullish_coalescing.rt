@@ -14,10 +14,10 @@
 //!     const port = (_config$port = config.port) !== null && _config$port !== void 0 ? _config$port : 8080;
 //!     let size = port !== null && port !== void 0 ? port : 1;
 ghost use Rattle.std.specs.Prelude.{◌≡◌, false, true};
-ghost use Rattle.lower_editions.specs.Lawful.{coalescing_lawful};
-ghost use Rattle.lower_editions.specs.Profiles.{coalescing_profile};
+ghost use Rattle.lower_editions.specs.Lawful.{nullish_coalescing_lawful};
+ghost use Rattle.lower_editions.specs.Profiles.{nullish_coalescing_profile};
 
-use crate::coalescing::{is_lowerable, lower_coalescing};
+use crate::nullish_coalescing_nodes::{is_lowerable, lower_nullish_coalescing};
 use es_scope::context::TraverseCtx;
 use es_tree::error::LowerError;
 use es_tree::sorts::Expression;
@@ -40,7 +40,7 @@ impl NullishCoalescingOperator {
 }
 
 impl Lowering for NullishCoalescingOperator {
-    ghost profile = { λ o. coalescing_profile };
+    ghost profile = { λ o. nullish_coalescing_profile };
 
     ghost keeps = { false };
 
@@ -72,10 +72,10 @@ impl Traverse<TransformState> for NullishCoalescingOperator {
                 return Err(LowerError::OutOfMemory);
             }
             let taken = mem::replace(node, new_placeholder(ctx.ast.alloc));
-            *node = lower_coalescing(taken, ctx)?;
+            *node = lower_nullish_coalescing(taken, ctx)?;
         }
         Ok(())
     }
 
-    ghost lawful = { λ x o. coalescing_lawful };
+    ghost lawful = { λ x o. nullish_coalescing_lawful };
 }

@@ -3,7 +3,7 @@ use Rattle.std.proofs.Common.{◌≤◌, Option, arith}
 use Rattle.es_tree.specs.Tree.{Tree}
 use Rattle.es_tree.specs.Words.{Text}
 use Rattle.es_scope.specs.declared.context.TraverseCtx.{TraverseCtx}
-use Rattle.es_runs.proofs.ChainWeights.{bound_few}
+use Rattle.es_runs.proofs.OptionalChainingWeights.{bound_few}
 use Rattle.lower_common.specs.declared.state.TransformState.{TransformState}
 use Rattle.lower_optional_chaining.specs.Ways.{BindsTo}
 

@@ -10,12 +10,12 @@ use Rattle.es_tree.specs.Words.{Text}
 use Rattle.es_tree.specs.declared.ids.Span.{Span}
 use Rattle.es_scope.specs.Contexts.{steady_of, uses_of}
 use Rattle.es_scope.specs.declared.context.TraverseCtx.{TraverseCtx}
-use Rattle.es_runs.proofs.ChainWeights.{single_name, tests_size-append}
-use Rattle.es_runs.specs.OptionalChaining.{Called, Way, call_at, call_method, is_member, member_at, stored_call, tests_of}
+use Rattle.es_runs.proofs.OptionalChainingWeights.{single_name, tests_size-append}
+use Rattle.es_runs.specs.OptionalChaining.{Called, Way, call_at, call_method, is_member, member_at, stored_call, null_checks}
 use Rattle.es_runs.specs.OptionalChaining.Called.{by_name, by_value, by_first_member, by_later_member}
 use Rattle.es_runs.specs.Rules.{assign_node}
 use Rattle.es_runs.specs.Runs.{identifier}
-use Rattle.es_runs.specs.Steps.{also_all}
+use Rattle.es_runs.specs.NullishCoalescing.{also_all}
 use Rattle.lower_common.proofs.BareBases.{node_base-bare}
 use Rattle.lower_common.proofs.Takings.{takes_reads, takes_trans}
 use Rattle.lower_common.specs.Takings.{ReadsMore, Takes, moment_of}
@@ -42,7 +42,7 @@ none_length (t ∷ ts) n e = at (n == 0) refl where
 
 -- of a callee that was stored
 pub called_stored : (no_all : Bool) (old mid new : TraverseCtx TransformState) (l : Label) (arguments : Trees) (tests : List Tree) (callee stored : Tree) (t : Temporary) (r : CodeWay) → TakesTemporary old mid (node_base callee) t →
-    map bare r.tests.items ≡ tests ++ tests_of no_all (assign_node (identifier (string_bytes t.name)) (bare callee)) (identifier (string_bytes t.name)) → stored ≡ identifier (string_bytes t.name) → bare r.current ≡ call_at l stored arguments → held_name r.holder ≡ Some (string_bytes t.name) → ReadsMore (2 + test_nodes no_all) mid new →
+    map bare r.tests.items ≡ tests ++ null_checks no_all (assign_node (identifier (string_bytes t.name)) (bare callee)) (identifier (string_bytes t.name)) → stored ≡ identifier (string_bytes t.name) → bare r.current ≡ call_at l stored arguments → held_name r.holder ≡ Some (string_bytes t.name) → ReadsMore (2 + test_nodes no_all) mid new →
     CallsStored no_all old new l arguments tests (bare callee) r
 called_stored no_all old mid new l arguments tests callee stored t r made tested is current holder reads =
     let name = string_bytes t.name in
@@ -59,7 +59,7 @@ called_stored no_all old mid new l arguments tests callee stored t r made tested
 
 -- of a member that was stored with its receiver
 pub called_member : (no_all first : Bool) (old mid last new : TraverseCtx TransformState) (l : Label) (arguments : Trees) (tests : List Tree) (holder : Option Text) (callee written receiver stored : Tree) (t : Temporary) (r : CodeWay) → WritesCallee first old mid holder callee written receiver t →
-    map bare r.tests.items ≡ tests ++ tests_of no_all (assign_node (identifier (string_bytes t.name)) written) (identifier (string_bytes t.name)) → stored ≡ identifier (string_bytes t.name) → bare r.current ≡ call_at l (call_method stored) (receiver before arguments) → held_name r.holder ≡ Some (string_bytes t.name) →
+    map bare r.tests.items ≡ tests ++ null_checks no_all (assign_node (identifier (string_bytes t.name)) written) (identifier (string_bytes t.name)) → stored ≡ identifier (string_bytes t.name) → bare r.current ≡ call_at l (call_method stored) (receiver before arguments) → held_name r.holder ≡ Some (string_bytes t.name) →
     ReadsMore (2 + test_nodes no_all) mid last → ReadsMore 2 last new → CallsMember no_all first old new l arguments tests holder callee r
 called_member no_all first old mid last new l arguments tests holder callee written receiver stored t r made tested is current held more rest =
     let name = string_bytes t.name in
@@ -81,7 +81,7 @@ called_member no_all first old mid last new l arguments tests holder callee writ
       fresh = fresh_moved (λ y. refl) (ap (λ (c : Tree). node_base (named_by first callee c)) wrote.written_is) made.fresh;
       receives = made.receives;
       unsteady = made.unsteady;
-      tests_are = tested ∙ ap (λ (c : Tree). tests ++ tests_of no_all (assign_node (identifier name) c) (identifier name)) wrote.written_is;
+      tests_are = tested ∙ ap (λ (c : Tree). tests ++ null_checks no_all (assign_node (identifier name) c) (identifier name)) wrote.written_is;
       current_is = current ∙ (λ i. call_at l (call_method (is i)) (wrote.receiver_is i before arguments));
       holder_is = held;
       takes = takes_reads old last new (takes_reads old mid last made.takes more) rest;
@@ -96,7 +96,7 @@ none-bare (t ∷ ts) = refl
 
 module _ (no_all : Bool) {begin old : TraverseCtx TransformState} {way : CodeWay} {w : Way} (h : IsWay begin old way w) (ts : List Tree) (e : Tree) (tests : ts ≡ way.tests.items) (below : e ≡ without_parens way.current) (span : Span) (arguments : Trees) where
   -- a name as it stands
-  pub calls_name : (new : TraverseCtx TransformState) (r : CodeWay) → stands (binds_name old) ts e ≡ true → map bare r.tests.items ≡ map bare way.tests.items ++ tests_of no_all (bare e) (bare e) → bare r.current ≡ call_at (call_label span) (bare e) arguments → held_name r.holder ≡ held_name way.holder → ReadsMore (1 + test_nodes no_all) old new → CallsTo no_all begin new span arguments w h.ids r
+  pub calls_name : (new : TraverseCtx TransformState) (r : CodeWay) → stands (binds_name old) ts e ≡ true → map bare r.tests.items ≡ map bare way.tests.items ++ null_checks no_all (bare e) (bare e) → bare r.current ≡ call_at (call_label span) (bare e) arguments → held_name r.holder ≡ held_name way.holder → ReadsMore (1 + test_nodes no_all) old new → CallsTo no_all begin new span arguments w h.ids r
   calls_name new r s tested current holder reads =
       let t = without_parens w.current in
       let is = current_is h ts e tests below in
@@ -105,9 +105,9 @@ module _ (no_all : Bool) {begin old : TraverseCtx TransformState} {way : CodeWay
       let size = tests_size no_all t t one in
       let none = ap (λ (us : List Tree). trees_size (trees us)) here.none in
       record {
-        to = record w { tests = tests_of no_all t t; current = call_at (call_label span) t arguments };
+        to = record w { tests = null_checks no_all t t; current = call_at (call_label span) t arguments };
         is = record {
-          tests = tested ∙ (λ i. (h.tests ∙ here.none) i ++ tests_of no_all (is i) (is i));
+          tests = tested ∙ (λ i. (h.tests ∙ here.none) i ++ null_checks no_all (is i) (is i));
           current = current ∙ ap (λ (f : Tree). call_at (call_label span) f arguments) is;
           holder = holder ∙ h.holder;
           unsteady = λ x k. reads.steady_is x ∙ h.unsteady x k;
@@ -128,12 +128,12 @@ module _ (no_all : Bool) {begin old : TraverseCtx TransformState} {way : CodeWay
       let is = current_is h ts e tests below in
       let x = m.name in
       let size = tests_size no_all (assign_node (identifier x) t) (identifier x) refl in
-      let all = tests_size-append w.tests (tests_of no_all (assign_node (identifier x) t) (identifier x)) in
+      let all = tests_size-append w.tests (null_checks no_all (assign_node (identifier x) t) (identifier x)) in
       let count = length-append w.taken (x ∷ []) in
       record {
-        to = record { tests = w.tests ++ tests_of no_all (assign_node (identifier x) t) (identifier x); current = call_at (call_label span) (identifier x) arguments; holder = Some x; taken = w.taken ++ x ∷ [] };
+        to = record { tests = w.tests ++ null_checks no_all (assign_node (identifier x) t) (identifier x); current = call_at (call_label span) (identifier x) arguments; holder = Some x; taken = w.taken ++ x ∷ [] };
         is = record {
-          tests = m.tests_are ∙ (λ i. h.tests i ++ tests_of no_all (assign_node (identifier x) (is i)) (identifier x));
+          tests = m.tests_are ∙ (λ i. h.tests i ++ null_checks no_all (assign_node (identifier x) (is i)) (identifier x));
           current = m.current_is;
           holder = m.holder_is;
           unsteady = λ y k. let same : x ≡ y = cc k in m.takes.steady_is y ∙ ap (steady_of old) (sym same) ∙ m.unsteady;
@@ -155,13 +155,13 @@ module _ (no_all : Bool) {begin old : TraverseCtx TransformState} {way : CodeWay
       let x = m.name in
       let f = member_at m.k m.computed m.written m.property in
       let size = tests_size no_all (assign_node (identifier x) f) (identifier x) refl in
-      let all = tests_size-append w.tests (tests_of no_all (assign_node (identifier x) f) (identifier x)) in
+      let all = tests_size-append w.tests (null_checks no_all (assign_node (identifier x) f) (identifier x)) in
       let count = length-append w.taken names in
       let whole = ap tree_size (sym is ∙ m.member_is) in
       record {
         to = stored_call no_all (call_label span) arguments w names x f m.receiver;
         is = record {
-          tests = m.tests_are ∙ (λ i. h.tests i ++ tests_of no_all (assign_node (identifier x) f) (identifier x));
+          tests = m.tests_are ∙ (λ i. h.tests i ++ null_checks no_all (assign_node (identifier x) f) (identifier x));
           current = m.current_is;
           holder = m.holder_is;
           unsteady = λ y k. let same : x ≡ y = cc k in m.takes.steady_is y ∙ ap (steady_of old) (sym same) ∙ m.unsteady;

@@ -16,12 +16,12 @@ use Rattle.es_expressions.specs.declared.members.ChainExpression.{ChainExpressio
 use Rattle.es_expressions.specs.declared.operations.UnaryExpression.{UnaryExpression as AnyUnary}
 use Rattle.es_scope.specs.Contexts.{steady_of, uses_of}
 use Rattle.es_scope.specs.declared.context.TraverseCtx.{TraverseCtx}
-use Rattle.es_runs.proofs.ChainWeights.{bound_few, callee_affords, delete_affords, stripped_weight, tests_afford}
+use Rattle.es_runs.proofs.OptionalChainingWeights.{bound_few, callee_affords, delete_affords, stripped_weight, tests_afford}
 use Rattle.es_runs.proofs.Temporary.{bytes_eq-equal}
 use Rattle.es_runs.specs.OptionalChaining.{BoundCallee, Way, delete_node, has_tests, joined_by_or, true_node, where_short}
 use Rattle.es_runs.specs.OptionalChaining.OptionalChainingRule.{as_callee, by_tests, in_delete}
 use Rattle.es_runs.specs.Rules.{conditional_at, in_place_of, void_zero_node}
-use Rattle.es_runs.specs.Steps.{also_all}
+use Rattle.es_runs.specs.NullishCoalescing.{also_all}
 use Rattle.es_runs.specs.Weights.{weight}
 use Rattle.lower_common.proofs.Takings.{takes_reads, takes_trans}
 use Rattle.lower_common.specs.declared.state.TransformState.{TransformState}

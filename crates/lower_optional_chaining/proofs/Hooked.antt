@@ -6,19 +6,19 @@ use Rattle.es_tree.specs.Tree.{Tree, node, kind_of}
 use Rattle.es_tree.specs.declared.ast_type.AstType.{AstType}
 use Rattle.es_tree.specs.declared.ast_type.AstType.TheVariants.{CallExpression, ChainExpression, ConditionalExpression, MemberExpression, UnaryExpression}
 use Rattle.es_scope.specs.declared.context.TraverseCtx.{TraverseCtx}
-use Rattle.es_runs.specs.OpenRules.{Chaining}
+use Rattle.es_runs.specs.OpenRules.{OpenOptionalChaining}
 use Rattle.es_runs.specs.OptionalChaining.{is_chain_kind}
 use Rattle.es_visit.specs.declared.hook.Hook.{Hook}
 use Rattle.es_visit.specs.declared.hook.Hook.TheVariants.{Expression}
 use Rattle.es_visit.specs.Hooks.{hook_of_sort, sort_of}
-use Rattle.es_visit.specs.Laws.{Entered, is_row}
+use Rattle.es_visit.specs.Laws.{Entered, is_construct}
 use Rattle.lower_common.proofs.Replaced.{entered_alone, entered_where}
 use Rattle.lower_common.specs.Takings.{moment_of}
 use Rattle.lower_common.specs.declared.state.TransformState.{TransformState}
 use Rattle.lower_optional_chaining.specs.Chains.{is_left}
 use Rattle.lower_optional_chaining.specs.Hooks.{Lowers}
 use Rattle.lower_optional_chaining.specs.Parts.{is_lowerable}
-use Rattle.lower_optional_chaining.specs.Profiles.{chaining_profile, chaining_rows}
+use Rattle.lower_optional_chaining.specs.Profiles.{optional_chaining_profile, optional_chaining_constructs}
 
 -- WHAT IS LEFT
 
@@ -39,14 +39,14 @@ left_cleared _ e = absurd (cc e)
 -- THE HOOK
 
 pub entered_chain : (no_all : Bool) (old new : TraverseCtx TransformState) (t u : Tree) → no_all ≡ old.options.assumptions.no_document_all → 0 < length old.state.var_declarations → Lowers no_all old new (bare t) (bare u) →
-    Entered (chaining_profile old.options) Expression (moment_of old) (bare t) (moment_of new) (bare u)
+    Entered (optional_chaining_profile old.options) Expression (moment_of old) (bare t) (moment_of new) (bare u)
 entered_chain no_all old new t u assumed there r =
-    entered_where (chaining_profile old.options) Expression old new (bare t) (bare u) r.steps there (λ n f. f) (λ n s s' x y step. subst (λ (b : Bool). Chaining b n s x s' y) assumed step)
+    entered_where (optional_chaining_profile old.options) Expression old new (bare t) (bare u) r.steps there (λ n f. f) (λ n s s' x y step. subst (λ (b : Bool). OpenOptionalChaining b n s x s' y) assumed step)
     (λ h s. inr (left_sort (kind_of (bare u)) r.left h s)) (left_cleared (kind_of (bare u)) r.left) r.left
 
-unchained : (t : Tree) → is_lowerable t ≡ false → is_row (chaining_rows Expression) (bare t) ≡ false
+unchained : (t : Tree) → is_lowerable t ≡ false → is_construct (optional_chaining_constructs Expression) (bare t) ≡ false
 unchained (node ChainExpression l fs) h = absurd (cc h)
 unchained (node _ l fs) h = refl
 
-pub left_unchained : (ctx : TraverseCtx TransformState) (t : Tree) → is_lowerable t ≡ false → Entered (chaining_profile ctx.options) Expression (moment_of ctx) (bare t) (moment_of ctx) (bare t)
-left_unchained ctx t none = entered_alone (chaining_profile ctx.options) Expression (moment_of ctx) (bare t) (unchained t none)
+pub left_unchained : (ctx : TraverseCtx TransformState) (t : Tree) → is_lowerable t ≡ false → Entered (optional_chaining_profile ctx.options) Expression (moment_of ctx) (bare t) (moment_of ctx) (bare t)
+left_unchained ctx t none = entered_alone (optional_chaining_profile ctx.options) Expression (moment_of ctx) (bare t) (unchained t none)

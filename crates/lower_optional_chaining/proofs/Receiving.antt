@@ -10,7 +10,7 @@ use Rattle.es_expressions.specs.MembersPlain.{plain_member_expression}
 use Rattle.es_expressions.specs.declared.members.MemberExpression.{MemberExpression as Member}
 use Rattle.es_scope.specs.Contexts.{steady_of, uses_of}
 use Rattle.es_scope.specs.declared.context.TraverseCtx.{TraverseCtx}
-use Rattle.es_runs.proofs.ChainWeights.{single_name}
+use Rattle.es_runs.proofs.OptionalChainingWeights.{single_name}
 use Rattle.es_runs.specs.Core.{flag_after}
 use Rattle.es_runs.specs.OptionalChaining.{BoundCallee, Receives, bind_node, is_member, is_name_among, is_this_or_super, member_at, or_held}
 use Rattle.es_runs.specs.OptionalChaining.BoundCallee.{no_member, to_object}

@@ -12,8 +12,8 @@ use Rattle.es_tree.specs.Tree.{Tree, node, Label, done, ◌then◌, one, trees, 
 use Rattle.es_tree.specs.declared.ast_type.AstType.TheVariants.{CallExpression, ChainExpression, MemberExpression}
 use Rattle.es_tree.specs.declared.kind.Kind.TheVariants.{CallExpression as k-CallExpression, ChainExpression as k-ChainExpression, MemberExpression as k-MemberExpression}
 use Rattle.es_scope.specs.declared.context.TraverseCtx.{TraverseCtx}
-use Rattle.es_runs.proofs.ChainWeights.{called_few, inner_affords, marked_call_affords, marked_member_affords, plain_call_affords, plain_member_affords, start_affords, stripped_size, stripped_weight, tested_few}
-use Rattle.es_runs.specs.ChainWeights.{AffordsWay}
+use Rattle.es_runs.proofs.OptionalChainingWeights.{called_few, inner_affords, marked_call_affords, marked_member_affords, plain_call_affords, plain_member_affords, start_affords, stripped_size, stripped_weight, tested_few}
+use Rattle.es_runs.specs.OptionalChainingWeights.{AffordsWay}
 use Rattle.es_runs.specs.OptionalChaining.{Way, call_at, is_chain_kind, is_link, member_at, start}
 use Rattle.es_runs.specs.OptionalChaining.Continued.{same_spine, inner_spine}
 use Rattle.es_runs.specs.OptionalChaining.Walked.{base, plain_member, plain_call, marked_member, marked_call}

@@ -10,7 +10,7 @@ use Rattle.es_tree.specs.Words.{Text}
 use Rattle.es_tree.specs.declared.ast_type.AstType.TheVariants.{Identifier, ParenthesizedExpression}
 use Rattle.es_scope.specs.Contexts.{made_of}
 use Rattle.es_scope.specs.declared.context.TraverseCtx.{TraverseCtx}
-use Rattle.es_runs.specs.Doubling.{has_no_fields}
+use Rattle.es_runs.specs.Duplication.{has_no_fields}
 use Rattle.es_runs.specs.OptionalChaining.{Way, is_eval, is_name_among}
 use Rattle.lower_common.proofs.ReadAgain.{no_fields-bare}
 use Rattle.lower_common.specs.declared.state.TransformState.{TransformState}

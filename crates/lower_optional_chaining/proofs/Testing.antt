@@ -8,8 +8,8 @@ use Rattle.es_tree.specs.Tree.{Tree, trees, tree_size, trees_size}
 use Rattle.es_tree.specs.Words.{Text}
 use Rattle.es_scope.specs.Contexts.{steady_of, uses_of}
 use Rattle.es_scope.specs.declared.context.TraverseCtx.{TraverseCtx}
-use Rattle.es_runs.proofs.ChainWeights.{single_name, tests_size-append}
-use Rattle.es_runs.specs.OptionalChaining.{Way, tests_of}
+use Rattle.es_runs.proofs.OptionalChainingWeights.{single_name, tests_size-append}
+use Rattle.es_runs.specs.OptionalChaining.{Way, null_checks}
 use Rattle.es_runs.specs.OptionalChaining.Tested.{as_name, in_holder, in_temporary}
 use Rattle.es_runs.specs.Rules.{assign_node}
 use Rattle.es_runs.specs.Runs.{identifier}
@@ -28,15 +28,15 @@ use Rattle.lower_common.specs.BoundNames.{binds_name}
 -- TESTS
 
 -- there is one
-some_tests : (no_all : Bool) (e again : Tree) → tests_of no_all e again ≡ [] → ⊥
+some_tests : (no_all : Bool) (e again : Tree) → null_checks no_all e again ≡ [] → ⊥
 some_tests true e again h = absurd (cc h)
 some_tests false e again h = absurd (cc h)
 
-pub more_tests : (ts : List Tree) (no_all : Bool) (e again : Tree) → (ts ++ tests_of no_all e again) ≡ [] → ⊥
+pub more_tests : (ts : List Tree) (no_all : Bool) (e again : Tree) → (ts ++ null_checks no_all e again) ≡ [] → ⊥
 more_tests [] no_all e again h = some_tests no_all e again h
 more_tests (t ∷ ts) no_all e again h = absurd (cc h)
 
-pub tests_size : (no_all : Bool) (e again : Tree) → tree_size again ≡ 1 → trees_size (trees (tests_of no_all e again)) ≡ tree_size e + test_nodes no_all
+pub tests_size : (no_all : Bool) (e again : Tree) → tree_size again ≡ 1 → trees_size (trees (null_checks no_all e again)) ≡ tree_size e + test_nodes no_all
 tests_size true e again h = omega arith
 tests_size false e again h = omega arith
 
@@ -53,7 +53,7 @@ target_next old mid t chosen = let few = target_few chosen.names chosen.ids (str
 
 module _ (no_all : Bool) {begin old : TraverseCtx TransformState} {way : CodeWay} {w : Way} (h : IsWay begin old way w) (ts : List Tree) (e : Tree) (tests : ts ≡ way.tests.items) (below : e ≡ without_parens way.current) where
   -- as it stands
-  pub tested_name : (new : TraverseCtx TransformState) (r : CodeWay) → stands (binds_name old) ts e ≡ true → map bare r.tests.items ≡ map bare way.tests.items ++ tests_of no_all (bare e) (bare e) → bare r.current ≡ bare e → held_name r.holder ≡ held_name way.holder → ReadsMore (1 + test_nodes no_all) old new → TestsTo no_all begin new w h.ids r
+  pub tested_name : (new : TraverseCtx TransformState) (r : CodeWay) → stands (binds_name old) ts e ≡ true → map bare r.tests.items ≡ map bare way.tests.items ++ null_checks no_all (bare e) (bare e) → bare r.current ≡ bare e → held_name r.holder ≡ held_name way.holder → ReadsMore (1 + test_nodes no_all) old new → TestsTo no_all begin new w h.ids r
   tested_name new r s tested current holder reads =
       let t = without_parens w.current in
       let is = current_is h ts e tests below in
@@ -62,9 +62,9 @@ module _ (no_all : Bool) {begin old : TraverseCtx TransformState} {way : CodeWay
       let size = tests_size no_all t t one in
       let none = ap (λ (us : List Tree). trees_size (trees us)) here.none in
       record {
-        to = record w { tests = tests_of no_all t t; current = t };
+        to = record w { tests = null_checks no_all t t; current = t };
         is = record {
-          tests = tested ∙ (λ i. (h.tests ∙ here.none) i ++ tests_of no_all (is i) (is i));
+          tests = tested ∙ (λ i. (h.tests ∙ here.none) i ++ null_checks no_all (is i) (is i));
           current = current ∙ is;
           holder = holder ∙ h.holder;
           unsteady = λ x k. reads.steady_is x ∙ h.unsteady x k;
@@ -80,17 +80,17 @@ module _ (no_all : Bool) {begin old : TraverseCtx TransformState} {way : CodeWay
 
   -- by the name that is held, or a temporary
   by_target : (mid new : TraverseCtx TransformState) (r : CodeWay) (names : List Text) (ids : ℕ) (x : Text) → stands (binds_name old) ts e ≡ false → TargetBy (uses_of old) (steady_of old) (held_name way.holder) (node_base (bare e)) names ids x → steady_of old x ≡ false → Takes names ids (moment_of old) (moment_of mid) →
-      map bare r.tests.items ≡ map bare way.tests.items ++ tests_of no_all (assign_node (identifier x) (bare e)) (identifier x) → bare r.current ≡ identifier x → held_name r.holder ≡ Some x → ReadsMore (2 + test_nodes no_all) mid new → TestsTo no_all begin new w h.ids r
+      map bare r.tests.items ≡ map bare way.tests.items ++ null_checks no_all (assign_node (identifier x) (bare e)) (identifier x) → bare r.current ≡ identifier x → held_name r.holder ≡ Some x → ReadsMore (2 + test_nodes no_all) mid new → TestsTo no_all begin new w h.ids r
   by_target mid new r _ _ x s (by_held held) unsteady taken tested current holder reads =
       let t = without_parens w.current in
       let is = current_is h ts e tests below in
       let same : w.holder ≡ Some x = sym h.holder ∙ held in
       let size = tests_size no_all (assign_node (identifier x) t) (identifier x) refl in
-      let all = tests_size-append w.tests (tests_of no_all (assign_node (identifier x) t) (identifier x)) in
+      let all = tests_size-append w.tests (null_checks no_all (assign_node (identifier x) t) (identifier x)) in
       record {
-        to = record w { tests = w.tests ++ tests_of no_all (assign_node (identifier x) t) (identifier x); current = identifier x };
+        to = record w { tests = w.tests ++ null_checks no_all (assign_node (identifier x) t) (identifier x); current = identifier x };
         is = record {
-          tests = tested ∙ (λ i. h.tests i ++ tests_of no_all (assign_node (identifier x) (is i)) (identifier x));
+          tests = tested ∙ (λ i. h.tests i ++ null_checks no_all (assign_node (identifier x) (is i)) (identifier x));
           current = current;
           holder = holder ∙ sym same;
           unsteady = λ y k. reads.steady_is y ∙ taken.steady_is y ∙ h.unsteady y k;
@@ -108,12 +108,12 @@ module _ (no_all : Bool) {begin old : TraverseCtx TransformState} {way : CodeWay
       let is = current_is h ts e tests below in
       let none : w.holder ≡ None = sym h.holder ∙ spare (λ y k. h.unsteady y (sym h.holder ∙ k)) in
       let size = tests_size no_all (assign_node (identifier x) t) (identifier x) refl in
-      let all = tests_size-append w.tests (tests_of no_all (assign_node (identifier x) t) (identifier x)) in
+      let all = tests_size-append w.tests (null_checks no_all (assign_node (identifier x) t) (identifier x)) in
       let count = length-append w.taken (x ∷ []) in
       record {
-        to = record { tests = w.tests ++ tests_of no_all (assign_node (identifier x) t) (identifier x); current = identifier x; holder = Some x; taken = w.taken ++ x ∷ [] };
+        to = record { tests = w.tests ++ null_checks no_all (assign_node (identifier x) t) (identifier x); current = identifier x; holder = Some x; taken = w.taken ++ x ∷ [] };
         is = record {
-          tests = tested ∙ (λ i. h.tests i ++ tests_of no_all (assign_node (identifier x) (is i)) (identifier x));
+          tests = tested ∙ (λ i. h.tests i ++ null_checks no_all (assign_node (identifier x) (is i)) (identifier x));
           current = current;
           holder = holder;
           unsteady = λ y k. let same : x ≡ y = cc k in reads.steady_is y ∙ taken.steady_is y ∙ ap (steady_of old) (sym same) ∙ unsteady;
@@ -128,5 +128,5 @@ module _ (no_all : Bool) {begin old : TraverseCtx TransformState} {way : CodeWay
       }
 
   pub tested_stored : (mid new : TraverseCtx TransformState) (r : CodeWay) (x : Temporary) → stands (binds_name old) ts e ≡ false → ChoosesTarget old mid (held_name way.holder) (node_base (bare e)) x →
-      map bare r.tests.items ≡ map bare way.tests.items ++ tests_of no_all (assign_node (identifier (string_bytes x.name)) (bare e)) (identifier (string_bytes x.name)) → bare r.current ≡ identifier (string_bytes x.name) → held_name r.holder ≡ Some (string_bytes x.name) → ReadsMore (2 + test_nodes no_all) mid new → TestsTo no_all begin new w h.ids r
+      map bare r.tests.items ≡ map bare way.tests.items ++ null_checks no_all (assign_node (identifier (string_bytes x.name)) (bare e)) (identifier (string_bytes x.name)) → bare r.current ≡ identifier (string_bytes x.name) → held_name r.holder ≡ Some (string_bytes x.name) → ReadsMore (2 + test_nodes no_all) mid new → TestsTo no_all begin new w h.ids r
   tested_stored mid new r x s chosen tested current holder reads = by_target mid new r chosen.names chosen.ids (string_bytes x.name) s chosen.by chosen.unsteady chosen.takes tested current holder reads

@@ -7,10 +7,10 @@ use Rattle.es_tree.specs.Words.{Text}
 use Rattle.es_tree.specs.declared.ast_type.AstType.TheVariants.{MemberExpression}
 use Rattle.es_scope.specs.Contexts.{steady_of, uses_of}
 use Rattle.es_scope.specs.declared.context.TraverseCtx.{TraverseCtx}
-use Rattle.es_runs.specs.OptionalChaining.{Receives, call_at, call_method, is_eval, is_name_among, is_this_or_super, member_at, tests_of, this_node}
+use Rattle.es_runs.specs.OptionalChaining.{Receives, call_at, call_method, is_eval, is_name_among, is_this_or_super, member_at, null_checks, this_node}
 use Rattle.es_runs.specs.Rules.{assign_node}
 use Rattle.es_runs.specs.Runs.{identifier}
-use Rattle.es_runs.specs.Steps.{also_all}
+use Rattle.es_runs.specs.NullishCoalescing.{also_all}
 use Rattle.lower_common.specs.Takings.{Takes, moment_of}
 use Rattle.lower_common.specs.declared.state.TransformState.{TransformState}
 use Rattle.lower_common.specs.declared.temporaries.Temporary.{Temporary}
@@ -148,7 +148,7 @@ pub record CallsStored (no_all : Bool) (old new : TraverseCtx TransformState) (l
   pub name : Text
   pub fresh : IsFreshName (uses_of old) (node_base callee) name
   pub unsteady : steady_of old name ≡ false
-  pub tests_are : map bare way.tests.items ≡ tests ++ tests_of no_all (assign_node (identifier name) callee) (identifier name)
+  pub tests_are : map bare way.tests.items ≡ tests ++ null_checks no_all (assign_node (identifier name) callee) (identifier name)
   pub current_is : bare way.current ≡ call_at l (identifier name) arguments
   pub holder_is : held_name way.holder ≡ Some name
   pub takes : Takes (name ∷ []) (5 + test_nodes no_all) (moment_of old) (moment_of new)
@@ -169,7 +169,7 @@ pub record CallsMember (no_all callee_first : Bool) (old new : TraverseCtx Trans
   pub fresh : IsFreshName (used_at_callee callee_first names (uses_of old)) (node_base (named_by callee_first callee (member_at k computed written property))) name
   pub receives : Receives is_this_or_super (steady_of old) (used_at_receiver callee_first name (uses_of old)) holder names object written receiver
   pub unsteady : steady_of old name ≡ false
-  pub tests_are : map bare way.tests.items ≡ tests ++ tests_of no_all (assign_node (identifier name) (member_at k computed written property)) (identifier name)
+  pub tests_are : map bare way.tests.items ≡ tests ++ null_checks no_all (assign_node (identifier name) (member_at k computed written property)) (identifier name)
   pub current_is : bare way.current ≡ call_at l (call_method (identifier name)) (receiver before arguments)
   pub holder_is : held_name way.holder ≡ Some name
   pub takes : Takes (in_order callee_first name names) ids (moment_of old) (moment_of new)

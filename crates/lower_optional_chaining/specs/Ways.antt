@@ -7,7 +7,7 @@ use Rattle.es_tree.specs.Words.{Text}
 use Rattle.es_tree.specs.declared.ids.Span.{Span}
 use Rattle.es_scope.specs.Contexts.{steady_of, uses_of}
 use Rattle.es_scope.specs.declared.context.TraverseCtx.{TraverseCtx}
-use Rattle.es_runs.specs.ChainWeights.{AffordsWay, stripped, way_size}
+use Rattle.es_runs.specs.OptionalChainingWeights.{AffordsWay, stripped, way_size}
 use Rattle.es_runs.specs.OpenRules.{is_bound_in}
 use Rattle.es_runs.specs.OptionalChaining.{Way, Walked, Continued, Tested, Called, Receives, BoundCallee, is_super, is_this_or_super}
 use Rattle.es_runs.specs.Runs.{made}

@@ -2,16 +2,16 @@
 ghost use Rattle.std.specs.Prelude.{◌≡◌, ◌+◌, ◌-◌, ◌^◌, ◌<◌, ◌∷◌, ◌++◌, IfOk, OnOk, Some, false, length, map, string_bytes};
 ghost use Rattle.es_tree.specs.Bare.{bare, bare_trees};
 ghost use Rattle.es_tree.specs.Tree.{◌before◌, label_of, tree_size, trees};
-ghost use Rattle.es_expressions.specs.MembersShapes.{IsMemberExpression};
+ghost use Rattle.es_expressions.specs.MembersArity.{IsMemberExpression};
 ghost use Rattle.es_runs.specs.Core.{flag_after};
-ghost use Rattle.es_runs.specs.OptionalChaining.{call_at, call_method, tests_of};
+ghost use Rattle.es_runs.specs.OptionalChaining.{call_at, call_method, null_checks};
 ghost use Rattle.lower_common.specs.Takings.{ReadsMore};
 ghost use Rattle.lower_optional_chaining.specs.WayParts.{CallsMember, CallsStored, WritesCallee, has_none, test_nodes};
 ghost use Rattle.lower_optional_chaining.specs.Ways.{call_label, held_name};
 
 use crate::members::{new_method, object_of};
+use crate::null_checks::{test_name, test_stored};
 use crate::receivers::{choose_receiver, write_member};
-use crate::tests_of::{test_name, test_stored};
 use crate::way::Way;
 use es_expressions::members::CallExpression;
 use es_scope::context::TraverseCtx;
@@ -79,7 +79,7 @@ pub(crate) fn call_name<S>(
 ) -> Result<Way, AllocError>
     requires alone { tree_size name ≡ 1 }
     requires room { ctx.old.ast.next + 7 < 2 ^ 32 - 1 }
-    ensures tests { IfOk result (λ r. map bare r.tests.items ≡ map bare tests.items ++ tests_of no_document_all (bare name) (bare name)) }
+    ensures tests { IfOk result (λ r. map bare r.tests.items ≡ map bare tests.items ++ null_checks no_document_all (bare name) (bare name)) }
     ensures current { IfOk result (λ r. bare r.current ≡ call_at (call_label call.span) (bare name) (bare_trees (trees call.arguments.items))) }
     ensures holder { IfOk result (λ r. held_name r.holder ≡ held_name holder) }
     ensures reads { OnOk result (ReadsMore (1 + test_nodes no_document_all) ctx.old ctx.new) }

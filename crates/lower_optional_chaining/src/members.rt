@@ -2,7 +2,7 @@
 ghost use Rattle.std.specs.Prelude.{◌≡◌, ◌+◌, ◌-◌, ◌^◌, ◌<◌, IfOk, OnOk, false, true};
 ghost use Rattle.es_tree.specs.Bare.{bare};
 ghost use Rattle.es_tree.specs.Tree.{label_of};
-ghost use Rattle.es_expressions.specs.MembersShapes.{IsMemberExpression};
+ghost use Rattle.es_expressions.specs.MembersArity.{IsMemberExpression};
 ghost use Rattle.es_runs.specs.Core.{flag_after};
 ghost use Rattle.es_runs.specs.OptionalChaining.{is_member};
 ghost use Rattle.es_runs.specs.Rules.{member_node};

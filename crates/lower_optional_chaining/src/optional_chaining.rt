@@ -30,9 +30,9 @@ ghost use Rattle.es_runs.specs.Weights.{weight};
 ghost use Rattle.es_visit.specs.Moments.{HasRoom};
 ghost use Rattle.lower_common.specs.Takings.{moment_of};
 ghost use Rattle.lower_optional_chaining.specs.Hooks.{Lowers};
-ghost use Rattle.lower_optional_chaining.specs.Lawful.{chaining_lawful};
+ghost use Rattle.lower_optional_chaining.specs.Lawful.{optional_chaining_lawful};
 ghost use Rattle.lower_optional_chaining.specs.Parts.{is_lowerable};
-ghost use Rattle.lower_optional_chaining.specs.Profiles.{chaining_profile};
+ghost use Rattle.lower_optional_chaining.specs.Profiles.{optional_chaining_profile};
 
 use crate::chains::{lower_chain, lower_delete};
 use crate::parts::{is_delete, is_lowerable};
@@ -70,7 +70,7 @@ impl OptionalChaining {
 }
 
 impl Lowering for OptionalChaining {
-    ghost profile = { chaining_profile };
+    ghost profile = { optional_chaining_profile };
 
     ghost keeps = { false };
 
@@ -109,7 +109,7 @@ impl Traverse<TransformState> for OptionalChaining {
         Ok(())
     }
 
-    ghost lawful = { λ x o. chaining_lawful o };
+    ghost lawful = { λ x o. optional_chaining_lawful o };
 }
 
 /// What becomes of a chain, of a call or a member of one, or of a unary operator with one as its operand.

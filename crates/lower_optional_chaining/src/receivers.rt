@@ -2,7 +2,7 @@
 ghost use Rattle.std.specs.Prelude.{◌≡◌, ◌+◌, ◌-◌, ◌^◌, ◌<◌, IfErr, IfOk, OnOk, false, length, true};
 ghost use Rattle.es_tree.specs.Bare.{bare};
 ghost use Rattle.es_tree.specs.Tree.{label_of};
-ghost use Rattle.es_expressions.specs.MembersShapes.{IsMemberExpression};
+ghost use Rattle.es_expressions.specs.MembersArity.{IsMemberExpression};
 ghost use Rattle.es_runs.specs.Core.{flag_after};
 ghost use Rattle.es_runs.specs.OptionalChaining.{bind_node};
 ghost use Rattle.lower_common.specs.Parenthesized.{first_child};
@@ -12,7 +12,7 @@ ghost use Rattle.lower_optional_chaining.specs.Ways.{BindsTo, ReceivesTo, held_n
 
 use crate::members::{is_member, is_unmarked_member, new_method, object_of};
 use crate::names::is_kept_name;
-use crate::tests_of::store;
+use crate::null_checks::store;
 use es_expressions::literals::new_this_expression;
 use es_expressions::members::{MemberExpression, new_call_expression};
 use es_scope::context::TraverseCtx;

@@ -10,7 +10,7 @@ ghost use Rattle.lower_optional_chaining.specs.Ways.{CallsTo, IsWay, TestsTo};
 use crate::calls::{Call, call_member, call_name, call_value};
 use crate::members::{is_member, is_unmarked_member};
 use crate::names::may_stand;
-use crate::tests_of::{choose_target, test_name, test_stored};
+use crate::null_checks::{choose_target, test_name, test_stored};
 use crate::way::Way;
 use es_scope::context::TraverseCtx;
 use es_tree::error::LowerError;

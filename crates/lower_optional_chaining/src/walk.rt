@@ -1,7 +1,7 @@
 //! The walk along the spine of a chain, from its base outwards (ECMA-262, 13.3.9).
 ghost use Rattle.std.specs.Prelude.{◌≡◌, ◌+◌, ◌-◌, ◌^◌, ◌<◌, IfErr, IfOk, false, length, true};
 ghost use Rattle.es_expressions.specs.MembersPlain.{plain_call_expression, plain_member_expression};
-ghost use Rattle.es_expressions.specs.MembersShapes.{IsCallExpression, IsChainExpression, IsMemberExpression};
+ghost use Rattle.es_expressions.specs.MembersArity.{IsCallExpression, IsChainExpression, IsMemberExpression};
 ghost use Rattle.es_tree.specs.Bare.{bare};
 ghost use Rattle.es_tree.specs.Tree.{kind_of};
 ghost use Rattle.es_runs.specs.OptionalChaining.{is_chain_kind, is_link};

@@ -7,7 +7,7 @@ use Rattle.es_visit.specs.Laws.{Profile, IsLawful}
 abbrev pub quiet : Profile
 quiet = record {
   rule = λ n s x s' y. ⊥;
-  rows = λ h k l fs. false;
+  constructs = λ h k l fs. false;
   makes = λ t. ⊥;
   writes = λ t. ⊥;
   refuses = λ e w t. ⊥;

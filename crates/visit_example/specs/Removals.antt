@@ -23,25 +23,25 @@ abbrev pub as_empty : Tree → Tree
 as_empty (node k l fs) = node EmptyStatement l fs
 
 -- the hook of statements removes them
-abbrev pub debugger_rows : Hook → AstType → Label → Fields → Bool
-debugger_rows Statement k l fs = is_debugger k l fs
-debugger_rows _ k l fs = false
+abbrev pub debugger_constructs : Hook → AstType → Label → Fields → Bool
+debugger_constructs Statement k l fs = is_debugger k l fs
+debugger_constructs _ k l fs = false
 
 abbrev pub removal : Profile
 removal = record {
   rule = Removing;
-  rows = debugger_rows;
+  constructs = debugger_constructs;
   makes = λ t. kind_of t ≡ EmptyStatement;
   writes = λ t. ⊥;
   refuses = λ e w t. ⊥;
 }
 
-pub kept_kind : (h : Hook) (k : AstType) (l : Label) (fs gs : Fields) → debugger_rows h k l fs ≡ false → debugger_rows h k l gs ≡ false
+pub kept_kind : (h : Hook) (k : AstType) (l : Label) (fs gs : Fields) → debugger_constructs h k l fs ≡ false → debugger_constructs h k l gs ≡ false
 kept_kind Statement DebuggerStatement l fs gs e = e
 kept_kind Statement _ l fs gs e = refl
 kept_kind _ k l fs gs e = refl
 
-stands : (h : Hook) (k : AstType) (l : Label) (fs : Fields) → debugger_rows h k l fs ≡ true → IsHooked h k
+stands : (h : Hook) (k : AstType) (l : Label) (fs : Fields) → debugger_constructs h k l fs ≡ true → IsHooked h k
 stands Statement DebuggerStatement l fs e = inl refl
 stands Statement _ l fs e = absurd (true≢false (sym e))
 stands _ k l fs e = absurd (true≢false (sym e))

@@ -1,5 +1,5 @@
 use Rattle.es_tree.specs.Bare.{bare}
-use Rattle.lower_common.proofs.Doubled.{bare_pushed, one_more}
+use Rattle.lower_common.proofs.Duplicated.{bare_pushed, one_more}
 use Rattle.lower_common.proofs.duplicate.duplicate_expression_multiple.Goals as goal
 
 pub loop-preserved : goal.loop-preserved

@@ -2,12 +2,12 @@ use Rattle.std.proofs.Common.{◌≡◌, ◌+◌, ◌∙◌, refl, sym, ap, subs
 use Rattle.es_tree.specs.Bare.{bare}
 use Rattle.es_tree.specs.Fresh.{IsFreshName}
 use Rattle.es_scope.specs.Contexts.{uses_of}
-use Rattle.es_runs.specs.Doubling.{is_read_again}
+use Rattle.es_runs.specs.Duplication.{is_read_again}
 use Rattle.es_runs.specs.Rules.{assign_node}
 use Rattle.es_runs.specs.Runs.{identifier}
 use Rattle.lower_common.specs.Duplicates.{read_again_in}
-use Rattle.lower_common.proofs.Doubled.{first_by_copy, first_by_temporary}
-use Rattle.lower_common.proofs.ReadAgain.{doubled_base-bare, read_again-bare}
+use Rattle.lower_common.proofs.Duplicated.{first_by_copy, first_by_temporary}
+use Rattle.lower_common.proofs.ReadAgain.{duplicate_base-bare, read_again-bare}
 use Rattle.lower_common.proofs.Takings.{writes_one}
 use Rattle.lower_common.proofs.duplicate.first_use.Goals as goal
 
@@ -27,7 +27,7 @@ returns c =
     let target = c.in_ok-target.ensures in
     let again = read_again_in c.args.mutated_symbol_needs_temp_var old in
     let no : is_read_again again (bare e) ≡ false = read_again-bare again e ∙ (sym c.is_read_again.ensures ∙ c.if-is_read_again.false) in
-    let fresh = subst (λ base. IsFreshName (uses_of old) base (string_bytes b.name)) (sym (doubled_base-bare e)) temporary.fresh in
+    let fresh = subst (λ base. IsFreshName (uses_of old) base (string_bytes b.name)) (sym (duplicate_base-bare e)) temporary.fresh in
     let more : c.new_assignment_expression.new.ast.next ≡ then.ast.next + 1 = c.new_assignment_expression.ensures.counted in
     let writes = writes_one {n = 1} mid then _ b.symbol_id.0 target.refers (record {
       names = record { used = λ x. refl; made_is = refl };

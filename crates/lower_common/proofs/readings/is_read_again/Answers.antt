@@ -3,7 +3,7 @@ use Rattle.std.specs.Prelude.{◌&&◌}
 use Rattle.es_tree.specs.Tree.{Tree, Fields}
 use Rattle.es_tree.specs.Views.{plain}
 use Rattle.es_tree.specs.declared.kind.Kind.{Kind as NodeKind}
-use Rattle.es_runs.specs.Doubling.{has_no_fields, is_read_again}
+use Rattle.es_runs.specs.Duplication.{has_no_fields, is_read_again}
 use Rattle.lower_common.specs.Duplicates.{read_again_in}
 use Rattle.lower_common.proofs.ReadAgain.{asks_fields}
 use Rattle.lower_common.proofs.readings.is_read_again.Goals as goal

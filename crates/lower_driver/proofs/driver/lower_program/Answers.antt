@@ -10,7 +10,7 @@ use Rattle.es_scope.specs.Contexts.{made_of}
 use Rattle.es_semantic.proofs.CoreTable.{core-table}
 use Rattle.es_semantic.proofs.MarkedProgram.{bare-marked-program}
 use Rattle.es_statements.specs.ProgramPlain.{plain_program}
-use Rattle.es_statements.specs.ProgramShapes.{IsProgram}
+use Rattle.es_statements.specs.ProgramArity.{IsProgram}
 use Rattle.lower_driver.specs.Lowers.{Lowers}
 use Rattle.lower_driver.specs.Visits.{moment_of}
 use Rattle.lower_driver.proofs.Built.{copied-unbuilt}
@@ -18,7 +18,7 @@ use Rattle.lower_driver.proofs.Contexts.{IsFirst, first_moment}
 use Rattle.lower_driver.proofs.Marked.{same_core}
 use Rattle.lower_driver.proofs.OpenedProgram.{program_opens}
 use Rattle.lower_driver.proofs.NoRefusals.{memory_alone}
-use Rattle.lower_driver.proofs.Shapes.{copied-shape, found-shape, marked-shape, memory-shape, table-declared}
+use Rattle.lower_driver.proofs.UnsupportedPrograms.{copied-shape, found-shape, marked-shape, memory-shape, table-declared}
 use Rattle.lower_driver.proofs.TableNames.{core-binds-names}
 use Rattle.lower_driver.proofs.Visits.{first_room, lowers, lowers_same}
 use Rattle.lower_driver.proofs.driver.lower_program.Goals as goal

@@ -4,7 +4,7 @@ use Rattle.es_tree.specs.Views.{plain}
 use Rattle.es_tree.specs.declared.ids.NodeId.{NodeId}
 use Rattle.es_tree.specs.declared.ids.Span.{Span}
 use Rattle.es_tree.specs.declared.kind.Kind.TheVariants.{Super as k-Super, ThisExpression as k-ThisExpression}
-use Rattle.es_runs.specs.Doubling.{has_no_fields}
+use Rattle.es_runs.specs.Duplication.{has_no_fields}
 use Rattle.lower_common.proofs.ReadAgain.{asks_fields}
 use Rattle.lower_optional_chaining.specs.Ways.{to_this}
 use Rattle.lower_optional_chaining.proofs.receivers.is_to_this.Goals as goal

@@ -1,5 +1,5 @@
 use Rattle.std.proofs.Common.{arith}
-use Rattle.es_tree.specs.Shaped.{parts_length}
+use Rattle.es_tree.specs.ArityFacts.{parts_length}
 use Rattle.es_patterns.proofs.patterns.AssignmentPattern.open.Goals as goal
 
 pub exactly-requires : goal.exactly-requires

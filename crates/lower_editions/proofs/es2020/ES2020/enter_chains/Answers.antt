@@ -4,7 +4,7 @@ use Rattle.es_tree.specs.declared.options.ES2020Options.{ES2020Options}
 use Rattle.es_visit.proofs.BothHooks.{passed_up}
 use Rattle.es_visit.specs.declared.hook.Hook.TheVariants.{Expression}
 use Rattle.lower_common.specs.Takings.{moment_of}
-use Rattle.lower_optional_chaining.specs.Profiles.{chaining_profile}
+use Rattle.lower_optional_chaining.specs.Profiles.{optional_chaining_profile}
 use Rattle.lower_editions.proofs.Switched.{off_moved, on_moved, refused_on}
 use Rattle.lower_editions.proofs.es2020.ES2020.enter_chains.Goals.{then-self+in_ok-enter_expression, else-self}
 use Rattle.lower_editions.proofs.es2020.ES2020.enter_chains.Goals as goal
@@ -12,7 +12,7 @@ use Rattle.lower_editions.proofs.es2020.ES2020.enter_chains.Goals as goal
 pub returns-clause-entered : goal.returns-clause-entered
 returns-clause-entered c =
     let on = c.args.ctx.now.options.es2020.optional_chaining in
-    let chains = chaining_profile c.args.ctx.now.options in
+    let chains = optional_chaining_profile c.args.ctx.now.options in
     let held : on ≡ c.args.self.now.options.optional_chaining = sym (ap (λ (o : ES2020Options). o.optional_chaining) c.requires.ready.suited.0) in
     elim c.if-self.branch [
       | then-self+in_ok-enter_expression w ↦
@@ -24,4 +24,4 @@ pub returns-in_err-enter_expression-clause-refused : goal.returns-in_err-enter_e
 returns-in_err-enter_expression-clause-refused c =
     let on = c.args.ctx.now.options.es2020.optional_chaining in
     let held : on ≡ c.args.self.now.options.optional_chaining = sym (ap (λ (o : ES2020Options). o.optional_chaining) c.requires.ready.suited.0) in
-    passed_up c.from_residual.result c.in_err-enter_expression.field-0.0 _ c.from_residual.ensures.1 (refused_on on (chaining_profile c.args.ctx.now.options) (moment_of c.args.ctx.now) _ (bare c.args.node.now) (held ∙ c.if-self.true) c.in_err-enter_expression.ensures.refused)
+    passed_up c.from_residual.result c.in_err-enter_expression.field-0.0 _ c.from_residual.ensures.1 (refused_on on (optional_chaining_profile c.args.ctx.now.options) (moment_of c.args.ctx.now) _ (bare c.args.node.now) (held ∙ c.if-self.true) c.in_err-enter_expression.ensures.refused)

@@ -1,10 +1,10 @@
 use Rattle.std.proofs.Common.{sym, ◌∙◌, refl, arith}
 use Rattle.es_visit.specs.declared.hook.Hook.TheVariants.{Expression}
 use Rattle.lower_common.proofs.Replaced.{entered_moved}
-use Rattle.lower_editions.proofs.Assigned.{entered_assigned, left_unassigned}
+use Rattle.lower_editions.proofs.LogicalAssignments.{entered_assigned, left_unassigned}
 use Rattle.lower_editions.proofs.logical_assignment_operators.LogicalAssignmentOperatorsTraverseTransformState.enter_expression.Goals.{then-is_lowerable+else-is_empty+in_ok-node, else-is_lowerable}
 use Rattle.lower_editions.proofs.logical_assignment_operators.LogicalAssignmentOperatorsTraverseTransformState.enter_expression.Goals as goal
-use Rattle.lower_editions.specs.Profiles.{assigning_profile}
+use Rattle.lower_editions.specs.Profiles.{logical_assignment_profile}
 
 pub returns-clause-entered : goal.returns-clause-entered
 returns-clause-entered c =
@@ -12,7 +12,7 @@ returns-clause-entered c =
     let t = c.args.node.now in
     elim c.if-is_lowerable.branch [
       | then-is_lowerable+else-is_empty+in_ok-node w ↦
-          entered_moved assigning_profile Expression old w.lower_assignment.new.ctx c.if-is_lowerable.ctx t w.replace-taken.result w.in_ok-node.field-0 c.if-is_lowerable.node w.replace-taken.ensures.value w.ctx-is w.node-is
+          entered_moved logical_assignment_profile Expression old w.lower_assignment.new.ctx c.if-is_lowerable.ctx t w.replace-taken.result w.in_ok-node.field-0 c.if-is_lowerable.node w.replace-taken.ensures.value w.ctx-is w.node-is
           (entered_assigned old w.lower_assignment.new.ctx w.replace-taken.result w.in_ok-node.field-0 (grind (arith, w.is_empty.ensures, w.if-is_empty.false)) w.in_ok-node.ensures.replaced)
-      | else-is_lowerable w ↦ entered_moved assigning_profile Expression old old c.if-is_lowerable.ctx t t t c.if-is_lowerable.node refl w.ctx-is w.node-is (left_unassigned old t (sym c.is_lowerable.ensures ∙ w.if-is_lowerable.false))
+      | else-is_lowerable w ↦ entered_moved logical_assignment_profile Expression old old c.if-is_lowerable.ctx t t t c.if-is_lowerable.node refl w.ctx-is w.node-is (left_unassigned old t (sym c.is_lowerable.ensures ∙ w.if-is_lowerable.false))
     ]

@@ -2,14 +2,14 @@ use Rattle.std.proofs.Common.{sym, ◌∙◌, refl, arith}
 use Rattle.es_visit.specs.declared.hook.Hook.TheVariants.{Expression}
 use Rattle.lower_common.proofs.Replaced.{entered_moved}
 use Rattle.lower_optional_chaining.proofs.Hooked.{entered_chain, left_unchained}
-use Rattle.lower_optional_chaining.specs.Profiles.{chaining_profile}
+use Rattle.lower_optional_chaining.specs.Profiles.{optional_chaining_profile}
 use Rattle.lower_optional_chaining.proofs.optional_chaining.OptionalChainingTraverseTransformState.enter_expression.Goals.{then-is_lowerable+else-is_empty+in_ok-node, else-is_lowerable}
 use Rattle.lower_optional_chaining.proofs.optional_chaining.OptionalChainingTraverseTransformState.enter_expression.Goals as goal
 
 pub returns-clause-entered : goal.returns-clause-entered
 returns-clause-entered c =
     let old = c.args.ctx.now in
-    let p = chaining_profile old.options in
+    let p = optional_chaining_profile old.options in
     let t = c.args.node.now in
     elim c.if-is_lowerable.branch [
       | then-is_lowerable+else-is_empty+in_ok-node w ↦
