@@ -23,11 +23,11 @@ abbrev pub suits_es2020 : ES2020 → EnvOptions → Type 0
 suits_es2020 x o = (options_of x ≡ o.es2020) × (assumes_of x ≡ o.assumptions.no_document_all)
 
 -- no exit hook is counted
-abbrev pub no_tally : ES2020 → Hook → ℕ → ℕ
+abbrev pub no_tally : {X : Type 0} → X → Hook → ℕ → ℕ
 no_tally x h id = 0
 
 -- no enter hook is counted
-abbrev pub no_entries : ES2020 → Hook → ℕ
+abbrev pub no_entries : {X : Type 0} → X → Hook → ℕ
 no_entries x h = 0
 
 -- which lowerings of ECMAScript 2021 are on
@@ -37,3 +37,7 @@ es2021_options_of x = x.options
 -- which lowerings of ECMAScript 2016 are on
 abbrev pub es2016_options_of : ES2016 → ES2016Options
 es2016_options_of x = x.options
+
+-- they are those of these options
+abbrev pub suits_es2016 : ES2016 → EnvOptions → Type 0
+suits_es2016 x o = x.options ≡ o.es2016

@@ -11,3 +11,4 @@ pub mod ExponentiationParts
 pub mod ExponentiationTargets
 pub mod Editions
 pub mod Warnings
+pub mod MathRefusals

@@ -39,11 +39,13 @@ impl Lowering for ES2016 {
 
     ghost keeps = { false };
 
-    ghost suits = { λ x o. x.options ≡ o.es2016 };
+    ghost use Rattle.lower_editions.specs.Editions.{no_entries, no_tally, suits_es2016};
 
-    ghost tally = { λ x h id. 0 };
+    ghost suits = { suits_es2016 };
 
-    ghost entries = { λ x h. 0 };
+    ghost tally = { no_tally };
+
+    ghost entries = { no_entries };
 
     fn keeps_pairs(&self) -> bool {
         false
@@ -55,13 +57,31 @@ impl Lowering for ES2016 {
 }
 
 impl Traverse<TransformState> for ES2016 {
-    /// Lowers exponentiation, where it is on (ECMA-262, 13.6 and 13.15). Refuses one where the program binds
-    /// `Math`, and answers any other error only for want of memory.
+    ghost use Rattle.std.specs.Prelude.{◌⊎◌, IfErr, IfOk, true, false};
+    ghost use Rattle.es_tree.specs.Bare.{bare};
+    ghost use Rattle.es_tree.specs.declared.error.LowerError.TheVariants.{OutOfMemory};
+    ghost use Rattle.es_runs.specs.Weights.{weight};
+    ghost use Rattle.es_visit.specs.Laws.{Entered, Goes, IsReady};
+    ghost use Rattle.es_visit.specs.Refusals.{RefusedTree};
+    ghost use Rattle.es_visit.specs.declared.hook.Hook.TheVariants.{Expression as AnyExpression};
+    ghost use Rattle.lower_common.specs.Takings.{moment_of};
+    ghost use Rattle.lower_editions.specs.Editions.{no_entries, no_tally, suits_es2016};
+    ghost use Rattle.lower_editions.specs.MathRefusals.{IsMathRefusal, is_math_refused};
+
+    /// Lowers exponentiation, where it is on (ECMA-262, 13.6 and 13.15). Refuses one, by its own id, exactly where
+    /// `Math` is bound, and answers any other error only where memory runs out.
     fn enter_expression(
         &mut self,
         node: &mut Expression,
         ctx: &mut TraverseCtx<TransformState>,
-    ) -> Result<(), LowerError> {
+    ) -> Result<(), LowerError>
+        requires ready { IsReady suits_es2016 self.old (moment_of ctx.old) (weight (bare node.old)) }
+        ensures entered { IfOk result (λ _. Entered (es2016_profile ctx.old.options) AnyExpression (moment_of ctx.old) (bare node.old) (moment_of ctx.new) (bare node.new)) }
+        ensures goes { IfOk result (λ _. Goes suits_es2016 no_tally no_entries ctx.old.options AnyExpression self.old self.new) }
+        ensures refused { IfErr result (λ error. RefusedTree (es2016_profile ctx.old.options).rule (es2016_profile ctx.old.options).refuses error (moment_of ctx.old) (bare node.old)) }
+        ensures told { IfErr result (λ error. (error ≡ OutOfMemory) ⊎ IsMathRefusal ctx.old node.old error) }
+        ensures taken { IfOk result (λ _. ctx.old.options.es2016.exponentiation_operator ≡ true → is_math_refused ctx.old node.old ≡ false) }
+    {
         if self.options.exponentiation_operator {
             self.exponentiation_operator.enter_expression(node, ctx)?;
         }

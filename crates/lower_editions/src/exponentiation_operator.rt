@@ -52,11 +52,14 @@ impl Lowering for ExponentiationOperator {
 
     ghost keeps = { false };
 
-    ghost suits = { λ x o. o.es2016.exponentiation_operator ≡ true };
+    ghost use Rattle.lower_editions.specs.Editions.{no_entries, no_tally};
+    ghost use Rattle.lower_editions.specs.MathRefusals.{suits_exponentiation};
 
-    ghost tally = { λ x h id. 0 };
+    ghost suits = { suits_exponentiation };
 
-    ghost entries = { λ x h. 0 };
+    ghost tally = { no_tally };
+
+    ghost entries = { no_entries };
 
     fn keeps_pairs(&self) -> bool {
         false
@@ -68,13 +71,31 @@ impl Lowering for ExponentiationOperator {
 }
 
 impl Traverse<TransformState> for ExponentiationOperator {
-    /// Lowers a `**` or `**=`; its operands are visited afterwards, in the call. Refuses one where the program
-    /// binds `Math`, and answers any other error only for want of memory.
+    ghost use Rattle.std.specs.Prelude.{◌⊎◌, IfErr, IfOk};
+    ghost use Rattle.es_tree.specs.Bare.{bare};
+    ghost use Rattle.es_tree.specs.declared.error.LowerError.TheVariants.{OutOfMemory};
+    ghost use Rattle.es_runs.specs.Weights.{weight};
+    ghost use Rattle.es_visit.specs.Laws.{Entered, Goes, IsReady};
+    ghost use Rattle.es_visit.specs.Refusals.{RefusedTree};
+    ghost use Rattle.es_visit.specs.declared.hook.Hook.TheVariants.{Expression as AnyExpression};
+    ghost use Rattle.lower_common.specs.Takings.{moment_of};
+    ghost use Rattle.lower_editions.specs.Editions.{no_entries, no_tally};
+    ghost use Rattle.lower_editions.specs.MathRefusals.{IsMathRefusal, is_math_refused, suits_exponentiation};
+
+    /// Lowers a `**` or `**=`; its operands are visited afterwards, in the call. Refuses one, by its own id, exactly
+    /// where `Math` is bound, and answers any other error only where memory runs out.
     fn enter_expression(
         &mut self,
         node: &mut Expression,
         ctx: &mut TraverseCtx<TransformState>,
-    ) -> Result<(), LowerError> {
+    ) -> Result<(), LowerError>
+        requires ready { IsReady suits_exponentiation self.old (moment_of ctx.old) (weight (bare node.old)) }
+        ensures entered { IfOk result (λ _. Entered exponentiation_profile AnyExpression (moment_of ctx.old) (bare node.old) (moment_of ctx.new) (bare node.new)) }
+        ensures goes { IfOk result (λ _. Goes suits_exponentiation no_tally no_entries ctx.old.options AnyExpression self.old self.new) }
+        ensures refused { IfErr result (λ error. RefusedTree exponentiation_profile.rule exponentiation_profile.refuses error (moment_of ctx.old) (bare node.old)) }
+        ensures told { IfErr result (λ error. (error ≡ OutOfMemory) ⊎ IsMathRefusal ctx.old node.old error) }
+        ensures taken { IfOk result (λ _. is_math_refused ctx.old node.old ≡ false) }
+    {
         if !is_lowerable(node) {
             return Ok(());
         }
