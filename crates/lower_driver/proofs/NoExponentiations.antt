@@ -148,7 +148,7 @@ rule_powerless no_all n _ _ _ _ (inr (inl (replaces {p = p} xs r))) h = record {
 rule_powerless no_all n _ _ _ _ (inr (inr (inl (inl (replaces {p = p} xs r))))) h = record { around = more_powerless xs p h.around; here = nullish_coalescing_powerless r h.here }
 rule_powerless no_all n _ _ _ _ (inr (inr (inl (inr (replaces {w = w} {p = p} xs r))))) h = record {
   around = more_powerless xs p h.around;
-  here = optional_chaining_good Powerless (λ x. Unit {0}) chain_powerless no_all (is_bound_in w) w.bound w.steady w.in_use r (none_asked xs) h.here;
+  here = optional_chaining_good Powerless (λ x. Unit {0}) chain_powerless no_all (is_bound_in w) w.steady w.in_use r (none_asked xs) h.here;
 }
 rule_powerless no_all n _ _ _ _ (inr (inr (inr (replaces {t = t} xs (raises free r))))) h = absurd (own_exponentiation t h.here (exponentiation_acts r))
 

@@ -31,5 +31,5 @@ pub program_opens : (p : Tree) → has_form s-Program p ≡ true → IsProgram p
 program_opens (node k l fs) h = at k (node_form s-Program k l fs h).sort (node_form s-Program k l fs h).children
   where
     at : (k : AstType) → is_of_sort s-Program k ≡ true → ChildrenForm k l fs → IsProgram (node k l fs)
-    at Program sort children = record { kind = refl; shape = program_shape l fs children }
+    at Program sort children = record { kind = refl; arity = program_shape l fs children }
     at _ sort children = absurd (cc sort)
