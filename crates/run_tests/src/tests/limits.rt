@@ -82,7 +82,7 @@ fn script(alloc: Global, body: Vec<Value>) -> Result<Value, AllocError> {
 // The script of 524,287 statements `a;`, which has 1,048,575 nodes, and of some that are negated.
 fn longest_script(alloc: Global, negated_statements: u32) -> Result<Value, AllocError> {
     let mut body = Vec::with_capacity(alloc, 524_288)?;
-    for _i in 0..524_287 - negated_statements {
+    for _i in 0..524_287_u32.saturating_sub(negated_statements) {
         body.push(statement(alloc, identifier(alloc)?)?)?;
     }
     for _i in 0..negated_statements {
@@ -106,7 +106,7 @@ fn deep_script(alloc: Global, negations: u32) -> Result<Value, AllocError> {
 fn a_script_of_1048575_nodes_is_lowered(rt: HostRuntime) -> Result<(), Fail> {
     let alloc = rt.alloc();
     let lowered = lower(alloc, &longest_script(alloc, 0)?, &no_options(alloc)?)?;
-    assert_eq!(rt; lowered.temporaries.len(), 0);
+    assert_eq!(rt; lowered.tree.temporaries.len(), 0);
     Ok(())
 }
 
@@ -127,7 +127,7 @@ fn a_script_of_one_node_more_is_too_large(rt: HostRuntime) -> Result<(), Fail> {
 fn a_value_that_nests_400_deep_is_lowered(rt: HostRuntime) -> Result<(), Fail> {
     let alloc = rt.alloc();
     let lowered = lower(alloc, &deep_script(alloc, 396)?, &no_options(alloc)?)?;
-    assert_eq!(rt; lowered.warnings.len(), 0);
+    assert_eq!(rt; lowered.tree.warnings.len(), 0);
     Ok(())
 }
 
