@@ -41,7 +41,7 @@ enum Again {
 /// innermost statement list.
 ///
 /// Where `mutated_symbol_needs_temp_var` is set, a name that some reference writes takes a temporary, and
-/// else each name that the program's scope binds is read again. Answers an error only for want of memory.
+/// else each name that is bound, by the program's scope or as a fresh name, is read again. Answers an error only for want of memory.
 pub fn duplicate_expression(
     expression: Expression,
     mutated_symbol_needs_temp_var: bool,

@@ -3,12 +3,12 @@
 //! | source | written |
 //! |---|---|
 //! | `l ** r` | `Math.pow(l, r)` |
-//! | `x **= v`, where the program's scope binds `x` | `x = Math.pow(x, v)` |
+//! | `x **= v`, where `x` is bound | `x = Math.pow(x, v)` |
 //! | `x **= v` otherwise | `_x = x, x = Math.pow(_x, v)` |
-//! | `o.k **= v`, where the program's scope binds `o` | `o["k"] = Math.pow(o["k"], v)` |
+//! | `o.k **= v`, where `o` is bound | `o["k"] = Math.pow(o["k"], v)` |
 //! | `f().k **= v` | `_f = f(), _f["k"] = Math.pow(_f["k"], v)` |
 //! | `o[k] **= v` | `_o = o, _k = k, _o[_k] = Math.pow(_o[_k], v)` |
-//! | `o[1] **= v`, where the program's scope binds `o` | `o[1] = Math.pow(o[1], v)` |
+//! | `o[1] **= v`, where `o` is bound | `o[1] = Math.pow(o[1], v)` |
 //!
 //! Its rule is `exponentiation_rule` (es_runs, specs/OpenRules.antt), by the rows of specs/Exponentiation.antt there.
 //!

@@ -91,7 +91,8 @@ impl Lowering for OptionalChaining {
 
 impl Traverse<TransformState> for OptionalChaining {
     /// Lowers a chain where its value is taken, and one that is called, the object of a member without a mark or
-    /// the operand of a unary operator before it is entered itself; what stands in it is visited afterwards. Answers an error only for want of memory,
+    /// the operand of a unary operator before it is entered itself; what stands in it is visited afterwards.
+    /// Answers an error only for want of memory,
     /// where no statement list is open that could declare a temporary, and for a chain that the static rules
     /// refuse.
     fn enter_expression(
