@@ -4,7 +4,7 @@ use Rattle.std.proofs.lemmas.Bool.{eqb-true, eqb-false}
 use Rattle.std.proofs.lemmas.Option.{slice_get_past}
 use Rattle.es_scope.specs.TableChanges.{with_last}
 
-get_last : {X : Type 0} (xs : List X) (y : X) (n : ℕ) → n ≡ length xs → slice_get (xs ++ y ∷ []) n ≡ Some y
+pub get_last : {X : Type 0} (xs : List X) (y : X) (n : ℕ) → n ≡ length xs → slice_get (xs ++ y ∷ []) n ≡ Some y
 get_last [] y zero e = refl
 get_last [] y (suc n) e = absurd (omega (arith, e))
 get_last (x ∷ xs) y zero e = absurd (omega (arith, e))
@@ -15,6 +15,12 @@ get_before [] y zero e = absurd (e refl)
 get_before [] y (suc n) e = refl
 get_before (x ∷ xs) y zero e = refl
 get_before (x ∷ xs) y (suc n) e = get_before xs y n (λ f. e (omega (arith, f)))
+
+-- an item that is there stays with one item more
+pub get_kept : {X : Type 0} (xs : List X) (y z : X) (n : ℕ) → slice_get xs n ≡ Some z → slice_get (xs ++ y ∷ []) n ≡ Some z
+get_kept [] y z n e = absurd (cc)
+get_kept (x ∷ xs) y z zero e = e
+get_kept (x ∷ xs) y z (suc n) e = get_kept xs y z n e
 
 pub slice_get-last : {X : Type 0} (xs : List X) (y : X) (n : ℕ) → slice_get (xs ++ y ∷ []) n ≡ with_last (length xs) y (slice_get xs) n
 slice_get-last xs y n = at (n == length xs) refl where

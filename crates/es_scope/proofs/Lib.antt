@@ -5,6 +5,7 @@ pub mod Among
 pub mod Candidates
 pub mod Tables
 pub mod Lasts
+pub mod HoistPlaces
 pub mod TableSteps
 pub mod ChangedItems
 pub mod SteadyContexts

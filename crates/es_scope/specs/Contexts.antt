@@ -5,7 +5,7 @@ use Rattle.es_tree.specs.Names.{names_of}
 use Rattle.es_tree.specs.References.{Reference}
 use Rattle.es_tree.specs.Tree.{Tree}
 use Rattle.es_tree.specs.Words.{Text}
-use Rattle.es_scope.specs.HoistScopes.{HoistsTo}
+use Rattle.es_scope.specs.HoistScopes.{hoist_scope}
 use Rattle.es_scope.specs.Places.{ancestors_in, scopes_in}
 use Rattle.es_scope.specs.TableChanges.{HasBindingMore, HasReferenceMore, HasScopeMore}
 use Rattle.es_scope.specs.Tables.{binding_in, is_found_steady, scope_count}
@@ -46,6 +46,10 @@ first_scope (n ∷ ns) = n
 -- the scope of the place
 abbrev pub scope_at : {S : Type 0} → TraverseCtx S → ℕ
 scope_at ctx = first_scope (scopes_around ctx)
+
+-- the scope that `var` declares in here
+abbrev pub hoist_scope_at : {S : Type 0} → TraverseCtx S → ℕ
+hoist_scope_at ctx = hoist_scope (around_of ctx) (scopes_around ctx)
 
 -- whether the program's scope binds a name and no reference writes it
 abbrev pub steady_of : {S : Type 0} → TraverseCtx S → Text → Bool
@@ -97,7 +101,7 @@ pub record Binds {S : Type 0} (old new : TraverseCtx S) (scope : ℕ) (name : Te
 -- one binding more, of this name and function scoped, where `var` declares
 pub record BindsHoisted {S : Type 0} (old new : TraverseCtx S) (name : Text) : Type 0 where
   pub scope : ℕ
-  pub hoists : HoistsTo (table_of old) (scope_at old) scope
+  pub hoists : scope ≡ hoist_scope_at old
   pub known : scope < scope_count (table_of old)
   pub binds : Binds old new scope name function_scoped
 

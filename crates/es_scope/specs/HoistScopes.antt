@@ -1,18 +1,22 @@
--- The scope that `var` declares in (ECMA-262, 8.2.6 and 10.2.11).
-use Rattle.std.specs.Prelude.{◌≡◌, ℕ, Bool, true, false, ◌||◌, Some, None, option_map, unwrap_or}
-use Rattle.es_scope.specs.Tables.{parent_of, scope_flags_of}
-use Rattle.es_scope.specs.declared.flags.ScopeFlags.{ScopeFlags}
-use Rattle.es_scope.specs.declared.scoping.Scoping.{Scoping}
+-- The scope that `var` declares in, by the places around (ECMA-262, 8.2.6 and 10.2.11): that of the nearest body of a function,
+-- body of an arrow that is an expression, static block or program. The parameters of a function are no part of its body.
+use Rattle.std.specs.Prelude.{ℕ, zero, suc, List, [], ◌∷◌, Bool, true, false, if◌then◌else◌}
+use Rattle.es_tree.specs.declared.ast_type.AstType.{AstType}
+use Rattle.es_tree.specs.declared.ast_type.AstType.TheVariants.{ArrowFunctionExpression, FunctionBody, Program, StaticBlock}
+use Rattle.es_scope.specs.declared.ancestor.Ancestor.{Ancestor}
 
--- the scope of a function, of a static block or of the program
-abbrev pub is_hoist : ScopeFlags → Bool
-is_hoist flags = flags.function || flags.class_static_block || flags.top
+-- Whether `var` declares inside this field of a node of this kind. Where the body of an arrow is a FunctionBody, that is nearer.
+abbrev pub is_hoist_field : AstType → ℕ → Bool
+is_hoist_field Program i = true
+is_hoist_field FunctionBody i = true
+is_hoist_field StaticBlock i = true
+is_hoist_field ArrowFunctionExpression (suc zero) = true
+is_hoist_field _ i = false
 
-abbrev pub is_hoist_scope : Scoping → ℕ → Bool
-is_hoist_scope s n = unwrap_or (option_map is_hoist (scope_flags_of s n)) false
+abbrev pub is_hoist_place : Ancestor → Bool
+is_hoist_place a = is_hoist_field a.kind a.field
 
--- The first such scope from this one outwards; the outermost where there is none.
-pub data HoistsTo (s : Scoping) : ℕ → ℕ → Type 0 where
-  hoist_here : {n : ℕ} → is_hoist_scope s n ≡ true → HoistsTo s n n
-  hoist_outside : {n up m : ℕ} → is_hoist_scope s n ≡ false → parent_of s n ≡ Some up → HoistsTo s up m → HoistsTo s n m
-  hoist_outermost : {n : ℕ} → is_hoist_scope s n ≡ false → parent_of s n ≡ None → HoistsTo s n n
+-- of these ancestors with the scopes of their places, innermost first, the first such scope; the program's where there is none
+abbrev pub hoist_scope : List Ancestor → List ℕ → ℕ
+hoist_scope (a ∷ up) (n ∷ ns) = if is_hoist_place a then n else hoist_scope up ns
+hoist_scope _ _ = 0

@@ -5,13 +5,14 @@ ghost use Rattle.std.specs.Prelude.{◌≡◌, ◌<◌, [], ◌∷◌, IfOk, OnO
 ghost use Rattle.es_tree.specs.Fresh.{is_among};
 ghost use Rattle.es_tree.specs.Names.{names_of};
 ghost use Rattle.es_tree.specs.Words.{Text};
-ghost use Rattle.es_scope.specs.HoistScopes.{HoistsTo};
+ghost use Rattle.es_scope.specs.HoistScopes.{is_hoist_place};
 ghost use Rattle.es_scope.specs.Places.{AreInTable, AreInUse};
 ghost use Rattle.es_scope.specs.Tables.{scope_count};
 
 use crate::ancestor::{Ancestor, Place};
 use crate::scoping::Scoping;
 use crate::uids::UidGenerator;
+use es_tree::ast_type::AstType;
 use es_tree::builder::AstBuilder;
 use es_tree::ids::ScopeId;
 use es_tree::node::Node;
@@ -74,7 +75,7 @@ impl<S: Drop> TraverseCtx<S> {
 }
 
 impl<S> TraverseCtx<S> {
-    ghost use Rattle.es_scope.specs.Contexts.{KeepsNames, around_of, made_of, scope_at, scopes_around, table_of};
+    ghost use Rattle.es_scope.specs.Contexts.{KeepsNames, around_of, hoist_scope_at, made_of, scope_at, scopes_around, table_of};
 
     /// The state, the builder and the fresh names in the order made.
     pub fn finish(self) -> (S, AstBuilder, Vec<String>)
@@ -132,13 +133,18 @@ impl<S> TraverseCtx<S> {
         }
     }
 
-    /// The scope in which `var` declares here: the nearest outwards that is a function's, a static block's or
-    /// the program's (ECMA-262, 8.2.6).
+    /// The scope in which `var` declares here: that of the nearest body of a function, body of an arrow that is
+    /// an expression, static block or program (ECMA-262, 8.2.6).
     pub fn current_hoist_scope_id(&self) -> ScopeId
-        ensures scope { HoistsTo (table_of self.now) (scope_at self.now) result.0 }
+        ensures scope { result.0 ≡ hoist_scope_at self.now }
         ensures known { result.0 < scope_count (table_of self.now) }
     {
-        self.scoping.find_hoist_scope(self.current_scope_id())
+        for place in self.ancestors.iter().rev() {
+            if hoists(place.ancestor) {
+                return place.scope;
+            }
+        }
+        self.scoping.root_scope_id()
     }
 
     /// The innermost ancestor.
@@ -159,5 +165,16 @@ impl<S> TraverseCtx<S> {
         } else {
             None
         }
+    }
+}
+
+/// Whether `var` declares inside this field of a node.
+fn hoists(ancestor: Ancestor) -> bool
+    ensures { result ≡ is_hoist_place ancestor }
+{
+    match ancestor.kind {
+        AstType::Program | AstType::FunctionBody | AstType::StaticBlock => true,
+        AstType::ArrowFunctionExpression => ancestor.field == 1,
+        _ => false,
     }
 }

@@ -26,7 +26,7 @@ impl<S> TraverseCtx<S> {
     ) -> Result<Expression, AllocError>
         requires room { self.old.ast.next < 2 ^ 32 - 1 }
         requires symbol { symbol.0 < symbol_count (table_of self.old) }
-        ensures node { IfOk result (λ n. n ≡ made_identifier self.old.ast.next span name.now (reference_count (table_of self.old))) }
+        ensures node { IfOk result (λ n. n ≡ made_identifier self.old.ast.next span name.now (reference_count (table_of self.old)) (Some symbol.0)) }
         ensures refers { OnOk result (Refers self.old self.new (Some symbol.0) flags) }
     {
         let node = self.create_ident_expr(span, name, Some(symbol), flags)?;
@@ -41,7 +41,7 @@ impl<S> TraverseCtx<S> {
         flags: ReferenceFlags,
     ) -> Result<Expression, AllocError>
         requires room { self.old.ast.next < 2 ^ 32 - 1 }
-        ensures node { IfOk result (λ n. n ≡ made_identifier self.old.ast.next span name.now (reference_count (table_of self.old))) }
+        ensures node { IfOk result (λ n. n ≡ made_identifier self.old.ast.next span name.now (reference_count (table_of self.old)) None) }
         ensures refers { OnOk result (Refers self.old self.new None flags) }
     {
         let node = self.create_ident_expr(span, name, None, flags)?;
@@ -58,7 +58,7 @@ impl<S> TraverseCtx<S> {
     ) -> Result<Expression, AllocError>
         requires room { self.old.ast.next < 2 ^ 32 - 1 }
         requires symbol { ForSome symbol (λ s. s.0 < symbol_count (table_of self.old)) }
-        ensures node { IfOk result (λ n. n ≡ made_identifier self.old.ast.next span name.now (reference_count (table_of self.old))) }
+        ensures node { IfOk result (λ n. n ≡ made_identifier self.old.ast.next span name.now (reference_count (table_of self.old)) (symbol_number symbol)) }
         ensures refers { OnOk result (Refers self.old self.new (symbol_number symbol) flags) }
     {
         let alloc = self.ast.alloc;
@@ -72,7 +72,7 @@ impl<S> TraverseCtx<S> {
         let kind = Kind::Identifier {
             name,
             reference: Some(reference),
-            symbol: None,
+            symbol,
         };
         Ok(Node {
             id,

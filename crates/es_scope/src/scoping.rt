@@ -49,7 +49,6 @@ pub struct Scoping {
 }
 
 impl Scoping {
-    ghost use Rattle.es_scope.specs.HoistScopes.{HoistsTo, is_hoist_scope};
     ghost use Rattle.es_scope.specs.Tables.{Finds, binding_in, is_mutated, parent_of, reference_at, reference_count, scope_count, scope_flags_of, symbol_count, symbol_flags_of, symbol_scope_of};
 
     /// How many scopes there are; their numbers are those below.
@@ -136,31 +135,6 @@ impl Scoping {
             }
             scope_id = self.scope_parent_id(scope_id)?;
         }
-    }
-
-    /// The first scope, from this one outwards, that is a function's, a static block's or the program's; the
-    /// outermost where there is none.
-    pub fn find_hoist_scope(&self, scope_id: ScopeId) -> ScopeId
-        requires { scope_id.0 < scope_count self.now }
-        ensures scope { HoistsTo self.now scope_id.0 result.0 }
-        ensures known { result.0 < scope_count self.now }
-    {
-        let mut scope_id = scope_id;
-        while !self.is_hoist_scope(scope_id) {
-            let Some(parent) = self.scope_parent_id(scope_id) else {
-                return scope_id;
-            };
-            scope_id = parent;
-        }
-        scope_id
-    }
-
-    fn is_hoist_scope(&self, scope_id: ScopeId) -> bool
-        requires { scope_id.0 < scope_count self.now }
-        ensures { result ≡ is_hoist_scope self.now scope_id.0 }
-    {
-        let flags = self.scope_flags(scope_id);
-        flags.function || flags.class_static_block || flags.top
     }
 
     /// Whether some reference writes a symbol.

@@ -2,8 +2,7 @@
 use Rattle.std.specs.Prelude.{◌≡◌, ℕ, ◌+◌, ◌<◌, [], ◌∷◌, List}
 use Rattle.es_tree.specs.Tree.{Tree}
 use Rattle.es_tree.specs.Words.{Text}
-use Rattle.es_scope.specs.Contexts.{MakesName, around_of, function_scoped, scope_at, scopes_around, table_of}
-use Rattle.es_scope.specs.HoistScopes.{HoistsTo}
+use Rattle.es_scope.specs.Contexts.{MakesName, around_of, function_scoped, hoist_scope_at, scope_at, scopes_around, table_of}
 use Rattle.es_scope.specs.TableChanges.{HasBindingMore}
 use Rattle.es_scope.specs.Tables.{scope_count}
 use Rattle.es_scope.specs.declared.context.TraverseCtx.{TraverseCtx}
@@ -15,7 +14,7 @@ use Rattle.lower_common.specs.declared.state.TransformState.{TransformState}
 -- one binding more, of this name and function scoped, where `var` declares
 pub record HoistsName {S : Type 0} (old new : TraverseCtx S) (name : Text) : Type 0 where
   pub scope : ℕ
-  pub hoists : HoistsTo (table_of old) (scope_at old) scope
+  pub hoists : scope ≡ hoist_scope_at old
   pub known : scope < scope_count (table_of old)
   pub table : HasBindingMore (table_of old) (table_of new) scope name function_scoped
 
