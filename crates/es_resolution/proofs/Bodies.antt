@@ -15,7 +15,7 @@ use Rattle.es_semantic.specs.SymbolsOf.{Declared, find, hoists, hoist_scope, is_
 use Rattle.es_semantic.specs.declared.place.Role.{Role}
 use Rattle.es_semantic.specs.declared.place.Role.TheVariants.{Nothing, Binds}
 use Rattle.es_semantic.proofs.SymbolPlaces.{symbol-bound}
-use Rattle.es_resolution.specs.Declarations.{is_asked}
+use Rattle.es_resolution.proofs.Declares.{counts-none, is_declared}
 use Rattle.es_resolution.proofs.SymbolTrees.{own_symbols, symbol_for}
 use Rattle.es_resolution.specs.Resolved.{Place as Around, class_frame, frame, bound_by, IsMarked, IsRight, OwnRight}
 use Rattle.es_resolution.proofs.Basics.{bytes_eq-self}
@@ -25,9 +25,10 @@ use Rattle.es_resolution.proofs.Declares.{declares, declares_in, declares_by, bo
 use Rattle.es_resolution.proofs.Marks.{marked}
 use Rattle.es_resolution.proofs.Tests.{and-false, stay-in}
 use Rattle.es_resolution.proofs.Outside.{Fits, is_parameter, place}
-use Rattle.es_resolution.proofs.OutsideTrees.{counts-none, places, out-in}
+use Rattle.es_resolution.proofs.OutsideTrees.{places, out-in}
 use Rattle.es_resolution.proofs.Frames.{class_name}
 use Rattle.es_resolution.proofs.Nodes.{Agrees, IsNonEmpty, Sees, Body, find-first, out-true}
+use Rattle.es_resolution.proofs.OtherRoles.{inside-other}
 
 -- AN IDENTIFIER
 
@@ -36,7 +37,7 @@ bind-right : (F : List Declared) (p : Place) (P : Around) (y : Text) (c : Bool) 
 bind-right F p P y true some e lex var = (sym (var refl).0, symbol-bound F (hoist_scope F p y) y ∙ (var refl).1)
 bind-right F p P y false some e lex var = (sym (e ∙ find-first F p.around y some (lex refl)), symbol-bound F (first p.around) y ∙ lex refl)
 
-name-right : (F : List Declared) (p : Place) (P : Around) (r : Role) (y : Text) → IsNonEmpty p.around → P.scope y ≡ find F p.around y → (is_asked false r ≡ true → is_bound F (first p.around) y ≡ true) → (is_asked true r ≡ true → (P.hoist y ≡ symbol_in F (hoist_scope F p y) y) × (is_bound F (hoist_scope F p y) y ≡ true)) →
+name-right : (F : List Declared) (p : Place) (P : Around) (r : Role) (y : Text) → IsNonEmpty p.around → P.scope y ≡ find F p.around y → (is_declared false r ≡ true → is_bound F (first p.around) y ≡ true) → (is_declared true r ≡ true → (P.hoist y ≡ symbol_in F (hoist_scope F p y) y) × (is_bound F (hoist_scope F p y) y ≡ true)) →
     IsRight P r y (symbol_for F p r y)
 name-right F p P Nothing y some e lex var = tt
 name-right F p P (Binds b) y some e lex var = bind-right F p P y (hoists b) some e lex var
@@ -48,7 +49,7 @@ asked-here x a d h = rw (h, bytes_eq-self x) refl
 pub own-right : (F : List Declared) (p : Place) (P : Around) (n : ℕ) (k : AstType) (l : Label) (fs : Fields) → Sees F p P (λ x. declares x false p.role (node k l fs)) (λ x. declares x true p.role (node k l fs)) → OwnRight P p.role k (marked l (own_symbols F p n k l fs))
 own-right F p P n Identifier l fs h =
     let y = first_text l.texts in
-    name-right F p P p.role y h.some (h.scope y) (λ a. h.lexical y (asked-here y (is_asked false p.role) (declares_in y false every (role_at p.role Identifier l fs) fs) a)) (λ a. h.hoisted y (asked-here y (is_asked true p.role) (declares_in y true every (role_at p.role Identifier l fs) fs) a))
+    name-right F p P p.role y h.some (h.scope y) (λ a. h.lexical y (asked-here y (is_declared false p.role) (declares_in y false every (role_at p.role Identifier l fs) fs) a)) (λ a. h.hoisted y (asked-here y (is_declared true p.role) (declares_in y true every (role_at p.role Identifier l fs) fs) a))
 own-right F p P n _ l fs h = tt
 
 pub class-kinds : (k : AstType) (l : Label) (rs : ℕ → Role) (gs : Fields) → (makes_scope k ≡ true → IsMarked (class_frame k l rs gs)) → IsMarked (class_frame k l rs gs)
@@ -159,8 +160,8 @@ function-class x FunctionExpression fs h = refl
 function-class x ArrowFunctionExpression fs h = refl
 function-class x _ fs h = absurd (cc h)
 
-pub function-frame : (x : Text) (k : AstType) (l : Label) (rs : ℕ → Role) (fs : Fields) → is_function k ≡ true → bound_by (frame k l rs fs) x ≡ declares_in x false (is_inside k) rs fs
-function-frame x FunctionDeclaration l rs fs h = bound-in x false (is_inside FunctionDeclaration) rs fs
-function-frame x FunctionExpression l rs fs h = bound-in x false (is_inside FunctionExpression) rs fs
-function-frame x ArrowFunctionExpression l rs fs h = bound-in x false (is_inside ArrowFunctionExpression) rs fs
-function-frame x _ l rs fs h = absurd (cc h)
+pub function-frame : (x : Text) (k : AstType) (l : Label) (r : Role) (fs : Fields) → PlacedIn k fs → is_function k ≡ true → bound_by (frame k l (role_at r k l fs) fs) x ≡ declares_in x false (is_inside k) (role_at r k l fs) fs
+function-frame x FunctionDeclaration l r fs d h = bound-in x false FunctionDeclaration (is_inside FunctionDeclaration) (role_at r FunctionDeclaration l fs) fs d (inside-other r FunctionDeclaration l fs refl)
+function-frame x FunctionExpression l r fs d h = bound-in x false FunctionExpression (is_inside FunctionExpression) (role_at r FunctionExpression l fs) fs d (inside-other r FunctionExpression l fs refl)
+function-frame x ArrowFunctionExpression l r fs d h = bound-in x false ArrowFunctionExpression (is_inside ArrowFunctionExpression) (role_at r ArrowFunctionExpression l fs) fs d (inside-other r ArrowFunctionExpression l fs refl)
+function-frame x _ l r fs d h = absurd (cc h)

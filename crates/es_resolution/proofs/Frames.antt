@@ -1,5 +1,5 @@
 -- The scopes of one node: their names, with their symbols, are those of its frames.
-use Rattle.std.proofs.Common.{◌≡◌, ℕ, suc, ◌+◌, refl, sym, ap, ◌∙◌, List, [], ◌∷◌}
+use Rattle.std.proofs.Common.{◌≡◌, ℕ, refl, sym, ap, ◌∙◌, List, [], ◌∷◌}
 use Rattle.std.specs.Prelude.{Bool, true, false, not, ◌||◌, ◌&&◌, Option, Some, None, is_some, bytes_eq, if◌then◌else◌}
 use Rattle.std.specs.List.{list_all}
 use Rattle.es_tree.specs.Words.{Text}
@@ -11,9 +11,8 @@ use Rattle.es_tree.specs.declared.ast_type.AstType.TheVariants.{Identifier, Clas
 use Rattle.es_semantic.specs.RolesOf.{role_at}
 use Rattle.es_semantic.specs.Places.{Place, own_scope, place_in}
 use Rattle.es_semantic.specs.SymbolsOf.{Declared, find, is_bound, symbol_in}
-use Rattle.es_semantic.specs.declared.place.Role.{Role}
 use Rattle.es_semantic.proofs.SymbolPlaces.{symbol-bound}
-use Rattle.es_resolution.specs.Declarations.{Bound, sought, declared_in}
+use Rattle.es_resolution.specs.Declarations.{Bound, sought}
 use Rattle.es_resolution.proofs.SymbolTrees.{own_symbols, resolved_in}
 use Rattle.es_resolution.specs.Resolved.{class_frame, or_around, within, within_vars, bound_by, has_symbol, IsMarked}
 use Rattle.es_resolution.proofs.Basics.{bytes_eq-self, bytes_eq-equal}
@@ -65,10 +64,6 @@ inner-by F a bs vs goal parameters f up x true p h k q g e d =
 
 -- THE FIRST FIELD
 
-pub declared-none : (v : Bool) (roles : ℕ → Role) (fs : Fields) → declared_in v (λ i. false) roles fs ≡ []
-declared-none v roles done = refl
-declared-none v roles (f then fs) = declared-none v (λ i. roles (suc i)) fs
-
 -- a class's own name
 abbrev pub class_name : Text → AstType → Fields → Bool
 class_name x ClassDeclaration (one t then fs) = bytes_eq (own_text t) x
@@ -81,7 +76,7 @@ pub record ClassFrame (F : List Declared) (a : ℕ) (k : AstType) (fs : Fields) 
   pub symbols : Each (HasSymbol F (λ y. a)) bs
   pub known : ((x : Text) → class_name x k fs ≡ true → is_bound F a x ≡ true) → IsMarked bs
 
-named-if : (x y : Text) (s : Option ℕ) (c : Bool) → is_some (if c then Some s else None) ≡ c
+pub named-if : (x y : Text) (s : Option ℕ) (c : Bool) → is_some (if c then Some s else None) ≡ c
 named-if x y s true = refl
 named-if x y s false = refl
 
@@ -91,15 +86,13 @@ marked-one F a y h = rw (symbol-bound F a y, h) refl
 pub class-frame : (F : List Declared) (p : Place) (n m : ℕ) (k : AstType) (l : Label) (fs : Fields) → name_fits k fs ≡ true →
     ClassFrame F (own_scope n k fs) k fs (class_frame k (marked l (own_symbols F p n k l fs)) (role_at p.role k l fs) (resolved_in F (place_in p n k l fs) m fs))
 class-frame F p n m ClassDeclaration l (missing then fs) h =
-    rw (declared-none false (λ i. role_at p.role ClassDeclaration l (missing then fs) (suc i)) (resolved_in F (λ i. place_in p n ClassDeclaration l (missing then fs) (suc i)) (m + 0) fs)) (record { names = λ x. refl; symbols = tt; known = λ e. refl })
+    record { names = λ x. refl; symbols = tt; known = λ e. refl }
 class-frame F p n m ClassDeclaration l (one (node Identifier c done) then fs) h =
-    rw (declared-none false (λ i. role_at p.role ClassDeclaration l (one (node Identifier c done) then fs) (suc i)) (resolved_in F (λ i. place_in p n ClassDeclaration l (one (node Identifier c done) then fs) (suc i)) (m + 0) fs))
-    (record { names = λ x. named-if x (first_text c.texts) (symbol_in F n (first_text c.texts)) (bytes_eq (first_text c.texts) x); symbols = (refl, tt); known = λ e. marked-one F n (first_text c.texts) (e (first_text c.texts) (bytes_eq-self (first_text c.texts))) })
+    record { names = λ x. named-if x (first_text c.texts) (symbol_in F n (first_text c.texts)) (bytes_eq (first_text c.texts) x); symbols = (refl, tt); known = λ e. marked-one F n (first_text c.texts) (e (first_text c.texts) (bytes_eq-self (first_text c.texts))) }
 class-frame F p n m ClassExpression l (missing then fs) h =
-    rw (declared-none false (λ i. role_at p.role ClassExpression l (missing then fs) (suc i)) (resolved_in F (λ i. place_in p n ClassExpression l (missing then fs) (suc i)) (m + 0) fs)) (record { names = λ x. refl; symbols = tt; known = λ e. refl })
+    record { names = λ x. refl; symbols = tt; known = λ e. refl }
 class-frame F p n m ClassExpression l (one (node Identifier c done) then fs) h =
-    rw (declared-none false (λ i. role_at p.role ClassExpression l (one (node Identifier c done) then fs) (suc i)) (resolved_in F (λ i. place_in p n ClassExpression l (one (node Identifier c done) then fs) (suc i)) (m + 0) fs))
-    (record { names = λ x. named-if x (first_text c.texts) (symbol_in F n (first_text c.texts)) (bytes_eq (first_text c.texts) x); symbols = (refl, tt); known = λ e. marked-one F n (first_text c.texts) (e (first_text c.texts) (bytes_eq-self (first_text c.texts))) })
+    record { names = λ x. named-if x (first_text c.texts) (symbol_in F n (first_text c.texts)) (bytes_eq (first_text c.texts) x); symbols = (refl, tt); known = λ e. marked-one F n (first_text c.texts) (e (first_text c.texts) (bytes_eq-self (first_text c.texts))) }
 class-frame F p n m ClassDeclaration l fs h = absurd (cc h)
 class-frame F p n m ClassExpression l fs h = absurd (cc h)
 class-frame F p n m _ l fs h = record { names = λ x. refl; symbols = tt; known = λ e. refl }

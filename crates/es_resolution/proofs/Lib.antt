@@ -3,6 +3,7 @@ pub mod Roles
 pub mod MoreNames
 pub mod SymbolTrees
 pub mod Placed
+pub mod OtherRoles
 pub mod Declares
 pub mod Marks
 pub mod Tests
@@ -21,5 +22,6 @@ pub mod WholeExports
 pub mod Exports
 pub mod Sources
 pub mod WrittenSources
+pub mod CalledSources
 pub mod AgreeingMarks
 pub mod Examples

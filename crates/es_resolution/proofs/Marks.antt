@@ -18,6 +18,11 @@ use Rattle.es_resolution.proofs.SymbolTrees.{symbol_for, own_symbols, resolved_t
 use Rattle.es_resolution.proofs.Basics.{Each}
 use Rattle.es_resolution.proofs.Roles.{role-same}
 use Rattle.es_resolution.proofs.Declares.{own_declares, declares, declares_in, declares_by, declares_among}
+use Rattle.es_resolution.proofs.Placed.{is_last, is_name_first, kind_fits, name_fits, Placed, PlacedAll, PlacedBy, PlacedIn}
+use Rattle.es_resolution.proofs.Declares.{declared-none, goes_out}
+use Rattle.es_tree.specs.declared.ast_type.AstType.TheVariants.{ClassDeclaration, ClassExpression, FunctionDeclaration}
+use Rattle.es_semantic.specs.declared.place.Binding.{Binding}
+use Rattle.es_semantic.specs.declared.place.Binding.TheVariants.{FunctionName}
 
 -- ROLES
 
@@ -53,7 +58,7 @@ mutual
   pub names-tree : (F : List Declared) (x : Text) (v : Bool) (r : Role) (p : Place) (n : ℕ) (t : Tree) → declares x v r (resolved_tree F p n t) ≡ declares x v r t
   names-tree F x v r p n (node k l fs) =
       let m = own_symbols F p n k l fs in
-      λ i. own-kept x v r k l m i || (ap (λ (roles : ℕ → Role). declares_in x v (reaches_out v k) roles (resolved_in F (place_in p n k l fs) (n + own_scope_count k fs) fs)) (role-kept F (place_in p n k l fs) (n + own_scope_count k fs) r k l m fs) ∙ names-in F x v (reaches_out v k) (role_at r k l fs) (place_in p n k l fs) (n + own_scope_count k fs) fs) i
+      λ i. own-kept x v r k l m i || (ap (λ (roles : ℕ → Role). declares_in x v (goes_out v k) roles (resolved_in F (place_in p n k l fs) (n + own_scope_count k fs) fs)) (role-kept F (place_in p n k l fs) (n + own_scope_count k fs) r k l m fs) ∙ names-in F x v (goes_out v k) (role_at r k l fs) (place_in p n k l fs) (n + own_scope_count k fs) fs) i
 
   pub names-in : (F : List Declared) (x : Text) (v : Bool) (counts : ℕ → Bool) (roles : ℕ → Role) (ps : ℕ → Place) (n : ℕ) (fs : Fields) → declares_in x v counts roles (resolved_in F ps n fs) ≡ declares_in x v counts roles fs
   names-in F x v counts roles ps n done = refl
@@ -93,8 +98,13 @@ own-target true F p x false = tt
 own-target false F p x true = tt
 own-target false F p x false = (refl, tt)
 
+own-binding : (v : Bool) (F : List Declared) (p : Place) (x : Text) (b : Binding) → Each (HasSymbol F (target v F p)) (if is_asked v (Binds b) then record { name = x; symbol = symbol_for F p (Binds b) x } ∷ [] else [])
+own-binding true F p x b = own-target true F p x (hoists b)
+own-binding false F p x FunctionName = tt
+own-binding false F p x b = own-target false F p x (hoists b)
+
 own-role : (v : Bool) (F : List Declared) (p : Place) (x : Text) (r : Role) → Each (HasSymbol F (target v F p)) (if is_asked v r then record { name = x; symbol = symbol_for F p r x } ∷ [] else [])
-own-role v F p x (Binds b) = own-target v F p x (hoists b)
+own-role v F p x (Binds b) = own-binding v F p x b
 own-role v F p x _ = tt
 
 own-each : (v : Bool) (F : List Declared) (p : Place) (n : ℕ) (k : AstType) (l : Label) (fs : Fields) → Each (HasSymbol F (target v F p)) (own_declared v p.role k (marked l (own_symbols F p n k l fs)))
@@ -102,47 +112,93 @@ own-each v F p n Identifier l fs = own-role v F p (first_text l.texts) p.role
 own-each v F p n _ l fs = tt
 
 -- where a declaration reaches out of a node, it is declared where it would be around the node
-pub out-lexical : (k : AstType) (fs : Fields) (i : ℕ) → reaches_out false k i ≡ true → ((makes_scope k && is_inside k i) ≡ false) × (has_name_scope k fs ≡ false)
-out-lexical Program fs i h = absurd (cc h)
-out-lexical FunctionExpression fs i h = absurd (cc h)
-out-lexical k fs i h = (not-true (makes_scope k && is_inside k i) h, refl)
-
 pub first-around : (up : List ℕ) (n : ℕ) (k : AstType) (fs : Fields) (i : ℕ) → (makes_scope k && is_inside k i) ≡ false → has_name_scope k fs ≡ false → first (around_in up n k fs i) ≡ first up
 first-around up n k fs i e d = rw (e, d) refl
 
-pub out-target : (v : Bool) (F : List Declared) (p : Place) (n : ℕ) (k : AstType) (l : Label) (fs : Fields) (i : ℕ) → reaches_out v k i ≡ true → (x : Text) → target v F (place_in p n k l fs i) x ≡ target v F p x
-out-target false F p n k l fs i h x = let d = out-lexical k fs i h in first-around p.around n k fs i d.0 d.1
-out-target true F p n Program l fs i h x = absurd (cc h)
-out-target true F p n FunctionBody l fs i h x = absurd (cc h)
-out-target true F p n StaticBlock l fs i h x = absurd (cc h)
-out-target true F p n _ l fs i h x = refl
+pub out-hoisted : (F : List Declared) (p : Place) (n : ℕ) (k : AstType) (l : Label) (fs : Fields) (i : ℕ) → reaches_out true k i ≡ true → (x : Text) → hoist_scope F (place_in p n k l fs i) x ≡ hoist_scope F p x
+out-hoisted F p n Program l fs i h x = absurd (cc h)
+out-hoisted F p n FunctionBody l fs i h x = absurd (cc h)
+out-hoisted F p n StaticBlock l fs i h x = absurd (cc h)
+out-hoisted F p n _ l fs i h x = refl
+
+-- the name of a function expression isn't declared around it
+name-declared : (P : Bound → Type 0) (F : List Declared) (ps : ℕ → Place) (n : ℕ) (r : Role) (l : Label) (fs : Fields) → is_name_first fs ≡ true → Each P (declared_in false (reaches_out false FunctionExpression) (role_at r FunctionExpression l fs) (resolved_in F ps n fs))
+name-declared P F ps n r l (missing then fs) e = subst (Each P) (sym (declared-none false (λ i. role_at r FunctionExpression l (missing then fs) (suc i)) (resolved_in F (λ i. ps (suc i)) (n + 0) fs))) tt
+name-declared P F ps n r l (one (node Identifier c done) then fs) e = subst (Each P) (sym (declared-none false (λ i. role_at r FunctionExpression l (one (node Identifier c done) then fs) (suc i)) (resolved_in F (λ i. ps (suc i)) (n + 0) fs))) tt
+name-declared P F ps n r l fs e = absurd (cc e)
+
+node-symbols : (v : Bool) (F : List Declared) (p : Place) (n m : ℕ) (k : AstType) (l : Label) (fs : Fields) (above : AstType) (last : Bool) → kind_fits above last k ≡ true → name_fits k fs ≡ true →
+    (((i : ℕ) → reaches_out v k i ≡ true → (x : Text) → target v F (place_in p n k l fs i) x ≡ target v F p x) → Each (HasSymbol F (target v F p)) (declared_in v (reaches_out v k) (role_at p.role k l fs) (resolved_in F (place_in p n k l fs) m fs))) →
+    Each (HasSymbol F (target v F p)) (declared_in v (reaches_out v k) (role_at p.role k l fs) (resolved_in F (place_in p n k l fs) m fs))
+node-symbols true F p n m k l fs above last d e h = h (out-hoisted F p n k l fs)
+node-symbols false F p n m Program l fs above last d e h = absurd (cc d)
+node-symbols false F p n m FunctionExpression l fs above last d e h = name-declared (HasSymbol F (target false F p)) F (place_in p n FunctionExpression l fs) m p.role l fs e
+node-symbols false F p n m k l fs above last d e h = h (λ i c x. first-around p.around n k fs i (not-true (makes_scope k && is_inside k i) c) refl)
 
 each-goal : (F : List Declared) (g g' : Text → ℕ) → ((x : Text) → g x ≡ g' x) → (bs : List Bound) → Each (HasSymbol F g) bs → Each (HasSymbol F g') bs
 each-goal F g g' e [] h = tt
 each-goal F g g' e (b ∷ bs) h = (h.0 ∙ ap (λ s. symbol_in F s b.name) (e b.name), each-goal F g g' e bs h.1)
 
 mutual
-  pub symbols-tree : (v : Bool) (F : List Declared) (p : Place) (n : ℕ) (t : Tree) → Each (HasSymbol F (target v F p)) (declared v p.role (resolved_tree F p n t))
-  symbols-tree v F p n (node k l fs) =
+  pub symbols-tree : (v : Bool) (F : List Declared) (above : AstType) (last : Bool) (p : Place) (n : ℕ) (t : Tree) → Placed above last t → Each (HasSymbol F (target v F p)) (declared v p.role (resolved_tree F p n t))
+  symbols-tree v F above last p n (node k l fs) d =
       let m = own_symbols F p n k l fs in
       let gs = resolved_in F (place_in p n k l fs) (n + own_scope_count k fs) fs in
       each-append (HasSymbol F (target v F p)) (own_declared v p.role k (marked l m)) (declared_in v (reaches_out v k) (role_at p.role k (marked l m) gs) gs) (own-each v F p n k l fs)
       (subst (λ (roles : ℕ → Role). Each (HasSymbol F (target v F p)) (declared_in v (reaches_out v k) roles gs)) (sym (role-kept F (place_in p n k l fs) (n + own_scope_count k fs) p.role k l m fs))
-      (symbols-in v F (target v F p) (reaches_out v k) (place_in p n k l fs) (n + own_scope_count k fs) fs (λ i h x. out-target v F p n k l fs i h x)))
+      (node-symbols v F p n (n + own_scope_count k fs) k l fs above last d.0 d.1 (symbols-in v F (target v F p) k (reaches_out v k) (place_in p n k l fs) (n + own_scope_count k fs) fs d.2)))
 
-  pub symbols-in : (v : Bool) (F : List Declared) (goal : Text → ℕ) (counts : ℕ → Bool) (ps : ℕ → Place) (n : ℕ) (fs : Fields) → ((i : ℕ) → counts i ≡ true → (x : Text) → target v F (ps i) x ≡ goal x) → Each (HasSymbol F goal) (declared_in v counts (λ i. (ps i).role) (resolved_in F ps n fs))
-  symbols-in v F goal counts ps n done e = tt
-  symbols-in v F goal counts ps n (f then fs) e =
+  pub symbols-in : (v : Bool) (F : List Declared) (goal : Text → ℕ) (k : AstType) (counts : ℕ → Bool) (ps : ℕ → Place) (n : ℕ) (fs : Fields) → PlacedIn k fs → ((i : ℕ) → counts i ≡ true → (x : Text) → target v F (ps i) x ≡ goal x) → Each (HasSymbol F goal) (declared_in v counts (λ i. (ps i).role) (resolved_in F ps n fs))
+  symbols-in v F goal k counts ps n done d e = tt
+  symbols-in v F goal k counts ps n (f then fs) d e =
       each-append (HasSymbol F goal) (if counts zero then declared_by v (ps zero).role (resolved_by F (ps zero) n f) else []) (declared_in v (λ i. counts (suc i)) (λ i. (ps (suc i)).role) (resolved_in F (λ i. ps (suc i)) (n + scope_count_in_field f) fs))
-      (each-if (HasSymbol F goal) (counts zero) (declared_by v (ps zero).role (resolved_by F (ps zero) n f)) (λ c. each-goal F (target v F (ps zero)) goal (e zero c) (declared_by v (ps zero).role (resolved_by F (ps zero) n f)) (symbols-by v F (ps zero) n f)))
-      (symbols-in v F goal (λ i. counts (suc i)) (λ i. ps (suc i)) (n + scope_count_in_field f) fs (λ i. e (suc i)))
+      (each-if (HasSymbol F goal) (counts zero) (declared_by v (ps zero).role (resolved_by F (ps zero) n f)) (λ c. each-goal F (target v F (ps zero)) goal (e zero c) (declared_by v (ps zero).role (resolved_by F (ps zero) n f)) (symbols-by v F k (is_last fs) (ps zero) n f d.0)))
+      (symbols-in v F goal k (λ i. counts (suc i)) (λ i. ps (suc i)) (n + scope_count_in_field f) fs d.1 (λ i. e (suc i)))
 
-  symbols-by : (v : Bool) (F : List Declared) (p : Place) (n : ℕ) (f : Field) → Each (HasSymbol F (target v F p)) (declared_by v p.role (resolved_by F p n f))
-  symbols-by v F p n missing = tt
-  symbols-by v F p n (one t) = symbols-tree v F p n t
-  symbols-by v F p n (many ts) = symbols-among v F p n ts
-  symbols-by v F p n (statements ts) = symbols-among v F p n ts
+  symbols-by : (v : Bool) (F : List Declared) (k : AstType) (last : Bool) (p : Place) (n : ℕ) (f : Field) → PlacedBy k last f → Each (HasSymbol F (target v F p)) (declared_by v p.role (resolved_by F p n f))
+  symbols-by v F k last p n missing d = tt
+  symbols-by v F k last p n (one t) d = symbols-tree v F k last p n t d
+  symbols-by v F k last p n (many ts) d = symbols-among v F k p n ts d
+  symbols-by v F k last p n (statements ts) d = symbols-among v F k p n ts d
 
-  symbols-among : (v : Bool) (F : List Declared) (p : Place) (n : ℕ) (ts : Trees) → Each (HasSymbol F (target v F p)) (declared_among v p.role (resolved_among F p n ts))
-  symbols-among v F p n empty = tt
-  symbols-among v F p n (t before ts) = each-append (HasSymbol F (target v F p)) (declared v p.role (resolved_tree F p n t)) (declared_among v p.role (resolved_among F p (n + scope_count_in t) ts)) (symbols-tree v F p n t) (symbols-among v F p (n + scope_count_in t) ts)
+  symbols-among : (v : Bool) (F : List Declared) (k : AstType) (p : Place) (n : ℕ) (ts : Trees) → PlacedAll k ts → Each (HasSymbol F (target v F p)) (declared_among v p.role (resolved_among F p n ts))
+  symbols-among v F k p n empty d = tt
+  symbols-among v F k p n (t before ts) d = each-append (HasSymbol F (target v F p)) (declared v p.role (resolved_tree F p n t)) (declared_among v p.role (resolved_among F p (n + scope_count_in t) ts)) (symbols-tree v F k false p n t d.0) (symbols-among v F k p (n + scope_count_in t) ts d.1)
+
+-- BODIES AND NAMES STAND WHERE THEY STOOD
+
+first-kept : (F : List Declared) (ps : ℕ → Place) (n : ℕ) (fs : Fields) → is_name_first fs ≡ true → is_name_first (resolved_in F ps n fs) ≡ true
+first-kept F ps n (missing then fs) e = refl
+first-kept F ps n (one (node Identifier c done) then fs) e = refl
+first-kept F ps n fs e = absurd (cc e)
+
+name-kept : (F : List Declared) (ps : ℕ → Place) (n : ℕ) (k : AstType) (fs : Fields) → name_fits k fs ≡ true → name_fits k (resolved_in F ps n fs) ≡ true
+name-kept F ps n FunctionDeclaration fs e = first-kept F ps n fs e
+name-kept F ps n FunctionExpression fs e = first-kept F ps n fs e
+name-kept F ps n ClassDeclaration fs e = first-kept F ps n fs e
+name-kept F ps n ClassExpression fs e = first-kept F ps n fs e
+name-kept F ps n _ fs e = refl
+
+last-kept : (F : List Declared) (ps : ℕ → Place) (n : ℕ) (fs : Fields) → is_last (resolved_in F ps n fs) ≡ is_last fs
+last-kept F ps n done = refl
+last-kept F ps n (f then fs) = refl
+
+mutual
+  placed-tree : (F : List Declared) (above : AstType) (last : Bool) (p : Place) (n : ℕ) (t : Tree) → Placed above last t → Placed above last (resolved_tree F p n t)
+  placed-tree F above last p n (node k l fs) d = (d.0, name-kept F (place_in p n k l fs) (n + own_scope_count k fs) k fs d.1, placed-in F k (place_in p n k l fs) (n + own_scope_count k fs) fs d.2)
+
+  pub placed-in : (F : List Declared) (k : AstType) (ps : ℕ → Place) (n : ℕ) (fs : Fields) → PlacedIn k fs → PlacedIn k (resolved_in F ps n fs)
+  placed-in F k ps n done d = tt
+  placed-in F k ps n (f then fs) d =
+      let gs = resolved_in F (λ i. ps (suc i)) (n + scope_count_in_field f) fs in
+      (subst (λ c. PlacedBy k c (resolved_by F (ps zero) n f)) (sym (last-kept F (λ i. ps (suc i)) (n + scope_count_in_field f) fs)) (placed-by F k (is_last fs) (ps zero) n f d.0), placed-in F k (λ i. ps (suc i)) (n + scope_count_in_field f) fs d.1)
+
+  placed-by : (F : List Declared) (k : AstType) (last : Bool) (p : Place) (n : ℕ) (f : Field) → PlacedBy k last f → PlacedBy k last (resolved_by F p n f)
+  placed-by F k last p n missing d = tt
+  placed-by F k last p n (one t) d = placed-tree F k last p n t d
+  placed-by F k last p n (many ts) d = placed-among F k p n ts d
+  placed-by F k last p n (statements ts) d = placed-among F k p n ts d
+
+  placed-among : (F : List Declared) (k : AstType) (p : Place) (n : ℕ) (ts : Trees) → PlacedAll k ts → PlacedAll k (resolved_among F p n ts)
+  placed-among F k p n empty d = tt
+  placed-among F k p n (t before ts) d = (placed-tree F k false p n t d.0, placed-among F k p (n + scope_count_in t) ts d.1)

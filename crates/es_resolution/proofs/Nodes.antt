@@ -14,22 +14,26 @@ use Rattle.es_semantic.specs.declared.place.Binding.TheVariants.{Class}
 use Rattle.es_semantic.specs.declared.place.Role.{Role}
 use Rattle.es_resolution.specs.Declarations.{has_scope, is_var_scope, declared_in}
 use Rattle.es_resolution.proofs.SymbolTrees.{own_symbols, resolved_in}
-use Rattle.es_resolution.specs.Resolved.{Place as Around, is_first, class_frame, frame, var_frame, within, around, inner, hoisting, bound_by, IsMarked}
+use Rattle.es_resolution.specs.Resolved.{Place as Around, class_frame, frame, var_frame, around, inner, hoisting, bound_by, IsMarked}
 use Rattle.es_resolution.proofs.Basics.{Each, every}
-use Rattle.es_resolution.proofs.Marks.{out-target}
+use Rattle.es_resolution.proofs.Marks.{out-hoisted, placed-in}
 use Rattle.es_resolution.proofs.Placed.{kind_fits, name_fits, Placed}
-use Rattle.es_resolution.proofs.Declares.{declares_in, bound-both, bound-in}
+use Rattle.es_resolution.proofs.Declares.{counts-none, declares_in, bound-both, bound-in}
 use Rattle.es_resolution.proofs.Marks.{marked, HasSymbol, each-append, names-in, symbols-in}
 use Rattle.es_resolution.proofs.Tests.{or-false, or-true}
 use Rattle.es_resolution.proofs.Outside.{Fits, is_parameter, more, node-parameter, fits-in}
-use Rattle.es_resolution.proofs.OutsideTrees.{counts-none, counts-same, out-in}
+use Rattle.es_resolution.proofs.OutsideTrees.{counts-same, out-in}
 use Rattle.std.proofs.lemmas.Bool.{and_parts, eqb-true, cases_lt, cases_Bool}
 use Rattle.std.proofs.Common.{◌⊎◌, inl, inr}
 use Rattle.es_semantic.proofs.SymbolPlaces.{hoist_scope-free, hoist_scope-parameter}
-use Rattle.es_resolution.specs.Declarations.{reaches_out}
+use Rattle.es_resolution.proofs.Declares.{goes_out}
 use Rattle.es_resolution.proofs.Declares.{own_declares, declares}
-use Rattle.es_resolution.proofs.Frames.{within-is, inner-by, declared-none, class_name, ClassFrame, class-frame}
+use Rattle.es_resolution.proofs.Frames.{within-is, inner-by, named-if, class_name, ClassFrame, class-frame}
 use Rattle.es_resolution.proofs.OutsideTrees.{with_in, lexical-out}
+use Rattle.es_resolution.proofs.OtherRoles.{inside-other}
+use Rattle.es_tree.specs.Names.{first_text}
+use Rattle.es_tree.specs.Tree.{done}
+use Rattle.std.specs.Prelude.{bytes_eq}
 
 -- these lists bind alike in the scopes from n to m
 abbrev pub Agrees : ℕ → ℕ → List Declared → List Declared → Type 0
@@ -117,9 +121,9 @@ or-assoc true b c = refl
 or-assoc false b c = refl
 
 -- the names around a node, with that of a function expression
-pub name-first : (n i : ℕ) (up : List ℕ) (t : Tree) (fs : Fields) → is_first i ≡ true → first (around_in up n FunctionExpression (one t then fs) i) ≡ n
-name-first n zero up t fs h = refl
-name-first n (suc i) up t fs h = absurd (cc h)
+abbrev is_first : ℕ → Bool
+is_first zero = true
+is_first (suc i) = false
 
 name-count : (n i : ℕ) (up : List ℕ) (t : Tree) (fs : Fields) → (first (around_in up n FunctionExpression (one t then fs) i) == n) ≡ is_first i
 name-count n zero up t fs = eq-eqb n n refl
@@ -173,14 +177,12 @@ name-room n false makes h = absurd (cc h)
 
 around-is : (F : List Declared) (p : Place) (P : Around) (n m : ℕ) (k : AstType) (l : Label) (fs : Fields) → name_fits k fs ≡ true → ((x : Text) → P.scope x ≡ find F p.around x) → (has_name_scope k fs ≡ true → (x : Text) → is_bound F n x ≡ declares_in x false is_first (role_at p.role k l fs) fs) →
     (x : Text) → around P k (role_at p.role k l fs) (resolved_in F (place_in p n k l fs) m fs) x ≡ find F (around_own p.around n k fs) x
-around-is F p P n m FunctionExpression l (missing then fs) h e d x =
-    ap (λ bs. within bs P.scope x) (declared-none false (λ i. role_at p.role FunctionExpression l (missing then fs) (suc i)) (resolved_in F (λ i. place_in p n FunctionExpression l (missing then fs) (suc i)) (m + 0) fs)) ∙ e x
-around-is F p P n m FunctionExpression l (one t then fs) h e d x =
-    let ps = place_in p n FunctionExpression l (one t then fs) in
-    let roles = role_at p.role FunctionExpression l (one t then fs) in
-    let gs = resolved_in F ps m (one t then fs) in
-    within-is F n (declared_in false is_first roles gs) P.scope p.around x (symbols-in false F (λ y. n) is_first ps m (one t then fs) (λ i j y. name-first n i p.around t fs j))
-    (bound-in x false is_first roles gs ∙ (names-in F x false is_first roles ps m (one t then fs) ∙ sym (d refl x))) (e x)
+around-is F p P n m FunctionExpression l (missing then fs) h e d x = e x
+around-is F p P n m FunctionExpression l (one (node Identifier c done) then fs) h e d x =
+    let y = first_text c.texts in
+    let roles = role_at p.role FunctionExpression l (one (node Identifier c done) then fs) in
+    let bound : is_bound F n x ≡ bytes_eq y x = d refl x ∙ ((λ i. or-false (bytes_eq y x) i || counts-none x false (λ i. false) (λ i. roles (suc i)) fs (λ i. refl) i) ∙ or-false (bytes_eq y x)) in
+    within-is F n (record { name = y; symbol = symbol_in F n y } ∷ []) P.scope p.around x (refl, tt) (named-if x y (symbol_in F n y) (bytes_eq y x) ∙ sym bound) (e x)
 around-is F p P n m FunctionExpression l fs h e d x = absurd (cc h)
 around-is F p P n m k l fs h e d x = e x
 
@@ -234,8 +236,8 @@ module _ (F : List Declared) (above : AstType) (last : Bool) (ds : List Declared
 
       below : ((s < n) ⊎ (n ≤ s)) → is_bound F s x ≡ true
       below (inl d) =
-          let both = and_parts (first p.around == s) (declares_in x false (reaches_out false k) roles fs) (sym (lexical-out s x above last p.around n k roles fs placed.0 placed.1 (λ e. omega arith)) ∙ h) in
-          ap (λ a. is_bound F a x) (sym (eqb-true (first p.around) s both.0)) ∙ up x (out-true (own_declares x false p.role k l) (declares_in x false (reaches_out false k) roles fs) k both.1)
+          let both = and_parts (first p.around == s) (declares_in x false (goes_out false k) roles fs) (sym (lexical-out s x above last p.around n k roles fs placed.0 placed.1 (λ e. omega arith)) ∙ h) in
+          ap (λ a. is_bound F a x) (sym (eqb-true (first p.around) s both.0)) ∙ up x (out-true (own_declares x false p.role k l) (declares_in x false (goes_out false k) roles fs) k both.1)
       below (inr e) = among e (cases_lt s m)
 
   abbrev pub gs : Fields
@@ -251,16 +253,18 @@ module _ (F : List Declared) (above : AstType) (last : Bool) (ds : List Declared
   class-marked h = the-class.known (λ x e. own-bound h x ∙ rw e refl)
 
   pub frame-each : makes_scope k ≡ true → Each (HasSymbol F (λ y. own)) (frame k label roles gs)
-  frame-each h = each-append (HasSymbol F (λ y. own)) (class_frame k label roles gs) (declared_in false (is_inside k) roles gs) the-class.symbols (symbols-in false F (λ y. own) (is_inside k) (place_in p n k l fs) m fs (λ i e x. first-own p.around n k fs i h e))
+  frame-each h = each-append (HasSymbol F (λ y. own)) (class_frame k label roles gs) (declared_in false (is_inside k) roles gs) the-class.symbols (symbols-in false F (λ y. own) k (is_inside k) (place_in p n k l fs) m fs placed.2 (λ i e x. first-own p.around n k fs i h e))
 
-  pub frame-names : (x : Text) → bound_by (frame k label roles gs) x ≡ (class_name x k fs || declares_in x false (is_inside k) roles fs)
-  frame-names x = bound-both (class_frame k label roles gs) (declared_in false (is_inside k) roles gs) x (class_name x k fs) (declares_in x false (is_inside k) roles fs) (the-class.names x) (bound-in x false (is_inside k) roles gs ∙ names-in F x false (is_inside k) roles (place_in p n k l fs) m fs)
+  pub frame-names : makes_scope k ≡ true → (x : Text) → bound_by (frame k label roles gs) x ≡ (class_name x k fs || declares_in x false (is_inside k) roles fs)
+  frame-names h x =
+      bound-both (class_frame k label roles gs) (declared_in false (is_inside k) roles gs) x (class_name x k fs) (declares_in x false (is_inside k) roles fs) (the-class.names x)
+      (bound-in x false k (is_inside k) roles gs (placed-in F k (place_in p n k l fs) m fs placed.2) (inside-other p.role k l fs h) ∙ names-in F x false (is_inside k) roles (place_in p n k l fs) m fs)
 
   pub vars-each : Each (HasSymbol F (hoist_scope F (place_in p n k l fs 0))) (var_frame roles gs)
-  vars-each = symbols-in true F (hoist_scope F (place_in p n k l fs 0)) (λ i. true) (place_in p n k l fs) m fs (λ i h x. refl)
+  vars-each = symbols-in true F (hoist_scope F (place_in p n k l fs 0)) k (λ i. true) (place_in p n k l fs) m fs placed.2 (λ i h x. refl)
 
   vars-names : (x : Text) → bound_by (var_frame roles gs) x ≡ declares_in x true every roles fs
-  vars-names x = bound-in x true (λ i. true) roles gs ∙ names-in F x true (λ i. true) roles (place_in p n k l fs) m fs
+  vars-names x = bound-in x true k (λ i. true) roles gs (placed-in F k (place_in p n k l fs) m fs placed.2) (λ i e. tt) ∙ names-in F x true (λ i. true) roles (place_in p n k l fs) m fs
 
   name-bound : has_name_scope k fs ≡ true → (x : Text) → is_bound F n x ≡ declares_in x false is_first roles fs
   name-bound h x =
@@ -278,7 +282,7 @@ module _ (F : List Declared) (above : AstType) (last : Bool) (ds : List Declared
       inner-by F own (frame k label roles gs) (var_frame roles gs) (hoist_scope F (place_in p n k l fs 0)) P.parameters (around P k roles gs) (around_own p.around n k fs) x (is_var_scope k) par (frame-each h) vars-each
       (λ c. vars-parameters F ds p P ps k body x (sym var ∙ c)) (λ c j. vars-target F p n k l fs 0 x (sym var ∙ c) j)
       (own-bound h x ∙ (or-assoc (class_name x k fs) (declares_in x false (is_inside k) roles fs) (is_hoisted_to k && (not par && declares_in x true every roles fs))
-      ∙ (λ i. sym (frame-names x) i || (sym var i && (not par && sym (vars-names x) i)))))
+      ∙ (λ i. sym (frame-names h x) i || (sym var i && (not par && sym (vars-names x) i)))))
       (around-in e x)
 
   pub scope-in : ((x : Text) → P.scope x ≡ find F p.around x) → (i : ℕ) (x : Text) → (if has_scope k && is_inside k i then inner P k label roles gs else around P k roles gs) x ≡ find F (A i) x
@@ -307,7 +311,7 @@ module _ (F : List Declared) (above : AstType) (last : Bool) (ds : List Declared
       by : ((is_hoisted_to k ≡ true) ⊎ (is_hoisted_to k ≡ false)) → ((if is_var_scope k then hoisting P k label roles gs else P.hoist) x ≡ symbol_in F (hoist_scope F (place_in p n k l fs 0) x) x) × (is_bound F (hoist_scope F (place_in p n k l fs 0) x) x ≡ true)
       by (inl h) = by_parameter h (cases_Bool (is_parameter F (parameters_in p k) x))
       by (inr h) =
-          let reach : (i : ℕ) → reaches_out true k i ≡ true = λ i. ap not (var ∙ h) in
-          let up = sees.hoisted x (out-true (own_declares x true p.role k l) (declares_in x true (reaches_out true k) roles fs) k (counts-same x true (reaches_out true k) every roles fs reach ∙ v)) in
-          let t = out-target true F p n k l fs 0 (reach 0) x in
+          let reach : (i : ℕ) → goes_out true k i ≡ true = λ i. ap not (var ∙ h) in
+          let up = sees.hoisted x (out-true (own_declares x true p.role k l) (declares_in x true (goes_out true k) roles fs) k (counts-same x true (goes_out true k) every roles fs reach ∙ v)) in
+          let t = out-hoisted F p n k l fs 0 (reach 0) x in
           (ap (λ c. (if c then hoisting P k label roles gs else P.hoist) x) (var ∙ h) ∙ (up.0 ∙ ap (λ a. symbol_in F a x) (sym t)), ap (λ a. is_bound F a x) t ∙ up.1)

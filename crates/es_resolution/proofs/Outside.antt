@@ -16,7 +16,7 @@ use Rattle.es_semantic.specs.declared.place.Binding.TheVariants.{Class}
 use Rattle.es_semantic.specs.declared.place.Role.{Role}
 use Rattle.es_semantic.specs.declared.place.Role.TheVariants.{Binds}
 use Rattle.es_semantic.proofs.SymbolPlaces.{with_symbol-known, with_symbol-new, hoist_scope-parameter, hoist_scope-free}
-use Rattle.es_resolution.specs.Declarations.{is_asked}
+use Rattle.es_resolution.proofs.Declares.{is_declared}
 use Rattle.es_resolution.proofs.Basics.{bytes_eq-equal}
 use Rattle.es_resolution.proofs.Declares.{own_declares}
 use Rattle.es_resolution.proofs.Tests.{and-false, or-false, none-more, stay}
@@ -107,7 +107,7 @@ by-hoists s x ds p y b true = hoist-more s x ds p y b p.parameters refl ∙ rw (
 by-hoists s x ds p y b false = more s x ds (first p.around) y b ∙ rw (and-false (not (is_parameter ds p.parameters x)), and-false (p.hoist == s), or-false (first p.around == s && bytes_eq y x)) refl
 
 by-role : (s : ℕ) (x : Text) (ds : List Declared) (p : Place) (r : Role) (y : Text) →
-    is_bound (with_identifier ds p r y) s x ≡ (is_bound ds s x || ((first p.around == s && (is_asked false r && bytes_eq y x)) || (p.hoist == s && (not (is_parameter ds p.parameters x) && (is_asked true r && bytes_eq y x)))))
+    is_bound (with_identifier ds p r y) s x ≡ (is_bound ds s x || ((first p.around == s && (is_declared false r && bytes_eq y x)) || (p.hoist == s && (not (is_parameter ds p.parameters x) && (is_declared true r && bytes_eq y x)))))
 by-role s x ds p (Binds b) y = by-hoists s x ds p y b (hoists b)
 by-role s x ds p _ y = none-more (is_bound ds s x) (first p.around == s) (p.hoist == s) (not (is_parameter ds p.parameters x))
 

@@ -11,19 +11,15 @@ use Rattle.es_semantic.specs.RolesOf.{role_at}
 use Rattle.es_semantic.specs.Places.{Place, first, makes_scope, is_inside, is_hoisted_to, own_scope, own_scope_count, around_in, parameters_in, is_strict_in, scope_count_in, scope_count_in_field, scope_count_in_fields, scope_count_in_trees, visits, visits_in_fields, visits_in_field, visits_in_trees}
 use Rattle.es_semantic.specs.SymbolsOf.{Declared, is_bound, with_node, with_visits}
 use Rattle.es_semantic.specs.declared.place.Role.{Role}
-use Rattle.es_resolution.specs.Declarations.{reaches_out}
+use Rattle.es_resolution.proofs.Declares.{goes_out}
 use Rattle.es_resolution.proofs.Basics.{every}
 use Rattle.es_resolution.proofs.Placed.{is_name_first, name_fits, is_last, Placed, PlacedIn, PlacedBy, PlacedAll}
-use Rattle.es_resolution.proofs.Declares.{own_declares, declares, declares_in, declares_by, declares_among}
+use Rattle.es_resolution.proofs.Declares.{counts-none, own_declares, declares, declares_in, declares_by, declares_among}
 use Rattle.es_resolution.proofs.Tests.{and-false, and-true, none-more, stay, mix, mix-all}
 use Rattle.es_resolution.proofs.Placed.{kind_fits}
 use Rattle.es_resolution.proofs.Outside.{Outside, Fits, fits-more, is_parameter, same-parameter, place, visits-append, with_own, own-node, node-parameter, fits-in}
 
 -- COUNTS
-
-pub counts-none : (x : Text) (v : Bool) (counts : ℕ → Bool) (roles : ℕ → Role) (fs : Fields) → ((i : ℕ) → counts i ≡ false) → declares_in x v counts roles fs ≡ false
-counts-none x v counts roles done e = refl
-counts-none x v counts roles (f then fs) e = rw (e zero) (counts-none x v (λ i. counts (suc i)) (λ i. roles (suc i)) fs (λ i. e (suc i)))
 
 pub counts-and : (x : Text) (v : Bool) (c : Bool) (counts : ℕ → Bool) (roles : ℕ → Role) (fs : Fields) → declares_in x v (λ i. c && counts i) roles fs ≡ (c && declares_in x v counts roles fs)
 counts-and x v true counts roles fs = refl
@@ -37,12 +33,12 @@ count-out s up n true true o = ne_eqb n s (λ e. omega arith) ∙ sym (and-false
 count-out s up n true false o = sym (and-true (first up == s))
 count-out s up n false inside o = sym (and-true (first up == s))
 
-expression-out : (s : ℕ) (x : Text) (up : List ℕ) (n : ℕ) (roles : ℕ → Role) (fs : Fields) → is_name_first fs ≡ true → Outside n (n + own_scope_count FunctionExpression fs) s → declares_in x false (λ i. first (around_in up n FunctionExpression fs i) == s) roles fs ≡ (first up == s && declares_in x false (reaches_out false FunctionExpression) roles fs)
+expression-out : (s : ℕ) (x : Text) (up : List ℕ) (n : ℕ) (roles : ℕ → Role) (fs : Fields) → is_name_first fs ≡ true → Outside n (n + own_scope_count FunctionExpression fs) s → declares_in x false (λ i. first (around_in up n FunctionExpression fs i) == s) roles fs ≡ (first up == s && declares_in x false (goes_out false FunctionExpression) roles fs)
 expression-out s x up n roles (missing then fs) h o =
     let none : (g : ℕ → Bool) → ((i : ℕ) → g (suc i) ≡ false) → declares_in x false g roles (missing then fs) ≡ false = λ g e. rw (and-false (g zero)) (counts-none x false (λ i. g (suc i)) (λ i. roles (suc i)) fs e) in
-    none (λ i. first (around_in up n FunctionExpression (missing then fs) i) == s) (λ i. ne_eqb n s (λ e. omega arith)) ∙ (sym (and-false (first up == s)) ∙ ap (λ b. first up == s && b) (sym (none (reaches_out false FunctionExpression) (λ i. refl))))
+    none (λ i. first (around_in up n FunctionExpression (missing then fs) i) == s) (λ i. ne_eqb n s (λ e. omega arith)) ∙ (sym (and-false (first up == s)) ∙ ap (λ b. first up == s && b) (sym (none (goes_out false FunctionExpression) (λ i. refl))))
 expression-out s x up n roles (one t then fs) h o =
-    counts-none x false (λ i. first (around_in up n FunctionExpression (one t then fs) i) == s) roles (one t then fs) at ∙ (sym (and-false (first up == s)) ∙ ap (λ b. first up == s && b) (sym (counts-none x false (reaches_out false FunctionExpression) roles (one t then fs) (λ i. refl))))
+    counts-none x false (λ i. first (around_in up n FunctionExpression (one t then fs) i) == s) roles (one t then fs) at ∙ (sym (and-false (first up == s)) ∙ ap (λ b. first up == s && b) (sym (counts-none x false (goes_out false FunctionExpression) roles (one t then fs) (λ i. refl))))
   where
     at : (i : ℕ) → (first (around_in up n FunctionExpression (one t then fs) i) == s) ≡ false
     at zero = ne_eqb n s (λ e. omega arith)
@@ -52,17 +48,17 @@ expression-out s x up n roles (many ts then fs) h o = absurd (cc h)
 expression-out s x up n roles (statements ts then fs) h o = absurd (cc h)
 
 pub lexical-out : (s : ℕ) (x : Text) (above : AstType) (last : Bool) (up : List ℕ) (n : ℕ) (k : AstType) (roles : ℕ → Role) (fs : Fields) → kind_fits above last k ≡ true → name_fits k fs ≡ true → Outside n (n + own_scope_count k fs) s →
-    declares_in x false (λ i. first (around_in up n k fs i) == s) roles fs ≡ (first up == s && declares_in x false (reaches_out false k) roles fs)
+    declares_in x false (λ i. first (around_in up n k fs i) == s) roles fs ≡ (first up == s && declares_in x false (goes_out false k) roles fs)
 lexical-out s x above last up n Program roles fs h d o = absurd (cc h)
 lexical-out s x above last up n FunctionExpression roles fs h d o = expression-out s x up n roles fs d o
 lexical-out s x above last up n k roles fs h d o =
-    counts-same x false (λ i. first (around_in up n k fs i) == s) (λ i. first up == s && reaches_out false k i) roles fs (λ i. count-out s up n (makes_scope k) (is_inside k i) o) ∙ counts-and x false (first up == s) (reaches_out false k) roles fs
+    counts-same x false (λ i. first (around_in up n k fs i) == s) (λ i. first up == s && goes_out false k i) roles fs (λ i. count-out s up n (makes_scope k) (is_inside k i) o) ∙ counts-and x false (first up == s) (goes_out false k) roles fs
 
 body-out : (s : ℕ) (x : Text) (n : ℕ) (roles : ℕ → Role) (fs : Fields) (b c d : Bool) → Outside n (n + 1) s → (n == s && b) ≡ (c && (d && declares_in x true (λ i. false) roles fs))
 body-out s x n roles fs b c d o = ap (λ g. g && b) (ne_eqb n s (λ e. omega arith)) ∙ (sym (and-false c) ∙ ap (λ g. c && g) (sym (and-false d) ∙ ap (λ g. d && g) (sym (counts-none x true (λ i. false) roles fs (λ i. refl)))))
 
 hoisted-out : (s : ℕ) (x : Text) (above : AstType) (last : Bool) (ds es : List Declared) (p : Place) (n : ℕ) (k : AstType) (roles : ℕ → Role) (fs : Fields) → kind_fits above last k ≡ true → Outside n (n + own_scope_count k fs) s → is_parameter es p.parameters x ≡ is_parameter ds p.parameters x →
-    ((if is_hoisted_to k then own_scope n k fs else p.hoist) == s && (not (is_parameter es (parameters_in p k) x) && declares_in x true every roles fs)) ≡ (p.hoist == s && (not (is_parameter ds p.parameters x) && declares_in x true (reaches_out true k) roles fs))
+    ((if is_hoisted_to k then own_scope n k fs else p.hoist) == s && (not (is_parameter es (parameters_in p k) x) && declares_in x true every roles fs)) ≡ (p.hoist == s && (not (is_parameter ds p.parameters x) && declares_in x true (goes_out true k) roles fs))
 hoisted-out s x above last ds es p n Program roles fs h o e = absurd (cc h)
 hoisted-out s x above last ds es p n FunctionBody roles fs h o e = body-out s x n roles fs (not (is_parameter es (Some (first p.around)) x) && declares_in x true every roles fs) (p.hoist == s) (not (is_parameter ds p.parameters x)) o
 hoisted-out s x above last ds es p n StaticBlock roles fs h o e = body-out s x n roles fs (not (is_parameter es None x) && declares_in x true every roles fs) (p.hoist == s) (not (is_parameter ds p.parameters x)) o
@@ -87,7 +83,7 @@ mutual
       let inner : Outside (n + own_scope_count k fs) ((n + own_scope_count k fs) + scope_count_in_fields fs) s = λ i. (let d : n + (own_scope_count k fs + scope_count_in_fields fs) ≤ s = o (omega arith) in omega arith) in
       let a = out-in s x k es (if is_hoisted_to k then own_scope n k fs else p.hoist) (parameters_in p k) (is_strict_in p k l fs) roles (around_in p.around n k fs) (n + own_scope_count k fs) fs (λ i. fits-in p n k fs i f) h.2 inner in
       a ∙ ((λ i. own-node s x ds p n k l fs own i || (lexical-out s x above last p.around n k roles fs h.0 h.1 own i || hoisted-out s x above last ds es p n k roles fs h.0 own (node-parameter x ds p n k l fs f) i))
-      ∙ mix-all (is_bound ds s x) (first p.around == s) (p.hoist == s) (not (is_parameter ds p.parameters x)) (own_declares x true p.role k l) (declares_in x true (reaches_out true k) roles fs) (own_declares x false p.role k l) (declares_in x false (reaches_out false k) roles fs))
+      ∙ mix-all (is_bound ds s x) (first p.around == s) (p.hoist == s) (not (is_parameter ds p.parameters x)) (own_declares x true p.role k l) (declares_in x true (goes_out true k) roles fs) (own_declares x false p.role k l) (declares_in x false (goes_out false k) roles fs))
 
   pub out-in : (s : ℕ) (x : Text) (k : AstType) (ds : List Declared) (h : ℕ) (q : Option ℕ) (st : Bool) (R : ℕ → Role) (A : ℕ → List ℕ) (n : ℕ) (fs : Fields) → ((i : ℕ) → Fits n h q (first (A i))) → PlacedIn k fs → Outside n (n + scope_count_in_fields fs) s →
       is_bound (with_visits ds (visits_in_fields (places R A h q st) n fs)) s x ≡ with_in s x ds h q R A fs

@@ -13,11 +13,11 @@ use Rattle.es_resolution.proofs.SymbolTrees.{resolved_in}
 use Rattle.es_resolution.specs.Resolved.{frame, bound_by, no_name, inner, place_in as place_at, ResolvedIn}
 use Rattle.es_resolution.proofs.Basics.{every}
 use Rattle.es_resolution.proofs.Placed.{IsWellPlaced, PlacedIn}
-use Rattle.es_resolution.proofs.Declares.{declares_in, bound-in}
+use Rattle.es_resolution.proofs.Declares.{counts-none, declares_in, bound-in}
 use Rattle.es_resolution.proofs.Marks.{marked, role-kept}
 use Rattle.es_resolution.proofs.Tests.{or-true}
 use Rattle.es_resolution.proofs.Outside.{Fits}
-use Rattle.es_resolution.proofs.OutsideTrees.{counts-none, places, out-in}
+use Rattle.es_resolution.proofs.OutsideTrees.{places, out-in}
 use Rattle.es_resolution.proofs.Bodies.{BodiesIn, SeesIn}
 use Rattle.es_semantic.specs.Places.{outermost}
 use Rattle.es_semantic.specs.SymbolsOf.{symbols_of}
@@ -26,6 +26,8 @@ use Rattle.es_resolution.specs.Resolved.{var_frame, nowhere, IsResolved}
 use Rattle.es_resolution.proofs.Marks.{names-in, symbols-in}
 use Rattle.es_resolution.proofs.Frames.{inner-by}
 use Rattle.es_resolution.proofs.Resolving.{in-fields}
+use Rattle.es_resolution.proofs.OtherRoles.{role-other}
+use Rattle.es_resolution.proofs.Marks.{placed-in}
 
 module _ (l : Label) (fs : Fields) (placed : PlacedIn Program fs) where
   abbrev pub the_program : Tree
@@ -56,15 +58,15 @@ module _ (l : Label) (fs : Fields) (placed : PlacedIn Program fs) where
   root-bound x = out-in 0 x Program [] 0 None st R A 1 fs root-fits placed (λ i. omega arith)
 
   root-names : (x : Text) → bound_by (frame Program label R gs) x ≡ declares_in x false every R fs
-  root-names x = bound-in x false (is_inside Program) R gs ∙ names-in F x false (is_inside Program) R (places R A 0 None st) 1 fs
+  root-names x = bound-in x false Program (is_inside Program) R gs (placed-in F Program (places R A 0 None st) 1 fs placed) (λ i e. role-other false reads Program l fs i tt refl) ∙ names-in F x false (is_inside Program) R (places R A 0 None st) 1 fs
 
   root-vars : (x : Text) → bound_by (var_frame R gs) x ≡ declares_in x true every R fs
-  root-vars x = bound-in x true every R gs ∙ names-in F x true every R (places R A 0 None st) 1 fs
+  root-vars x = bound-in x true Program every R gs (placed-in F Program (places R A 0 None st) 1 fs placed) (λ i e. tt) ∙ names-in F x true every R (places R A 0 None st) 1 fs
 
   root-inner : (x : Text) → inner nowhere Program label R gs x ≡ find F (0 ∷ []) x
   root-inner x =
       inner-by F 0 (frame Program label R gs) (var_frame R gs) (λ y. 0) no_name (λ y. None) [] x true false
-      (symbols-in false F (λ y. 0) (is_inside Program) (places R A 0 None st) 1 fs (λ i e y. refl)) (symbols-in true F (λ y. 0) (λ i. true) (places R A 0 None st) 1 fs (λ i e y. refl))
+      (symbols-in false F (λ y. 0) Program (is_inside Program) (places R A 0 None st) 1 fs placed (λ i e y. refl)) (symbols-in true F (λ y. 0) Program (λ i. true) (places R A 0 None st) 1 fs placed (λ i e y. refl))
       (λ c. refl) (λ c e. refl) (root-bound x ∙ (λ i. sym (root-names x) i || sym (root-vars x) i)) refl
 
   root-lexical : (s : ℕ) (x : Text) → declares_in x false (λ i. first (A i) == s) R fs ≡ true → is_bound F s x ≡ true

@@ -15,11 +15,11 @@ use Rattle.es_resolution.proofs.SymbolTrees.{own_symbols, resolved_tree, resolve
 use Rattle.es_resolution.specs.Resolved.{Place as Around, class_frame, frame, bound_by, inner, hoisting, around, place_in as place_at, parameters_in as parameters_at, IsMarked, Resolved, ResolvedIn, ResolvedBy, ResolvedAll}
 use Rattle.es_resolution.proofs.Basics.{every}
 use Rattle.es_resolution.proofs.Placed.{is_last, Placed, PlacedIn, PlacedBy, PlacedAll}
-use Rattle.es_resolution.proofs.Declares.{declares, declares_in, declares_by, declares_among}
+use Rattle.es_resolution.proofs.Declares.{counts-none, declares, declares_in, declares_by, declares_among}
 use Rattle.es_resolution.proofs.Marks.{marked, role-kept}
 use Rattle.es_resolution.proofs.Tests.{stay, stay-in}
 use Rattle.es_resolution.proofs.Outside.{Fits, fits-more, is_parameter, same-parameter, place, visits-append, node-stay, fits-in}
-use Rattle.es_resolution.proofs.OutsideTrees.{counts-none, places, out-tree, out-in, out-by, out-among}
+use Rattle.es_resolution.proofs.OutsideTrees.{places, out-tree, out-in, out-by, out-among}
 use Rattle.es_resolution.proofs.Frames.{class_name}
 use Rattle.es_resolution.proofs.Nodes.{Agrees, Known, Sees, Body, none-empty, now-in, own-above, first-own, out-true, own-bound, lexical-in, class-marked, frame-names, scope-in, hoisted-in}
 use Rattle.es_resolution.proofs.Tests.{or-false}
@@ -95,8 +95,8 @@ bodies-in F above last ds p P ps n k l fs known placed body agrees =
             (
               low-hoist n (own_scope n k fs) p.hoist (is_hoisted_to k) makes.1 known.fits.hoist,
               λ x. (
-                parameters-frame k lbl rs gs x c ∙ (frame-names F above last ds p P ps n k l fs known placed body agrees x ∙ names x),
-                parameters-frame k l rs fs x c ∙ (function-frame x k l rs fs c ∙ (ap (λ b. b || declares_in x false (is_inside k) rs fs) (sym (function-class x k fs c)) ∙ names x)),
+                parameters-frame k lbl rs gs x c ∙ (frame-names F above last ds p P ps n k l fs known placed body agrees makes.0 x ∙ names x),
+                parameters-frame k l rs fs x c ∙ (function-frame x k l p.role fs placed.2 c ∙ (ap (λ b. b || declares_in x false (is_inside k) rs fs) (sym (function-class x k fs c)) ∙ names x)),
               ),
             ),
           );

@@ -11,7 +11,7 @@ use Rattle.es_semantic.specs.ScopesOf.{is_function}
 use Rattle.es_semantic.specs.Places.{Place, first, makes_scope, has_name_scope, is_inside, is_hoisted_to, own_scope, own_scope_count, around_in, parameters_in, is_strict_in, place_in, scope_count_in, scope_count_in_field, scope_count_in_fields, scope_count_in_trees, visits, visits_in_fields, visits_in_field, visits_in_trees}
 use Rattle.es_semantic.specs.SymbolsOf.{Declared, hoist_scope, is_bound, symbol_in, with_node, with_visits}
 use Rattle.es_semantic.specs.declared.place.Role.{Role}
-use Rattle.es_resolution.specs.Declarations.{Bound, has_scope, is_var_scope, declared_in}
+use Rattle.es_resolution.specs.Declarations.{Bound, has_scope, is_var_scope}
 use Rattle.es_resolution.proofs.SymbolTrees.{own_symbols, resolved, resolved_tree, resolved_in, resolved_by, resolved_among}
 use Rattle.es_resolution.specs.Resolved.{Place as Around, frame, no_name, parameters_in as parameters_at}
 use Rattle.es_resolution.proofs.Placed.{is_last, IsWellPlaced, name_fits, Placed, PlacedIn, PlacedBy, PlacedAll}
@@ -27,17 +27,18 @@ use Rattle.std.proofs.Common.{◌⊎◌, inl, inr}
 use Rattle.std.proofs.lemmas.Bool.{eqb-true, cases_lt}
 use Rattle.es_tree.specs.References.{is_symbol as is_number}
 use Rattle.es_semantic.specs.SymbolsOf.{is_symbol}
-use Rattle.es_resolution.specs.Resolved.{is_first, name_frame, var_frame}
+use Rattle.es_resolution.specs.Resolved.{name_frame, var_frame}
 use Rattle.es_resolution.specs.Single.{IsSingle, is_it, binds, is_var_of, own_binds, one_if, scopes_with, scopes_in, scopes_by, scopes_among}
 use Rattle.es_resolution.proofs.Basics.{Each}
 use Rattle.es_semantic.specs.Places.{outermost}
 use Rattle.es_semantic.specs.SymbolsOf.{symbols_of}
 use Rattle.es_resolution.proofs.Marks.{HasSymbol, symbols-in}
-use Rattle.es_resolution.proofs.Frames.{declared-none}
-use Rattle.es_resolution.proofs.Nodes.{var-scope, has-scope, vars-parameters, vars-target, name-first, frame-each, vars-each}
+use Rattle.es_resolution.proofs.Nodes.{var-scope, has-scope, vars-parameters, vars-target, frame-each, vars-each}
 use Rattle.es_resolution.proofs.Bodies.{BodiesIn, bodies-later, BodyBy, body-first}
 use Rattle.es_resolution.proofs.Resolving.{known-in, known-field, same-field, agrees-first, agrees-later, bodies-in, in-list, trees-known}
 use Rattle.es_resolution.proofs.Programs.{root-fits, root-bodies}
+use Rattle.es_tree.specs.declared.ast_type.AstType.TheVariants.{Identifier}
+use Rattle.es_tree.specs.Names.{first_text}
 
 -- THE SCOPE OF A SYMBOL
 
@@ -110,11 +111,9 @@ one-end d n m q x e a = record { most = a.most; none = λ h. a.none (λ i. (let 
 -- THE SCOPES OF ONE NODE
 
 name-one : (F : List Declared) (s : ℕ) (p : Place) (n m : ℕ) (k : AstType) (l : Label) (fs : Fields) → name_fits k fs ≡ true → (n ≤ scope_of F s → n + (if has_name_scope k fs then 1 else 0) ≤ scope_of F s) → binds s (name_frame k (role_at p.role k l fs) (resolved_in F (place_in p n k l fs) m fs)) ≡ false
-name-one F s p n m FunctionExpression l (missing then fs) h e = ap (binds s) (declared-none false (λ i. role_at p.role FunctionExpression l (missing then fs) (suc i)) (resolved_in F (λ i. place_in p n FunctionExpression l (missing then fs) (suc i)) (m + 0) fs))
-name-one F s p n m FunctionExpression l (one t then fs) h e =
-    let ps = place_in p n FunctionExpression l (one t then fs) in
-    let each : Each (HasSymbol F (λ y. n)) (declared_in false is_first (role_at p.role FunctionExpression l (one t then fs)) (resolved_in F ps m (one t then fs))) = symbols-in false F (λ y. n) is_first ps m (one t then fs) (λ i j y. name-first n i p.around t fs j) in
-    binds-none F s n (declared_in false is_first (role_at p.role FunctionExpression l (one t then fs)) (resolved_in F ps m (one t then fs))) each (λ d. (let bad : n + 1 ≤ scope_of F s = e (omega arith) in omega arith))
+name-one F s p n m FunctionExpression l (missing then fs) h e = refl
+name-one F s p n m FunctionExpression l (one (node Identifier c done) then fs) h e =
+    binds-none F s n (record { name = first_text c.texts; symbol = symbol_in F n (first_text c.texts) } ∷ []) (refl, tt) (λ d. (let bad : n + 1 ≤ scope_of F s = e (omega arith) in omega arith))
 name-one F s p n m FunctionExpression l fs h e = absurd (cc h)
 name-one F s p n m _ l fs h e = refl
 
@@ -235,8 +234,8 @@ placed-single (node Program l fs) h s =
     let out : (0 ≤ d → 1 ≤ d) → d ≡ 0 → ⊥ = λ e i. (let bad : 1 ≤ d = e (omega arith) in omega arith) in
     let own : One d 0 1 (one_if (own_binds s no_name Program lbl R gs)) =
     one-test d 0 1 (own_binds s no_name Program lbl R gs) (λ e. own-none true true (binds s (frame Program lbl R gs)) (list_any (is_var_of s no_name) (var_frame R gs))
-    (λ c. binds-none F s 0 (frame Program lbl R gs) (symbols-in false F (λ y. 0) (is_inside Program) (places R A 0 None st) 1 fs (λ i j y. refl)) (out e))
-    (λ c v. vars-none F s 0 (λ y. 0) no_name (var_frame R gs) (λ x j. refl) (symbols-in true F (λ y. 0) (λ i. true) (places R A 0 None st) 1 fs (λ i j y. refl)) (out e))) in
+    (λ c. binds-none F s 0 (frame Program lbl R gs) (symbols-in false F (λ y. 0) Program (is_inside Program) (places R A 0 None st) 1 fs h.1 (λ i j y. refl)) (out e))
+    (λ c v. vars-none F s 0 (λ y. 0) no_name (var_frame R gs) (λ x j. refl) (symbols-in true F (λ y. 0) Program (λ i. true) (places R A 0 None st) 1 fs h.1 (λ i j y. refl)) (out e))) in
     let fields : One d 1 (1 + scope_count_in_fields fs) (scopes_in s no_name R gs) =
     single-fields F s 1 Program [] 0 None st R A no_name 1 fs (omega arith) (root-fits l fs h.1) (λ r x e. refl) (λ x. refl) h.1 (λ r x e j. refl) (root-bodies l fs h.1) in
     subst (λ (r : ℕ → Role). (0 + one_if (own_binds s no_name Program lbl r gs)) + scopes_in s no_name r gs ≤ 1) (sym (role-kept F (places R A 0 None st) 1 reads Program l [] fs))

@@ -13,6 +13,7 @@ use Rattle.es_semantic.specs.ReferencesOf.{is_mutated_of, marked_program, refere
 use Rattle.es_semantic.specs.RolesOf.{reads}
 use Rattle.es_semantic.specs.SymbolsOf.{symbol_in, symbols_of}
 use Rattle.es_semantic.specs.TableOf.{IsTableOf}
+use Rattle.es_resolution.specs.Called.{Called, name_at}
 use Rattle.es_resolution.specs.Named.{Named}
 use Rattle.es_resolution.specs.ReferenceMarks.{Agrees}
 use Rattle.es_resolution.specs.Resolved.{IsResolved}
@@ -48,3 +49,7 @@ LawWritten = (p : Tree) (s : ℕ) → is_mutated_of p s ≡ is_written s reads (
 -- an identifier that refers has its reference's symbol
 abbrev pub LawReferences : Type 0
 LawReferences = (p : Tree) → Agrees (references_of p) (marked_program p)
+
+-- A symbol has one name, that of the scope table.
+abbrev pub LawCalled : Type 0
+LawCalled = (p : Tree) → Called (name_at (symbols_of p)) (source p)

@@ -2,6 +2,7 @@ pub mod Declarations
 pub mod Resolved
 pub mod Single
 pub mod Named
+pub mod Called
 pub mod Written
 pub mod ReferenceMarks
 pub mod Seen

@@ -1,5 +1,5 @@
 -- Resolved programs: each name stands for the binding that looking it up outwards finds (ECMA-262, 9.1.2.1).
-use Rattle.std.specs.Prelude.{◌≡◌, ℕ, zero, suc, List, [], ◌++◌, map, Bool, true, false, ◌&&◌, ◌||◌, Option, Some, None, is_some, if◌then◌else◌}
+use Rattle.std.specs.Prelude.{◌≡◌, ℕ, zero, suc, List, [], ◌++◌, map, Bool, true, false, ◌&&◌, Option, Some, None, is_some, if◌then◌else◌}
 use Rattle.std.specs.List.{list_all}
 use Rattle.es_tree.specs.Words.{Text}
 use Rattle.es_tree.specs.Names.{first_text}
@@ -12,17 +12,22 @@ use Rattle.es_semantic.specs.ScopesOf.{is_function}
 use Rattle.es_semantic.specs.SymbolsOf.{hoists}
 use Rattle.es_semantic.specs.declared.place.Role.{Role}
 use Rattle.es_semantic.specs.declared.place.Role.TheVariants.{Nothing, Binds}
-use Rattle.es_resolution.specs.Declarations.{Bound, symbol_of, sought, has_scope, is_var_scope, declared_in}
+use Rattle.es_resolution.specs.Declarations.{Bound, symbol_of, sought, has_scope, is_var_scope, own_name, declared_in}
 
 -- FRAMES: what the scopes of a node bind, where its fields have these roles
 
-abbrev pub is_first : ℕ → Bool
-is_first zero = true
-is_first (suc i) = false
+-- what a tree declares by itself, without its fields
+abbrev pub own_of : Role → Tree → List Bound
+own_of r (node k l fs) = own_name k r l
 
--- what the first field declares for the node itself
+abbrev pub own_by : Role → Field → List Bound
+own_by r (one t) = own_of r t
+own_by r _ = []
+
+-- the name that stands in the first field, which is the node's
 abbrev pub first_declared : (ℕ → Role) → Fields → List Bound
-first_declared roles fs = declared_in false is_first roles fs
+first_declared roles done = []
+first_declared roles (f then fs) = own_by (roles zero) f
 
 -- the name of a function expression, in a scope of its own (15.2.5)
 abbrev pub name_frame : AstType → (ℕ → Role) → Fields → List Bound
@@ -97,10 +102,6 @@ place_in p k l roles fs i = record {
   hoist = if is_var_scope k then hoisting p k l roles fs else p.hoist;
   parameters = parameters_in k l roles fs;
 }
-
--- whether a name is bound around what stands in this field of a node, where it is around the node or not
-abbrev pub bound_at : (Text → Bool) → AstType → Label → (ℕ → Role) → Fields → ℕ → Text → Bool
-bound_at bound k l roles fs i x = bound x || (bound_by (name_frame k roles fs) x || ((has_scope k && is_inside k i) && (bound_by (frame k l roles fs) x || (is_var_scope k && bound_by (var_frame roles fs) x))))
 
 abbrev pub nowhere : Place
 nowhere = record { scope = λ x. None; hoist = λ x. None; parameters = no_name }

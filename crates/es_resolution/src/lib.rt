@@ -2,7 +2,7 @@
 //! functions do nothing: their contracts are laws over the definitions.
 #![tactic(auto)]
 
-ghost use Rattle.es_resolution.specs.Laws.{LawNamed, LawReferences, LawResolved, LawSingle, LawTable, LawWritten};
+ghost use Rattle.es_resolution.specs.Laws.{LawCalled, LawNamed, LawReferences, LawResolved, LawSingle, LawTable, LawWritten};
 
 /// What is seen of a program with the marks of its scope table is the same for whoever has the table.
 pub fn law_table()
@@ -23,6 +23,11 @@ pub fn law_single()
 /// and it breaks no static rule.
 pub fn law_named()
     ensures { LawNamed }
+{}
+
+/// A symbol has one name: what has it, declared or referred to, has the name that the scope table has for it.
+pub fn law_called()
+    ensures { LawCalled }
 {}
 
 /// A symbol of the scope table of a program is mutated exactly where an identifier of the program writes it.
