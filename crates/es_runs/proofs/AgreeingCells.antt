@@ -7,5 +7,5 @@ use Rattle.es_runs.specs.Alike.Agree.{agree}
 use Rattle.es_runs.specs.Machine.{State}
 use Rattle.es_runs.specs.Runs.{cells}
 
-pub agree_fits : (F : Frame) {s t : State} → Agree F s t → (x : Text) → F.hidden x ≡ true → F.fits x (cells t x)
+pub agree_fits : (F : Frame) {s t : State} → Agree F s t → (x : Text) → F.hidden x ≡ true → F.fits (cells s) x (cells t x)
 agree_fits F (agree h g f) = g

@@ -10,13 +10,13 @@ use Rattle.es_runs.specs.Machine.Stop.{unknown}
 use Rattle.es_runs.specs.Core.{World, Binding, Reference, Meaning, Form, value, put_value, gives_value, as_plain, nothing, literal, conditional, logical, goes_right, binary, compared, equality, asked_binary, is_equality, typeof_name, typeof_value, delete_value, void_form, UnaryClass, unary_by, unary_class, unary, update, update_at, AssignClass, assigned, assign_class, assignment, without_last}
 use Rattle.es_runs.specs.Core.UnaryClass.{typeof_class, delete_class, void_class, not_class, asked_class}
 use Rattle.es_runs.specs.Core.AssignClass.{plainly, logically, compound}
-use Rattle.es_runs.specs.Core.Binding.{free, changeable, constant}
+use Rattle.es_runs.specs.Core.Binding.{free, changeable, constant, silent}
 use Rattle.es_runs.specs.Core.Form.{null_form, void_zero}
 use Rattle.es_runs.specs.Alike.{Frame, Same, Alike, Equal, SameReference, SameTarget, SameWorld, Level, Need, Like, LikeAt, the_value, the_target, value_and_form, unary_need}
 use Rattle.es_runs.specs.Alike.Level.{no_evaluation, value_alone, an_operand_of_typeof, whole_reference, a_callee, a_target}
 use Rattle.es_runs.specs.Alike.LikeCallee.{by_reference}
 use Rattle.es_runs.specs.Alike.SameTarget.{target_plain}
-use Rattle.es_runs.specs.Alike.Same.{both_give, both_stop, outside}
+use Rattle.es_runs.specs.Alike.Same.{both_give, both_stop, outside, at_fault}
 use Rattle.es_runs.specs.Alike.SameReference.{same_name, same_property, same_plain}
 use Rattle.es_runs.proofs.Basic.{read_target, read_name_alike, bind_alike, then_alike, return_alike, stop_alike, ask_alike, get_alike, put_alike, value_alike}
 
@@ -28,6 +28,7 @@ module _ (F : Frame) (w v : World) (same : SameWorld F.hidden w v) where
   weak_same (both_give h g) = both_give (read_target F w v same h) g
   weak_same (both_stop g) = both_stop g
   weak_same outside = outside
+  weak_same (at_fault h0) = at_fault h0
 
   pub weak_alike : {m k : M Reference} → Alike F (SameTarget F) m k → Alike F (SameReference F) m k
   weak_alike h s t g = weak_same (h s t g)
@@ -36,6 +37,7 @@ module _ (F : Frame) (w v : World) (same : SameWorld F.hidden w v) where
   typeof_name_alike x e free = ask_alike F (typeof_read x)
   typeof_name_alike x e changeable = then_alike F (read_name_alike F x e changeable) (λ u. ask_alike F (operator (codes "typeof") (u and none)))
   typeof_name_alike x e constant = then_alike F (read_name_alike F x e constant) (λ u. ask_alike F (operator (codes "typeof") (u and none)))
+  typeof_name_alike x e (silent z) = then_alike F (read_name_alike F x e (silent z)) (λ u. ask_alike F (operator (codes "typeof") (u and none)))
 
   -- what `typeof` takes of its operand
   pub typeof_alike : (r q : Reference) → SameReference F r q → Alike F Equal (typeof_value w r) (typeof_value v q)

@@ -1,6 +1,6 @@
 -- One step of a rule that takes fresh names keeps the run, at any place of any program.
 use Rattle.std.proofs.Common.{◌≡◌, refl, sym, List, [], ◌∙◌}
-use Rattle.std.specs.Prelude.{Bool, true, false, codes}
+use Rattle.std.specs.Prelude.{Bool, true, false}
 use Rattle.es_tree.specs.Words.{Text}
 use Rattle.es_tree.specs.Tree.{Tree}
 use Rattle.es_runs.specs.Machine.{Value, Result, Move}
@@ -59,7 +59,7 @@ module _ (loose : Bool) (xs : List Text) (ds : List Declared) (this : Value) whe
     -- from a program in which none of the names stands
     pub place_run : (counts : Text → Bool) → ((y : Text) → counts y ≡ true → one_of xs y ≡ false) → (p q : Tree) → touches (bad_names (one_of xs) none_hidden) all_of_it p ≡ false → OnePlace R all_of_it p q → (moves : List Move) → (outcome (run_where loose ds p this moves) ≡ called_uncallable → ⊥) →
         SameRun counts (run_where loose ds p this moves) (run_where loose (all_pending xs ds) q this moves)
-    place_run counts ok p q h r moves callable = same_run (set_cells (one_of xs)) counts ok callable (place_alike p q h r _ _ (cells_more moves))
+    place_run counts ok p q h r moves callable = same_run (set_cells (one_of xs)) refl counts ok callable (place_alike p q h r _ _ (cells_more moves))
 
 -- MANY STEPS
 

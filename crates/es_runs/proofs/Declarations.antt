@@ -13,6 +13,7 @@ use Rattle.es_runs.specs.Rules.OnePlace.{this_place, below}
 use Rattle.es_runs.specs.Rules.OneField.{first_field, later_field}
 use Rattle.es_runs.specs.Rules.InField.{in_one, in_many, in_statements}
 use Rattle.es_runs.specs.Rules.OneNode.{first_node, later_node}
+use Rattle.es_runs.specs.Standing.{is_declaration, is_program_kind}
 use Rattle.es_runs.proofs.Named.{and_left, and_right}
 use Rattle.es_runs.proofs.RowFacts.{is_row_kind}
 use Rattle.es_runs.proofs.RowKinds.{is_left_kind, RowKinds}
@@ -26,14 +27,6 @@ is_name _ = false
 abbrev pub is_declarator : AstType → Bool
 is_declarator VariableDeclarator = true
 is_declarator _ = false
-
-abbrev pub is_declaration : AstType → Bool
-is_declaration VariableDeclaration = true
-is_declaration _ = false
-
-abbrev pub is_program_kind : AstType → Bool
-is_program_kind Program = true
-is_program_kind _ = false
 
 abbrev pub names_field : Field → Bool
 names_field (one (node k l fs)) = is_name k

@@ -20,7 +20,7 @@ use Rattle.es_runs.specs.Core.Binding.{changeable}
 use Rattle.es_runs.specs.Core.Reference.{named}
 use Rattle.es_runs.specs.Alike.{set_cells, kept_cells, Agree, Same, Equal, SameWorld, Need, needs, Like, value_and_form, touches, touches_fields, bad_names}
 use Rattle.es_runs.specs.Alike.Agree.{agree}
-use Rattle.es_runs.specs.Alike.Same.{both_give, both_stop, outside}
+use Rattle.es_runs.specs.Alike.Same.{both_give, both_stop, outside, at_fault}
 use Rattle.es_runs.specs.Alike.Equal.{equal}
 use Rattle.es_runs.specs.Runs.{cells, only, none_hidden}
 use Rattle.es_runs.specs.NullishCoalescing.{also_all}
@@ -55,6 +55,7 @@ module _ (hidden frozen : Text → Bool) where
   kept_same d h (both_give e a) = both_give e (kept_agree d h _ _ a)
   kept_same d h (both_stop a) = both_stop (kept_agree d h _ _ a)
   kept_same d h outside = outside
+  kept_same d h (at_fault h0) = at_fault h0
 
   -- the cells that there are now are kept
   pub now_kept : (s t : State) → Agree (set_cells hidden) s t → Agree (kept_cells hidden frozen (cells t)) s t
@@ -96,6 +97,7 @@ module _ (hidden frozen : Text → Bool) where
         (agree (λ y e. stored_elsewhere x y u d (other_name y (bytes_eq y x) e refl) ∙ h y e) (λ y e. rw (g y e)) (λ y e. rw (f y e))))
     stored_twice own mine d0 set (both_stop a) = neither_read (kept_agree d0 set _ _ a)
     stored_twice own mine d0 set outside = not_called
+    stored_twice own mine d0 set (at_fault h0) = absurd (cc h0)
 
 -- WHAT IS DOUBLED
 

@@ -91,7 +91,7 @@ module _ (F : Frame) (w v : World) (same : SameWorld F.hidden w v) where
   this_like : (n : Need) → (t u : Value) → u ≡ t → Like F w v n (literal t other) (literal u other)
   this_like n t u e = rw e (literal_like F w v same n t other)
 
-  kind_like : (n : Need) (k : AstType) (ts : List (Option Text)) (fs : List Bool) {ps qs : List Part} → is_bad bad n.level k ts ≡ false → PartsLike F w v (needs n k ts fs) ps qs → Like F w v n (meaning_of w k ts fs ps) (meaning_of v k ts fs qs)
+  pub kind_like : (n : Need) (k : AstType) (ts : List (Option Text)) (fs : List Bool) {ps qs : List Part} → is_bad bad n.level k ts ≡ false → PartsLike F w v (needs n k ts fs) ps qs → Like F w v n (meaning_of w k ts fs ps) (meaning_of v k ts fs qs)
   kind_like n Identifier ts fs st h = name_like n (first ts) st
   kind_like n ThisExpression ts fs st h = this_like n w.this v.this same.this
   kind_like n NullLiteral ts fs st h = literal_like F w v same n null null_form

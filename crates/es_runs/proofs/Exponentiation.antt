@@ -1,6 +1,6 @@
 -- The rows of exponentiation: `l ** r` and `t **= r`, and what they become, are alike.
 use Rattle.std.proofs.Common.{◌≡◌, refl, List, [], ◌∷◌, ◌++◌, ap, ◌∙◌, subst, sym}
-use Rattle.std.specs.Prelude.{Bool, true, false, ◌&&◌, ◌||◌, not, codes}
+use Rattle.std.specs.Prelude.{Bool, true, false, ◌&&◌, ◌||◌, codes}
 use Rattle.es_tree.specs.Words.{Text}
 use Rattle.es_tree.specs.Core.{is_core_node}
 use Rattle.es_tree.specs.Names.{first_text}
@@ -19,18 +19,18 @@ use Rattle.es_runs.specs.Alike.{Frame, set_cells, Same, Alike, Equal, SameWorld,
 use Rattle.es_runs.specs.Alike.Level.{a_target}
 use Rattle.es_runs.specs.Exponentiation.{ExponentiationRule, power_at, power_node, assign_at, assigned_power}
 use Rattle.es_runs.specs.Exponentiation.ExponentiationRule.{power, power_assignment}
+use Rattle.es_runs.specs.Standing.{undeclaring}
 use Rattle.es_runs.proofs.Basic.{onward_same, then_alike, ask_alike, put_alike}
 use Rattle.es_runs.proofs.Congruence.{plain_like}
 use Rattle.es_runs.proofs.Fresh.{or_left, or_right}
 use Rattle.es_runs.proofs.Named.{and_left, and_right}
 use Rattle.es_runs.proofs.NullishCoalescingValues.{like_by_value}
-use Rattle.es_runs.proofs.Undeclaring.{undeclaring}
 use Rattle.es_runs.proofs.Stripped.{StrippedFree, stripped_core, stripped_free, stripped_reference}
 use Rattle.es_runs.proofs.Temporary.{onward_onward, plain_again}
 use Rattle.es_runs.proofs.ExponentiationTargets.{Arrived, SameArrived, reaches, reaches_by, in_front, onward_equal, last_after, value_like, target_arrives}
 use Rattle.es_runs.proofs.ExponentiationTargets.Arrived.{arrived}
 use Rattle.es_runs.proofs.ExponentiationTargets.SameArrived.{same_arrived}
-use Rattle.es_runs.proofs.RowPlaces.{RowPlace, IsRuleAlike}
+use Rattle.es_runs.proofs.RowPlaces.{RowPlace}
 use Rattle.es_runs.proofs.Written.{one_of}
 
 -- what is left once a target is read: its value is raised to that of e, and put
@@ -113,15 +113,15 @@ module _ (steady : Text → Bool) (xs : List Text) (w v : World) (same : SameWor
     assigned_like n k m (f ∷ fs) target read r h = like_by_value (one_of xs) w v same n k _ h
 
 -- `Math` isn't bound in the result either
-math_free : (bound steady : Text → Bool) (w v : World) (xs : List Text) (n : Need) (a : Tree) → bound (codes "Math") ≡ false → RowPlace bound steady w v xs n a → is_free (v.scope (codes "Math")) ≡ true
-math_free bound steady w v xs n a math place = ap is_free (place.same.scope (codes "Math") place.math) ∙ place.binds (codes "Math") ∙ ap not math
+math_free : (bound steady : Text → Bool) (w v : World) (xs : List Text) (n : Need) (a : Tree) → is_free (w.scope (codes "Math")) ≡ true → RowPlace bound steady w v xs n a → is_free (v.scope (codes "Math")) ≡ true
+math_free bound steady w v xs n a math place = ap is_free (place.same.scope (codes "Math") place.math) ∙ math
 
-pub exponentiation_like : {bound steady : Text → Bool} (in_use : Text → Bool) {xs : List Text} → bound (codes "Math") ≡ false → IsRuleAlike bound steady xs (ExponentiationRule bound in_use xs)
-exponentiation_like {bound} {steady} in_use {xs} math w v n a b place (power {m = m} {l = l} {r = r} texts no_left no_right) =
+pub exponentiation_like : {bound steady : Text → Bool} (in_use : Text → Bool) {xs : List Text} (w v : World) → is_free (w.scope (codes "Math")) ≡ true → (n : Need) (a b : Tree) → RowPlace bound steady w v xs n a → ExponentiationRule bound in_use xs n a b → Like (set_cells (one_of xs)) w v n (meaning w a) (meaning v b)
+exponentiation_like {bound} {steady} in_use {xs} w v math n a b place (power {m = m} {l = l} {r = r} texts no_left no_right) =
     let left : touches (bad_names (one_of xs) steady) the_value l ≡ false = or_left (touches (bad_names (one_of xs) steady) the_value l) _ place.untouched in
     let right : touches (bad_names (one_of xs) steady) the_value r ≡ false = or_left (touches (bad_names (one_of xs) steady) the_value r) false (or_right (touches (bad_names (one_of xs) steady) the_value l) _ (rw texts at place.untouched)) in
     rw (ap first_text texts, power_means v (math_free bound steady w v xs n a math place) m l r) (plain_like (set_cells (one_of xs)) w v place.same n _ _ (exponentiation_alike steady xs w v place.same l r left right))
-exponentiation_like {bound} {steady} in_use {xs} math w v n a b place (power_assignment {m = m} {t = t} {r = r} {target = target} {read = read} {fs = fs} texts no_right twice) =
+exponentiation_like {bound} {steady} in_use {xs} w v math n a b place (power_assignment {m = m} {t = t} {r = r} {target = target} {read = read} {fs = fs} texts no_right twice) =
     let bad : Level → Text → Bool = bad_names (one_of xs) steady in
     let below : StrippedFree bad a_target t = stripped_free bad a_target true t (or_left (touches bad the_target t) (touches bad the_value r || false) place.untouched) in
     let core : all_nodes is_core_node (without_parens t) ≡ true = stripped_core t (and_left (all_nodes is_core_node t) _ place.core) in

@@ -1,6 +1,6 @@
 -- A target that is read and then written: source and result arrive at the same reference, with the same value.
 use Rattle.std.proofs.Common.{◌≡◌, refl, List, [], ◌∷◌, ◌++◌, ap, ◌∙◌, sym}
-use Rattle.std.specs.Prelude.{Bool, true, false, bytes_eq, ◌||◌, not}
+use Rattle.std.specs.Prelude.{Bool, true, false, bytes_eq, ◌||◌}
 use Rattle.es_tree.specs.Words.{Text}
 use Rattle.es_tree.specs.Core.{is_core_node}
 use Rattle.es_tree.specs.Names.{first_text}
@@ -200,12 +200,12 @@ module _ (hidden steady : Text → Bool) (w v : World) (same : SameWorld hidden 
         (rw (onward_onward (onward (value v (meaning v o) t) (put_value v (named x))) (λ _. value v (meaning v (assign_node (identifier y) k))) (λ _. both_read))
         (onward_twice hidden steady (stored x x_hidden x_var (cells t) (now_set hidden steady s t g) (from_here form o ho s t g)) (λ u d set rest object s t g. object_stored k hk u d set object s t g)))
 
-  module _ (bound in_use : Text → Bool) (binds : (y : Text) → is_free (w.scope y) ≡ not (bound y)) where
+  module _ (bound in_use : Text → Bool) (binds : (y : Text) → bound y ≡ true → is_free (w.scope y) ≡ false) where
     abbrev Temporaries : List Text → Type 0
     Temporaries xs = (x : Text) → one_of xs x ≡ true → (hidden x ≡ true) × (v.scope x ≡ changeable)
 
     is_bound : (y : Text) → bound y ≡ true → is_free (w.scope y) ≡ false
-    is_bound y e = rw (binds y, e) refl
+    is_bound y e = binds y e
 
     -- a key that asks nothing
     module _ (computed : Bool) (p p' : Meaning) (k : Value) (key_w : (s : State) → key w computed p s ≡ gives k s) (key_v : (t : State) → value v p' t ≡ gives k t) where

@@ -20,9 +20,9 @@ use Rattle.es_tree.specs.declared.table.Content.{Content}
 use Rattle.es_tree.specs.declared.table.Content.TheVariants.{Child as c-Child}
 use Rattle.es_tree.proofs.CoreBreaks.{among_kinds, core_kind, plain_form}
 use Rattle.es_tree.proofs.NodeForm.{node_form}
+use Rattle.es_runs.specs.Standing.{begins_with_one, field_stands, fields_stand, is_end, is_formed, is_lone, is_single, may_stand, trees_stand, undeclaring}
 use Rattle.es_runs.proofs.BareTrees.{all-bare}
 use Rattle.es_runs.proofs.Named.{and_left, and_right}
-use Rattle.es_runs.proofs.Undeclaring.{may_stand, trees_stand, field_stands, fields_stand, is_end, is_lone, is_single, begins_with_one, is_formed, undeclaring}
 
 -- KINDS BY THE TABLE
 

@@ -18,6 +18,7 @@ use Rattle.es_runs.specs.OpenSteps.{Whole, whole_of}
 use Rattle.es_runs.specs.Rules.{OnePlace, strays}
 use Rattle.es_runs.specs.Runs.{SameRun, is_declared, none_hidden, outcome, run_where, scope_of}
 use Rattle.es_runs.specs.Runs.Outcome.{called_uncallable}
+use Rattle.es_runs.specs.Standing.{undeclaring}
 use Rattle.es_runs.proofs.BareTrees.{declared_of-bare, names-bare, written-bare}
 use Rattle.es_runs.proofs.CoreAlike.{core_alike}
 use Rattle.es_runs.proofs.CoreRows.{core_rule, FreshInTurn}
@@ -35,7 +36,7 @@ use Rattle.es_runs.proofs.RowKinds.{RowKinds, row_kind}
 use Rattle.es_runs.proofs.RowNames.{row_unwritten, row_without}
 use Rattle.es_runs.proofs.Temporary.{bytes_eq-flip}
 use Rattle.es_runs.proofs.TidyPlaces.{tidy_place}
-use Rattle.es_runs.proofs.Undeclaring.{step_undeclaring, undeclaring}
+use Rattle.es_runs.proofs.Undeclaring.{step_undeclaring}
 use Rattle.es_runs.proofs.Untouched.{untouched}
 use Rattle.es_runs.proofs.OptionalChaining.{WhereTidy}
 use Rattle.es_runs.proofs.WrittenNames.{step_unwritten}
@@ -143,11 +144,11 @@ module _ (no_all : Bool) (w : Whole) (xs : List Text) where
       math = fresh_not_math (fresh_names r)
 
       base : (n : Need) (a b : Tree) → Placed (one_of xs) w.steady TidyRow tidy_kinds n a b → touches (bad_names (one_of xs) none_hidden) n a ≡ false → Like (set_cells (one_of xs)) (before (not no_all) xs ds this) (after (not no_all) xs ds this) n (meaning (before (not no_all) xs ds this) a) (meaning (after (not no_all) xs ds this) b)
-      base n a b (row, known) free = core_alike no_all w xs (before (not no_all) xs ds this) (after (not no_all) xs ds this) n a b refl (record {
+      base n a b (row, known) free = core_alike no_all w xs (before (not no_all) xs ds this) (after (not no_all) xs ds this) (λ e. negated (is_free (scope_of ds (codes "Math"))) (is_bound_in w (codes "Math")) (h.bound (codes "Math")) ∙ ap not e) n a b refl (record {
         same = names_more (not no_all) xs ds this;
         math = math;
         cells = are_vars (not no_all) xs ds this;
-        binds = λ y. negated (is_free (scope_of ds y)) (is_bound_in w y) (h.bound y);
+        binds = λ y e. negated (is_free (scope_of ds y)) (is_bound_in w y) (h.bound y) ∙ ap not e;
         steady_bound = h.steady;
         core = known.core_nodes;
         placed = known.placed_nodes;

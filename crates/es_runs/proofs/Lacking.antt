@@ -4,17 +4,17 @@ use Rattle.std.proofs.lemmas.Bool.{and_parts}
 use Rattle.std.specs.Prelude.{Bool, true, false, bytes_eq, if◌then◌else◌, codes}
 use Rattle.es_tree.specs.Words.{Text}
 use Rattle.es_runs.specs.Machine.{Value, Values, M, ◌>>=◌, onward, return, stop, next, State, Stop, Result, Cell, Move, Question, ask, cell_of, set_cell, is_loosely_nullish, do_call, joined}
-use Rattle.es_runs.specs.Machine.Value.{undefined, null, boolean, number, bigint, text, host, bound, unset_error, constant_error}
+use Rattle.es_runs.specs.Machine.Value.{undefined, null, boolean, number, bigint, text, host, bound, unset_error, constant_error, own}
 use Rattle.es_runs.specs.Machine.Values.{none, ◌and◌}
 use Rattle.es_runs.specs.Machine.Question.{read, typeof_read, write, call, operator}
 use Rattle.es_runs.specs.Machine.Move.{answer, throw}
 use Rattle.es_runs.specs.Machine.State.{state}
-use Rattle.es_runs.specs.Machine.Stop.{cut, uncallable, throws, waits, unknown}
+use Rattle.es_runs.specs.Machine.Stop.{cut, uncallable, throws, waits, unknown, breaks, continues, out_of_turns, faults}
 use Rattle.es_runs.specs.Machine.Cell.{unset, holds}
 use Rattle.es_runs.specs.Machine.Result.{gives, stops}
 use Rattle.es_tree.specs.Scopes.{Declared}
 use Rattle.es_runs.specs.Core.{Binding, Reference, read_name, read_cell, write_name, change_cell, keep_cell, apply_call, apply_bind, closed_result, typeof_name, initialise, settle}
-use Rattle.es_runs.specs.Core.Binding.{free, changeable, constant}
+use Rattle.es_runs.specs.Core.Binding.{free, changeable, constant, silent}
 use Rattle.es_runs.specs.Core.Reference.{named, property, plain}
 use Rattle.es_runs.specs.Runs.{first_cell, cells_of, lacks_all, moves_lack}
 
@@ -63,6 +63,7 @@ not_all (host n callable truthy false) h = refl
 not_all (bound f r vs) h = refl
 not_all (unset_error b) h = refl
 not_all (constant_error b) h = refl
+not_all (own b) h = refl
 
 -- COMBINATIONS
 
@@ -112,26 +113,28 @@ pub sets : (x : Text) (v : Value) → NotAll v → Matches NotAll (set_cell x v)
 sets x v h (state c ms qs) n = both_give h ((λ y. one_of (bytes_eq y x) (holds v) (c y) h (n.0 y)), n.1)
 
 reads : (x : Text) (c : Cell) → CellNotAll c → Matches NotAll (read_cell x c) (read_cell x c)
-reads x unset h = stopped (throws (unset_error x))
+reads x unset h = stopped (faults (unset_error x))
 reads x (holds v) h = returns v h
 
 pub reads_name : (x : Text) (b : Binding) → Matches NotAll (read_name x b) (read_name x b)
 reads_name x free = asks (read x)
 reads_name x changeable = bind (reads_cell x) (reads x)
 reads_name x constant = bind (reads_cell x) (reads x)
+reads_name x (silent z) = bind (reads_cell x) (reads x)
 
 changes : (x : Text) (v : Value) → NotAll v → (c : Cell) → CellNotAll c → Matches NotAll (change_cell x v c) (change_cell x v c)
-changes x v h unset n = stopped (throws (unset_error x))
+changes x v h unset n = stopped (faults (unset_error x))
 changes x v h (holds u) n = sets x v h
 
 keeps : (x : Text) (c : Cell) → CellNotAll c → Matches NotAll (keep_cell x c) (keep_cell x c)
-keeps x unset n = stopped (throws (unset_error x))
-keeps x (holds u) n = stopped (throws (constant_error x))
+keeps x unset n = stopped (faults (unset_error x))
+keeps x (holds u) n = stopped (faults (constant_error x))
 
 pub writes : (x : Text) (v : Value) → NotAll v → (b : Binding) → Matches NotAll (write_name x v b) (write_name x v b)
 writes x v h free = bind (asks (write x v)) (λ u n. returns v h)
 writes x v h changeable = bind (reads_cell x) (changes x v h)
 writes x v h constant = bind (reads_cell x) (keeps x)
+writes x v h (silent z) = bind (reads_cell x) (keeps x)
 
 -- a call asks, whatever is called
 pub calls : (f r : Value) (us : Values) → Matches NotAll (do_call f r us) (do_call f r us)
@@ -145,6 +148,7 @@ calls (host n a b c) r us = asks (call (host n a b c) r us)
 calls (bound f q vs) r us = calls f q (joined vs us)
 calls (unset_error b) r us = asks (call (unset_error b) r us)
 calls (constant_error b) r us = asks (call (constant_error b) r us)
+calls (own b) r us = asks (call (own b) r us)
 
 pub applies_call : (f : Value) (us : Values) → Matches NotAll (apply_call f us) (apply_call f us)
 applies_call f none = calls f undefined none
@@ -159,6 +163,7 @@ pub types_name : (x : Text) (b : Binding) → Matches NotAll (typeof_name x b) (
 types_name x free = asks (typeof_read x)
 types_name x changeable = bind (reads_name x changeable) (λ u h. asks (operator (codes "typeof") (u and none)))
 types_name x constant = bind (reads_name x constant) (λ u h. asks (operator (codes "typeof") (u and none)))
+types_name x (silent z) = bind (reads_name x (silent z)) (λ u h. asks (operator (codes "typeof") (u and none)))
 
 pub closed_matched : {r q : Result Reference} → Matched ReferenceNotAll r q → Matched ReferenceNotAll (closed_result r) (closed_result q)
 closed_matched (both_give h n) = both_give h n
@@ -167,6 +172,10 @@ closed_matched (both_stop {m = throws u} n) = both_stop n
 closed_matched (both_stop {m = waits} n) = both_stop n
 closed_matched (both_stop {m = uncallable} n) = both_stop n
 closed_matched (both_stop {m = unknown} n) = both_stop n
+closed_matched (both_stop {m = breaks l} n) = both_stop n
+closed_matched (both_stop {m = continues l} n) = both_stop n
+closed_matched (both_stop {m = out_of_turns} n) = both_stop n
+closed_matched (both_stop {m = faults z} n) = both_stop n
 
 pub initialises : (u : Value) → NotAll u → (r : Reference) → Matches NotAll (initialise u r) (initialise u r)
 initialises u h (named x) = sets x u h

@@ -3,19 +3,19 @@ use Rattle.std.proofs.Common.{◌≡◌, refl, List, [], ◌∷◌, ◌++◌, ap
 use Rattle.std.specs.Prelude.{Bool, true, false, bytes_eq, codes, if◌then◌else◌, not, ◌||◌}
 use Rattle.es_tree.specs.Words.{Text}
 use Rattle.es_tree.specs.Tree.{Tree, Trees, Label, trees}
-use Rattle.es_runs.specs.Machine.{Value, M, is_set, ◌>>=◌, State, Stop, Result, Move}
+use Rattle.es_runs.specs.Machine.{Value, M, is_set, ◌>>=◌, Cell, State, Stop, Result, Move}
 use Rattle.es_runs.specs.Machine.State.{state}
-use Rattle.es_runs.specs.Machine.Stop.{throws, waits, uncallable, cut, unknown}
+use Rattle.es_runs.specs.Machine.Stop.{throws, waits, uncallable, cut, unknown, breaks, continues, out_of_turns, faults}
 use Rattle.es_runs.specs.Machine.Result.{gives, stops}
 use Rattle.es_runs.specs.Core.{World, Reference, is_free, value, typeof_value, meaning, meanings, in_order}
 use Rattle.es_runs.specs.Core.Binding.{changeable, constant}
 use Rattle.es_runs.specs.Core.Reference.{named, property, plain}
-use Rattle.es_runs.specs.Alike.{Frame, set_cells, Agree, Same, Alike, Equal, SameReference, SameWorld, Level, Need, Like, LikeAt, the_value, SameTarget, touches_nodes, bad_names}
+use Rattle.es_runs.specs.Alike.{Frame, set_cells, CellSeen, is_loose, Agree, Same, Alike, Equal, SameReference, SameWorld, Level, Need, Like, LikeAt, the_value, SameTarget, touches_nodes, bad_names}
 use Rattle.es_runs.specs.Alike.Level.{no_evaluation, value_alone, an_operand_of_typeof, whole_reference, a_callee, a_target}
 use Rattle.es_runs.specs.Alike.LikeCallee.{by_reference}
 use Rattle.es_runs.specs.Alike.SameTarget.{target_name, target_property, target_plain}
 use Rattle.es_runs.specs.Alike.Agree.{agree}
-use Rattle.es_runs.specs.Alike.Same.{both_give, both_stop, outside}
+use Rattle.es_runs.specs.Alike.Same.{both_give, both_stop, outside, at_fault}
 use Rattle.es_runs.specs.Alike.Equal.{equal}
 use Rattle.es_runs.specs.Alike.SameReference.{same_name, same_property, same_plain}
 use Rattle.es_tree.specs.Scopes.{Declared, declared_by, declared_in_body, declared_of}
@@ -43,11 +43,19 @@ stop_outcome waits s t = refl
 stop_outcome uncallable s t = refl
 stop_outcome cut s t = refl
 stop_outcome unknown s t = refl
+stop_outcome (breaks l) s t = refl
+stop_outcome (continues l) s t = refl
+stop_outcome out_of_turns s t = refl
+stop_outcome (faults z) s t = refl
 
-pub same_run : (F : Frame) (counts : Text → Bool) → ((x : Text) → counts x ≡ true → F.hidden x ≡ false) → {r q : Result Value} → (outcome r ≡ called_uncallable → ⊥) → Same F Equal r q → SameRun counts r q
-same_run F counts ok callable (both_give equal (agree h g f)) = record { outcomes = refl; questions = refl; final_cells = λ x e. h x (ok x e) }
-same_run F counts ok callable (both_stop {w = w} {s = s} {t = t} (agree h g f)) = record { outcomes = stop_outcome w _ _; questions = refl; final_cells = λ x e. h x (ok x e) }
-same_run F counts ok callable outside = absurd (callable refl)
+strict_cell : (F : Frame) (x : Text) → F.faults_outside ≡ false → (c d : Cell) → CellSeen (is_loose F x) c d → d ≡ c
+strict_cell F x k c d = rw k (λ h. h)
+
+pub same_run : (F : Frame) → F.faults_outside ≡ false → (counts : Text → Bool) → ((x : Text) → counts x ≡ true → F.hidden x ≡ false) → {r q : Result Value} → (outcome r ≡ called_uncallable → ⊥) → Same F Equal r q → SameRun counts r q
+same_run F strict counts ok callable (both_give equal (agree {c = c} {d = d} h g f)) = record { outcomes = refl; questions = refl; final_cells = λ x e. strict_cell F x strict (c x) (d x) (h x (ok x e)) }
+same_run F strict counts ok callable (both_stop {w = w} {s = s} {t = t} (agree {c = c} {d = d} h g f)) = record { outcomes = stop_outcome w _ _; questions = refl; final_cells = λ x e. strict_cell F x strict (c x) (d x) (h x (ok x e)) }
+same_run F strict counts ok callable outside = absurd (callable refl)
+same_run F strict counts ok callable (at_fault h) = absurd (let no : F.faults_outside ≡ false = strict in cc (no, h))
 
 -- PLACES
 
@@ -105,7 +113,7 @@ law_place_proof no_all need e d p q h alike form names this moves assumed callab
     let ds : List Declared = declared_of p in
     let source = run_assumed no_all ds p this moves assumed in
     let target = run_assumed no_all ds q this moves assumed in
-    rw (names, source, target) (same_run no_frame (is_declared ds) (λ x k. refl) (λ k. callable (ap outcome source ∙ k)) (swapped_alike no_all ds need e d alike form (world_of (not no_all) this ds) (record { scope = λ x. refl; counts = refl }) p q h _ _ (agree_self (state (cells_of ds) moves []))))
+    rw (names, source, target) (same_run no_frame refl (is_declared ds) (λ x k. refl) (λ k. callable (ap outcome source ∙ k)) (swapped_alike no_all ds need e d alike form (world_of (not no_all) this ds) (record { scope = λ x. refl; counts = refl }) p q h _ _ (agree_self (state (cells_of ds) moves []))))
 
 -- FRESH NAMES
 
@@ -212,4 +220,4 @@ module _ (x : Text) (l : Label) (ds : Trees) (front back : List Tree) (nowhere :
 
 pub law_fresh_proof : LawFresh
 law_fresh_proof x l ds front back nowhere undeclared this moves assumed callable =
-    same_run (set_cells (only x)) (is_declared (declared_of (program l ds (trees (front ++ back))))) (counted_hides x l ds front back nowhere undeclared this) callable (program_alike x l ds front back nowhere undeclared this _ _ (first_cells x l ds front back nowhere undeclared this moves))
+    same_run (set_cells (only x)) refl (is_declared (declared_of (program l ds (trees (front ++ back))))) (counted_hides x l ds front back nowhere undeclared this) callable (program_alike x l ds front back nowhere undeclared this _ _ (first_cells x l ds front back nowhere undeclared this moves))

@@ -10,10 +10,10 @@ use Rattle.es_runs.specs.Machine.Question.{read, get, construct, operator}
 use Rattle.es_runs.specs.Machine.State.{state}
 use Rattle.es_runs.specs.Machine.Cell.{unset, holds}
 use Rattle.es_runs.specs.Machine.Move.{answer, throw}
-use Rattle.es_runs.specs.Machine.Stop.{throws, waits, uncallable, cut, unknown}
+use Rattle.es_runs.specs.Machine.Stop.{throws, waits, uncallable, cut, unknown, breaks, continues, out_of_turns, faults}
 use Rattle.es_runs.specs.Machine.Result.{gives, stops}
 use Rattle.es_runs.specs.Core.{World, Binding, Reference, Meaning, Form, value, values, get_value, read_name, read_cell, sequence, last_value, new_of, cut_where, word_of, key, is_math, pow_form, static_form, member_form, member, receiver, run_call, plain_call, apply_call, apply_bind, method_call, ask_pow, unmarked_call, call_value, call_of, closed_result, chain, parenthesized, in_order, initialise, declarator, settle, declared}
-use Rattle.es_runs.specs.Core.Binding.{free, changeable, constant}
+use Rattle.es_runs.specs.Core.Binding.{free, changeable, constant, silent}
 use Rattle.es_runs.specs.Core.Reference.{named, property, plain}
 use Rattle.es_runs.specs.Core.Form.{word, math_pow, member_call, member_bind}
 use Rattle.es_runs.specs.Alike.{Frame, Same, Alike, Equal, SameReference, SameTarget, SameWorld, Level, Need, Like, LikeAt, content_level, the_value, the_target, key_need, object_need}
@@ -25,7 +25,7 @@ use Rattle.es_runs.specs.Core.{Called, callee_from, tested_callee}
 use Rattle.es_runs.specs.Core.Called.{called}
 use Rattle.std.proofs.Common.{sym}
 use Rattle.es_runs.specs.Alike.SameTarget.{target_name, target_property, target_plain}
-use Rattle.es_runs.specs.Alike.Same.{both_give, both_stop, outside}
+use Rattle.es_runs.specs.Alike.Same.{both_give, both_stop, outside, at_fault}
 use Rattle.es_runs.specs.Alike.Equal.{equal}
 use Rattle.es_runs.specs.Alike.SameReference.{same_name, same_property, same_plain}
 use Rattle.es_runs.proofs.Basic.{onward_same, bind_alike, then_alike, return_alike, stop_alike, ask_alike, set_alike, call_alike, get_alike, value_alike}
@@ -199,7 +199,12 @@ module _ (F : Frame) (w v : World) (same : SameWorld F.hidden w v) where
   closed_same (both_stop {w = waits} g) = both_stop g
   closed_same (both_stop {w = uncallable} g) = both_stop g
   closed_same (both_stop {w = unknown} g) = both_stop g
+  closed_same (both_stop {w = breaks l} g) = both_stop g
+  closed_same (both_stop {w = continues l} g) = both_stop g
+  closed_same (both_stop {w = out_of_turns} g) = both_stop g
+  closed_same (both_stop {w = faults z} g) = both_stop g
   closed_same outside = outside
+  closed_same (at_fault h0) = at_fault h0
 
   -- statements
 
@@ -243,6 +248,7 @@ name_uncut : (x : Text) (b : Binding) (s : State) → closed_value (read_name x 
 name_uncut x free (state c ms qs) = next_uncut c ms (read x ∷ qs)
 name_uncut x changeable (state c ms qs) = cell_uncut x (c x) (state c ms qs)
 name_uncut x constant (state c ms qs) = cell_uncut x (c x) (state c ms qs)
+name_uncut x (silent z) (state c ms qs) = cell_uncut x (c x) (state c ms qs)
 
 get_uncut : (w : World) (r : Reference) (s : State) → closed_value (get_value w r s) ≡ get_value w r s
 get_uncut w (named x) s = name_uncut x (w.scope x) s
@@ -257,6 +263,10 @@ closed_first w (stops waits s) = refl
 closed_first w (stops uncallable s) = refl
 closed_first w (stops cut s) = refl
 closed_first w (stops unknown s) = refl
+closed_first w (stops (breaks l) s) = refl
+closed_first w (stops (continues l) s) = refl
+closed_first w (stops out_of_turns s) = refl
+closed_first w (stops (faults z) s) = refl
 
 module _ (F : Frame) (w v : World) (same : SameWorld F.hidden w v) where
   pub value_closed : {r q : Result Value} → Same F Equal r q → Same F Equal (closed_value r) (closed_value q)
@@ -266,7 +276,12 @@ module _ (F : Frame) (w v : World) (same : SameWorld F.hidden w v) where
   value_closed (both_stop {w = waits} g) = both_stop g
   value_closed (both_stop {w = uncallable} g) = both_stop g
   value_closed (both_stop {w = unknown} g) = both_stop g
+  value_closed (both_stop {w = breaks l} g) = both_stop g
+  value_closed (both_stop {w = continues l} g) = both_stop g
+  value_closed (both_stop {w = out_of_turns} g) = both_stop g
+  value_closed (both_stop {w = faults z} g) = both_stop g
   value_closed outside = outside
+  value_closed (at_fault h0) = at_fault h0
 
   closed_target : {r q : Result Reference} → Same F (SameTarget F) r q → Same F (SameTarget F) (closed_result r) (closed_result q)
   closed_target (both_give h g) = both_give h g
@@ -275,7 +290,12 @@ module _ (F : Frame) (w v : World) (same : SameWorld F.hidden w v) where
   closed_target (both_stop {w = waits} g) = both_stop g
   closed_target (both_stop {w = uncallable} g) = both_stop g
   closed_target (both_stop {w = unknown} g) = both_stop g
+  closed_target (both_stop {w = breaks l} g) = both_stop g
+  closed_target (both_stop {w = continues l} g) = both_stop g
+  closed_target (both_stop {w = out_of_turns} g) = both_stop g
+  closed_target (both_stop {w = faults z} g) = both_stop g
   closed_target outside = outside
+  closed_target (at_fault h0) = at_fault h0
 
   value_chain : (a b : Meaning) → Alike F Equal (value w a) (value v b) → Alike F Equal (value w (chain a)) (value v (chain b))
   value_chain a b h s t g = rw (closed_first w (a.reference s), closed_first v (b.reference t)) (value_closed (h s t g))
@@ -307,6 +327,10 @@ module _ (F : Frame) (w v : World) (same : SameWorld F.hidden w v) where
       at (stops waits t) e = refl
       at (stops uncallable t) e = refl
       at (stops unknown t) e = refl
+      at (stops (breaks l) t) e = refl
+      at (stops (continues l) t) e = refl
+      at (stops out_of_turns t) e = refl
+      at (stops (faults z) t) e = refl
 
   closed_call : (u : World) (q : Result Reference) → onward (closed_result q) (callee_from u) ≡ closed_called (onward q (callee_from u))
   unfolding closed_called
@@ -316,6 +340,10 @@ module _ (F : Frame) (w v : World) (same : SameWorld F.hidden w v) where
   closed_call u (stops waits s) = refl
   closed_call u (stops uncallable s) = refl
   closed_call u (stops unknown s) = refl
+  closed_call u (stops (breaks l) s) = refl
+  closed_call u (stops (continues l) s) = refl
+  closed_call u (stops out_of_turns s) = refl
+  closed_call u (stops (faults z) s) = refl
 
   called_closed : {r q : Result Called} → Same F SameCalled r q → Same F SameCalled (closed_called r) (closed_called q)
   unfolding closed_called
@@ -325,7 +353,12 @@ module _ (F : Frame) (w v : World) (same : SameWorld F.hidden w v) where
   called_closed (both_stop {w = waits} g) = both_stop g
   called_closed (both_stop {w = uncallable} g) = both_stop g
   called_closed (both_stop {w = unknown} g) = both_stop g
+  called_closed (both_stop {w = breaks l} g) = both_stop g
+  called_closed (both_stop {w = continues l} g) = both_stop g
+  called_closed (both_stop {w = out_of_turns} g) = both_stop g
+  called_closed (both_stop {w = faults z} g) = both_stop g
   called_closed outside = outside
+  called_closed (at_fault h0) = at_fault h0
 
   call_chain : (a b : Meaning) → Alike F SameCalled (a.reference >>= callee_from w) (b.reference >>= callee_from v) → Alike F SameCalled ((chain a).reference >>= callee_from w) ((chain b).reference >>= callee_from v)
   call_chain a b h s t g = rw (closed_call w (a.reference s), closed_call v (b.reference t)) (called_closed (h s t g))

@@ -21,12 +21,12 @@ use Rattle.es_runs.specs.LogicalAssignment.LogicalAssignmentRule.{to_name, to_st
 use Rattle.es_runs.specs.Runs.{none_hidden, cells}
 use Rattle.es_runs.specs.Core.Form.{other}
 use Rattle.es_runs.specs.Alike.Same.{both_stop, outside}
+use Rattle.es_runs.specs.Standing.{undeclaring}
 use Rattle.es_runs.proofs.Basic.{then_alike, return_alike, get_alike, put_alike, read_target}
 use Rattle.es_runs.proofs.Congruence.{choice_alike, plain_like}
 use Rattle.es_runs.proofs.Fresh.{or_left, or_right}
 use Rattle.es_runs.proofs.Named.{and_left, and_right}
 use Rattle.es_runs.proofs.RowPlaces.{RowPlace, IsRuleAlike}
-use Rattle.es_runs.proofs.Undeclaring.{undeclaring}
 use Rattle.es_runs.proofs.Stripped.{StrippedFree, stripped_free, stripped_reference}
 use Rattle.es_runs.proofs.OptionalChainingNeeds.{object_free}
 use Rattle.es_runs.proofs.Written.{one_of}
@@ -34,7 +34,7 @@ use Rattle.es_runs.proofs.Duplicated.{AllSet, Gives, Twice, kept_same, kept_like
 use Rattle.es_runs.proofs.Duplicated.Twice.{both_read, neither_read, not_called}
 use Rattle.es_runs.proofs.Temporary.{plain_again, bytes_eq-equal}
 
-is_logically : (op : Text) → is_logical_assignment_operator op ≡ true → assign_class op ≡ logically
+pub is_logically : (op : Text) → is_logical_assignment_operator op ≡ true → assign_class op ≡ logically
 is_logically op h = at (bytes_eq op (codes "||=")) (bytes_eq op (codes "&&=")) (bytes_eq op (codes "??=")) refl refl refl h
   where
     at : (a b c : Bool) → bytes_eq op (codes "||=") ≡ a → bytes_eq op (codes "&&=") ≡ b → bytes_eq op (codes "??=") ≡ c → ((a || b) || c) ≡ true → assign_class op ≡ logically
@@ -112,7 +112,7 @@ module _ (bound steady in_use : Text → Bool) where
       let bad : Level → Text → Bool = bad_names (one_of xs) steady in
       let left : touches bad the_target t ≡ false = or_left (touches bad the_target t) (touches bad the_value r || false) p.untouched in
       record {
-        frozen_bound = λ y h. rw (p.binds y, p.steady_bound y h) refl;
+        frozen_bound = λ y h. p.binds y (p.steady_bound y h);
         target = stripped_free bad Level.a_target true t left;
         reference = stripped_reference w t (and_left (all_nodes undeclaring t) (all_nodes undeclaring r && true) (and_right (undeclaring AssignmentExpression m (one t then one r then done)) (all_nodes undeclaring t && (all_nodes undeclaring r && true)) p.placed));
         right = or_left (touches bad the_value r) false (or_right (touches bad the_target t) (touches bad the_value r || false) p.untouched);

@@ -1,16 +1,16 @@
 -- The form of a node is the word `Math` only where that name stands: where it is hidden and stands nowhere, it is none.
-use Rattle.std.proofs.Common.{◌≡◌, refl, List, [], ◌∷◌, Option}
-use Rattle.std.specs.Prelude.{Bool, true, false, bytes_eq, codes, if◌then◌else◌, ◌||◌}
+use Rattle.std.proofs.Common.{◌≡◌, refl, List, [], ◌∷◌}
+use Rattle.std.specs.Prelude.{Bool, true, false, bytes_eq, codes, if◌then◌else◌}
 use Rattle.es_tree.specs.Words.{Text}
 use Rattle.es_tree.specs.Names.{first_text as first}
-use Rattle.es_tree.specs.Tree.{Tree, node, Label, Fields, done, ◌then◌, missing, one}
+use Rattle.es_tree.specs.Tree.{node, Label, Fields, done, ◌then◌, missing, one}
 use Rattle.es_tree.specs.declared.ast_type.AstType.{AstType}
 use Rattle.es_tree.specs.declared.ast_type.AstType.TheVariants.{Program, ExpressionStatement, VariableDeclaration, VariableDeclarator, Identifier, NumericLiteral, UnaryExpression, UpdateExpression, BinaryExpression, LogicalExpression, ConditionalExpression, AssignmentExpression, SequenceExpression, MemberExpression, CallExpression, NewExpression, ChainExpression, ParenthesizedExpression}
 use Rattle.es_runs.specs.Alike.{Level, Need, bad_names, object_level}
 use Rattle.es_runs.specs.Alike.Level.{no_evaluation, value_alone, an_operand_of_typeof, whole_reference, a_callee, a_target}
-use Rattle.es_runs.specs.Core.{World, Form, Meaning, Part, UnaryClass, unary_by, unary_class, void_form, meaning, meaning_of, parts, second, number_form, is_math, pow_form, static_form, member_form, of_one, of_two, of_three, of_many, of_one_many, of_declarator, of_program}
-use Rattle.es_runs.specs.Core.Form.{word, null_form, zero_form, void_zero, math_pow, member_call, member_bind, other}
-use Rattle.es_runs.specs.Core.Part.{absent, single, several}
+use Rattle.es_runs.specs.Core.{World, Form, Meaning, Part, UnaryClass, unary_by, unary_class, void_form, meaning, parts, second, is_math, pow_form, static_form, member_form, of_one, of_two, of_three, of_many, of_one_many, of_declarator, of_program}
+use Rattle.es_runs.specs.Core.Form.{word, zero_form, math_pow, member_call, member_bind, other}
+use Rattle.es_runs.specs.Core.Part.{single, several}
 use Rattle.es_runs.specs.Core.UnaryClass.{typeof_class, delete_class, void_class, not_class, asked_class}
 use Rattle.es_runs.proofs.Fresh.{or_left}
 use Rattle.es_runs.proofs.Temporary.{bytes_eq-equal}

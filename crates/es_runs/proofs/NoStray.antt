@@ -10,18 +10,18 @@ use Rattle.es_tree.specs.Tree.{done, ◌then◌}
 use Rattle.es_tree.specs.Tree.{missing, one, many, statements}
 use Rattle.es_tree.specs.Tree.{empty, ◌before◌}
 use Rattle.es_runs.specs.Machine.{Value, Values, M, ◌>>=◌, onward, return, stop, State, Stop, Result, Cell, Question, ask, cell_of, set_cell, is_callable, is_true, do_call, joined}
-use Rattle.es_runs.specs.Machine.Value.{undefined, null, boolean, number, bigint, text, host, bound, unset_error, constant_error}
+use Rattle.es_runs.specs.Machine.Value.{undefined, null, boolean, number, bigint, text, host, bound, unset_error, constant_error, own}
 use Rattle.es_runs.specs.Machine.Values.{none, ◌and◌}
 use Rattle.es_runs.specs.Machine.Question.{typeof_read, write, delete, put, call, construct, operator}
 use Rattle.es_runs.specs.Machine.State.{state}
-use Rattle.es_runs.specs.Machine.Stop.{cut, uncallable, throws, waits, unknown}
+use Rattle.es_runs.specs.Machine.Stop.{cut, uncallable, throws, waits, unknown, breaks, continues, out_of_turns, faults}
 use Rattle.es_runs.specs.Machine.Cell.{unset, holds}
 use Rattle.es_runs.specs.Machine.Result.{gives, stops}
 use Rattle.es_tree.specs.Names.{first_text as first}
 use Rattle.es_runs.specs.Core.{World, Binding, Reference, Meaning, Form, value, values, get_value, put_value, read_cell, write_name, change_cell, keep_cell, gives_value, nothing, key, member, receiver, run_call, plain_call, apply_call, apply_bind, method_call, unmarked_call, call_value, call_of, closed_result, chain, typeof_name, typeof_value, delete_value, UnaryClass, unary_by, unary_class, is_equality, asked_binary, equality, goes_right, logical, conditional, last_value, AssignClass, assigned, assign_class, without_last, update_at, in_order, initialise, settle, declared, Part, of_one, of_two, of_three, of_many, of_one_many, of_declarator, of_program, meaning_of, meaning, parts, part, meanings, second, flag, flag_after}
 use Rattle.es_runs.specs.Core.UnaryClass.{typeof_class, delete_class, void_class, not_class, asked_class}
 use Rattle.es_runs.specs.Core.AssignClass.{plainly, logically, compound}
-use Rattle.es_runs.specs.Core.Binding.{free, changeable, constant}
+use Rattle.es_runs.specs.Core.Binding.{free, changeable, constant, silent}
 use Rattle.es_runs.specs.Core.Reference.{named, property, plain}
 use Rattle.es_runs.specs.Core.Form.{null_form, void_zero, math_pow, member_call, member_bind}
 use Rattle.es_runs.specs.Core.Part.{absent, single, several}
@@ -53,6 +53,10 @@ back _ (stop_whole {m = throws u} h) = tt
 back _ (stop_whole {m = waits} h) = tt
 back _ (stop_whole {m = uncallable} h) = tt
 back _ (stop_whole {m = unknown} h) = tt
+back _ (stop_whole {m = breaks l} h) = tt
+back _ (stop_whole {m = continues l} h) = tt
+back _ (stop_whole {m = out_of_turns} h) = tt
+back _ (stop_whole {m = faults z} h) = tt
 back _ (stop_whole {m = cut} h) = h
 
 whole : {A : Type 0} (r : Result A) → Goes r → Whole r
@@ -61,6 +65,10 @@ whole (stops (throws u) s) h = stop_whole tt
 whole (stops waits s) h = stop_whole tt
 whole (stops uncallable s) h = stop_whole tt
 whole (stops unknown s) h = stop_whole tt
+whole (stops (breaks l) s) h = stop_whole tt
+whole (stops (continues l) s) h = stop_whole tt
+whole (stops out_of_turns s) h = stop_whole tt
+whole (stops (faults z) s) h = stop_whole tt
 whole (stops cut s) h = absurd h
 
 returns : {A : Type 0} (a : A) → Steady (return a)
@@ -87,17 +95,18 @@ module _ (w : World) where
   gets r s = whole (get_value w r s) (get_uncut w r s)
 
   changes : (x : Text) (u : Value) (c : Cell) → Steady (change_cell x u c)
-  changes x u unset = stopped (throws (unset_error x)) tt
+  changes x u unset = stopped (faults (unset_error x)) tt
   changes x u (holds o) = set_steady x u
 
   keeps : (x : Text) (c : Cell) → Steady (keep_cell x c)
-  keeps x unset = stopped (throws (unset_error x)) tt
-  keeps x (holds o) = stopped (throws (constant_error x)) tt
+  keeps x unset = stopped (faults (unset_error x)) tt
+  keeps x (holds o) = stopped (faults (constant_error x)) tt
 
   writes : (x : Text) (u : Value) (b : Binding) → Steady (write_name x u b)
   writes x u free = bind (asks (write x u)) (λ _. returns u)
   writes x u changeable = bind (cell_steady x) (changes x u)
   writes x u constant = bind (cell_steady x) (keeps x)
+  writes x u (silent z) = bind (cell_steady x) (keeps x)
 
   puts : (r : Reference) (u : Value) → Steady (put_value w r u)
   puts (named x) u = writes x u (w.scope x)
@@ -115,6 +124,7 @@ module _ (w : World) where
   calls (bound f q vs) r us = calls f q (joined vs us)
   calls (unset_error b) r us = asks (call (unset_error b) r us)
   calls (constant_error b) r us = asks (call (constant_error b) r us)
+  calls (own b) r us = asks (call (own b) r us)
 
   abbrev Sound : Meaning → Type 0
   Sound e = Steady e.reference
@@ -185,22 +195,23 @@ module _ (w : World) where
   closed_steady (stops uncallable s) = stop_whole tt
   closed_steady (stops cut s) = value_whole
   closed_steady (stops unknown s) = stop_whole tt
+  closed_steady (stops (breaks l) s) = stop_whole tt
+  closed_steady (stops (continues l) s) = stop_whole tt
+  closed_steady (stops out_of_turns s) = stop_whole tt
+  closed_steady (stops (faults z) s) = stop_whole tt
 
   chain_sound : (e : Meaning) → Sound (chain e)
   chain_sound e s = closed_steady (e.reference s)
 
+  reads : (x : Text) (c : Cell) → Steady (read_cell x c)
+  reads x unset = stopped (faults (unset_error x)) tt
+  reads x (holds u) = returns u
+
   typeof_name_steady : (x : Text) (b : Binding) → Steady (typeof_name x b)
   typeof_name_steady x free = asks (typeof_read x)
   typeof_name_steady x changeable = bind (bind (cell_steady x) (reads x)) (λ u. asks (operator (codes "typeof") (u and none)))
-    where
-      reads : (x : Text) (c : Cell) → Steady (read_cell x c)
-      reads x unset = stopped (throws (unset_error x)) tt
-      reads x (holds u) = returns u
   typeof_name_steady x constant = bind (bind (cell_steady x) (reads x)) (λ u. asks (operator (codes "typeof") (u and none)))
-    where
-      reads : (x : Text) (c : Cell) → Steady (read_cell x c)
-      reads x unset = stopped (throws (unset_error x)) tt
-      reads x (holds u) = returns u
+  typeof_name_steady x (silent z) = bind (bind (cell_steady x) (reads x)) (λ u. asks (operator (codes "typeof") (u and none)))
 
   typeof_steady : (r : Reference) → Steady (typeof_value w r)
   typeof_steady (named x) = typeof_name_steady x (w.scope x)

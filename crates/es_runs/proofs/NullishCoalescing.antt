@@ -1,6 +1,6 @@
 -- `l ?? r` and what it becomes are alike, at any place where no name that is taken stands.
 use Rattle.std.proofs.Common.{◌≡◌, ℕ, zero, suc, refl, ap, List, [], ◌∷◌, Option}
-use Rattle.std.specs.Prelude.{Bool, true, false, ◌||◌, not, codes}
+use Rattle.std.specs.Prelude.{Bool, true, false, ◌||◌, codes}
 use Rattle.es_tree.specs.Words.{Text}
 use Rattle.es_tree.specs.Names.{first_text as first}
 use Rattle.es_tree.specs.Tree.{Tree, node, Fields, done, ◌then◌, Field, missing, one, many, statements, Trees, empty, ◌before◌}
@@ -8,7 +8,7 @@ use Rattle.es_tree.specs.declared.ast_type.AstType.{AstType}
 use Rattle.es_tree.specs.declared.ast_type.AstType.TheVariants.{Identifier, ThisExpression}
 use Rattle.es_runs.specs.Alike.{Alike, Equal, Level, Need, SameWorld, needs, bad_names, is_bad, touches, touches_fields, touches_field, touches_nodes, set_cells, the_value}
 use Rattle.es_runs.specs.Alike.Level.{no_evaluation, value_alone, an_operand_of_typeof, whole_reference, a_callee, a_target}
-use Rattle.es_runs.specs.Core.{World, Meaning, value, literal, logical, is_free, meaning}
+use Rattle.es_runs.specs.Core.{World, Meaning, value, literal, logical, meaning}
 use Rattle.es_runs.specs.Core.Form.{other}
 use Rattle.es_runs.specs.Machine.{Value}
 use Rattle.es_runs.specs.Runs.{none_hidden}
@@ -66,9 +66,6 @@ none_frozen hidden frozen a_target x h = or_both (hidden x) false (or_left (hidd
 
 -- THE ROW
 
-bound_name : (b c : Bool) → c ≡ true → b ≡ not c → b ≡ false
-bound_name b c e d = rw (d, e) refl
-
 module _ (hidden steady : Text → Bool) (w v : World) (same : SameWorld hidden w v) where
   abbrev bad : Level → Text → Bool
   bad = bad_names hidden steady
@@ -95,5 +92,5 @@ nullish_coalescing_like bound steady in_use _ w v n _ _ place (reading_again {l 
     (this_steady (one_of []) w v place.same w.this v.this place.same.this (meaning w r) (meaning v r) (right_like (one_of []) steady w v place.same (node ThisExpression o fs) r place.untouched)))
 nullish_coalescing_like bound steady in_use _ w v n _ _ place (reading_again {l = node Identifier o fs} {r = r} texts again) =
     rw (ap first texts) (like_by_value (one_of []) w v place.same n _ _
-    (name_steady (one_of []) w v place.same (first o.texts) refl (bound_name (is_free (w.scope (first o.texts))) (bound (first o.texts)) (place.steady_bound (first o.texts) again) (place.binds (first o.texts))) (meaning w r) (meaning v r) (right_like (one_of []) steady w v place.same (node Identifier o fs) r place.untouched)))
+    (name_steady (one_of []) w v place.same (first o.texts) refl (place.binds (first o.texts) (place.steady_bound (first o.texts) again)) (meaning w r) (meaning v r) (right_like (one_of []) steady w v place.same (node Identifier o fs) r place.untouched)))
 nullish_coalescing_like bound steady in_use _ w v n _ _ place (reading_again {l = node _ o fs} {r = r} texts again) = absurd (cc again)

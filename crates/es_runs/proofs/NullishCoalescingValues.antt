@@ -8,14 +8,14 @@ use Rattle.es_runs.specs.Machine.Value.{undefined, null, boolean, number, unset_
 use Rattle.es_runs.specs.Machine.State.{state}
 use Rattle.es_runs.specs.Machine.Result.{gives, stops}
 use Rattle.es_runs.specs.Core.{World, Binding, Meaning, value, get_value, put_value, gives_value, as_plain, literal, name, conditional, logical, binary, unary, parenthesized, assignment, Form, meaning, goes_right, is_free, read_cell}
-use Rattle.es_runs.specs.Machine.Stop.{throws}
+use Rattle.es_runs.specs.Machine.Stop.{faults}
 use Rattle.es_runs.specs.Machine.Cell.{unset, holds}
-use Rattle.es_runs.specs.Core.Binding.{free, changeable, constant}
+use Rattle.es_runs.specs.Core.Binding.{free, changeable, constant, silent}
 use Rattle.es_runs.specs.Core.Reference.{named}
 use Rattle.es_runs.specs.Core.Form.{null_form, zero_form}
 use Rattle.es_runs.specs.Alike.{set_cells, Agree, Same, Alike, Equal, Need, Like, SameWorld}
 use Rattle.es_runs.specs.Alike.Agree.{agree}
-use Rattle.es_runs.specs.Alike.Same.{both_give, both_stop, outside}
+use Rattle.es_runs.specs.Alike.Same.{both_give, both_stop, outside, at_fault}
 use Rattle.es_runs.specs.Alike.Equal.{equal}
 use Rattle.es_runs.specs.Rules.{tested_by}
 use Rattle.es_runs.proofs.Congruence.{plain_like}
@@ -69,6 +69,7 @@ module _ (hidden : Text → Bool) (w v : World) (same : SameWorld hidden w v) (x
   after_left (both_give {a = u} equal (agree {ms = ms} {qs = qs} h g f)) = given u ms qs (g x is_hidden) (agree_stored hidden x u is_hidden h g)
   after_left (both_stop g) = both_stop g
   after_left outside = outside
+  after_left (at_fault h0) = at_fault h0
 
   pub nullish_alike : (a a' : Meaning) → Alike (set_cells hidden) Equal (value w a) (value v a') → Alike (set_cells hidden) Equal (value w (logical w (codes "??") a b)) (value v (tested_meaning v (stored v x a') (name x) b'))
   nullish_alike a a' h s t g = after_left (h s t g)
@@ -99,6 +100,7 @@ module _ (hidden : Text → Bool) (w v : World) (same : SameWorld hidden w v) wh
   cell_gives y w1 free e d c ms qs o k = cc
   cell_gives y w1 changeable e d c ms qs o k = rw (d, k)
   cell_gives y w1 constant e d c ms qs o k = rw (d, k)
+  cell_gives y w1 (silent z) e d c ms qs o k = rw (d, k)
 
   pub name_steady : (y : Text) → hidden y ≡ false → is_free (w.scope y) ≡ false → (b b' : Meaning) → Alike (set_cells hidden) Equal (value w b) (value v b') → Alike (set_cells hidden) Equal (value w (logical w (codes "??") (name y) b)) (value v (tested_meaning v (name y) (name y) b'))
   name_steady y e k b b' right _ _ (agree {c = c} {d = d} {ms = ms} {qs = qs} h g f) = at (c y) refl
@@ -110,5 +112,5 @@ module _ (hidden : Text → Bool) (w v : World) (same : SameWorld hidden w v) wh
       here_v o i = cell_gives y v (w.scope y) k (same.scope y e) d ms qs o (h y e ∙ i)
 
       at : (o : Cell) → c y ≡ o → Same (set_cells hidden) Equal (value w (logical w (codes "??") (name y) b) (state c ms qs)) (value v (tested_meaning v (name y) (name y) b') (state d ms qs))
-      at unset i = steady_stops (name y) (name y) b b' right (throws (unset_error y)) _ _ (agree h g f) (here_w unset i) (here_v unset i)
+      at unset i = steady_stops (name y) (name y) b b' right (faults (unset_error y)) _ _ (agree h g f) (here_w unset i) (here_v unset i)
       at (holds u) i = steady_gives (name y) (name y) b b' right u _ _ (agree h g f) (here_w (holds u) i) (here_v (holds u) i)

@@ -20,8 +20,9 @@ use Rattle.es_tree.specs.declared.table.Content.{Content}
 use Rattle.es_tree.specs.declared.table.Content.TheVariants.{Child as c-Child}
 use Rattle.es_tree.proofs.CoreBreaks.{core_kind, plain_form}
 use Rattle.es_tree.proofs.NodeForm.{node_form}
+use Rattle.es_runs.specs.Standing.{is_program_kind}
 use Rattle.es_runs.proofs.Named.{and_left, and_right}
-use Rattle.es_runs.proofs.Declarations.{is_program_kind, is_done}
+use Rattle.es_runs.proofs.Declarations.{is_done}
 use Rattle.es_runs.proofs.DeclaredNames.{program_kind}
 
 -- THE SHAPE OF LISTS

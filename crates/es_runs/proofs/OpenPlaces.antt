@@ -28,13 +28,14 @@ use Rattle.es_runs.specs.OpenSteps.TreesStep.{in_head, in_tail}
 use Rattle.es_runs.specs.OpenRules.{with_names, CoreRule}
 use Rattle.es_runs.specs.OpenRules.Replacing.{replaces}
 use Rattle.es_runs.specs.OpenRules.Writing.{writes}
+use Rattle.es_runs.specs.Standing.{is_program_kind}
 use Rattle.es_runs.proofs.Named.{and_left, and_right}
 use Rattle.es_runs.proofs.Kept.{trees_all}
 use Rattle.es_runs.proofs.CoreRows.{core_rule}
 use Rattle.es_runs.proofs.RowFacts.{is_row_kind}
 use Rattle.es_runs.proofs.RowKinds.{row_kind}
 use Rattle.es_runs.proofs.RowKeeps.{row_unlisted}
-use Rattle.es_runs.proofs.Declarations.{is_program_kind, is_done}
+use Rattle.es_runs.proofs.Declarations.{is_done}
 use Rattle.es_runs.proofs.OpenTrees.{closed-opened, closed-opened-trees}
 use Rattle.es_runs.proofs.OpenForm.{is_no_list, no_list, unlisted, childless, is_childless, is_unlisted, last_unlisted, one_list, has_one_list}
 

@@ -22,6 +22,7 @@ use Rattle.es_runs.specs.OpenSteps.Steps.{stays, goes}
 use Rattle.es_runs.specs.Rules.{OnePlace, pending, strays, strays_nodes}
 use Rattle.es_runs.specs.Runs.{cells_of, is_declared, outcome, run_where, SameRun, world_of}
 use Rattle.es_runs.specs.Runs.Outcome.{called_uncallable}
+use Rattle.es_runs.specs.Standing.{trees_stand, undeclaring}
 use Rattle.es_runs.proofs.CoreRules.{same_run_trans, still_callable}
 use Rattle.es_runs.proofs.Declarations.{program_parts, declarators, body_of}
 use Rattle.es_runs.proofs.FreshNames.{used_after}
@@ -33,7 +34,6 @@ use Rattle.es_runs.proofs.OpenPlaces.{RuleOf, own_pending, written_in, ProgramSt
 use Rattle.es_runs.proofs.OpenPlaces.ProgramStep.{replaced, wrote}
 use Rattle.es_runs.proofs.RowTidy.{step_tidy}
 use Rattle.es_runs.proofs.Temporary.{bytes_eq-flip}
-use Rattle.es_runs.proofs.Undeclaring.{undeclaring, trees_stand}
 use Rattle.es_runs.proofs.Written.{all_pending, declarator_nodes, one_of, pending_vars, plain, scope_of-all_pending, scope_of-vars, vars, written_runs}
 
 -- OPEN CORE PROGRAMS

@@ -14,7 +14,7 @@ use Rattle.es_runs.specs.Alike.Agree.{agree}
 use Rattle.es_runs.specs.Alike.Equal.{equal}
 use Rattle.es_runs.specs.Alike.Level.{no_evaluation, value_alone, an_operand_of_typeof}
 use Rattle.es_runs.specs.Alike.LikeCallee.{by_call}
-use Rattle.es_runs.specs.Alike.Same.{both_give, both_stop, outside}
+use Rattle.es_runs.specs.Alike.Same.{both_give, both_stop, outside, at_fault}
 use Rattle.es_runs.specs.Alike.SameCalled.{same_called, bound_called}
 use Rattle.es_runs.specs.Alike.SameReference.{same_name, same_property, same_plain}
 use Rattle.es_runs.specs.Core.{World, Called, Meaning, Reference, value, get_value, gives_value, apply_bind, callee_from, chain, delete_value, key, method_call, receiver, tested_callee, typeof_value, unary_class, is_free, meaning, flag, flag_after}
@@ -31,6 +31,7 @@ use Rattle.es_runs.specs.OptionalChaining.BoundCallee.{no_member, to_object}
 use Rattle.es_runs.specs.OptionalChaining.OptionalChainingRule.{by_tests, as_callee, in_delete}
 use Rattle.es_runs.specs.Rules.{member_node, strays, void_zero_node}
 use Rattle.es_runs.specs.Runs.{cells, identifier}
+use Rattle.es_runs.specs.Standing.{undeclaring}
 use Rattle.es_runs.proofs.Basic.{ask_alike, get_alike, onward_same, then_alike}
 use Rattle.es_runs.proofs.Congruence.{delete_alike, plain_like, typeof_alike}
 use Rattle.es_runs.proofs.Duplicated.{AllSet, kept_agree, now_kept, now_set, read_names}
@@ -42,7 +43,6 @@ use Rattle.es_runs.proofs.RowPlaces.{RowPlace, IsRuleAlikeWhere}
 use Rattle.es_runs.proofs.Stripped.{StrippedFree, stripped_free, stripped_reference}
 use Rattle.es_runs.proofs.Temporary.{bytes_eq-flip, onward_onward, plain_again}
 use Rattle.es_runs.proofs.Uncut.{NeverCut, bind_uncut, get_uncut}
-use Rattle.es_runs.proofs.Undeclaring.{undeclaring}
 use Rattle.es_runs.proofs.Written.{one_of}
 use Rattle.es_runs.proofs.OptionalChainingCalls.{NoProperty, passes_twice}
 use Rattle.es_runs.proofs.OptionalChainingEnds.{ended, short_then, short_value}
@@ -178,6 +178,7 @@ module _ (no_all : Bool) (hidden steady bound in_use : Text → Bool) (w v : Wor
         stays z (inr e) = k z e
     got_bound r u d set again kept (both_stop g) = both_stop (kept_agree hidden steady d set _ _ g)
     got_bound r u d set again kept outside = outside
+    got_bound r u d set again kept (at_fault h0) = at_fault h0
 
     from_held : (computed : Bool) (p r : Tree) → ((d : Text → Cell) → Like (kept_cells hidden steady d) w v (key_need computed) (meaning w p) (meaning v p)) → ((z : Text) → read_names r z ≡ true → (hidden z ≡ true) ⊎ (steady z ≡ true)) → {q n : Result Value} → Held hidden v (meaning v r) (read_names r) q n →
         Same H SameCalled (onward (onward q (λ u. key w computed (meaning w p) >>= λ k. return (property u k))) (callee_from w)) (onward (onward (onward n (λ u. key v computed (meaning v p) >>= λ k. return (property u k))) (get_value v)) (bound_rest r))
@@ -189,6 +190,7 @@ module _ (no_all : Bool) (hidden steady bound in_use : Text → Bool) (w v : Wor
         keyed u d set again (both_give {a = k} {s = s} {t = t} equal g) = got_bound r u d set again kept (ask_alike (kept_cells hidden steady d) (get u k) s t g)
         keyed u d set again (both_stop g) = both_stop (kept_agree hidden steady d set _ _ g)
         keyed u d set again outside = outside
+        keyed u d set again (at_fault h0) = at_fault h0
     from_held computed p r keys kept (neither g) = both_stop g
     from_held computed p r keys kept not_called = outside
 
@@ -259,10 +261,10 @@ module _ (no_all : Bool) (bound steady in_use : Text → Bool) where
 
   module _ (xs : List Text) (w v : World) (n : Need) (a : Tree) (place : RowPlace bound steady w v xs n a) where
     steady_here : (y : Text) → steady y ≡ true → is_free (w.scope y) ≡ false
-    steady_here y h = rw (place.binds y, place.steady_bound y h) refl
+    steady_here y h = place.binds y (place.steady_bound y h)
 
     bound_here : (y : Text) → bound y ≡ true → is_free (w.scope y) ≡ false
-    bound_here y h = rw (place.binds y, h) refl
+    bound_here y h = place.binds y h
 
     abbrev SeenHere : Tree → Type 0
     SeenHere = Seen (one_of xs) steady w v place.same steady_here

@@ -6,7 +6,7 @@ use Rattle.es_tree.specs.Names.{first_text}
 use Rattle.es_tree.specs.Tree.{Tree, Label, Fields}
 use Rattle.es_runs.specs.Alike.{Frame, set_cells, kept_cells, Agree, Same, Alike, Equal, Like, SameReference, SameWorld, key_need, the_value}
 use Rattle.es_runs.specs.Alike.Equal.{equal}
-use Rattle.es_runs.specs.Alike.Same.{both_give, both_stop, outside}
+use Rattle.es_runs.specs.Alike.Same.{both_give, both_stop, outside, at_fault}
 use Rattle.es_runs.specs.Alike.SameReference.{same_plain}
 use Rattle.es_runs.specs.Core.{World, Meaning, Reference, value, values, get_value, as_plain, cut_where, key, member, name, call_of, plain_call, run_call, apply_call, is_free}
 use Rattle.es_runs.specs.Core.Binding.{changeable}
@@ -105,6 +105,7 @@ module _ (hidden steady : Text → Bool) (w v : World) (same : SameWorld hidden 
           (λ f s2 t2 a e same_cells. member_called c c_hidden r f u s2 t2 a e (again t2 (λ z i. same_cells z (kept z i) (others z i)))))
       keyed u d set again (both_stop g) = both_stop (kept_agree hidden steady d set _ _ g)
       keyed u d set again outside = outside
+      keyed u d set again (at_fault h0) = at_fault h0
 
       pub from_object : (computed : Bool) (p p' : Meaning) → ((d : Text → Cell) → Like (K d) w v (key_need computed) p p') → {m q : Result Value} → Held hidden v r names m q →
           Same F (SameReference F) (onward (onward (onward m (λ u. key w computed p >>= λ k. return (property u k))) (plain_call w true es)) as_plain)

@@ -3,12 +3,12 @@ use Rattle.std.proofs.Common.{◌≡◌, refl, List, [], ◌∷◌, ap, sym, sub
 use Rattle.std.specs.Prelude.{Bool, true, false, if◌then◌else◌}
 use Rattle.es_tree.specs.Tree.{Tree, Label}
 use Rattle.es_runs.specs.Alike.{Frame, Same, Alike}
-use Rattle.es_runs.specs.Alike.Same.{both_give, both_stop, outside}
+use Rattle.es_runs.specs.Alike.Same.{both_give, both_stop, outside, at_fault}
 use Rattle.es_runs.specs.Core.{World, Reference, Meaning, value, as_plain, chain, closed_result, meaning}
 use Rattle.es_runs.specs.Core.Reference.{plain}
 use Rattle.es_runs.specs.Machine.{Value, M, ◌>>=◌, onward, stop, State, Result, is_true}
 use Rattle.es_runs.specs.Machine.Value.{undefined}
-use Rattle.es_runs.specs.Machine.Stop.{throws, waits, uncallable, cut, unknown}
+use Rattle.es_runs.specs.Machine.Stop.{throws, waits, uncallable, cut, unknown, breaks, continues, out_of_turns, faults}
 use Rattle.es_runs.specs.Machine.Result.{gives, stops}
 use Rattle.es_runs.specs.OptionalChaining.{has_tests, joined_by_or, where_short}
 use Rattle.es_runs.proofs.NoStray.{value_uncut}
@@ -29,6 +29,10 @@ instead_goes after (stops waits s) h = refl
 instead_goes after (stops uncallable s) h = refl
 instead_goes after (stops cut s) h = absurd h
 instead_goes after (stops unknown s) h = refl
+instead_goes after (stops (breaks l) s) h = refl
+instead_goes after (stops (continues l) s) h = refl
+instead_goes after (stops out_of_turns s) h = refl
+instead_goes after (stops (faults z) s) h = refl
 
 -- what is done with a chain's reference, from what is done with its content's
 chain_then : {A : Type 0} (k : Reference → M A) → ((r : Reference) → NeverCut (k r)) → (q : Result Reference) → onward (closed_result q) k ≡ instead (k (plain undefined)) (onward q k)
@@ -38,6 +42,10 @@ chain_then k h (stops waits s) = refl
 chain_then k h (stops uncallable s) = refl
 chain_then k h (stops cut s) = refl
 chain_then k h (stops unknown s) = refl
+chain_then k h (stops (breaks l) s) = refl
+chain_then k h (stops (continues l) s) = refl
+chain_then k h (stops out_of_turns s) = refl
+chain_then k h (stops (faults z) s) = refl
 
 module _ (F : Frame) {A B : Type 0} (R : A → B → Type 0) where
   gone : (after : State → Result A) {r : Result A} {q : Result B} → Goes q → Same F R r q → Same F R (instead after r) q
@@ -46,13 +54,19 @@ module _ (F : Frame) {A B : Type 0} (R : A → B → Type 0) where
   gone after h (both_stop {w = waits} g) = both_stop g
   gone after h (both_stop {w = uncallable} g) = both_stop g
   gone after h (both_stop {w = unknown} g) = both_stop g
+  gone after h (both_stop {w = breaks l} g) = both_stop g
+  gone after h (both_stop {w = continues l} g) = both_stop g
+  gone after h (both_stop {w = out_of_turns} g) = both_stop g
+  gone after h (both_stop {w = faults z} g) = both_stop g
   gone after h (both_stop {w = cut} g) = absurd h
   gone after h outside = outside
+  gone after h (at_fault h0) = at_fault h0
 
   module _ (v : World) (after : State → Result A) (short long : M B) (long_goes : NeverCut long) (short_same : Alike F R after short) where
     cut_here : (t : State) {r : Result A} → Same F R r (stops cut t) → Same F R (instead after r) (short t)
     cut_here t (both_stop {s = s} g) = short_same s t g
     cut_here t outside = outside
+    cut_here t (at_fault h0) = at_fault h0
 
     -- tests that cut short choose the short side instead
     settled : (ts : List Tree) → AllTidy ts → (r : Result A) (t : State) → Same F R r (passes v ts long t) → Same F R (instead after r) (tries v ts short long t)

@@ -15,9 +15,8 @@ use Rattle.es_runs.specs.Core.UnaryClass.{typeof_class, delete_class, void_class
 use Rattle.es_runs.specs.Machine.{Value, M, onward, State, Result, is_nullish}
 use Rattle.es_runs.specs.Machine.Result.{gives, stops}
 use Rattle.es_runs.specs.OptionalChaining.{call_at, is_chain_kind, is_link, is_member}
-use Rattle.es_runs.proofs.Declarations.{is_declaration}
+use Rattle.es_runs.specs.Standing.{fields_stand, is_declaration, is_formed, is_linked, is_placed, may_stand, undeclaring}
 use Rattle.es_runs.proofs.Named.{and_left, and_right}
-use Rattle.es_runs.proofs.Undeclaring.{fields_stand, is_formed, is_linked, is_placed, may_stand, undeclaring}
 use Rattle.es_runs.proofs.OptionalChainingCalls.{NoProperty}
 
 -- a result that isn't a name

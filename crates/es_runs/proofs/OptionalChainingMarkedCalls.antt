@@ -9,7 +9,7 @@ use Rattle.es_tree.specs.Parens.{without_parens}
 use Rattle.es_tree.specs.Tree.{Tree, node, Label, done, ◌then◌, one, many, Trees, ◌before◌}
 use Rattle.es_tree.specs.declared.ast_type.AstType.TheVariants.{CallExpression, Identifier, MemberExpression}
 use Rattle.es_runs.specs.Alike.{Frame, set_cells, Agree, Same, Alike, SameReference, SameWorld, the_value}
-use Rattle.es_runs.specs.Alike.Same.{both_give, both_stop, outside}
+use Rattle.es_runs.specs.Alike.Same.{both_give, both_stop, outside, at_fault}
 use Rattle.es_runs.specs.Alike.SameReference.{same_name, same_property, same_plain}
 use Rattle.es_runs.specs.Core.{World, Meaning, Reference, value, get_value, as_plain, cut_where, key, member, name, call_of, plain_call, run_call, is_free, meaning, meanings, flag, flag_after}
 use Rattle.es_runs.specs.Core.Binding.{changeable}
@@ -42,6 +42,7 @@ unreceived_source F w es (both_give same_property g) h = absurd h
 unreceived_source F w es (both_give same_plain g) h = refl
 unreceived_source F w es (both_stop g) h = refl
 unreceived_source F w es outside h = refl
+unreceived_source F w es (at_fault h0) h = refl
 
 module _ (no_all : Bool) (hidden steady bound in_use : Text → Bool) (w v : World) (counts : v.counts_all ≡ not no_all) (same : SameWorld hidden w v) (vars : (y : Text) → hidden y ≡ true → v.scope y ≡ changeable) (steady_bound : (y : Text) → steady y ≡ true → is_free (w.scope y) ≡ false) (binds : (y : Text) → bound y ≡ true → is_free (w.scope y) ≡ false) where
   abbrev F : Frame

@@ -16,7 +16,7 @@ use Rattle.es_runs.specs.Core.Binding.{changeable}
 use Rattle.es_runs.specs.Core.Form.{word}
 use Rattle.es_runs.specs.Core.Reference.{property}
 use Rattle.es_runs.specs.Machine.{Value, M, ◌>>=◌, onward, return, State, Result, is_nullish}
-use Rattle.es_runs.specs.Machine.Stop.{throws, waits, uncallable, cut, unknown}
+use Rattle.es_runs.specs.Machine.Stop.{throws, waits, uncallable, cut, unknown, breaks, continues, out_of_turns, faults}
 use Rattle.es_runs.specs.Machine.Result.{gives, stops}
 use Rattle.es_runs.specs.OptionalChaining.{Way, is_chain_kind, is_eval, is_link, is_member, is_name_among, has_tests, member_at, call_method, null_checks, Tested, Walked}
 use Rattle.es_runs.specs.OptionalChaining.Tested.{as_name, in_holder, in_temporary}
@@ -25,11 +25,11 @@ use Rattle.es_runs.specs.OptionalChaining.Walked.{base, plain_member, plain_call
 use Rattle.es_runs.specs.Duplication.{has_no_fields}
 use Rattle.es_runs.specs.Rules.{assign_node, strays}
 use Rattle.es_runs.specs.Runs.{identifier, made}
+use Rattle.es_runs.specs.Standing.{undeclaring}
 use Rattle.es_runs.proofs.Fresh.{or_left}
 use Rattle.es_runs.proofs.Named.{among-append, and_left, and_right}
 use Rattle.es_runs.proofs.Stripped.{StrippedFree, single_parens, single_reference, stripped_free, stripped_reference}
 use Rattle.es_runs.proofs.Temporary.{bytes_eq-self}
-use Rattle.es_runs.proofs.Undeclaring.{undeclaring}
 use Rattle.es_runs.proofs.OptionalChainingCalls.{NoProperty}
 use Rattle.es_runs.proofs.OptionalChainingForms.{NoMath, bound_no_math, marked_form, member_no_math}
 use Rattle.es_runs.proofs.OptionalChainingKinds.{call_plain, chain_content, first_part, is_declarator, unreceived}
@@ -93,6 +93,10 @@ closed_value_tested w k (stops (throws u) s) = refl
 closed_value_tested w k (stops waits s) = refl
 closed_value_tested w k (stops uncallable s) = refl
 closed_value_tested w k (stops unknown s) = refl
+closed_value_tested w k (stops (breaks l) s) = refl
+closed_value_tested w k (stops (continues l) s) = refl
+closed_value_tested w k (stops out_of_turns s) = refl
+closed_value_tested w k (stops (faults z) s) = refl
 
 closed_callee_tested : (w : World) (es : List Meaning) (q : Result Reference) → onward (closed_result q) (run_plain w true es) ≡ onward q (run_plain w true es)
 closed_callee_tested w es (gives r s) = refl
@@ -101,6 +105,10 @@ closed_callee_tested w es (stops (throws u) s) = refl
 closed_callee_tested w es (stops waits s) = refl
 closed_callee_tested w es (stops uncallable s) = refl
 closed_callee_tested w es (stops unknown s) = refl
+closed_callee_tested w es (stops (breaks l) s) = refl
+closed_callee_tested w es (stops (continues l) s) = refl
+closed_callee_tested w es (stops out_of_turns s) = refl
+closed_callee_tested w es (stops (faults z) s) = refl
 
 cut_return : {A : Type 0} (k : Value → M A) (q : Result Value) → onward q (λ u. cut_where (is_nullish u) (k u)) ≡ onward (onward q (λ u. cut_where (is_nullish u) (return u))) k
 cut_return {A} k (gives u s) = at (is_nullish u)

@@ -9,7 +9,7 @@ use Rattle.es_tree.specs.declared.ast_type.AstType.TheVariants.{Identifier, Supe
 use Rattle.es_runs.specs.Alike.{Frame, set_cells, Agree, Same, Alike, Equal, SameWorld}
 use Rattle.es_runs.specs.Alike.Agree.{agree}
 use Rattle.es_runs.specs.Alike.Equal.{equal}
-use Rattle.es_runs.specs.Alike.Same.{both_give, both_stop, outside}
+use Rattle.es_runs.specs.Alike.Same.{both_give, both_stop, outside, at_fault}
 use Rattle.es_runs.specs.Core.{World, Meaning, Form, value, put_value, name, literal, nothing, is_free, meaning, read_cell}
 use Rattle.es_runs.specs.Core.Binding.{changeable}
 use Rattle.es_runs.specs.Core.Form.{other}
@@ -96,6 +96,7 @@ module _ (hidden steady : Text → Bool) (w v : World) (same : SameWorld hidden 
     held_name ts t _ e (both_give {a = u} {t = z} equal g) = held u (gives_again u z (passes_ends v (cells z y ≡ holds u) ts (value v (name y)) t u z e (λ s k. gave_cell s u z k))) g
     held_name ts t _ e (both_stop g) = neither g
     held_name ts t _ e outside = not_called
+    held_name ts t _ e (at_fault h0) = absurd (cc h0)
 
   -- A TEMPORARY
 
@@ -104,6 +105,7 @@ module _ (hidden steady : Text → Bool) (w v : World) (same : SameWorld hidden 
       rw (put_temporary v x u d ms qs (vars x h) (g x h)) (held u (holds_stored hidden steady v x h (vars x h) u d) (agree_stored hidden x u h f g))
   held_temporary x h (both_stop g) = neither g
   held_temporary x h outside = not_called
+  held_temporary x h (at_fault h0) = absurd (cc h0)
 
   -- THIS
 
@@ -115,12 +117,14 @@ module _ (hidden steady : Text → Bool) (w v : World) (same : SameWorld hidden 
       this_again s k r h = ap (λ q. gives (given q) r) k
   held_this f ts t _ e (both_stop g) = neither g
   held_this f ts t _ e outside = not_called
+  held_this f ts t _ e (at_fault h0) = absurd (cc h0)
 
   -- what gives nothing
   held_nothing : (again : Meaning) (ts : List Tree) (t : State) {p : Result Value} (q : Result Value) → passes v ts (value v nothing) t ≡ q → Same F Equal p q → Held hidden v again none_hidden p q
   held_nothing again ts t _ e (both_give {a = u} {t = z} equal g) = passes_ends v (Held hidden v again none_hidden (gives u _) (gives u z)) ts (value v nothing) t u z e (λ s k. absurd (cc k))
   held_nothing again ts t _ e (both_stop g) = neither g
   held_nothing again ts t _ e outside = not_called
+  held_nothing again ts t _ e (at_fault h0) = absurd (cc h0)
 
   -- WHAT RECEIVES
 

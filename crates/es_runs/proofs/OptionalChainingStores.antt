@@ -8,7 +8,7 @@ use Rattle.es_tree.specs.declared.ast_type.AstType.TheVariants.{Identifier}
 use Rattle.es_runs.specs.Alike.{Frame, set_cells, kept_cells, Agree, Same, Alike, Equal, SameWorld}
 use Rattle.es_runs.specs.Alike.Agree.{agree}
 use Rattle.es_runs.specs.Alike.Equal.{equal}
-use Rattle.es_runs.specs.Alike.Same.{both_give, both_stop, outside}
+use Rattle.es_runs.specs.Alike.Same.{both_give, both_stop, outside, at_fault}
 use Rattle.es_runs.specs.Core.{World, value, cut_where, name, is_free, meaning, read_cell}
 use Rattle.es_runs.specs.Core.Binding.{changeable}
 use Rattle.es_runs.specs.Machine.{Value, M, ◌>>=◌, onward, stop, State, Result, Cell, Move, Question, with_cell, is_nullish}
@@ -54,6 +54,7 @@ module _ (hidden steady : Text → Bool) (w v : World) (same : SameWorld hidden 
         others z (inr i) n = stored_elsewhere x z u e n ∙ f z i
     kept_store d set (both_stop g) k m then_same = both_stop (kept_agree hidden steady d set _ _ g)
     kept_store d set outside k m then_same = outside
+    kept_store d set (at_fault h0) k m then_same = at_fault h0
 
     pub store : {p q : Result Value} → Same F Equal p q → {A B : Type 0} {Q : A → B → Type 0} (k : Value → M A) (m : M B) → ((u : Value) (s t : State) → Agree F s t → cells t x ≡ holds u → Same F Q (k u s) (m t)) →
         Same F Q (onward p (λ u. cut_where (is_nullish u) (k u))) (onward q (store_and_test no_all v x m))
@@ -62,6 +63,7 @@ module _ (hidden steady : Text → Bool) (w v : World) (same : SameWorld hidden 
         rw (stored_value no_all v x m u e ms qs (vars x x_hidden) (g x x_hidden)) (cut_both (is_nullish u) (k u) m _ _ a (then_same u (state c ms qs) (state (with_cell x u e) ms qs) a (stored_here x u e)))
     store (both_stop g) k m then_same = both_stop g
     store outside k m then_same = outside
+    store (at_fault h0) k m then_same = at_fault h0
 
     -- after the tests so far
     pub stored_alike : v.counts_all ≡ not no_all → (ts : List Tree) (e : Tree) {A B : Type 0} {Q : A → B → Type 0} (k : Value → M A) (n : M Value) (m : M B) → Alike F Equal n (passes v ts (value v (meaning v e))) → ((u : Value) (s t : State) → Agree F s t → cells t x ≡ holds u → Same F Q (k u s) (m t)) →
@@ -89,8 +91,10 @@ module _ (hidden steady : Text → Bool) (w v : World) (same : SameWorld hidden 
         Same F Q (onward p (λ u. cut_where (is_nullish u) (k u))) (onward (read_cell y o (state c ms qs)) (value_tested no_all v (node Identifier l fs) (stop cut) m))
     read_tested no_all k m c ms qs unset e (both_stop g) then_same = both_stop g
     read_tested no_all k m c ms qs unset e outside then_same = outside
+    read_tested no_all k m c ms qs unset e (at_fault h0) then_same = at_fault h0
     read_tested no_all k m c ms qs (holds u) e (both_give {s = s} equal g) then_same = rw (decided no_all m u c ms qs e) (cut_both (is_nullish u) (k u) m s (state c ms qs) g (then_same u s (state c ms qs) g e))
     read_tested no_all k m c ms qs (holds u) e outside then_same = outside
+    read_tested no_all k m c ms qs (holds u) e (at_fault h0) then_same = at_fault h0
 
     pub name_alike : (no_all : Bool) → v.counts_all ≡ not no_all → {A B : Type 0} {Q : A → B → Type 0} (k : Value → M A) (n : M Value) (m : M B) → Alike F Equal n (value v (name y)) → ((u : Value) (s t : State) → Agree F s t → cells t y ≡ holds u → Same F Q (k u s) (m t)) →
         Alike F Q (n >>= λ u. cut_where (is_nullish u) (k u)) (passes v (null_checks no_all (node Identifier l fs) (node Identifier l fs)) m)

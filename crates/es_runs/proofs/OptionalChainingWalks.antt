@@ -20,6 +20,7 @@ use Rattle.es_runs.specs.Machine.{Value, M, ◌>>=◌, onward, return, State, Ce
 use Rattle.es_runs.specs.OptionalChaining.{Way, start, is_link, has_tests, member_at, call_at}
 use Rattle.es_runs.specs.Rules.{strays, strays_nodes}
 use Rattle.es_runs.specs.Runs.{none_hidden}
+use Rattle.es_runs.specs.Standing.{undeclaring}
 use Rattle.es_runs.proofs.Basic.{get_alike, onward_same}
 use Rattle.es_runs.proofs.NullishCoalescing.{less_touched, none_frozen}
 use Rattle.es_runs.proofs.CoreRules.{unnamed_like, unnamed_words}
@@ -30,7 +31,6 @@ use Rattle.es_runs.proofs.Lists.AllLike.{no_more, one_more}
 use Rattle.es_runs.proofs.MathWords.{NoMathWord}
 use Rattle.es_runs.proofs.Named.{or_both}
 use Rattle.es_runs.proofs.Stripped.{StrippedFree, single_parens, stripped_free, stripped_reference, undeclaring_single}
-use Rattle.es_runs.proofs.Undeclaring.{undeclaring}
 use Rattle.es_runs.proofs.OptionalChainingForms.{NoMath, behind, call_behind, member_no_math}
 use Rattle.es_runs.proofs.OptionalChainingKinds.{first_part}
 use Rattle.es_runs.proofs.OptionalChainingNeeds.{evaluates, object_free, read_as}

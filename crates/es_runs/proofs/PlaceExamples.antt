@@ -4,20 +4,20 @@ use Rattle.std.proofs.Common.{◌≡◌, refl, List, [], ◌∷◌, ◌++◌, So
 use Rattle.std.specs.Prelude.{Bool, true, false, codes, not}
 use Rattle.es_tree.specs.Words.{Text}
 use Rattle.es_tree.specs.Names.{first_text}
-use Rattle.es_tree.specs.Scopes.{Declared, declared_of}
+use Rattle.es_tree.specs.Scopes.{declared_of}
 use Rattle.es_tree.specs.Tree.{Tree, node, Label, done, ◌then◌, one, empty, trees}
 use Rattle.es_tree.specs.declared.ast_type.AstType.TheVariants.{Identifier, LogicalExpression}
 use Rattle.es_runs.specs.Alike.{the_value}
 use Rattle.es_runs.specs.Core.{World, Binding, Meaning, value, meaning, name, logical, read_cell, is_free}
-use Rattle.es_runs.specs.Core.Binding.{free, changeable, constant}
+use Rattle.es_runs.specs.Core.Binding.{free, changeable, constant, silent}
 use Rattle.es_runs.specs.Machine.{Value, Cell, Move, Question, State, Stop}
 use Rattle.es_runs.specs.Machine.Value.{undefined, null, unset_error}
 use Rattle.es_runs.specs.Machine.Cell.{unset, holds}
 use Rattle.es_runs.specs.Machine.State.{state}
-use Rattle.es_runs.specs.Machine.Stop.{throws}
+use Rattle.es_runs.specs.Machine.Stop.{faults}
 use Rattle.es_runs.specs.Machine.Result.{gives, stops}
 use Rattle.es_runs.specs.Rules.{tested}
-use Rattle.es_runs.specs.Runs.{IsWorldOf, RunAlike, Swapped, is_declared, made, program, scope_of, stands, var_statement}
+use Rattle.es_runs.specs.Runs.{RunAlike, Swapped, is_declared, made, program, scope_of, stands, var_statement}
 use Rattle.es_runs.proofs.Laws.{law_fresh_proof, law_place_proof}
 use Rattle.es_runs.proofs.NullishCoalescingValues.{tested_meaning}
 
@@ -30,6 +30,7 @@ reads_cell : (w : World) (y : Text) (b : Binding) → is_free b ≡ false → w.
 reads_cell w y free e d c ms qs o k = cc
 reads_cell w y changeable e d c ms qs o k = rw (d, k)
 reads_cell w y constant e d c ms qs o k = rw (d, k)
+reads_cell w y (silent z) e d c ms qs o k = rw (d, k)
 
 module _ (w : World) (y : Text) (r : Meaning) where
   read_twice : (u : Value) (s : State) → value w (name y) s ≡ gives u s → value w (tested_meaning w (name y) (name y) r) s ≡ value w (logical w (codes "??") (name y) r) s
@@ -44,7 +45,7 @@ module _ (w : World) (y : Text) (r : Meaning) where
   bound_twice bound (state c ms qs) = at (c y) refl
     where
       at : (o : Cell) → c y ≡ o → value w (tested_meaning w (name y) (name y) r) (state c ms qs) ≡ value w (logical w (codes "??") (name y) r) (state c ms qs)
-      at unset i = unset_twice (throws (unset_error y)) (state c ms qs) (reads_cell w y (w.scope y) bound refl c ms qs unset i)
+      at unset i = unset_twice (faults (unset_error y)) (state c ms qs) (reads_cell w y (w.scope y) bound refl c ms qs unset i)
       at (holds u) i = read_twice u (state c ms qs) (reads_cell w y (w.scope y) bound refl c ms qs (holds u) i)
 
 not_free : (b : Bool) → not b ≡ true → b ≡ false

@@ -15,12 +15,12 @@ use Rattle.es_runs.specs.Rules.OnePlace.{this_place, below}
 use Rattle.es_runs.specs.Rules.OneField.{first_field, later_field}
 use Rattle.es_runs.specs.Rules.InField.{in_one, in_many, in_statements}
 use Rattle.es_runs.specs.Rules.OneNode.{first_node, later_node}
+use Rattle.es_runs.specs.Standing.{undeclaring}
 use Rattle.es_runs.proofs.Kept.{below_names}
 use Rattle.es_runs.proofs.Named.{and_left, and_right, or_first, or_second, among_first, among_second, core_exports}
 use Rattle.es_runs.proofs.RowFacts.{is_row_kind}
 use Rattle.es_runs.proofs.RowKinds.{RowKinds}
 use Rattle.es_runs.proofs.RowNames.{same_names, row_no_name}
-use Rattle.es_runs.proofs.Undeclaring.{undeclaring}
 
 module _ (hidden steady : Text → Bool) where
   -- Its nodes are core, declarations stand where they may, no hidden name is among these names, and no steady one is written.

@@ -8,7 +8,7 @@ use Rattle.es_tree.specs.Walks.{all_nodes}
 use Rattle.es_runs.specs.Alike.{Like, Need, SameWorld, bad_names, set_cells, touches}
 use Rattle.es_runs.specs.Core.{World, is_free, meaning}
 use Rattle.es_runs.specs.Core.Binding.{changeable}
-use Rattle.es_runs.proofs.Undeclaring.{undeclaring}
+use Rattle.es_runs.specs.Standing.{undeclaring}
 use Rattle.es_runs.proofs.Written.{one_of}
 
 -- The result's world v is w with a cell for each of the names xs; w binds the names `bound`, of which nothing in the node
@@ -18,7 +18,7 @@ pub record RowPlace (bound steady : Text → Bool) (w v : World) (xs : List Text
   pub same : SameWorld (one_of xs) w v
   pub math : one_of xs (codes "Math") ≡ false
   pub cells : (x : Text) → one_of xs x ≡ true → v.scope x ≡ changeable
-  pub binds : (y : Text) → is_free (w.scope y) ≡ not (bound y)
+  pub binds : (y : Text) → bound y ≡ true → is_free (w.scope y) ≡ false
   pub steady_bound : (y : Text) → steady y ≡ true → bound y ≡ true
   pub core : all_nodes is_core_node a ≡ true
   pub placed : all_nodes undeclaring a ≡ true

@@ -20,7 +20,8 @@ use Rattle.es_runs.specs.Open.OpenTrees.{nil, ◌next◌}
 use Rattle.es_runs.specs.OpenRules.{CoreRule}
 use Rattle.es_runs.specs.OpenSteps.{Whole, Reached, whole_in, whole_of}
 use Rattle.es_runs.specs.StaticLaws.{written_out, written_out_fields, written_out_field, written_out_trees, LawStaticRules, LawReachedRules}
-use Rattle.es_runs.proofs.Declarations.{is_done, is_program_kind}
+use Rattle.es_runs.specs.Standing.{is_program_kind, undeclaring}
+use Rattle.es_runs.proofs.Declarations.{is_done}
 use Rattle.es_runs.proofs.DeclaredNames.{core-bare}
 use Rattle.es_runs.proofs.FormUndeclaring.{undeclaring-bare}
 use Rattle.es_runs.proofs.Named.{and_left, and_right}
@@ -35,7 +36,6 @@ use Rattle.es_runs.proofs.StaticKeeps.{Agree, each_own, names_agree, both_keep, 
 use Rattle.es_runs.proofs.StaticNames.{to_name, program_names}
 use Rattle.es_runs.proofs.StaticPrograms.{IsStatic, all_static, plain_names, written_keeps, written_agree}
 use Rattle.es_runs.proofs.StaticVisits.{IsPlaced, placed_breaks}
-use Rattle.es_runs.proofs.Undeclaring.{undeclaring}
 use Rattle.es_runs.proofs.Written.{plain}
 
 -- WRITING ALL THAT IS PENDING

@@ -12,10 +12,10 @@ use Rattle.es_tree.specs.declared.ast_type.AstType.{AstType}
 use Rattle.es_tree.specs.declared.ast_type.AstType.TheVariants.{Identifier, Program, VariableDeclaration, VariableDeclarator}
 use Rattle.es_tree.specs.declared.place.Place.{Place}
 use Rattle.es_tree.specs.declared.place.Place.TheVariants.{Other, ProgramBody, Spine, Target, Declarator, Declared}
-use Rattle.es_runs.proofs.Declarations.{is_program_kind, binds_name, declarators, declares_names, statement, body_of, is_shaped, program_parts}
+use Rattle.es_runs.specs.Standing.{field_stands, fields_stand, is_end, is_formed, is_program_kind, may_stand, trees_stand, undeclaring}
+use Rattle.es_runs.proofs.Declarations.{binds_name, declarators, declares_names, statement, body_of, is_shaped, program_parts}
 use Rattle.es_runs.proofs.Named.{and_left, and_right}
 use Rattle.es_runs.proofs.StaticKeeps.{names_in}
-use Rattle.es_runs.proofs.Undeclaring.{may_stand, field_stands, fields_stand, trees_stand, is_end, is_formed, undeclaring}
 
 names_in-append : (vs us : List Visit) → names_in (vs ++ us) ≡ names_in vs ++ names_in us
 names_in-append [] us = refl

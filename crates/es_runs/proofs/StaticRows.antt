@@ -21,9 +21,9 @@ use Rattle.es_runs.specs.OpenRules.exponentiation_rule.{raises}
 use Rattle.es_runs.specs.OpenSteps.{Whole}
 use Rattle.es_runs.specs.Rules.{binary_node, null_node, void_zero_node}
 use Rattle.es_runs.specs.Runs.{identifier}
+use Rattle.es_runs.specs.Standing.{is_declaration}
 use Rattle.es_runs.proofs.OptionalChainingStatics.{optional_chaining_keeps}
 use Rattle.es_runs.proofs.CoreRows.{core_rule}
-use Rattle.es_runs.proofs.Declarations.{is_declaration}
 use Rattle.es_runs.proofs.RowFacts.{is_operator_kind, is_row_kind, Each, PassesOn, assignment_good, nullish_coalescing_good, exponentiation_good}
 use Rattle.es_runs.proofs.RowKinds.{is_left_kind, RowKinds, row_kind}
 use Rattle.es_runs.proofs.StaticKeeps.{Own, Keeps, KeepsTrees, assigns, free_own, member_keeps, moved_fields, name_keeps, name_target, null_keeps, quiet_value, to_spine, zero_keeps}

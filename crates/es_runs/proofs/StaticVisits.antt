@@ -13,10 +13,11 @@ use Rattle.es_tree.specs.declared.ast_type.AstType.{AstType}
 use Rattle.es_tree.specs.declared.ast_type.AstType.TheVariants.{Program, VariableDeclaration, VariableDeclarator}
 use Rattle.es_tree.proofs.CoreBreaks as tree
 use Rattle.es_tree.proofs.CoreBreaks.{CoreVisit, Known, breaks-visits, core_kind, stands_below}
+use Rattle.es_runs.specs.Standing.{field_stands, fields_stand, is_formed, may_stand, trees_stand, undeclaring}
 use Rattle.es_runs.proofs.Declarations.{ProgramParts}
 use Rattle.es_runs.proofs.Named.{and_left, and_right}
 use Rattle.es_runs.proofs.OpenForm.{childless, unlisted, has_one_list}
-use Rattle.es_runs.proofs.Undeclaring.{is_expression, is_formed, is_part, may_stand, field_stands, fields_stand, trees_stand, stands_part, undeclaring}
+use Rattle.es_runs.proofs.Undeclaring.{is_expression, is_part, stands_part}
 
 -- what may stand in this field, and declares nothing inside
 record Fits (k : AstType) (i : ℕ) (j : AstType) : Type 0 where

@@ -9,9 +9,9 @@ use Rattle.es_tree.specs.Walks.{all_nodes, all_in_fields}
 use Rattle.es_tree.specs.declared.ast_type.AstType.TheVariants.{ParenthesizedExpression}
 use Rattle.es_runs.specs.Alike.{Level, touches, touches_fields}
 use Rattle.es_runs.specs.Core.{World, meaning}
+use Rattle.es_runs.specs.Standing.{fields_stand, undeclaring}
 use Rattle.es_runs.proofs.Fresh.{or_left}
 use Rattle.es_runs.proofs.Named.{and_left, and_right}
-use Rattle.es_runs.proofs.Undeclaring.{fields_stand, undeclaring}
 
 -- whether parentheses around a node have the one child alone
 abbrev pub single_parens : Tree → Bool

@@ -4,11 +4,11 @@ use Rattle.es_tree.specs.Words.{Text}
 use Rattle.es_runs.specs.Machine.{M, ◌>>=◌, onward, State, Result, Cell, Move, Question, next, ask}
 use Rattle.es_runs.specs.Machine.State.{state}
 use Rattle.es_runs.specs.Machine.Move.{answer, throw}
-use Rattle.es_runs.specs.Machine.Stop.{cut, uncallable, throws, waits, unknown}
+use Rattle.es_runs.specs.Machine.Stop.{cut, uncallable, throws, waits, unknown, breaks, continues, out_of_turns, faults}
 use Rattle.es_runs.specs.Machine.Cell.{unset, holds}
 use Rattle.es_runs.specs.Machine.Result.{gives, stops}
 use Rattle.es_runs.specs.Core.{World, Binding, Reference, get_value, read_name, read_cell}
-use Rattle.es_runs.specs.Core.Binding.{free, changeable, constant}
+use Rattle.es_runs.specs.Core.Binding.{free, changeable, constant, silent}
 use Rattle.es_runs.specs.Core.Reference.{named, property, plain}
 
 -- a result that isn't cut short
@@ -26,6 +26,10 @@ onward_goes (stops waits s) k h g = tt
 onward_goes (stops uncallable s) k h g = tt
 onward_goes (stops cut s) k h g = h
 onward_goes (stops unknown s) k h g = tt
+onward_goes (stops (breaks l) s) k h g = tt
+onward_goes (stops (continues l) s) k h g = tt
+onward_goes (stops out_of_turns s) k h g = tt
+onward_goes (stops (faults z) s) k h g = tt
 
 pub bind_uncut : {A B : Type 0} (m : M A) (k : A → M B) → NeverCut m → ((a : A) → NeverCut (k a)) → NeverCut (m >>= k)
 bind_uncut m k h g s = onward_goes (m s) k (h s) g
@@ -46,6 +50,7 @@ name_uncut : (x : Text) (b : Binding) → NeverCut (read_name x b)
 name_uncut x free s = ask_uncut (Question.read x) s
 name_uncut x changeable (state c ms qs) = cell_goes x (c x) (state c ms qs)
 name_uncut x constant (state c ms qs) = cell_goes x (c x) (state c ms qs)
+name_uncut x (silent z) (state c ms qs) = cell_goes x (c x) (state c ms qs)
 
 pub get_uncut : (w : World) (r : Reference) → NeverCut (get_value w r)
 get_uncut w (named x) s = name_uncut x (w.scope x) s

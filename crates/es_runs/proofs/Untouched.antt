@@ -14,10 +14,11 @@ use Rattle.es_runs.specs.Alike.{Level, Need, needs, member_needs, unary_need, bi
 use Rattle.es_runs.specs.Alike.Level.{no_evaluation, value_alone, whole_reference, a_callee, a_target, an_operand_of_typeof}
 use Rattle.es_runs.specs.Core.{UnaryClass, unary_class, flag, flag_after}
 use Rattle.es_runs.specs.Core.UnaryClass.{typeof_class, delete_class, void_class}
+use Rattle.es_runs.specs.Standing.{begins_with_one, field_stands, fields_stand, is_formed, is_link, is_placed, is_single, may_stand, trees_stand, undeclaring}
 use Rattle.es_runs.proofs.Named.{and_left, and_right, or_both, or_first, or_second, among_first, among_second, core_exports, core_quiet, names_below}
 use Rattle.es_runs.proofs.RowFacts.{is_row_kind}
 use Rattle.es_runs.proofs.Temporary.{bytes_eq-self}
-use Rattle.es_runs.proofs.Undeclaring.{is_link, is_placed, may_stand, trees_stand, field_stands, fields_stand, is_single, begins_with_one, is_formed, undeclaring, is_part, is_expression, stands_part, row_part}
+use Rattle.es_runs.proofs.Undeclaring.{is_part, is_expression, stands_part, row_part}
 
 module _ (hidden steady : Text → Bool) where
   -- no hidden name is among these

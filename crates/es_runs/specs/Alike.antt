@@ -1,5 +1,5 @@
 -- When two evaluations are alike, but for the cells of hidden names.
-use Rattle.std.specs.Prelude.{◌≡◌, ℕ, zero, suc, Bool, true, false, List, Option, codes, if◌then◌else◌, ◌||◌}
+use Rattle.std.specs.Prelude.{◌≡◌, ℕ, zero, suc, Bool, true, false, List, Option, if◌then◌else◌, ◌||◌, ◌&&◌}
 use Rattle.es_tree.specs.Words.{Text}
 use Rattle.es_tree.specs.declared.ast_type.AstType.{AstType}
 use Rattle.es_tree.specs.Tree.{Tree, Fields, Field, Trees, Label}
@@ -14,38 +14,57 @@ use Rattle.es_runs.specs.Core.Form.{other}
 use Rattle.es_runs.specs.Core.Called.{called}
 use Rattle.es_runs.specs.Machine.{Value, ◌>>=◌, Question, Move, Cell, State, Stop, Result, M, is_set}
 use Rattle.es_runs.specs.Machine.State.{state}
-use Rattle.es_runs.specs.Machine.Stop.{uncallable}
+use Rattle.es_runs.specs.Machine.Stop.{uncallable, faults}
+use Rattle.es_runs.specs.Machine.Cell.{unset, holds}
 use Rattle.es_runs.specs.Machine.Result.{gives, stops}
 use Rattle.es_tree.specs.Names.{first_text as first}
 use Rattle.es_runs.specs.Core.{World, Reference, Meaning, value, flag, flag_after, is_equality, typeof_value, UnaryClass, unary_class, Called, callee_from}
 use Rattle.es_runs.specs.Core.UnaryClass.{typeof_class, delete_class, void_class}
 use Rattle.es_runs.specs.Core.Reference.{named, property, plain}
 
--- The names that only the second program has, with what is known of their cells,
--- and the names that nothing writes, with what is known of theirs.
+-- The names that only the second program has, with what is known of their cells, given the first one's cells;
+-- the names that nothing writes, with what is known of theirs;
+-- and whether the first program's faults count as outside. Where they do, the first program may set the loose names later
+-- than the second: while they are unset there, their cells aren't compared.
+-- What is known of a hidden name's cell depends on the first one's cells of hidden names alone.
 pub record Frame : Type 1 where
   pub hidden : Text → Bool
-  pub fits : Text → Cell → Type 0
+  pub fits : (Text → Cell) → Text → Cell → Type 0
   pub frozen : Text → Bool
   pub keeps : Text → Cell → Type 0
+  pub faults_outside : Bool
+  pub loose : Text → Bool
+  pub steady : (c e : Text → Cell) → ((y : Text) → hidden y ≡ true → e y ≡ c y) → (x : Text) → hidden x ≡ true → (d : Cell) → fits c x d → fits e x d
 
 -- of the cells of these names it is known that they are set
 abbrev pub set_cells : (Text → Bool) → Frame
-set_cells hidden = record { hidden = hidden; fits = λ x c. is_set c ≡ true; frozen = λ x. false; keeps = λ x c. Unit {0} }
+set_cells hidden = record { hidden = hidden; fits = λ c x d. is_set d ≡ true; frozen = λ x. false; keeps = λ x d. Unit {0}; faults_outside = false; loose = λ x. false; steady = λ c e h x k d g. g }
 
 -- or that they are these cells, and so for the names that nothing writes
 abbrev pub kept_cells : (Text → Bool) → (Text → Bool) → (Text → Cell) → Frame
-kept_cells hidden frozen d0 = record { hidden = hidden; fits = λ x c. c ≡ d0 x; frozen = frozen; keeps = λ x c. c ≡ d0 x }
+kept_cells hidden frozen d0 = record { hidden = hidden; fits = λ c x d. d ≡ d0 x; frozen = frozen; keeps = λ x d. d ≡ d0 x; faults_outside = false; loose = λ x. false; steady = λ c e h x k d g. g }
+
+-- whether a name may be set later
+abbrev pub is_loose : Frame → Text → Bool
+is_loose F x = F.faults_outside && F.loose x
+
+-- the second cell is the first, where that is set or the name can't be set later
+abbrev pub CellSeen : Bool → Cell → Cell → Type 0
+CellSeen false c d = d ≡ c
+CellSeen true unset d = Unit {0}
+CellSeen true (holds v) d = d ≡ holds v
 
 -- the states agree on the moves, the questions, and the cells of all names that aren't hidden; the second one's hidden cells fit
 pub data Agree (F : Frame) : State → State → Type 0 where
-  agree : {c d : Text → Cell} {ms : List Move} {qs : List Question} → ((x : Text) → F.hidden x ≡ false → d x ≡ c x) → ((x : Text) → F.hidden x ≡ true → F.fits x (d x)) → ((x : Text) → F.frozen x ≡ true → F.keeps x (d x)) → Agree F (state c ms qs) (state d ms qs)
+  agree : {c d : Text → Cell} {ms : List Move} {qs : List Question} → ((x : Text) → F.hidden x ≡ false → CellSeen (is_loose F x) (c x) (d x)) → ((x : Text) → F.hidden x ≡ true → F.fits c x (d x)) → ((x : Text) → F.frozen x ≡ true → F.keeps x (d x)) → Agree F (state c ms qs) (state d ms qs)
 
--- the same results, up to R, in states that agree; or the first one calls what isn't callable
+-- the same results, up to R, in states that agree; or the first one is outside: it calls what isn't callable or, where that
+-- counts, faults
 pub data Same (F : Frame) {A B : Type 0} (R : A → B → Type 0) : Result A → Result B → Type 0 where
   both_give : {a : A} {b : B} {s t : State} → R a b → Agree F s t → Same F R (gives a s) (gives b t)
   both_stop : {w : Stop} {s t : State} → Agree F s t → Same F R (stops w s) (stops w t)
   outside : {s : State} {r : Result B} → Same F R (stops uncallable s) r
+  at_fault : {v : Value} {s : State} {r : Result B} → F.faults_outside ≡ true → Same F R (stops (faults v) s) r
 
 abbrev pub Alike : (F : Frame) {A B : Type 0} → (A → B → Type 0) → M A → M B → Type 0
 Alike F R m n = (s t : State) → Agree F s t → Same F R (m s) (n t)

@@ -14,11 +14,18 @@ use Rattle.es_runs.specs.Machine.Value.{undefined, null, boolean, number, bigint
 use Rattle.es_runs.specs.Machine.Values.{none, ◌and◌}
 use Rattle.es_runs.specs.Machine.Question.{read, typeof_read, write, get, delete, put, construct, operator}
 use Rattle.es_runs.specs.Machine.Cell.{unset, holds}
-use Rattle.es_runs.specs.Machine.Stop.{throws, uncallable, cut, unknown}
+use Rattle.es_runs.specs.Machine.Stop.{faults, uncallable, cut, unknown}
 use Rattle.es_runs.specs.Machine.Result.{gives, stops}
+
+-- What a name may stand for that is used without a question: a helper of the runtime, or a constant list of keys. No name of a
+-- core program does.
+pub data Silent : Type 0 where
+  helper_name : Text → Silent
+  keys_name : Values → Silent
 
 pub data Binding : Type 0 where
   free changeable constant : Binding
+  silent : Silent → Binding
 
 -- What doesn't change in a run: how each name is bound, the value of `this`, and whether `document.all` counts as null for
 -- `==`. It does (ECMA-262, B.3.6.2); where no value is `document.all`, both machines do the same.
@@ -45,13 +52,14 @@ pub record Meaning : Type 0 where
 
 -- a binding that isn't initialised can't be read (ECMA-262, 9.1.1.1.6)
 abbrev pub read_cell : Text → Cell → M Value
-read_cell x unset = stop (throws (unset_error x))
+read_cell x unset = stop (faults (unset_error x))
 read_cell x (holds v) = return v
 
 abbrev pub read_name : Text → Binding → M Value
 read_name x free = ask (read x)
 read_name x changeable = cell_of x >>= read_cell x
 read_name x constant = cell_of x >>= read_cell x
+read_name x (silent s) = cell_of x >>= read_cell x
 
 -- the value that a reference has (GetValue, ECMA-262, 6.2.5.5)
 abbrev pub get_value : World → Reference → M Value
@@ -61,17 +69,18 @@ get_value w (plain v) = return v
 
 -- nor can it be written, and a constant is never written (ECMA-262, 9.1.1.1.5)
 abbrev pub change_cell : Text → Value → Cell → M Value
-change_cell x v unset = stop (throws (unset_error x))
+change_cell x v unset = stop (faults (unset_error x))
 change_cell x v (holds old) = set_cell x v
 
 abbrev pub keep_cell : Text → Cell → M Value
-keep_cell x unset = stop (throws (unset_error x))
-keep_cell x (holds old) = stop (throws (constant_error x))
+keep_cell x unset = stop (faults (unset_error x))
+keep_cell x (holds old) = stop (faults (constant_error x))
 
 abbrev pub write_name : Text → Value → Binding → M Value
 write_name x v free = ask (write x v) >>= λ _. return v
 write_name x v changeable = cell_of x >>= change_cell x v
 write_name x v constant = cell_of x >>= keep_cell x
+write_name x v (silent s) = cell_of x >>= keep_cell x
 
 -- puts a value, and gives it (PutValue, ECMA-262, 6.2.5.6)
 abbrev pub put_value : World → Reference → Value → M Value

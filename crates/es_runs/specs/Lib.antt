@@ -2,6 +2,7 @@ pub mod Machine
 pub mod Core
 pub mod Alike
 pub mod Runs
+pub mod Standing
 pub mod Rules
 pub mod NullishCoalescing
 pub mod Duplication

@@ -16,26 +16,61 @@ mutual
     bound : Value → Value → Values → Value
     unset_error : Text → Value
     constant_error : Text → Value
+    -- a value that only statements give
+    own : OwnValue → Value
 
   pub data Values : Type 0 where
     none : Values
     ◌and◌ : Value → Values → Values
+
+  -- What the core doesn't have: the errors of an object pattern on undefined or null, and of a disposal that throws while
+  -- another throw is pending, with the new one first; a helper of the runtime, and a stack of what was taken into use, by its
+  -- number; and what stands in lists of operands and in the machine's own cells, which no evaluation gives.
+  pub data OwnValue : Type 0 where
+    pattern_error : OwnValue
+    suppressed : Value → Value → OwnValue
+    helper : Text → OwnValue
+    stack : ℕ → OwnValue
+    list : Values → OwnValue
+    count : ℕ → OwnValue
+    -- what a stack holds: the pending error, none or one, and each value with its method, the latest first
+    contents : Values → Values → OwnValue
 
 infixr 5 ◌and◌
 abbrev pub joined : Values → Values → Values
 joined none ys = ys
 joined (x and xs) ys = x and joined xs ys
 
-pub data Question : Type 0 where
-  read : Text → Question
-  typeof_read : Text → Question
-  write : Text → Value → Question
-  get : Value → Value → Question
-  delete : Value → Value → Question
-  put : Value → Value → Value → Question
-  call : Value → Value → Values → Question
-  construct : Value → Values → Question
-  operator : Text → Values → Question
+mutual
+  pub data Question : Type 0 where
+    read : Text → Question
+    typeof_read : Text → Question
+    write : Text → Value → Question
+    get : Value → Value → Question
+    delete : Value → Value → Question
+    put : Value → Value → Value → Question
+    call : Value → Value → Values → Question
+    construct : Value → Values → Question
+    operator : Text → Values → Question
+    -- what only statements ask
+    of_statement : StatementQuestion → Question
+
+  pub data StatementQuestion : Type 0 where
+    iterator : Value → StatementQuestion
+    step : Value → StatementQuestion
+    item : Value → StatementQuestion
+    close : Value → StatementQuestion
+    keys : Value → StatementQuestion
+    array : Values → StatementQuestion
+    regexp : Text → Text → StatementQuestion
+    template : Values → StatementQuestion
+    spread : Value → StatementQuestion
+    meta : StatementQuestion
+    import_name : Text → Text → StatementQuestion
+    copy : Value → Values → StatementQuestion
+    make : Values → StatementQuestion
+    method : Value → StatementQuestion
+    dispose : Value → Value → StatementQuestion
 
 pub data Move : Type 0 where
   answer : Value → Move
@@ -53,14 +88,20 @@ is_set (holds v) = true
 pub data State : Type 0 where
   state : (Text → Cell) → List Move → List Question → State
 
--- Why an evaluation stops: it throws, it waits for a move, it calls what isn't callable,
--- it is cut short to the end of the nearest chain, or the node isn't core.
+-- Why an evaluation stops: it throws; it reads or writes what isn't set or writes a constant, where it throws an error of the
+-- machine's own; it waits for a move; it calls what isn't callable; it is cut short to the end of the nearest chain; or the
+-- node has no meaning. A statement that ends by `break` or `continue`, with a label or none, stops too, and a run may have no
+-- turn of a loop left.
 pub data Stop : Type 0 where
   throws : Value → Stop
+  faults : Value → Stop
   waits : Stop
   uncallable : Stop
   cut : Stop
   unknown : Stop
+  breaks : List Text → Stop
+  continues : List Text → Stop
+  out_of_turns : Stop
 
 pub data Result (A : Type 0) : Type 0 where
   gives : A → State → Result A

@@ -3,13 +3,14 @@ use Rattle.std.specs.Prelude.{◌≡◌, ◌&&◌, Bool, true, false, List, [], 
 use Rattle.es_tree.specs.Words.{Text}
 use Rattle.es_tree.specs.declared.ast_type.AstType.TheVariants.{Program, Identifier, VariableDeclaration, VariableDeclarator}
 use Rattle.es_tree.specs.Tree.{Tree, node, Label, done, ◌then◌, missing, one, many, statements, Trees, empty, ◌before◌, trees}
-use Rattle.es_runs.specs.Machine.{Value, Values, ◌>>=◌, Question, Move, Cell, State, Result}
-use Rattle.es_runs.specs.Machine.Value.{undefined, host, bound}
+use Rattle.es_runs.specs.Machine.{Value, OwnValue, Values, ◌>>=◌, Question, Move, Cell, State, Result}
+use Rattle.es_runs.specs.Machine.Value.{undefined, host, bound, own}
+use Rattle.es_runs.specs.Machine.OwnValue.{suppressed, list, contents}
 use Rattle.es_runs.specs.Machine.Values.{none, ◌and◌}
 use Rattle.es_runs.specs.Machine.Move.{answer, throw}
 use Rattle.es_runs.specs.Machine.Cell.{unset, holds}
 use Rattle.es_runs.specs.Machine.State.{state}
-use Rattle.es_runs.specs.Machine.Stop.{throws, waits, uncallable}
+use Rattle.es_runs.specs.Machine.Stop.{throws, faults, waits, uncallable}
 use Rattle.es_runs.specs.Machine.Result.{gives, stops}
 use Rattle.es_tree.specs.Scopes.{Declared, declared_of}
 use Rattle.es_runs.specs.Core.{World, Binding, value, meaning, is_free, typeof_value}
@@ -57,6 +58,7 @@ pub data Outcome : Type 0 where
 abbrev pub outcome : Result Value → Outcome
 outcome (gives v s) = finished
 outcome (stops (throws v) s) = threw v
+outcome (stops (faults v) s) = threw v
 outcome (stops waits s) = waiting
 outcome (stops uncallable s) = called_uncallable
 outcome (stops _ s) = not_core
@@ -87,7 +89,14 @@ abbrev mutual
   pub lacks_all : Value → Bool
   lacks_all (host n callable truthy all) = not all
   lacks_all (bound f r vs) = lacks_all f && lacks_all r && values_lack vs
+  lacks_all (own v) = own_lacks v
   lacks_all _ = true
+
+  pub own_lacks : OwnValue → Bool
+  own_lacks (suppressed v u) = lacks_all v && lacks_all u
+  own_lacks (list vs) = values_lack vs
+  own_lacks (contents us vs) = values_lack us && values_lack vs
+  own_lacks _ = true
 
   pub values_lack : Values → Bool
   values_lack none = true
