@@ -27,7 +27,7 @@ first-name : (d : Declared) (ds : List Declared) (x : Text) (c : Bool) (o : Opti
 first-name d ds x true o e h = sym (e refl)
 first-name d ds x false o e h = later-name d ds x o h
 
-symbol-name : (ds : List Declared) (a : ℕ) (x : Text) → HasName (name_at ds) (symbol_in ds a x) x
+pub symbol-name : (ds : List Declared) (a : ℕ) (x : Text) → HasName (name_at ds) (symbol_in ds a x) x
 symbol-name [] a x = tt
 symbol-name (d ∷ ds) a x = first-name d ds x (is_symbol a x d) (symbol_in ds a x) (λ e. bytes_eq-equal d.name x (and_parts (d.scope == a) (bytes_eq d.name x) e).1) (symbol-name ds a x)
 

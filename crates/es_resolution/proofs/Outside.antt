@@ -74,7 +74,7 @@ one-more s x ds a y b false e = ap (λ es. is_bound es s x) (with_symbol-new ds 
 pub more : (s : ℕ) (x : Text) (ds : List Declared) (a : ℕ) (y : Text) (b : Binding) → is_bound (with_symbol ds a y b) s x ≡ (is_bound ds s x || (a == s && bytes_eq y x))
 more s x ds a y b = one-more s x ds a y b (is_bound ds a y) refl
 
-hoist-none : (ds : List Declared) (p : Place) (x : Text) → p.parameters ≡ None → hoist_scope ds p x ≡ p.hoist
+pub hoist-none : (ds : List Declared) (p : Place) (x : Text) → p.parameters ≡ None → hoist_scope ds p x ≡ p.hoist
 hoist-none ds p x e = rw e refl
 
 -- `var` of a name that isn't a parameter

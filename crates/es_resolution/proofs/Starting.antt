@@ -24,7 +24,7 @@ one-low n true o h = lt-ltb 0 (suc n) (omega arith)
 one-low n false None h = refl
 one-low n false (Some s) h = let low : s < n = ltb-true s n h in lt-ltb (suc s) (suc n) (omega arith)
 
-symbol-low : (ds : List Declared) (a : ℕ) (x : Text) → is_below (length ds) (symbol_in ds a x) ≡ true
+pub symbol-low : (ds : List Declared) (a : ℕ) (x : Text) → is_below (length ds) (symbol_in ds a x) ≡ true
 symbol-low [] a x = refl
 symbol-low (d ∷ ds) a x = one-low (length ds) (is_symbol a x d) (symbol_in ds a x) (symbol-low ds a x)
 

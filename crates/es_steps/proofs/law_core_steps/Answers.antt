@@ -1,0 +1,5 @@
+use Rattle.es_steps.proofs.CoreKeeps.{law_core_steps_proof}
+use Rattle.es_steps.proofs.law_core_steps.Goals as goal
+
+pub returns : goal.returns
+returns c = law_core_steps_proof

@@ -1,0 +1,5 @@
+use Rattle.es_steps.proofs.BridgeStart.{law_steps_by_name_proof}
+use Rattle.es_steps.proofs.law_steps_by_name.Goals as goal
+
+pub returns : goal.returns
+returns c = law_steps_by_name_proof
