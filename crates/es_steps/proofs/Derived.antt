@@ -24,7 +24,7 @@ use Rattle.es_steps.specs.ParameterPatterns.{MayMove, body_fields}
 use Rattle.es_steps.specs.Rules.{next_name}
 use Rattle.es_steps.specs.Patterns.{let_statement}
 use Rattle.es_steps.specs.ParameterPatterns.HoldsPattern.{with_default}
-use Rattle.es_steps.specs.ParameterPatterns.IsName.{named}
+use Rattle.es_steps.specs.ParameterPatterns.IsFunctionName.{named}
 use Rattle.es_steps.specs.ParameterPatterns.MovesParameter.{moves_one}
 use Rattle.es_steps.specs.ParameterPatterns.ParameterRest.{in_declaration}
 use Rattle.es_steps.specs.ObjectRest.{rest_value}

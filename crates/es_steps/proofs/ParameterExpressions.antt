@@ -16,7 +16,7 @@ use Rattle.es_resolution.specs.Single.{is_it, binds, is_var_of, own_binds, one_i
 use Rattle.es_steps.specs.Nodes.{joined_trees}
 use Rattle.es_steps.specs.Steps.{Whole, Site}
 use Rattle.es_steps.specs.Rules.{next_name}
-use Rattle.es_steps.specs.ParameterPatterns.{parameter_names, lexical_names, var_names, body_fields, HoldsPattern, IsName}
+use Rattle.es_steps.specs.ParameterPatterns.{parameter_names, lexical_names, var_names, body_fields, HoldsPattern, IsFunctionName}
 use Rattle.es_steps.specs.Patterns.{avoiding, let_statement}
 use Rattle.es_steps.proofs.Apartness.{Moves}
 use Rattle.es_steps.proofs.Alike.{declared-alike, resolved-alike, named-alike, scopes-alike}
@@ -35,7 +35,7 @@ use Rattle.es_steps.proofs.Written.{nil-right, body_place, named-joined, join-na
 use Rattle.es_steps.proofs.ParameterDeclarations.{neither-first, neither-second, not-some, mirrored}
 
 -- FUNCTION EXPRESSIONS
-module _ (n : Site) (w : Whole) (m l : Label) (f : Field) (fname : IsName f) (a c ds es ts : Trees) (x : Text) (free : w.in_use x ≡ false) (lp : Label) (pf : Fields) (t u : Tree) (holds : HoldsPattern (next_name w x) (node ObjectPattern lp pf) t u) (may : Moves w (node ObjectPattern lp pf) u a c ds (joined_trees es ts)) (used : Named w.in_use w.free_symbol n.role (node FunctionExpression m (f then (many (joined_trees a (t before c)) then one (node FunctionBody l (body_fields ds (joined_trees es ts))) then done)))) where
+module _ (n : Site) (w : Whole) (m l : Label) (f : Field) (fname : IsFunctionName f) (a c ds es ts : Trees) (x : Text) (free : w.in_use x ≡ false) (lp : Label) (pf : Fields) (t u : Tree) (holds : HoldsPattern (next_name w x) (node ObjectPattern lp pf) t u) (may : Moves w (node ObjectPattern lp pf) u a c ds (joined_trees es ts)) (used : Named w.in_use w.free_symbol n.role (node FunctionExpression m (f then (many (joined_trees a (t before c)) then one (node FunctionBody l (body_fields ds (joined_trees es ts))) then done)))) where
   abbrev it-fe : Bound
   it-fe = next_name w x
 

@@ -10,7 +10,7 @@ use Rattle.es_semantic.specs.RolesOf.{reads}
 use Rattle.es_semantic.specs.declared.place.Binding.TheVariants.{Class}
 use Rattle.es_semantic.specs.declared.place.Role.TheVariants.{Binds}
 use Rattle.es_resolution.specs.Declarations.{symbol_of}
-use Rattle.es_steps.specs.Identifiers.{IsName, HasName, OwnPasses, Passes, PassesIn, PassesBy, PassesAll}
+use Rattle.es_steps.specs.Identifiers.{IsIdentifier, HasIdentifier, OwnPasses, Passes, PassesIn, PassesBy, PassesAll}
 use Rattle.es_steps.specs.Nodes.{joined_trees}
 use Rattle.es_steps.specs.Open.{Open, OpenFields, OpenField, OpenTrees, opened, opened_fields, opened_trees, is_body, finished, finished_fields, finished_field, finished_trees, followed_by, flanks_with, written_body, whole_list}
 use Rattle.es_steps.specs.Steps.{Whole, Ledger, Site, Spot, Step, FieldsStep, FieldStep, TreesStep, site_in}
@@ -33,14 +33,14 @@ pub record Recalled (w w' : Whole) : Type 0 where
 
 -- what becomes of an identifier
 record StillNamed (t u : Tree) : Type 0 where
-  still : IsName u
+  still : IsIdentifier u
   text : own_text u ≡ own_text t
 
-kind-named : (k : AstType) (l : Label) (fs gs : Fields) → IsName (node k l fs) → StillNamed (node k l fs) (node k l gs)
+kind-named : (k : AstType) (l : Label) (fs gs : Fields) → IsIdentifier (node k l fs) → StillNamed (node k l fs) (node k l gs)
 kind-named Identifier l fs gs h = record { still = tt; text = refl }
 kind-named _ l fs gs h = absurd h
 
-first-only : (f : Field) (fs gs : Fields) → HasName (f then fs) → HasName (f then gs) × (name_in (f then gs) ≡ name_in (f then fs))
+first-only : (f : Field) (fs gs : Fields) → HasIdentifier (f then fs) → HasIdentifier (f then gs) × (name_in (f then gs) ≡ name_in (f then fs))
 first-only missing fs gs h = (tt, refl)
 first-only (one t) fs gs h = (h, refl)
 first-only (many ts) fs gs h = (tt, refl)
@@ -77,18 +77,18 @@ module _ (R : Site → Ledger → Spot → Ledger → Spot → Type 0) (law : La
     recalled-all (flanks {n = n} {s = s} {s' = s'} {bs = bs} {cs = cs} t u h) = record { freer = writes.freer n s s' (at_node t) (at_beside bs u cs) h; same = writes.same_called n s s' (at_node t) (at_beside bs u cs) h }
     recalled-all (acts_on_flanked {n = n} {s = s} {s' = s'} {bs = bs} {cs = cs} t us h) = record { freer = writes.freer n s s' (at_beside bs t cs) (at_trees us) h; same = writes.same_called n s s' (at_beside bs t cs) (at_trees us) h }
 
-  acted-named : (n : Site) (s s' : Ledger) (k : AstType) (l : Label) (fs gs : Fields) (u : Tree) → n.role ≡ Binds Class → R n s (at_node (node k l fs)) s' (at_node u) → IsName (node k l gs) → StillNamed (node k l gs) u
+  acted-named : (n : Site) (s s' : Ledger) (k : AstType) (l : Label) (fs gs : Fields) (u : Tree) → n.role ≡ Binds Class → R n s (at_node (node k l fs)) s' (at_node u) → IsIdentifier (node k l gs) → StillNamed (node k l gs) u
   acted-named n s s' Identifier l fs gs u e h d = absurd (writes.no_names n s s' l fs (at_node u) e h)
   acted-named n s s' _ l fs gs u e h d = absurd d
 
-  acted : (n : Site) (s s' : Ledger) (t u : Tree) → n.role ≡ Binds Class → R n s (at_node t) s' (at_node u) → IsName (finished (opened t)) → StillNamed (finished (opened t)) u
+  acted : (n : Site) (s s' : Ledger) (t u : Tree) → n.role ≡ Binds Class → R n s (at_node t) s' (at_node u) → IsIdentifier (finished (opened t)) → StillNamed (finished (opened t)) u
   acted n s s' (node k l fs) u e h d = acted-named n s s' k l fs (finished_fields (opened_fields (is_body k) fs)) u e h d
 
-  still-named : {n : Site} {s s' : Ledger} {t u : Open} → Step R n s t s' u → n.role ≡ Binds Class → IsName (finished t) → StillNamed (finished t) (finished u)
+  still-named : {n : Site} {s s' : Ledger} {t u : Open} → Step R n s t s' u → n.role ≡ Binds Class → IsIdentifier (finished t) → StillNamed (finished t) (finished u)
   still-named (acts {n = n} {s = s} {s' = s'} t u h) e d = subst (λ (z : Tree). StillNamed (finished (opened t)) z) (sym (finished-opened u)) (acted n s s' t u e h d)
   still-named (inside {k = k} {l = l} {fs = fs} {gs = gs} h) e d = kind-named k l (finished_fields fs) (finished_fields gs) d
 
-  first-named : {n : Site} {s s' : Ledger} {f g : OpenField} → FieldStep R n s f s' g → n.role ≡ Binds Class → (fs : Fields) → HasName (finished_field f then fs) → HasName (finished_field g then fs) × (name_in (finished_field g then fs) ≡ name_in (finished_field f then fs))
+  first-named : {n : Site} {s s' : Ledger} {f g : OpenField} → FieldStep R n s f s' g → n.role ≡ Binds Class → (fs : Fields) → HasIdentifier (finished_field f then fs) → HasIdentifier (finished_field g then fs) × (name_in (finished_field g then fs) ≡ name_in (finished_field f then fs))
   first-named (in_child h) e fs d = let k = still-named h e d in (k.still, k.text)
   first-named (in_children h) e fs d = (tt, refl)
   first-named (in_body e' y y' h) e fs d = absurd (not-read (sym e' ∙ e))
@@ -98,10 +98,10 @@ module _ (R : Site → Ledger → Spot → Ledger → Spot → Type 0) (law : La
   first-named (acts_on_body {n = n} {s = s} {s' = s'} {p = p} t u h) e fs d =
       let found = law.at_bodies n s s' p t u h in
       let same : one (written_body p (finished (opened t))) ≡ one (finished (opened u)) = ap (λ a. one (written_body p a)) (finished-opened t) ∙ ap (λ a. one a) (found.1 ∙ sym (finished-opened u)) in
-      subst (λ (z : Field). HasName (z then fs) × (name_in (z then fs) ≡ name_in (one (written_body p (finished (opened t))) then fs))) same (d, refl)
+      subst (λ (z : Field). HasIdentifier (z then fs) × (name_in (z then fs) ≡ name_in (one (written_body p (finished (opened t))) then fs))) same (d, refl)
   first-named (acts_on_list ts us h) e fs d = (tt, refl)
 
-  name-kept : {c : ℕ → Site} {s s' : Ledger} {fs gs : OpenFields} → FieldsStep R c s fs s' gs → (c zero).role ≡ Binds Class → HasName (finished_fields fs) → HasName (finished_fields gs) × (name_in (finished_fields gs) ≡ name_in (finished_fields fs))
+  name-kept : {c : ℕ → Site} {s s' : Ledger} {fs gs : OpenFields} → FieldsStep R c s fs s' gs → (c zero).role ≡ Binds Class → HasIdentifier (finished_fields fs) → HasIdentifier (finished_fields gs) × (name_in (finished_fields gs) ≡ name_in (finished_fields fs))
   name-kept (in_first {fs = fs} h) e d = first-named h e (finished_fields fs) d
   name-kept (in_later {f = f} {fs = fs} {gs = gs} h) e d = first-only (finished_field f) (finished_fields fs) (finished_fields gs) d
 

@@ -13,13 +13,13 @@ use Rattle.es_resolution.proofs.Forms.{form-placed}
 use Rattle.es_resolution.proofs.Placed.{is_name_first, name_fits, Placed, PlacedIn, PlacedBy, PlacedAll, IsWellPlaced, is_last}
 use Rattle.es_resolution.proofs.Sources.{law_resolved_proof, law_single_proof, law_named_proof, source-resolved}
 use Rattle.es_resolution.proofs.SymbolTrees.{own_symbols, resolved_among, resolved_by, resolved_in, resolved_tree}
-use Rattle.es_steps.specs.Identifiers.{HasName, OwnPasses, Passes, PassesIn, PassesBy, PassesAll, any_name}
+use Rattle.es_steps.specs.Identifiers.{HasIdentifier, OwnPasses, Passes, PassesIn, PassesBy, PassesAll, any_name}
 use Rattle.es_steps.specs.Laws.{LawStart}
 
 -- THE NAMES OF CLASSES are identifiers
 
 module _ (ds : List Declared) where
-  first-name : (ps : ℕ → Place) (n : ℕ) (fs : Fields) → is_name_first fs ≡ true → HasName (resolved_in ds ps n fs)
+  first-name : (ps : ℕ → Place) (n : ℕ) (fs : Fields) → is_name_first fs ≡ true → HasIdentifier (resolved_in ds ps n fs)
   first-name ps n (missing then fs) h = tt
   first-name ps n (one (node Identifier l done) then fs) h = tt
   first-name ps n _ h = absurd (cc h)

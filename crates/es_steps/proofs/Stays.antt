@@ -14,10 +14,10 @@ use Rattle.es_resolution.specs.Named.{Named, NamedAll, NamedBy}
 use Rattle.es_resolution.specs.Single.{scopes_with, scopes_by}
 use Rattle.es_steps.specs.Steps.{Whole}
 use Rattle.es_steps.specs.Rules.{next_name}
-use Rattle.es_steps.specs.ParameterPatterns.{parameter_names, HoldsPattern, StandsApart, IsName}
+use Rattle.es_steps.specs.ParameterPatterns.{parameter_names, HoldsPattern, StandsApart, IsFunctionName}
 use Rattle.es_steps.specs.Patterns.{avoiding}
 use Rattle.es_steps.specs.ParameterPatterns.HoldsPattern.{alone, with_default}
-use Rattle.es_steps.specs.ParameterPatterns.IsName.{nameless, named}
+use Rattle.es_steps.specs.ParameterPatterns.IsFunctionName.{nameless, named}
 use Rattle.es_steps.proofs.Alike.{AlikeRole}
 use Rattle.es_steps.proofs.Alike.AlikeRole.{either}
 use Rattle.es_steps.proofs.Kept.{Known, plain, Agree}
@@ -54,11 +54,11 @@ pub stand : (u : Text → Bool) (f : ℕ) (r : Role) (o q : Place) → ((y : Tex
 stand u f r o q a b c t used d = (same (standing u f) o r t used).resolved o q (record { scope = a; hoist = b }) (λ e. record { used = c; new = λ g y o e. absurd (none-some o e) }) tt (record { scope = refl; parameters = λ e. refl }) d
 
 -- the name of a function
-pub name-scopes : (f : Field) → IsName f → (s : ℕ) (ps : Text → Bool) (r : Role) → scopes_by s ps r f ≡ 0
+pub name-scopes : (f : Field) → IsFunctionName f → (s : ℕ) (ps : Text → Bool) (r : Role) → scopes_by s ps r f ≡ 0
 name-scopes f nameless s ps r = refl
 name-scopes f named s ps r = refl
 
-pub name-resolved : (f : Field) → IsName f → (n : Known) (r : Role) (o q : Place) → Agree n o q → NamedBy n.in_use n.free r f → ResolvedBy r o f → ResolvedBy r q f
+pub name-resolved : (f : Field) → IsFunctionName f → (n : Known) (r : Role) (o q : Place) → Agree n o q → NamedBy n.in_use n.free r f → ResolvedBy r o f → ResolvedBy r q f
 name-resolved f nameless n r o q a used d = tt
 name-resolved f (named {l = l}) n r o q a used d = (same (plain n) (body_place o) r (node Identifier l done) used).resolved (body_place o) (body_place q) (record { scope = a.scope; hoist = a.hoist }) (λ e. record { used = λ y u. refl; new = λ g y o e. refl }) tt (record { scope = refl; parameters = λ e. refl }) d
 

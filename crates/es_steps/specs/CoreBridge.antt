@@ -121,7 +121,7 @@ abbrev pub ReachedByName : (Site → Ledger → Spot → Ledger → Spot → Typ
 ReachedByName R Q = (p q : Tree) (w : Whole) (names : List Text) → IsCoreProgram p → IsStart p w → Reached R p w names q → plain_steps.Reached Q p names q
 
 -- Whatever steps by symbols are taken from a core program, at whatever places and in whatever order: by names they are steps of
--- es_runs. The lowerings that options ask for are core ones there, and so are all core ones, whether asked for or not.
+-- es_runs. Of the lowerings that options ask for only the core ones act there; and it is so of all core ones, asked for or not.
 abbrev pub LawStepsByName : Type 0
 LawStepsByName = (o : EnvOptions) → StepsByName (AllRules o) (plain_rules.rule_under o) × StepsByName (rule_under o) (plain_rules.rule_under o) × StepsByName (CoreRule o) (plain_rules.CoreRule o.assumptions.no_document_all)
 

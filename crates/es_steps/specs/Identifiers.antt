@@ -9,19 +9,19 @@ use Rattle.es_tree.specs.declared.ast_type.AstType.{AstType}
 use Rattle.es_tree.specs.declared.ast_type.AstType.TheVariants.{Identifier, ClassDeclaration, ClassExpression}
 use Rattle.es_resolution.specs.Declarations.{symbol_of}
 
-abbrev pub IsName : Tree → Type 0
-IsName (node Identifier l fs) = Unit {0}
-IsName _ = ⊥
+abbrev pub IsIdentifier : Tree → Type 0
+IsIdentifier (node Identifier l fs) = Unit {0}
+IsIdentifier _ = ⊥
 
 -- what stands in the first of these fields is an identifier
-abbrev pub HasName : Fields → Type 0
-HasName (one t then fs) = IsName t
-HasName _ = Unit {0}
+abbrev pub HasIdentifier : Fields → Type 0
+HasIdentifier (one t then fs) = IsIdentifier t
+HasIdentifier _ = Unit {0}
 
 abbrev pub OwnPasses : (Text → Option ℕ → Bool) → AstType → Label → Fields → Type 0
 OwnPasses q Identifier l fs = q (first_text l.texts) (symbol_of l) ≡ true
-OwnPasses q ClassDeclaration l fs = HasName fs × (q (name_in fs) (symbol_of l) ≡ true)
-OwnPasses q ClassExpression l fs = HasName fs × (q (name_in fs) (symbol_of l) ≡ true)
+OwnPasses q ClassDeclaration l fs = HasIdentifier fs × (q (name_in fs) (symbol_of l) ≡ true)
+OwnPasses q ClassExpression l fs = HasIdentifier fs × (q (name_in fs) (symbol_of l) ≡ true)
 OwnPasses q _ l fs = Unit {0}
 
 abbrev mutual

@@ -66,9 +66,9 @@ are_moved made empty = true
 are_moved made (t before ts) = is_moved made t && are_moved made ts
 
 -- the name of a function, or none
-pub data IsName : Field → Type 0 where
-  nameless : IsName missing
-  named : {l : Label} → IsName (one (node Identifier l done))
+pub data IsFunctionName : Field → Type 0 where
+  nameless : IsFunctionName missing
+  named : {l : Label} → IsFunctionName (one (node Identifier l done))
 
 -- the parameters and the body before and after, where those that moved before stand first in the body
 pub data MovesParameter (w : Whole) (x : Text) : Trees → Trees → Trees → Trees → Trees → Type 0 where
@@ -77,10 +77,10 @@ pub data MovesParameter (w : Whole) (x : Text) : Trees → Trees → Trees → T
       MovesParameter w x (joined_trees a (t before c)) (joined_trees a (u before c)) ds (joined_trees es ts) (joined_trees es (let_statement (node ObjectPattern l ps) (next_name w x) before ts))
 
 pub data ParameterRest : Site → Ledger → Spot → Ledger → Spot → Type 0 where
-  in_declaration : {n : Site} {w : Whole} {s : Option Bound} {q : Pending} {a : Additions} {m l : Label} {f : Field} {ps qs ds ts us : Trees} {x : Text} → IsFreshName w.in_use (codes "ref") x → IsName f → MovesParameter w x ps qs ds ts us →
+  in_declaration : {n : Site} {w : Whole} {s : Option Bound} {q : Pending} {a : Additions} {m l : Label} {f : Field} {ps qs ds ts us : Trees} {x : Text} → IsFreshName w.in_use (codes "ref") x → IsFunctionName f → MovesParameter w x ps qs ds ts us →
       ParameterRest n (ledger w q s a) (at_node (node FunctionDeclaration m (f then many ps then one (node FunctionBody l (body_fields ds ts)) then done))) (ledger (with_made (next_name w x ∷ []) w) q s a)
       (at_node (node FunctionDeclaration m (f then many qs then one (node FunctionBody l (body_fields ds us)) then done)))
-  in_expression : {n : Site} {w : Whole} {s : Option Bound} {q : Pending} {a : Additions} {m l : Label} {f : Field} {ps qs ds ts us : Trees} {x : Text} → IsFreshName w.in_use (codes "ref") x → IsName f → MovesParameter w x ps qs ds ts us →
+  in_expression : {n : Site} {w : Whole} {s : Option Bound} {q : Pending} {a : Additions} {m l : Label} {f : Field} {ps qs ds ts us : Trees} {x : Text} → IsFreshName w.in_use (codes "ref") x → IsFunctionName f → MovesParameter w x ps qs ds ts us →
       ParameterRest n (ledger w q s a) (at_node (node FunctionExpression m (f then many ps then one (node FunctionBody l (body_fields ds ts)) then done))) (ledger (with_made (next_name w x ∷ []) w) q s a)
       (at_node (node FunctionExpression m (f then many qs then one (node FunctionBody l (body_fields ds us)) then done)))
   in_arrow : {n : Site} {w : Whole} {s : Option Bound} {q : Pending} {a : Additions} {m l : Label} {ps qs ds ts us : Trees} {x : Text} → IsFreshName w.in_use (codes "ref") x → MovesParameter w x ps qs ds ts us →

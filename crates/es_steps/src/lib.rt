@@ -2,6 +2,7 @@
 //! their contracts are laws over the definitions.
 #![tactic(auto)]
 
+ghost use Rattle.es_steps.specs.CoreBridge.{LawFirstWhole, LawKeptBySymbols, LawReachedByName, LawRunsBySymbols, LawStepsByName};
 ghost use Rattle.es_steps.specs.CoreLaws.{LawCoreBindings, LawCoreReached, LawCoreSteps, LawRulesUnder, LawSlots};
 ghost use Rattle.es_steps.specs.DerivedPrograms.{LawDerivedPrograms};
 ghost use Rattle.es_steps.specs.FormLaws.{LawCoreForm, LawForm, LawFormReached};

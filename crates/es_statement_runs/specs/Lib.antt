@@ -1,0 +1,15 @@
+pub mod Scopes
+pub mod Stacks
+pub mod Statements
+pub mod Patterns
+pub mod Names
+pub mod Helpers
+pub mod Senses
+pub mod Calls
+pub mod StatementParts
+pub mod Kinds
+pub mod Programs
+pub mod Runs
+pub mod Places
+pub mod Alike
+pub mod Laws

@@ -1,0 +1,103 @@
+//! The runs of programs without functions, arrows and classes. The functions do nothing: their contracts are laws over the
+//! definitions.
+#![tactic(auto)]
+
+ghost use Rattle.es_statement_runs.specs.Laws.{LawAssign, LawCatch, LawCatchPattern, LawChain, LawCollected, LawCoreClass, LawCoreMeaning, LawCoreRun, LawFresh, LawGroups, LawHead, LawLater, LawNoHelper, LawNullish, LawPlace, LawPower, LawSpread, LawThen, LawUsing};
+
+/// A tree of core kinds means what it means in the core.
+pub fn law_core_meaning()
+    ensures { LawCoreMeaning }
+{}
+
+/// A program of core nodes is without functions, arrows and classes.
+pub fn law_core_class()
+    ensures { LawCoreClass }
+{}
+
+/// In a program that uses no helper itself no name stands for one, however helpers are supplied.
+pub fn law_no_helper()
+    ensures { LawNoHelper }
+{}
+
+/// Replacing an expression by one that evaluates alike, at places that take its value, keeps the runs, inside whatever
+/// statements, in programs without helpers.
+pub fn law_statement_place()
+    ensures { LawPlace }
+{}
+
+/// A `var` of a name that stands nowhere, at the top of a program's list, keeps the runs of programs without
+/// helpers.
+pub fn law_statement_fresh()
+    ensures { LawFresh }
+{}
+
+/// A core program has the run of the core machine, from any number of turns.
+pub fn law_core_run()
+    ensures { LawCoreRun }
+{}
+
+/// The row of nullish coalescing at whatever places of whatever statements, with its `var` at the top of the list, keeps the
+/// runs of programs without helpers.
+pub fn law_statement_nullish()
+    ensures { LawNullish }
+{}
+
+/// The definitions of an object may be collected in parts (the kernel of object spread).
+pub fn law_collected()
+    ensures { LawCollected }
+{}
+
+/// An object pattern may be cut into groups: what stands after a group takes the keys of it (the kernel of object rest).
+pub fn law_groups()
+    ensures { LawGroups }
+{}
+
+/// The row of logical assignment to a name, whatever its right side is, at whatever places, with whatever helpers.
+pub fn law_statement_assign()
+    ensures { LawAssign }
+{}
+
+/// The row of exponentiation, whatever its operands are but spreads, where no scope declares `Math`.
+pub fn law_statement_power()
+    ensures { LawPower }
+{}
+
+/// The rows of optional chaining over core operands, with their temporaries, at whatever places of whatever statements.
+pub fn law_statement_chain()
+    ensures { LawChain }
+{}
+
+/// The row of optional catch, at whatever places of whatever statements, with whatever helpers.
+pub fn law_statement_catch()
+    ensures { LawCatch }
+{}
+
+/// Runs alike compose, so that rows may be taken one after another.
+pub fn law_then()
+    ensures { LawThen }
+{}
+
+/// The row of object spread under External helpers, at whatever places of whatever statements.
+pub fn law_statement_spread()
+    ensures { LawSpread }
+{}
+
+/// `using` in a block under External helpers: its list becomes the one of a `try` with a context, at whatever places of whatever statements.
+pub fn law_statement_using()
+    ensures { LawUsing }
+{}
+
+/// The catch clause of object rest: an object pattern is bound in a block inside, at whatever places, with whatever helpers.
+pub fn law_statement_catch_pattern()
+    ensures { LawCatchPattern }
+{}
+
+/// The heads of for-of and for-in of object rest: an object pattern is bound in a block inside the body, at whatever places, with whatever helpers.
+pub fn law_statement_head()
+    ensures { LawHead }
+{}
+
+/// Names of the top may be set later in the source than in the target: declarations by `let` become declarations by `var`.
+pub fn law_statement_later()
+    ensures { LawLater }
+{}
