@@ -82,3 +82,12 @@ pub mod BridgeLaws
 pub mod BridgeInclusion
 pub mod BridgeSources
 pub mod BridgeStart
+pub mod Sites
+pub mod BodyPlaces
+pub mod SitesStay
+pub mod LocalSteps
+pub mod LocalRules
+pub mod ProgramScopes
+pub mod SourceSites
+pub mod TableSites
+pub mod RowsInside

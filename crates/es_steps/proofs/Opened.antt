@@ -21,7 +21,7 @@ mutual
   pub finished-opened : (t : Tree) → finished (opened t) ≡ t
   finished-opened (node k l fs) = λ i. node k l (finished-fields (is_body k) fs i)
 
-  finished-fields : (bs : ℕ → Bool) (fs : Fields) → finished_fields (opened_fields bs fs) ≡ fs
+  pub finished-fields : (bs : ℕ → Bool) (fs : Fields) → finished_fields (opened_fields bs fs) ≡ fs
   finished-fields bs done = refl
   finished-fields bs (f then fs) = λ i. finished-field (bs 0) f i then finished-fields (λ i. bs (suc i)) fs i
 

@@ -55,7 +55,7 @@ module _ (R : Site → Ledger → Spot → Ledger → Spot → Type 0) (law : La
     recalled (acts {n = n} {s = s} {s' = s'} t u h) = record { freer = writes.freer n s s' (at_node t) (at_node u) h; same = writes.same_called n s s' (at_node t) (at_node u) h }
     recalled (inside h) = recalled-in h
 
-    recalled-in : {c : ℕ → Site} {s s' : Ledger} {fs gs : OpenFields} → FieldsStep R c s fs s' gs → Recalled (whole_in s) (whole_in s')
+    pub recalled-in : {c : ℕ → Site} {s s' : Ledger} {fs gs : OpenFields} → FieldsStep R c s fs s' gs → Recalled (whole_in s) (whole_in s')
     recalled-in (in_first h) = recalled-by h
     recalled-in (in_later h) = recalled-in h
 

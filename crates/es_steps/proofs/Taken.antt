@@ -324,7 +324,7 @@ declaration-called : (f : ℕ → Text) (kind : Text) (ds : List Tree) (ts : Tre
 declaration-called f kind [] ts h = h
 declaration-called f kind (d ∷ ds) ts h = h.1
 
-body-called : (f : ℕ → Text) (vs ls : List Tree) (e : Tree) → Called f (body_with vs ls e) → Called f e
+pub body-called : (f : ℕ → Text) (vs ls : List Tree) (e : Tree) → Called f (body_with vs ls e) → Called f e
 body-called f [] [] e h = h
 body-called f [] (d ∷ ls) e h = h.1.1.0.1.0.1.0
 body-called f (v ∷ vs) ls e h = (declaration-called f (codes "let") ls _ h.1.1.0.1).0.1.0
@@ -371,7 +371,7 @@ module _ (R : Site → Ledger → Spot → Ledger → Spot → Type 0) (law : La
     taken (acts {n = n} {s = s} {s' = s'} t u h) used = at-node n s s' t u h used
     taken (inside {n = n} {s = s} {s' = s'} {k = k} {l = l} {fs = fs} {gs = gs} h) used = in-node n s s' k l (finished_fields fs) (finished_fields gs) used.0 (taken-in h (used.0.1, used.1.1))
 
-    taken-in : {c : ℕ → Site} {s s' : Ledger} {fs gs : OpenFields} → FieldsStep R c s fs s' gs → UsedIn (whole_in s) (λ i. (c i).role) (finished_fields fs) → Outcome (λ k d. KeptIn k (λ i. (c i).names) d (λ i. (c i).role) (finished_fields fs) (finished_fields gs)) s s'
+    pub taken-in : {c : ℕ → Site} {s s' : Ledger} {fs gs : OpenFields} → FieldsStep R c s fs s' gs → UsedIn (whole_in s) (λ i. (c i).role) (finished_fields fs) → Outcome (λ k d. KeptIn k (λ i. (c i).names) d (λ i. (c i).role) (finished_fields fs) (finished_fields gs)) s s'
     taken-in (in_first {c = c} {s = s} {s' = s'} {f = f} {g = g} {fs = fs} h) used = let o = taken-by h (used.0.0, used.1.0) in over o (left-fields (known o) (λ i. (c i).names) o.change (λ i. (c i).role) (finished_field f) (finished_field g) (finished_fields fs) used.0.1 o.kept (same-in (plain (known o)) (λ i. (c (suc i)).names) (λ i. (c (suc i)).role) (finished_fields fs) used.0.1))
     taken-in (in_later {c = c} {s = s} {s' = s'} {f = f} {fs = fs} {gs = gs} h) used = let o = taken-in h (used.0.1, used.1.1) in over o (right-fields (known o) (λ i. (c i).names) o.change (λ i. (c i).role) (finished_field f) (finished_fields fs) (finished_fields gs) used.0.0 (same-by (plain (known o)) (c zero).names (c zero).role (finished_field f) used.0.0) o.kept)
 

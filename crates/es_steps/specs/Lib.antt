@@ -23,6 +23,8 @@ pub mod Slots
 pub mod WrapRule
 pub mod CoreRules
 pub mod AllRules
+pub mod Sites
+pub mod SourceSites
 pub mod Bindings
 pub mod Laws
 pub mod CoreLaws

@@ -8,6 +8,8 @@ ghost use Rattle.es_steps.specs.DerivedPrograms.{LawDerivedPrograms};
 ghost use Rattle.es_steps.specs.FormLaws.{LawCoreForm, LawForm, LawFormReached};
 ghost use Rattle.es_steps.specs.Laws.{LawBindings, LawReached, LawStart, LawSteps};
 ghost use Rattle.es_steps.specs.RowExamples.{LawRowExamples};
+ghost use Rattle.es_steps.specs.Sites.{LawAlike, LawAlikeOnFewer, LawCoreLocal, LawCoreSites, LawCoreStepsLocal, LawInwards, LawLocal, LawRowsInside, LawRowsWithoutArrows, LawSites, LawStepsLocal, LawStepsWithoutArrows};
+ghost use Rattle.es_steps.specs.SourceSites.{LawSourceSites, LawTableSites};
 
 /// A source is well bound: each of its names is resolved and in use, and each of its symbols is bound by one scope and has one name.
 pub fn law_start()
@@ -107,4 +109,76 @@ pub fn law_kept_by_symbols()
 /// Such steps can begin at each program, where the names that rules write of themselves are in use.
 pub fn law_first_whole()
     ensures { LawFirstWhole }
+{}
+
+/// To be alike is an equivalence of sites.
+pub fn law_alike()
+    ensures { LawAlike }
+{}
+
+/// Sites that are alike on some names are alike on fewer.
+pub fn law_alike_on_fewer()
+    ensures { LawAlikeOnFewer }
+{}
+
+/// In each field of a node alike sites have alike sites, and in the body of an arrow.
+pub fn law_inwards()
+    ensures { LawInwards }
+{}
+
+/// A step inside the fields of a node leaves the site of each field alike on the names that were in use.
+pub fn law_sites()
+    ensures { LawSites }
+{}
+
+/// So does a step of the core rules that options ask for.
+pub fn law_core_sites()
+    ensures { LawCoreSites }
+{}
+
+/// A core rule that acts at a site acts at each that is alike on `Math`.
+pub fn law_core_local()
+    ensures { LawCoreLocal }
+{}
+
+/// A rule that acts at a site acts at each that is alike on the names that rules write themselves and on the name that is pending for
+/// `this`.
+pub fn law_local()
+    ensures { LawLocal }
+{}
+
+/// A step of the core rules at a site is one at each that is alike on `Math`.
+pub fn law_core_steps_local()
+    ensures { LawCoreStepsLocal }
+{}
+
+/// A step of any rules at a site is one at each that is alike on the names in use.
+pub fn law_steps_local()
+    ensures { LawStepsLocal }
+{}
+
+/// Where a node of a program stands in its source, each name finds what it finds among the program's symbols.
+pub fn law_source_sites()
+    ensures { LawSourceSites }
+{}
+
+/// So each name finds what look-up in the program's scope table finds from there.
+pub fn law_table_sites()
+    ensures { LawTableSites }
+{}
+
+/// Steps of the core rules in a row inside the fields of a node, at the sites as they were before the first, are steps of the node, and
+/// leave the site of each field alike.
+pub fn law_rows_inside()
+    ensures { LawRowsInside }
+{}
+
+/// A step of any rules but those of arrows at a site is one at each that is alike on the names that rules write.
+pub fn law_steps_without_arrows()
+    ensures { LawStepsWithoutArrows }
+{}
+
+/// Steps of any rules but those of arrows in a row inside the fields of a node are steps of the node, too.
+pub fn law_rows_without_arrows()
+    ensures { LawRowsWithoutArrows }
 {}

@@ -1,0 +1,5 @@
+use Rattle.es_steps.proofs.Sites.{law_alike_proof}
+use Rattle.es_steps.proofs.law_alike.Goals as goal
+
+pub returns : goal.returns
+returns c = law_alike_proof

@@ -1,0 +1,5 @@
+use Rattle.es_steps.proofs.SitesStay.{law_sites_proof}
+use Rattle.es_steps.proofs.law_sites.Goals as goal
+
+pub returns : goal.returns
+returns c = law_sites_proof
