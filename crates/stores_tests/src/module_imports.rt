@@ -52,11 +52,29 @@ fn in_order(rt: HostRuntime) -> Result<(), Fail> {
     let mut store = ModuleImportsStore::new(alloc);
     assert!(rt; store.is_empty());
     store.add_default_import(text(alloc, "m1")?, bound(alloc, "X")?, false)?;
-    store.add_named_import(text(alloc, "m2")?, text(alloc, "n")?, bound(alloc, "Y")?, true)?;
-    store.add_named_import(text(alloc, "m1")?, text(alloc, "k")?, bound(alloc, "W")?, true)?;
-    store.add_named_import(text(alloc, "m2")?, text(alloc, "o")?, bound(alloc, "V")?, false)?;
+    store.add_named_import(
+        text(alloc, "m2")?,
+        text(alloc, "n")?,
+        bound(alloc, "Y")?,
+        true,
+    )?;
+    store.add_named_import(
+        text(alloc, "m1")?,
+        text(alloc, "k")?,
+        bound(alloc, "W")?,
+        true,
+    )?;
+    store.add_named_import(
+        text(alloc, "m2")?,
+        text(alloc, "o")?,
+        bound(alloc, "V")?,
+        false,
+    )?;
     assert!(rt; !store.is_empty());
-    assert_eq!(rt; shown(alloc, &mut store)?.as_str(), "m1: X k as W;m2: n as Y o as V;");
+    assert_eq!(rt;
+        shown(alloc, &mut store)?.as_str(),
+        "m1: X k as W;m2: n as Y o as V;"
+    );
     assert!(rt; store.is_empty());
     Ok(())
 }

@@ -6,6 +6,7 @@ use std::alloc::{AllocError, Global};
 use std::test::Fail;
 
 const S: NodeId = NodeId(1);
+
 const T: NodeId = NodeId(2);
 
 /// Before and after the statement with the first id what the calls of all kinds put there.
@@ -41,6 +42,9 @@ fn moved_to_another(rt: HostRuntime) -> Result<(), Fail> {
     store.move_insertions(T, T)?;
     let mut statements = Vec::from_array(alloc, [named(alloc, S, "s")?, named(alloc, T, "t")?])?;
     store.insert_into_statements(&mut statements)?;
-    assert_eq!(rt; shown(alloc, &statements)?.as_str(), " s p m1 m2 b1 t a1 a2");
+    assert_eq!(rt;
+        shown(alloc, &statements)?.as_str(),
+        " s p m1 m2 b1 t a1 a2"
+    );
     Ok(())
 }

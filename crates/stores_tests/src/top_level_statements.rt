@@ -22,8 +22,14 @@ fn behind_the_imports(rt: HostRuntime) -> Result<(), Fail> {
         body: Vec::from_array(alloc, body)?,
     };
     store.insert_into_program(&mut program)?;
-    assert_eq!(rt; shown(alloc, &program.body)?.as_str(), " import x y z s import");
+    assert_eq!(rt;
+        shown(alloc, &program.body)?.as_str(),
+        " import x y z s import"
+    );
     store.insert_into_program(&mut program)?;
-    assert_eq!(rt; shown(alloc, &program.body)?.as_str(), " import x y z s import");
+    assert_eq!(rt;
+        shown(alloc, &program.body)?.as_str(),
+        " import x y z s import"
+    );
     Ok(())
 }
