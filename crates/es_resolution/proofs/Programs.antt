@@ -81,7 +81,7 @@ module _ (l : Label) (fs : Fields) (placed : PlacedIn Program fs) where
   pub root-bodies : BodiesIn F 1 Program 0 A no_name no_name fs
   root-bodies = record { others = λ c x. refl; bodies = λ c. absurd (cc c) }
 
-  root-sees : SeesIn F 1 Program 0 None R A (λ i. inner nowhere Program label R gs) (inner nowhere Program label R gs) no_name no_name fs
+  pub root-sees : SeesIn F 1 Program 0 None R A (λ i. inner nowhere Program label R gs) (inner nowhere Program label R gs) no_name no_name fs
   root-sees = record {
     some = λ i. tt;
     scope = λ i x. root-inner x;

@@ -11,6 +11,12 @@ pub mod WorkedRuns
 pub mod Instances
 pub mod Rows
 pub mod Kernels
+pub mod Fine
+pub mod FineStatements
+pub mod MeantKinds
+pub mod MeantSenses
+pub mod MeantParts
+pub mod MeantProof
 pub mod ScopeExamples
 pub mod Programs
 pub mod MoreRows

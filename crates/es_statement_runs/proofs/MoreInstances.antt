@@ -1,8 +1,8 @@
 -- The laws of rows at some programs, so that it is seen that their premises can be met.
 use Rattle.std.proofs.Common.{◌≡◌, refl, []}
-use Rattle.std.specs.Prelude.{Bool, true, false, ◌∷◌, Some, codes}
+use Rattle.std.specs.Prelude.{ℕ, Bool, List, true, false, ◌∷◌, Some, codes}
 use Rattle.es_tree.specs.Words.{Text}
-use Rattle.es_tree.specs.declared.ast_type.AstType.TheVariants.{WhileStatement, TryStatement, IfStatement, AssignmentExpression, BinaryExpression, ChainExpression, MemberExpression, Identifier, ForOfStatement, PatternProperty, RestElement, VariableDeclaration, CatchClause}
+use Rattle.es_tree.specs.declared.ast_type.AstType.TheVariants.{BreakStatement, WhileStatement, TryStatement, IfStatement, AssignmentExpression, BinaryExpression, ChainExpression, MemberExpression, Identifier, ForOfStatement, PatternProperty, RestElement, VariableDeclaration, CatchClause}
 use Rattle.es_tree.specs.Tree.{Tree, node, done, ◌then◌, one, missing, Trees, empty, ◌before◌, many}
 use Rattle.es_runs.specs.Core.{Binding}
 use Rattle.es_runs.specs.Core.Silent.{helper_name, keys_name}
@@ -45,13 +45,17 @@ use Rattle.es_statement_runs.proofs.Later.{law_later_proof}
 use Rattle.es_statement_runs.proofs.CatchPatterns.{law_catch_pattern_proof}
 use Rattle.es_statement_runs.proofs.Heads.{law_head_proof}
 use Rattle.es_statement_runs.proofs.Chains.{law_chain_proof}
-use Rattle.es_statement_runs.specs.Runs.{RunAlike}
+use Rattle.es_runs.specs.Machine.{Value, Move}
+use Rattle.es_statement_runs.specs.Runs.{RunAlike, run, outcome}
+use Rattle.es_statement_runs.specs.Runs.Outcome.{meaningless}
+use Rattle.es_statement_runs.specs.Meant.{is_meant}
+use Rattle.es_statement_runs.proofs.MeantProof.{law_meant_proof}
 use Rattle.es_statement_runs.proofs.Catches.{law_catch_proof}
 use Rattle.es_statement_runs.proofs.Everywhere.{close_self}
 use Rattle.es_statement_runs.proofs.Spreads.{law_spread_proof}
 use Rattle.es_statement_runs.proofs.MoreRows.{law_power_proof, law_assign_proof}
 use Rattle.es_statement_runs.proofs.Using.{law_using_proof}
-use Rattle.es_statement_runs.proofs.Examples.{plain, x_, statement, block, label_l, break_l, declaration, called, assign, property}
+use Rattle.es_statement_runs.proofs.Examples.{plain, x_, statement, block, label_l, break_l, declaration, called, assign, property, object_script, array_script, head_source, for_let, switch_script, shadow_script, using_source, spread_source}
 
 -- `while (t) { using x = a; l: { f(x); break l; } }` with External helpers
 abbrev c_ : Text
@@ -88,6 +92,40 @@ using_rows = close_before (within refl refl refl refl refl refl refl (close_then
 
 using_here : RunAlike by_global false (program (made [] []) empty using_body) (program (made [] []) empty wrapped_body)
 using_here = law_using_proof c_ (made [] []) empty using_body wrapped_body using_rows here_var refl refl refl refl refl refl refl (record { global = refl; require = refl }) refl refl
+
+-- it means something, and so its run never ends without meaning
+meant_here : is_meant by_global (program (made [] []) empty using_body) ≡ true
+meant_here = refl
+
+never_here : (n : ℕ) (this : Value) (moves : List Move) → outcome (run by_global n (program (made [] []) empty using_body) this moves) ≡ meaningless → ⊥
+never_here n this moves = law_meant_proof by_global n (program (made [] []) empty using_body) refl refl this moves
+
+-- and so do programs with destructuring, an iterator, a `switch` and a loop that declares
+meant_patterns : (is_meant no_helpers object_script ≡ true) × (is_meant no_helpers array_script ≡ true)
+meant_patterns = (refl, refl)
+
+meant_loops : (is_meant no_helpers head_source ≡ true) × (is_meant no_helpers for_let ≡ true)
+meant_loops = (refl, refl)
+
+meant_scopes : (is_meant no_helpers switch_script ≡ true) × (is_meant no_helpers shadow_script ≡ true)
+meant_scopes = (refl, refl)
+
+meant_parts : (is_meant by_global using_source ≡ true) × (is_meant no_helpers spread_source ≡ true)
+meant_parts = (refl, refl)
+
+-- a mark means something in a chain alone
+abbrev a_marked_member : Tree
+a_marked_member = node MemberExpression (made [] (false ∷ true ∷ [])) (one (x_ (codes "a")) then one (x_ (codes "b")) then done)
+
+meant_mark : is_meant no_helpers (program (made [] []) empty (statement (plain ChainExpression (one a_marked_member then done)) before empty)) ≡ true
+meant_mark = refl
+
+mark_unmeant : is_meant no_helpers (program (made [] []) empty (statement a_marked_member before empty)) ≡ false
+mark_unmeant = refl
+
+-- a `break` outside of what it ends means nothing
+break_unmeant : is_meant no_helpers (program (made [] []) empty (plain BreakStatement (missing then done) before empty)) ≡ false
+break_unmeant = refl
 
 -- `while (t) { try { f(); } catch { g(); } }`
 abbrev trying : Tree → Tree

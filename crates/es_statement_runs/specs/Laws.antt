@@ -28,13 +28,16 @@ use Rattle.es_statement_runs.specs.Helpers.Supply.{no_helpers, by_global}
 use Rattle.es_statement_runs.specs.Scopes.{are_program_names, is_own_cell, turns_cell, stack_cell}
 use Rattle.es_statement_runs.specs.Places.{placed_at, HelpersSeen, all_good, target_taken, bad_anywhere, SupplySeen, Take, take, value_taken, quiet_at, Close, CloseTrees, avoids, avoids_trees}
 use Rattle.es_statement_runs.specs.Names.{own_use, own_names, lexical_names, lexical_in, names_of_all, is_word, declared_at_top, top_in, using_in}
-use Rattle.es_statement_runs.specs.Patterns.{collected, Member, members_of}
+use Rattle.es_runs.specs.Machine.Value.{text}
+use Rattle.es_statement_runs.specs.Patterns.{collected, Member, members_of, Putter, property_of}
 use Rattle.es_statement_runs.specs.Patterns.Member.{keyed}
 use Rattle.es_statement_runs.specs.Senses.{Place}
 use Rattle.es_statement_runs.specs.Senses.More.{nothing_more}
 use Rattle.es_statement_runs.specs.Kinds.{sense}
 use Rattle.es_statement_runs.specs.Calls.{is_spread}
 use Rattle.es_statement_runs.specs.Runs.{RunAlike, run, outcome}
+use Rattle.es_statement_runs.specs.Runs.Outcome.{meaningless}
+use Rattle.es_statement_runs.specs.Meant.{is_meant}
 
 -- the place of a program without helpers
 abbrev pub quiet_place : World → Place
@@ -433,6 +436,26 @@ all_keyed (f ∷ fs) = keyed f ∷ all_keyed fs
 abbrev pub LawGroups : Type 0
 LawGroups = (v : Value) (ks : Values) (fs : List (Value → M Value)) (ms : List Member) (s : State) → members_of v ks (all_keyed fs ++ ms) s ≡ (group_keys v fs >>= λ us. members_of v (joined ks us) ms) s
 
+-- a property of an object pattern whose key isn't computed, or is a literal: its key, the text that it excludes, and its target
+pub record StaticProperty : Type 0 where
+  pub key : M Value
+  pub excluded : Text
+  pub target : M Putter
+
+abbrev pub static_properties : List StaticProperty → List (Value → M Value)
+static_properties [] = []
+static_properties (p ∷ ps) = property_of p.key (Some p.excluded) p.target ∷ static_properties ps
+
+abbrev pub static_keys : List StaticProperty → Values
+static_keys [] = none
+static_keys (p ∷ ps) = text p.excluded and static_keys ps
+
+-- Such properties may be put first, as a pattern of their own; what stands after excludes their texts, as `objectWithoutProperties` does with a list
+-- of these.
+abbrev pub LawParted : Type 0
+LawParted = (v : Value) (ks : Values) (ps : List StaticProperty) (ms : List Member) (s : State) →
+    members_of v ks (all_keyed (static_properties ps) ++ ms) s ≡ (members_of v ks (all_keyed (static_properties ps)) >>= λ _. members_of v (joined ks (static_keys ps)) ms) s
+
 -- THE CLASS OF PROGRAMS
 
 -- A program whose nodes are core is without functions, arrows and classes.
@@ -442,3 +465,8 @@ LawCoreClass = (t : Tree) → is_core t ≡ true → is_without_functions t ≡ 
 -- In a program that uses no helper itself no name stands for one.
 abbrev pub LawNoHelper : Type 0
 LawNoHelper = (u : Supply) (p : Tree) → uses_no_helper u p ≡ true → helper_names u p ≡ []
+
+-- PROGRAMS THAT MEAN SOMETHING: no run of theirs ends without meaning, that is by a node without meaning, a mark outside a chain, or a `break` or
+-- `continue` that ends nothing, where no name stands for a helper.
+abbrev pub LawMeant : Type 0
+LawMeant = (u : Supply) (n : ℕ) (p : Tree) → is_meant u p ≡ true → helper_names u p ≡ [] → (this : Value) (moves : List Move) → (outcome (run u n p this moves) ≡ meaningless) → ⊥

@@ -12,4 +12,5 @@ pub mod Programs
 pub mod Runs
 pub mod Places
 pub mod Alike
+pub mod Meant
 pub mod Laws

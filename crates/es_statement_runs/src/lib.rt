@@ -2,7 +2,7 @@
 //! definitions.
 #![tactic(auto)]
 
-ghost use Rattle.es_statement_runs.specs.Laws.{LawAssign, LawCatch, LawCatchPattern, LawChain, LawCollected, LawCoreClass, LawCoreMeaning, LawCoreRun, LawFresh, LawGroups, LawHead, LawLater, LawNoHelper, LawNullish, LawPlace, LawPower, LawSpread, LawThen, LawUsing};
+ghost use Rattle.es_statement_runs.specs.Laws.{LawAssign, LawCatch, LawCatchPattern, LawChain, LawCollected, LawCoreClass, LawCoreMeaning, LawCoreRun, LawFresh, LawGroups, LawHead, LawLater, LawMeant, LawNoHelper, LawNullish, LawParted, LawPlace, LawPower, LawSpread, LawThen, LawUsing};
 
 /// A tree of core kinds means what it means in the core.
 pub fn law_core_meaning()
@@ -100,4 +100,14 @@ pub fn law_statement_head()
 /// Names of the top may be set later in the source than in the target: declarations by `let` become declarations by `var`.
 pub fn law_statement_later()
     ensures { LawLater }
+{}
+
+/// A program that means something never ends without meaning, however helpers are supplied, where no name of its stands for one.
+pub fn law_meant()
+    ensures { LawMeant }
+{}
+
+/// The properties of an object pattern with static keys may be put first, as a pattern of their own; what stands after excludes their texts.
+pub fn law_parted()
+    ensures { LawParted }
 {}

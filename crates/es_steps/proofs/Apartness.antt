@@ -24,7 +24,7 @@ use Rattle.es_steps.specs.Steps.{Whole}
 use Rattle.es_steps.specs.Patterns.{avoiding, no_name_of}
 use Rattle.es_steps.specs.ParameterPatterns.{parameter_names, lexical_names, var_names, StandsApart, HoldsPattern, MayMove}
 use Rattle.es_steps.specs.ParameterPatterns.HoldsPattern.{alone, with_default}
-use Rattle.es_steps.proofs.Basics.{bytes_eq-self, bytes_eq-equal}
+use Rattle.es_resolution.proofs.Basics.{bytes_eq-self, bytes_eq-equal}
 use Rattle.es_steps.proofs.Inserted.{apart-names}
 use Rattle.es_steps.proofs.Taken.{called-joined}
 

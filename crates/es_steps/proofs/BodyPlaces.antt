@@ -13,7 +13,7 @@ use Rattle.es_steps.specs.Nodes.{declaration_node, declarator, return_node}
 use Rattle.es_steps.specs.Open.{Additions, Pending, declaration, written}
 use Rattle.es_steps.specs.Steps.{IsExpression, Whole, names_in_body}
 use Rattle.es_steps.specs.Steps.Ledger.{ledger}
-use Rattle.es_steps.proofs.Basics.{either_of, if_none, sought-append}
+use Rattle.es_resolution.proofs.Basics.{either_of, if_none, sought-append}
 use Rattle.es_steps.proofs.Bodies.{pending_of}
 use Rattle.es_steps.proofs.Kept.{Change}
 use Rattle.es_steps.proofs.Kept.Change.{above, below, lexed, sealed}

@@ -18,7 +18,7 @@ use Rattle.es_resolution.specs.Declarations.{Bound, sought, symbol_of, has_scope
 use Rattle.es_resolution.specs.Resolved.{Place, or_around, name_frame, frame, var_frame, around, vars_in, inner, hoisting, place_in, parameters_in, nowhere, no_name, IsRight, OwnRight, Resolved, ResolvedIn, ResolvedBy, ResolvedAll, IsResolved}
 use Rattle.es_resolution.specs.Single.{binds, is_var_of, own_binds, one_if, scopes_with, scopes_in, scopes_by, scopes_among, IsSingle}
 use Rattle.es_steps.specs.Bindings.{SymbolPasses, OwnSymbolPasses, SymbolsPass, SymbolsPassIn, SymbolsPassBy, SymbolsPassAll, is_bound_once}
-use Rattle.es_steps.proofs.Basics.{bytes_eq-equal}
+use Rattle.es_resolution.proofs.Basics.{bytes_eq-equal}
 use Rattle.es_steps.proofs.Nodes.{node_scopes, var-inside}
 
 -- WHAT IS FOUND IS BOUND

@@ -10,7 +10,7 @@ use Rattle.es_tree.specs.declared.ast_type.AstType.{AstType}
 use Rattle.es_tree.specs.declared.ast_type.AstType.TheVariants.{ArrayPattern, ArrowFunctionExpression, AssignmentPattern, ObjectPattern, PatternProperty, Program, RestElement}
 use Rattle.es_tree.specs.declared.options.EnvOptions.{EnvOptions}
 use Rattle.es_semantic.specs.declared.place.Role.{Role}
-use Rattle.es_steps.specs.AllRules.{RestRule, further_rules}
+use Rattle.es_steps.specs.AllRules.{RestRule, UsingRule, further_rules}
 use Rattle.es_steps.specs.Arrows.{ArrowRule}
 use Rattle.es_steps.specs.Arrows.ArrowRule.{by_name, by_new_name, with_body, with_expression}
 use Rattle.es_steps.specs.CatchPatterns.CatchRest.{moves}
@@ -36,8 +36,13 @@ use Rattle.es_steps.specs.Rules.{Replacing, either_rule}
 use Rattle.es_steps.specs.Rules.Replacing.{replaces}
 use Rattle.es_steps.specs.Steps.{Whole, Ledger, Site, Spot, at_node}
 use Rattle.es_steps.specs.ThisPlaces.{belongs_to_arrow, keeps_this}
-use Rattle.es_steps.specs.UsingBlocks.{UsingRule}
-use Rattle.es_steps.specs.UsingBlocks.UsingRule.{of_block}
+use Rattle.es_steps.specs.UsingBlocks.BlockUsing.{of_block, of_part}
+use Rattle.es_steps.specs.UsingBodies.IsClass.{class_declaration, class_expression}
+use Rattle.es_steps.specs.UsingBodies.BodyUsing.{of_declaration, of_expression, of_arrow, of_static_block}
+use Rattle.es_steps.specs.UsingLoops.HeadUsing.{of_head}
+use Rattle.es_steps.specs.UsingLoops.LoopUsing.{of_loop}
+use Rattle.es_steps.specs.UsingLoops.UsesInHead.{in_head, with_label}
+use Rattle.es_steps.specs.UsingSwitches.SwitchUsing.{of_switch}
 use Rattle.es_steps.proofs.BridgeLinks.{Tied, TiedAll, is_part_kind}
 use Rattle.es_steps.proofs.BridgeSteps.{AboveFits, is_at_node, rule_of}
 
@@ -64,7 +69,15 @@ rest-spot (inr (inr (inr (inr (in_expression a b c))))) = refl
 rest-spot (inr (inr (inr (inr (in_arrow a b))))) = refl
 
 using-spot : {n : Site} {s s' : Ledger} {x y : Spot} → UsingRule n s x s' y → is_at_node x ≡ true
-using-spot (of_block a b c d e) = refl
+using-spot (inl (of_block a b c d)) = refl
+using-spot (inl (of_part a b c d)) = refl
+using-spot (inr (inl (of_declaration a b c d e f))) = refl
+using-spot (inr (inl (of_expression a b c d e f))) = refl
+using-spot (inr (inl (of_arrow a b c d e))) = refl
+using-spot (inr (inl (of_static_block l xs zs ts us a b c d e))) = refl
+using-spot (inr (inr (inl (of_loop a b c)))) = refl
+using-spot (inr (inr (inr (inl (of_switch a b c d))))) = refl
+using-spot (inr (inr (inr (inr (of_head a b c d e))))) = refl
 
 arrow-spot : {n : Site} {s s' : Ledger} {x y : Spot} → ArrowRule n s x s' y → is_at_node x ≡ true
 arrow-spot (by_name a b c d e f) = refl
@@ -148,7 +161,17 @@ module _ (used : Text → Bool) (look : Text → Option ℕ) where
   no-objects a (inr r) h = no-rest-rule a r h
 
   no-using : (a : Bool) {n : Site} {s s' : Ledger} {t : Tree} {y : Spot} → UsingRule n s (at_node t) s' y → Tied used look a t → ⊥
-  no-using a (of_block b c d e f) h = cc (h.0)
+  no-using a (inl (of_block b c d e)) h = cc (h.0)
+  no-using a (inl (of_part b c d e)) h = cc (h.0)
+  no-using a (inr (inl (of_declaration b c d e f g))) h = cc (h.0)
+  no-using a (inr (inl (of_expression b c d e f g))) h = cc (h.0)
+  no-using a (inr (inl (of_arrow b c d e f))) h = cc (h.0)
+  no-using a (inr (inl (of_static_block l xs zs ts us class_declaration c d e f))) h = cc (h.0)
+  no-using a (inr (inl (of_static_block l xs zs ts us class_expression c d e f))) h = cc (h.0)
+  no-using a (inr (inr (inl (of_loop b c (in_head d e))))) h = cc (h.0)
+  no-using a (inr (inr (inl (of_loop b c (with_label d))))) h = cc (h.0)
+  no-using a (inr (inr (inr (inl (of_switch b c d e))))) h = cc (h.0)
+  no-using a (inr (inr (inr (inr (of_head b c d e f))))) h = cc (h.0)
 
   no-arrow-rule : (a : Bool) {n : Site} {s s' : Ledger} {t : Tree} {y : Spot} → ArrowRule n s (at_node t) s' y → AboveFits n.above → Tied used look a t → ⊥
   no-arrow-rule a {n} (by_name b c d e f g) up h = let no : false ≡ true = sym (no-arrow-around n.above up) ∙ c in cc no
@@ -196,7 +219,17 @@ objects-kind (inl (replaces bs r)) = spread-kind r
 objects-kind (inr r) = rest-kind r
 
 using-kind : {n : Site} {s s' : Ledger} {t : Tree} {y : Spot} → UsingRule n s (at_node t) s' y → is_no_program t ≡ true
-using-kind (of_block a b c d e) = refl
+using-kind (inl (of_block a b c d)) = refl
+using-kind (inl (of_part a b c d)) = refl
+using-kind (inr (inl (of_declaration a b c d e f))) = refl
+using-kind (inr (inl (of_expression a b c d e f))) = refl
+using-kind (inr (inl (of_arrow a b c d e))) = refl
+using-kind (inr (inl (of_static_block l xs zs ts us class_declaration b c d e))) = refl
+using-kind (inr (inl (of_static_block l xs zs ts us class_expression b c d e))) = refl
+using-kind (inr (inr (inl (of_loop a b (in_head c d))))) = refl
+using-kind (inr (inr (inl (of_loop a b (with_label c))))) = refl
+using-kind (inr (inr (inr (inl (of_switch a b c d))))) = refl
+using-kind (inr (inr (inr (inr (of_head a b c d e))))) = refl
 
 arrow-kind : {n : Site} {s s' : Ledger} {t : Tree} {y : Spot} → ArrowRule n s (at_node t) s' y → is_no_program t ≡ true
 arrow-kind (by_name a b c d e f) = refl

@@ -10,7 +10,7 @@ use Rattle.es_steps.specs.Steps.Steps.{stays, goes}
 
 module _ (R Q : Site → Ledger → Spot → Ledger → Spot → Type 0) (under : (n : Site) (s : Ledger) (x : Spot) (s' : Ledger) (y : Spot) → R n s x s' y → Q n s x s' y) where
   mutual
-    step_under : {n : Site} {s s' : Ledger} {o u : Open} → Step R n s o s' u → Step Q n s o s' u
+    pub step_under : {n : Site} {s s' : Ledger} {o u : Open} → Step R n s o s' u → Step Q n s o s' u
     step_under (acts t u r) = acts t u (under _ _ _ _ _ r)
     step_under (inside r) = inside (fields_under r)
 

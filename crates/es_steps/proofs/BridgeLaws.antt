@@ -2,7 +2,6 @@
 use Rattle.std.proofs.Common.{◌≡◌, inl, inr, ℕ, refl, sym, ap, subst, ◌∙◌, List}
 use Rattle.std.specs.Prelude.{Bool, true, false, Option, Some, None, codes, is_some}
 use Rattle.es_tree.specs.Bare.{bare}
-use Rattle.es_tree.specs.Core.{IsCoreProgram}
 use Rattle.es_tree.specs.Tree.{Tree, node, Label, Fields, kind_of}
 use Rattle.es_tree.specs.Words.{Text}
 use Rattle.es_tree.specs.declared.ast_type.AstType.{AstType}
@@ -13,7 +12,6 @@ use Rattle.es_runs.specs.Open as plain
 use Rattle.es_runs.specs.OpenRules as rules
 use Rattle.es_runs.specs.OpenSteps as steps
 use Rattle.es_runs.specs.OpenSteps.Step.{inside as plain_inside}
-use Rattle.es_runs.proofs.OpenLaws.{source_open}
 use Rattle.es_runs.proofs.OpenParts.{append_steps, one_step_alone}
 use Rattle.es_runs.proofs.OpenRuns.{IsOpenProgram, all_go}
 use Rattle.es_resolution.specs.Declarations.{Bound}
@@ -29,7 +27,7 @@ use Rattle.es_steps.specs.Open.{Open, open_node, OpenFields}
 use Rattle.es_steps.specs.OptionalChaining.{OptionalChainingRule}
 use Rattle.es_steps.specs.OptionalChaining.OptionalChainingRule.{by_tests, as_callee, in_delete}
 use Rattle.es_steps.specs.Rules.Replacing.{replaces}
-use Rattle.es_steps.specs.Steps.{Whole, Ledger, ledger, Site, at_node, Step, FieldsStep, Steps, site_in, the_program}
+use Rattle.es_steps.specs.Steps.{Whole, Ledger, ledger, Site, Spot, at_node, Step, FieldsStep, Steps, site_in, the_program}
 use Rattle.es_steps.specs.Steps.Step.{acts, inside}
 use Rattle.es_steps.specs.Steps.Steps.{stays, goes}
 use Rattle.es_steps.specs.WrapRule.WrapRule.{wraps}
@@ -39,7 +37,7 @@ use Rattle.es_steps.proofs.BridgeOpen.{OpenTiedIn}
 use Rattle.es_steps.proofs.BridgePlaces.{Passed, fields}
 use Rattle.es_steps.proofs.BridgePrograms.{program-found}
 use Rattle.es_steps.proofs.BridgeSteps.{LedgerTied, SiteFits, look_in, look_of, rule_of, used_in, writing-spot}
-use Rattle.es_steps.proofs.CoreSteps.{rule_core, steps_under}
+use Rattle.es_steps.proofs.BridgeInclusion.{step_under}
 
 module _ (v o g : EnvOptions) (p : Tree) where
   -- NO RULE ACTS ON A PROGRAM
@@ -109,17 +107,43 @@ module _ (v o g : EnvOptions) (p : Tree) where
   root-step s s' (acts (node k l fs) u r) h d known = absurd (no-root s s' k l fs u d.0 r)
   root-step s s' (inside {k = k} {l = l} {fs = fs} {gs = gs} r) h d known = inside-root k (sym d.0) s s' l fs gs r h d.1 known
 
-  -- MANY STEPS
+-- EACH ROW, ASKED FOR OR NOT
+
+-- options that ask for each row
+abbrev pub with_all : EnvOptions → EnvOptions
+with_all o = record o {
+  es2016 = record o.es2016 { exponentiation_operator = true };
+  es2020 = record o.es2020 { nullish_coalescing_operator = true; optional_chaining = true };
+  es2021 = record o.es2021 { logical_assignment_operators = true };
+}
+
+on-rule : (c : Bool) (R : Site → Ledger → Spot → Ledger → Spot → Type 0) (n : Site) (s : Ledger) (x : Spot) (s' : Ledger) (y : Spot) → where_on c R n s x s' y → R n s x s' y
+on-rule true R n s x s' y r = r
+on-rule false R n s x s' y r = absurd r
+
+pub with-rows : (v o g : EnvOptions) (n : Site) (s : Ledger) (x : Spot) (s' : Ledger) (y : Spot) → all_of v o g n s x s' y → all_of v (with_all o) g n s x s' y
+with-rows v o g n s x s' y (inr r) = inr r
+with-rows v o g n s x s' y (inl (inl r)) = inl (inl r)
+with-rows v o g n s x s' y (inl (inr (inl r))) = inl (inr (inl r))
+with-rows v o g n s x s' y (inl (inr (inr (inl r)))) = inl (inr (inr (inl (on-rule o.es2021.logical_assignment_operators (RowRule LogicalAssignmentRule) n s x s' y r))))
+with-rows v o g n s x s' y (inl (inr (inr (inr (inl (inl r)))))) = inl (inr (inr (inr (inl (inl (on-rule o.es2020.nullish_coalescing_operator (RowRule NullishCoalescingRule) n s x s' y r))))))
+with-rows v o g n s x s' y (inl (inr (inr (inr (inl (inr r)))))) = inl (inr (inr (inr (inl (inr (on-rule o.es2020.optional_chaining (RowRule (OptionalChainingRule o.assumptions.no_document_all)) n s x s' y r))))))
+with-rows v o g n s x s' y (inl (inr (inr (inr (inr r))))) = inl (inr (inr (inr (inr (on-rule o.es2016.exponentiation_operator (RowRule ExponentiationRule) n s x s' y r)))))
+
+-- MANY STEPS
+
+module _ (v o g : EnvOptions) (p : Tree) where
+  abbrev pub Going : Ledger → Open → Type 0
+  Going s t = IsOpenProgram (steps.whole_in (forgotten_ledger p s)) (forgotten t)
 
   abbrev PlainSteps : Ledger → Open → Type 0
   PlainSteps s t = steps.Steps (steps.Step (rules.rule_under o) all_of_it) (steps.ledger (steps.whole_of p) plain.nothing_pending) (plain.opened (bare p)) (forgotten_ledger p s) (forgotten t)
 
-  -- what steps so far tell of the open program
-  known-so-far : IsCoreProgram p → (s : Ledger) (t : Open) → PlainSteps s t → IsOpenProgram (steps.whole_in (forgotten_ledger p s)) (forgotten t)
-  known-so-far is s t so_far = (all_go o.assumptions.no_document_all (steps_under (rules.rule_under o) (rules.CoreRule o.assumptions.no_document_all) (rule_core o) so_far) (source_open p is)).after
+  still-going : (s s' : Ledger) {t u : Open} → Step (all_of v o g) the_program s t s' u → LedgerTied p s → RootTied v o g p (used_in p s) (look_in p s) t → Going s t → Going s' u
+  still-going s s' r h d known = (all_go o.assumptions.no_document_all (one_step_alone (root-step v (with_all o) g p s s' (step_under (all_of v o g) (all_of v (with_all o) g) (with-rows v o g) r) h d known).plain) known).after
 
-  pub many-steps : IsCoreProgram p → (s s' : Ledger) {t u : Open} → Steps (Step (all_of v o g) the_program) s t s' u → LedgerTied p s → RootTied (used_in p s) (look_in p s) t → PlainSteps s t → PlainSteps s' u
-  many-steps is s s' stays h d so_far = so_far
-  many-steps is s s' (goes {s' = m} {t = t} {u = u} r rest) h d so_far =
-      let g = root-step s m r h d (known-so-far is s t so_far) in
-      many-steps is m s' rest g.after g.tied (append_steps so_far (one_step_alone g.plain))
+  pub many-steps : (s s' : Ledger) {t u : Open} → Steps (Step (all_of v o g) the_program) s t s' u → LedgerTied p s → RootTied v o g p (used_in p s) (look_in p s) t → Going s t → PlainSteps s t → PlainSteps s' u
+  many-steps s s' stays h d known so_far = so_far
+  many-steps s s' (goes {s' = m} {t = t} {u = u} r rest) h d known so_far =
+      let g = root-step v o g p s m r h d known in
+      many-steps m s' rest g.after g.tied (still-going s m r h d known) (append_steps so_far (one_step_alone g.plain))

@@ -16,6 +16,7 @@ use Rattle.es_steps.specs.CoreBridge.{names_among}
 use Rattle.es_steps.specs.Duplication.{IsNext, is_among_symbols}
 use Rattle.es_steps.specs.Rules.{with_made, also_all as also_made}
 use Rattle.es_steps.specs.Steps.{Whole}
+use Rattle.es_steps.proofs.Nodes.{or_first}
 
 pub bytes_eq-self : (x : Text) → bytes_eq x x ≡ true
 bytes_eq-self x = (bytes_eq-Decides x x).1 refl
@@ -150,10 +151,6 @@ pub record LinkedAt (used : Text → Bool) (steady_symbol : ℕ → Bool) (free 
 
 abbrev pub Linked : Whole → (Text → Option ℕ) → (Text → Bool) → (Text → Bool) → Type 0
 Linked w look use_by_name steady_by_name = LinkedAt w.in_use w.steady w.free_symbol look use_by_name steady_by_name
-
-or_first : (a b : Bool) → (a || b) ≡ false → a ≡ false
-or_first true b h = h
-or_first false b h = refl
 
 some-same : (m n : ℕ) → ◌≡◌ {A = Option ℕ} (Some m) (Some n) → m ≡ n
 some-same m n e = cc e

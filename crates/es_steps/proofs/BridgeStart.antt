@@ -2,6 +2,7 @@
 use Rattle.std.proofs.Common.{inl, arith, ◌≡◌, ◌<◌, ◌≤◌, ◌+◌, ℕ, zero, suc, refl, sym, ap, subst, ◌∙◌, List, [], length}
 use Rattle.std.proofs.lemmas.Bool.{le-ltb, lt-ltb, ltb-true}
 use Rattle.std.specs.Prelude.{Bool, true, false, not, ◌&&◌, ◌||◌, Option, Some, None, is_some, ltb}
+use Rattle.std.proofs.Math.Bool.{or-false}
 use Rattle.es_tree.specs.Bare.{bare, bare_fields, bare_field, bare_trees}
 use Rattle.es_tree.specs.Core.{IsCoreProgram}
 use Rattle.es_tree.specs.Fresh.{candidate, is_among}
@@ -31,7 +32,8 @@ use Rattle.es_runs.specs.OpenSteps as steps
 use Rattle.es_runs.specs.OpenSteps.Steps.{stays as plain_stays}
 use Rattle.es_runs.proofs.BareTrees.{declared_of-bare, names-bare}
 use Rattle.es_runs.proofs.DeclaredNames.{core_shaped, declared_used}
-use Rattle.es_runs.proofs.OpenLaws.{law_reached_bindings_proof, law_reached_proof}
+use Rattle.es_runs.proofs.OpenLaws.{law_reached_bindings_proof, law_reached_proof, source_open}
+use Rattle.es_runs.proofs.OpenRuns.{IsOpenProgram}
 use Rattle.es_runs.proofs.StaticLaws.{law_reached_rules_proof}
 use Rattle.es_resolution.specs.Declarations.{Bound}
 use Rattle.es_resolution.specs.Called.{HasName, name_at}
@@ -52,8 +54,7 @@ use Rattle.es_steps.specs.AllRules.{AllRules}
 use Rattle.es_steps.specs.CoreRules.{CoreRule, rule_under}
 use Rattle.es_steps.proofs.BridgeFurther.{all_of}
 use Rattle.es_steps.proofs.BridgeInclusion.{all_under}
-use Rattle.es_steps.proofs.CoreSteps.{rule_core, steps_under}
-use Rattle.es_steps.proofs.BridgeLaws.{RootTied, many-steps}
+use Rattle.es_steps.proofs.BridgeLaws.{Going, RootTied, many-steps, with-rows, with_all}
 use Rattle.es_steps.proofs.BridgeLinks.{Linked, asks, look_with}
 use Rattle.es_steps.proofs.BridgeOpen.{in-opened}
 use Rattle.es_steps.proofs.BridgeSources.{Leaf, asks-name, leaf-form, lists-ok, role-named, source-in}
@@ -140,12 +141,8 @@ module _ (p : Tree) (is : IsCoreProgram p) where
       Goal : List Bound → Type 0
       Goal ms = Linked w (look_with ms look) (also_all (names_among ms) (is_among (names_of p))) (is_steady p) × ((x : Text) → (declares (declared_of p) x || is_among (names_among ms) x) ≡ is_some (look_with ms look x))
 
-      none : (a : Bool) → (a || false) ≡ a
-      none true = refl
-      none false = refl
-
       at : (ms : List Bound) → ms ≡ [] → (Goal ms → Goal w.made) → WholeTied p w
-      at ms e f = let g = subst Goal (sym start.made) (base, λ x. none (declares (declared_of p) x) ∙ declared-some x) in record { linked = g.0; bound = g.1 }
+      at ms e f = let g = subst Goal (sym start.made) (base, λ x. or-false (declares (declared_of p) x) ∙ declared-some x) in record { linked = g.0; bound = g.1 }
 
   ledger-start : (w : Whole) → w.made ≡ [] → steps.ledger (steps.whole_of p) plain.nothing_pending ≡ forgotten_ledger p (nothing_beside w)
   ledger-start w e = λ i. steps.ledger (record (steps.whole_of p) { in_use = also_all (names_among (sym e i)) (is_among (names_of p)); made = names_among (sym e i) }) plain.nothing_pending
@@ -174,7 +171,9 @@ steps-by-name v o g p w s x is start r =
     let first : steps.Steps (steps.Step (rules.rule_under o) all_of_it) (steps.ledger (steps.whole_of p) plain.nothing_pending) (plain.opened (bare p)) (forgotten_ledger p (nothing_beside w)) (forgotten (opened (source p))) =
     subst (λ z. steps.Steps (steps.Step (rules.rule_under o) all_of_it) (steps.ledger (steps.whole_of p) plain.nothing_pending) (plain.opened (bare p)) z (forgotten (opened (source p)))) (ledger-start p is w start.made)
     (subst (λ z. steps.Steps (steps.Step (rules.rule_under o) all_of_it) (steps.ledger (steps.whole_of p) plain.nothing_pending) (plain.opened (bare p)) (steps.ledger (steps.whole_of p) plain.nothing_pending) z) begin plain_stays) in
-    many-steps v o g p is (nothing_beside w) s r (whole-start p is w start, (tt, tt), refl, refl) here first
+    let known : Going v o g p (nothing_beside w) (opened (source p)) =
+    subst (λ z. IsOpenProgram (steps.whole_in z) (forgotten (opened (source p)))) (ledger-start p is w start.made) (subst (λ z. IsOpenProgram (steps.whole_of p) z) begin (source_open p is)) in
+    many-steps v o g p (nothing_beside w) s r (whole-start p is w start, (tt, tt), refl, refl) here known first
 
 reached-by-name : (R : Site → Ledger → Spot → Ledger → Spot → Type 0) (Q : Need → steps.Ledger → steps.Spot → steps.Ledger → steps.Spot → Type 0) → StepsByName R Q → ReachedByName R Q
 reached-by-name R Q law p q w names is start r = record {
@@ -182,14 +181,6 @@ reached-by-name R Q law p q w names is start r = record {
   steps = subst (λ z. steps.Steps (steps.Step Q all_of_it) (steps.ledger (steps.whole_of p) plain.nothing_pending) (plain.opened (bare p)) (steps.ledger (forgotten_whole p r.whole) plain.nothing_pending) z) (forgotten-opened q) (law p w (nothing_beside r.whole) (opened q) is start r.steps);
   made = r.made;
   others = refl;
-}
-
--- options that ask for each row
-abbrev with_all : EnvOptions → EnvOptions
-with_all o = record o {
-  es2016 = record o.es2016 { exponentiation_operator = true };
-  es2020 = record o.es2020 { nullish_coalescing_operator = true; optional_chaining = true };
-  es2021 = record o.es2021 { logical_assignment_operators = true };
 }
 
 under-all : (R Q : Site → Ledger → Spot → Ledger → Spot → Type 0) (P : Need → steps.Ledger → steps.Spot → steps.Ledger → steps.Spot → Type 0) → ((n : Site) (s : Ledger) (x : Spot) (s' : Ledger) (y : Spot) → R n s x s' y → Q n s x s' y) → StepsByName Q P → StepsByName R P
@@ -207,9 +198,7 @@ law_reached_by_name_proof o = let all = law_steps_by_name_proof o in (reached-by
 
 -- by the rules of core programs
 core-reached : (o : EnvOptions) (p q : Tree) (w : Whole) (names : List Text) → IsCoreProgram p → IsStart p w → Reached (AllRules o) p w names q → steps.Reached (rules.CoreRule o.assumptions.no_document_all) p names q
-core-reached o p q w names is start r =
-    let h = (law_reached_by_name_proof o).0 p q w names is start r in
-    record { whole = h.whole; steps = steps_under (rules.rule_under o) (rules.CoreRule o.assumptions.no_document_all) (rule_core o) h.steps; made = h.made; others = h.others }
+core-reached o = reached-by-name _ _ (under-all (AllRules o) (all_of o (with_all o) o) (rules.CoreRule o.assumptions.no_document_all) (with-rows o o o) (steps-by-name o (with_all o) o))
 
 pub law_runs_by_symbols_proof : LawRunsBySymbols
 law_runs_by_symbols_proof o p q w names is tidy start r = law_reached_proof o.assumptions.no_document_all p q names is tidy (core-reached o p q w names is start r)
@@ -223,10 +212,6 @@ law_kept_by_symbols_proof o p q w names is start r =
 no-candidate : (base : Text) (n : ℕ) → is_written_name (candidate base n) ≡ false
 no-candidate base zero = refl
 no-candidate base (suc n) = refl
-
-or-false : (a : Bool) → (a || false) ≡ a
-or-false true = refl
-or-false false = refl
 
 pub law_first_whole_proof : LawFirstWhole
 law_first_whole_proof p = record {

@@ -1,6 +1,7 @@
 -- A step by symbols of an open core program is a step by names.
 use Rattle.std.proofs.Common.{◌≡◌, inl, inr, ℕ, refl, sym, ap, subst, ◌∙◌, List, [], ◌∷◌, ◌++◌, map}
 use Rattle.std.specs.Prelude.{Bool, true, false, ◌||◌, Option, Some, None, bytes_eq, codes, is_some, if◌then◌else◌}
+use Rattle.std.proofs.Math.Bool.{or-false}
 use Rattle.es_tree.specs.Ancestors.{Ancestor}
 use Rattle.es_tree.specs.Bare.{bare}
 use Rattle.es_tree.specs.Core.{is_core_kind}
@@ -64,10 +65,6 @@ also-both (x ∷ xs) ys f y = also-both xs ys _ y
 or-true : (a : Bool) → (a || true) ≡ true
 or-true true = refl
 or-true false = refl
-
-or-false : (a : Bool) → (a || false) ≡ a
-or-false true = refl
-or-false false = refl
 
 or-assoc : (a b c : Bool) → ((a || b) || c) ≡ (a || (b || c))
 or-assoc true b c = refl

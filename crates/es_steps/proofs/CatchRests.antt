@@ -1,5 +1,5 @@
 -- The pattern of a catch clause moves into a `let` of a block of its own.
-use Rattle.std.proofs.Common.{arith, ◌≤◌, ◌<◌, ◌+◌, ◌≡◌, ℕ, refl, sym, ap, ◌∙◌, List, [], ◌∷◌, ◌++◌}
+use Rattle.std.proofs.Common.{arith, ◌<◌, ◌+◌, ◌≡◌, ℕ, refl, sym, ap, ◌∙◌, List, [], ◌∷◌, ◌++◌}
 use Rattle.std.specs.Prelude.{Bool, true, false, ◌||◌, Some, None, if◌then◌else◌}
 use Rattle.es_tree.specs.Words.{Text}
 use Rattle.es_tree.specs.References.{is_symbol}
@@ -23,14 +23,14 @@ use Rattle.es_steps.proofs.Alike.{AlikeRole, declared-alike, resolved-alike, nam
 use Rattle.es_steps.proofs.Alike.AlikeRole.{either}
 use Rattle.es_steps.proofs.Kept.{plain, Kept}
 use Rattle.es_steps.proofs.Kept.Change.{sealed}
-use Rattle.es_steps.proofs.Names.{named-more, own-more, declared-free}
-use Rattle.es_steps.proofs.Scopes.{no-scopes, any-declared, it-out}
+use Rattle.es_resolution.proofs.MoreNames.{named-more, own-more}
+use Rattle.es_steps.proofs.Names.{declared-free}
+use Rattle.es_steps.proofs.Scopes.{at-most-one, no-scopes, any-declared, it-out}
 use Rattle.es_steps.proofs.Same.{at-most-sealed, same}
 use Rattle.es_steps.proofs.Written.{nil-right}
 use Rattle.es_steps.proofs.RuleLaws.{AtNodes, nodes-only}
 use Rattle.es_steps.proofs.Taken.{whole_in, NodesKept, Outcome, Lawful}
-use Rattle.es_steps.proofs.Taken.Goes.{to_list}
-use Rattle.es_steps.proofs.OneName.{knowing, lower, it-found, it-used, not-sought, old-symbol}
+use Rattle.es_steps.proofs.OneName.{one-taken, knowing, lower, it-found, it-used, not-sought, old-symbol}
 
 pub catch-let : AlikeRole (Binds CatchParameter) (Binds Let)
 catch-let = either (record { asked = refl; hoists_not = refl }) (record { asked = refl; hoists_not = refl })
@@ -149,17 +149,11 @@ module _ (n : Site) (w : Whole) (m l : Label) (p : Tree) (bs : Trees) (x : Text)
             (tt, refl, (((sym (it-seen q), refl), refl, tt), ((tt, refl, (((tt, refl, (((tt, refl, (resolved-alike catch-let (block_place q) p rp, ((sym (seen q), refl, tt), tt))), tt), tt)), (rb, tt)), tt)), tt)));
       }
     where
-      at-most-one : (c : Bool) → one_if c ≤ 1
-      at-most-one true = omega arith
-      at-most-one false = omega arith
-
       it-seen : (q : Place) → (clause_after q).scope x ≡ Some w.free_symbol
       it-seen q = λ i. or_around (it-found w x free i) (q.scope x)
 
 pub catch-rest-nodes : (n : Site) (s s' : Ledger) (t u : Tree) → CatchRest n s (at_node t) s' (at_node u) → Named (whole_in s).in_use (whole_in s).free_symbol n.role t → Outcome (NodesKept n t u) s s'
-catch-rest-nodes n s s' t u (moves {w = w} {m = m} {l = l} {p = p} {bs = bs} {x = x} rest fresh) used =
-    let k = knowing w x fresh.free in
-    record { given = k.given; change = sealed; goes = to_list; more = k.more; freer = k.freer; range = k.range; fresh = k.fresh; sound = k.sound; beside = record { pending = refl; this = refl; top = refl }; kept = caught n w m l p bs x fresh.free used }
+catch-rest-nodes n s s' t u (moves {w = w} {s = y} {q = q} {a = a} {m = m} {l = l} {p = p} {bs = bs} {x = x} rest fresh) used = one-taken q y a w x fresh.free sealed refl (caught n w m l p bs x fresh.free used)
 
 pub catch-rest-only : (n : Site) (s s' : Ledger) (x y : Spot) → CatchRest n s x s' y → AtNodes x y
 catch-rest-only n s s' x y (moves rest fresh) = tt

@@ -1,6 +1,6 @@
 -- An optional catch takes a name that the clause binds itself.
-use Rattle.std.proofs.Common.{arith, ◌≤◌, ◌<◌, ◌+◌, ◌≡◌, ℕ, refl, sym, ap, subst, ◌∙◌, [], ◌∷◌, ◌++◌}
-use Rattle.std.specs.Prelude.{Bool, true, false, ◌||◌, Option, Some, None, bytes_eq, if◌then◌else◌}
+use Rattle.std.proofs.Common.{arith, ◌≤◌, ◌<◌, ◌+◌, ◌≡◌, ℕ, refl, sym, ap, ◌∙◌, [], ◌∷◌, ◌++◌}
+use Rattle.std.specs.Prelude.{Bool, true, false, ◌||◌, Some, if◌then◌else◌}
 use Rattle.std.proofs.Math.Dec.{eqb}
 use Rattle.std.proofs.lemmas.Bool.{ne_eqb}
 use Rattle.es_tree.specs.Words.{Text}
@@ -15,17 +15,17 @@ use Rattle.es_resolution.specs.Single.{binds, one_if, scopes_with}
 use Rattle.es_steps.specs.Nodes.{identifier}
 use Rattle.es_steps.specs.Steps.{Whole, Ledger, Site, Spot}
 use Rattle.es_steps.specs.Steps.Spot.{at_node}
-use Rattle.es_steps.specs.Rules.{also_all}
+use Rattle.es_steps.specs.Rules.{also_all, next_name}
 use Rattle.es_steps.specs.OptionalCatch.{CatchRule}
 use Rattle.es_steps.specs.OptionalCatch.CatchRule.{catches}
-use Rattle.es_steps.proofs.Basics.{bytes_eq-self, bytes_eq-equal, or_true}
+use Rattle.es_resolution.proofs.Basics.{bytes_eq-self}
 use Rattle.es_steps.proofs.Kept.{Known, plain, limit, Kept}
 use Rattle.es_steps.proofs.Kept.Change.{sealed}
-use Rattle.es_steps.proofs.Names.{named-more, own-more}
+use Rattle.es_resolution.proofs.MoreNames.{named-more, own-more}
+use Rattle.es_steps.proofs.OneName.{one-taken, other_name, it-used, knowing, lower, wider}
 use Rattle.es_steps.proofs.Scopes.{no-scopes}
 use Rattle.es_steps.proofs.Same.{at-most-sealed, same}
-use Rattle.es_steps.proofs.Taken.{at-least, whole_in, NodesKept, Outcome, Lawful}
-use Rattle.es_steps.proofs.Taken.Goes.{to_list}
+use Rattle.es_steps.proofs.Taken.{whole_in, NodesKept, Outcome, Lawful}
 use Rattle.es_steps.proofs.RuleLaws.{AtNodes, nodes-only}
 
 abbrev before : Tree → Fields
@@ -40,39 +40,16 @@ place_before r p m body = place_in p CatchClause m (role_at r CatchClause m (bef
 abbrev place_after : Role → Place → Label → Bound → Tree → Place
 place_after r q m it body = place_in q CatchClause m (role_at r CatchClause m (after it body)) (after it body) 1
 
-other_name : (u : Text → Bool) (x y : Text) → u x ≡ false → u y ≡ true → bytes_eq x y ≡ false
-other_name u x y e d = at (bytes_eq x y) refl
-  where
-    at : (b : Bool) → bytes_eq x y ≡ b → b ≡ false
-    at false f = refl
-    at true f = let alike : x ≡ y = bytes_eq-equal x y f in let g : u y ≡ false = subst (λ z. u z ≡ false) alike e in absurd (cc (g, d))
-
-lower : (m : ℕ) → m < m + 1
-lower m = omega arith
-
-wider : (m : ℕ) → m ≤ m + 1
-wider m = omega arith
-
 few : (b : Bool) (d : ℕ) → d ≡ 0 → one_if b + d ≤ 1
 few true d e = omega arith
 few false d e = omega arith
 
 module _ (w : Whole) (r : Role) (b : Place) (m : Label) (body : Tree) (x : Text) (free : w.in_use x ≡ false) (used : Named w.in_use w.free_symbol r (node CatchClause m (before body))) where
   abbrev it : Bound
-  it = record { name = x; symbol = Some w.free_symbol }
-
-  sought-it : (c : Bool) (y : Text) (o : Option ℕ) → bytes_eq x y ≡ c → (if c then Some (Some w.free_symbol) else None) ≡ Some o → w.in_use y ≡ false
-  sought-it true y o e d = subst (λ z. w.in_use z ≡ false) (bytes_eq-equal x y e) free
-  sought-it false y o e d = absurd (cc d)
-
-  it-found : sought (it ∷ []) x ≡ Some (Some w.free_symbol)
-  it-found = rw (bytes_eq-self x)
-
-  it-used : also_all (it ∷ []) w.in_use x ≡ true
-  it-used = rw (free, bytes_eq-self x)
+  it = next_name w x
 
   abbrev catching : Known
-  catching = record { in_use = w.in_use; in_use_after = also_all (it ∷ []) w.in_use; given = it ∷ []; free = w.free_symbol; free_after = w.free_symbol + 1; more = λ y e. or_true (w.in_use y) (bytes_eq x y) e; freer = wider w.free_symbol; range = ((at-least w.free_symbol, lower w.free_symbol), tt); fresh = λ y o e. sought-it (bytes_eq x y) y o refl e; sound = ((it-found, refl, it-used), tt) }
+  catching = knowing w x free
 
   seen-first : (q : Place) → (place_after r q m it body).scope x ≡ Some w.free_symbol
   seen-first q = rw (bytes_eq-self x)
@@ -99,7 +76,7 @@ module _ (w : Whole) (r : Role) (b : Place) (m : Label) (body : Tree) (x : Text)
     own = refl;
     lexical = refl;
     hoisted = refl;
-    named = (let nb = named-more w.in_use (also_all (it ∷ []) w.in_use) catching.more w.free_symbol (w.free_symbol + 1) (wider w.free_symbol) reads body used.1.1.0 in (own-more w.in_use (also_all (it ∷ []) w.in_use) catching.more w.free_symbol (w.free_symbol + 1) (wider w.free_symbol) r CatchClause m used.0, (((it-used, lower w.free_symbol), tt), (nb, tt))));
+    named = (let nb = named-more w.in_use (also_all (it ∷ []) w.in_use) catching.more w.free_symbol (w.free_symbol + 1) (wider w.free_symbol) reads body used.1.1.0 in (own-more w.in_use (also_all (it ∷ []) w.in_use) catching.more w.free_symbol (w.free_symbol + 1) (wider w.free_symbol) r CatchClause m used.0, (((it-used w x free, lower w.free_symbol), tt), (nb, tt))));
     scopes = old-scopes;
     new_scopes = new-scopes;
     resolved = λ p q g s v f d.
@@ -108,9 +85,7 @@ module _ (w : Whole) (r : Role) (b : Place) (m : Label) (body : Tree) (x : Text)
   }
 
 pub catch-nodes : (n : Site) (s s' : Ledger) (t u : Tree) → CatchRule n s (at_node t) s' (at_node u) → Named (whole_in s).in_use (whole_in s).free_symbol n.role t → Outcome (NodesKept n t u) s s'
-catch-nodes n s s' t u (catches {w = w} {m = m} {body = body} {x = x} fresh) used =
-    let k = catching w n.role n.names m body x fresh.free used in
-    record { given = k.given; change = sealed; goes = to_list; more = k.more; freer = k.freer; range = k.range; fresh = k.fresh; sound = k.sound; beside = record { pending = refl; this = refl; top = refl }; kept = caught w n.role n.names m body x fresh.free used }
+catch-nodes n s s' t u (catches {w = w} {p = p} {y = y} {a = a} {m = m} {body = body} {x = x} fresh) used = one-taken p y a w x fresh.free sealed refl (caught w n.role n.names m body x fresh.free used)
 
 pub catch-only : (n : Site) (s s' : Ledger) (x y : Spot) → CatchRule n s x s' y → AtNodes x y
 catch-only n s s' x y (catches fresh) = tt

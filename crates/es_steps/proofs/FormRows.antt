@@ -24,7 +24,7 @@ use Rattle.es_steps.specs.LogicalAssignment.LogicalAssignmentRule.{to_name, to_s
 use Rattle.es_steps.specs.Nodes.{made, identifier}
 use Rattle.es_steps.specs.Rules.{with_made}
 use Rattle.es_steps.specs.Steps.{Whole, Site}
-use Rattle.es_steps.proofs.Basics.{bytes_eq-equal}
+use Rattle.es_resolution.proofs.Basics.{bytes_eq-equal}
 use Rattle.es_steps.proofs.FormSorts.{form-wider, form-narrower, wide-assignment, wide-logical}
 use Rattle.es_steps.proofs.FormParts.{IsFormed, IsText, formed-assignment, formed-bare, formed-logical, formed-name, formed-stored, formed-tested, no-span, span-of}
 use Rattle.es_steps.proofs.FormMembers.{member-form, formed-member}

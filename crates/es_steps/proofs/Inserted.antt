@@ -8,8 +8,17 @@ use Rattle.es_resolution.specs.Declarations.{Bound, sought}
 use Rattle.es_resolution.specs.Resolved.{or_around, bound_by}
 use Rattle.es_resolution.specs.Single.{is_it, binds, is_var_of, one_if}
 use Rattle.es_steps.specs.Patterns.{no_name_of}
-use Rattle.es_steps.proofs.Basics.{either_of, sought-append, bytes_eq-equal}
+use Rattle.es_resolution.proofs.Basics.{either_of, sought-append, bytes_eq-equal}
 use Rattle.es_steps.proofs.Nodes.{or_first, or_second}
+
+-- where a name is sought in vain in both, it is so in each
+pub neither-first : (a b : Option (Option ℕ)) → either_of a b ≡ None → a ≡ None
+neither-first None b e = refl
+neither-first (Some s) b e = absurd (cc e)
+
+pub neither-second : (a b : Option (Option ℕ)) → either_of a b ≡ None → b ≡ None
+neither-second None b e = e
+neither-second (Some s) b e = absurd (cc e)
 
 -- the list cs is bs with the names ms
 pub record Inserted (ms bs cs : List Bound) : Type 0 where
@@ -54,13 +63,9 @@ inserted-right es ms bs cs h = record {
 pub inserted-left : (es ms bs cs : List Bound) → Inserted ms bs cs → Inserted ms (bs ++ es) (cs ++ es)
 inserted-left es ms bs cs h = record {
   none = λ y e. sought-append cs es y ∙ ap (λ z. either_of z (sought es y)) (h.none y e) ∙ sym (sought-append bs es y);
-  some = λ y o e d. sought-append cs es y ∙ ap (λ z. either_of z (sought es y)) (h.some y o e (none-first (sought bs y) (sought es y) (sym (sought-append bs es y) ∙ d)));
+  some = λ y o e d. sought-append cs es y ∙ ap (λ z. either_of z (sought es y)) (h.some y o e (neither-first (sought bs y) (sought es y) (sym (sought-append bs es y) ∙ d)));
   any = λ q. list_any-append q cs es ∙ ap (λ z. z || list_any q es) (h.any q) ∙ or-again (list_any q ms) (list_any q bs) (list_any q es) ∙ ap (λ z. list_any q ms || z) (sym (list_any-append q bs es));
 }
-  where
-    none-first : (a b : Option (Option ℕ)) → either_of a b ≡ None → a ≡ None
-    none-first None b e = refl
-    none-first (Some s) b e = absurd (cc e)
 
 -- NAMES THAT ARE APART
 

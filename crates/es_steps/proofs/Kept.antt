@@ -1,5 +1,5 @@
 -- What a step keeps of a tree: what it declares, which of its names are in use, and that it is resolved.
-use Rattle.std.proofs.Common.{◌≤◌, ◌<◌, ◌≡◌, ℕ, List, [], ◌∷◌}
+use Rattle.std.proofs.Common.{◌≤◌, ◌<◌, ◌≡◌, ℕ, List, []}
 use Rattle.std.specs.Prelude.{Bool, true, false, Option, Some, None, is_some, if◌then◌else◌}
 use Rattle.es_tree.specs.Words.{Text}
 use Rattle.es_tree.specs.Tree.{Tree, Fields, Field, Trees, kind_of}
@@ -10,6 +10,7 @@ use Rattle.std.specs.List.{list_any}
 use Rattle.es_resolution.specs.Single.{binds, scopes_with, scopes_in, scopes_by, scopes_among}
 use Rattle.es_resolution.specs.Resolved.{own_of, own_by, first_declared, Place, Resolved, ResolvedIn, ResolvedBy, ResolvedAll}
 use Rattle.es_resolution.specs.Named.{Named, NamedIn, NamedBy, NamedAll}
+pub use Rattle.es_resolution.proofs.Basics.{Each, every}
 
 -- where the new names are declared: above the tree; in it by `var`, or in another way, with the scope above it; or in a scope
 -- of the tree
@@ -18,11 +19,6 @@ pub data Change : Type 0 where
   below : Change
   lexed : Change
   sealed : Change
-
--- the property of each of these names
-abbrev pub Each : (Bound → Type 0) → List Bound → Type 0
-Each P [] = Unit {0}
-Each P (b ∷ bs) = P b × Each P bs
 
 abbrev pub IsNew : ℕ → ℕ → Option ℕ → Type 0
 IsNew f g None = ⊥
@@ -130,9 +126,6 @@ pub record Kept (n : Known) (b : Place) (c : Change) (r : Role) (t u : Tree) : T
   pub scopes : (s : ℕ) (ps : Text → Bool) → s < n.free → scopes_with s ps r u ≡ scopes_with s ps r t
   pub new_scopes : (s : ℕ) (ps : Text → Bool) → n.free ≤ s → scopes_with s ps r u ≤ limit c n s
   pub resolved : (p q : Place) → Agree n p q → (is_var_scope (kind_of t) ≡ true → SameParameters c n p q) → SeesIf c n q → Looks (is_var_scope (kind_of t)) b p → Resolved r p t → Resolved r q u
-
-abbrev pub every : ℕ → Bool
-every i = true
 
 -- of fields, where the one of this number changes
 pub record KeptIn (n : Known) (bs : ℕ → Place) (c : Change) (roles : ℕ → Role) (fs gs : Fields) : Type 0 where

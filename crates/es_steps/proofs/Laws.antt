@@ -1,18 +1,21 @@
 -- All rules are lawful, and so steps of them keep what a program has.
 use Rattle.std.specs.Prelude.{is_some}
 use Rattle.es_tree.specs.declared.options.EnvOptions.{EnvOptions}
-use Rattle.es_steps.specs.AllRules.{AllRules, RestRule}
+use Rattle.es_steps.specs.AllRules.{AllRules, RestRule, UsingRule}
 use Rattle.es_steps.specs.Arrows.{ArrowRule}
 use Rattle.es_steps.specs.NamespaceExports.{NamespaceRule}
 use Rattle.es_steps.specs.OptionalCatch.{CatchRule}
-use Rattle.es_steps.specs.UsingBlocks.{UsingRule}
+use Rattle.es_steps.proofs.BodyWraps.{body-lawful}
 use Rattle.es_steps.proofs.Namespaces.{namespace-lawful}
+use Rattle.es_steps.proofs.StatementWraps.{loop-lawful, switch-lawful}
+use Rattle.es_steps.proofs.HeadUsings.{head-using-lawful, head-using-writes}
+use Rattle.es_steps.proofs.UsingWrites.{body-writes, loop-writes, switch-writes}
 use Rattle.es_steps.proofs.CoreLaws.{made-writes, rule-under-lawful, rule-under-writes, on-lawful, on-writes}
-use Rattle.es_steps.proofs.RulesWrite.{row-writes, namespace-writes, catch-writes, catch-rest-writes, parameter-writes, head-writes, split-writes, takes-rest-writes, using-writes, arrow-writes}
+use Rattle.es_steps.proofs.RulesWrite.{row-writes, namespace-writes, catch-writes, catch-rest-writes, parameter-writes, head-writes, split-writes, takes-rest-writes, block-writes, arrow-writes}
 use Rattle.es_steps.proofs.CatchRests.{catch-rest-lawful}
 use Rattle.es_steps.proofs.Heads.{head-lawful}
 use Rattle.es_steps.proofs.TakesRest.{takes-rest-lawful}
-use Rattle.es_steps.proofs.Wraps.{using-lawful}
+use Rattle.es_steps.proofs.Wraps.{block-lawful}
 use Rattle.es_steps.proofs.Splits.{split-lawful}
 use Rattle.es_steps.proofs.Parameters.{parameter-lawful}
 use Rattle.es_steps.proofs.Arrows.{arrow-lawful}
@@ -37,6 +40,12 @@ rest-lawful = both-lawful split-lawful (both-lawful takes-rest-lawful (both-lawf
 
 rest-writes : Writes RestRule
 rest-writes = both-write split-writes (both-write takes-rest-writes (both-write catch-rest-writes (both-write head-writes parameter-writes)))
+
+using-lawful : Lawful UsingRule
+using-lawful = both-lawful block-lawful (both-lawful body-lawful (both-lawful loop-lawful (both-lawful switch-lawful head-using-lawful)))
+
+using-writes : Writes UsingRule
+using-writes = both-write block-writes (both-write body-writes (both-write loop-writes (both-write switch-writes head-using-writes)))
 
 pub all-rules-lawful : (o : EnvOptions) → Lawful (AllRules o)
 all-rules-lawful o =

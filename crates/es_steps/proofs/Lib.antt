@@ -21,14 +21,14 @@ pub mod CatchRests
 pub mod Inserted
 pub mod Stays
 pub mod Apartness
-pub mod ParameterDeclarations
-pub mod ParameterExpressions
-pub mod ParameterArrows
+pub mod ParameterMoves
 pub mod Parameters
 pub mod Heads
 pub mod Arrows
 pub mod Numbered
 pub mod RulesWrite
+pub mod UsingWrites
+pub mod HeadUsings
 pub mod StepsKept
 pub mod Spreads
 pub mod Laws
@@ -41,6 +41,10 @@ pub mod Examples
 pub mod Splits
 pub mod Counterexamples
 pub mod Wraps
+pub mod TopFunctions
+pub mod Settled
+pub mod BodyWraps
+pub mod StatementWraps
 pub mod TakesRest
 pub mod Derived
 pub mod Temporaries
@@ -65,6 +69,7 @@ pub mod WrapsSlots
 pub mod CoreLaws
 pub mod CoreKeeps
 pub mod DerivedPrograms
+pub mod DerivedUsing
 pub mod RowExamples
 pub mod BridgeTrees
 pub mod BridgeLinks
@@ -77,9 +82,8 @@ pub mod BridgeFurther
 pub mod BridgePlaces
 pub mod BridgeDeclarations
 pub mod BridgePrograms
-pub mod CoreSteps
-pub mod BridgeLaws
 pub mod BridgeInclusion
+pub mod BridgeLaws
 pub mod BridgeSources
 pub mod BridgeStart
 pub mod Sites
@@ -87,7 +91,6 @@ pub mod BodyPlaces
 pub mod SitesStay
 pub mod LocalSteps
 pub mod LocalRules
-pub mod ProgramScopes
 pub mod SourceSites
 pub mod TableSites
 pub mod RowsInside

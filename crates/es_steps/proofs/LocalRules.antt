@@ -1,15 +1,17 @@
 -- The rules are local: of a site they ask the need, the ancestors, the role, and what a few names find.
-use Rattle.std.proofs.Common.{◌≡◌, ap, inl, inr, ◌∙◌, List}
+use Rattle.std.proofs.Common.{◌≡◌, ℕ, ap, inl, inr, ◌∙◌, List, subst, sym}
 use Rattle.std.specs.Prelude.{◌&&◌, Bool, true, false, Some, codes, is_some}
-use Rattle.es_tree.specs.Tree.{Tree, done, statements, ◌then◌}
+use Rattle.es_tree.specs.Tree.{Tree, Label, Fields, Trees, done, statements, ◌then◌, ◌before◌}
 use Rattle.es_tree.specs.Words.{Text}
-use Rattle.es_tree.specs.declared.ast_type.AstType.TheVariants.{BlockStatement}
+use Rattle.es_tree.specs.declared.ast_type.AstType.{AstType}
+use Rattle.es_tree.specs.declared.ast_type.AstType.TheVariants.{ArrowFunctionExpression, BlockStatement, FunctionBody, FunctionDeclaration, FunctionExpression, StaticBlock}
 use Rattle.es_tree.specs.declared.options.EnvOptions.{EnvOptions}
 use Rattle.es_runs.specs.OptionalChaining.{takes_value}
-use Rattle.es_semantic.specs.RolesOf.{role_at}
+use Rattle.es_semantic.specs.RolesOf.{reads, role_at}
+use Rattle.es_semantic.specs.declared.place.Role.{Role}
 use Rattle.es_resolution.specs.Declarations.{Bound}
-use Rattle.es_resolution.specs.Resolved.{place_in}
-use Rattle.es_steps.specs.AllRules.{AllRules, further_rules}
+use Rattle.es_resolution.specs.Resolved.{Place, place_in}
+use Rattle.es_steps.specs.AllRules.{AllRules, UsingRule, further_rules}
 use Rattle.es_steps.specs.Arrows.{ArrowRule}
 use Rattle.es_steps.specs.Arrows.ArrowRule.{by_name, by_new_name, with_body, with_expression}
 use Rattle.es_steps.specs.CatchPatterns.{CatchRest}
@@ -34,7 +36,8 @@ use Rattle.es_steps.specs.OptionalCatch.{CatchRule}
 use Rattle.es_steps.specs.OptionalCatch.CatchRule.{catches}
 use Rattle.es_steps.specs.OptionalChaining.{OptionalChainingRule}
 use Rattle.es_steps.specs.OptionalChaining.OptionalChainingRule.{as_callee, by_tests, in_delete}
-use Rattle.es_steps.specs.ParameterPatterns.{ParameterRest}
+use Rattle.es_steps.specs.Nodes.{joined_trees}
+use Rattle.es_steps.specs.ParameterPatterns.{ParameterRest, body_fields}
 use Rattle.es_steps.specs.ParameterPatterns.ParameterRest.{in_arrow, in_declaration, in_expression}
 use Rattle.es_steps.specs.Open.{Additions, Pending}
 use Rattle.es_steps.specs.Rules.{Replacing, Writing, either_rule}
@@ -45,12 +48,19 @@ use Rattle.es_steps.specs.Slots.{in_open_slot, is_slot}
 use Rattle.es_steps.specs.Steps.{Ledger, Site, Spot, Whole, is_program_list}
 use Rattle.es_steps.specs.Steps.Ledger.{ledger}
 use Rattle.es_steps.specs.ThisPlaces.{belongs_to_arrow, reaches_target}
-use Rattle.es_steps.specs.UsingBlocks.{UsingRule}
-use Rattle.es_steps.specs.UsingBlocks.UsingRule.{of_block}
+use Rattle.es_steps.specs.UsingBlocks.{BlockUsing, TakesContext, inside_block, is_statement_place}
+use Rattle.es_steps.specs.UsingBlocks.BlockUsing.{of_block, of_part}
+use Rattle.es_steps.specs.UsingBodies.{BodyUsing, arrow_fields, body, class_fields, function_fields, in_function, in_members, in_static_block, members_role, static_block}
+use Rattle.es_steps.specs.UsingBodies.BodyUsing.{of_arrow, of_declaration, of_expression, of_static_block}
+use Rattle.es_steps.specs.UsingLoops.{HeadUsing, LoopUsing, is_labelled}
+use Rattle.es_steps.specs.UsingLoops.HeadUsing.{of_head}
+use Rattle.es_steps.specs.UsingLoops.LoopUsing.{of_loop}
+use Rattle.es_steps.specs.UsingSwitches.{SwitchUsing}
+use Rattle.es_steps.specs.UsingSwitches.SwitchUsing.{of_switch}
 use Rattle.es_steps.specs.WrapRule.{WrapRule, takes_one}
 use Rattle.es_steps.specs.WrapRule.WrapRule.{wraps}
 use Rattle.es_steps.proofs.LocalSteps.{steps-local}
-use Rattle.es_steps.proofs.Sites.{of-site, place-inwards}
+use Rattle.es_steps.proofs.Sites.{PlacesAlike, of-site, place-inwards, site-inwards}
 
 -- RULES OF NODES
 
@@ -144,12 +154,46 @@ module _ (asked : Ledger → Text → Bool) where
     takes-rest-local : IsLocal asked TakesRest
     takes-rest-local n m s s' x y a (takes_rest l1 l2 l3 l4 l5 ts ps us t ks e f) = takes_rest l1 l2 l3 l4 l5 ts ps us t ks (a.scope (codes "babelHelpers") (helpers s f) ∙ e) f
 
+    context-local : (s : Ledger) (c : Text) (p q : Place) → PlacesAlike (asked s) p q → TakesContext (the_whole s) c p → TakesContext (the_whole s) c q
+    context-local s c p q a h = record { fresh = h.fresh; other = h.other; helpers = a.scope (codes "babelHelpers") (helpers s h.helpers_used) ∙ h.helpers; helpers_used = h.helpers_used }
+
+    block-using-local : IsLocal asked BlockUsing
+    block-using-local n m s s' x y a (of_block {m = l} {ts = ts} {c = c} e f d g) =
+        of_block (ap (λ up. is_statement_place up) a.above ∙ e) f (context-local s c (inside_block n l ts) (inside_block m l ts) (site-inwards (asked s) n m a BlockStatement l (statements ts then done) 0) d) g
+    block-using-local n m s s' x y a (of_part {m = l} {ts = ts} {c = c} e f d g) =
+        of_part (ap (λ up. is_statement_place up) a.above ∙ e) f (context-local s c (inside_block n l ts) (inside_block m l ts) (site-inwards (asked s) n m a BlockStatement l (statements ts then done) 0) d) g
+
+    -- inside the body of a function of this kind
+    function-local : (s : Ledger) (c : Text) (n m : Site) → AreAlike (asked s) n m → (k : AstType) (h : Label) (fs : Fields) (i : ℕ) (l : Label) (ds ts : Trees) → TakesContext (the_whole s) c (in_function n k h fs i l ds ts) → TakesContext (the_whole s) c (in_function m k h fs i l ds ts)
+    function-local s c n m a k h fs i l ds ts =
+        context-local s c (in_function n k h fs i l ds ts) (in_function m k h fs i l ds ts)
+        (place-inwards (asked s) (place_in n.names k h (role_at n.role k h fs) fs i) (place_in m.names k h (role_at m.role k h fs) fs i) (site-inwards (asked s) n m a k h fs i) FunctionBody l reads (body_fields ds ts) 1)
+
+    -- inside a static block among the members of a class
+    static-block-local : (s : Ledger) (c : Text) (n m : Site) → AreAlike (asked s) n m → (k : AstType) (h : Label) (fs : Fields) (l : Label) (ts : Trees) → TakesContext (the_whole s) c (in_static_block (in_members n k h fs) (members_role n k h fs) l ts) → TakesContext (the_whole s) c (in_static_block (in_members m k h fs) (members_role m k h fs) l ts)
+    static-block-local s c n m a k h fs l ts =
+        context-local s c (in_static_block (in_members n k h fs) (members_role n k h fs) l ts) (in_static_block (in_members m k h fs) (members_role m k h fs) l ts)
+        (subst (λ (r : Role). PlacesAlike (asked s) (in_static_block (in_members n k h fs) (members_role n k h fs) l ts) (in_static_block (in_members m k h fs) (role_at r k h fs 2) l ts)) (sym a.role)
+        (place-inwards (asked s) (in_members n k h fs) (in_members m k h fs) (site-inwards (asked s) n m a k h fs 2) StaticBlock l (members_role n k h fs) (statements ts then done) 0))
+
+    body-using-local : IsLocal asked BodyUsing
+    body-using-local n m s s' x y a (of_declaration {m = h} {l = l} {f = f} {ps = ps} {ds = ds} {ts = ts} {c = c} e d g j t k) = of_declaration e d g j (function-local s c n m a FunctionDeclaration h (function_fields f ps (body l ds ts)) 2 l ds ts t) k
+    body-using-local n m s s' x y a (of_expression {m = h} {l = l} {f = f} {ps = ps} {ds = ds} {ts = ts} {c = c} e d g j t k) = of_expression e d g j (function-local s c n m a FunctionExpression h (function_fields f ps (body l ds ts)) 2 l ds ts t) k
+    body-using-local n m s s' x y a (of_arrow {m = h} {l = l} {ps = ps} {ds = ds} {ts = ts} {c = c} d g j t k) = of_arrow d g j (function-local s c n m a ArrowFunctionExpression h (arrow_fields ps (body l ds ts)) 1 l ds ts t) k
+    body-using-local n m s s' x y a (of_static_block {k = k} {m = h} {f = f} {g = g} {c = c} l xs zs ts us i e j t u) =
+        of_static_block l xs zs ts us i e j (static-block-local s c n m a k h (class_fields f g (joined_trees xs (static_block l ts before zs))) l ts t) u
+
+    loop-using-local : IsLocal asked LoopUsing
+    loop-using-local n m s s' x y a (of_loop {c = c} e t u) = of_loop (ap (λ up. is_labelled up) a.above ∙ e) (context-local s c n.names m.names (of-site a) t) u
+
+    switch-using-local : IsLocal asked SwitchUsing
+    switch-using-local n m s s' x y a (of_switch {c = c} e d t k) = of_switch e d (context-local s c n.names m.names (of-site a) t) k
+
+    head-using-local : IsLocal asked HeadUsing
+    head-using-local n m s s' x y a (of_head t f d i e) = of_head t f d i e
+
     using-local : IsLocal asked UsingRule
-    using-local n m s s' x y a (of_block {w = w} {q = q} {y = b} {a = c} {m = l} {ts = ts} f e d none g) =
-        of_block f e d (inside-block ∙ none) g
-      where
-        inside-block : (place_in m.names BlockStatement l (role_at m.role BlockStatement l (statements ts then done)) (statements ts then done) 0).scope (codes "babelHelpers") ≡ (place_in n.names BlockStatement l (role_at n.role BlockStatement l (statements ts then done)) (statements ts then done) 0).scope (codes "babelHelpers")
-        inside-block = (λ i. (place_in m.names BlockStatement l (role_at (a.role i) BlockStatement l (statements ts then done)) (statements ts then done) 0).scope (codes "babelHelpers")) ∙ (place-inwards (asked (ledger w q b c)) n.names m.names (of-site a) BlockStatement l n.role (statements ts then done) 0).scope (codes "babelHelpers") (helpers (ledger w q b c) g)
+    using-local = both-local block-using-local (both-local body-using-local (both-local loop-using-local (both-local switch-using-local head-using-local)))
 
     further-local : (o : EnvOptions) → IsLocal asked (where_on (is_some o.es2015.arrow_function) ArrowRule) → IsLocal asked (further_rules o)
     further-local o arrows =

@@ -26,7 +26,7 @@ use Rattle.es_steps.specs.Nodes.{made, identifier, word}
 use Rattle.es_steps.specs.Open.{is_import}
 use Rattle.es_steps.specs.Steps.{Whole, Site}
 use Rattle.es_steps.proofs.Kept.{Known, plain, Agree, Sees}
-use Rattle.es_steps.proofs.Names.{named-more}
+use Rattle.es_resolution.proofs.MoreNames.{named-more}
 use Rattle.es_steps.proofs.RuleLaws.{NodeLaw}
 use Rattle.es_steps.proofs.Same.{same}
 use Rattle.es_steps.proofs.Scopes.{no-scopes}

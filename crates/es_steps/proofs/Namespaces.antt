@@ -21,14 +21,13 @@ use Rattle.es_steps.specs.Patterns.{IsSilent}
 use Rattle.es_steps.specs.NamespaceExports.NamespaceRule.{exports}
 use Rattle.es_steps.proofs.Kept.{Known, plain, Adds, Agree, KeptAll}
 use Rattle.es_steps.proofs.Kept.Change.{lexed}
-use Rattle.es_steps.proofs.Names.{named-more, named-more-all}
+use Rattle.es_resolution.proofs.MoreNames.{named-more, named-more-all}
 use Rattle.es_steps.proofs.Scopes.{no-scopes, no-scopes-all}
 use Rattle.es_steps.proofs.Same.{same, same-all, plain-agree, any-parameters}
-use Rattle.es_steps.proofs.Basics.{either_of, sought-append}
+use Rattle.es_resolution.proofs.Basics.{either_of, sought-append}
 use Rattle.es_steps.proofs.Written.{body_place, nil-right, join-named, declared-joined, scopes-joined, resolved-joined, resolved-parts}
 use Rattle.es_steps.proofs.Taken.{whole_in, ListsKept, Outcome, Lawful}
-use Rattle.es_steps.proofs.Taken.Goes.{to_list}
-use Rattle.es_steps.proofs.OneName.{knowing, lower, it-found, it-used, not-sought}
+use Rattle.es_steps.proofs.OneName.{one-taken, knowing, lower, it-found, it-used, not-sought}
 
 -- what stands in a field of a node that makes no scope, and in one of another
 pub in-plain-place : (n : Known) (r : Role) (p q : Place) → Agree n p q → (t : Tree) → Named n.in_use n.free r t → Resolved r (body_place p) t → Resolved r (body_place q) t
@@ -123,6 +122,5 @@ pub namespace-lawful : Lawful NamespaceRule
 namespace-lawful = record { at_nodes = λ n s s' t u h used called. absurd (exports-nodes h); flanking = nodes; at_lists = λ n s s' p q x y a b ts us h used. absurd (exports-nodes h); at_bodies = λ n s s' p t u h. absurd (exports-nodes h); unflanking = λ n s s' t bs cs us h. absurd (exports-nodes h) }
   where
     nodes : (n : Site) (s s' : Ledger) (t u : Tree) (bs cs : List Tree) → NamespaceRule n s (at_node t) s' (at_beside bs u cs) → Named (whole_in s).in_use (whole_in s).free_symbol n.role t → Outcome (ListsKept n (t before empty) (flanks_with bs u cs empty)) s s'
-    nodes n s s' t u bs cs (exports {w = w} {m = m} {e = e} {s = src} {attributes = attributes} {x = x} top fresh q r o) used =
-        let k = knowing w x fresh.free in
-        record { given = k.given; change = lexed; goes = to_list; more = k.more; freer = k.freer; range = k.range; fresh = k.fresh; sound = k.sound; beside = record { pending = refl; this = refl; top = refl }; kept = record { bare = exported n w m e src attributes x fresh.free q r o used empty tt; with_others = λ others g. exported n w m e src attributes x fresh.free q r o used others g; growing = λ g. absurd (cc g) } }
+    nodes n s s' t u bs cs (exports {w = w} {p = p} {y = y} {a = a} {m = m} {e = e} {s = src} {attributes = attributes} {x = x} top fresh q r o) used =
+        one-taken p y a w x fresh.free lexed refl (record { bare = exported n w m e src attributes x fresh.free q r o used empty tt; with_others = λ others g. exported n w m e src attributes x fresh.free q r o used others g; growing = λ g. absurd (cc g) })

@@ -1,5 +1,5 @@
 -- A node keeps what its fields keep.
-use Rattle.std.proofs.Common.{arith, ◌≤◌, ◌<◌, ◌+◌, ◌≡◌, ℕ, zero, suc, refl, sym, ap, subst, ◌∙◌, List, [], ◌∷◌, ◌++◌}
+use Rattle.std.proofs.Common.{arith, ◌≤◌, ◌<◌, ◌+◌, ◌≡◌, ℕ, suc, refl, sym, ap, subst, ◌∙◌, List, [], ◌∷◌, ◌++◌}
 use Rattle.std.specs.Prelude.{Bool, true, false, ◌||◌, ◌&&◌, not, Option, Some, None, is_some, map, if◌then◌else◌}
 use Rattle.std.specs.List.{list_any}
 use Rattle.std.proofs.lemmas.Bool.{ne_eqb}
@@ -8,12 +8,11 @@ use Rattle.es_tree.specs.Words.{Text}
 use Rattle.es_tree.specs.References.{is_symbol}
 use Rattle.es_resolution.specs.Single.{is_it, binds, is_var_of, own_binds, one_if, scopes_in}
 use Rattle.es_steps.proofs.Scopes.{it-out, var-out, own-none, any-in, name-any, frame-any, neither, alike-scopes-in}
-use Rattle.es_tree.specs.Names.{first_text, third_stands}
-use Rattle.es_tree.specs.Children.{child_at}
-use Rattle.es_tree.specs.Tree.{node, Label, Fields, done, ◌then◌, missing, one, many, statements}
+use Rattle.es_tree.specs.Names.{first_text}
+use Rattle.es_tree.specs.Tree.{node, Label, Fields, done, ◌then◌}
 use Rattle.es_tree.specs.declared.ast_type.AstType.{AstType}
-use Rattle.es_tree.specs.declared.ast_type.AstType.TheVariants.{Program, FunctionBody, StaticBlock, Identifier, FunctionExpression, ClassDeclaration, ClassExpression, ExportNamedDeclaration}
-use Rattle.es_semantic.specs.RolesOf.{role_at, extends}
+use Rattle.es_tree.specs.declared.ast_type.AstType.TheVariants.{Program, FunctionBody, StaticBlock, Identifier, FunctionExpression, ClassDeclaration, ClassExpression}
+use Rattle.es_semantic.specs.RolesOf.{role_at}
 use Rattle.es_semantic.specs.Places.{is_inside}
 use Rattle.es_semantic.specs.ScopesOf.{is_function}
 use Rattle.es_semantic.specs.SymbolsOf.{hoists}
@@ -22,10 +21,12 @@ use Rattle.es_semantic.specs.declared.place.Role.TheVariants.{Nothing, Binds}
 use Rattle.es_resolution.specs.Declarations.{Bound, sought, symbol_of, has_scope, is_var_scope, reaches_out, own_declared, declared_in}
 use Rattle.es_resolution.specs.Resolved.{Place, hoisting, first_declared, name_frame, with_symbol, class_frame, frame, var_frame, or_around, within, within_vars, around, vars_in, inner, bound_by, no_name, parameters_in, place_in, IsRight, OwnRight, IsMarked, ResolvedIn}
 use Rattle.es_resolution.specs.Named.{OwnUsed, IsBelow, NamedIn, IsUsed}
-use Rattle.es_steps.proofs.Basics.{either_of, sought-append, sought-symbols, none-append}
+use Rattle.es_resolution.proofs.Roles.{role-same}
+use Rattle.es_resolution.proofs.Basics.{either_of, sought-append, sought-symbols, none-append}
 use Rattle.es_steps.proofs.Kept.{Change, Known, AgreeOn, Agree, SameParameters, SeesOn, Sees, SeesIf, SeesIn, Adds, Hoisted, Lexical, LexicalIn, Each, IsNew, few, limit, Looks, Kept, KeptIn, every}
 use Rattle.es_steps.proofs.Kept.Change.{above, below, lexed, sealed}
-use Rattle.es_steps.proofs.Names.{declared-free-in, first-free, own_free, own-more}
+use Rattle.es_resolution.proofs.MoreNames.{own-more}
+use Rattle.es_steps.proofs.Names.{declared-free-in, first-free, own_free}
 
 pub or_first : (a b : Bool) → (a || b) ≡ false → a ≡ false
 or_first true b h = h
@@ -34,34 +35,6 @@ or_first false b h = refl
 pub or_second : (a b : Bool) → (a || b) ≡ false → b ≡ false
 or_second true b h = absurd (cc h)
 or_second false b h = h
-
--- ROLES
-
-third-child : (fs : Fields) → third_stands fs ≡ is_some (child_at 2 fs)
-third-child done = refl
-third-child (a then done) = refl
-third-child (a then (b then done)) = refl
-third-child (a then (b then (missing then fs))) = refl
-third-child (a then (b then (one t then fs))) = refl
-third-child (a then (b then (many ts then fs))) = refl
-third-child (a then (b then (statements ts then fs))) = refl
-
-role-by : (r : Role) (k : AstType) (l : Label) (fs gs : Fields) → third_stands gs ≡ third_stands fs → extends gs ≡ extends fs → (i : ℕ) → role_at r k l gs i ≡ role_at r k l fs i
-role-by r ExportNamedDeclaration l fs gs e d zero = refl
-role-by r ExportNamedDeclaration l fs gs e d (suc zero) = rw e
-role-by r ExportNamedDeclaration l fs gs e d (suc (suc i)) = refl
-role-by r ClassDeclaration l fs gs e d zero = refl
-role-by r ClassDeclaration l fs gs e d (suc zero) = refl
-role-by r ClassDeclaration l fs gs e d (suc (suc zero)) = rw d
-role-by r ClassDeclaration l fs gs e d (suc (suc (suc i))) = refl
-role-by r ClassExpression l fs gs e d zero = refl
-role-by r ClassExpression l fs gs e d (suc zero) = refl
-role-by r ClassExpression l fs gs e d (suc (suc zero)) = rw d
-role-by r ClassExpression l fs gs e d (suc (suc (suc i))) = refl
-role-by r _ l fs gs e d i = refl
-
-pub role-same : (r : Role) (k : AstType) (l : Label) (fs gs : Fields) → ((i : ℕ) → is_some (child_at i gs) ≡ is_some (child_at i fs)) → role_at r k l gs ≡ role_at r k l fs
-role-same r k l fs gs shape = λ j i. role-by r k l fs gs (third-child gs ∙ shape 2 ∙ sym (third-child fs)) (shape 1) i j
 
 -- WHAT IS SEEN
 

@@ -40,7 +40,7 @@ kind-named : (k : AstType) (l : Label) (fs gs : Fields) → IsIdentifier (node k
 kind-named Identifier l fs gs h = record { still = tt; text = refl }
 kind-named _ l fs gs h = absurd h
 
-first-only : (f : Field) (fs gs : Fields) → HasIdentifier (f then fs) → HasIdentifier (f then gs) × (name_in (f then gs) ≡ name_in (f then fs))
+pub first-only : (f : Field) (fs gs : Fields) → HasIdentifier (f then fs) → HasIdentifier (f then gs) × (name_in (f then gs) ≡ name_in (f then fs))
 first-only missing fs gs h = (tt, refl)
 first-only (one t) fs gs h = (h, refl)
 first-only (many ts) fs gs h = (tt, refl)

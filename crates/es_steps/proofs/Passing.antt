@@ -16,7 +16,7 @@ use Rattle.es_resolution.specs.Named.{IsBelow, Named, NamedIn, NamedBy, NamedAll
 use Rattle.es_steps.specs.Identifiers.{Passes, PassesIn, PassesBy, PassesAll, any_name, is_called}
 use Rattle.es_steps.specs.Nodes.{declarator, joined_trees}
 use Rattle.es_steps.specs.Open.{Pending, Additions, declaration, with_this, import_statement, written, body_with, is_import, after_imports, pending_statements, whole_list, flanks_with, with_vars}
-use Rattle.es_steps.proofs.Basics.{bytes_eq-equal}
+use Rattle.es_resolution.proofs.Basics.{bytes_eq-equal}
 
 -- FROM NAMES OF SYMBOLS AND BACK
 

@@ -14,7 +14,7 @@ use Rattle.es_steps.specs.Bindings.{is_it, stands, stands_in, stands_by, stands_
 use Rattle.es_steps.specs.Identifiers.{Passes, PassesIn, PassesBy, PassesAll, any_name}
 use Rattle.es_steps.specs.Laws.{BindingsKeep, LawBindings}
 use Rattle.es_steps.specs.Steps.{Whole, Ledger, Site, Spot}
-use Rattle.es_steps.proofs.Basics.{bytes_eq-self}
+use Rattle.es_resolution.proofs.Basics.{bytes_eq-self}
 use Rattle.es_steps.proofs.BoundOnce.{bound-once}
 use Rattle.es_steps.proofs.Laws.{all-rules-lawful, all-rules-write}
 use Rattle.es_steps.proofs.StepsKept.{all-passed, all-recalled, none-beside, reached-keeps}

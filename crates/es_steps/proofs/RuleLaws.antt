@@ -13,7 +13,7 @@ use Rattle.es_steps.specs.Steps.Spot.{at_node, at_beside, at_body, at_list, at_t
 use Rattle.es_steps.specs.Rules.{also_all, Replacing, Writing}
 use Rattle.es_steps.specs.Rules.Replacing.{replaces}
 use Rattle.es_steps.specs.Rules.Writing.{declarators, all_pending, body_declarators, insertions}
-use Rattle.es_steps.proofs.Basics.{or_true}
+use Rattle.es_resolution.proofs.Basics.{or_true}
 use Rattle.es_steps.proofs.Kept.{Each, IsNew, Kept}
 use Rattle.es_steps.proofs.Kept.Change.{above}
 use Rattle.es_steps.proofs.Lists.{written-first}

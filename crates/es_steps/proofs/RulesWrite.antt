@@ -36,10 +36,10 @@ use Rattle.es_steps.specs.ObjectRest.{SplitRule, SplitsOff, TakesRest}
 use Rattle.es_steps.specs.ObjectRest.SplitRule.{splits}
 use Rattle.es_steps.specs.ObjectRest.SplitsOff.{source, nested, nested_default, key}
 use Rattle.es_steps.specs.ObjectRest.TakesRest.{takes_rest}
-use Rattle.es_steps.specs.UsingBlocks.{UsingRule, Constants, UsedAll, error_of}
+use Rattle.es_steps.specs.UsingBlocks.{BlockUsing, Constants, UsedAll, error_of, with_context, protected}
 use Rattle.es_steps.specs.UsingBlocks.Constants.{ended, stays, using}
 use Rattle.es_steps.specs.UsingBlocks.UsedAll.{no_more, uses}
-use Rattle.es_steps.specs.UsingBlocks.UsingRule.{of_block}
+use Rattle.es_steps.specs.UsingBlocks.BlockUsing.{of_block, of_part}
 use Rattle.es_steps.specs.Arrows.{ArrowRule}
 use Rattle.es_steps.specs.Arrows.ArrowRule.{by_name, by_new_name, with_body, with_expression}
 use Rattle.es_steps.proofs.Arrows.{arrow-only}
@@ -56,14 +56,14 @@ use Rattle.es_steps.proofs.RuleLaws.{AtNodes, replaces-nodes, writes-lists}
 use Rattle.es_steps.proofs.Splits.{split-only}
 use Rattle.es_steps.proofs.Taken.{at-least, whole_in, Writes, Allows, LedgerPasses}
 use Rattle.es_steps.proofs.TakesRest.{rest-only}
-use Rattle.es_steps.proofs.Wraps.{using-only}
+use Rattle.es_steps.proofs.Wraps.{block-only}
 
 -- NEW NAMES
 
 pub longer : (m k : ℕ) → m ≤ m + k
 longer m k = omega arith
 
-first-of : (a b : Bool) → (a && b) ≡ true → a ≡ true
+pub first-of : (a b : Bool) → (a && b) ≡ true → a ≡ true
 first-of true b e = refl
 first-of false b e = e
 
@@ -75,7 +75,7 @@ pub new-pass : (q : Text → Option ℕ → Bool) (w : Whole) (bs : List Bound) 
 new-pass q w bs h a = numbered-new q w.called (calling bs w.called) w.free_symbol bs h (λ m e. refl) a.new
 
 -- the name that a rule takes
-one-new : (q : Text → Option ℕ → Bool) (w : Whole) (x : Text) → Allows q w (with_made (next_name w x ∷ []) w) → Passes q (identifier (next_name w x))
+pub one-new : (q : Text → Option ℕ → Bool) (w : Whole) (x : Text) → Allows q w (with_made (next_name w x ∷ []) w) → Passes q (identifier (next_name w x))
 one-new q w x a = (first-of (q x (Some w.free_symbol)) true (new-pass q w (next_name w x ∷ []) (refl, tt) a), tt)
 
 -- RULES OF NODES ALONE
@@ -340,38 +340,55 @@ takes-rest-writes = writes-nodes {R = TakesRest} (record { only = rest-only; imp
 
 -- USING
 
-used-pass : (q : Text → Option ℕ → Bool) (words : (x : Text) → q x None ≡ true) (c : Bound) → Passes q (identifier c) → (ds es : Trees) → UsedAll c ds es → PassesAll q ds → PassesAll q es
+pub used-pass : (q : Text → Option ℕ → Bool) (words : (x : Text) → q x None ≡ true) (c : Bound) → Passes q (identifier c) → (ds es : Trees) → UsedAll c ds es → PassesAll q ds → PassesAll q es
 used-pass q words c it ds es no_more k = tt
 used-pass q words c it ds es (uses {ds = ds'} {es = es'} h) k = ((tt, (k.0.1.0, ((tt, ((tt, (it, ((words (codes "u"), tt), tt))), ((k.0.1.1.0, tt), tt))), tt))), used-pass q words c it ds' es' h k.1)
 
-constants-pass : (q : Text → Option ℕ → Bool) (words : (x : Text) → q x None ≡ true) (c : Bound) → Passes q (identifier c) → (ts us : Trees) → Constants c ts us → PassesAll q ts → PassesAll q us
+pub constants-pass : (q : Text → Option ℕ → Bool) (words : (x : Text) → q x None ≡ true) (c : Bound) → Passes q (identifier c) → (ts us : Trees) → Constants c ts us → PassesAll q ts → PassesAll q us
 constants-pass q words c it ts us ended k = tt
-constants-pass q words c it ts us (stays {ts = ts'} {us = us'} h) k = (k.0, constants-pass q words c it ts' us' h k.1)
+constants-pass q words c it ts us (stays {ts = ts'} {us = us'} other h) k = (k.0, constants-pass q words c it ts' us' h k.1)
 constants-pass q words c it ts us (using {ds = ds} {es = es} {ts = ts'} {us = us'} e d h) k = ((tt, (used-pass q words c it ds es d k.0.1.0, tt)), constants-pass q words c it ts' us' h k.1)
 
-pub using-writes : Writes UsingRule
-using-writes = writes-nodes {R = UsingRule} (record { only = using-only; imports = imports; no_names = none; freer = grows; same_called = called; names = names })
-  where
-    imports : (n : Site) (s s' : Ledger) (t u : Tree) → UsingRule n s (at_node t) s' (at_node u) → is_import u ≡ is_import t
-    imports n s s' t u (of_block f g h d e) = refl
+-- the new names of a context
+pub context-names : (q : Text → Option ℕ → Bool) (w : Whole) (x : Text) → Allows q w (with_context x w) → Passes q (identifier (next_name w x)) × Passes q (identifier (error_of w))
+context-names q w x a =
+    let new = numbered-new q w.called (calling (next_name w x ∷ error_of w ∷ []) w.called) w.free_symbol (next_name w x ∷ error_of w ∷ []) (refl, (refl, tt)) (λ m e. refl) a.new in
+    ((first-of (q x (Some w.free_symbol)) _ new, tt), (first-of _ true (second-of (q x (Some w.free_symbol)) _ new), tt))
 
-    none : (n : Site) (s s' : Ledger) (l : Label) (fs : Fields) (u : Tree) → n.role ≡ Binds Class → UsingRule n s (at_node (node Identifier l fs)) s' (at_node u) → ⊥
+pub context-called : (w : Whole) (x : Text) (m : ℕ) → m < w.free_symbol → (with_context x w).called m ≡ w.called m
+context-called w x = numbered-old w.called w.free_symbol (next_name w x ∷ error_of w ∷ []) (refl, (refl, tt))
+
+-- the made `try`
+pub protected-pass : (q : Text → Option ℕ → Bool) (words : (x : Text) → q x None ≡ true) (c u : Bound) → Passes q (identifier c) → Passes q (identifier u) → (ts : Trees) → PassesAll q ts → Passes q (protected c u ts)
+protected-pass q words c u it error ts list =
+    let call : Passes q (word (codes "babelHelpers")) = (words (codes "babelHelpers"), tt) in
+    (tt, ((tt, (((tt, (((tt, (it, ((tt, ((tt, (call, ((words (codes "usingCtx"), tt), tt))), (tt, tt))), tt))), tt), tt)), list), tt)), ((tt, (error, ((tt, (((tt, ((tt, ((tt, (it, ((words (codes "e"), tt), tt))), (error, tt))), tt)), tt), tt)), tt))), ((tt, (((tt, ((tt, ((tt, (it, ((words (codes "d"), tt), tt))), (tt, tt))), tt)), tt), tt)), tt))))
+
+pub block-writes : Writes BlockUsing
+block-writes = writes-nodes {R = BlockUsing} (record { only = block-only; imports = imports; no_names = none; freer = grows; same_called = called; names = names })
+  where
+    imports : (n : Site) (s s' : Ledger) (t u : Tree) → BlockUsing n s (at_node t) s' (at_node u) → is_import u ≡ is_import t
+    imports n s s' t u (of_block f g h d) = refl
+    imports n s s' t u (of_part f g h d) = refl
+
+    none : (n : Site) (s s' : Ledger) (l : Label) (fs : Fields) (u : Tree) → n.role ≡ Binds Class → BlockUsing n s (at_node (node Identifier l fs)) s' (at_node u) → ⊥
     none n s s' l fs u e h = elim h [ ]
 
-    grows : (n : Site) (s s' : Ledger) (t u : Tree) → UsingRule n s (at_node t) s' (at_node u) → (whole_in s).free_symbol ≤ (whole_in s').free_symbol
-    grows n s s' t u (of_block {w = w} {c = x} f g h d e) = longer w.free_symbol 2
+    grows : (n : Site) (s s' : Ledger) (t u : Tree) → BlockUsing n s (at_node t) s' (at_node u) → (whole_in s).free_symbol ≤ (whole_in s').free_symbol
+    grows n s s' t u (of_block {w = w} f g h d) = longer w.free_symbol 2
+    grows n s s' t u (of_part {w = w} f g h d) = longer w.free_symbol 2
 
-    called : (n : Site) (s s' : Ledger) (t u : Tree) → UsingRule n s (at_node t) s' (at_node u) → (m : ℕ) → m < (whole_in s).free_symbol → (whole_in s').called m ≡ (whole_in s).called m
-    called n s s' t u (of_block {w = w} {c = x} f g h d e) = numbered-old w.called w.free_symbol (next_name w x ∷ error_of w ∷ []) (refl, (refl, tt))
+    called : (n : Site) (s s' : Ledger) (t u : Tree) → BlockUsing n s (at_node t) s' (at_node u) → (m : ℕ) → m < (whole_in s).free_symbol → (whole_in s').called m ≡ (whole_in s).called m
+    called n s s' t u (of_block {w = w} {c = x} f g h d) = context-called w x
+    called n s s' t u (of_part {w = w} {c = x} f g h d) = context-called w x
 
-    names : (q : Text → Option ℕ → Bool) (n : Site) (s s' : Ledger) (t u : Tree) → Allows q (whole_in s) (whole_in s') → LedgerPasses q s → UsingRule n s (at_node t) s' (at_node u) → Passes q t → Passes q u × LedgerPasses q s'
-    names q n s s' t u a b (of_block {w = w} {ts = ts} {us = us} {c = x} f g h d e) k =
-        let new = numbered-new q w.called (calling (next_name w x ∷ error_of w ∷ []) w.called) w.free_symbol (next_name w x ∷ error_of w ∷ []) (refl, (refl, tt)) (λ m e. refl) a.new in
-        let it : Passes q (identifier (next_name w x)) = (first-of (q x (Some w.free_symbol)) _ new, tt) in
-        let error : Passes q (identifier (error_of w)) = (first-of _ true (second-of (q x (Some w.free_symbol)) _ new), tt) in
-        let list = constants-pass q a.words (next_name w x) it ts us h k.1.0 in
-        let call : Passes q (word (codes "babelHelpers")) = (a.words (codes "babelHelpers"), tt) in
-        ((tt, ((tt, (((tt, (((tt, (it, ((tt, ((tt, (call, ((a.words (codes "usingCtx"), tt), tt))), (tt, tt))), tt))), tt), tt)), list), tt)), ((tt, (error, ((tt, (((tt, ((tt, ((tt, (it, ((a.words (codes "e"), tt), tt))), (error, tt))), tt)), tt), tt)), tt))), ((tt, (((tt, ((tt, ((tt, (it, ((a.words (codes "d"), tt), tt))), (tt, tt))), tt)), tt), tt)), tt)))), record { pending = b.pending; this = b.this; top = b.top })
+    names : (q : Text → Option ℕ → Bool) (n : Site) (s s' : Ledger) (t u : Tree) → Allows q (whole_in s) (whole_in s') → LedgerPasses q s → BlockUsing n s (at_node t) s' (at_node u) → Passes q t → Passes q u × LedgerPasses q s'
+    names q n s s' t u a b (of_block {w = w} {ts = ts} {us = us} {c = x} f g h d) k =
+        let it = context-names q w x a in
+        (protected-pass q a.words (next_name w x) (error_of w) it.0 it.1 us (constants-pass q a.words (next_name w x) it.0 ts us d k.1.0), record { pending = b.pending; this = b.this; top = b.top })
+    names q n s s' t u a b (of_part {w = w} {ts = ts} {us = us} {c = x} f g h d) k =
+        let it = context-names q w x a in
+        ((tt, ((protected-pass q a.words (next_name w x) (error_of w) it.0 it.1 us (constants-pass q a.words (next_name w x) it.0 ts us d k.1.0), tt), tt)), record { pending = b.pending; this = b.this; top = b.top })
 
 -- ARROWS
 

@@ -185,3 +185,7 @@ module _ (u : Text → Bool) (f s : ℕ) (P Q : Text → Bool) (alike : (y : Tex
   pub alike-scopes-in : (roles : ℕ → Role) (fs : Fields) → NamedIn u f roles fs → scopes_in s Q roles fs ≡ scopes_in s P roles fs
   alike-scopes-in roles done h = refl
   alike-scopes-in roles (w then fs) h = λ i. alike-scopes-by (roles zero) w h.0 i + alike-scopes-in (λ j. roles (suc j)) fs h.1 i
+
+pub at-most-one : (b : Bool) → one_if b ≤ 1
+at-most-one true = omega arith
+at-most-one false = omega arith

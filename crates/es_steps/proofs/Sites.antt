@@ -17,7 +17,7 @@ use Rattle.es_steps.specs.Nodes.{made}
 use Rattle.es_steps.specs.Open.{OpenFields, Pending, finished_fields}
 use Rattle.es_steps.specs.Sites.{AreAlike, LawAlike, LawAlikeOnFewer, LawInwards}
 use Rattle.es_steps.specs.Steps.{Site, body_fields, names_in_body, outline, site_in, site_in_body}
-use Rattle.es_steps.proofs.Basics.{either_of, sought-append}
+use Rattle.es_resolution.proofs.Basics.{either_of, sought-append}
 use Rattle.es_steps.proofs.Kept.{every}
 
 pub law_alike_proof : LawAlike
@@ -102,9 +102,12 @@ of-site a = record { scope = a.scope; parameters = a.parameters }
 pub place-inwards : (used : Text → Bool) (p q : Place) → PlacesAlike used p q → (k : AstType) (l : Label) (r : Role) (fs : Fields) (i : ℕ) → PlacesAlike used (place_in p k l (role_at r k l fs) fs i) (place_in q k l (role_at r k l fs) fs i)
 place-inwards used p q a k l r fs i = places-alike used p q a k l (role_at r k l fs) fs fs (fields-themselves used (role_at r k l fs) fs) i
 
+pub site-inwards : (used : Text → Bool) (n m : Site) → AreAlike used n m → (k : AstType) (l : Label) (fs : Fields) (i : ℕ) → PlacesAlike used (place_in n.names k l (role_at n.role k l fs) fs i) (place_in m.names k l (role_at m.role k l fs) fs i)
+site-inwards used n m a k l fs i = subst (λ (r : Role). PlacesAlike used (place_in n.names k l (role_at n.role k l fs) fs i) (place_in m.names k l (role_at r k l fs) fs i)) (sym a.role) (place-inwards used n.names m.names (of-site a) k l n.role fs i)
+
 pub alike-in : (used : Text → Bool) (n m : Site) → AreAlike used n m → (k : AstType) (l : Label) (fs : OpenFields) (i : ℕ) → AreAlike used (site_in n k l fs i) (site_in m k l fs i)
 alike-in used n m a k l fs i =
-    let there = subst (λ (r : Role). PlacesAlike used (place_in n.names k l (role_at n.role k l (finished_fields fs)) (finished_fields fs) i) (place_in m.names k l (role_at r k l (finished_fields fs)) (finished_fields fs) i)) (sym a.role) (place-inwards used n.names m.names (of-site a) k l n.role (finished_fields fs) i) in
+    let there = site-inwards used n m a k l (finished_fields fs) i in
     record {
       need = ap (λ z. needs z k l.texts l.flags i) a.need;
       above = ap (λ up. ancestor k l (outline fs) i 0 ∷ up) a.above;

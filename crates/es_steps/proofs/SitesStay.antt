@@ -23,7 +23,7 @@ use Rattle.es_steps.proofs.CoreLaws.{rule-under-lawful, rule-under-writes}
 use Rattle.es_steps.proofs.Kept.{Change, every, Hoisted, KeptIn, Known, LexicalIn}
 use Rattle.es_steps.proofs.Kept.Change.{above, below, lexed, sealed}
 use Rattle.es_steps.proofs.Laws.{all-rules-lawful, all-rules-write}
-use Rattle.es_steps.proofs.Nodes.{role-same}
+use Rattle.es_resolution.proofs.Roles.{role-same}
 use Rattle.es_steps.proofs.Sites.{FieldsAlike, PlacesAlike, SoughtAlike, places-alike}
 use Rattle.es_steps.proofs.Bodies.{body-named}
 use Rattle.es_steps.proofs.BodyPlaces.{body-places}

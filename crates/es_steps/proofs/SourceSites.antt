@@ -20,7 +20,7 @@ use Rattle.es_resolution.proofs.Nodes.{Agrees, Body, Known, Sees, hoisted-in, le
 use Rattle.es_resolution.proofs.Outside.{Fits, fits-in, fits-more, is_parameter}
 use Rattle.es_resolution.proofs.OutsideTrees.{places}
 use Rattle.es_resolution.proofs.Placed.{IsWellPlaced, Placed, PlacedAll, PlacedBy, PlacedIn, is_last}
-use Rattle.es_resolution.proofs.Programs.{root-fits}
+use Rattle.es_resolution.proofs.Programs.{root-fits, root-sees}
 use Rattle.es_resolution.proofs.Resolving.{agrees-first, agrees-later, bodies-in, in-list, known-field, known-in, same-field, trees-known}
 use Rattle.es_resolution.proofs.Sources.{source-resolved}
 use Rattle.es_resolution.proofs.SymbolTrees.{own_symbols, resolved, resolved_among, resolved_by, resolved_in, resolved_tree}
@@ -28,7 +28,6 @@ use Rattle.es_steps.specs.Open.{finished_fields, is_body, opened_fields}
 use Rattle.es_steps.specs.SourceSites.{FindsAlike, InProgram, LawSourceSites, SideBySide, SideBySideAll, SideBySideBy, SideBySideIn}
 use Rattle.es_steps.specs.Steps.{Site, site_in, the_program}
 use Rattle.es_steps.proofs.Opened.{finished-fields}
-use Rattle.es_steps.proofs.ProgramScopes.{program-sees}
 
 -- FOUND: what names find around each node of a tree with its symbols
 
@@ -149,7 +148,7 @@ program-beside l fs placed =
     let gs = new_fields F (outermost p) 1 Program l fs in
     let lbl = marked l [] in
     let found : FoundIn F (place_in (outermost p) 1 Program l fs) (place_at nowhere Program lbl R gs) 1 fs =
-    found-fields F 1 Program [] 0 None st R (λ i. 0 ∷ []) (λ i. inner nowhere Program lbl R gs) (inner nowhere Program lbl R gs) no_name no_name 1 fs (omega arith) (root-fits l fs placed) (λ s x e. refl) (λ x. refl) placed (λ s x e d. refl) (program-sees l fs placed) in
+    found-fields F 1 Program [] 0 None st R (λ i. 0 ∷ []) (λ i. inner nowhere Program lbl R gs) (inner nowhere Program lbl R gs) no_name no_name 1 fs (omega arith) (root-fits l fs placed) (λ s x e. refl) (λ x. refl) placed (λ s x e d. refl) (root-sees l fs placed) in
     beside-in F (place_in (outermost p) 1 Program l fs) (place_at nowhere Program lbl R gs) 1 (site_in the_program Program lbl (opened_fields (is_body Program) gs)) fs
     (node-names F (outermost p) nowhere 1 the_program Program l fs refl refl) (λ i j. node-roles F (outermost p) 1 the_program Program l fs refl j i) found
 

@@ -1,6 +1,6 @@
 -- Declarators that come for one whose pattern falls apart.
 use Rattle.std.proofs.Common.{arith, ◌≤◌, ◌<◌, ◌+◌, ◌≡◌, ℕ, suc, refl, sym, ap, subst, ◌∙◌, List, [], ◌∷◌, ◌++◌, append_assoc}
-use Rattle.std.specs.Prelude.{Bool, true, false, Option, Some, None, if◌then◌else◌}
+use Rattle.std.specs.Prelude.{Bool, true, false, Some, None, if◌then◌else◌}
 use Rattle.es_tree.specs.Words.{Text}
 use Rattle.es_tree.specs.Tree.{Tree, node, Label, done, ◌then◌, Field, one, many, Trees, empty, ◌before◌}
 use Rattle.es_tree.specs.declared.ast_type.AstType.TheVariants.{AssignmentPattern, Identifier, ObjectPattern, PatternProperty, VariableDeclaration, VariableDeclarator}
@@ -14,10 +14,7 @@ use Rattle.es_resolution.specs.Resolved.{Place, no_name, place_in, IsRight, Reso
 use Rattle.es_resolution.specs.Named.{Named, NamedBy, NamedAll}
 use Rattle.es_resolution.specs.Single.{scopes_with, scopes_among}
 use Rattle.es_steps.specs.Nodes.{made, identifier, declarator_with, joined_trees}
-use Rattle.es_steps.specs.Open.{Pending, Additions}
-use Rattle.es_steps.specs.Rules.{with_made}
 use Rattle.es_steps.specs.Steps.{Whole, Ledger, Site, Spot}
-use Rattle.es_steps.specs.Steps.Ledger.{ledger}
 use Rattle.es_steps.specs.Steps.Spot.{at_node}
 use Rattle.es_steps.specs.Rules.{next_name}
 use Rattle.es_steps.specs.Patterns.{IsSilent}
@@ -25,19 +22,19 @@ use Rattle.es_steps.specs.ObjectRest.{Declares, kind_of_declaration, pattern_nod
 use Rattle.es_steps.specs.ObjectRest.Declares.{by_var, lexically}
 use Rattle.es_steps.specs.ObjectRest.SplitsOff.{source, nested, nested_default, key}
 use Rattle.es_steps.specs.ObjectRest.SplitRule.{splits}
-use Rattle.es_steps.proofs.Basics.{none-append}
+use Rattle.es_resolution.proofs.Basics.{none-append}
 use Rattle.es_steps.proofs.Heads.{adds-front, lexical-hoists}
 use Rattle.es_steps.proofs.Kept.{Change, Known, plain, Each, Adds, SeesIf, Lexical, Hoisted, limit, Kept, KeptAll}
 use Rattle.es_steps.proofs.Kept.Change.{below, lexed}
-use Rattle.es_steps.proofs.Names.{named-more, named-more-by, named-more-all, declared-free-by, own-more, declared-free-all}
+use Rattle.es_resolution.proofs.MoreNames.{named-more, named-more-by, named-more-all, own-more}
+use Rattle.es_steps.proofs.Names.{declared-free-by, declared-free-all}
 use Rattle.es_steps.proofs.Nodes.{Lacks, adds-right, closing, kept-node}
-use Rattle.es_steps.proofs.OneName.{knowing, lower, it-found, it-used, not-sought}
+use Rattle.es_steps.proofs.OneName.{one-taken, is_above, knowing, lower, it-found, it-used, not-sought}
 use Rattle.es_steps.proofs.RuleLaws.{AtNodes, nodes-only}
 use Rattle.es_steps.proofs.Same.{as-many, left-fields, same-in, same-by}
 use Rattle.es_steps.proofs.Scopes.{no-scopes, no-scopes-by, no-scopes-all}
 use Rattle.es_steps.proofs.Stays.{stand, stand-all, standing}
 use Rattle.es_steps.proofs.Taken.{none-some, whole_in, NodesKept, Outcome, Lawful}
-use Rattle.es_steps.proofs.Taken.Goes.{to_list}
 use Rattle.es_steps.proofs.Written.{nil-right, body_place, kept-joined, several, named-joined, join-named, resolved-joined, declared-joined, scopes-joined, resolved-parts}
 
 abbrev change_of : {b : Binding} → Declares b → Change
@@ -431,14 +428,14 @@ split-parts p w x free b d z es (nested l lp lq ls a c k t rest fresh) used = sp
 split-parts p w x free b d z es (nested_default l lp lq la ls a c k t e rest fresh quiet) used = split-nested-d p w x free b d l lp lq la ls a c k t e quiet used
 split-parts p w x free b d z es (key l lp lq ls a c k t fresh reads quiet) used = split-key p w x free b d l lp lq ls a c k t reads quiet used
 
-beside-kind : {b : Binding} (d : Declares b) (n : Site) (w : Whole) (q : Pending) (y : Option Bound) (a : Additions) (t u : Tree) (x : Text) (free : w.in_use x ≡ false) → Kept (knowing w x free) n.names (change_of d) n.role t u → Outcome (NodesKept n t u) (ledger w q y a) (ledger (with_made (next_name w x ∷ []) w) q y a)
-beside-kind (by_var e) n w q y a t u x free h = let k = knowing w x free in record { given = k.given; change = below; goes = to_list; more = k.more; freer = k.freer; range = k.range; fresh = k.fresh; sound = k.sound; beside = record { pending = refl; this = refl; top = refl }; kept = h }
-beside-kind (lexically e) n w q y a t u x free h = let k = knowing w x free in record { given = k.given; change = lexed; goes = to_list; more = k.more; freer = k.freer; range = k.range; fresh = k.fresh; sound = k.sound; beside = record { pending = refl; this = refl; top = refl }; kept = h }
+not-above : {b : Binding} (d : Declares b) → is_above (change_of d) ≡ false
+not-above (by_var e) = refl
+not-above (lexically e) = refl
 
 pub split-nodes : (n : Site) (s s' : Ledger) (t u : Tree) → SplitRule n s (at_node t) s' (at_node u) → Named (whole_in s).in_use (whole_in s).free_symbol n.role t → Outcome (NodesKept n t u) s s'
 split-nodes n s s' t u (splits {w = w} {s = y} {q = q} {y = top} m a c z es x free d h) used =
     let parts = named-joined w.in_use w.free_symbol (Binds (kind_of_declaration m)) a (z before c) used.1.0 in
-    beside-kind d n w q y top t u x free (subst (λ (e : Change). Kept (knowing w x free) n.names e n.role t u) (closing-kind d) (declaration-kept (knowing w x free) n.names (change_of d) n.role m a c z es used (split-parts (body_place n.names) w x free (kind_of_declaration m) d z es h (parts.1.0, tt))))
+    one-taken q y top w x free (change_of d) (not-above d) (subst (λ (e : Change). Kept (knowing w x free) n.names e n.role t u) (closing-kind d) (declaration-kept (knowing w x free) n.names (change_of d) n.role m a c z es used (split-parts (body_place n.names) w x free (kind_of_declaration m) d z es h (parts.1.0, tt))))
 
 pub split-only : (n : Site) (s s' : Ledger) (x y : Spot) → SplitRule n s x s' y → AtNodes x y
 split-only n s s' x y (splits m a c z es v free d h) = tt

@@ -16,7 +16,7 @@ use Rattle.es_steps.specs.ObjectSpread.SpreadRule.{spreads}
 use Rattle.es_steps.specs.Steps.{Whole, Site}
 use Rattle.es_steps.proofs.Kept.{Known, plain}
 use Rattle.es_steps.proofs.Made.{Source, standing, Fits, AllFit, both-fit, listed, FitAmong, fits-word, fits-global, fits-member, fits-call, IsPlain, plain-call, Makes}
-use Rattle.es_steps.proofs.Names.{named-more-all}
+use Rattle.es_resolution.proofs.MoreNames.{named-more-all}
 use Rattle.es_steps.proofs.NoHoist.{left-empty, right-empty}
 use Rattle.es_steps.proofs.Raises.{among-append, scopes-append}
 use Rattle.es_steps.proofs.Same.{same-all}

@@ -21,7 +21,7 @@ use Rattle.es_steps.specs.ParameterPatterns.IsFunctionName.{nameless, named}
 use Rattle.es_steps.proofs.Alike.{AlikeRole}
 use Rattle.es_steps.proofs.Alike.AlikeRole.{either}
 use Rattle.es_steps.proofs.Kept.{Known, plain, Agree}
-use Rattle.es_steps.proofs.Names.{named-more, own-more}
+use Rattle.es_resolution.proofs.MoreNames.{named-more, own-more}
 use Rattle.es_steps.proofs.Same.{same, same-all}
 use Rattle.es_steps.proofs.Written.{nil-right, body_place}
 use Rattle.es_steps.proofs.Taken.{at-least, none-some}

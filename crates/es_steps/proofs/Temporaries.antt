@@ -9,7 +9,7 @@ use Rattle.es_resolution.specs.Named.{IsBelow}
 use Rattle.es_steps.specs.Duplication.{IsNext}
 use Rattle.es_steps.specs.Rules.{also_all}
 use Rattle.es_steps.specs.Steps.{Whole}
-use Rattle.es_steps.proofs.Basics.{bytes_eq-self, bytes_eq-equal}
+use Rattle.es_resolution.proofs.Basics.{bytes_eq-self, bytes_eq-equal}
 use Rattle.es_steps.proofs.Kept.{Known, Each, IsNew}
 use Rattle.es_steps.proofs.Nodes.{or_first, or_second}
 use Rattle.es_steps.proofs.Numbered.{Numbered}

@@ -17,10 +17,10 @@ use Rattle.es_resolution.specs.Resolved.{Place, no_name, ResolvedAll}
 use Rattle.es_resolution.specs.Named.{IsBelow, NamedAll}
 use Rattle.es_steps.specs.Nodes.{declarator, this_statement, joined_trees}
 use Rattle.es_steps.specs.Open.{declaration, Pending, Additions, written, with_vars, with_this, import_statement, pending_statements}
-use Rattle.es_steps.proofs.Basics.{either_of, sought-append}
+use Rattle.es_resolution.proofs.Basics.{either_of, sought-append}
 use Rattle.es_steps.proofs.Kept.{Change, Known, plain, Each, IsNew, Lexical, Hoisted, SeesOn, KeptAll}
 use Rattle.es_steps.proofs.Kept.Change.{above, below}
-use Rattle.es_steps.proofs.Names.{named-more-all}
+use Rattle.es_resolution.proofs.MoreNames.{named-more-all}
 use Rattle.es_steps.proofs.Nodes.{lexical-left, hoisted-left}
 use Rattle.es_steps.proofs.Same.{lacks-all, right-trees, plain-agree, any-parameters, same, same-all}
 

@@ -12,11 +12,18 @@ use Rattle.es_steps.specs.OptionalCatch.{CatchRule}
 use Rattle.es_steps.specs.ParameterPatterns.{ParameterRest}
 use Rattle.es_steps.specs.Rules.{Replacing, either_rule}
 use Rattle.es_steps.specs.Steps.{Ledger, Site, Spot}
-use Rattle.es_steps.specs.UsingBlocks.{UsingRule}
+use Rattle.es_steps.specs.UsingBlocks.{BlockUsing}
+use Rattle.es_steps.specs.UsingBodies.{BodyUsing}
+use Rattle.es_steps.specs.UsingLoops.{HeadUsing, LoopUsing}
+use Rattle.es_steps.specs.UsingSwitches.{SwitchUsing}
 
 -- a rest is taken where it stands, and patterns with one move to a declaration
 abbrev pub RestRule : Site → Ledger → Spot → Ledger → Spot → Type 0
 RestRule = either_rule SplitRule (either_rule TakesRest (either_rule CatchRest (either_rule HeadRest ParameterRest)))
+
+-- `using` in each of its places
+abbrev pub UsingRule : Site → Ledger → Spot → Ledger → Spot → Type 0
+UsingRule = either_rule BlockUsing (either_rule BodyUsing (either_rule LoopUsing (either_rule SwitchUsing HeadUsing)))
 
 -- the lowerings that aren't core ones
 abbrev pub further_rules : EnvOptions → Site → Ledger → Spot → Ledger → Spot → Type 0

@@ -14,6 +14,9 @@ pub mod Arrows
 pub mod ObjectRest
 pub mod ObjectSpread
 pub mod UsingBlocks
+pub mod UsingBodies
+pub mod UsingLoops
+pub mod UsingSwitches
 pub mod Duplication
 pub mod NullishCoalescing
 pub mod LogicalAssignment

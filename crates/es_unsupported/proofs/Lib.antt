@@ -1,0 +1,5 @@
+pub mod Firsts
+pub mod Parts
+pub mod Unbound
+pub mod MarkedTrees
+pub mod Programs

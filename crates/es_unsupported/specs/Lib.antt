@@ -1,0 +1,4 @@
+pub mod Shapes
+pub mod FirstUnsupported
+pub mod MarkedWalk
+pub mod Wanted

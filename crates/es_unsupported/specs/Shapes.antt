@@ -1,0 +1,57 @@
+-- The shapes that a run doesn't take: one row of a table for each, asked in order at each node.
+use Rattle.std.specs.Prelude.{ℕ, List, [], ◌∷◌, Bool, false, true, ◌&&◌, Option, Some, None, is_some, codes, if◌then◌else◌}
+use Rattle.es_tree.specs.Constructs.{field_at, is_exponentiation}
+use Rattle.es_tree.specs.Parens.{without_parens}
+use Rattle.es_tree.specs.Tree.{Label, Fields, Field, one, kind_of}
+use Rattle.es_tree.specs.declared.ast_type.AstType.{AstType}
+use Rattle.es_tree.specs.declared.ast_type.AstType.TheVariants.{ChainExpression, TaggedTemplateExpression}
+use Rattle.es_tree.specs.declared.error.UnsupportedKind.{UnsupportedKind}
+use Rattle.es_tree.specs.declared.error.UnsupportedKind.TheVariants.{MathBound, TagChain}
+use Rattle.es_tree.specs.declared.ids.NodeId.{NodeId}
+use Rattle.es_tree.specs.declared.options.EnvOptions.{EnvOptions}
+use Rattle.es_semantic.specs.SymbolsOf.{Declared, find}
+
+-- THE SHAPES, each told by the options, the symbols of the program, the scopes around a node, the innermost first, and the node
+
+-- an exponentiation that is lowered where `Math`, whose `pow` is to be called, finds a binding (ECMA-262, 13.6, 13.15)
+abbrev pub is_math_bound : EnvOptions → List Declared → List ℕ → AstType → Label → Fields → Bool
+is_math_bound o ds up k l fs = o.es2016.exponentiation_operator && is_exponentiation k l fs && is_some (find ds up (codes "Math"))
+
+abbrev pub is_chain_kind : AstType → Bool
+is_chain_kind ChainExpression = true
+is_chain_kind _ = false
+
+-- whether the field is an optional chain, maybe in parentheses
+abbrev pub is_chain_below : Field → Bool
+is_chain_below (one t) = is_chain_kind (kind_of (without_parens t))
+is_chain_below _ = false
+
+-- a tagged template whose tag is an optional chain, maybe in parentheses (13.3.9, 13.3.11)
+abbrev pub has_chain_tag : AstType → Label → Fields → Bool
+has_chain_tag TaggedTemplateExpression l fs = is_chain_below (field_at 0 fs)
+has_chain_tag _ l fs = false
+
+-- where chains are lowered
+abbrev pub is_tag_chain : EnvOptions → List Declared → List ℕ → AstType → Label → Fields → Bool
+is_tag_chain o ds up k l fs = o.es2020.optional_chaining && has_chain_tag k l fs
+
+-- THE TABLE
+
+pub record Row : Type 0 where
+  pub shape : UnsupportedKind
+  pub holds : EnvOptions → List Declared → List ℕ → AstType → Label → Fields → Bool
+
+abbrev pub rows : List Row
+rows = record { shape = MathBound; holds = is_math_bound } ∷ record { shape = TagChain; holds = is_tag_chain } ∷ []
+
+-- the shape of the first of these rows that holds
+abbrev pub first_row : List Row → EnvOptions → List Declared → List ℕ → AstType → Label → Fields → Option UnsupportedKind
+first_row [] o ds up k l fs = None
+first_row (r ∷ rs) o ds up k l fs = if r.holds o ds up k l fs then Some r.shape else first_row rs o ds up k l fs
+
+abbrev pub shape_at : EnvOptions → List Declared → List ℕ → AstType → Label → Fields → Option UnsupportedKind
+shape_at = first_row rows
+
+-- what is found, with the id of its node as a number
+abbrev pub plain_found : UnsupportedKind × NodeId → UnsupportedKind × ℕ
+plain_found found = (found.0, found.1.0)

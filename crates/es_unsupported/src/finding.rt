@@ -1,0 +1,92 @@
+//! The first node of a program that a run doesn't take, and why.
+//!
+//! The shapes are the rows of one table, asked in order at each node. A shape more is a row of `specs/Shapes.antt`, and a
+//! test in `shapes.rt`.
+ghost use Rattle.std.specs.Prelude.{◌≡◌, ℕ, ◌<◌, List, true, option_map};
+ghost use Rattle.es_tree.specs.Tree.{Tree, trees};
+ghost use Rattle.es_tree.specs.Views.{plain_field, plain_fields};
+ghost use Rattle.es_tree.specs.Walks.{all_nodes, all_in_field};
+ghost use Rattle.es_tree.specs.declared.options.EnvOptions.{EnvOptions as PlainOptions};
+ghost use Rattle.es_scope.specs.Tables.{scope_count};
+ghost use Rattle.es_semantic.specs.Places.{first};
+ghost use Rattle.es_semantic.specs.SymbolsOf.{Declared};
+ghost use Rattle.es_unsupported.specs.FirstUnsupported.{IsBuilt, first_unsupported};
+ghost use Rattle.es_unsupported.specs.MarkedWalk.{LooksUp, LooksUpInField, first_at, first_in_field, has_known_scope};
+ghost use Rattle.es_unsupported.specs.Shapes.{plain_found};
+ghost use Rattle.es_unsupported.specs.Wanted.{IsWanted};
+
+use crate::scopes::field_scopes;
+use crate::shapes::{Wanted, shape_at};
+use es_scope::scoping::Scoping;
+use es_tree::error::UnsupportedKind;
+use es_tree::ids::{NodeId, ScopeId};
+use es_tree::node::{Field, Node};
+use es_tree::options::EnvOptions;
+
+/// The first node of the program, in node order, that has a shape which a run with these options doesn't take, and that
+/// shape: at one node the first of the table. None where the run takes all. The table and the program's marks are those
+/// that `build_scoping` makes. It takes no memory.
+pub fn find_unsupported(
+    program: &Node,
+    scoping: &Scoping,
+    options: &EnvOptions,
+) -> Option<(UnsupportedKind, NodeId)>
+    requires built { (p : Tree) × IsBuilt p program.now scoping.now }
+    ensures first { (p : Tree) → IsBuilt p program.now scoping.now → option_map plain_found result ≡ first_unsupported options.now p }
+{
+    let wanted = Wanted::of_program(scoping, options);
+    if !wanted.any() {
+        return None;
+    }
+    find_in(program, scoping.root_scope_id(), scoping, wanted)
+}
+
+/// The first in a tree that stands in this scope.
+#[cycle(find)]
+fn find_in(
+    node: &Node,
+    scope: ScopeId,
+    scoping: &Scoping,
+    wanted: Wanted,
+) -> Option<(UnsupportedKind, NodeId)>
+    requires scope { scope.0 < scope_count scoping.now }
+    requires marks { all_nodes (has_known_scope (scope_count scoping.now)) node.now ≡ true }
+    ensures { (o : PlainOptions) (ds : List Declared) (up : List ℕ) → IsWanted wanted o ds → scope.0 ≡ first up → LooksUp scoping.now ds up node.now → option_map plain_found result ≡ first_at o ds up node.now }
+{
+    if let Some(shape) = shape_at(node, scope, scoping, wanted) {
+        return Some((shape, node.id));
+    }
+    let scopes = field_scopes(node, scope);
+    for (index, field) in node.fields.iter().enumerate() {
+        if let Some(found) = find_in_field(field, scopes.at(index), scoping, wanted) {
+            return Some(found);
+        }
+    }
+    None
+}
+
+/// The first in a field of which what stands in it stands in this scope.
+#[cycle(find)]
+fn find_in_field(
+    field: &Field,
+    scope: ScopeId,
+    scoping: &Scoping,
+    wanted: Wanted,
+) -> Option<(UnsupportedKind, NodeId)>
+    requires scope { scope.0 < scope_count scoping.now }
+    requires marks { all_in_field (has_known_scope (scope_count scoping.now)) (plain_field field.now) ≡ true }
+    ensures { (o : PlainOptions) (ds : List Declared) (up : List ℕ) → IsWanted wanted o ds → scope.0 ≡ first up → LooksUpInField scoping.now ds up (plain_field field.now) → option_map plain_found result ≡ first_in_field o ds up (plain_field field.now) }
+{
+    match field {
+        Field::Missing => None,
+        Field::One(node) => find_in(node, scope, scoping, wanted),
+        Field::Many(nodes) | Field::Statements(nodes) => {
+            for node in nodes {
+                if let Some(found) = find_in(node, scope, scoping, wanted) {
+                    return Some(found);
+                }
+            }
+            None
+        }
+    }
+}
