@@ -1,4 +1,3 @@
-pub mod Basics
 pub mod Names
 pub mod Scopes
 pub mod Kept

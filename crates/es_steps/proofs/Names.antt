@@ -12,7 +12,6 @@ use Rattle.es_semantic.specs.declared.place.Role.TheVariants.{Binds}
 use Rattle.es_resolution.specs.Declarations.{Bound, sought, symbol_of, is_asked, own_name, own_declared, reaches_out, declared, declared_in, declared_by, declared_among}
 use Rattle.es_resolution.specs.Resolved.{first_declared}
 use Rattle.es_resolution.specs.Named.{OwnUsed, Named, NamedIn, NamedBy, NamedAll}
-pub use Rattle.es_resolution.proofs.MoreNames.{named-more, named-more-by, own-more}
 use Rattle.es_resolution.proofs.Basics.{bytes_eq-equal, none-append}
 
 module _ (u : Text → Bool) (n : ℕ) (y : Text) (free : u y ≡ false) where

@@ -23,7 +23,7 @@ use Rattle.es_steps.specs.UsingLoops.UsesInHead.{in_head, with_label}
 use Rattle.es_steps.specs.UsingSwitches.{ConstantsInCases, switch_fields, SwitchUsing}
 use Rattle.es_steps.specs.UsingSwitches.ConstantsInCases.{no_case, in_case}
 use Rattle.es_steps.specs.UsingSwitches.SwitchUsing.{of_switch}
-use Rattle.es_steps.proofs.Basics.{either_of, sought-append}
+use Rattle.es_resolution.proofs.Basics.{either_of, sought-append}
 use Rattle.es_steps.proofs.Kept.{Known, Kept, Agree}
 use Rattle.es_steps.proofs.Kept.Change.{below}
 use Rattle.es_resolution.proofs.MoreNames.{own-more, named-more-by}

@@ -20,7 +20,7 @@ use Rattle.es_resolution.specs.Single.{is_it, binds, is_var_of, own_binds, one_i
 use Rattle.es_steps.specs.Patterns.{no_name_of}
 use Rattle.es_steps.specs.UsingBodies.{is_as_in_block, bound_as, TopFunctions}
 use Rattle.es_steps.specs.UsingBodies.TopFunctions.{no_function, function, other}
-use Rattle.es_steps.proofs.Basics.{bytes_eq-self, either_of, sought-append}
+use Rattle.es_resolution.proofs.Basics.{bytes_eq-self, either_of, sought-append}
 use Rattle.es_steps.proofs.Inserted.{Inserted, inserted-right, apart-names}
 use Rattle.es_steps.proofs.Kept.{every}
 

@@ -25,11 +25,12 @@ use Rattle.es_steps.specs.UsingBlocks.{method_call, UsedAll, Constants, error_na
 use Rattle.es_steps.specs.UsingBlocks.UsedAll.{no_more, uses}
 use Rattle.es_steps.specs.UsingBlocks.Constants.{ended, stays, using}
 use Rattle.es_steps.specs.UsingBlocks.BlockUsing.{of_block, of_part}
-use Rattle.es_steps.proofs.Basics.{bytes_eq-self, or_true, either_of, sought-append}
+use Rattle.es_resolution.proofs.Basics.{bytes_eq-self, or_true, either_of, sought-append}
 use Rattle.es_steps.proofs.Heads.{adds-front}
 use Rattle.es_steps.proofs.Kept.{Change, Known, Adds, Agree, limit, Kept}
 use Rattle.es_steps.proofs.Kept.Change.{below}
-use Rattle.es_steps.proofs.Names.{named-more, own-more, declared-free-all}
+use Rattle.es_resolution.proofs.MoreNames.{named-more, own-more}
+use Rattle.es_steps.proofs.Names.{declared-free-all}
 use Rattle.es_steps.proofs.OneName.{it-found, not-sought, sought-it}
 use Rattle.es_steps.proofs.RuleLaws.{AtNodes, nodes-only}
 use Rattle.es_steps.proofs.Scopes.{any-all, it-out, no-scopes-all}
