@@ -39,7 +39,7 @@ use Rattle.es_statement_runs.specs.Laws.CatchPatternRow.{catch_pattern_row}
 use Rattle.es_statement_runs.proofs.Catches.{all_told, declared_putter, own_binding, one_quiet, one_stack, below_anywhere, any_self, undeclared_hidden}
 use Rattle.es_statement_runs.proofs.Using.{disposed_nothing}
 use Rattle.es_statement_runs.proofs.PatternsAlike.{put_alike_then}
-use Rattle.es_statement_runs.proofs.SensesAlike.{inner_same, inner}
+use Rattle.es_statement_runs.proofs.KindsAlike.{inner_same, inner}
 use Rattle.es_statement_runs.proofs.Combinators.{scope_alike}
 use Rattle.es_statement_runs.proofs.Everywhere.{visible_good, close_like, close_self}
 use Rattle.es_statement_runs.proofs.Everywhere.PlaceLike.{place_like}

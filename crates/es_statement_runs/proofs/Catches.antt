@@ -32,7 +32,7 @@ use Rattle.es_statement_runs.specs.Laws.{any_cells, apart_from, bad_with, CatchR
 use Rattle.es_statement_runs.specs.Laws.CatchRow.{catch_row}
 use Rattle.es_statement_runs.proofs.Everywhere.{close_like, close_self}
 use Rattle.es_statement_runs.proofs.Everywhere.PlaceLike.{place_like}
-use Rattle.es_statement_runs.proofs.SensesAlike.{inner}
+use Rattle.es_statement_runs.proofs.KindsAlike.{inner}
 
 -- HIDDEN NAMES OF WHICH NOTHING IS KNOWN
 

@@ -34,7 +34,7 @@ use Rattle.es_statement_runs.specs.Laws.{among_names, vars_before, ChainRow, Law
 use Rattle.es_statement_runs.specs.Laws.ChainRow.{chain_row}
 use Rattle.es_statement_runs.proofs.CoreSenses.{tree_kept}
 use Rattle.es_statement_runs.proofs.Programs.{rows_run}
-use Rattle.es_statement_runs.proofs.SensesAlike.{inner}
+use Rattle.es_statement_runs.proofs.KindsAlike.{inner}
 
 -- WHAT THE NODES SAY
 

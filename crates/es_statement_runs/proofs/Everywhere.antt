@@ -22,7 +22,7 @@ use Rattle.es_statement_runs.specs.Places.Close.{placed, within}
 use Rattle.es_statement_runs.specs.Places.CloseFields.{close_done, close_then}
 use Rattle.es_statement_runs.specs.Places.CloseField.{close_missing, close_one, close_many, close_statements}
 use Rattle.es_statement_runs.specs.Places.CloseTrees.{close_empty, close_before}
-use Rattle.es_statement_runs.proofs.SensesAlike.{kind_close, inner_same, inner}
+use Rattle.es_statement_runs.proofs.KindsAlike.{kind_close, inner_same, inner}
 
 pub visible_good : (F : Frame) (bad : Level → Text → Bool) → ((n : Level) (x : Text) → bad n x ≡ false → bad_names F.hidden F.frozen n x ≡ false) → (xs : List Text) → all_good bad xs ≡ true → all_visible F xs ≡ true
 visible_good F bad below [] h = refl

@@ -35,7 +35,8 @@ use Rattle.es_statement_runs.specs.StatementParts.{used_where}
 use Rattle.es_statement_runs.specs.Patterns.{object_pattern}
 use Rattle.es_statement_runs.proofs.Everywhere.{close_like, close_self}
 use Rattle.es_statement_runs.proofs.Everywhere.PlaceLike.{place_like}
-use Rattle.es_statement_runs.proofs.SensesAlike.{inner, ends_like}
+use Rattle.es_statement_runs.proofs.KindsAlike.{inner}
+use Rattle.es_statement_runs.proofs.SensesAlike.{ends_like}
 use Rattle.es_statement_runs.specs.Statements.{each}
 use Rattle.es_statement_runs.proofs.Combinators.{each_alike}
 use Rattle.es_statement_runs.proofs.CatchPatterns.{clause_alike}

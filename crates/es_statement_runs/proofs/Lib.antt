@@ -4,6 +4,7 @@ pub mod OwnCells
 pub mod Combinators
 pub mod PatternsAlike
 pub mod SensesAlike
+pub mod KindsAlike
 pub mod Everywhere
 pub mod RunLaws
 pub mod HelperExamples

@@ -36,7 +36,7 @@ use Rattle.es_statement_runs.specs.Laws.{no_frame, nothing_bad, AssignRow, LawAs
 use Rattle.es_statement_runs.specs.Laws.AssignRow.{assign_row}
 use Rattle.es_statement_runs.specs.Laws.PowerRow.{power_row}
 use Rattle.es_statement_runs.proofs.Combinators.{choice_alike}
-use Rattle.es_statement_runs.proofs.SensesAlike.{inner}
+use Rattle.es_statement_runs.proofs.KindsAlike.{inner}
 use Rattle.es_statement_runs.proofs.RunLaws.{nothing_quiet, nothing_stack, values_agree, agree_self, worlds_equal}
 
 -- WITH NOTHING HIDDEN

@@ -20,7 +20,8 @@ use Rattle.es_statement_runs.specs.Kinds.{sense, senses}
 use Rattle.es_statement_runs.specs.StatementParts.{begun}
 use Rattle.es_statement_runs.specs.Places.{placed_at, all_good, Take, take, value_taken, CloseTrees}
 use Rattle.es_statement_runs.proofs.Combinators.{stack_alike}
-use Rattle.es_statement_runs.proofs.SensesAlike.{ends_like, begun_like, bodies_like, inner}
+use Rattle.es_statement_runs.proofs.KindsAlike.{inner}
+use Rattle.es_statement_runs.proofs.SensesAlike.{ends_like, begun_like, bodies_like}
 use Rattle.es_statement_runs.proofs.Everywhere.{close_senses}
 use Rattle.es_statement_runs.proofs.Everywhere.PlaceLike.{place_like}
 use Rattle.es_statement_runs.proofs.RunLaws.{same_run}

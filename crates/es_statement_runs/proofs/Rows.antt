@@ -34,7 +34,8 @@ use Rattle.es_statement_runs.specs.Runs.{run, start_cells}
 use Rattle.es_statement_runs.specs.Laws.{hiding, NullishRow, LawNullish}
 use Rattle.es_statement_runs.specs.Laws.NullishRow.{nullish_row}
 use Rattle.es_statement_runs.proofs.Combinators.{stack_alike}
-use Rattle.es_statement_runs.proofs.SensesAlike.{ends_like, begun_like, bodies_like, inner}
+use Rattle.es_statement_runs.proofs.KindsAlike.{inner}
+use Rattle.es_statement_runs.proofs.SensesAlike.{ends_like, begun_like, bodies_like}
 use Rattle.es_statement_runs.proofs.Everywhere.{close_like, close_senses, close_self}
 use Rattle.es_statement_runs.proofs.Everywhere.PlaceLike.{place_like}
 use Rattle.es_statement_runs.proofs.RunLaws.{same_run, run_at, top_run}

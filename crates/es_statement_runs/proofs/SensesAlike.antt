@@ -1,39 +1,35 @@
--- Each kind is alike where its fields are, at what it takes of them.
+-- What nodes mean is alike where what their parts mean is.
 use Rattle.std.proofs.Common.{◌≡◌, refl, subst, List, [], ◌∷◌, ap, ◌∙◌}
-use Rattle.std.specs.Prelude.{ℕ, suc, Bool, true, false, not, ◌&&◌, ◌||◌, ◌++◌, Option, Some, None, codes, if◌then◌else◌}
+use Rattle.std.specs.Prelude.{ℕ, suc, Bool, true, false, not, ◌&&◌, ◌++◌, Option, Some, None, codes, if◌then◌else◌}
 use Rattle.std.proofs.lemmas.Slice.Eq.{bytes_eq-Decides}
 use Rattle.es_tree.specs.Words.{Text}
-use Rattle.es_tree.specs.Names.{flag_at, first_text as first}
-use Rattle.es_tree.specs.Scopes.{Declared}
-use Rattle.es_tree.specs.declared.ast_type.AstType.{AstType}
-use Rattle.es_tree.specs.declared.ast_type.AstType.TheVariants.{Program, BlockStatement, EmptyStatement, DebuggerStatement, VariableDeclaration, VariableDeclarator, ThrowStatement, IfStatement, ForStatement, ForInStatement, ForOfStatement, WhileStatement, DoWhileStatement, BreakStatement, ContinueStatement, LabeledStatement, SwitchStatement, SwitchCase, TryStatement, CatchClause, ImportDeclaration, ImportSpecifier, ImportDefaultSpecifier, ImportNamespaceSpecifier, ExportNamedDeclaration, ExportDefaultDeclaration, ExportAllDeclaration, Identifier, NullLiteral, BooleanLiteral, NumericLiteral, BigIntLiteral, StringLiteral, RegExpLiteral, TemplateLiteral, TemplateElement, TaggedTemplateExpression, ArrayExpression, SpreadElement, ObjectExpression, ObjectProperty, AssignmentExpression, MemberExpression, CallExpression, MetaProperty, ObjectPattern, PatternProperty, ArrayPattern, AssignmentPattern, RestElement, ObjectTarget, TargetProperty, ArrayTarget, TargetWithDefault, TargetRest}
-use Rattle.es_runs.specs.Core.{plain_call, World, Binding, Reference, Meaning, Form, value, values, initialise, gives_value, nothing, literal, is_free, receiver, in_order, flag, flag_after}
+use Rattle.es_runs.specs.Core.{plain_call, World, Binding, Reference, Meaning, Form, value, values, initialise, gives_value, nothing, literal, is_free, receiver, in_order}
 use Rattle.es_runs.specs.Core.Silent.{keys_name, helper_name}
 use Rattle.es_runs.specs.Core.Binding.{silent, free, changeable, constant}
 use Rattle.es_runs.specs.Core.Form.{word, math_pow, member_call, member_bind, other, null_form, zero_form, void_zero}
-use Rattle.es_runs.specs.Machine.{is_callable, Value, Values, Stop, M, ◌>>=◌, return, stop, ask, is_true, is_nullish, joined}
+use Rattle.es_runs.specs.Machine.{is_callable, Value, Values, M, ◌>>=◌, return, ask, is_true, is_nullish, joined}
 use Rattle.es_runs.specs.Machine.Value.{undefined, text, own}
 use Rattle.es_runs.specs.Machine.OwnValue.{list, helper, stack, pattern_error}
 use Rattle.es_runs.specs.Machine.Values.{none, ◌and◌}
 use Rattle.es_runs.specs.Machine.Question.{of_statement}
-use Rattle.es_runs.specs.Machine.StatementQuestion.{iterator, keys, array, make, spread, meta, import_name, template}
-use Rattle.es_runs.specs.Machine.Stop.{throws, unknown, breaks, continues}
+use Rattle.es_runs.specs.Machine.StatementQuestion.{make, import_name, template}
+use Rattle.es_runs.specs.Machine.Stop.{throws, unknown}
 use Rattle.es_runs.specs.Alike.{Frame, Alike, Equal, SameReference, SameTarget, SameWorld, Level, Need, Like, LikeAt, LikeCallee, needs, is_bad, bad_names, the_value, the_target, the_label, the_callee, value_and_form, object_need, key_need}
 use Rattle.es_runs.specs.Alike.Level.{no_evaluation, value_alone, an_operand_of_typeof, whole_reference, a_callee, a_target}
 use Rattle.es_runs.specs.Alike.LikeCallee.{by_reference, by_call}
 use Rattle.es_runs.specs.Alike.Same.{both_give}
 use Rattle.es_runs.proofs.Basic.{bind_alike, then_alike, return_alike, stop_alike, ask_alike, set_alike, get_alike, put_alike, read_target}
-use Rattle.es_runs.proofs.Congruence.{plain_like, nothing_like, literal_like, assignment_like}
-use Rattle.es_runs.proofs.Lists.{AllLike, run_alike, values_alike, in_order_alike, call_like, member_like, declarator_like}
+use Rattle.es_runs.proofs.Congruence.{plain_like, nothing_like, literal_like}
+use Rattle.es_runs.proofs.Lists.{AllLike, run_alike, values_alike, in_order_alike, call_like}
 use Rattle.es_runs.proofs.Lists.AllLike.{no_more, one_more}
 use Rattle.es_runs.proofs.MathWords.{unhidden_word}
-use Rattle.es_runs.proofs.Everywhere.{PartLike, PartsLike, kind_like}
+use Rattle.es_runs.proofs.Everywhere.{PartLike, PartsLike}
 use Rattle.es_runs.proofs.Everywhere.PartLike.{absent_like, single_like, several_like}
 use Rattle.es_runs.proofs.Everywhere.PartsLike.{no_part, one_part}
 use Rattle.es_statement_runs.specs.Helpers.{is_helper_text, required_from, Supply}
 use Rattle.es_statement_runs.specs.Helpers.Supply.{by_require, no_helpers, by_global, by_import}
 use Rattle.es_statement_runs.specs.Calls.{is_stack_key, static_member, said_of_member, stack_failure, stack_call, stack_method, on_stack, is_spread, some_spread, first_spread, called_form, plain_callee, core_call, mapped, maps_keys, is_require, required_or, call_by, call_sense, member_by, member_sense, assignment_by, own_literal, module_text, is_global, definitions_by, is_bare, copied_values, spread_arguments, excluded_by, spread2_sense, extends_sense, destructuring_sense, without_sense, using_sense, helper_sense, named_member}
-use Rattle.es_statement_runs.specs.Alike.{AllSeen, Told, Quiet, StackSeen, all_visible, PutterLike, MemberLike, MembersLike, ElementLike, ElementsLike, DefinitionsLike, ClauseLike, ClausesLike, MoreLike, SenseLike, SensesLike, PortionLike, PortionsLike, visible}
+use Rattle.es_statement_runs.specs.Alike.{AllSeen, Told, Quiet, StackSeen, PutterLike, MemberLike, MembersLike, ElementLike, ElementsLike, DefinitionsLike, ClauseLike, ClausesLike, MoreLike, SenseLike, SensesLike, PortionLike, PortionsLike}
 use Rattle.es_statement_runs.specs.Alike.MoreLike.{same_stack_member, same_nothing, same_literal, same_aims, same_heads, same_member, same_rest, same_defines, same_spreads, same_object, same_keys, same_maps, same_quasi, same_template, same_clause, same_handles, same_imports, same_begins, same_helper}
 use Rattle.es_statement_runs.specs.Alike.MemberLike.{like_keyed, like_remaining}
 use Rattle.es_statement_runs.specs.Alike.MembersLike.{no_member, member_and}
@@ -45,17 +41,16 @@ use Rattle.es_statement_runs.specs.Alike.ClausesLike.{no_clause, clause_and}
 use Rattle.es_statement_runs.specs.Alike.SensesLike.{no_sense, sense_and}
 use Rattle.es_statement_runs.specs.Alike.PortionLike.{gap_like, alone_like, rows_like}
 use Rattle.es_statement_runs.specs.Alike.PortionsLike.{no_portion, one_portion}
-use Rattle.es_statement_runs.specs.Senses.{said_in, said_of, Place, More, Sense, Portion, cores, core_part, core_parts, ends, only_more, plain_sense, word_text, static_by, static_text, key_value, literal_key, excluded_text, reference_putter, property_aims, putter_by, putter, member_of, members_in, element_by, element_of, elements_in, definition_of, definitions_in, is_empty, array_items, key_of, with_key, key_items, keys_where, raw_of, raw_texts, cooked_of, cooked_texts, whole_text, text_alone, template_meaning, template_literal, tagged_template}
-use Rattle.es_statement_runs.specs.Senses.More.{stack_member, nothing_more, object_of, keys_of, maps, template_of, helper_call, begins}
-use Rattle.es_statement_runs.proofs.Combinators.{failed_alike, all_disposed_alike, taken_use_alike, new_stack_alike, choice_alike, labelled_same, caught_same, finalized_same, scoped_alike, used_alike, stack_alike, scope_alike, own_visible, looped_alike, each_alike, switched_alike, go_on_alike, done_alike}
-use Rattle.es_statement_runs.specs.StatementParts.{asked_by, used_where, declarator_by, head_aims, for_each, first_more, optional_value, tested, for_test, head_by, head_putter, labels_of, clause_by, clauses, case_clause, bound_parameter, handler_of, handled, at_last, first_asked, begun, imported_as, asked_names, asked_name, namespace_begins}
-use Rattle.es_statement_runs.specs.Stacks.{taken_into_use, Scope, used, own_cells}
-use Rattle.es_statement_runs.specs.Statements.{Clause, labelled}
+use Rattle.es_statement_runs.specs.Senses.{said_in, said_of, More, Sense, Portion, cores, core_part, core_parts, ends, only_more, plain_sense, word_text, static_by, static_text, key_value, literal_key, excluded_text, reference_putter, property_aims, putter_by, putter, member_of, members_in, element_by, element_of, elements_in, definition_of, definitions_in, is_empty, array_items, key_of, with_key, key_items, keys_where, raw_of, raw_texts, cooked_of, cooked_texts, whole_text, text_alone, template_meaning, template_literal, tagged_template}
+use Rattle.es_statement_runs.specs.Senses.More.{stack_member, nothing_more, object_of, keys_of, maps, template_of, helper_call}
+use Rattle.es_statement_runs.proofs.Combinators.{failed_alike, all_disposed_alike, taken_use_alike, new_stack_alike, choice_alike, caught_same, finalized_same, used_alike, done_alike}
+use Rattle.es_statement_runs.specs.StatementParts.{asked_by, used_where, declarator_by, head_aims, first_more, optional_value, tested, for_test, head_by, head_putter, labels_of, clause_by, clauses, case_clause, bound_parameter, handler_of, handled, at_last, first_asked, begun, asked_names, asked_name, namespace_begins}
+use Rattle.es_statement_runs.specs.Stacks.{taken_into_use, used}
+use Rattle.es_statement_runs.specs.Statements.{Clause}
 use Rattle.es_statement_runs.specs.Patterns.{Putter, defined, copied, one_value, rest_of}
-use Rattle.es_statement_runs.specs.Names.{names_of_all, is_word}
-use Rattle.es_statement_runs.specs.Kinds.{inside, entered, found, kind_in, scope_by, from_portions}
-use Rattle.es_statement_runs.specs.Places.{SupplySeen, placed_at, Take, take, value_taken, label_taken, target_taken, more_taken, key_taken, takes_of, quiet_at}
-use Rattle.es_statement_runs.proofs.PatternsAlike.{initialise_alike, put_alike_then, returns_putter, reference_putter_alike, copied_then, collected_alike, made_alike, rest_alike, default_alike, property_alike, object_pattern_alike, array_pattern_alike, tagged_alike}
+use Rattle.es_statement_runs.specs.Names.{is_word}
+use Rattle.es_statement_runs.specs.Places.{SupplySeen, placed_at, Take, take, value_taken, label_taken, target_taken, more_taken, key_taken}
+use Rattle.es_statement_runs.proofs.PatternsAlike.{initialise_alike, put_alike_then, returns_putter, reference_putter_alike, copied_then, made_alike, rest_alike, property_alike, tagged_alike}
 
 -- SENSES IN ONE WORLD AND ANOTHER
 
@@ -63,7 +58,7 @@ module _ (F : Frame) (quiet : Quiet F) (w v : World) (same : SameWorld F.hidden 
   pub ends_like : (t : Take) {m k : M Value} → Alike F Equal m k → SenseLike F w v t (ends m) (ends k)
   ends_like t h = record { core = plain_like F w v same t.need _ _ h; more = λ _. same_nothing }
 
-  only_like : (t : Take) {a b : More} → MoreLike F a b → SenseLike F w v t (only_more a) (only_more b)
+  pub only_like : (t : Take) {a b : More} → MoreLike F a b → SenseLike F w v t (only_more a) (only_more b)
   only_like t h = record { core = nothing_like F w v same t.need; more = λ _. h }
 
   pub plain_sense_like : (t : Take) {m k : Meaning} → Like F w v t.need m k → SenseLike F w v t (plain_sense m) (plain_sense k)
@@ -78,7 +73,7 @@ module _ (F : Frame) (quiet : Quiet F) (w v : World) (same : SameWorld F.hidden 
   part_like (alone_like {e = e} h) = single_like (λ _. unhidden_word F.hidden e.core.form quiet.math) h.core
   part_like (rows_like h) = several_like (cores_like h)
 
-  parts_like : (c : ℕ → Take) {xs ys : List Portion} → PortionsLike F (λ i. w) (λ i. v) c xs ys → PartsLike F w v (λ i. (c i).need) (core_parts xs) (core_parts ys)
+  pub parts_like : (c : ℕ → Take) {xs ys : List Portion} → PortionsLike F (λ i. w) (λ i. v) c xs ys → PartsLike F w v (λ i. (c i).need) (core_parts xs) (core_parts ys)
   parts_like c no_portion = no_part
   parts_like c (one_portion h hs) = one_part (part_like h) (parts_like (λ i. c (suc i)) hs)
 
@@ -86,10 +81,10 @@ module _ (F : Frame) (quiet : Quiet F) (w v : World) (same : SameWorld F.hidden 
   static_same same_literal e = refl
   static_same _ e = ap word_text e
 
-  label_text : {e d : Sense} → SenseLike F w v label_taken e d → static_text d ≡ static_text e
+  pub label_text : {e d : Sense} → SenseLike F w v label_taken e d → static_text d ≡ static_text e
   label_text h = static_same (h.more refl) (h.core.form refl)
 
-  key_like : (computed : Bool) {e d : Sense} → SenseLike F w v (key_taken computed) e d → Alike F Equal (key_value w computed e) (key_value v computed d)
+  pub key_like : (computed : Bool) {e d : Sense} → SenseLike F w v (key_taken computed) e d → Alike F Equal (key_value w computed e) (key_value v computed d)
   key_like true h = h.core.evaluation
   key_like false {e = e} h = rw (label_text h) (return_alike F (text (static_text e)))
 
@@ -111,7 +106,7 @@ module _ (F : Frame) (quiet : Quiet F) (w v : World) (same : SameWorld F.hidden 
   aimed binding same_literal h = referred binding h
   aimed binding _ h = referred binding h
 
-  putter_like : (binding : Bool) {e d : Sense} → SenseLike F w v target_taken e d → Alike F (PutterLike F) (putter binding w e) (putter binding v d)
+  pub putter_like : (binding : Bool) {e d : Sense} → SenseLike F w v target_taken e d → Alike F (PutterLike F) (putter binding w e) (putter binding v d)
   putter_like binding h = aimed binding (h.more refl) h.core
 
   -- members and elements
@@ -121,7 +116,7 @@ module _ (F : Frame) (quiet : Quiet F) (w v : World) (same : SameWorld F.hidden 
   member_like_of (same_rest h) = like_remaining h
   member_like_of _ = like_keyed (λ u. stop_alike F unknown)
 
-  members_like : {es ds : List Sense} → SensesLike F w v more_taken es ds → MembersLike F (members_in es) (members_in ds)
+  pub members_like : {es ds : List Sense} → SensesLike F w v more_taken es ds → MembersLike F (members_in es) (members_in ds)
   members_like no_sense = no_member
   members_like (sense_and h hs) = member_and (member_like_of (h.more refl)) (members_like hs)
 
@@ -134,7 +129,7 @@ module _ (F : Frame) (quiet : Quiet F) (w v : World) (same : SameWorld F.hidden 
   element_like binding (alone_like h) = element_like_by (h.more refl) (putter_like binding h)
   element_like binding (rows_like h) = like_elision
 
-  elements_like : (binding : Bool) {xs ys : List Portion} → PortionsLike F (λ i. w) (λ i. v) (λ i. target_taken) xs ys → ElementsLike F (elements_in binding w xs) (elements_in binding v ys)
+  pub elements_like : (binding : Bool) {xs ys : List Portion} → PortionsLike F (λ i. w) (λ i. v) (λ i. target_taken) xs ys → ElementsLike F (elements_in binding w xs) (elements_in binding v ys)
   elements_like binding no_portion = no_element
   elements_like binding (one_portion h hs) = element_and (element_like binding h) (elements_like binding hs)
 
@@ -145,11 +140,11 @@ module _ (F : Frame) (quiet : Quiet F) (w v : World) (same : SameWorld F.hidden 
   definition_like (same_spreads h) = h
   definition_like _ = stop_alike F unknown
 
-  definitions_like : {es ds : List Sense} → SensesLike F w v more_taken es ds → DefinitionsLike F (definitions_in es) (definitions_in ds)
+  pub definitions_like : {es ds : List Sense} → SensesLike F w v more_taken es ds → DefinitionsLike F (definitions_in es) (definitions_in ds)
   definitions_like no_sense = no_definition
   definitions_like (sense_and h hs) = definition_and (definition_like (h.more refl)) (definitions_like hs)
 
-  as_empty : {t : Take} {es ds : List Sense} → SensesLike F w v t es ds → is_empty ds ≡ is_empty es
+  pub as_empty : {t : Take} {es ds : List Sense} → SensesLike F w v t es ds → is_empty ds ≡ is_empty es
   as_empty no_sense = refl
   as_empty (sense_and h hs) = refl
 
@@ -159,7 +154,7 @@ module _ (F : Frame) (quiet : Quiet F) (w v : World) (same : SameWorld F.hidden 
   abbrev element_taken : Take
   element_taken = take (value_and_form true) true
 
-  items_like : {xs ys : List Portion} → PortionsLike F (λ i. w) (λ i. v) (λ i. element_taken) xs ys → Alike F Equal (array_items w xs) (array_items v ys)
+  pub items_like : {xs ys : List Portion} → PortionsLike F (λ i. w) (λ i. v) (λ i. element_taken) xs ys → Alike F Equal (array_items w xs) (array_items v ys)
   items_like no_portion = return_alike F none
   items_like (one_portion gap_like hs) = then_alike F (items_like hs) (λ us. return_alike F (own (list none) and us))
   items_like (one_portion (alone_like h) hs) = then_alike F h.core.evaluation (λ u. then_alike F (items_like hs) (λ us. return_alike F (u and us)))
@@ -182,11 +177,11 @@ module _ (F : Frame) (quiet : Quiet F) (w v : World) (same : SameWorld F.hidden 
   with_key_like (both_some h) (both_some g) = both_some (then_alike F h (λ u. then_alike F g (λ us. return_alike F (u and us))))
   with_key_like _ _ = both_none
 
-  keys_like : {a b : Option (M Values)} → MaybeLike a b → MoreLike F (keys_where a) (keys_where b)
+  pub keys_like : {a b : Option (M Values)} → MaybeLike a b → MoreLike F (keys_where a) (keys_where b)
   keys_like (both_some h) = same_keys h
   keys_like both_none = same_nothing
 
-  key_items_like : {xs ys : List Portion} → PortionsLike F (λ i. w) (λ i. v) (λ i. element_taken) xs ys → MaybeLike (key_items w xs) (key_items v ys)
+  pub key_items_like : {xs ys : List Portion} → PortionsLike F (λ i. w) (λ i. v) (λ i. element_taken) xs ys → MaybeLike (key_items w xs) (key_items v ys)
   key_items_like no_portion = both_some (return_alike F none)
   key_items_like (one_portion gap_like hs) = both_none
   key_items_like (one_portion (alone_like {e = e} {d = d} h) hs) = with_key_like (key_same (h.more refl) (h.core.form refl) e.core d.core h.core.evaluation) (key_items_like hs)
@@ -227,7 +222,7 @@ module _ (F : Frame) (quiet : Quiet F) (w v : World) (same : SameWorld F.hidden 
   template_by t (Some x) us ks xs ys h = record { core = literal_like F w v same t.need (text x) other; more = λ _. same_template (values_alike F w v same h) }
   template_by t None us ks xs ys h = record { core = plain_like F w v same t.need _ _ (then_alike F (values_alike F w v same h) (λ u. ask_alike F (of_statement (template (own (list us) and own (list ks) and own (list u) and none))))); more = λ _. same_template (values_alike F w v same h) }
 
-  template_like : (t : Take) {qs rs xs ys : List Sense} → SensesLike F w v more_taken qs rs → SensesLike F w v value_taken xs ys → SenseLike F w v t (template_literal w qs xs) (template_literal v rs ys)
+  pub template_like : (t : Take) {qs rs xs ys : List Sense} → SensesLike F w v more_taken qs rs → SensesLike F w v value_taken xs ys → SenseLike F w v t (template_literal w qs xs) (template_literal v rs ys)
   template_like t {qs = qs} {xs = xs} {ys = ys} h g = rw (alone_same h g, raws_same h, cookeds_same h) (template_by t (text_alone qs xs) (raw_texts qs) (cooked_texts qs) (cores xs) (cores ys) (cores_like g))
 
   receiver_of : (r q : Reference) → SameReference F r q → receiver q ≡ receiver r
@@ -244,7 +239,7 @@ module _ (F : Frame) (quiet : Quiet F) (w v : World) (same : SameWorld F.hidden 
   tag_called : (us vs : Values) {m k : M Values} → Alike F Equal m k → (f x y : Value) → y ≡ x → Alike F Equal (Rattle.es_statement_runs.specs.Patterns.tagged us vs m f x) (Rattle.es_statement_runs.specs.Patterns.tagged us vs k f y)
   tag_called us vs h f x y e = rw e (tagged_alike F us vs h f x)
 
-  tagged_by : {e d : Sense} → SenseLike F w v tag_taken e d → {a b : More} → MoreLike F a b → (n : Need) → Like F w v n (tagged_template w e a) (tagged_template v d b)
+  pub tagged_by : {e d : Sense} → SenseLike F w v tag_taken e d → {a b : More} → MoreLike F a b → (n : Need) → Like F w v n (tagged_template w e a) (tagged_template v d b)
   tagged_by h (same_template {us = us} {vs = ks} g) n = plain_like F w v same n _ _ (bind_alike F h.core.evaluation (λ r q e. then_alike F (get_alike F w v same e) (λ f. tag_called us ks g f (receiver r) (receiver q) (receiver_of r q e))))
   tagged_by h _ n = nothing_like F w v same n
 
@@ -454,7 +449,7 @@ module _ (F : Frame) (quiet : Quiet F) (w v : World) (same : SameWorld F.hidden 
   value_or_like (alone_like h) u = h.core.evaluation
   value_or_like (rows_like h) u = return_alike F u
 
-  tested_like : {m k : M Value} → Alike F Equal m k → Alike F Equal (tested m) (tested k)
+  pub tested_like : {m k : M Value} → Alike F Equal m k → Alike F Equal (tested m) (tested k)
   tested_like h = then_alike F h (λ u. return_alike F (is_true u))
 
   pub test_like : {x y : Portion} → PortionLike F w v value_taken x y → Alike F Equal (for_test w x) (for_test v y)
@@ -472,7 +467,7 @@ module _ (F : Frame) (quiet : Quiet F) (w v : World) (same : SameWorld F.hidden 
   pub bodies_like : {t : Take} {es ds : List Sense} → t.need ≡ the_value → SensesLike F w v t es ds → Alike F Equal (in_order w (cores es)) (in_order v (cores ds))
   bodies_like {t = t} {es = es} {ds = ds} e h = let k : AllLike F w v the_value (cores es) (cores ds) = subst (λ (n : Need). AllLike F w v n (cores es) (cores ds)) e (cores_like h) in in_order_alike F w v same k
 
-  labels_same : {x y : Portion} → PortionLike F w v label_taken x y → labels_of y ≡ labels_of x
+  pub labels_same : {x y : Portion} → PortionLike F w v label_taken x y → labels_of y ≡ labels_of x
   labels_same gap_like = refl
   labels_same (alone_like h) = ap (λ (f : Form). word_text f ∷ []) (h.core.form refl)
   labels_same (rows_like h) = refl
@@ -485,12 +480,12 @@ module _ (F : Frame) (quiet : Quiet F) (w v : World) (same : SameWorld F.hidden 
   clauses_like no_sense = no_clause
   clauses_like (sense_and h hs) = clause_like (h.more refl) (clauses_like hs)
 
-  case_like : {x y : Portion} → PortionLike F w v value_taken x y → {es ds : List Sense} → SensesLike F w v value_taken es ds → ClauseLike F (case_clause w x es) (case_clause v y ds)
+  pub case_like : {x y : Portion} → PortionLike F w v value_taken x y → {es ds : List Sense} → SensesLike F w v value_taken es ds → ClauseLike F (case_clause w x es) (case_clause v y ds)
   case_like gap_like g = like_default (bodies_like refl g)
   case_like (alone_like h) g = like_when h.core.evaluation (bodies_like refl g)
   case_like (rows_like h) g = like_default (bodies_like refl g)
 
-  parameter_like : {x y : Portion} → PortionLike F w v target_taken x y → PutterLike F (bound_parameter w x) (bound_parameter v y)
+  pub parameter_like : {x y : Portion} → PortionLike F w v target_taken x y → PutterLike F (bound_parameter w x) (bound_parameter v y)
   parameter_like gap_like u = return_alike F undefined
   parameter_like (alone_like h) u = put_alike_then F (putter_like true h) u
   parameter_like (rows_like h) u = return_alike F undefined
@@ -499,12 +494,12 @@ module _ (F : Frame) (quiet : Quiet F) (w v : World) (same : SameWorld F.hidden 
   handler_like (same_handles h) u = h u
   handler_like _ u = stop_alike F unknown
 
-  handled_like : {x y : Portion} → PortionLike F w v more_taken x y → {m k : M Value} → Alike F Equal m k → Alike F Equal (handled x m) (handled y k)
+  pub handled_like : {x y : Portion} → PortionLike F w v more_taken x y → {m k : M Value} → Alike F Equal m k → Alike F Equal (handled x m) (handled y k)
   handled_like gap_like g = g
   handled_like (alone_like h) g = λ s t k. caught_same F (handler_like (h.more refl)) (g s t k)
   handled_like (rows_like h) g = g
 
-  last_like : {x y : Portion} → PortionLike F w v value_taken x y → {m k : M Value} → Alike F Equal m k → Alike F Equal (at_last w x m) (at_last v y k)
+  pub last_like : {x y : Portion} → PortionLike F w v value_taken x y → {m k : M Value} → Alike F Equal m k → Alike F Equal (at_last w x m) (at_last v y k)
   last_like gap_like g = g
   last_like (alone_like h) g = λ s t k. finalized_same F h.core.evaluation (g s t k)
   last_like (rows_like h) g = g
@@ -528,11 +523,11 @@ module _ (F : Frame) (quiet : Quiet F) (w v : World) (same : SameWorld F.hidden 
   asked_name_like m (same_imports {x = x} {y = y} e z) = rw (same.scope y e) (asked_by_like (w.scope y) m x y e z)
   asked_name_like m _ = stop_alike F unknown
 
-  asked_names_like : (m : Text) {es ds : List Sense} → SensesLike F w v more_taken es ds → Alike F Equal (asked_names w m es) (asked_names v m ds)
+  pub asked_names_like : (m : Text) {es ds : List Sense} → SensesLike F w v more_taken es ds → Alike F Equal (asked_names w m es) (asked_names v m ds)
   asked_names_like m no_sense = return_alike F undefined
   asked_names_like m (sense_and h hs) = then_alike F (asked_name_like m (h.more refl)) (λ u. asked_names_like m hs)
 
-  namespace_like : {x y : Portion} → PortionLike F w v label_taken x y → (m : Text) → MoreLike F (namespace_begins x m) (namespace_begins y m)
+  pub namespace_like : {x y : Portion} → PortionLike F w v label_taken x y → (m : Text) → MoreLike F (namespace_begins x m) (namespace_begins y m)
   namespace_like gap_like m = same_nothing
   namespace_like (alone_like h) m = same_begins (then_alike F (ask_alike F (of_statement (import_name m (codes "*")))) (done_alike F))
   namespace_like (rows_like h) m = same_nothing
@@ -544,7 +539,7 @@ module _ (F : Frame) (quiet : Quiet F) (w v : World) (same : SameWorld F.hidden 
   pattern_put : {e d : M Value} → Alike F Equal e d → {m k : M Putter} → Alike F (PutterLike F) m k → Alike F Equal (e >>= λ u. m >>= λ put. put u >>= λ z. return u) (d >>= λ u. k >>= λ put. put u >>= λ z. return u)
   pattern_put h g = then_alike F h (λ u. bind_alike F g (λ p q k. then_alike F (k u) (λ z. return_alike F u)))
 
-  assigned_like : (t : Take) (op : Text) {a b : More} → MoreLike F a b → {e d : Sense} → SenseLike F w v value_taken e d → (m k : Meaning) → Like F w v t.need m k → Alike F Equal (value w m) (value v k) → SenseLike F w v t (assignment_by w op a e m) (assignment_by v op b d k)
+  pub assigned_like : (t : Take) (op : Text) {a b : More} → MoreLike F a b → {e d : Sense} → SenseLike F w v value_taken e d → (m k : Meaning) → Like F w v t.need m k → Alike F Equal (value w m) (value v k) → SenseLike F w v t (assignment_by w op a e m) (assignment_by v op b d k)
   assigned_like t op (same_aims h) g m k f z = choose_like t (is_word (codes "=") op) (ends_like t (pattern_put g.core.evaluation h)) (plain_sense_like t f)
   assigned_like t op (same_stack_member {x = x} h) g m k f z = choose_like t (is_word (codes "=") op) (ends_like t (bind_alike F h (λ r q e. stack_failure_like x g e))) (plain_sense_like t f)
   assigned_like t op _ g m k f z = plain_sense_like t f
@@ -572,7 +567,7 @@ module _ (F : Frame) (quiet : Quiet F) (w v : World) (same : SameWorld F.hidden 
     same_binding : (n : Level) (x : Text) → bad n x ≡ false → AllSeen F bad → MoreLike F (said_of (w.scope x)) (said_of (v.scope x))
     same_binding n x e h = rw (same.scope x (h.names n x e)) (said_self (w.scope x))
 
-    name_like : (u : Supply) → Told F bad u → (n : Level) (x : Text) → bad n x ≡ false → MoreLike F (said_in u (w.scope x)) (said_in u (v.scope x))
+    pub name_like : (u : Supply) → Told F bad u → (n : Level) (x : Text) → bad n x ≡ false → MoreLike F (said_in u (w.scope x)) (said_in u (v.scope x))
     name_like no_helpers h n x e = same_nothing
     name_like by_global h n x e = same_binding n x e h
     name_like (by_import m) h n x e = same_binding n x e h
@@ -602,7 +597,7 @@ module _ (F : Frame) (quiet : Quiet F) (w v : World) (same : SameWorld F.hidden 
       called_like t ls x (same_stack_member {x = y} e) f g h hs = ends_like t (stack_call_like y hs e)
       called_like t ls x _ f g h hs = called_plain t f g h hs
 
-      call_sense_like : (t : Take) (ls : List Text) (x : Text) (optional : Bool) (f g : Sense) {es ds : List Sense} → SenseLike F w v (take (the_callee optional) true) f g → SensesLike F w v argument_taken es ds → SenseLike F w v t (call_sense (placed_at u w ls x) optional f es) (call_sense (placed_at u v ls x) optional g ds)
+      pub call_sense_like : (t : Take) (ls : List Text) (x : Text) (optional : Bool) (f g : Sense) {es ds : List Sense} → SenseLike F w v (take (the_callee optional) true) f g → SensesLike F w v argument_taken es ds → SenseLike F w v t (call_sense (placed_at u w ls x) optional f es) (call_sense (placed_at u v ls x) optional g ds)
       call_sense_like t ls x true f g h hs = plain_sense_like t (core_call_like t.need true f g h.core hs)
       call_sense_like t ls x false f g h hs = called_like t ls x (h.more refl) f g h.core hs
 
@@ -626,13 +621,13 @@ module _ (F : Frame) (quiet : Quiet F) (w v : World) (same : SameWorld F.hidden 
       member_by_like t ls x _ _ (word y) m k h r = static_like t ls x y h r
       member_by_like t ls x _ _ _ m k h r = plain_sense_like t h
 
-      member_sense_like : (t : Take) (ls : List Text) (x : Text) (a b : Bool) {e e' : Sense} → SenseLike F w v (take (object_need true b) true) e e' → (k k' : Sense) {m n : Meaning} → Like F w v t.need m n → Alike F (SameTarget F) m.reference n.reference → Like F w v (key_need a) k.core k'.core →
+      pub member_sense_like : (t : Take) (ls : List Text) (x : Text) (a b : Bool) {e e' : Sense} → SenseLike F w v (take (object_need true b) true) e e' → (k k' : Sense) {m n : Meaning} → Like F w v t.need m n → Alike F (SameTarget F) m.reference n.reference → Like F w v (key_need a) k.core k'.core →
           SenseLike F w v t (member_sense (placed_at u w ls x) a b e k m) (member_sense (placed_at u v ls x) a b e' k' n)
       member_sense_like t ls x false false {e = e} {e' = e'} h k k' {m = m} {n = n} f r g = rw (h.core.form refl, g.form refl) (member_by_like t ls x (h.more refl) e.core.form k.core.form m n f r)
       member_sense_like t ls x false true h k k' f r g = plain_sense_like t f
       member_sense_like t ls x true b h k k' f r g = plain_sense_like t f
 
-  form_weak : (b marked : Bool) (m k : Meaning) → Like F w v (object_need true marked) m k → Like F w v (object_need b marked) m k
+  pub form_weak : (b marked : Bool) (m k : Meaning) → Like F w v (object_need true marked) m k → Like F w v (object_need b marked) m k
   form_weak b marked m k h = record { evaluation = h.evaluation; form = λ _. h.form refl }
 
   -- declarations
@@ -641,7 +636,7 @@ module _ (F : Frame) (quiet : Quiet F) (w v : World) (same : SameWorld F.hidden 
   used_where_like true q h u = then_alike F (used_alike F quiet (q refl) u) h
   used_where_like false q h u = h u
 
-  head_aims_like : (o : Supply) (ls : List Text) (x : Text) → (is_word (codes "using") x ≡ true → StackSeen F) → {e d : Sense} → SenseLike F w v target_taken e d → MoreLike F (head_aims (placed_at o w ls x) e) (head_aims (placed_at o v ls x) d)
+  pub head_aims_like : (o : Supply) (ls : List Text) (x : Text) → (is_word (codes "using") x ≡ true → StackSeen F) → {e d : Sense} → SenseLike F w v target_taken e d → MoreLike F (head_aims (placed_at o w ls x) e) (head_aims (placed_at o v ls x) d)
   head_aims_like o ls x q h = same_heads (bind_alike F (putter_like true h) (λ f g e. returns_putter F (used_where_like (is_word (codes "using") x) q e)))
 
   pub using_like : StackSeen F → {e d : Sense} → SenseLike F w v target_taken e d → {a b : Sense} → SenseLike F w v value_taken a b →
@@ -653,7 +648,7 @@ module _ (F : Frame) (quiet : Quiet F) (w v : World) (same : SameWorld F.hidden 
   declarator_plain t h g m k f true q = ends_like t (using_like (q refl) h g)
   declarator_plain t h g m k f false q = plain_sense_like t f
 
-  declarator_like_by : (o : Supply) (t : Take) (ls : List Text) (x : Text) → (is_word (codes "using") x ≡ true → StackSeen F) → {y z : More} → MoreLike F y z → {e d : Sense} → SenseLike F w v target_taken e d → {a b : Sense} → SenseLike F w v value_taken a b → (m k : Meaning) → Like F w v t.need m k →
+  pub declarator_like_by : (o : Supply) (t : Take) (ls : List Text) (x : Text) → (is_word (codes "using") x ≡ true → StackSeen F) → {y z : More} → MoreLike F y z → {e d : Sense} → SenseLike F w v target_taken e d → {a b : Sense} → SenseLike F w v value_taken a b → (m k : Meaning) → Like F w v t.need m k →
       SenseLike F w v t (declarator_by (placed_at o w ls x) y e a m) (declarator_by (placed_at o v ls x) z d b k)
   declarator_like_by o t ls x q (same_aims i) h g m k f = ends_like t (then_alike F g.core.evaluation (λ u. put_alike_then F i u))
   declarator_like_by o t ls x q (same_keys i) h g m k f = ends_like t (return_alike F undefined)
@@ -664,159 +659,5 @@ module _ (F : Frame) (quiet : Quiet F) (w v : World) (same : SameWorld F.hidden 
   first_more_like e no_sense = same_nothing
   first_more_like e (sense_and h hs) = h.more e
 
-  property_like : (t : Take) (binding computed : Bool) {k k' e d : Sense} → SenseLike F w v (key_taken computed) k k' → SenseLike F w v target_taken e d → SenseLike F w v t (property_aims binding w computed k e) (property_aims binding v computed k' d)
+  pub property_like : (t : Take) (binding computed : Bool) {k k' e d : Sense} → SenseLike F w v (key_taken computed) k k' → SenseLike F w v target_taken e d → SenseLike F w v t (property_aims binding w computed k e) (property_aims binding v computed k' d)
   property_like t binding computed {k = k} h g = rw (excluded_same computed h) (only_like t (same_member (property_alike F (key_like computed h) (excluded_text computed k) (putter_like binding g))))
-
--- KINDS
-
-abbrev pub inner : World → List Declared → World
-inner w ds = (entered ds (quiet_at w [] [])).world
-
-found_same : (c : Option Text) (x : Text) (f g : Text → Binding) → g x ≡ f x → found c x g x ≡ found c x f x
-found_same None x f g e = e
-found_same (Some k) x f g e = refl
-
-module _ (F : Frame) (quiet : Quiet F) where
-  pub inner_same : (ds : List Declared) (w v : World) → SameWorld F.hidden w v → SameWorld F.hidden (inner w ds) (inner v ds)
-  inner_same ds w v same = record { scope = λ x e. found_same (kind_in ds x) x w.scope v.scope (same.scope x e); this = same.this; counts = same.counts }
-
-  pub nothing_sense : (t : Take) (w v : World) → SameWorld F.hidden w v → SenseLike F w v t (plain_sense nothing) (plain_sense nothing)
-  nothing_sense t w v same = plain_sense_like F quiet w v same t (nothing_like F w v same t.need)
-
-  for_each_like : (w v : World) → SameWorld F.hidden w v → (block : Scope) → (block.uses ≡ true → StackSeen F) → all_visible F block.names ≡ true → (closes : Bool) (p q : Place) → q.labels ≡ p.labels → {a a' b b' c c' : Sense} → SenseLike F w v target_taken a a' → SenseLike F w v value_taken b b' → SenseLike F w v value_taken c c' →
-      Alike F Equal (for_each p w block closes a b c) (for_each q v block closes a' b' c')
-  for_each_like w v same block i vis closes p q e h g f = rw e
-      (then_alike F (scoped_alike F (own_cells block) (own_visible F block i vis) g.core.evaluation) (λ u. then_alike F (ask_alike F (if closes then of_statement (iterator u) else of_statement (keys u)))
-      (λ it. each_alike F quiet p.labels closes (λ u. scope_alike F quiet block i vis (bind_alike F (head_like F quiet w v same h) (λ m k j. then_alike F (j u) (λ z. f.core.evaluation)))) it)))
-
-  stop_by : (c : List Text → Stop) {l m : List Text} → m ≡ l → Alike F (Equal {A = Value}) (stop (c l)) (stop (c m))
-  stop_by c {l = l} e = rw e (stop_alike F (c l))
-
-  labelled_like : {m k : M Value} → Alike F Equal m k → {x y : Text} → y ≡ x → Alike F Equal (λ s. labelled x (m s)) (λ s. labelled y (k s))
-  labelled_like h {x = x} e = rw e (λ s t g. labelled_same F x (h s t g))
-
-  import_like : (t : Take) (w v : World) → SameWorld F.hidden w v → {es es' : List Sense} → SensesLike F w v more_taken es es' → {a b : Sense} → SenseLike F w v label_taken a b →
-      SenseLike F w v t (record { core = gives_value (return undefined); more = begins (asked_names w (static_text a) es) }) (record { core = gives_value (return undefined); more = begins (asked_names v (static_text b) es') })
-  import_like t w v same h {a = a} g = record { core = plain_like F w v same t.need _ _ (return_alike F undefined); more = λ _. rw (label_text F quiet w v same g) (same_begins (asked_names_like F quiet w v same (static_text a) h)) }
-
-  seen_here : (y : Text) (b : Bool) → (visible F y && b) ≡ true → (F.hidden y ≡ false) × (F.frozen y ≡ false)
-  seen_here y b h = at (F.hidden y) (F.frozen y) h
-    where
-      at : (c d : Bool) → (not (c || d) && b) ≡ true → (c ≡ false) × (d ≡ false)
-      at false false k = (refl, refl)
-      at true d k = absurd (cc k)
-      at false true k = absurd (cc k)
-
-  imported_like : (ds : List Declared) (x : Text) → all_visible F (names_of_all ds) ≡ true → MoreLike F (imported_as x (names_of_all ds)) (imported_as x (names_of_all ds))
-  imported_like [] x vis = same_nothing
-  imported_like (d ∷ ds) x vis = let h = seen_here d.name (all_visible F (names_of_all ds)) vis in same_imports h.0 h.1
-
-  import_specifier : (t : Take) (w v : World) → SameWorld F.hidden w v → (ds : List Declared) → all_visible F (names_of_all ds) ≡ true → {a b : Sense} → SenseLike F w v label_taken a b →
-      SenseLike F w v t (only_more (imported_as (static_text a) (names_of_all ds))) (only_more (imported_as (static_text b) (names_of_all ds)))
-  import_specifier t w v same ds vis {a = a} h = rw (label_text F quiet w v same h) (only_like F quiet w v same t (imported_like ds (static_text a) vis))
-
-  export_like : (t : Take) (w v : World) → SameWorld F.hidden w v → {y z : Portion} → PortionLike F w v label_taken y z → {a b : Sense} → SenseLike F w v label_taken a b →
-      SenseLike F w v t (record { core = gives_value (return undefined); more = namespace_begins y (static_text a) }) (record { core = gives_value (return undefined); more = namespace_begins z (static_text b) })
-  export_like t w v same h {a = a} g = record { core = plain_like F w v same t.need _ _ (return_alike F undefined); more = λ _. rw (label_text F quiet w v same g) (namespace_like F quiet w v same h (static_text a)) }
-
-  module _ (bad : Level → Text → Bool) (below : (n : Level) (x : Text) → bad n x ≡ false → bad_names F.hidden F.frozen n x ≡ false) (o : Supply) (told : Told F bad o) where
-    pub kind_close : (t : Take) (w v : World) → SameWorld F.hidden w v → (ls : List Text) (x : Text) (k : AstType) (ts : List (Option Text)) (fs : List Bool) (ds : List Declared) (uses : Bool) (vs : List Text) {ps qs : List Portion} →
-        (uses ≡ true → StackSeen F) → (is_word (codes "using") x ≡ true → StackSeen F) → is_bad bad t.need.level k ts ≡ false → all_visible F (names_of_all ds) ≡ true →
-        PortionsLike F (λ i. (inside (placed_at o w ls x) k ts ds vs i).world) (λ i. (inside (placed_at o v ls x) k ts ds vs i).world) (takes_of t k ts fs) ps qs →
-        SenseLike F w v t (from_portions (placed_at o w ls x) k ts fs ds uses vs ps) (from_portions (placed_at o v ls x) k ts fs ds uses vs qs)
-    kind_close t w v same ls x Identifier ts fs ds uses vs q r st vis h = record { core = kind_like F w v same t.need Identifier ts fs (below t.need.level (first ts) st) (parts_like F quiet w v same (takes_of t Identifier ts fs) h); more = λ _. name_like F quiet w v same bad o told t.need.level (first ts) st }
-    kind_close t w v same ls x NullLiteral ts fs ds uses vs q r st vis h = record { core = kind_like F w v same t.need NullLiteral ts fs st (parts_like F quiet w v same (takes_of t NullLiteral ts fs) h); more = λ _. same_literal }
-    kind_close t w v same ls x BooleanLiteral ts fs ds uses vs q r st vis h = record { core = kind_like F w v same t.need BooleanLiteral ts fs st (parts_like F quiet w v same (takes_of t BooleanLiteral ts fs) h); more = λ _. same_literal }
-    kind_close t w v same ls x NumericLiteral ts fs ds uses vs q r st vis h = record { core = kind_like F w v same t.need NumericLiteral ts fs st (parts_like F quiet w v same (takes_of t NumericLiteral ts fs) h); more = λ _. same_literal }
-    kind_close t w v same ls x BigIntLiteral ts fs ds uses vs q r st vis h = record { core = kind_like F w v same t.need BigIntLiteral ts fs st (parts_like F quiet w v same (takes_of t BigIntLiteral ts fs) h); more = λ _. same_literal }
-    kind_close t w v same ls x StringLiteral ts fs ds uses vs q r st vis h = record { core = kind_like F w v same t.need StringLiteral ts fs st (parts_like F quiet w v same (takes_of t StringLiteral ts fs) h); more = λ _. same_literal }
-    kind_close t w v same ls x RegExpLiteral ts fs ds uses vs q r st vis h = ends_like F quiet w v same t (ask_alike F _)
-    kind_close t w v same ls x TemplateElement ts fs ds uses vs q r st vis h = only_like F quiet w v same t same_quasi
-    kind_close t w v same ls x TemplateLiteral ts fs ds uses vs q r st vis (one_portion (rows_like h) (one_portion (rows_like g) no_portion)) = template_like F quiet w v same t h g
-    kind_close t w v same ls x TemplateLiteral ts fs ds uses vs q r st vis _ = nothing_sense t w v same
-    kind_close t w v same ls x TaggedTemplateExpression ts fs ds uses vs q r st vis (one_portion (alone_like h) (one_portion (alone_like g) no_portion)) = plain_sense_like F quiet w v same t (tagged_by F quiet w v same h (g.more refl) t.need)
-    kind_close t w v same ls x TaggedTemplateExpression ts fs ds uses vs q r st vis _ = nothing_sense t w v same
-    kind_close t w v same ls x ArrayExpression ts fs ds uses vs q r st vis h = record { core = plain_like F w v same t.need _ _ (then_alike F (items_like F quiet w v same h) (λ us. ask_alike F (of_statement (array us)))); more = λ _. keys_like F quiet w v same (key_items_like F quiet w v same h) }
-    kind_close t w v same ls x SpreadElement ts fs ds uses vs q r st vis (one_portion (alone_like h) no_portion) = record { core = plain_like F w v same t.need _ _ (then_alike F h.core.evaluation (λ u. ask_alike F (of_statement (spread u)))); more = λ _. same_spreads (then_alike F h.core.evaluation (λ u. copied_then F u none)) }
-    kind_close t w v same ls x SpreadElement ts fs ds uses vs q r st vis _ = nothing_sense t w v same
-    kind_close t w v same ls x ObjectExpression ts fs ds uses vs q r st vis (one_portion (rows_like h) no_portion) = object_like F quiet w v same t _ _ (as_empty F quiet w v same h) (collected_alike F (definitions_like F quiet w v same h))
-    kind_close t w v same ls x ObjectExpression ts fs ds uses vs q r st vis _ = nothing_sense t w v same
-    kind_close t w v same ls x ObjectProperty ts fs ds uses vs q r st vis (one_portion (alone_like h) (one_portion (alone_like g) no_portion)) = only_like F quiet w v same t (same_defines (then_alike F (key_like F quiet w v same (flag_at 2 fs) h) (λ y. then_alike F g.core.evaluation (λ u. return_alike F (defined y u)))))
-    kind_close t w v same ls x ObjectProperty ts fs ds uses vs q r st vis _ = nothing_sense t w v same
-    kind_close t w v same ls x MetaProperty ts fs ds uses vs q r st vis h = ends_like F quiet w v same t (choice_alike F (is_word (codes "import") (first ts)) (ask_alike F (of_statement meta)) (stop_alike F unknown))
-    kind_close t w v same ls x AssignmentExpression ts fs ds uses vs q r st vis (one_portion (alone_like {e = a} {d = a'} h) (one_portion (alone_like {e = b} {d = b'} g) no_portion)) = assigned_like F quiet w v same t (first ts) (h.more refl) g _ _ (assignment_like F w v same t.need (first ts) a.core a'.core b.core b'.core h.core g.core) (assignment_like F w v same the_value (first ts) a.core a'.core b.core b'.core h.core g.core).evaluation
-    kind_close t w v same ls x AssignmentExpression ts fs ds uses vs q r st vis _ = nothing_sense t w v same
-    kind_close t w v same ls x MemberExpression ts fs ds uses vs q r st vis (one_portion (alone_like {e = a} {d = a'} h) (one_portion (alone_like {e = b} {d = b'} g) no_portion)) = member_sense_like F quiet w v same bad o told t ls x (flag fs) (flag_after fs) h b b' (member_like F w v same t.need (flag fs) (flag_after fs) a.core a'.core b.core b'.core (unhidden_word F.hidden a.core.form quiet.math) (form_weak F quiet w v same t.need.form (flag_after fs) a.core a'.core h.core) g.core) (member_like F w v same the_target (flag fs) (flag_after fs) a.core a'.core b.core b'.core (unhidden_word F.hidden a.core.form quiet.math) (form_weak F quiet w v same true (flag_after fs) a.core a'.core h.core) g.core).evaluation g.core
-    kind_close t w v same ls x MemberExpression ts fs ds uses vs q r st vis _ = nothing_sense t w v same
-    kind_close t w v same ls x CallExpression ts fs ds uses vs q r st vis (one_portion (alone_like {e = f} {d = f'} h) (one_portion (rows_like g) no_portion)) = call_sense_like F quiet w v same bad o told t ls x (flag fs) f f' h g
-    kind_close t w v same ls x CallExpression ts fs ds uses vs q r st vis _ = nothing_sense t w v same
-    kind_close t w v same ls x ObjectPattern ts fs ds uses vs q r st vis (one_portion (rows_like h) no_portion) = only_like F quiet w v same t (same_aims (returns_putter F (object_pattern_alike F (members_like F quiet w v same h))))
-    kind_close t w v same ls x ObjectPattern ts fs ds uses vs q r st vis _ = nothing_sense t w v same
-    kind_close t w v same ls x ObjectTarget ts fs ds uses vs q r st vis (one_portion (rows_like h) no_portion) = only_like F quiet w v same t (same_aims (returns_putter F (object_pattern_alike F (members_like F quiet w v same h))))
-    kind_close t w v same ls x ObjectTarget ts fs ds uses vs q r st vis _ = nothing_sense t w v same
-    kind_close t w v same ls x PatternProperty ts fs ds uses vs q r st vis (one_portion (alone_like h) (one_portion (alone_like g) no_portion)) = property_like F quiet w v same t true (flag_at 1 fs) h g
-    kind_close t w v same ls x PatternProperty ts fs ds uses vs q r st vis _ = nothing_sense t w v same
-    kind_close t w v same ls x TargetProperty ts fs ds uses vs q r st vis (one_portion (alone_like h) (one_portion (alone_like g) no_portion)) = property_like F quiet w v same t false (flag_at 1 fs) h g
-    kind_close t w v same ls x TargetProperty ts fs ds uses vs q r st vis _ = nothing_sense t w v same
-    kind_close t w v same ls x ArrayPattern ts fs ds uses vs q r st vis h = only_like F quiet w v same t (same_aims (returns_putter F (array_pattern_alike F (elements_like F quiet w v same true h))))
-    kind_close t w v same ls x ArrayTarget ts fs ds uses vs q r st vis h = only_like F quiet w v same t (same_aims (returns_putter F (array_pattern_alike F (elements_like F quiet w v same false h))))
-    kind_close t w v same ls x AssignmentPattern ts fs ds uses vs q r st vis (one_portion (alone_like h) (one_portion (alone_like g) no_portion)) = only_like F quiet w v same t (same_aims (bind_alike F (putter_like F quiet w v same true h) (λ m n e. returns_putter F (default_alike F g.core.evaluation e))))
-    kind_close t w v same ls x AssignmentPattern ts fs ds uses vs q r st vis _ = nothing_sense t w v same
-    kind_close t w v same ls x TargetWithDefault ts fs ds uses vs q r st vis (one_portion (alone_like h) (one_portion (alone_like g) no_portion)) = only_like F quiet w v same t (same_aims (bind_alike F (putter_like F quiet w v same false h) (λ m n e. returns_putter F (default_alike F g.core.evaluation e))))
-    kind_close t w v same ls x TargetWithDefault ts fs ds uses vs q r st vis _ = nothing_sense t w v same
-    kind_close t w v same ls x RestElement ts fs ds uses vs q r st vis (one_portion (alone_like h) no_portion) = only_like F quiet w v same t (same_rest (putter_like F quiet w v same true h))
-    kind_close t w v same ls x RestElement ts fs ds uses vs q r st vis _ = nothing_sense t w v same
-    kind_close t w v same ls x TargetRest ts fs ds uses vs q r st vis (one_portion (alone_like h) no_portion) = only_like F quiet w v same t (same_rest (putter_like F quiet w v same false h))
-    kind_close t w v same ls x TargetRest ts fs ds uses vs q r st vis _ = nothing_sense t w v same
-    kind_close t w v same ls x VariableDeclarator ts fs ds uses vs q r st vis (one_portion (alone_like {e = a} {d = a'} h) (one_portion gap_like no_portion)) = record { core = kind_like F w v same t.need VariableDeclarator ts fs st (one_part (single_like (λ _. unhidden_word F.hidden a.core.form quiet.math) h.core) (one_part absent_like no_part)); more = λ _. head_aims_like F quiet w v same o ls x r h }
-    kind_close t w v same ls x VariableDeclarator ts fs ds uses vs q r st vis (one_portion (alone_like {e = a} {d = a'} h) (one_portion (alone_like {e = b} {d = b'} g) no_portion)) = declarator_like_by F quiet w v same o t ls x r (h.more refl) h g _ _ (declarator_like F w v same t.need a.core a'.core b.core b'.core h.core g.core)
-    kind_close t w v same ls x VariableDeclarator ts fs ds uses vs q r st vis _ = nothing_sense t w v same
-    kind_close t w v same ls x VariableDeclaration ts fs ds uses vs q r st vis (one_portion (rows_like h) no_portion) = record { core = kind_like F w v same t.need VariableDeclaration ts fs st (one_part (several_like (cores_like F quiet w v same h)) no_part); more = λ _. first_more_like F quiet w v same refl h }
-    kind_close t w v same ls x VariableDeclaration ts fs ds uses vs q r st vis _ = nothing_sense t w v same
-    kind_close t w v same ls x BlockStatement ts fs ds uses vs q r st vis (one_portion (rows_like h) no_portion) = ends_like F quiet w v same t (scope_alike F quiet (scope_by ds uses) q vis (bodies_like F quiet (inner w ds) (inner v ds) (inner_same ds w v same) refl h))
-    kind_close t w v same ls x BlockStatement ts fs ds uses vs q r st vis _ = nothing_sense t w v same
-    kind_close t w v same ls x EmptyStatement ts fs ds uses vs q r st vis h = ends_like F quiet w v same t (return_alike F undefined)
-    kind_close t w v same ls x DebuggerStatement ts fs ds uses vs q r st vis h = ends_like F quiet w v same t (return_alike F undefined)
-    kind_close t w v same ls x ThrowStatement ts fs ds uses vs q r st vis (one_portion (alone_like h) no_portion) = ends_like F quiet w v same t (then_alike F h.core.evaluation (λ u. stop_alike F (throws u)))
-    kind_close t w v same ls x ThrowStatement ts fs ds uses vs q r st vis _ = nothing_sense t w v same
-    kind_close t w v same ls x IfStatement ts fs ds uses vs q r st vis (one_portion (alone_like h) (one_portion (alone_like g) (one_portion f no_portion))) = ends_like F quiet w v same t (then_alike F h.core.evaluation (λ u. choice_alike F (is_true u) g.core.evaluation (value_or_like F quiet w v same f undefined)))
-    kind_close t w v same ls x IfStatement ts fs ds uses vs q r st vis _ = nothing_sense t w v same
-    kind_close t w v same ls x ForStatement ts fs ds uses vs q r st vis (one_portion a (one_portion b (one_portion c (one_portion (alone_like h) no_portion)))) = ends_like F quiet w v same t (scope_alike F quiet (scope_by ds uses) q vis (then_alike F (value_or_like F quiet (inner w ds) (inner v ds) (inner_same ds w v same) a undefined) (λ u. looped_alike F quiet ls (test_like F quiet (inner w ds) (inner v ds) (inner_same ds w v same) b) h.core.evaluation (value_or_like F quiet (inner w ds) (inner v ds) (inner_same ds w v same) c undefined))))
-    kind_close t w v same ls x ForStatement ts fs ds uses vs q r st vis _ = nothing_sense t w v same
-    kind_close t w v same ls x ForInStatement ts fs ds uses vs q r st vis (one_portion (alone_like h) (one_portion (alone_like g) (one_portion (alone_like f) no_portion))) = ends_like F quiet w v same t (for_each_like (inner w ds) (inner v ds) (inner_same ds w v same) (scope_by ds uses) q vis false (placed_at o w ls x) (placed_at o v ls x) refl h g f)
-    kind_close t w v same ls x ForInStatement ts fs ds uses vs q r st vis _ = nothing_sense t w v same
-    kind_close t w v same ls x ForOfStatement ts fs ds uses vs q r st vis (one_portion (alone_like h) (one_portion (alone_like g) (one_portion (alone_like f) no_portion))) = ends_like F quiet w v same t (for_each_like (inner w ds) (inner v ds) (inner_same ds w v same) (scope_by ds uses) q vis true (placed_at o w ls x) (placed_at o v ls x) refl h g f)
-    kind_close t w v same ls x ForOfStatement ts fs ds uses vs q r st vis _ = nothing_sense t w v same
-    kind_close t w v same ls x WhileStatement ts fs ds uses vs q r st vis (one_portion (alone_like h) (one_portion (alone_like g) no_portion)) = ends_like F quiet w v same t (looped_alike F quiet ls (tested_like F quiet w v same h.core.evaluation) g.core.evaluation (return_alike F undefined))
-    kind_close t w v same ls x WhileStatement ts fs ds uses vs q r st vis _ = nothing_sense t w v same
-    kind_close t w v same ls x DoWhileStatement ts fs ds uses vs q r st vis (one_portion (alone_like h) (one_portion (alone_like g) no_portion)) = ends_like F quiet w v same t (looped_alike F quiet ls (return_alike F true) h.core.evaluation (then_alike F g.core.evaluation (go_on_alike F)))
-    kind_close t w v same ls x DoWhileStatement ts fs ds uses vs q r st vis _ = nothing_sense t w v same
-    kind_close t w v same ls x BreakStatement ts fs ds uses vs q r st vis (one_portion h no_portion) = ends_like F quiet w v same t (stop_by (λ l. breaks l) (labels_same F quiet w v same h))
-    kind_close t w v same ls x BreakStatement ts fs ds uses vs q r st vis _ = nothing_sense t w v same
-    kind_close t w v same ls x ContinueStatement ts fs ds uses vs q r st vis (one_portion h no_portion) = ends_like F quiet w v same t (stop_by (λ l. continues l) (labels_same F quiet w v same h))
-    kind_close t w v same ls x ContinueStatement ts fs ds uses vs q r st vis _ = nothing_sense t w v same
-    kind_close t w v same ls x LabeledStatement ts fs ds uses vs q r st vis (one_portion (alone_like h) (one_portion (alone_like g) no_portion)) = ends_like F quiet w v same t (labelled_like g.core.evaluation (ap word_text (h.core.form refl)))
-    kind_close t w v same ls x LabeledStatement ts fs ds uses vs q r st vis _ = nothing_sense t w v same
-    kind_close t w v same ls x SwitchStatement ts fs ds uses vs q r st vis (one_portion (alone_like h) (one_portion (rows_like g) no_portion)) = ends_like F quiet w v same t (then_alike F h.core.evaluation (λ u. scope_alike F quiet (scope_by ds uses) q vis (switched_alike F u (clauses_like F quiet (inner w ds) (inner v ds) (inner_same ds w v same) g))))
-    kind_close t w v same ls x SwitchStatement ts fs ds uses vs q r st vis _ = nothing_sense t w v same
-    kind_close t w v same ls x SwitchCase ts fs ds uses vs q r st vis (one_portion h (one_portion (rows_like g) no_portion)) = only_like F quiet w v same t (same_clause (case_like F quiet w v same h g))
-    kind_close t w v same ls x SwitchCase ts fs ds uses vs q r st vis _ = nothing_sense t w v same
-    kind_close t w v same ls x TryStatement ts fs ds uses vs q r st vis (one_portion (alone_like h) (one_portion g (one_portion f no_portion))) = ends_like F quiet w v same t (last_like F quiet w v same f (handled_like F quiet w v same g h.core.evaluation))
-    kind_close t w v same ls x TryStatement ts fs ds uses vs q r st vis _ = nothing_sense t w v same
-    kind_close t w v same ls x CatchClause ts fs ds uses vs q r st vis (one_portion h (one_portion (alone_like g) no_portion)) = only_like F quiet w v same t (same_handles (λ u. scope_alike F quiet (scope_by ds uses) q vis (then_alike F (parameter_like F quiet (inner w ds) (inner v ds) (inner_same ds w v same) h u) (λ z. g.core.evaluation))))
-    kind_close t w v same ls x CatchClause ts fs ds uses vs q r st vis _ = nothing_sense t w v same
-    kind_close t w v same ls x ImportDeclaration ts fs ds uses vs q r st vis (one_portion (rows_like h) (one_portion (alone_like g) f)) = import_like t w v same h g
-    kind_close t w v same ls x ImportDeclaration ts fs ds uses vs q r st vis _ = nothing_sense t w v same
-    kind_close t w v same ls x ImportSpecifier ts fs ds uses vs q r st vis (one_portion (alone_like h) (one_portion (alone_like g) no_portion)) = import_specifier t w v same ds vis h
-    kind_close t w v same ls x ImportSpecifier ts fs ds uses vs q r st vis _ = nothing_sense t w v same
-    kind_close t w v same ls x ImportDefaultSpecifier ts fs ds uses vs q r st vis h = only_like F quiet w v same t (imported_like ds (codes "default") vis)
-    kind_close t w v same ls x ImportNamespaceSpecifier ts fs ds uses vs q r st vis h = only_like F quiet w v same t (imported_like ds (codes "*") vis)
-    kind_close t w v same ls x ExportNamedDeclaration ts fs ds uses vs q r st vis (one_portion h g) = ends_like F quiet w v same t (value_or_like F quiet w v same h undefined)
-    kind_close t w v same ls x ExportNamedDeclaration ts fs ds uses vs q r st vis _ = nothing_sense t w v same
-    kind_close t w v same ls x ExportDefaultDeclaration ts fs ds uses vs q r st vis (one_portion (alone_like h) no_portion) = ends_like F quiet w v same t (then_alike F h.core.evaluation (done_alike F))
-    kind_close t w v same ls x ExportDefaultDeclaration ts fs ds uses vs q r st vis _ = nothing_sense t w v same
-    kind_close t w v same ls x ExportAllDeclaration ts fs ds uses vs q r st vis (one_portion h (one_portion (alone_like g) f)) = export_like t w v same h g
-    kind_close t w v same ls x ExportAllDeclaration ts fs ds uses vs q r st vis _ = nothing_sense t w v same
-    kind_close t w v same ls x Program ts fs ds uses vs q r st vis (one_portion (rows_like h) (one_portion (rows_like g) no_portion)) = ends_like F quiet w v same t (begun_like F quiet w v same g (stack_alike F quiet uses q (bodies_like F quiet w v same refl g)))
-    kind_close t w v same ls x Program ts fs ds uses vs q r st vis _ = nothing_sense t w v same
-    kind_close t w v same ls x k ts fs ds uses vs q r st vis h = plain_sense_like F quiet w v same t (kind_like F w v same t.need k ts fs st (parts_like F quiet w v same (takes_of t k ts fs) h))

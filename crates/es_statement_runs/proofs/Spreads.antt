@@ -33,7 +33,7 @@ use Rattle.es_statement_runs.specs.Laws.Gathered.{begin_gathering, one_gathered,
 use Rattle.es_statement_runs.specs.Laws.SpreadRow.{spread_last, properties_last}
 use Rattle.es_statement_runs.proofs.Kernels.{law_collected_proof}
 use Rattle.es_statement_runs.proofs.RunLaws.{same_self, same_states, nothing_quiet, nothing_stack, agree_self, same_world, worlds_equal}
-use Rattle.es_statement_runs.proofs.SensesAlike.{inner}
+use Rattle.es_statement_runs.proofs.KindsAlike.{inner}
 
 -- IN PARTS
 

@@ -45,7 +45,7 @@ use Rattle.es_statement_runs.specs.StatementParts.{declarator_by}
 use Rattle.es_statement_runs.specs.Kinds.{sense, senses, portion, portions, inside, label_in}
 use Rattle.es_statement_runs.specs.Places.{HelpersSeen, placed_at, all_good, Take, value_taken, takes_of, avoids, avoids_fields, avoids_field, avoids_trees}
 use Rattle.es_statement_runs.proofs.Everywhere.{visible_good}
-use Rattle.es_statement_runs.proofs.SensesAlike.{kind_close, inner_same}
+use Rattle.es_statement_runs.proofs.KindsAlike.{kind_close, inner_same}
 
 both_left : (a b : Bool) → a && b ≡ true → a ≡ true
 both_left true b h = refl

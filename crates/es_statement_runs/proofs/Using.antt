@@ -52,7 +52,8 @@ use Rattle.es_statement_runs.specs.Kinds.{sense, senses, found, kind_in}
 use Rattle.es_statement_runs.specs.StatementParts.{handler_of}
 use Rattle.es_statement_runs.specs.Places.{HelpersSeen, placed_at, all_good, Take}
 use Rattle.es_statement_runs.proofs.Combinators.{disposed_alike}
-use Rattle.es_statement_runs.proofs.SensesAlike.{inner, ends_like}
+use Rattle.es_statement_runs.proofs.KindsAlike.{inner}
+use Rattle.es_statement_runs.proofs.SensesAlike.{ends_like}
 
 -- DISPOSING TOUCHES NO CELL
 
