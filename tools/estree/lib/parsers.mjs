@@ -1,11 +1,14 @@
-// The parsers: acorn, and @babel/parser for what acorn doesn't read, where they are installed.
+// The parsers, where they are installed: acorn, and @babel/parser for what acorn doesn't read.
 import { createRequire } from 'node:module';
+import { extendedParser } from './acorn-parser.mjs';
 
 const DEBIAN_MODULES = '/usr/share/nodejs';
-const NONE = 'no parser is installed: wanted is acorn or @babel/parser (Debian: node-acorn, node-babel7)';
+const NONE = 'no parser is installed: wanted is acorn or @babel/parser (Debian: node-acorn)';
 
 const acorn = installed('acorn');
 const babel = installed('@babel/parser');
+const acornParser = acorn && extendedParser(acorn);
+const goingOnParser = acorn && extendedParser(acorn, { mayBeInvalid: true });
 const attributesPlugin = babel && pluginForAttributes();
 
 export const hasParser = acorn !== undefined || babel !== undefined;
@@ -15,12 +18,15 @@ export const hasBabel = babel !== undefined;
 export class NotParsed extends Error {}
 
 /**
- * The ESTree program of a text, with parentheses as nodes. With `mayBeInvalid` early errors are passed over,
- * as far as @babel/parser can. Errors name the place, in the file at `path`.
+ * The ESTree program of a text, with parentheses as nodes. With `mayBeInvalid` early errors are passed over, as far as
+ * these parsers can. Errors name the place, in the file at `path`.
  */
 export function parse(text, { module = false, mayBeInvalid = false, path } = {}) {
   const sourceType = module ? 'module' : 'script';
-  const parsers = [acorn && parseWithAcorn, babel && parseWithBabel, babel && mayBeInvalid && parseInvalid].filter(Boolean);
+  const parsers = [
+    acorn && parseWithAcorn, babel && parseWithBabel,
+    mayBeInvalid && acorn && parseInvalidWithAcorn, mayBeInvalid && babel && parseInvalidWithBabel,
+  ].filter(Boolean);
   if (parsers.length === 0) throw new Error(NONE);
   let furthest;
   for (const parser of parsers) {
@@ -40,8 +46,12 @@ export function place(text, offset, path) {
   return [...(path === undefined ? [] : [path]), lines.length, lines.at(-1).length + 1].join(':');
 }
 
-function parseWithAcorn(text, sourceType) {
-  return acorn.parse(text, { ecmaVersion: 'latest', sourceType, preserveParens: true });
+function parseWithAcorn(text, sourceType, parser = acornParser) {
+  return parser.parse(text, { ecmaVersion: 'latest', sourceType, preserveParens: true });
+}
+
+function parseInvalidWithAcorn(text, sourceType) {
+  return parseWithAcorn(text, sourceType, goingOnParser);
 }
 
 /** Older versions of @babel/parser read `assert` in place of `with`: where they stop at a `with`, it is replaced. */
@@ -80,7 +90,7 @@ function withOffsets(value, change) {
   return Object.fromEntries(Object.entries(value).map(([field, below]) => [field, changed(field, below)]));
 }
 
-function parseInvalid(text, sourceType) {
+function parseInvalidWithBabel(text, sourceType) {
   return parseWithBabel(text, sourceType, true);
 }
 
