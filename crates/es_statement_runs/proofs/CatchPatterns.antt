@@ -131,7 +131,7 @@ settled_pattern v true (gives a s) = refl
 settled_pattern v false (gives a s) = refl
 settled_pattern v lets (stops m s) = refl
 
-aims_like : {F : Frame} {m k : M Putter} → MoreLike F (aims m) (aims k) → Alike F (PutterLike F) m k
+pub aims_like : {F : Frame} {m k : M Putter} → MoreLike F (aims m) (aims k) → Alike F (PutterLike F) m k
 aims_like (same_aims h) = h
 
 kept_all : (x : Text) (ds : List Declared) → all_good (bad_with x) (names_of_all ds) ≡ true → (w v : World) → Unit {0} → Unit {0}

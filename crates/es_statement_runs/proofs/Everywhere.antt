@@ -59,7 +59,7 @@ module _ (F : Frame) (quiet : Quiet F) (stack : StackSeen F) (bad : Level → Te
 
   module _ (R : Take → Tree → Tree → Type 0) (base : (t : Take) (a b : Tree) → R t a b → (w v : World) → SameWorld F.hidden w v → Known w v → (ls : List Text) (x : Text) → SenseLike F w v t (sense (placed_at o w ls x) a) (sense (placed_at o v ls x) b)) where
     -- what the second node says in its own words is what the first says
-    said_alike : (t : Take) (w v : World) → SameWorld F.hidden w v → (ls : List Text) (x : Text) (k : AstType) (ts us : List (Option Text)) (fs gs : List Bool) (ds es : List Declared) (b d : Bool) (vs ws : List Text) (xs : List Portion) (ys : (List (Option Text)) → List Declared → List Text → List Portion) →
+    pub said_alike : (t : Take) (w v : World) → SameWorld F.hidden w v → (ls : List Text) (x : Text) (k : AstType) (ts us : List (Option Text)) (fs gs : List Bool) (ds es : List Declared) (b d : Bool) (vs ws : List Text) (xs : List Portion) (ys : (List (Option Text)) → List Declared → List Text → List Portion) →
         us ≡ ts → gs ≡ fs → es ≡ ds → d ≡ b → ws ≡ vs → SenseLike F w v t (from_portions (placed_at o w ls x) k ts fs ds b vs xs) (from_portions (placed_at o v ls x) k ts fs ds b vs (ys ts ds vs)) →
         SenseLike F w v t (from_portions (placed_at o w ls x) k ts fs ds b vs xs) (from_portions (placed_at o v ls x) k us gs es d ws (ys us es ws))
     said_alike t w v same ls x k ts us fs gs ds es b d vs ws xs ys h1 h2 h3 h4 h5 h = rw (h1, h2, h3, h4, h5) h

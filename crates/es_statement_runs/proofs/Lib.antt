@@ -33,3 +33,15 @@ pub mod MoreInstances
 pub mod CatchPatterns
 pub mod Heads
 pub mod Later
+pub mod ScopedRows
+pub mod ObjectRests
+pub mod RestInstances
+pub mod ValidRules
+pub mod ValidNames
+pub mod ValidStands
+pub mod ValidForm
+pub mod ValidPlaces
+pub mod ValidFields
+pub mod ValidNodes
+pub mod ValidProof
+pub mod ValidInstances

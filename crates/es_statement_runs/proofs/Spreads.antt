@@ -19,7 +19,7 @@ use Rattle.es_statement_runs.specs.Senses.{said_in, Sense, More, definitions_in,
 use Rattle.es_statement_runs.specs.Senses.More.{helper_call, object_of, spreads}
 use Rattle.es_statement_runs.specs.Calls.{member_by, copied_values}
 use Rattle.es_statement_runs.proofs.MoreRows.{told_self, alike_self}
-use Rattle.es_statement_runs.specs.Helpers.{Supply}
+use Rattle.es_statement_runs.specs.Helpers.{Supply, is_helper_text}
 use Rattle.es_statement_runs.specs.Helpers.Supply.{by_global}
 use Rattle.es_statement_runs.specs.Patterns.{collected, copied, one_value, made_object}
 use Rattle.es_statement_runs.specs.Names.{top_in, names_of_all}
@@ -111,7 +111,7 @@ object_self w same t ms = record {
 -- A NAME THAT NO SCOPE DECLARES
 
 module _ (z : Text) where
-  abbrev bad_here : Level → Text → Bool
+  abbrev pub bad_here : Level → Text → Bool
   bad_here = bad_names none_hidden (only z)
 
   pub below_here : (n : Level) (x : Text) → bad_here n x ≡ false → nothing_bad n x ≡ false
@@ -132,23 +132,23 @@ module _ (z : Text) where
   pub free_kept : (ds : List Declared) → all_good bad_here (names_of_all ds) ≡ true → (w v : World) → is_free (v.scope z) ≡ true → is_free ((inner v ds).scope z) ≡ true
   free_kept ds h w v k = ap (λ (c : Option Text). is_free (found c z v.scope z)) (unseen ds h) ∙ k
 
-not_not : (a : Bool) → not a ≡ false → a ≡ true
+pub not_not : (a : Bool) → not a ≡ false → a ≡ true
 not_not true h = refl
 not_not false h = absurd (cc h)
 
-abbrev helpers_ : Text
+abbrev pub helpers_ : Text
 helpers_ = codes "babelHelpers"
 
--- `babelHelpers.objectSpread2` is the helper
-calls_helper : (w : World) → is_free (w.scope helpers_) ≡ true → (sense (placed_at by_global w [] []) (global_helper (codes "objectSpread2"))).more ≡ helper_call (codes "objectSpread2")
-calls_helper w k = at (w.scope helpers_) k
+-- `babelHelpers.NAME` is the helper
+pub calls_helper : (x : Text) → is_helper_text x ≡ true → (w : World) → is_free (w.scope helpers_) ≡ true → (sense (placed_at by_global w [] []) (global_helper x)).more ≡ helper_call x
+calls_helper x known w k = at (w.scope helpers_) k
   where
-    at : (b : Binding) → is_free b ≡ true → (member_by (placed_at by_global w [] []) (said_in by_global b) (word helpers_) (word (codes "objectSpread2")) (member w false false (name helpers_) (name (codes "objectSpread2")))).more ≡ helper_call (codes "objectSpread2")
-    at free h = rw k refl
+    at : (b : Binding) → is_free b ≡ true → (member_by (placed_at by_global w [] []) (said_in by_global b) (word helpers_) (word x) (member w false false (name helpers_) (name x))).more ≡ helper_call x
+    at free h = rw (known, k) refl
     at _ h = absurd (cc h)
 
 at_one : (w : World) → is_free (w.scope helpers_) ≡ true → (t : Take) (a b : Tree) → SpreadRow t a b → (ls : List Text) (x : Text) → SenseLike no_frame w w t (sense (placed_at by_global w ls x) a) (sense (placed_at by_global w ls x) b)
-at_one w k t a b row ls x = let h = same_sense by_global w (calls_helper w k) row ls x in rw (h.1.0, h.1.1) (object_self w (same_world w) t h.0)
+at_one w k t a b row ls x = let h = same_sense by_global w (calls_helper (codes "objectSpread2") refl w k) row ls x in rw (h.1.0, h.1.1) (object_self w (same_world w) t h.0)
 
 spread_like : (t : Take) (a b : Tree) → SpreadRow t a b → (w v : World) → SameWorld none_hidden w v → is_free (v.scope helpers_) ≡ true → (ls : List Text) (x : Text) → SenseLike no_frame w v t (sense (placed_at by_global w ls x) a) (sense (placed_at by_global v ls x) b)
 spread_like t a b row w v same k ls x =

@@ -1,16 +1,16 @@
 -- Laws of the statement machine.
-use Rattle.std.specs.Prelude.{is_some, ◌≡◌, ℕ, Bool, true, false, List, [], ◌∷◌, ◌++◌, Some, codes, bytes_eq, ◌||◌, ◌&&◌, not, if◌then◌else◌}
+use Rattle.std.specs.Prelude.{is_some, ◌≡◌, ℕ, zero, suc, Bool, true, false, List, [], ◌∷◌, ◌++◌, Some, codes, bytes_eq, ◌||◌, ◌&&◌, not, if◌then◌else◌}
 use Rattle.std.specs.List.{list_any}
 use Rattle.es_tree.specs.Words.{Text}
 use Rattle.es_tree.specs.Core.{is_core}
 use Rattle.es_tree.specs.Scopes.{declared_of, Declared}
-use Rattle.es_tree.specs.Tree.{Tree, node, Trees, Label, done, ◌then◌, one, ◌before◌, Fields, Field, statements, many, empty, missing}
-use Rattle.es_tree.specs.declared.ast_type.AstType.TheVariants.{LogicalExpression, AssignmentExpression, BinaryExpression, Identifier, CatchClause, ObjectExpression, SpreadElement, CallExpression, ObjectPattern, ExpressionStatement, BlockStatement, VariableDeclaration, VariableDeclarator, TryStatement, ForInStatement, ForOfStatement}
+use Rattle.es_tree.specs.Tree.{Tree, node, Trees, Label, done, ◌then◌, one, ◌before◌, Fields, Field, statements, many, empty, missing, kind_of}
+use Rattle.es_tree.specs.declared.ast_type.AstType.TheVariants.{LogicalExpression, AssignmentExpression, BinaryExpression, Identifier, CatchClause, ObjectExpression, SpreadElement, CallExpression, ObjectPattern, ExpressionStatement, BlockStatement, VariableDeclaration, VariableDeclarator, TryStatement, ForInStatement, ForOfStatement, StringLiteral, NumericLiteral, BigIntLiteral, PatternProperty, RestElement, ArrayExpression, SequenceExpression}
 use Rattle.es_tree.specs.declared.ast_type.AstType.{AstType}
 use Rattle.es_tree.specs.Fresh.{is_among}
-use Rattle.es_tree.specs.Names.{first_text}
+use Rattle.es_tree.specs.Names.{first_text, flag_at}
 use Rattle.es_tree.specs.Walks.{all_nodes}
-use Rattle.es_runs.specs.Core.{Silent, World, value, meaning}
+use Rattle.es_runs.specs.Core.{Silent, World, value, meaning, second}
 use Rattle.es_runs.specs.Alike.{Same, Equal, touches, Level, Frame, set_cells, bad_names, value_and_form}
 use Rattle.es_runs.specs.Alike.Level.{a_target}
 use Rattle.es_runs.specs.Rules.{assign_node, member_node, strays, tested_by}
@@ -22,11 +22,11 @@ use Rattle.es_runs.specs.LogicalAssignment.{is_logical_assignment_operator, assi
 use Rattle.es_runs.specs.Exponentiation.{power_at}
 use Rattle.es_runs.specs.Machine.{Value, Values, State, Move, Result, M, ◌>>=◌, return, joined}
 use Rattle.es_runs.specs.Machine.Values.{none, ◌and◌}
-use Rattle.es_statement_runs.specs.Programs.{is_without_functions, uses_no_helper}
+use Rattle.es_statement_runs.specs.Programs.{IsStatementProgram, is_without_functions, uses_no_helper}
 use Rattle.es_statement_runs.specs.Helpers.{helper_names, entry, silent_names, Supply}
 use Rattle.es_statement_runs.specs.Helpers.Supply.{no_helpers, by_global}
 use Rattle.es_statement_runs.specs.Scopes.{are_program_names, is_own_cell, turns_cell, stack_cell}
-use Rattle.es_statement_runs.specs.Places.{placed_at, HelpersSeen, all_good, target_taken, bad_anywhere, SupplySeen, Take, take, value_taken, quiet_at, Close, CloseTrees, avoids, avoids_trees}
+use Rattle.es_statement_runs.specs.Places.{InScope, placed_at, HelpersSeen, all_good, target_taken, bad_anywhere, SupplySeen, Take, take, value_taken, quiet_at, Close, CloseTrees, avoids, avoids_trees}
 use Rattle.es_statement_runs.specs.Names.{own_use, own_names, lexical_names, lexical_in, names_of_all, is_word, declared_at_top, top_in, using_in}
 use Rattle.es_runs.specs.Machine.Value.{text}
 use Rattle.es_statement_runs.specs.Patterns.{collected, Member, members_of, Putter, property_of}
@@ -393,6 +393,72 @@ LawHead = (u : Supply) (x : Text) (l : Label) (ds body after : Trees) → CloseT
     bytes_eq (codes "Math") x ≡ false → is_own_cell x ≡ false → SupplySeen (apart_from x) u → is_declared (top_in body) x ≡ false →
     RunAlike u false (program l ds body) (program l ds after)
 
+-- OBJECT REST IN A DECLARATION: `K { PS, ...r } = s` becomes `K { PS } = s, r = babelHelpers.objectWithoutProperties(s, [texts])`, where no key of PS
+-- is computed and nothing in PS writes s; and `K { ...r } = s` becomes `K r = babelHelpers.extends({}, (babelHelpers.objectDestructuringEmpty(s), s))`
+
+-- the text of a key that isn't computed: of a name or a string itself, of a number its key
+abbrev pub key_text : Tree → Text
+key_text (node NumericLiteral l fs) = second l.texts
+key_text (node BigIntLiteral l fs) = second l.texts
+key_text (node k l fs) = first_text l.texts
+
+abbrev pub is_key : AstType → Bool
+is_key Identifier = true
+is_key StringLiteral = true
+is_key NumericLiteral = true
+is_key BigIntLiteral = true
+is_key _ = false
+
+-- properties of a pattern whose keys aren't computed, with the texts of their keys
+pub data StaticProperties : Trees → List Text → Type 0 where
+  no_property : StaticProperties empty []
+  one_property : {l : Label} {k e : Tree} {ps : Trees} {ts : List Text} → flag_at 1 l.flags ≡ false → is_key (kind_of k) ≡ true → StaticProperties ps ts →
+      StaticProperties (node PatternProperty l (one k then one e then done) before ps) (key_text k ∷ ts)
+
+abbrev pub strings : List Text → Fields
+strings [] = done
+strings (t ∷ ts) = one (node StringLiteral (made (Some t ∷ []) []) done) then strings ts
+
+abbrev pub rest_call : Text → List Text → Tree
+rest_call s ts = helper_call_of (codes "objectWithoutProperties") (made [] (false ∷ [])) (identifier s before node ArrayExpression (made [] []) (strings ts) before empty)
+
+abbrev pub bare_rest_call : Text → Tree
+bare_rest_call s = helper_call_of (codes "extends") (made [] (false ∷ []))
+    (bare_object before node SequenceExpression (made [] []) (many (helper_call_of (codes "objectDestructuringEmpty") (made [] (false ∷ [])) (identifier s before empty) before identifier s before empty) then done) before empty)
+
+-- declarators of which the first, if there is one, has a value
+pub data Valued : Trees → Type 0 where
+  none_valued : Valued empty
+  first_valued : {l : Label} {p e : Tree} {ds : Trees} → Valued (node VariableDeclarator l (one p then one e then done) before ds)
+
+abbrev pub declares_from : Label → Tree → Tree → Tree
+declares_from d p e = node VariableDeclarator d (one p then one e then done)
+
+abbrev pub declaration_of : Label → Trees → Tree
+declaration_of m ds = node VariableDeclaration m (many ds then done)
+
+-- at one of the declarators of a declaration, where a stand before it and c after it
+pub data RestRow (s r : Text) : Take → Tree → Tree → Type 0 where
+  rest_row : {t : Take} {m : Label} {ps : Trees} {ts : List Text} (d e l n q : Label) (a c : Trees) → Valued a → is_word (codes "using") (first_text m.texts) ≡ false → StaticProperties ps ts →
+      avoids (bad_names none_hidden (only s)) target_taken (object_pattern_at n ps) ≡ true →
+      RestRow s r t (declaration_of m (followed a (declares_from d (object_pattern_at l (followed ps (node RestElement q (one (identifier r) then done) before empty))) (identifier s) before c)))
+      (declaration_of m (followed a (declares_from d (object_pattern_at n ps) (identifier s) before declares_from e (identifier r) (rest_call s ts) before c)))
+  bare_row : {t : Take} {m : Label} (d e l q : Label) (a c : Trees) → Valued a → is_word (codes "using") (first_text m.texts) ≡ false →
+      RestRow s r t (declaration_of m (followed a (declares_from d (object_pattern_at l (node RestElement q (one (identifier r) then done) before empty)) (identifier s) before c)))
+      (declaration_of m (followed a (declares_from e (identifier r) (bare_rest_call s) before c)))
+
+-- where both names are declared, n scopes deep at most
+abbrev pub Rests : Text → Text → ℕ → List Declared → Take → Tree → Tree → Type 0
+Rests s r zero ds t a b = (is_declared ds s ≡ true) × (is_declared ds r ≡ true) × RestRow s r t a b
+Rests s r (suc n) ds t a b = InScope (bad_names none_hidden (only (codes "babelHelpers"))) (Rests s r n) ds t a b
+
+-- at whatever places of whatever statements, under External helpers, where the top or scopes around declare s and r, and no scope declares `babelHelpers`
+abbrev pub LawRest : Type 0
+LawRest = (s r : Text) (n : ℕ) (l : Label) (ds body after : Trees) → CloseTrees (bad_names none_hidden (only (codes "babelHelpers"))) (Rests s r n (top_in body)) body_needs body after →
+    top_in after ≡ top_in body → using_in after ≡ using_in body → silent_names by_global (program l ds after) ≡ silent_names by_global (program l ds body) → is_declared (top_in body) (codes "babelHelpers") ≡ false →
+    is_silent (silent_names by_global (program l ds body)) (codes "babelHelpers") ≡ false → is_own_cell s ≡ false → is_silent (silent_names by_global (program l ds body)) s ≡ false → is_silent (silent_names by_global (program l ds body)) r ≡ false →
+    RunAlike by_global false (program l ds body) (program l ds after)
+
 -- NAMES THAT ARE SET LATER: at the top, `let x = e` becomes `var x = e`, as at a module's top with `using`. The cells of x differ until the source sets
 -- it, and a source that reads or writes it before is outside.
 
@@ -470,3 +536,11 @@ LawNoHelper = (u : Supply) (p : Tree) → uses_no_helper u p ≡ true → helper
 -- `continue` that ends nothing, where no name stands for a helper.
 abbrev pub LawMeant : Type 0
 LawMeant = (u : Supply) (n : ℕ) (p : Tree) → is_meant u p ≡ true → helper_names u p ≡ [] → (this : Value) (moves : List Move) → (outcome (run u n p this moves) ≡ meaningless) → ⊥
+
+-- A valid program of the class means something, where it uses no helper itself: its form and the static rules say all that `is_meant` asks.
+abbrev pub LawValidIsMeant : Type 0
+LawValidIsMeant = (u : Supply) (p : Tree) → IsStatementProgram p → uses_no_helper u p ≡ true → is_meant u p ≡ true
+
+-- So no run of it ends without meaning.
+abbrev pub LawValidMeaning : Type 0
+LawValidMeaning = (u : Supply) (n : ℕ) (p : Tree) → IsStatementProgram p → uses_no_helper u p ≡ true → (this : Value) (moves : List Move) → (outcome (run u n p this moves) ≡ meaningless) → ⊥

@@ -1,10 +1,11 @@
 -- What each kind takes of its fields, and trees that are the same but for some places.
-use Rattle.std.specs.Prelude.{◌≡◌, ℕ, zero, suc, Option, Bool, true, false, not, ◌&&◌, List, [], ◌∷◌, codes}
+use Rattle.std.specs.Prelude.{◌≡◌, ℕ, zero, suc, Option, Bool, true, false, not, ◌&&◌, List, [], ◌∷◌, ◌++◌, codes}
 use Rattle.es_tree.specs.Words.{Text}
 use Rattle.es_tree.specs.Names.{flag_at}
+use Rattle.es_tree.specs.Scopes.{Declared}
 use Rattle.es_tree.specs.Tree.{Tree, node, Label, Fields, done, ◌then◌, Field, missing, one, many, statements, Trees, empty, ◌before◌}
 use Rattle.es_tree.specs.declared.ast_type.AstType.{AstType}
-use Rattle.es_tree.specs.declared.ast_type.AstType.TheVariants.{Program, VariableDeclaration, VariableDeclarator, ForInStatement, ForOfStatement, BreakStatement, ContinueStatement, LabeledStatement, SwitchStatement, TryStatement, CatchClause, ImportDeclaration, ImportSpecifier, ImportDefaultSpecifier, ImportNamespaceSpecifier, ExportAllDeclaration, TemplateLiteral, TaggedTemplateExpression, ArrayExpression, ObjectExpression, ObjectProperty, AssignmentExpression, MemberExpression, CallExpression, ObjectPattern, PatternProperty, ArrayPattern, AssignmentPattern, RestElement, ObjectTarget, TargetProperty, ArrayTarget, TargetWithDefault, TargetRest}
+use Rattle.es_tree.specs.declared.ast_type.AstType.TheVariants.{Program, VariableDeclaration, VariableDeclarator, ForInStatement, ForOfStatement, BreakStatement, ContinueStatement, LabeledStatement, SwitchStatement, TryStatement, CatchClause, ImportDeclaration, ImportSpecifier, ImportDefaultSpecifier, ImportNamespaceSpecifier, ExportAllDeclaration, TemplateLiteral, TaggedTemplateExpression, ArrayExpression, ObjectExpression, ObjectProperty, AssignmentExpression, MemberExpression, CallExpression, ObjectPattern, PatternProperty, ArrayPattern, AssignmentPattern, RestElement, ObjectTarget, TargetProperty, ArrayTarget, TargetWithDefault, TargetRest, BlockStatement, ForStatement}
 use Rattle.es_runs.specs.Core.{World, flag, flag_after}
 use Rattle.es_runs.specs.Alike.{Frame, Level, Need, needs, is_bad, bad_names, the_value, the_target, the_label, the_callee, value_and_form, object_need, key_need}
 use Rattle.es_runs.specs.Alike.Level.{no_evaluation, whole_reference, a_target}
@@ -135,6 +136,22 @@ mutual
   pub data CloseTrees (bad : Level → Text → Bool) (R : Take → Tree → Tree → Type 0) : Take → Trees → Trees → Type 0 where
     close_empty : {t : Take} → CloseTrees bad R t empty empty
     close_before : {t : Take} {a b : Tree} {xs ys : Trees} → Close bad R t a b → CloseTrees bad R t xs ys → CloseTrees bad R t (a before xs) (b before ys)
+
+-- ROWS THAT ASK WHICH NAMES ARE BOUND: R says of each list of declared names which rows act where these are bound. Below a node with a scope of its own
+-- act those of its names and of the names around.
+abbrev pub owns_scope : AstType → Bool
+owns_scope BlockStatement = true
+owns_scope ForStatement = true
+owns_scope ForInStatement = true
+owns_scope ForOfStatement = true
+owns_scope CatchClause = true
+owns_scope _ = false
+
+pub data InScope (bad : Level → Text → Bool) (R : List Declared → Take → Tree → Tree → Type 0) (ds : List Declared) : Take → Tree → Tree → Type 0 where
+  at_once : {t : Take} {a b : Tree} → R ds t a b → InScope bad R ds t a b
+  below_scope : {t : Take} {k : AstType} {l m : Label} {fs gs : Fields} → owns_scope k ≡ true → is_bad bad t.need.level k l.texts ≡ false → m.texts ≡ l.texts → m.flags ≡ l.flags →
+      own_names k gs ≡ own_names k fs → own_use k gs ≡ own_use k fs → label_in k gs ≡ label_in k fs → all_good bad (names_of_all (own_names k fs)) ≡ true →
+      CloseFields bad (R (own_names k fs ++ ds)) (takes_of t k l.texts l.flags) fs gs → InScope bad R ds t (node k l fs) (node k m gs)
 
 -- whether in a tree no name is bad where it stands, and no scope or import declares a name that is bad as a target
 abbrev mutual

@@ -1,17 +1,21 @@
 -- Which programs these runs are for, and how a program of a run gets its helpers.
-use Rattle.std.specs.Prelude.{Bool, true, false, ◌&&◌, not, bytes_eq, codes, if◌then◌else◌, string_bytes, is_some}
+use Rattle.std.specs.Prelude.{◌≡◌, [], Bool, true, false, ◌&&◌, not, bytes_eq, codes, if◌then◌else◌, string_bytes, is_some}
 use Rattle.es_tree.specs.Words.{Text}
 use Rattle.es_tree.specs.Names.{first_text, names_of}
 use Rattle.es_tree.specs.Fresh.{is_among}
+use Rattle.es_tree.specs.HasForm.{has_form}
+use Rattle.es_tree.specs.StaticRules.{breaks}
 use Rattle.es_tree.specs.Scopes.{own_text}
 use Rattle.es_tree.specs.Walks.{all_nodes}
 use Rattle.es_tree.specs.Tree.{Tree, node, Label, Fields, ◌then◌, one, many, empty, ◌before◌}
 use Rattle.es_tree.specs.declared.ast_type.AstType.{AstType}
 use Rattle.es_tree.specs.declared.ast_type.AstType.TheVariants.{StaticBlock, FunctionDeclaration, FunctionExpression, FunctionBody, ArrowFunctionExpression, ClassDeclaration, ClassExpression, MethodDefinition, PropertyDefinition, ReturnStatement, PrivateIdentifier, Super, ImportDeclaration, CallExpression, Identifier, StringLiteral, ObjectProperty, MetaProperty}
+use Rattle.es_tree.specs.declared.table.Sort.TheVariants.{Program as s-Program}
 use Rattle.es_tree.specs.declared.options.HelperLoaderMode.{HelperLoaderMode}
 use Rattle.es_tree.specs.declared.options.HelperLoaderMode.TheVariants.{Inline, External, Runtime}
 use Rattle.es_tree.specs.declared.options.HelperLoaderOptions.{HelperLoaderOptions}
 use Rattle.es_statement_runs.specs.Names.{is_word}
+use Rattle.es_statement_runs.specs.Scopes.{is_own_cell}
 use Rattle.es_statement_runs.specs.Helpers.{Supply, helper_in}
 use Rattle.es_statement_runs.specs.Helpers.Supply.{no_helpers, by_global, by_import, by_require}
 
@@ -40,6 +44,18 @@ is_statement_node k l fs = is_statement_kind k
 
 abbrev pub is_without_functions : Tree → Bool
 is_without_functions = all_nodes is_statement_node
+
+-- VALID PROGRAMS OF THE CLASS: they have form, keep the static rules, and no text of theirs is one of the machine's own cells, as none is that holds
+-- bytes alone
+
+abbrev pub names_no_cell : AstType → Label → Fields → Bool
+names_no_cell k l fs = not (is_own_cell (first_text l.texts))
+
+pub record IsStatementProgram (p : Tree) : Type 0 where
+  pub form : has_form s-Program p ≡ true
+  pub rules : breaks p ≡ []
+  pub without_functions : is_without_functions p ≡ true
+  pub names : all_nodes names_no_cell p ≡ true
 
 -- HOW A PROGRAM GETS ITS HELPERS, by the options and its source type
 

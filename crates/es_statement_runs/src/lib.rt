@@ -2,7 +2,7 @@
 //! definitions.
 #![tactic(auto)]
 
-ghost use Rattle.es_statement_runs.specs.Laws.{LawAssign, LawCatch, LawCatchPattern, LawChain, LawCollected, LawCoreClass, LawCoreMeaning, LawCoreRun, LawFresh, LawGroups, LawHead, LawLater, LawMeant, LawNoHelper, LawNullish, LawParted, LawPlace, LawPower, LawSpread, LawThen, LawUsing};
+ghost use Rattle.es_statement_runs.specs.Laws.{LawAssign, LawCatch, LawCatchPattern, LawChain, LawCollected, LawCoreClass, LawCoreMeaning, LawCoreRun, LawFresh, LawGroups, LawHead, LawLater, LawMeant, LawNoHelper, LawNullish, LawParted, LawPlace, LawPower, LawRest, LawSpread, LawThen, LawUsing, LawValidIsMeant, LawValidMeaning};
 
 /// A tree of core kinds means what it means in the core.
 pub fn law_core_meaning()
@@ -97,6 +97,11 @@ pub fn law_statement_head()
     ensures { LawHead }
 {}
 
+/// The row of object rest in a declaration, from a name that nothing between writes, under External helpers, at whatever places of whatever statements.
+pub fn law_statement_rest()
+    ensures { LawRest }
+{}
+
 /// Names of the top may be set later in the source than in the target: declarations by `let` become declarations by `var`.
 pub fn law_statement_later()
     ensures { LawLater }
@@ -105,6 +110,16 @@ pub fn law_statement_later()
 /// A program that means something never ends without meaning, however helpers are supplied, where no name of its stands for one.
 pub fn law_meant()
     ensures { LawMeant }
+{}
+
+/// A valid program of the class means something, where it uses no helper itself.
+pub fn law_valid_is_meant()
+    ensures { LawValidIsMeant }
+{}
+
+/// A valid program of the class never ends without meaning, however helpers are supplied, where it uses none itself.
+pub fn law_valid_meaning()
+    ensures { LawValidMeaning }
 {}
 
 /// The properties of an object pattern with static keys may be put first, as a pattern of their own; what stands after excludes their texts.
