@@ -50,7 +50,7 @@ pub struct Case {
 
     /// The input in its canonical form, with every field.
     pub canonical: Option<Value>,
-    /// What the static rules say of the input: `kept`, or the line of the first that it breaks.
+    /// What the static rules say of the input, asked without words: `kept`, or the line of the first that it breaks.
     pub static_rules: Option<String>,
 
     /// The line that tells a case that is wrong on purpose.

@@ -71,7 +71,7 @@ pub fn canonical_text(alloc: Global, tree: &Value) -> Result<String, CaseError> 
 }
 
 /// The line of a refusal, without its newline.
-pub fn cause_text(alloc: Global, error: LowerError) -> Result<String, AllocError> {
+fn cause_text(alloc: Global, error: LowerError) -> Result<String, AllocError> {
     let line = refusal_line(alloc, error)?;
     String::from_str(alloc, line.as_str().trim_end())
 }

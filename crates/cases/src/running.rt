@@ -1,9 +1,7 @@
 //! Running a case, and telling what isn't as it says.
 use crate::case::Case;
 use crate::comparing::Differences;
-use crate::expected::{CaseError, canonical_text, cause_text, expected_of};
-use es_json::program::read_program;
-use es_static_rules::static_rules::check_static;
+use crate::expected::{CaseError, canonical_text, expected_of};
 use lower_command::mem_sink::MemSink;
 use lower_command::mem_source::MemSource;
 use lower_command::run::run_tool;
@@ -116,11 +114,16 @@ fn compare_runs(
 /// The input that the case says; one whose first read fails where it says none.
 fn input_of(alloc: Global, case: &Case) -> Result<MemSource, AllocError> {
     let bytes = match (&case.input, &case.bytes) {
-        (Some(tree), _) => tree.to_vec(alloc)?,
+        (Some(tree), _) => return source_of(alloc, tree),
         (None, Some(text)) => text.as_bytes().to_vec(alloc)?,
         (None, None) => return Ok(MemSource::new(Vec::new(alloc), PIECE, vec![in alloc; 0]?)),
     };
     Ok(MemSource::new(bytes, PIECE, Vec::new(alloc)))
+}
+
+/// The bytes of a tree as an input.
+fn source_of(alloc: Global, tree: &Value) -> Result<MemSource, AllocError> {
+    Ok(MemSource::new(tree.to_vec(alloc)?, PIECE, Vec::new(alloc)))
 }
 
 /// Runs the tool on these words and this input.
@@ -135,16 +138,17 @@ fn run(alloc: Global, words: &[String], mut input: MemSource) -> Result<Outcome,
     })
 }
 
-/// What the static rules say of a tree: `kept`, or the line of the first that it breaks.
+/// What the tool tells of a tree without words: `kept` where it writes the canonical form, and else its notes.
 fn static_rules(alloc: Global, tree: &Value) -> Result<String, CaseError> {
-    let program = match read_program(alloc, tree) {
-        Ok(read) => read.program,
-        Err(error) => return Err(CaseError::NoProgram(cause_text(alloc, error)?)),
-    };
-    match check_static(alloc, &program) {
-        Ok(()) => Ok(String::from_str(alloc, "kept")?),
-        Err(error) => Ok(cause_text(alloc, error)?),
+    let mut kept = canonical_text(alloc, tree)?;
+    kept.push_str("\n")?;
+    let words = Vec::new(alloc);
+    let outcome = run(alloc, &words, source_of(alloc, tree)?)?;
+    if outcome.output.bytes() == kept.as_bytes() {
+        return Ok(String::from_str(alloc, "kept")?);
     }
+    let line = str::from_utf8(outcome.notes.bytes()).unwrap_or("");
+    Ok(String::from_str(alloc, line.trim_end())?)
 }
 
 /// The tree that the case has as its input.

@@ -1,7 +1,8 @@
 -- The causes of a refusal and a source that is taken exclude one another.
-use Rattle.std.proofs.Common.{◌≡◌, ℕ, Bool, true, false, List, [], Option, Some, None, ◌&&◌, if◌then◌else◌, sym, ap, ◌∙◌, subst, arith, ◌++◌, refl, ◌∷◌}
+use Rattle.std.proofs.Common.{◌≡◌, ℕ, Bool, List, [], Option, Some, None, ◌&&◌, if◌then◌else◌, sym, ap, ◌∙◌, subst, arith, ◌++◌, refl, ◌∷◌}
 use Rattle.serde_json.specs.Data.{Data}
-use Rattle.es_tree.specs.Core.{is_core, is_core_node, is_not_core}
+use Rattle.es_tree.specs.Constructs.{has_enabled_construct}
+use Rattle.es_tree.specs.Core.{is_not_core}
 use Rattle.es_tree.specs.CoreStaticRules.{Break}
 use Rattle.es_tree.specs.Options.{first_fault}
 use Rattle.es_tree.specs.StaticRules.{breaks, IsFirstBreak}
@@ -16,7 +17,6 @@ use Rattle.es_tree.specs.declared.error.UnsupportedKind.TheVariants.{MathBound, 
 use Rattle.es_tree.specs.declared.ids.NodeId.{NodeId}
 use Rattle.es_tree.specs.declared.options.EnvOptions.{EnvOptions}
 use Rattle.es_tree.specs.declared.table.Sort.TheVariants.{Program as s-Program}
-use Rattle.es_tree.proofs.FirstNode.{is_none, all-first}
 use Rattle.es_json.specs.Faults.{faults, first_path_of}
 use Rattle.es_json.specs.Programs.{IsProgramForm, IsRefusal}
 use Rattle.es_json.proofs.NoFaults.{no_faults}
@@ -26,13 +26,14 @@ use Rattle.std.specs.Fmt.{decimal}
 use Rattle.es_tree.specs.Causes.{rule_name, unsupported_name}
 use Rattle.es_json.specs.Pointer.{pointer}
 use Rattle.lower_command.specs.Answer.{line, refusal_text}
-use Rattle.lower_driver.specs.UnsupportedPrograms.{first_math_bound}
+use Rattle.lower_driver.specs.UnsupportedPrograms.{first_math_bound, first_not_built}
 use Rattle.lower_driver.specs.Sources.{IsReading, HasReading, ReadsAs, IsSource, IsValueBeyondCore, IsBrokenValue, IsValueWithMath, IsCauseUnder}
 use Rattle.lower_command.specs.Job.{IsTakenSource}
 
--- the two ask for the same as far as refusals go: what isn't done, and the shapes that aren't taken
+-- the two ask for the same as far as refusals go: what isn't done, what is to be lowered, and the shapes that aren't taken
 pub record SameRefusals (o q : EnvOptions) : Type 0 where
   pub fault : first_fault o ≡ first_fault q
+  pub constructs : (t : Tree) → has_enabled_construct o t ≡ has_enabled_construct q t
   pub power : o.es2016.exponentiation_operator ≡ q.es2016.exponentiation_operator
 
 -- bytes read as one value, and a value is the form of one program
@@ -58,11 +59,6 @@ no_refusal v p (Shape path) form refused _ =
     cc
 no_refusal v p _ form refused told = absurd told
 
-core_after_all : (p : Tree) (n : ℕ) → is_core p ≡ true → first_node is_not_core p ≡ Some n → ⊥
-core_after_all p n core first =
-    let none : is_core p ≡ false = all-first is_core_node p ∙ ap is_none first in
-    cc
-
 same_if : (b c d : Bool) (x y : Option ℕ) → b ≡ c → (if b && d then x else y) ≡ (if c && d then x else y)
 same_if b c d x y same = ap (λ (e : Bool). if e && d then x else y) same
 
@@ -70,13 +66,17 @@ same_if b c d x y same = ap (λ (e : Bool). if e && d then x else y) same
 same_shape : (o q : EnvOptions) (t : Tree) → SameRefusals o q → first_math_bound o t ≡ first_math_bound q t
 same_shape o q t same = same_if o.es2016.exponentiation_operator q.es2016.exponentiation_operator _ _ _ same.power
 
+-- and which programs aren't built hangs on what is to be lowered
+same_built : (o q : EnvOptions) (t : Tree) → SameRefusals o q → first_not_built o t ≡ first_not_built q t
+same_built o q t same = ap (λ (asked : Bool). if asked then first_node is_not_core t else None) (same.constructs t)
+
 pub taken_as : (o q : EnvOptions) (bytes : List ℕ) → SameRefusals o q → IsTakenSource o bytes → IsTakenSource q bytes
 taken_as o q bytes same source = record {
   carried = sym same.fault ∙ source.carried;
   program = source.program;
   reads = source.reads;
-  core = source.core;
   kept = source.kept;
+  built = sym (same_built o q source.program same) ∙ source.built;
   taken = sym (same_shape o q source.program same) ∙ source.taken;
 }
 
@@ -85,7 +85,7 @@ taken_as o q bytes same source = record {
 -- a cause by what is known of the value
 data Known (o : EnvOptions) (v : Data) : LowerError → Type 0 where
   unread : {error : LowerError} → IsUnreadError error → IsRefusal v error → Known o v error
-  beyond_core : {id : NodeId} → IsValueBeyondCore v id → Known o v (Unsupported NotBuilt id)
+  beyond_core : {id : NodeId} → IsValueBeyondCore o v id → Known o v (Unsupported NotBuilt id)
   broken : {rule : Rule} {id : NodeId} → IsBrokenValue v (Invalid rule id) → Known o v (Invalid rule id)
   with_math : {id : NodeId} → IsValueWithMath o v id → Known o v (Unsupported MathBound id)
 
@@ -101,7 +101,18 @@ told o q bytes (e-Option name) same cause = uncarried (record { value = cause.va
 told o q bytes (TooLarge n) same cause = carried (sym same.fault ∙ cause.holds.0) (record { value = cause.value; reading = cause.reading; holds = unread tt cause.holds.1 })
 told o q bytes (TooDeep n) same cause = carried (sym same.fault ∙ cause.holds.0) (record { value = cause.value; reading = cause.reading; holds = unread tt cause.holds.1 })
 told o q bytes (Shape path) same cause = carried (sym same.fault ∙ cause.holds.0) (record { value = cause.value; reading = cause.reading; holds = unread tt cause.holds.1 })
-told o q bytes (Unsupported NotBuilt id) same cause = carried (sym same.fault ∙ cause.holds.0) (record { value = cause.value; reading = cause.reading; holds = beyond_core cause.holds.1 })
+told o q bytes (Unsupported NotBuilt id) same cause =
+    let beyond = cause.holds.1 in
+    carried (sym same.fault ∙ cause.holds.0) (record {
+      value = cause.value;
+      reading = cause.reading;
+      holds = beyond_core (record {
+        program = beyond.program;
+        source = beyond.source;
+        kept = beyond.kept;
+        first = sym (same_built o q beyond.program same) ∙ beyond.first;
+      });
+    })
 told o q bytes (Unsupported MathBound id) same cause =
     let math = cause.holds.1 in
     carried (sym same.fault ∙ cause.holds.0) (record {
@@ -110,8 +121,8 @@ told o q bytes (Unsupported MathBound id) same cause =
       holds = with_math (record {
         program = math.program;
         source = math.source;
-        core = math.core;
         kept = math.kept;
+        built = sym (same_built o q math.program same) ∙ math.built;
         first = sym (same_shape o q math.program same) ∙ math.first;
       });
     })
@@ -146,10 +157,11 @@ broken_anyway v rule id p b source kept =
     let first : IsFirstBreak (breaks p) (Invalid rule id) = subst (λ t. IsFirstBreak (breaks t) (Invalid rule id)) same b.first in
     subst (λ (bs : List Break). IsFirstBreak bs (Invalid rule id)) kept first
 
-beyond_anyway : (v : Data) (id : NodeId) (p : Tree) → IsValueBeyondCore v id → IsSource v p → is_core p ≡ true → ⊥
-beyond_anyway v id p b source core =
+beyond_anyway : (o : EnvOptions) (v : Data) (id : NodeId) (p : Tree) → IsValueBeyondCore o v id → IsSource v p → first_not_built o p ≡ None → ⊥
+beyond_anyway o v id p b source built =
     let same = one_program v b.program p b.source source in
-    core_after_all p id.0 core (subst (λ t. first_node is_not_core t ≡ Some id.0) same b.first)
+    let both : Some id.0 ≡ None = sym (subst (λ t. first_not_built o t ≡ Some id.0) same b.first) ∙ built in
+    cc
 
 unsupported_line : (kind : UnsupportedKind) (m n : ℕ) → Some m ≡ Some n
     → line (codes "lower: unsupported " ++ unsupported_name kind ++ codes " at node " ++ decimal m) ≡ line (codes "lower: unsupported " ++ unsupported_name kind ++ codes " at node " ++ decimal n)
@@ -167,11 +179,11 @@ one_line o v _ f (broken b) (unread told r) = absurd (no_refusal v b.program f b
 one_line o v _ f (with_math b) (unread told r) = absurd (no_refusal v b.program f b.source.form r told)
 one_line o v _ _ (beyond_core {id = i} b) (beyond_core {id = j} d) =
     let same = one_program v b.program d.program b.source d.source in
-    unsupported_line NotBuilt i.0 j.0 (sym (subst (λ p. first_node is_not_core p ≡ Some i.0) same b.first) ∙ d.first)
-one_line o v _ _ (beyond_core {id = i} b) (broken d) = absurd (beyond_anyway v i d.program b d.source d.core)
-one_line o v _ _ (beyond_core {id = i} b) (with_math d) = absurd (beyond_anyway v i d.program b d.source d.core)
-one_line o v _ _ (broken b) (beyond_core {id = j} d) = absurd (beyond_anyway v j b.program d b.source b.core)
-one_line o v _ _ (with_math b) (beyond_core {id = j} d) = absurd (beyond_anyway v j b.program d b.source b.core)
+    unsupported_line NotBuilt i.0 j.0 (sym (subst (λ p. first_not_built o p ≡ Some i.0) same b.first) ∙ d.first)
+one_line o v _ _ (beyond_core b) (broken {rule = r} {id = j} d) = absurd (broken_anyway v r j b.program d b.source b.kept)
+one_line o v _ _ (beyond_core {id = i} b) (with_math d) = absurd (beyond_anyway o v i d.program b d.source d.built)
+one_line o v _ _ (broken {rule = r} {id = i} b) (beyond_core d) = absurd (broken_anyway v r i d.program b d.source d.kept)
+one_line o v _ _ (with_math b) (beyond_core {id = j} d) = absurd (beyond_anyway o v j b.program d b.source b.built)
 one_line o v _ _ (broken {rule = r} {id = i} b) (broken {rule = s} {id = j} d) =
     let same = one_program v b.program d.program b.source d.source in
     break_line (breaks d.program) r s i j (subst (λ p. IsFirstBreak (breaks p) (Invalid r i)) same b.first) d.first
@@ -202,15 +214,15 @@ told_line o bytes e f (carried _ r) (carried _ s) =
 pub one_cause : (o q : EnvOptions) (bytes : List ℕ) (e f : LowerError) → SameRefusals o q → IsCauseUnder q bytes e → IsCauseUnder o bytes f
     → refusal_text e ≡ refusal_text f
 one_cause o q bytes e f same cause other =
-    told_line q bytes e f (told q q bytes e (record { fault = refl; power = refl }) cause) (told o q bytes f same other)
+    told_line q bytes e f (told q q bytes e (record { fault = refl; constructs = λ t. refl; power = refl }) cause) (told o q bytes f same other)
 
 -- a source that is taken is refused for no cause
 not_taken : (o : EnvOptions) (v : Data) (error : LowerError) (p : Tree) → Known o v error
-    → IsSource v p → is_core p ≡ true → breaks p ≡ [] → first_math_bound o p ≡ None → ⊥
-not_taken o v error p (unread told r) source core kept taken = no_refusal v p error source.form r told
-not_taken o v _ p (beyond_core {id = i} b) source core kept taken = beyond_anyway v i p b source core
-not_taken o v _ p (broken {rule = r} {id = i} b) source core kept taken = broken_anyway v r i p b source kept
-not_taken o v _ p (with_math {id = i} b) source core kept taken =
+    → IsSource v p → breaks p ≡ [] → first_not_built o p ≡ None → first_math_bound o p ≡ None → ⊥
+not_taken o v error p (unread told r) source kept built taken = no_refusal v p error source.form r told
+not_taken o v _ p (beyond_core {id = i} b) source kept built taken = beyond_anyway o v i p b source built
+not_taken o v _ p (broken {rule = r} {id = i} b) source kept built taken = broken_anyway v r i p b source kept
+not_taken o v _ p (with_math {id = i} b) source kept built taken =
     let same = one_program v b.program p b.source source in
     let both : Some i.0 ≡ None = sym (subst (λ t. first_math_bound o t ≡ Some i.0) same b.first) ∙ taken in
     cc
@@ -220,7 +232,7 @@ not_told o bytes _ (no_reading n) source = n (record { value = source.reads.valu
 not_told o bytes _ (uncarried {name = name} _ first) source = let both : Some name ≡ None = sym first ∙ source.carried in cc
 not_told o bytes error (carried _ r) source =
     let same = one_value bytes r.value source.reads.value r.reading source.reads.reading in
-    not_taken o source.reads.value error source.program (subst (λ v. Known o v error) same r.holds) source.reads.holds source.core source.kept source.taken
+    not_taken o source.reads.value error source.program (subst (λ v. Known o v error) same r.holds) source.reads.holds source.kept source.built source.taken
 
 pub not_refused : (o q : EnvOptions) (bytes : List ℕ) (error : LowerError) → SameRefusals o q → IsCauseUnder o bytes error → IsTakenSource q bytes → ⊥
 not_refused o q bytes error same cause source = not_told q bytes error (told o q bytes error same cause) source

@@ -156,7 +156,7 @@ pub record Causes (words : List (String Global)) (old new : Ends) (status : ℕ)
   -- with the line of the cause, whichever holds
   pub told : (o : EnvOptions) → Asks words o → (bytes : List ℕ) → HasInput words old new bytes → length bytes ≤ 2 ^ 26 → (error : LowerError) → IsCauseUnder o bytes error
       → ((status ≡ REFUSED) × Took old.notes new.notes (refusal_text error)) ⊎ ((status ≡ WRITE_FAULT) ⊎ (status ≡ OUT_OF_MEMORY))
-  -- without a fault, a core program that keeps the static rules and has no shape that isn't taken is done
+  -- without a fault, a program that is taken is done
   pub done : (o : EnvOptions) → Asks words o → (bytes : List ℕ) → HasInput words old new bytes → WasWritten old new → length bytes ≤ 2 ^ 26 → IsTakenSource o bytes
       → (status ≡ DONE) ⊎ (status ≡ OUT_OF_MEMORY)
   -- a made script is lowered under all options that ask for nothing that isn't done

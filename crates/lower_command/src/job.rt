@@ -10,14 +10,15 @@ use es_tree::options::EnvOptions;
 use lower_driver::driver::lower_bytes;
 use std::alloc::Global;
 
-/// What goes out for an input of these bytes: the core program that they read as, lowered as the options
-/// ask, and a line for each warning that they ask for.
+/// What goes out for an input of these bytes: the program that they read as, lowered as the options ask, and
+/// a line for each warning that they ask for.
 ///
 /// Fails for the first of these causes that holds: `Json` where the bytes have no reading as JSON;
 /// `Option` where the options ask for what isn't done; `TooLarge`, `TooDeep` and `Shape` as
-/// `read_program` has them; `Unsupported(NotBuilt, node)` at the first node that no core program has;
-/// `Invalid` as `check_static` has it; `Unsupported(MathBound, node)` at the first exponentiation that
-/// is asked for, where the program binds `Math`. It fails with `OutOfMemory` where memory runs out.
+/// `read_program` has them; `Invalid` as `check_static` has it; `Unsupported(NotBuilt, node)` at the first
+/// node that no core program has, where a construct stands that they ask to lower;
+/// `Unsupported(MathBound, node)` at the first exponentiation that is asked for, where the program binds
+/// `Math`. It fails with `OutOfMemory` where memory runs out.
 pub fn lower_text(alloc: Global, bytes: &[u8], options: &EnvOptions) -> Result<Texts, LowerError>
     ensures taken { IfOk result (λ _. IsTakenSource options.now bytes.now) }
     ensures text { IfOk result (λ texts. IsLoweredText options.now bytes.now (string_bytes texts.text) (string_bytes texts.warnings)) }

@@ -1,7 +1,6 @@
 -- A broken rule as the cause of a refusal.
-use Rattle.std.proofs.Common.{◌≡◌, List, [], ◌∷◌, true, None}
+use Rattle.std.proofs.Common.{◌≡◌, List, [], ◌∷◌, None}
 use Rattle.serde_json.specs.Data.{Data}
-use Rattle.es_tree.specs.Core.{is_core}
 use Rattle.es_tree.specs.CoreStaticRules.{Break}
 use Rattle.es_tree.specs.Options.{first_fault}
 use Rattle.es_tree.specs.StaticRules.{breaks, IsFirstBreak}
@@ -24,10 +23,10 @@ of_rules (b ∷ bs) (Invalid rule id) first = tt
 of_rules (b ∷ bs) OutOfMemory first = tt
 of_rules (b ∷ bs) _ first = absurd first
 
-pub broken_value : (o : EnvOptions) (v : Data) (p : Tree) (error : LowerError) → IsSource v p → first_fault o ≡ None → is_core p ≡ true → IsFirstBreak (breaks p) error → IsValueCauseOrMemory o v error
-broken_value o v p error source asked core first = by error (of_rules (breaks p) error first) first
+pub broken_value : (o : EnvOptions) (v : Data) (p : Tree) (error : LowerError) → IsSource v p → first_fault o ≡ None → IsFirstBreak (breaks p) error → IsValueCauseOrMemory o v error
+broken_value o v p error source asked first = by error (of_rules (breaks p) error first) first
   where
     by : (e : LowerError) → IsOfRules e → IsFirstBreak (breaks p) e → IsValueCauseOrMemory o v e
-    by (Invalid rule id) of h = (asked, record { program = p; source = source; core = core; first = h })
+    by (Invalid rule id) of h = (asked, record { program = p; source = source; first = h })
     by OutOfMemory of h = tt
     by _ of h = absurd of

@@ -15,4 +15,5 @@ pub mod Contexts
 pub mod OpenedProgram
 pub mod NoneLeft
 pub mod Visits
+pub mod WithoutConstructs
 pub mod Apart

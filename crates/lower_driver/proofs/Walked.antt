@@ -1,8 +1,8 @@
--- Tests of some node of a tree: two of them, weaker ones, and trees without ids and marks.
-use Rattle.std.proofs.Common.{◌≡◌, refl}
-use Rattle.std.specs.Prelude.{Bool, true, false, ◌||◌}
+-- Tests of some node of a tree: two of them, weaker ones, the first that passes, and trees without ids and marks.
+use Rattle.std.proofs.Common.{◌≡◌, ℕ, Option, None, Some, refl}
+use Rattle.std.specs.Prelude.{Bool, true, false, ◌||◌, if◌then◌else◌}
 use Rattle.es_tree.specs.Bare.{bare, bare_label, bare_fields, bare_field, bare_trees}
-use Rattle.es_tree.specs.Walks.{all_nodes, all_in_fields, all_in_field, all_in_trees, any_node, any_in_fields, any_in_field, any_in_trees}
+use Rattle.es_tree.specs.Walks.{all_nodes, all_in_fields, all_in_field, all_in_trees, any_node, any_in_fields, any_in_field, any_in_trees, first_node, first_in_fields, first_in_field, first_in_trees}
 use Rattle.es_tree.specs.Tree.{Tree, node, Label, Fields, done, ◌then◌, Field, missing, one, many, statements, Trees, empty, ◌before◌}
 use Rattle.es_tree.specs.declared.ast_type.AstType.{AstType}
 use Rattle.es_runs.proofs.Named.{and_left, and_right, or_both, or_first, or_second}
@@ -54,3 +54,28 @@ module _ (every strong weak : AstType → Label → Fields → Bool) (follows : 
     none_among (t before ts) h g =
         or_both (any_node weak t) (any_in_trees weak ts) (none_follows t (and_left (all_nodes every t) (all_in_trees every ts) h) (or_first (any_node strong t) (any_in_trees strong ts) g))
         (none_among ts (and_right (all_nodes every t) (all_in_trees every ts) h) (or_second (any_node strong t) (any_in_trees strong ts) g))
+
+-- where no node passes one test, there is no first one that passes another, which fails wherever the first does
+module _ (strong weak : AstType → Label → Fields → Bool) (follows : (k : AstType) (l : Label) (fs : Fields) → strong k l fs ≡ false → weak k l fs ≡ false) where
+  neither_first : (here : Bool) (n : ℕ) (later : Option ℕ) → here ≡ false → later ≡ None → (if here then Some n else later) ≡ None
+  neither_first here n later h g = rw (h, g) refl
+
+  mutual
+    pub none_first : (t : Tree) → any_node strong t ≡ false → first_node weak t ≡ None
+    none_first (node k l fs) h =
+        neither_first (weak k l fs) l.id (first_in_fields weak fs) (follows k l fs (or_first (strong k l fs) (any_in_fields strong fs) h)) (none_first_in_fields fs (or_second (strong k l fs) (any_in_fields strong fs) h))
+
+    none_first_in_fields : (fs : Fields) → any_in_fields strong fs ≡ false → first_in_fields weak fs ≡ None
+    none_first_in_fields done h = refl
+    none_first_in_fields (f then fs) h =
+        rw (none_first_in_field f (or_first (any_in_field strong f) (any_in_fields strong fs) h), none_first_in_fields fs (or_second (any_in_field strong f) (any_in_fields strong fs) h)) refl
+
+    none_first_in_field : (f : Field) → any_in_field strong f ≡ false → first_in_field weak f ≡ None
+    none_first_in_field missing h = refl
+    none_first_in_field (one t) h = none_first t h
+    none_first_in_field (many ts) h = none_first_among ts h
+    none_first_in_field (statements ts) h = none_first_among ts h
+
+    none_first_among : (ts : Trees) → any_in_trees strong ts ≡ false → first_in_trees weak ts ≡ None
+    none_first_among empty h = refl
+    none_first_among (t before ts) h = rw (none_first t (or_first (any_node strong t) (any_in_trees strong ts) h), none_first_among ts (or_second (any_node strong t) (any_in_trees strong ts) h)) refl

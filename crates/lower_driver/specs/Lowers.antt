@@ -24,8 +24,8 @@ pub record Lowers (o : EnvOptions) (source written : Tree) (names : List Text) :
   pub reached : Reached (rule_under o) source names written
   -- and no construct is left that the options ask to lower
   pub none : has_enabled_construct o written ≡ false
-  -- the same questions in the same order, the same outcome, and equal cells of the source's names; where the options assume
-  -- that no value is `document.all`, of every run in which none is
+  -- The same questions in the same order, the same outcome, and equal cells of the source's names; where the options assume
+  -- that no value is `document.all`, of every run in which none is. This speaks of core programs: the machine knows no others.
   pub alike : RunAlike o.assumptions.no_document_all source written
   -- and a name of the source is bound exactly where it was bound before
   pub bindings : (x : Text) → is_among (names_of source) x ≡ true → is_declared (declared_of written) x ≡ is_declared (declared_of source) x

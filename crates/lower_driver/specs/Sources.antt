@@ -1,19 +1,17 @@
 -- What a run is given: a JSON value, or bytes that read as one, and why it is refused.
-use Rattle.std.specs.Prelude.{◌≡◌, ℕ, List, [], Some, None, true, IsUtf8}
+use Rattle.std.specs.Prelude.{◌≡◌, ℕ, List, [], Some, None, IsUtf8}
 use Rattle.serde_json.specs.Data.{Data}
 use Rattle.serde_json.specs.Read.{read}
 use Rattle.es_tree.specs.Tree.{Tree}
 use Rattle.es_tree.specs.Order.{IsNumbered, IsUnmarked}
-use Rattle.es_tree.specs.Core.{is_core, is_not_core}
 use Rattle.es_tree.specs.Options.{first_fault}
 use Rattle.es_tree.specs.StaticRules.{breaks, IsFirstBreak}
-use Rattle.es_tree.specs.Walks.{first_node}
 use Rattle.es_tree.specs.declared.error.LowerError.{LowerError}
 use Rattle.es_tree.specs.declared.error.LowerError.TheVariants.{Json, Option as e-Option, TooLarge, TooDeep, Shape, Invalid, Unsupported, OutOfMemory}
 use Rattle.es_tree.specs.declared.error.UnsupportedKind.TheVariants.{MathBound, NotBuilt}
 use Rattle.es_tree.specs.declared.ids.NodeId.{NodeId}
 use Rattle.es_tree.specs.declared.options.EnvOptions.{EnvOptions}
-use Rattle.lower_driver.specs.UnsupportedPrograms.{first_math_bound}
+use Rattle.lower_driver.specs.UnsupportedPrograms.{first_math_bound, first_not_built}
 use Rattle.es_json.specs.Programs.{IsProgramForm, IsRefusal}
 
 -- VALUES
@@ -24,49 +22,43 @@ pub record IsSource (v : Data) (program : Tree) : Type 0 where
   pub order : IsNumbered 0 program
   pub marks : IsUnmarked program
 
--- the value is the form of a core program that keeps the static rules
-pub record IsCoreValue (v : Data) : Type 0 where
-  pub program : Tree
-  pub source : IsSource v program
-  pub core : is_core program ≡ true
-  pub kept : breaks program ≡ []
-
--- the value is the form of a program whose first node, in node order, that no core program has is this
-pub record IsValueBeyondCore (v : Data) (id : NodeId) : Type 0 where
-  pub program : Tree
-  pub source : IsSource v program
-  pub first : first_node is_not_core program ≡ Some id.0
-
--- the value is the form of a core program that breaks a static rule, first of all this one
+-- the value is the form of a program that breaks a static rule, first of all this one
 pub record IsBrokenValue (v : Data) (error : LowerError) : Type 0 where
   pub program : Tree
   pub source : IsSource v program
-  pub core : is_core program ≡ true
   pub first : IsFirstBreak (breaks program) error
 
--- the value is the form of a core program that keeps the static rules, and these options ask to lower an exponentiation where it
--- binds `Math`, first of all at this node
+-- the value is the form of a program that keeps the static rules, in which a construct stands that these options ask to lower, and
+-- whose first node, in node order, that no core program has is this
+pub record IsValueBeyondCore (o : EnvOptions) (v : Data) (id : NodeId) : Type 0 where
+  pub program : Tree
+  pub source : IsSource v program
+  pub kept : breaks program ≡ []
+  pub first : first_not_built o program ≡ Some id.0
+
+-- the value is the form of a program that keeps the static rules and isn't such a one, and these options ask to lower an
+-- exponentiation where it binds `Math`, first of all at this node
 pub record IsValueWithMath (o : EnvOptions) (v : Data) (id : NodeId) : Type 0 where
   pub program : Tree
   pub source : IsSource v program
-  pub core : is_core program ≡ true
   pub kept : breaks program ≡ []
+  pub built : first_not_built o program ≡ None
   pub first : first_math_bound o program ≡ Some id.0
 
--- Why a value is refused. Causes are told in this order: too many objects, nested too deep, a place without form, a node
--- that no core program has, a broken rule.
+-- Why a value is refused, whatever the options are. Causes are told in this order: too many objects, nested too deep, a place
+-- without form, a broken rule.
 abbrev pub IsValueCause : Data → LowerError → Type 0
 IsValueCause v (TooLarge count) = IsRefusal v (TooLarge count)
 IsValueCause v (TooDeep depth) = IsRefusal v (TooDeep depth)
 IsValueCause v (Shape path) = IsRefusal v (Shape path)
-IsValueCause v (Unsupported NotBuilt id) = IsValueBeyondCore v id
 IsValueCause v (Invalid rule id) = IsBrokenValue v (Invalid rule id)
 IsValueCause v _ = ⊥
 
--- The same where a run has options: what they ask for that isn't done comes first, and a shape that their lowerings don't
--- take comes last.
+-- The same where a run has options: what they ask for that isn't done comes first. What their lowerings don't take comes last: a
+-- construct in a program that isn't core, and then an exponentiation where `Math` is bound.
 abbrev pub IsValueCauseUnder : EnvOptions → Data → LowerError → Type 0
 IsValueCauseUnder o v (e-Option name) = first_fault o ≡ Some name
+IsValueCauseUnder o v (Unsupported NotBuilt id) = (first_fault o ≡ None) × IsValueBeyondCore o v id
 IsValueCauseUnder o v (Unsupported MathBound id) = (first_fault o ≡ None) × IsValueWithMath o v id
 IsValueCauseUnder o v error = (first_fault o ≡ None) × IsValueCause v error
 

@@ -1,19 +1,22 @@
 //! One run: a program is read, checked, visited once by the lowerings that its options ask for, and written.
-ghost use Rattle.std.specs.Prelude.{◌≡◌, ◌<◌, ◌∷◌, ◌^◌, [], IfErr, IfOk, None};
+ghost use Rattle.std.specs.Prelude.{◌≡◌, ◌<◌, ◌∷◌, ◌^◌, [], IfErr, IfOk, None, false, true};
 ghost use Rattle.serde_json.specs.View.{view};
+ghost use Rattle.es_tree.specs.Constructs.{has_enabled_construct};
 ghost use Rattle.es_tree.specs.Core.{IsCoreProgram};
 ghost use Rattle.es_tree.specs.Fresh.{is_among};
+ghost use Rattle.es_tree.specs.HasForm.{has_form};
 ghost use Rattle.es_tree.specs.Names.{names_of};
 ghost use Rattle.es_tree.specs.Options.{first_fault};
 ghost use Rattle.es_tree.specs.StaticRules.{breaks};
 ghost use Rattle.es_tree.specs.Tree.{kind_of, tree_size};
 ghost use Rattle.es_tree.specs.Words.{Text};
 ghost use Rattle.es_tree.specs.declared.ast_type.AstType.TheVariants.{Program as k-Program};
+ghost use Rattle.es_tree.specs.declared.table.Sort.TheVariants.{Program as s-Program};
 ghost use Rattle.es_runs.specs.Open.{nothing_pending};
 ghost use Rattle.es_scope.specs.Contexts.{BindsNamesOf, around_of, made_of, table_of, uses_of};
 ghost use Rattle.lower_driver.specs.Copies.{IsCopy};
 ghost use Rattle.lower_driver.specs.Lowered.{IsLoweredTree, IsLoweredValue};
-ghost use Rattle.lower_driver.specs.UnsupportedPrograms.{IsUnsupportedOrMemory, IsTreeCauseOrMemory};
+ghost use Rattle.lower_driver.specs.UnsupportedPrograms.{IsMathBoundOrMemory, IsTreeCauseOrMemory, IsUnsupportedOrMemory};
 ghost use Rattle.lower_driver.specs.Sources.{IsCauseOrMemory, IsValueCauseOrMemory, ReadsAs};
 
 use crate::copies::copy_options;
@@ -22,12 +25,14 @@ use crate::unsupported::find_unsupported;
 use crate::visiting::visit;
 use es_json::program::ReadProgram;
 use es_json::writer::write_program;
+use es_nodes::construct::has_enabled_construct;
+use es_nodes::core_grammar::first_not_core;
 use es_scope::context::TraverseCtx;
 use es_scope::scoping::Scoping;
 use es_semantic::building::build_scoping;
 use es_statements::program::Program;
 use es_tree::builder::AstBuilder;
-use es_tree::error::LowerError;
+use es_tree::error::{LowerError, UnsupportedKind};
 use es_tree::kind::Kind;
 use es_tree::node::Node;
 use es_tree::operators::SourceType;
@@ -58,15 +63,17 @@ pub struct Lowered {
     pub value: Value,
 }
 
-/// Lowers the core program that the value is the form of, as the options ask: its logical assignments, `??`,
-/// optional chains and exponentiations. Where they ask for warnings of BigInt literals (ECMA-262, 12.9.3),
-/// it answers one for each of the source.
+/// Lowers the program that the value is the form of, as the options ask: its logical assignments, `??`,
+/// optional chains and exponentiations. A program in which no construct stands that they ask to lower comes
+/// back as it is, of whatever kind it is; one with such a construct has to be a core program so far. Where
+/// they ask for warnings of BigInt literals (ECMA-262, 12.9.3), it answers one for each of the source.
 ///
 /// Fails for the first of these causes that holds: `Option` where the options ask for what isn't done, with
 /// the name `NotBuilt` where that is a lowering or a warning that isn't built; `TooLarge`, `TooDeep` and
-/// `Shape` as `read_program` has them; `Unsupported(NotBuilt, node)` at the first node that no core program
-/// has; `Invalid` as `check_static` has it; `Unsupported(MathBound, node)` at the first exponentiation that
-/// would be lowered, where the program binds `Math`. It fails with `OutOfMemory` where memory runs out.
+/// `Shape` as `read_program` has them; `Invalid` as `check_static` has it; `Unsupported(NotBuilt, node)` at
+/// the first node that no core program has, where such a construct stands; `Unsupported(MathBound, node)` at
+/// the first exponentiation that would be lowered, where the program binds `Math`. It fails with
+/// `OutOfMemory` where memory runs out.
 pub fn lower(alloc: Global, source: &Value, options: &EnvOptions) -> Result<Lowered, LowerError>
     ensures lowered { IfOk result (λ lowered. IsLoweredValue options.now (view source.now) lowered) }
     ensures options { IfOk result (λ _. first_fault options.now ≡ None) }
@@ -113,13 +120,57 @@ pub fn lower_tree(
     if let Some(name) = options_fault(options) {
         return Err(LowerError::Option(name));
     }
-    let lowered = lower_program(alloc, read, options)?;
+    let lowered = lower_core(alloc, read, options)?;
     Ok(lowered)
+}
+
+/// What a program that keeps the static rules becomes under options that ask for nothing that isn't done. Fails
+/// where it isn't core and a construct stands in it that they ask to lower, and else as `lower_core` does.
+fn lower_program(
+    alloc: Global,
+    read: ReadProgram,
+    options: &EnvOptions,
+) -> Result<LoweredTree, LowerError>
+    requires form { has_form s-Program read.program ≡ true }
+    requires kept { breaks read.program ≡ [] }
+    requires size { tree_size read.program < 2 ^ 20 }
+    requires next { read.ast.next ≡ tree_size read.program }
+    requires carried { first_fault options.now ≡ None }
+    ensures lowered { IfOk result (λ lowered. IsLoweredTree options.now read.program lowered) }
+    ensures cause { IfErr result (λ error. IsUnsupportedOrMemory options.now read.program error) }
+{
+    let Some(node) = first_not_core(&read.program) else {
+        return lower_core(alloc, read, options);
+    };
+    if has_enabled_construct(&read.program, options) {
+        return Err(LowerError::Unsupported(UnsupportedKind::NotBuilt, node));
+    }
+    let lowered = left_as_it_is(alloc, read.program, options)?;
+    Ok(lowered)
+}
+
+/// A program in which no construct stands that the options ask to lower, and its warnings. Fails only where
+/// memory runs out.
+fn left_as_it_is(
+    alloc: Global,
+    program: Node,
+    options: &EnvOptions,
+) -> Result<LoweredTree, AllocError>
+    requires none { has_enabled_construct options.now program ≡ false }
+    requires kept { breaks program ≡ [] }
+    ensures { IfOk result (λ lowered. IsLoweredTree options.now program lowered) }
+{
+    let warnings = ES2020::warnings(alloc, &options.es2020, &program)?;
+    Ok(LoweredTree {
+        program,
+        warnings,
+        temporaries: Vec::new(alloc),
+    })
 }
 
 /// What a core program that keeps the static rules becomes under options that ask for nothing that isn't
 /// done. Fails where it has a shape that no lowering takes, and where memory runs out.
-fn lower_program(
+fn lower_core(
     alloc: Global,
     read: ReadProgram,
     options: &EnvOptions,
@@ -130,7 +181,7 @@ fn lower_program(
     requires next { read.ast.next ≡ tree_size read.program }
     requires carried { first_fault options.now ≡ None }
     ensures lowered { IfOk result (λ lowered. IsLoweredTree options.now read.program lowered) }
-    ensures cause { IfErr result (λ error. IsUnsupportedOrMemory options.now read.program error) }
+    ensures cause { IfErr result (λ error. IsMathBoundOrMemory options.now read.program error) }
 {
     let ReadProgram {
         program: mut source,

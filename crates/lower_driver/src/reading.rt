@@ -1,21 +1,21 @@
 //! What a run is given, and why it is refused.
-ghost use Rattle.std.specs.Prelude.{◌≡◌, ◌<◌, ◌^◌, [], IfOk, IfErr, None};
+ghost use Rattle.std.specs.Prelude.{◌≡◌, ◌<◌, ◌^◌, [], IfOk, IfErr, None, true};
 ghost use Rattle.serde_json.specs.View.{view};
-ghost use Rattle.es_tree.specs.Core.{IsCoreProgram};
+ghost use Rattle.es_tree.specs.HasForm.{has_form};
 ghost use Rattle.es_tree.specs.Options.{first_fault};
 ghost use Rattle.es_tree.specs.StaticRules.{breaks};
 ghost use Rattle.es_tree.specs.Tree.{tree_size};
+ghost use Rattle.es_tree.specs.declared.table.Sort.TheVariants.{Program as s-Program};
 ghost use Rattle.lower_driver.specs.Sources.{IsCauseOrMemory, IsNoValue, IsReading, IsSource, IsValueCauseOrMemory, Reads};
 
 use es_json::program::{ReadProgram, read_program};
-use es_nodes::core_grammar::first_not_core;
 use es_static_rules::static_rules::check_static;
-use es_tree::error::{LowerError, UnsupportedKind};
+use es_tree::error::LowerError;
 use es_tree::options::{EnvOptions, options_fault};
 use serde_json::{Category, Value};
 use std::alloc::Global;
 
-/// The core program that the bytes read as, which keeps the static rules. Their value is let go once it is read.
+/// The program that the bytes read as, which keeps the static rules. Their value is let go once it is read.
 ///
 /// Fails with `Json`, before all other causes, where the bytes have no reading, and else as `read_source` does.
 pub fn read_bytes(
@@ -24,7 +24,7 @@ pub fn read_bytes(
     options: &EnvOptions,
 ) -> Result<ReadProgram, LowerError>
     ensures source { IfOk result (λ read. Reads bytes.now read.program) }
-    ensures core { IfOk result (λ read. IsCoreProgram read.program) }
+    ensures form { IfOk result (λ read. has_form s-Program read.program ≡ true) }
     ensures kept { IfOk result (λ read. breaks read.program ≡ []) }
     ensures size { IfOk result (λ read. tree_size read.program < 2 ^ 20) }
     ensures next { IfOk result (λ read. read.ast.next ≡ tree_size read.program) }
@@ -36,19 +36,18 @@ pub fn read_bytes(
     Ok(read)
 }
 
-/// The core program that the value is the form of, which keeps the static rules.
+/// The program that the value is the form of, which keeps the static rules.
 ///
 /// Fails for the first of these causes that holds: `Option` where the options ask for what isn't done;
-/// `TooLarge`, `TooDeep` and `Shape` as `read_program` has them; `Unsupported(NotBuilt, node)` at the
-/// first node that no core program has; `Invalid` as `check_static` has it. It fails with
-/// `OutOfMemory` where memory runs out.
+/// `TooLarge`, `TooDeep` and `Shape` as `read_program` has them; `Invalid` as `check_static` has it. It
+/// fails with `OutOfMemory` where memory runs out.
 pub fn read_source(
     alloc: Global,
     value: &Value,
     options: &EnvOptions,
 ) -> Result<ReadProgram, LowerError>
     ensures source { IfOk result (λ read. IsSource (view value.now) read.program) }
-    ensures core { IfOk result (λ read. IsCoreProgram read.program) }
+    ensures form { IfOk result (λ read. has_form s-Program read.program ≡ true) }
     ensures kept { IfOk result (λ read. breaks read.program ≡ []) }
     ensures size { IfOk result (λ read. tree_size read.program < 2 ^ 20) }
     ensures next { IfOk result (λ read. read.ast.next ≡ tree_size read.program) }
@@ -59,9 +58,6 @@ pub fn read_source(
         return Err(LowerError::Option(name));
     }
     let read = read_program(alloc, value)?;
-    if let Some(node) = first_not_core(&read.program) {
-        return Err(LowerError::Unsupported(UnsupportedKind::NotBuilt, node));
-    }
     check_static(alloc, &read.program)?;
     Ok(read)
 }

@@ -13,8 +13,8 @@ returns-clause-taken c =
       carried = c.in_ok-lowered.ensures.options;
       program = found.holds.source;
       reads = record { value = found.value; reading = found.reading; holds = found.holds.is_source };
-      core = found.holds.core;
       kept = found.holds.kept;
+      built = found.holds.lowered.built;
       taken = found.holds.lowered.taken;
     }
 
