@@ -1,5 +1,5 @@
 -- The scope that `var` declares in, from the innermost place outwards.
-use Rattle.std.proofs.Common.{◌≡◌, ℕ, Bool, true, false, if◌then◌else◌, List, [], ◌∷◌, ◌++◌, length, reverse, refl, ap, ◌∙◌, arith}
+use Rattle.std.proofs.Common.{◌≡◌, ℕ, true, false, if◌then◌else◌, List, [], ◌∷◌, ◌++◌, length, refl, ap, ◌∙◌, arith}
 use Rattle.std.proofs.lemmas.List.{reverse-append}
 use Rattle.es_scope.specs.HoistScopes.{hoist_scope, is_hoist_place}
 use Rattle.es_scope.specs.Places.{ancestors_in, scopes_in}

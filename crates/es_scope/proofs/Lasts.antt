@@ -1,5 +1,5 @@
 -- A list with one item more, by its numbers.
-use Rattle.std.proofs.Common.{◌≡◌, ℕ, zero, suc, ◌==◌, Bool, true, false, if◌then◌else◌, Option, Some, None, List, [], ◌∷◌, ◌++◌, length, slice_get, refl, sym, ap, ◌∙◌, arith}
+use Rattle.std.proofs.Common.{◌≡◌, ℕ, zero, suc, ◌<◌, ◌==◌, Bool, true, false, if◌then◌else◌, Option, Some, None, List, [], ◌∷◌, ◌++◌, length, option_map, slice_get, refl, sym, ap, ◌∙◌, arith}
 use Rattle.std.proofs.lemmas.Bool.{eqb-true, eqb-false}
 use Rattle.std.proofs.lemmas.Option.{slice_get_past}
 use Rattle.es_scope.specs.TableChanges.{with_last}
@@ -31,6 +31,12 @@ slice_get-last xs y n = at (n == length xs) refl where
 pub choice : {A B : Type 0} (f : A → B) (b : Bool) (p q : A) → f (if b then p else q) ≡ (if b then f p else f q)
 choice f true p q = refl
 choice f false p q = refl
+
+-- what is said of an item is said of one that is there
+pub said_within : {X B : Type 0} (f : X → B) (xs : List X) (n : ℕ) (z : B) → option_map f (slice_get xs n) ≡ Some z → n < length xs
+said_within f [] n z e = absurd (cc)
+said_within f (x ∷ xs) zero z e = omega arith
+said_within f (x ∷ xs) (suc n) z e = omega (arith, said_within f xs n z e)
 
 -- what is said of each item, with one more
 pub with_last-map : {X B : Type 0} (f : Option X → Option B) (xs : List X) (y : X) (z : B) (n : ℕ) → f (Some y) ≡ Some z → f (slice_get (xs ++ y ∷ []) n) ≡ with_last (length xs) z (λ m. f (slice_get xs m)) n

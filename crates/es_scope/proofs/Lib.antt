@@ -3,10 +3,16 @@ pub mod Parts
 pub mod Joined
 pub mod Among
 pub mod Candidates
-pub mod Tables
+pub mod Outward
 pub mod Lasts
 pub mod HoistPlaces
 pub mod TableSteps
+pub mod TableReferences
+pub mod TableSettings
+pub mod MovedBindings
 pub mod ChangedItems
 pub mod SteadyContexts
 pub mod BoundContexts
+pub mod SymbolContexts
+pub mod FoundNames
+pub mod OuterScopes

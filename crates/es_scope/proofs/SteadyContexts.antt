@@ -11,6 +11,7 @@ use Rattle.es_scope.specs.declared.flags.ReferenceFlags.{ReferenceFlags}
 use Rattle.es_scope.specs.declared.flags.ScopeFlags.{ScopeFlags}
 use Rattle.es_scope.specs.declared.flags.SymbolFlags.{SymbolFlags}
 use Rattle.es_scope.specs.declared.scoping.Scoping.{Scoping}
+use Rattle.es_scope.proofs.TableSteps.{bound_within}
 
 or_true : (b : Bool) → (b || true) ≡ true
 or_true true = refl
@@ -33,7 +34,7 @@ unused-unbound ctx n x e = at (binding_in (table_of ctx) n x) refl where
 
 -- a binding's symbol is of the table
 pub bound-known : (s : Scoping) (n : ℕ) (x : Text) (m : ℕ) → binding_in s n x ≡ Some m → m < symbol_count s
-bound-known s n x m e = s.bound n x m e
+bound-known s n x m e = bound_within s.scopes.items s.symbols.items s.bound n x m e
 
 -- A reference that only reads leaves all steady names so, and makes none steady.
 pub steady-read : {S : Type 0} (old new : TraverseCtx S) (symbol : Option ℕ) (flags : ReferenceFlags) → Refers old new symbol flags → flags.write ≡ false → (x : Text) → steady_of new x ≡ steady_of old x

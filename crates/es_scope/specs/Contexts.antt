@@ -105,6 +105,12 @@ pub record BindsHoisted {S : Type 0} (old new : TraverseCtx S) (name : Text) : T
   pub known : scope < scope_count (table_of old)
   pub binds : Binds old new scope name function_scoped
 
+-- all beside the table
+pub record KeepsBesideTable {S : Type 0} (old new : TraverseCtx S) : Type 0 where
+  pub names : KeepsNames old new
+  pub ast : new.ast ≡ old.ast
+  pub kept : KeptBeside old new
+
 -- one scope more
 pub record AddsScope {S : Type 0} (old new : TraverseCtx S) (parent : ℕ) (flags : ScopeFlags) : Type 0 where
   pub table : HasScopeMore (table_of old) (table_of new) parent flags

@@ -1,6 +1,6 @@
 -- The scope that `var` declares in, by the places around (ECMA-262, 8.2.6 and 10.2.11): that of the nearest body of a function,
 -- body of an arrow that is an expression, static block or program. The parameters of a function are no part of its body.
-use Rattle.std.specs.Prelude.{ℕ, zero, suc, List, [], ◌∷◌, Bool, true, false, if◌then◌else◌}
+use Rattle.std.specs.Prelude.{ℕ, zero, suc, List, ◌∷◌, Bool, true, false, if◌then◌else◌}
 use Rattle.es_tree.specs.declared.ast_type.AstType.{AstType}
 use Rattle.es_tree.specs.declared.ast_type.AstType.TheVariants.{ArrowFunctionExpression, FunctionBody, Program, StaticBlock}
 use Rattle.es_scope.specs.declared.ancestor.Ancestor.{Ancestor}

@@ -5,10 +5,13 @@ pub mod Outwards
 pub mod Bindings
 pub mod Tables
 pub mod TableChanges
+pub mod TableSettings
 pub mod HoistScopes
 pub mod Numbers
 pub mod PlainReferences
 pub mod Mutations
 pub mod Places
+pub mod OuterScopes
 pub mod Contexts
+pub mod ContextSymbols
 pub mod MadeNodes

@@ -2,7 +2,7 @@
 use Rattle.std.specs.Prelude.{◌≡◌, ℕ, ◌+◌, ◌==◌, ◌&&◌, ◌||◌, Option, Some, None, bytes_eq, if◌then◌else◌}
 use Rattle.es_tree.specs.Words.{Text}
 use Rattle.es_tree.specs.References.{Reference, writes_symbol}
-use Rattle.es_scope.specs.Tables.{scope_count, parent_of, scope_flags_of, binding_in, symbol_count, symbol_scope_of, symbol_flags_of, is_mutated, reference_count, reference_at}
+use Rattle.es_scope.specs.Tables.{scope_count, parent_of, scope_flags_of, binding_in, symbol_count, symbol_scope_of, symbol_flags_of, symbol_name_of, is_mutated, reference_count, reference_at}
 use Rattle.es_scope.specs.declared.flags.ScopeFlags.{ScopeFlags}
 use Rattle.es_scope.specs.declared.flags.SymbolFlags.{SymbolFlags}
 use Rattle.es_scope.specs.declared.scoping.Scoping.{Scoping}
@@ -23,6 +23,7 @@ pub record SameSymbols (old new : Scoping) : Type 0 where
   pub count : symbol_count new ≡ symbol_count old
   pub scopes : (n : ℕ) → symbol_scope_of new n ≡ symbol_scope_of old n
   pub flags : (n : ℕ) → symbol_flags_of new n ≡ symbol_flags_of old n
+  pub names : (n : ℕ) → symbol_name_of new n ≡ symbol_name_of old n
 
 abbrev pub SameMutated : Scoping → Scoping → Type 0
 SameMutated old new = (n : ℕ) → is_mutated new n ≡ is_mutated old n
@@ -49,9 +50,13 @@ pub record IsRootAlone (flags : ScopeFlags) (s : Scoping) : Type 0 where
 
 -- WHAT IS ADDED
 
+-- the numbers of what is there, with this one at its number
+abbrev pub with_item : {X : Type 0} → ℕ → X → (ℕ → Option X) → ℕ → Option X
+with_item i x old n = if n == i then Some x else old n
+
 -- the numbers of what is there, with one more
 abbrev pub with_last : {X : Type 0} → ℕ → X → (ℕ → Option X) → ℕ → Option X
-with_last count x old n = if n == count then Some x else old n
+with_last count x old n = with_item count x old n
 
 -- one scope more, with this parent and these flags, which binds nothing
 pub record HasScopeMore (old new : Scoping) (parent : ℕ) (flags : ScopeFlags) : Type 0 where
@@ -70,6 +75,7 @@ pub record HasBindingMore (old new : Scoping) (scope : ℕ) (name : Text) (flags
   pub count : symbol_count new ≡ symbol_count old + 1
   pub symbol_scopes : (n : ℕ) → symbol_scope_of new n ≡ with_last (symbol_count old) scope (symbol_scope_of old) n
   pub symbol_flags : (n : ℕ) → symbol_flags_of new n ≡ with_last (symbol_count old) flags (symbol_flags_of old) n
+  pub symbol_names : (n : ℕ) → symbol_name_of new n ≡ with_last (symbol_count old) name (symbol_name_of old) n
   pub mutated : SameMutated old new
   pub references : SameReferences old new
 

@@ -2,9 +2,11 @@
 //!
 //! An id that is handed to a call must belong to the table. No call of the table takes memory.
 ghost use Rattle.std.specs.Prelude.{◌≡◌, ◌<◌, IfSome, None, Some, option_map, vec_len};
+ghost use Rattle.std.proofs.Props.{props};
 ghost use Rattle.es_tree.specs.Heads.{scope, symbol};
 ghost use Rattle.es_scope.specs.Bindings.{AreBound};
-ghost use Rattle.es_scope.specs.Outwards.{AreOutwards};
+ghost use Rattle.es_scope.specs.Mutations.{AreReferring, AreWritten};
+ghost use Rattle.es_scope.specs.Outwards.{AreOutwards, Ends-prop};
 ghost use Rattle.es_scope.specs.PlainReferences.{plain_reference};
 
 use crate::flags::{ReferenceFlags, ScopeFlags, SymbolFlags};
@@ -28,10 +30,11 @@ pub struct Scope {
     pub bindings: HashMap<String, SymbolId>,
 }
 
-/// A bound name: the scope in which it is bound, and its flags.
-#[derive(Clone, Copy)]
+/// A bound name: the scope in which it is bound, the name, and its flags.
+#[derive(Drop)]
 pub struct Symbol {
     pub scope: ScopeId,
+    pub name: String,
     pub flags: SymbolFlags,
     /// Whether a reference writes it.
     pub mutated: bool,
@@ -43,13 +46,15 @@ pub struct Scoping {
     pub(crate) scopes: Vec<Scope>,
     pub(crate) symbols: Vec<Symbol>,
     pub(crate) references: Vec<Reference>,
-    ghost outwards: { AreOutwards scopes },
-    ghost bound: { AreBound scopes symbols },
+    ghost outwards: { AreOutwards scopes.items } by { Prim.hlevel (props, Ends-prop) },
+    ghost bound: { AreBound scopes.items symbols.items } by { Prim.hlevel props },
+    ghost written: { AreWritten symbols.items references.items },
+    ghost referring: { AreReferring references.items symbols.items },
     ghost rooted: { 0 < vec_len scopes },
 }
 
 impl Scoping {
-    ghost use Rattle.es_scope.specs.Tables.{Finds, binding_in, is_mutated, parent_of, reference_at, reference_count, scope_count, scope_flags_of, symbol_count, symbol_flags_of, symbol_scope_of};
+    ghost use Rattle.es_scope.specs.Tables.{Finds, binding_in, is_mutated, parent_of, reference_at, reference_count, scope_count, scope_flags_of, symbol_count, symbol_flags_of, symbol_name_of, symbol_scope_of};
 
     /// How many scopes there are; their numbers are those below.
     pub fn scope_count(&self) -> usize
@@ -110,6 +115,14 @@ impl Scoping {
         ensures { Some result ≡ symbol_flags_of self.now symbol_id.0 }
     {
         self.symbols[symbol_id.0 as usize].flags
+    }
+
+    /// The name of a symbol.
+    pub fn symbol_name(&self, symbol_id: SymbolId) -> &str
+        requires { symbol_id.0 < symbol_count self.now }
+        ensures { Some result.now ≡ symbol_name_of self.now symbol_id.0 }
+    {
+        self.symbols[symbol_id.0 as usize].name.as_str()
     }
 
     /// The symbol of a name in this scope alone.

@@ -73,12 +73,14 @@ impl Scoping {
         let Ok(number) = u32::try_from(self.symbols.len()) else {
             return Err(AllocError);
         };
+        let key = name.clone()?;
         self.symbols.push(Symbol {
             scope,
+            name,
             flags,
             mutated: false,
         })?;
-        bind_name(&mut self.scopes, scope, name, SymbolId(number))?;
+        bind_name(&mut self.scopes, scope, key, SymbolId(number))?;
         Ok(SymbolId(number))
     }
 
@@ -99,7 +101,7 @@ impl Scoping {
 }
 
 /// Binds a name in the scope of this number.
-fn bind_name(
+pub(crate) fn bind_name(
     scopes: &mut [Scope],
     scope: ScopeId,
     name: String,

@@ -1,10 +1,10 @@
 -- A table after one scope or one symbol more, and at its start.
-use Rattle.std.proofs.Common.{◌≡◌, ℕ, zero, suc, ◌+◌, ◌==◌, ◌&&◌, false, if◌then◌else◌, Option, Some, None, option_map, option_and_then, unwrap_or, List, [], ◌∷◌, ◌++◌, length, slice_get, bytes_eq, refl, sym, ap, ◌∙◌, arith, length-append}
+use Rattle.std.proofs.Common.{◌≡◌, ℕ, zero, suc, ◌+◌, ◌==◌, ◌&&◌, false, if◌then◌else◌, Option, Some, None, option_map, option_and_then, unwrap_or, List, [], ◌∷◌, ◌++◌, length, slice_get, bytes_eq, string_bytes, refl, sym, ap, ◌∙◌, arith, length-append}
 use Rattle.std.proofs.lemmas.Option.{slice_get_past}
 use Rattle.es_tree.specs.Heads.{scope}
 use Rattle.es_tree.specs.Words.{Text}
 use Rattle.es_scope.specs.TableChanges.{HasBindingMore, HasScopeMore, IsRootAlone, with_last}
-use Rattle.es_scope.specs.Tables.{binding_in, parent_of, scope_count, scope_flags_of, symbol_count, symbol_flags_of, symbol_scope_of}
+use Rattle.es_scope.specs.Tables.{binding_in, parent_of, scope_count, scope_flags_of, symbol_count, symbol_flags_of, symbol_name_of, symbol_scope_of}
 use Rattle.es_scope.specs.declared.flags.ScopeFlags.{ScopeFlags}
 use Rattle.es_scope.specs.declared.scoping.Scoping.{Scoping}
 use Rattle.es_scope.proofs.Lasts.{with_last-map}
@@ -38,6 +38,7 @@ Holds-scope rows ds old new up around outer flags e more h =
       all_symbols = more.symbols.count ∙ h.all_symbols;
       symbol_scopes = λ n. more.symbols.scopes n ∙ h.symbol_scopes n;
       symbol_flags_are = λ n. more.symbols.flags n ∙ h.symbol_flags_are n;
+      symbol_names = λ n. more.symbols.names n ∙ h.symbol_names n;
       mutated = λ n. more.mutated n ∙ h.mutated n;
       none_referred = more.references.count ∙ h.none_referred;
     }
@@ -62,6 +63,10 @@ Holds-symbol rows ds old new s x b e more h =
           more.symbol_flags n ∙
           (with_last-same (symbol_count old) (length ds) (symbol_flags b) (symbol_flags_of old) (λ m. option_map (λ c. symbol_flags c.binding) (slice_get ds m)) n h.all_symbols (h.symbol_flags_are n) ∙
           sym (with_last-map (λ o. option_map (λ c. symbol_flags c.binding) o) ds d (symbol_flags b) n refl));
+      symbol_names = λ n.
+          more.symbol_names n ∙
+          (with_last-same (symbol_count old) (length ds) x (symbol_name_of old) (λ m. option_map (λ c. c.name) (slice_get ds m)) n h.all_symbols (h.symbol_names n) ∙
+          sym (with_last-map (λ o. option_map (λ c. c.name) o) ds d x n refl));
       mutated = λ n. more.mutated n ∙ h.mutated n;
       none_referred = more.references.count ∙ h.none_referred;
     }
@@ -78,6 +83,7 @@ Holds-root flags s h = record {
   all_symbols = h.symbols;
   symbol_scopes = λ n. ap (λ o. option_map (λ b. b.scope.0) o) (no_symbol n);
   symbol_flags_are = λ n. ap (λ o. option_map (λ b. b.flags) o) (no_symbol n);
+  symbol_names = λ n. ap (λ o. option_map (λ b. string_bytes b.name) o) (no_symbol n);
   mutated = λ n. ap (λ o. unwrap_or (option_map (λ b. b.mutated) o) false) (no_symbol n);
   none_referred = h.references;
 }

@@ -71,7 +71,7 @@ same_scopes-then : (a b c : Scoping) → SameScopes a b → SameScopes b c → S
 same_scopes-then a b c f g = record { count = g.count ∙ f.count; parents = λ n. g.parents n ∙ f.parents n; flags = λ n. g.flags n ∙ f.flags n }
 
 same_symbols-then : (a b c : Scoping) → SameSymbols a b → SameSymbols b c → SameSymbols a c
-same_symbols-then a b c f g = record { count = g.count ∙ f.count; scopes = λ n. g.scopes n ∙ f.scopes n; flags = λ n. g.flags n ∙ f.flags n }
+same_symbols-then a b c f g = record { count = g.count ∙ f.count; scopes = λ n. g.scopes n ∙ f.scopes n; flags = λ n. g.flags n ∙ f.flags n; names = λ n. g.names n ∙ f.names n }
 
 past_none : (s : Scoping) (n : ℕ) → reference_count s ≤ n → reference_at s n ≡ None
 past_none s n l = rw (slice_get_past s.references.items n l) refl
@@ -80,7 +80,7 @@ pub references_none : (s : Scoping) → HasReferencesMore s s []
 references_none s = record {
   scopes = record { count = refl; parents = λ _. refl; flags = λ _. refl };
   bindings = λ _ _. refl;
-  symbols = record { count = refl; scopes = λ _. refl; flags = λ _. refl };
+  symbols = record { count = refl; scopes = λ _. refl; flags = λ _. refl; names = λ _. refl };
   mutated = λ n. sym (or-false (is_mutated s n));
   count = omega arith;
   references = λ n. sym (more_none (reference_count s) (reference_at s) n (past_none s n));

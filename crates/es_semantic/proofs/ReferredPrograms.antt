@@ -53,6 +53,7 @@ program_table p old new h more = record {
   all_symbols = more.symbols.count ∙ h.all_symbols;
   symbol_scopes = λ n. more.symbols.scopes n ∙ h.symbol_scopes n;
   symbol_flags_are = λ n. more.symbols.flags n ∙ h.symbol_flags_are n;
+  symbol_names = λ n. more.symbols.names n ∙ h.symbol_names n;
   mutated = λ n. more.mutated n ∙ ap (λ b. b || list_any (writes_symbol n) (references_of p)) (h.mutated n);
   all_references = omega (arith, more.count, h.none_referred);
   each_reference = λ n. more.references n ∙ (more_from (reference_count old) (references_of p) (reference_at old) n (omega (arith, h.none_referred)) ∙ ap (slice_get (references_of p)) (omega (arith, h.none_referred)));

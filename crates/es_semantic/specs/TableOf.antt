@@ -2,7 +2,7 @@
 use Rattle.std.specs.Prelude.{◌≡◌, ℕ, List, [], ◌∷◌, Option, Some, None, length, option_map, option_and_then, slice_get}
 use Rattle.es_tree.specs.Tree.{Tree}
 use Rattle.es_tree.specs.Words.{Text}
-use Rattle.es_scope.specs.Tables.{scope_count, parent_of, scope_flags_of, binding_in, symbol_count, symbol_scope_of, symbol_flags_of, is_mutated, reference_count, reference_at}
+use Rattle.es_scope.specs.Tables.{scope_count, parent_of, scope_flags_of, binding_in, symbol_count, symbol_scope_of, symbol_flags_of, symbol_name_of, is_mutated, reference_count, reference_at}
 use Rattle.es_scope.specs.declared.scoping.Scoping.{Scoping}
 use Rattle.es_semantic.specs.ReferencesOf.{is_mutated_of, references_of}
 use Rattle.es_semantic.specs.ScopesOf.{scopes_of}
@@ -22,6 +22,7 @@ pub record IsTableOf (p : Tree) (s : Scoping) : Type 0 where
   pub all_symbols : symbol_count s ≡ length (symbols_of p)
   pub symbol_scopes : (n : ℕ) → symbol_scope_of s n ≡ option_map (λ d. d.scope) (slice_get (symbols_of p) n)
   pub symbol_flags_are : (n : ℕ) → symbol_flags_of s n ≡ option_map (λ d. symbol_flags d.binding) (slice_get (symbols_of p) n)
+  pub symbol_names : (n : ℕ) → symbol_name_of s n ≡ option_map (λ d. d.name) (slice_get (symbols_of p) n)
   pub mutated : (n : ℕ) → is_mutated s n ≡ is_mutated_of p n
   -- the references in node order
   pub all_references : reference_count s ≡ length (references_of p)

@@ -4,7 +4,7 @@ use Rattle.es_tree.specs.Heads.{scope}
 use Rattle.es_tree.specs.Tree.{Fields}
 use Rattle.es_tree.specs.Words.{Text}
 use Rattle.es_tree.specs.declared.ast_type.AstType.{AstType}
-use Rattle.es_scope.specs.Tables.{scope_count, parent_of, scope_flags_of, binding_in, symbol_count, symbol_scope_of, symbol_flags_of, is_mutated, reference_count}
+use Rattle.es_scope.specs.Tables.{scope_count, parent_of, scope_flags_of, binding_in, symbol_count, symbol_scope_of, symbol_flags_of, symbol_name_of, is_mutated, reference_count}
 use Rattle.es_scope.specs.declared.scoping.Scoping.{Scoping}
 use Rattle.es_semantic.specs.Places.{Place, Visit, has_name_scope, makes_scope, own_scope}
 use Rattle.es_semantic.specs.ScopesOf.{ScopeRow, scopes_among}
@@ -47,6 +47,7 @@ pub record Holds (rows : List ScopeRow) (ds : List Declared) (s : Scoping) : Typ
   pub all_symbols : symbol_count s ≡ length ds
   pub symbol_scopes : (n : ℕ) → symbol_scope_of s n ≡ option_map (λ d. d.scope) (slice_get ds n)
   pub symbol_flags_are : (n : ℕ) → symbol_flags_of s n ≡ option_map (λ d. symbol_flags d.binding) (slice_get ds n)
+  pub symbol_names : (n : ℕ) → symbol_name_of s n ≡ option_map (λ d. d.name) (slice_get ds n)
   pub mutated : (n : ℕ) → is_mutated s n ≡ false
   pub none_referred : reference_count s ≡ 0
 

@@ -7,11 +7,11 @@ ghost use Rattle.es_scope.specs.Tables.{scope_count};
 use es_scope::ancestor::Ancestor;
 use es_scope::base::base_of_text;
 use es_scope::context::TraverseCtx;
-use es_scope::flags::{ScopeFlags, SymbolFlags};
+use es_scope::flags::{ReferenceFlags, ScopeFlags, SymbolFlags};
 use es_scope::scoping::Scoping;
 use es_tree::ast_type::AstType;
 use es_tree::builder::AstBuilder;
-use es_tree::ids::{NodeId, ScopeId, Span, SymbolId};
+use es_tree::ids::{NodeId, ReferenceId, ScopeId, Span, SymbolId};
 use es_tree::kind::Kind;
 use es_tree::node::Node;
 use es_tree::operators::SourceType;
@@ -72,6 +72,7 @@ fn node(alloc: Global, kind: Kind) -> Node {
 /// The context of an empty script, with the state 7 and ids from 10.
 fn context(alloc: Global) -> Result<TraverseCtx<u32>, AllocError>
     ensures one_scope { IfOk result (λ ctx. scope_count (table_of ctx) ≡ 1) }
+    ensures ids { IfOk result (λ ctx. ctx.ast.next ≡ 10) }
 {
     let kind = Kind::Program {
         source_type: SourceType::Script,
@@ -150,5 +151,61 @@ fn places_of_a_context(rt: HostRuntime) -> Result<(), Fail> {
     ctx.leave_place();
     assert_eq!(rt; ctx.parent(), outermost);
     assert_eq!(rt; ctx.current_scope_id(), root);
+    Ok(())
+}
+
+#[test]
+fn flags_of_a_table(rt: HostRuntime) -> Result<(), Fail> {
+    let mut ctx = context(rt.alloc())?;
+    let root = ctx.current_scope_id();
+    let inner = ctx.create_child_scope(root, scope_flags(false))?;
+    ctx.set_scope_flags(inner, scope_flags(true));
+    assert_eq!(rt; ctx.scoping().scope_flags(inner), scope_flags(true));
+    assert_eq!(rt; ctx.scoping().scope_parent_id(inner), Some(root));
+    let symbol = ctx.generate_binding("x", inner, VAR)?.symbol_id;
+    assert_eq!(rt; ctx.symbol_name(symbol), "x");
+    let span = Span { start: 0, end: 0 };
+    let writes = ReferenceFlags {
+        read: true,
+        write: true,
+    };
+    let _written = ctx.create_bound_ident_expr(span, "x", symbol, writes)?;
+    assert_eq!(rt; ctx.symbol_is_steady(symbol), false);
+    let reads = ReferenceFlags {
+        read: true,
+        write: false,
+    };
+    ctx.set_reference_flags(ReferenceId(0), reads);
+    assert_eq!(rt; ctx.symbol_is_steady(symbol), true);
+    assert_eq!(rt; ctx.scoping().reference(ReferenceId(0)).flags, reads);
+    let class = SymbolFlags { class: true, ..VAR };
+    ctx.set_symbol_flags(symbol, class);
+    assert_eq!(rt; ctx.scoping().symbol_flags(symbol), class);
+    Ok(())
+}
+
+/// `(function f() {})`, whose name has a scope around that of the function, in a block, and a scope around both.
+#[test]
+fn scopes_put_between(rt: HostRuntime) -> Result<(), Fail> {
+    let alloc = rt.alloc();
+    let mut ctx = context(alloc)?;
+    let root = ctx.current_scope_id();
+    let named = ctx.create_child_scope(root, scope_flags(false))?;
+    let body = ctx.create_child_scope(named, scope_flags(false))?;
+    let function = ctx.insert_scope_between(named, body, scope_flags(false))?;
+    assert_eq!(rt; ctx.scoping().scope_parent_id(body), Some(function));
+    assert_eq!(rt; ctx.scoping().scope_parent_id(function), Some(named));
+    let kind = Kind::FunctionExpression {
+        scope: Some(function),
+    };
+    let block = ctx.insert_scope_below_node(root, &node(alloc, kind), scope_flags(false))?;
+    assert_eq!(rt; ctx.scoping().scope_parent_id(block), Some(root));
+    assert_eq!(rt; ctx.scoping().scope_parent_id(named), Some(block));
+    assert_eq!(rt; ctx.scoping().scope_parent_id(function), Some(named));
+    let kind = Kind::BlockStatement { scope: Some(block) };
+    let outer = ctx.insert_scope_below_statements(&[node(alloc, kind)], scope_flags(false))?;
+    assert_eq!(rt; ctx.scoping().scope_parent_id(outer), Some(root));
+    assert_eq!(rt; ctx.scoping().scope_parent_id(block), Some(outer));
+    assert_eq!(rt; ctx.scoping().scope_parent_id(named), Some(block));
     Ok(())
 }

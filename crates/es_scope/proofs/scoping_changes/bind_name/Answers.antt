@@ -19,4 +19,4 @@ returns-clause-shape c = shape_changed c.args.scopes.now c.args.scope.0 _ c.inde
 
 pub returns-clause-bound : goal.returns-clause-bound
 returns-clause-bound c =
-    bound_changed c.args.scopes.now c.args.scope.0 _ c.index-scopes-scope.result (string_bytes c.args.name) c.args.symbol.0 c.requires c.index-scopes-scope.is (λ x. c.in_ok-bind.ensures.bound x ∙ ap (λ k. if bytes_eq (string_bytes c.args.name) x then Some c.args.symbol.0 else numbers k.bindings x) (sym c.index-scopes-scope.is))
+    bound_changed c.args.scopes.now c.args.scope.0 _ c.index-scopes-scope.result (string_bytes c.args.name) (Some c.args.symbol.0) c.requires c.index-scopes-scope.is (λ x. c.in_ok-bind.ensures.bound x ∙ ap (λ k. if bytes_eq (string_bytes c.args.name) x then Some c.args.symbol.0 else numbers k.bindings x) (sym c.index-scopes-scope.is))

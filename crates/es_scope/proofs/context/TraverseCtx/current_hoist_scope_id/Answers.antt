@@ -1,6 +1,5 @@
-use Rattle.std.proofs.Common.{◌≡◌, ◌<◌, ℕ, [], length, slice_get, refl, sym, ap, ◌∙◌, true, false}
+use Rattle.std.proofs.Common.{◌≡◌, length, slice_get, refl, sym, ap, ◌∙◌, true, false}
 use Rattle.es_scope.specs.HoistScopes.{is_hoist_place}
-use Rattle.es_scope.specs.declared.ancestor.Place.{Place}
 use Rattle.es_scope.proofs.HoistPlaces.{hoist_of, hoists-here, hoists-further, hoists-nowhere}
 use Rattle.es_scope.proofs.Lasts.{get_last, get_kept}
 use Rattle.es_scope.proofs.context.TraverseCtx.current_hoist_scope_id.Goals as goal

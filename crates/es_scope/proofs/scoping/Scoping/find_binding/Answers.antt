@@ -1,6 +1,6 @@
-use Rattle.std.proofs.Common.{◌≡◌, ◌<◌, Some, None, sym, arith}
+use Rattle.std.proofs.Common.{◌≡◌, Some, None, sym}
 use Rattle.es_scope.specs.Tables.{found_here, found_outside, found_nowhere, binding_in, parent_of}
-use Rattle.es_scope.proofs.Tables.{parent_below}
+use Rattle.es_scope.proofs.Outward.{steps-smaller}
 use Rattle.es_scope.proofs.scoping.Scoping.find_binding.Goals as goal
 
 pub returns-in-Some-clause-found : goal.returns-in-Some-clause-found
@@ -16,8 +16,12 @@ pub loop-found-preserved : goal.loop-found-preserved
 loop-found-preserved c =
     let absent : binding_in c.args.self.now c.loop-found.scope_id.0 c.args.name.now ≡ None = sym c.in_default.ensures.binding in
     let parent : parent_of c.args.self.now c.loop-found.scope_id.0 ≡ Some c.in_ok-scope_id.scope_id.0 = sym c.in_ok-scope_id.ensures in
-    let below : c.in_ok-scope_id.scope_id.0 < c.loop-found.scope_id.0 = parent_below c.args.self.now.scopes c.args.self.now.outwards _ _ parent in
     record {
-      known = omega (arith, c.loop-found.invariant.known);
+      known = c.args.self.now.outwards.known c.loop-found.scope_id.0 c.in_ok-scope_id.scope_id.0 parent;
       rest = λ r found. c.loop-found.invariant.rest r (found_outside absent parent found);
     }
+
+pub loop-found-smaller : goal.loop-found-smaller
+loop-found-smaller c =
+    let parent : parent_of c.args.self.now c.loop-found.scope_id.0 ≡ Some c.in_ok-scope_id.scope_id.0 = sym c.in_ok-scope_id.ensures in
+    steps-smaller (parent_of c.args.self.now) c.loop-found.scope_id.0 c.in_ok-scope_id.scope_id.0 (c.args.self.now.outwards.end c.loop-found.scope_id.0) (c.args.self.now.outwards.end c.in_ok-scope_id.scope_id.0) parent

@@ -1,5 +1,6 @@
 use Rattle.std.proofs.Common.{ℕ, ◌<◌, Option}
-use Rattle.es_scope.specs.Tables.{Finds, scope_count}
+use Rattle.es_scope.specs.Tables.{Finds, parent_of, scope_count}
+use Rattle.es_scope.proofs.Outward.{steps_out}
 use Rattle.es_scope.proofs.scoping.Scoping.find_binding.Given as goal
 
 -- what is found from here on is what the call answers
@@ -10,4 +11,4 @@ invariant-loop-found l = record {
 }
 
 abbrev pub decreases-loop-found : goal.decreases-loop-found
-decreases-loop-found l = l.scope_id.0
+decreases-loop-found l = steps_out (parent_of l.self) l.scope_id.0 (l.self.outwards.end l.scope_id.0)

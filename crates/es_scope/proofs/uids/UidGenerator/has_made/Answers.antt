@@ -1,4 +1,4 @@
-use Rattle.std.proofs.Common.{◌≡◌, ◌∙◌, ap, bytes_eq, sym, string_bytes}
+use Rattle.std.proofs.Common.{◌∙◌, ap, bytes_eq, string_bytes}
 use Rattle.std.specs.List.{list_any}
 use Rattle.es_scope.proofs.Candidates.{among-made}
 use Rattle.es_scope.proofs.uids.UidGenerator.has_made.Goals as goal
