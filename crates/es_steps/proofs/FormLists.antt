@@ -96,7 +96,7 @@ narrower-kind FunctionBody e h = absurd (cc e)
 narrower-kind Program e h = absurd (cc e)
 narrower-kind k e h = h
 
-narrower : (t : Tree) → is_var_scope (kind_of t) ≡ false → has_form s-ArrowFunctionBody t ≡ true → IsFormed t
+pub narrower : (t : Tree) → is_var_scope (kind_of t) ≡ false → has_form s-ArrowFunctionBody t ≡ true → IsFormed t
 narrower (node k l fs) e h =
     let n = node_form s-ArrowFunctionBody k l fs h in
     has_form-node s-Expression k l fs (record { sort = narrower-kind k e n.sort; texts = n.texts; flags = n.flags; start = n.start; stop = n.stop; agree = n.agree; children = n.children })

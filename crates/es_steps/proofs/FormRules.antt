@@ -135,7 +135,7 @@ pick : {A B C : Type 0} → (A → C) → (B → C) → A ⊎ B → C
 pick f g (inl h) = f h
 pick f g (inr h) = g h
 
-both-form : {Q R : Site → Ledger → Spot → Ledger → Spot → Type 0} → FormLawful Q → FormLawful R → FormLawful (either_rule Q R)
+pub both-form : {Q R : Site → Ledger → Spot → Ledger → Spot → Type 0} → FormLawful Q → FormLawful R → FormLawful (either_rule Q R)
 both-form {Q} {R} q r = record {
   at_nodes = λ n s s' t u a slot h f. pick {A = Q n s (at_node t) s' (at_node u)} {B = R n s (at_node t) s' (at_node u)} (λ g. q.at_nodes n s s' t u a slot g f) (λ g. r.at_nodes n s s' t u a slot g f) h;
   no_flanks = λ n s s' t u bs cs h. pick {A = Q n s (at_node t) s' (at_beside bs u cs)} {B = R n s (at_node t) s' (at_beside bs u cs)} (λ g. q.no_flanks n s s' t u bs cs g) (λ g. r.no_flanks n s s' t u bs cs g) h;

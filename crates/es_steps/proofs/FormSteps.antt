@@ -42,18 +42,18 @@ record FieldsFormed (test : Fields → Bool) (bodies : ℕ → Bool) (s s' : Led
   names : NewNames s s'
   alike : outlined (finished_fields fs) ≡ outlined (finished_fields gs)
 
-record FieldFormed (test : Field → Bool) (b : Bool) (s s' : Ledger) (f g : OpenField) : Type 0 where
-  formed : test (finished_field g) ≡ true
-  proper : IsProperField b g
-  names : NewNames s s'
-  alike : outlined_field (finished_field f) ≡ outlined_field (finished_field g)
+pub record FieldFormed (test : Field → Bool) (b : Bool) (s s' : Ledger) (f g : OpenField) : Type 0 where
+  pub formed : test (finished_field g) ≡ true
+  pub proper : IsProperField b g
+  pub names : NewNames s s'
+  pub alike : outlined_field (finished_field f) ≡ outlined_field (finished_field g)
 
-record TreesFormed (a last : Sort) (s s' : Ledger) (ts us : OpenTrees) : Type 0 where
-  formed : trees_form a last (finished_trees us) ≡ true
-  proper : AreProperTrees us
-  names : NewNames s s'
-  alike : outlined_trees (finished_trees ts) ≡ outlined_trees (finished_trees us)
-  begins : Begins (finished_trees us)
+pub record TreesFormed (a last : Sort) (s s' : Ledger) (ts us : OpenTrees) : Type 0 where
+  pub formed : trees_form a last (finished_trees us) ≡ true
+  pub proper : AreProperTrees us
+  pub names : NewNames s s'
+  pub alike : outlined_trees (finished_trees ts) ≡ outlined_trees (finished_trees us)
+  pub begins : Begins (finished_trees us)
 
 -- WHAT IS PENDING
 
@@ -61,7 +61,7 @@ declarators-more : (bs cs : List Bound) → map declarator bs ++ map declarator 
 declarators-more [] cs = refl
 declarators-more (b ∷ bs) cs = ap (λ ds. declarator b ∷ ds) (declarators-more bs cs)
 
-plain-more : (p q : Pending) (bs : List Bound) → IsPlain p → AreTexts bs → q ≡ with_vars bs p → IsPlain q
+pub plain-more : (p q : Pending) (bs : List Bound) → IsPlain p → AreTexts bs → q ≡ with_vars bs p → IsPlain q
 plain-more p q bs h texts e = record {
   names = h.names ++ bs;
   texts = both-texts h.names bs h.texts texts;
@@ -142,7 +142,7 @@ module _ (R : Site → Ledger → Spot → Ledger → Spot → Type 0) (law : Fo
         let here = subst (λ (b : Sort). element_form b (finished_field x) ≡ true) (before-fields a last (finished_fields fs) (finished_fields gs) r.alike) parts.0 in
         record { formed = and_from (element_form (sort_before_fields a last (finished_fields gs)) (finished_field x)) (elements_form a last (finished_fields gs)) here r.formed; proper = (proper.0, r.proper); names = r.names; alike = λ i. outlined_field (finished_field x) then r.alike i }
 
-    field-after : {n : Site} {s s' : Ledger} {f g : OpenField} → FieldStep R n s f s' g → (test : Field → Bool) (b : Bool) → Holds test n b → IsProperField b f → test (finished_field f) ≡ true → FieldFormed test b s s' f g
+    pub field-after : {n : Site} {s s' : Ledger} {f g : OpenField} → FieldStep R n s f s' g → (test : Field → Bool) (b : Bool) → Holds test n b → IsProperField b f → test (finished_field f) ≡ true → FieldFormed test b s s' f g
     field-after (in_child {t = t} {u = u} h) test b holds proper f =
         let m = holds.at_one (finished t) f in
         let r = formed-after h m.sort m.slot proper m.formed in
@@ -202,7 +202,7 @@ module _ (R : Site → Ledger → Spot → Ledger → Spot → Type 0) (law : Fo
         let same = ap (λ x. written_body p x) (finished-opened t) ∙ found.1 ∙ sym (finished-opened u) in
         record { formed = subst (λ (x : Tree). test (one x) ≡ true) same f; proper = opened-proper u; names = nothing-new s s' found.0; alike = refl }
 
-    trees-after : {n : Site} {s s' : Ledger} {ts us : OpenTrees} → TreesStep R n s ts s' us → (a last : Sort) → (is_slot n.above ≡ true → ⊥) → AreProperTrees ts → trees_form a last (finished_trees ts) ≡ true → TreesFormed a last s s' ts us
+    pub trees-after : {n : Site} {s s' : Ledger} {ts us : OpenTrees} → TreesStep R n s ts s' us → (a last : Sort) → (is_slot n.above ≡ true → ⊥) → AreProperTrees ts → trees_form a last (finished_trees ts) ≡ true → TreesFormed a last s s' ts us
     trees-after (in_head {t = t} {u = u} {ts = ts} h) a last slot proper f =
         let b = sort_before_trees a last (finished_trees ts) in
         let parts = and_parts (has_form b (finished t)) (trees_form a last (finished_trees ts)) f in

@@ -48,7 +48,7 @@ module _ (u : Text → Bool) (f : ℕ) (r : Role) (bs : Trees) where
       at true rest h = let k = rest h.1 in (k.0, (h.0, k.1))
       at false rest h = named-joined u f r bs (t before ts) h
 
-  named-after : (ts : Trees) → NamedAll u f r bs → NamedAll u f r ts → NamedAll u f r (after_imports bs ts)
+  pub named-after : (ts : Trees) → NamedAll u f r bs → NamedAll u f r ts → NamedAll u f r (after_imports bs ts)
   named-after empty h k = h
   named-after (t before ts) h k = at (is_import t) (named-after ts h k.1)
     where

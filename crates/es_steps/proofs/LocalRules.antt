@@ -69,7 +69,7 @@ module _ (asked : Ledger → Text → Bool) where
   abbrev RowAsks : (Site → Whole → List Bound → Tree → Tree → Type 0) → Type 0
   RowAsks R = (n m : Site) (s : Ledger) (bs : List Bound) (t u : Tree) → AreAlike (asked s) n m → R n (the_whole s) bs t u → R m (the_whole s) bs t u
 
-  both-local : {Q R : Site → Ledger → Spot → Ledger → Spot → Type 0} → IsLocal asked Q → IsLocal asked R → IsLocal asked (either_rule Q R)
+  pub both-local : {Q R : Site → Ledger → Spot → Ledger → Spot → Type 0} → IsLocal asked Q → IsLocal asked R → IsLocal asked (either_rule Q R)
   both-local q r n m s s' x y a (inl h) = inl (q n m s s' x y a h)
   both-local q r n m s s' x y a (inr h) = inr (r n m s s' x y a h)
 

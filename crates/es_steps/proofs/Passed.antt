@@ -59,7 +59,7 @@ module _ (R : Site → Ledger → Spot → Ledger → Spot → Type 0) (law : La
     recalled-in (in_first h) = recalled-by h
     recalled-in (in_later h) = recalled-in h
 
-    recalled-by : {n : Site} {s s' : Ledger} {f g : OpenField} → FieldStep R n s f s' g → Recalled (whole_in s) (whole_in s')
+    pub recalled-by : {n : Site} {s s' : Ledger} {f g : OpenField} → FieldStep R n s f s' g → Recalled (whole_in s) (whole_in s')
     recalled-by (in_child h) = recalled h
     recalled-by (in_children h) = recalled-all h
     recalled-by (in_body e y y' h) = recalled h
@@ -69,7 +69,7 @@ module _ (R : Site → Ledger → Spot → Ledger → Spot → Type 0) (law : La
     recalled-by (acts_on_body {n = n} {s = s} {s' = s'} {p = p} t u h) = record { freer = writes.freer n s s' (at_body p t) (at_node u) h; same = writes.same_called n s s' (at_body p t) (at_node u) h }
     recalled-by (acts_on_list {n = n} {s = s} {s' = s'} {p = p} {q = q} {x = x} {y = y} {a = a} {b = b} ts us h) = record { freer = writes.freer n s s' (at_list p x a ts) (at_list q y b us) h; same = writes.same_called n s s' (at_list p x a ts) (at_list q y b us) h }
 
-    recalled-all : {n : Site} {s s' : Ledger} {ts us : OpenTrees} → TreesStep R n s ts s' us → Recalled (whole_in s) (whole_in s')
+    pub recalled-all : {n : Site} {s s' : Ledger} {ts us : OpenTrees} → TreesStep R n s ts s' us → Recalled (whole_in s) (whole_in s')
     recalled-all (in_head h) = recalled h
     recalled-all (in_tail h) = recalled-all h
     recalled-all (in_flanked h) = recalled h
@@ -125,7 +125,7 @@ module _ (R : Site → Ledger → Spot → Ledger → Spot → Type 0) (law : La
       passed-in (in_first h) a b d = let k = passed-by h a b d.0 in ((k.0, d.1), k.1)
       passed-in (in_later h) a b d = let k = passed-in h a b d.1 in ((d.0, k.0), k.1)
 
-      passed-by : {n : Site} {s s' : Ledger} {f g : OpenField} → FieldStep R n s f s' g → Allows q (whole_in s) (whole_in s') → LedgerPasses q s → PassesBy q (finished_field f) → PassesBy q (finished_field g) × LedgerPasses q s'
+      pub passed-by : {n : Site} {s s' : Ledger} {f g : OpenField} → FieldStep R n s f s' g → Allows q (whole_in s) (whole_in s') → LedgerPasses q s → PassesBy q (finished_field f) → PassesBy q (finished_field g) × LedgerPasses q s'
       passed-by (in_child h) a b d = passed h a b d
       passed-by (in_children h) a b d = passed-all h a b d
       passed-by (in_body {p = p} {q = q'} {t = t} {u = u} e y y' h) a b d =
@@ -151,7 +151,7 @@ module _ (R : Site → Ledger → Spot → Ledger → Spot → Type 0) (law : La
           let k = writes.names_in_lists q n s s' p p' x y top top' ts us a b h (subst (λ (z : Trees). PassesAll q (whole_list p x top z)) (finished-trees ts) d) in
           (subst (λ (z : Trees). PassesAll q (whole_list p' y top' z)) (sym (finished-trees us)) k.0, k.1)
 
-      passed-all : {n : Site} {s s' : Ledger} {ts us : OpenTrees} → TreesStep R n s ts s' us → Allows q (whole_in s) (whole_in s') → LedgerPasses q s → PassesAll q (finished_trees ts) → PassesAll q (finished_trees us) × LedgerPasses q s'
+      pub passed-all : {n : Site} {s s' : Ledger} {ts us : OpenTrees} → TreesStep R n s ts s' us → Allows q (whole_in s) (whole_in s') → LedgerPasses q s → PassesAll q (finished_trees ts) → PassesAll q (finished_trees us) × LedgerPasses q s'
       passed-all (in_head h) a b d = let k = passed h a b d.0 in ((k.0, d.1), k.1)
       passed-all (in_tail h) a b d = let k = passed-all h a b d.1 in ((d.0, k.0), k.1)
       passed-all (in_flanked {bs = bs} {cs = cs} {t = t} {u = u} {ts = ts} h) a b d =

@@ -61,13 +61,13 @@ module _ (called called' : ℕ → Text) (free : ℕ) (agree : (m : ℕ) → m <
     passes-called-in roles done used h = tt
     passes-called-in roles (f then fs) used h = (passes-called-by (roles zero) f used.0 h.0, passes-called-in (λ i. roles (suc i)) fs used.1 h.1)
 
-    passes-called-by : (r : Role) (f : Field) → NamedBy u free r f → PassesBy (is_called called') f → CalledBy called f
+    pub passes-called-by : (r : Role) (f : Field) → NamedBy u free r f → PassesBy (is_called called') f → CalledBy called f
     passes-called-by r missing used h = tt
     passes-called-by r (one t) used h = passes-called r t used h
     passes-called-by r (many ts) used h = passes-called-all r ts used h
     passes-called-by r (statements ts) used h = passes-called-all r ts used h
 
-    passes-called-all : (r : Role) (ts : Trees) → NamedAll u free r ts → PassesAll (is_called called') ts → CalledAll called ts
+    pub passes-called-all : (r : Role) (ts : Trees) → NamedAll u free r ts → PassesAll (is_called called') ts → CalledAll called ts
     passes-called-all r empty used h = tt
     passes-called-all r (t before ts) used h = (passes-called r t used.0 h.0, passes-called-all r ts used.1 h.1)
 
@@ -90,7 +90,7 @@ module _ (q p : Text → Option ℕ → Bool) (less : (x : Text) (s : Option ℕ
     passes-less-by (many ts) h = passes-less-all ts h
     passes-less-by (statements ts) h = passes-less-all ts h
 
-    passes-less-all : (ts : Trees) → PassesAll q ts → PassesAll p ts
+    pub passes-less-all : (ts : Trees) → PassesAll q ts → PassesAll p ts
     passes-less-all empty h = tt
     passes-less-all (t before ts) h = (passes-less t h.0, passes-less-all ts h.1)
 

@@ -375,7 +375,7 @@ module _ (R : Site → Ledger → Spot → Ledger → Spot → Type 0) (law : La
     taken-in (in_first {c = c} {s = s} {s' = s'} {f = f} {g = g} {fs = fs} h) used = let o = taken-by h (used.0.0, used.1.0) in over o (left-fields (known o) (λ i. (c i).names) o.change (λ i. (c i).role) (finished_field f) (finished_field g) (finished_fields fs) used.0.1 o.kept (same-in (plain (known o)) (λ i. (c (suc i)).names) (λ i. (c (suc i)).role) (finished_fields fs) used.0.1))
     taken-in (in_later {c = c} {s = s} {s' = s'} {f = f} {fs = fs} {gs = gs} h) used = let o = taken-in h (used.0.1, used.1.1) in over o (right-fields (known o) (λ i. (c i).names) o.change (λ i. (c i).role) (finished_field f) (finished_fields fs) (finished_fields gs) used.0.0 (same-by (plain (known o)) (c zero).names (c zero).role (finished_field f) used.0.0) o.kept)
 
-    taken-by : {n : Site} {s s' : Ledger} {f g : OpenField} → FieldStep R n s f s' g → UsedBy (whole_in s) n.role (finished_field f) → Outcome (λ k c. KeptBy k n.names c n.role (finished_field f) (finished_field g)) s s'
+    pub taken-by : {n : Site} {s s' : Ledger} {f g : OpenField} → FieldStep R n s f s' g → UsedBy (whole_in s) n.role (finished_field f) → Outcome (λ k c. KeptBy k n.names c n.role (finished_field f) (finished_field g)) s s'
     taken-by (in_child {n = n} {t = t} {u = u} h) used = let o = taken h used in over o (as-one (known o) n.names o.change n.role (finished t) (finished u) o.kept)
     taken-by (in_children {n = n} {ts = ts} {us = us} h) used = let o = taken-all h used in over o (as-many (known o) n.names o.change n.role (finished_trees ts) (finished_trees us) o.kept.bare)
     taken-by (in_body {n = n} {w = w} {w' = w'} {o = o} {p = p} {q = q} {x = x} {x' = x'} {a = a} {a' = a'} {t = t} {u = u} e y y' h) used =
@@ -390,7 +390,7 @@ module _ (R : Site → Ledger → Spot → Ledger → Spot → Type 0) (law : La
         unchanged-field n s s' (one (written_body p (finished (opened t)))) (one (finished (opened u))) found.0 (ap (λ a. one (written_body p a)) (finished-opened t) ∙ ap (λ a. one a) (found.1 ∙ sym (finished-opened u))) used.0
     taken-by (acts_on_list {n = n} {s = s} {s' = s'} {p = p} {q = q} {x = x} {y = y} {a = a} {b = b} ts us h) used = at-list n s s' p q x y a b ts us h used.0
 
-    taken-all : {n : Site} {s s' : Ledger} {ts us : OpenTrees} → TreesStep R n s ts s' us → UsedAll (whole_in s) n.role (finished_trees ts) → Outcome (ListsKept n (finished_trees ts) (finished_trees us)) s s'
+    pub taken-all : {n : Site} {s s' : Ledger} {ts us : OpenTrees} → TreesStep R n s ts s' us → UsedAll (whole_in s) n.role (finished_trees ts) → Outcome (ListsKept n (finished_trees ts) (finished_trees us)) s s'
     taken-all (in_head {n = n} {t = t} {u = u} {ts = ts} h) used = let o = taken h (used.0.0, used.1.0) in over o (list-left (known o) n.names n.role o.change (finished t) (finished u) (finished_trees ts) (imports-kept h) used.0.0 used.0.1 o.kept)
     taken-all (in_tail {n = n} {t = t} {ts = ts} {us = us} h) used = let o = taken-all h (used.0.1, used.1.1) in over o (list-right (known o) n.names n.role o.change (finished t) (finished_trees ts) (finished_trees us) used.0.0 used.0.1 o.kept)
     taken-all (in_flanked {n = n} {s = s} {bs = bs} {cs = cs} {t = t} {u = u} {ts = ts} h) used = let o = taken h ((flanked-named (whole_in s).in_use (whole_in s).free_symbol n.role bs cs (finished t) (finished_trees ts) used.0).0, (flanked-called (whole_in s).called bs cs (finished t) (finished_trees ts) used.1).0) in over o (in-flanked (known o) n o.change bs cs (finished t) (finished u) (finished_trees ts) (imports-kept h) used.0 o.kept)

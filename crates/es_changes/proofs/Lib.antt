@@ -1,0 +1,13 @@
+pub mod Lawful
+pub mod Together
+pub mod Expressions
+pub mod StepRows
+pub mod KnownNames
+pub mod GoesOn
+pub mod StillFits
+pub mod FieldParts
+pub mod FieldLaws
+pub mod InField
+pub mod TreeLaws
+pub mod BodyLaws
+pub mod ProgramLaws
