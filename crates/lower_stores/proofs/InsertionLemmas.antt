@@ -157,3 +157,14 @@ only_befores l ss e h = λ i. record { befores = (ap (map bare) e ∙ sym (appen
 
 pub empty_lists : (l m : Lists) → l ≡ m → m.befores.items ≡ [] → m.afters.items ≡ [] → bare_lists l ≡ nothing_around
 empty_lists l m e g h = ap bare_lists e ∙ (λ i. record { befores = map bare (g i); afters = map bare (h i) })
+
+-- WHERE NOTHING STANDS AROUND
+
+absent : (b : Bool) (r : Option Around) → (b ≡ true → r ≡ None) → cond b None r ≡ r
+absent true r h = sym (h refl)
+absent false r h = refl
+
+pub remove_absent : (m : Insertions) (k : ℕ) → finite.get m k ≡ None → finite.remove m k ≡ m
+remove_absent m k h =
+    same_insertions (finite.remove m k) m (λ q.
+    get-removed m k q ∙ absent (nat_eq k q) (finite.get m q) (λ t. ap (finite.get m) (sym (eqb-true k q t)) ∙ h))

@@ -1,10 +1,11 @@
 -- Statements in front of the first that is no import.
-use Rattle.std.proofs.Common.{◌≡◌, ℕ, suc, ◌+◌, ◌≤◌, refl, sym, ◌∙◌, ap, Bool, true, false, cond, List, [], ◌∷◌, ◌++◌, map, length, take, drop, arith, add-one}
+use Rattle.std.proofs.Common.{◌≡◌, ℕ, suc, ◌+◌, ◌≤◌, refl, sym, ◌∙◌, ap, Bool, true, false, cond, List, [], ◌∷◌, ◌++◌, map, length, take, drop, arith, add-one, append_assoc, Option, None, Some}
+use Rattle.std.specs.Prelude.{option_map, option_to_list}
 use Rattle.std.proofs.Math.Seq.{take-append_seam}
 use Rattle.es_tree.specs.Bare.{bare}
 use Rattle.es_tree.specs.Tree.{Tree, node}
 use Rattle.lower_stores.specs.Insertions.{StandsAmong, none_left, this_one}
-use Rattle.lower_stores.specs.TopLevel.{behind_imports, imports_before, is_import}
+use Rattle.lower_stores.specs.TopLevel.{behind_imports, imports_before, is_import, with_declarations}
 use Rattle.lower_stores.proofs.WovenLemmas.{behind}
 
 pub stands_all : (ss : List Tree) → StandsAmong ss ss
@@ -60,3 +61,17 @@ among-behind_imports ts (s ∷ ss) = among_choice (is_import s) ts s ss (behind_
 -- what a write to all of a vector leaves
 pub all_written : (xs rest : List Tree) (n : ℕ) → length xs ≡ n → take n (xs ++ rest) ≡ xs
 all_written xs rest n e = ap (λ n. take n (xs ++ rest)) (sym e) ∙ take-append_seam xs rest
+
+bare-list : (o : Option Tree) → map bare (option_to_list o) ≡ option_to_list (option_map bare o)
+bare-list None = refl
+bare-list (Some t) = refl
+
+-- declarations behind what is stored
+pub bare-declarations : (ss is js ks : List Tree) (var lets : Option Tree) → js ≡ is ++ option_to_list var → ks ≡ js ++ option_to_list lets → ss ++ map bare ks ≡ with_declarations ss (map bare is) (option_map bare var) (option_map bare lets)
+bare-declarations ss is bs ks var lets e f =
+    let js = map bare is in
+    let vs = option_to_list (option_map bare var) in
+    let cs = option_to_list (option_map bare lets) in
+    ap (λ ks. ss ++ map bare ks) (f ∙ ap (λ js. js ++ option_to_list lets) e)
+    ∙ ap (λ l. ss ++ l) (map-append (is ++ option_to_list var) (option_to_list lets) ∙ (λ i. (map-append is (option_to_list var) ∙ ap (λ l. js ++ l) (bare-list var)) i ++ bare-list lets i))
+    ∙ sym (append_assoc ss (js ++ vs) cs) ∙ ap (λ l. l ++ cs) (sym (append_assoc ss js vs))

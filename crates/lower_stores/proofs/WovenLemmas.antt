@@ -1,15 +1,15 @@
 -- Statements with their lists around them, step by step and as a store shows them.
-use Rattle.std.proofs.Common.{◌≡◌, ℕ, ◌+◌, ◌≤◌, refl, sym, ◌∙◌, ap, Bool, true, false, cond, List, [], ◌∷◌, ◌++◌, map, length, append_assoc, arith, length-append, subst}
+use Rattle.std.proofs.Common.{◌≡◌, ℕ, ◌+◌, ◌≤◌, refl, sym, ◌∙◌, ap, Bool, true, false, true≢false, cond, ◌||◌, is_some, List, [], ◌∷◌, ◌++◌, map, length, append_assoc, arith, length-append, subst}
 use Rattle.std.proofs.Math.Path.{fun_ext}
 use Rattle.std.specs.Prelude.{Option, Some, None, nat_eq}
 use Rattle.std.specs.FinMap as finite
 use Rattle.std.specs.Option.{option_map, unwrap_or}
 use Rattle.es_tree.specs.Bare.{bare}
 use Rattle.es_tree.specs.Tree.{Tree, label_of}
-use Rattle.lower_stores.specs.Insertions.{Insertions, StandsAmong, another, inserted, none_left, nothing_around, still_to_insert, surrounded, this_one}
-use Rattle.lower_stores.specs.BareInsertions.{ById, bare_insertions, bare_lists, lists_left, lists_length, room_for, surrounded_by, without, woven}
+use Rattle.lower_stores.specs.Insertions.{Around, Insertions, StandsAmong, another, inserted, is_any_around, none_left, nothing_around, still_to_insert, surrounded, this_one}
+use Rattle.lower_stores.specs.BareInsertions.{ById, bare_insertions, bare_lists, has_lists, lists_left, lists_length, room_for, surrounded_by, without, woven}
 use Rattle.lower_stores.specs.declared.statement_injector.Lists.{Lists}
-use Rattle.lower_stores.proofs.InsertionLemmas.{get-bare, get-removed, lists_in}
+use Rattle.lower_stores.proofs.InsertionLemmas.{get-bare, get-removed, lists_in, remove_absent}
 
 -- STEP BY STEP
 
@@ -99,3 +99,44 @@ shows_all m es e = λ q. ap (λ n. finite.get n q) (sym e) ∙ get-bare es q
 
 pub written_whole : (ts us ss rs : List Tree) (f : ById) → ts ≡ us ++ woven f ss → us ≡ [] → ss ≡ rs → ts ≡ woven f rs
 written_whole ts us ss rs f e h g = e ∙ (λ i. h i ++ woven f (g i))
+
+-- WHERE NOTHING STANDS AROUND
+
+none_there : (r : Option Around) → is_some r ≡ false → r ≡ None
+none_there None h = refl
+none_there (Some a) h = absurd (true≢false h)
+
+neither : (a b : Bool) → (a || b) ≡ false → (a ≡ false) × (b ≡ false)
+neither true b h = absurd (true≢false h)
+neither false b h = (refl, h)
+
+some_or_none : (r : Option Lists) → is_some (option_map bare_lists r) ≡ is_some r
+some_or_none None = refl
+some_or_none (Some l) = refl
+
+pub any_around : (m : Insertions) (f : ById) (ss : List Tree) → Shows m f → is_any_around m ss ≡ has_lists f ss
+any_around m f [] h = refl
+any_around m f (s ∷ ss) h =
+    let id = (label_of s).id in λ i. (ap is_some (h id) ∙ some_or_none (f id)) i || any_around m f ss h i
+
+pub none_inserted : (m : Insertions) (ss : List Tree) → is_any_around m ss ≡ false → inserted m ss ≡ map bare ss
+none_inserted m [] h = refl
+none_inserted m (s ∷ ss) h =
+    let id = (label_of s).id in
+    let parts = neither (is_some (finite.get m id)) (is_any_around m ss) h in
+    let none = none_there (finite.get m id) parts.0 in
+    (λ i. surrounded (unwrap_or (none i) nothing_around) (bare s) ++ inserted (remove_absent m id none i) ss) ∙ ap (λ l. bare s ∷ l) (none_inserted m ss parts.1)
+
+pub none_taken : (m : Insertions) (ss : List Tree) → is_any_around m ss ≡ false → still_to_insert m ss ≡ m
+none_taken m [] h = refl
+none_taken m (s ∷ ss) h =
+    let id = (label_of s).id in
+    let parts = neither (is_some (finite.get m id)) (is_any_around m ss) h in
+    ap (λ n. still_to_insert n ss) (remove_absent m id (none_there (finite.get m id) parts.0)) ∙ none_taken m ss parts.1
+
+-- what a test for lists says of the store
+pub none_around : (m : Insertions) (es : List (ℕ × Lists)) (ss : List Tree) (b : Bool) → bare_insertions es ≡ m → b ≡ has_lists (lists_in es) ss → b ≡ false → is_any_around m ss ≡ false
+none_around m es ss b e there h = any_around m (lists_in es) ss (shows_all m es e) ∙ sym there ∙ h
+
+pub some_around : {X : Type 0} (m : Insertions) (es : List (ℕ × Lists)) (ss : List Tree) (b : Bool) → bare_insertions es ≡ m → b ≡ has_lists (lists_in es) ss → b ≡ true → is_any_around m ss ≡ false → X
+some_around m es ss b e there h none = absurd (true≢false (sym (any_around m (lists_in es) ss (shows_all m es e) ∙ sym there ∙ h) ∙ none))

@@ -1,6 +1,7 @@
 -- What a store of insertions holds.
-use Rattle.std.specs.Prelude.{ℕ, List, [], ◌∷◌, ◌++◌, ◌+◌, Option, Some, None, if◌then◌else◌, length, map, nat_eq}
+use Rattle.std.specs.Prelude.{ℕ, Bool, List, [], ◌∷◌, ◌++◌, ◌+◌, Option, Some, None, is_some, if◌then◌else◌, length, map, nat_eq}
 use Rattle.std.specs.FinMap.{from_entries}
+use Rattle.std.specs.List.{list_any}
 use Rattle.es_tree.specs.Bare.{bare}
 use Rattle.es_tree.specs.Tree.{Tree, label_of}
 use Rattle.lower_stores.specs.Insertions.{Around, Insertions}
@@ -23,6 +24,10 @@ ById = ℕ → Option Lists
 
 abbrev pub without : ℕ → ById → ById
 without id lists other = if nat_eq id other then None else lists other
+
+-- whether one of these statements has lists
+abbrev pub has_lists : ById → List Tree → Bool
+has_lists lists ss = list_any (λ s. is_some (lists (label_of s).id)) ss
 
 -- a statement with its lists around it
 abbrev pub surrounded_by : Option Lists → Tree → List Tree

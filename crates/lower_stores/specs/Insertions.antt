@@ -1,7 +1,8 @@
 -- What is to be written around statements, by the ids of these.
-use Rattle.std.specs.Prelude.{ℕ, List, [], ◌∷◌, ◌++◌, ◌==◌, if◌then◌else◌, refl, unwrap_or}
+use Rattle.std.specs.Prelude.{ℕ, List, [], ◌∷◌, ◌++◌, ◌==◌, Bool, if◌then◌else◌, is_some, refl, unwrap_or}
 use Rattle.std.specs.Coded.{Coded, code_by, coded_list, coded_ℕ, coded×}
 use Rattle.std.specs.FinMap as finite
+use Rattle.std.specs.List.{list_any}
 use Rattle.std.specs.Option.{option_map_or}
 use Rattle.std.specs.Ordering.{nat_cmp}
 use Rattle.es_tree.specs.Bare.{bare}
@@ -54,6 +55,10 @@ with_lists more a = record { befores = a.befores ++ more.befores; afters = a.aft
 abbrev pub moved : ℕ → ℕ → Insertions → Insertions
 moved from to insertions =
     if from == to then insertions else option_map_or (λ lists. with_around (with_lists lists) to (finite.remove insertions from)) (finite.get insertions from) insertions
+
+-- whether lists are there for one of these statements
+abbrev pub is_any_around : Insertions → List Tree → Bool
+is_any_around insertions ss = list_any (λ s. is_some (finite.get insertions (label_of s).id)) ss
 
 -- a statement with what is to stand around it
 abbrev pub surrounded : Around → Tree → List Tree

@@ -1,8 +1,9 @@
 //! The helpers that are loaded, and the names that they got.
 ghost use Rattle.std.specs.Prelude.{◌≡◌, ◌≢◌, ◌↔◌, ◌++◌, ◌∷◌, [], Contains, IfNone, IfOk, IfSome, IsTrue, OnErr, OnOk, string_bytes};
-ghost use Rattle.lower_stores.specs.LoadedHelpers.{IsEachOnce, IsNotLoaded, with_loaded};
+ghost use Rattle.lower_stores.specs.LoadedHelpers.{IsEachOnce, IsNotLoaded, helper_source, with_helper_import, with_loaded};
 ghost use Rattle.lower_stores.specs.PlainHelpers.{plain_name};
 
+use crate::module_imports::ModuleImportsStore;
 use es_scope::context_names::BoundIdentifier;
 use es_tree::helper::Helper;
 use es_tree::options::{HelperLoaderMode, HelperLoaderOptions};
@@ -14,6 +15,7 @@ use std::marker::Model;
 /// A call answers an error only for want of memory, and leaves the store as it was.
 #[derive(Drop)]
 pub struct HelperLoaderStore {
+    alloc: Global,
     mode: HelperLoaderMode,
     module_name: String,
     /// The first loaded first. There are thirty helpers.
@@ -42,6 +44,7 @@ impl HelperLoaderStore {
     {
         let module_name = String::from_str(alloc, options.module_name.as_str())?;
         Ok(HelperLoaderStore {
+            alloc,
             mode: options.mode,
             module_name,
             loaded: Vec::new(alloc),
@@ -76,15 +79,38 @@ impl HelperLoaderStore {
         None
     }
 
-    /// Notes that the helper is loaded, and bound to this name.
-    pub fn note_loaded(&mut self, helper: Helper, local: BoundIdentifier) -> Result<(), AllocError>
+    /// Notes that the helper is loaded and bound to this name, which is to be imported of the module that has it.
+    pub fn load(
+        &mut self,
+        helper: Helper,
+        local: BoundIdentifier,
+        imports: &mut ModuleImportsStore,
+    ) -> Result<(), AllocError>
         requires { IsNotLoaded helper self.old.loaded }
         ensures noted { OnOk result (self.new ≡ with_loaded helper (plain_name local) self.old) }
-        ensures once { OnOk result (IsEachOnce self.new.loaded) }
+        ensures imported { OnOk result (imports.new ≡ with_helper_import self.old.module_name helper (plain_name local) imports.old) }
         ensures kept { OnErr result (self.new ≡ self.old) }
+        ensures imports_kept { OnErr result (imports.new ≡ imports.old) }
     {
-        self.loaded.push((helper, local))?;
+        let source = self.source_of(helper)?;
+        let imported = BoundIdentifier {
+            name: String::from_str(self.alloc, local.name.as_str())?,
+            symbol_id: local.symbol_id,
+        };
+        self.loaded.reserve(1)?;
+        imports.add_default_import(source, imported, false)?;
+        self.loaded.push((helper, local)).unwrap();
         Ok(())
+    }
+
+    /// The text that names the module of this helper.
+    fn source_of(&self, helper: Helper) -> Result<String, AllocError>
+        ensures { IfOk result (λ source. string_bytes source ≡ helper_source self.now.module_name helper) }
+    {
+        let mut source = String::from_str(self.alloc, self.module_name.as_str())?;
+        source.push_str("/helpers/")?;
+        source.push_str(helper.name())?;
+        Ok(source)
     }
 }
 

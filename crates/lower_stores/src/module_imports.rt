@@ -62,6 +62,13 @@ impl ModuleImportsStore {
         self.imports.len() == 0
     }
 
+    /// What is to be imported, by source and in order. Takes no memory.
+    pub fn imports(&self) -> &IndexMap<String, Vec<Import>>
+        ensures { plain_sources result.now.entries ≡ self.now }
+    {
+        &self.imports
+    }
+
     /// What is to be imported, by source and in order, which is then no longer in the store. Takes no memory.
     pub fn take_imports(&mut self) -> IndexMap<String, Vec<Import>>
         ensures taken { plain_sources result.entries ≡ self.old }

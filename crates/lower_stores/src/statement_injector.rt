@@ -1,10 +1,10 @@
 //! Statements that are to be written around other statements.
-ghost use Rattle.std.specs.Prelude.{◌≡◌, ◌≤◌, ◌+◌, ◌++◌, ◌∷◌, [], ℕ, IfErr, IfNone, IfOk, IfSome, IsSome, None, OnErr, OnOk, OnSome, Some, length, map, nat_eq, option_copied, vec_capacity, vec_len};
+ghost use Rattle.std.specs.Prelude.{◌≡◌, ◌≤◌, ◌+◌, ◌++◌, ◌∷◌, [], ℕ, IfErr, IfNone, IfOk, IfSome, IsOk, IsSome, None, OnErr, OnOk, OnSome, Some, false, length, map, nat_eq, option_copied, vec_capacity, vec_len};
 ghost use Rattle.std.specs.FinMap as finite;
 ghost use Rattle.std.specs.HashMap.{get};
 ghost use Rattle.es_tree.specs.Bare.{bare};
-ghost use Rattle.lower_stores.specs.Insertions.{StandsAmong, inserted, moved, nothing_around, still_to_insert, with_after, with_around, with_before, with_lists, with_many_after, with_many_before};
-ghost use Rattle.lower_stores.specs.BareInsertions.{bare_lists, lists_left, lists_length, room_for, surrounded_by, woven};
+ghost use Rattle.lower_stores.specs.Insertions.{StandsAmong, inserted, is_any_around, moved, nothing_around, still_to_insert, with_after, with_around, with_before, with_lists, with_many_after, with_many_before};
+ghost use Rattle.lower_stores.specs.BareInsertions.{bare_lists, has_lists, lists_left, lists_length, room_for, surrounded_by, woven};
 
 use es_tree::ids::NodeId;
 use es_tree::sorts::Statement;
@@ -144,7 +144,8 @@ impl StatementInjectorStore {
         }
     }
 
-    /// Puts around each of these statements what is to stand there, which is then no longer to be inserted.
+    /// Puts around each of these statements what is to stand there, which is then no longer to be inserted. Where
+    /// nothing is to stand around any of them, takes no memory and leaves the list as it is.
     pub fn insert_into_statements(
         &mut self,
         statements: &mut Vec<Statement>,
@@ -154,7 +155,11 @@ impl StatementInjectorStore {
         ensures among { OnOk result (StandsAmong statements.old.items statements.new.items) }
         ensures kept { OnErr result (self.new ≡ self.old) }
         ensures unwritten { OnErr result (statements.new.items ≡ statements.old.items) }
+        ensures untouched { is_any_around self.old statements.old.items ≡ false → (statements.new ≡ statements.old) × IsOk result }
     {
+        if !has_lists(&self.insertions, statements) {
+            return Ok(());
+        }
         let room = count_with_lists(&self.insertions, statements)?;
         let written = Vec::with_capacity(self.alloc, room)?;
         let bare = mem::replace(statements, Vec::new(self.alloc));
@@ -237,6 +242,18 @@ impl Lists {
         self.befores = stmts;
         Ok(())
     }
+}
+
+/// Whether one of these statements has lists.
+fn has_lists(insertions: &HashMap<u32, Lists>, statements: &[Statement]) -> bool
+    ensures { result ≡ has_lists (get nat_eq insertions.now) statements.now }
+{
+    for statement in statements {
+        if insertions.contains_key(&statement.id.0) {
+            return true;
+        }
+    }
+    false
 }
 
 /// How many statements there are with the lists of each of them.

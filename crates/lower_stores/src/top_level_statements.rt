@@ -1,9 +1,9 @@
 //! Statements that are to be written at the top of the program.
-ghost use Rattle.std.specs.Prelude.{◌≡◌, ◌≤◌, ◌+◌, ◌++◌, ◌∷◌, [], List, OnErr, OnOk, length, map};
+ghost use Rattle.std.specs.Prelude.{◌≡◌, ◌≤◌, ◌+◌, ◌++◌, ◌∷◌, [], List, OnErr, OnOk, length, map, option_map, option_to_list};
 ghost use Rattle.es_tree.specs.Bare.{bare};
 ghost use Rattle.es_tree.specs.Tree.{Tree};
 ghost use Rattle.lower_stores.specs.Insertions.{StandsAmong};
-ghost use Rattle.lower_stores.specs.TopLevel.{behind_imports, imports_before, is_import};
+ghost use Rattle.lower_stores.specs.TopLevel.{behind_imports, imports_before, is_import, with_declarations};
 
 use es_statements::program::Program;
 use es_tree::kind::Kind;
@@ -61,6 +61,24 @@ impl TopLevelStatementsStore {
         Ok(())
     }
 
+    /// The imports of a module or the requires of a script, and then the program's own declarations by `var` and by
+    /// `let`, behind those that are there.
+    pub fn insert_declarations(
+        &mut self,
+        imports: Vec<Statement>,
+        var: Option<Statement>,
+        lets: Option<Statement>,
+    ) -> Result<(), AllocError>
+        ensures inserted { OnOk result (self.new ≡ with_declarations self.old (map bare imports.items) (option_map bare var) (option_map bare lets)) }
+        ensures kept { OnErr result (self.new ≡ self.old) }
+    {
+        let mut stmts = imports;
+        push_if_there(&mut stmts, var)?;
+        push_if_there(&mut stmts, lets)?;
+        self.insert_statements(stmts)?;
+        Ok(())
+    }
+
     /// Writes all before the first statement of the program that is no import, and has nothing more to write.
     pub fn insert_into_program(&mut self, program: &mut Program) -> Result<(), AllocError>
         ensures written { OnOk result (map bare program.new.body.items ≡ behind_imports self.old (map bare program.old.body.items)) }
@@ -73,6 +91,16 @@ impl TopLevelStatementsStore {
         put_behind_imports(&mut program.body, &mut self.stmts)?;
         Ok(())
     }
+}
+
+/// Puts this statement behind the others, if it is there.
+fn push_if_there(stmts: &mut Vec<Statement>, stmt: Option<Statement>) -> Result<(), AllocError>
+    ensures { OnOk result (stmts.new.items ≡ stmts.old.items ++ option_to_list stmt) }
+{
+    if let Some(stmt) = stmt {
+        stmts.push(stmt)?;
+    }
+    Ok(())
 }
 
 /// Takes the second statements, and puts them before the first of the others that is no import.
