@@ -29,16 +29,16 @@ use Rattle.es_steps.proofs.FormRows.{AreTexts, RowForm, both-texts, next-text}
 use Rattle.es_steps.proofs.FormPowers.{AreFormed, formed-both}
 
 -- the name that was stored last, if there is one
-abbrev HeldText : Option Bound → Type 0
+abbrev pub HeldText : Option Bound → Type 0
 HeldText None = Unit {0}
 HeldText (Some b) = IsText b
 
 -- how far a spine is lowered: all of it has form
-record WayForm (w : Way) : Type 0 where
-  tests : AreFormed w.tests
-  current : IsFormed w.current
-  holder : HeldText w.holder
-  taken : AreTexts w.taken
+pub record WayForm (w : Way) : Type 0 where
+  pub tests : AreFormed w.tests
+  pub current : IsFormed w.current
+  pub holder : HeldText w.holder
+  pub taken : AreTexts w.taken
 
 -- TESTS
 
@@ -122,7 +122,7 @@ called-form no_all known l g arguments w u call (by_later_member {k = k} {comput
     formed-stored-call no_all l g arguments w (xs ++ c ∷ []) c (member_at k computed o1 p) r call h (both-texts xs (c ∷ []) it.names (named, tt)) named (formed-member-at k computed false o o1 p f it.object) it.receiver
 
 -- what a chain holds has the form of an expression
-chain-content : (l : Label) (c : Tree) (s : Sort) → has_form s (node ChainExpression l (one c then done)) ≡ true → has_form s-ChainElement c ≡ true
+pub chain-content : (l : Label) (c : Tree) (s : Sort) → has_form s (node ChainExpression l (one c then done)) ≡ true → has_form s-ChainElement c ≡ true
 chain-content l c s h = and-left (has_form s-ChainElement c) true (node_form s ChainExpression l (one c then done) h).children
 
 element-kind : (k : AstType) → is_of_sort s-ChainElement k ≡ true → is_of_sort s-Expression k ≡ true
@@ -130,11 +130,11 @@ element-kind MemberExpression h = refl
 element-kind CallExpression h = refl
 element-kind _ h = absurd (cc h)
 
-element-form : (c : Tree) → has_form s-ChainElement c ≡ true → IsFormed c
+pub element-form : (c : Tree) → has_form s-ChainElement c ≡ true → IsFormed c
 element-form (node k l fs) h = form-narrower s-ChainElement k l fs (element-kind k (node_form s-ChainElement k l fs h).sort) h
 
 mutual
-  walked-form : (no_all : Bool) (known : Whole) (e : Tree) (w : Way) → Walked no_all known e w → IsFormed e → WayForm w
+  pub walked-form : (no_all : Bool) (known : Whole) (e : Tree) (w : Way) → Walked no_all known e w → IsFormed e → WayForm w
   walked-form no_all known e w (base link alone) h = record { tests = tt; current = h; holder = tt; taken = tt }
   walked-form no_all known e w (plain_member {l = l} {computed = computed} {o = o} {p = p} {w = v} flags inner) h =
       let f = member-form l computed false o p flags h in
@@ -150,7 +150,7 @@ mutual
   walked-form no_all known e w (marked_call {l = l} {f = g} {arguments = arguments} {w = v} flags inner called) h =
       called-form no_all known l g arguments v w h called (continued-form no_all known g v inner (call-form l g arguments h).callee)
 
-  continued-form : (no_all : Bool) (known : Whole) (e : Tree) (w : Way) → Continued no_all known e w → IsFormed e → WayForm w
+  pub continued-form : (no_all : Bool) (known : Whole) (e : Tree) (w : Way) → Continued no_all known e w → IsFormed e → WayForm w
   continued-form no_all known e w (same_spine same inner) h = walked-form no_all known e w inner h
   continued-form no_all known e w (inner_spine {c = c} {l = l} link alone chain inner) h = walked-form no_all known c w inner (element-form c (chain-content l c s-Expression (subst IsFormed chain (formed-bare s-Expression e refl h))))
 

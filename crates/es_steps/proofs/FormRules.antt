@@ -84,11 +84,11 @@ writing-form = record { at_nodes = λ n s s' t u a slot h f. absurd (writes-list
 
 -- RULES OF NODES
 
-abbrev AtNodes : Spot → Spot → Type 0
+abbrev pub AtNodes : Spot → Spot → Type 0
 AtNodes (at_node t) (at_node u) = Unit {0}
 AtNodes x y = ⊥
 
-nodes-only : (R : Site → Ledger → Spot → Ledger → Spot → Type 0) → ((n : Site) (s s' : Ledger) (x y : Spot) → R n s x s' y → AtNodes x y) → ((n : Site) (s s' : Ledger) (t u : Tree) (a : Sort) → (is_slot n.above ≡ true → a ≡ s-Expression) → R n s (at_node t) s' (at_node u) → has_form a t ≡ true → NodeFormed a s s' u) → FormLawful R
+pub nodes-only : (R : Site → Ledger → Spot → Ledger → Spot → Type 0) → ((n : Site) (s s' : Ledger) (x y : Spot) → R n s x s' y → AtNodes x y) → ((n : Site) (s s' : Ledger) (t u : Tree) (a : Sort) → (is_slot n.above ≡ true → a ≡ s-Expression) → R n s (at_node t) s' (at_node u) → has_form a t ≡ true → NodeFormed a s s' u) → FormLawful R
 nodes-only R at law = record {
   at_nodes = law;
   no_flanks = λ n s s' t u bs cs h. absurd (at n s s' (at_node t) (at_beside bs u cs) h);
@@ -151,7 +151,7 @@ nothing-form = record {
   at_bodies = λ n s s' p t u h. absurd h;
 }
 
-on-form : (b : Bool) (R : Site → Ledger → Spot → Ledger → Spot → Type 0) → FormLawful R → FormLawful (where_on b R)
+pub on-form : (b : Bool) (R : Site → Ledger → Spot → Ledger → Spot → Type 0) → FormLawful R → FormLawful (where_on b R)
 on-form true R h = h
 on-form false R h = nothing-form
 

@@ -68,7 +68,7 @@ plain-more p q bs h texts e = record {
   are = e ∙ ap (λ r. with_vars bs r) h.are ∙ ap (λ ds. record { vars = ds; lets = [] }) (declarators-more h.names bs);
 }
 
-plain-list : (p q : Pending) (x y : Option Bound) (a b : Additions) (bs : List Bound) → IsPlainList p x a → AreTexts bs → q ≡ with_vars bs p → y ≡ x → b ≡ a → IsPlainList q y b
+pub plain-list : (p q : Pending) (x y : Option Bound) (a b : Additions) (bs : List Bound) → IsPlainList p x a → AreTexts bs → q ≡ with_vars bs p → y ≡ x → b ≡ a → IsPlainList q y b
 plain-list p q x y a b bs h texts e d c = record { vars = plain-more p q bs h.vars texts e; this = d ∙ h.this; top = c ∙ h.top }
 
 -- A NODE whose fields took a step: its children are tested by the table, or as the elements of an array
@@ -225,7 +225,7 @@ module _ (R : Site → Ledger → Spot → Ledger → Spot → Type 0) (law : Fo
 
 -- THE LAWS
 
-steps-keep-form : (R : Site → Ledger → Spot → Ledger → Spot → Type 0) → FormLawful R → StepsKeepForm R
+pub steps-keep-form : (R : Site → Ledger → Spot → Ledger → Spot → Type 0) → FormLawful R → StepsKeepForm R
 steps-keep-form R law t w w' x h steps = in-a-row R law steps s-Program (opened-proper t) (subst (λ (y : Tree). has_form s-Program y ≡ true) (sym (finished-opened t)) h)
 
 pub law_form_proof : LawForm

@@ -1,0 +1,59 @@
+-- The laws of static rules: what is reached by steps breaks no rule of places, where the source broke none.
+use Rattle.std.specs.Prelude.{◌≡◌, [], true, is_some}
+use Rattle.es_tree.specs.HasForm.{has_form}
+use Rattle.es_tree.specs.StaticRules.{breaks}
+use Rattle.es_tree.specs.Tree.{Tree}
+use Rattle.es_tree.specs.declared.options.EnvOptions.{EnvOptions}
+use Rattle.es_tree.specs.declared.table.Sort.TheVariants.{Program as s-Program}
+use Rattle.es_steps.specs.CoreRules.{CoreRule, rule_under, where_on}
+use Rattle.es_steps.specs.FormLaws.{StepsKeepForm}
+use Rattle.es_steps.specs.Laws.{nothing_beside}
+use Rattle.es_steps.specs.ObjectSpread.{SpreadRule}
+use Rattle.es_steps.specs.Open.{Open, opened, finished}
+use Rattle.es_steps.specs.OptionalCatch.{CatchRule}
+use Rattle.es_steps.specs.Rules.{Replacing, either_rule}
+use Rattle.es_steps.specs.Steps.{Whole, Ledger, Site, Spot, the_program, Step, Steps}
+use Rattle.es_valid_steps.specs.PlaceRules.{Keeps, place_breaks}
+
+-- THE RULES OF PLACES BY ANCESTORS: none is listed as broken exactly where each node, with its ancestors, keeps each of them.
+pub record SaysTheSame (t : Tree) : Type 0 where
+  pub to_places : place_breaks t ≡ [] → Keeps [] t
+  pub from_places : Keeps [] t → place_breaks t ≡ []
+
+abbrev pub LawPlaces : Type 0
+LawPlaces = (t : Tree) → SaysTheSame t
+
+-- a program that breaks none of the nineteen breaks none of these
+abbrev pub LawAmong : Type 0
+LawAmong = (t : Tree) → breaks t ≡ [] → place_breaks t ≡ []
+
+-- STEPS: whatever steps of these rules are taken from a program that has form and breaks none of them, at whatever places and in
+-- whatever order: with all that is pending written it breaks none of them.
+abbrev pub StepsKeepPlaces : (Site → Ledger → Spot → Ledger → Spot → Type 0) → Type 0
+StepsKeepPlaces R = (t : Tree) (w w' : Whole) (x : Open) → has_form s-Program t ≡ true → place_breaks t ≡ [] → Steps (Step R the_program) (nothing_beside w) (opened t) (nothing_beside w') x → place_breaks (finished x) ≡ []
+
+-- And so does what is reached with nothing pending.
+abbrev pub ReachedKeepsPlaces : (Site → Ledger → Spot → Ledger → Spot → Type 0) → Type 0
+ReachedKeepsPlaces R = (p q : Tree) (w w' : Whole) → has_form s-Program p ≡ true → place_breaks p ≡ [] → Steps (Step R the_program) (nothing_beside w) (opened p) (nothing_beside w') (opened q) → place_breaks q ≡ []
+
+-- the core rules that options ask for
+abbrev pub LawPlaceSteps : Type 0
+LawPlaceSteps = (o : EnvOptions) → StepsKeepPlaces (rule_under o)
+
+abbrev pub LawPlacesReached : Type 0
+LawPlacesReached = (o : EnvOptions) → ReachedKeepsPlaces (rule_under o)
+
+-- and all of them together
+abbrev pub LawCorePlaces : Type 0
+LawCorePlaces = (o : EnvOptions) → StepsKeepPlaces (CoreRule o)
+
+-- WITH OPTIONAL CATCH AND OBJECT SPREAD, as far as options ask for them: form is kept, and so are these rules.
+
+abbrev pub with_catch_and_spread : EnvOptions → Site → Ledger → Spot → Ledger → Spot → Type 0
+with_catch_and_spread o = either_rule (rule_under o) (either_rule (where_on o.es2019.optional_catch_binding CatchRule) (where_on (is_some o.es2018.object_rest_spread) (Replacing SpreadRule)))
+
+abbrev pub LawFurtherForm : Type 0
+LawFurtherForm = (o : EnvOptions) → StepsKeepForm (with_catch_and_spread o)
+
+abbrev pub LawFurtherPlaces : Type 0
+LawFurtherPlaces = (o : EnvOptions) → StepsKeepPlaces (with_catch_and_spread o)

@@ -1,0 +1,2 @@
+pub mod PlaceRules
+pub mod Laws
