@@ -54,12 +54,7 @@ same-trees (t before ts) = some stays (same-trees ts)
 
 -- KINDS
 
--- another kind than a row acts on is kept
-pub kept-kind : (t u : Tree) → Changed t u → is_acted (kind_of t) ≡ false → kind_of u ≡ kind_of t
-kept-kind t u stays e = refl
-kept-kind t u (row r l) e = absurd (cc (r, e))
-kept-kind t u (inside c) e = refl
-
+-- the text of another kind than a row acts on is kept
 pub kept-text : (t u : Tree) → Changed t u → is_acted (kind_of t) ≡ false → own_text u ≡ own_text t
 kept-text t u stays e = refl
 kept-text t u (row r l) e = absurd (cc (r, e))

@@ -5,7 +5,7 @@ use Rattle.std.specs.Prelude.{Bool, true, false, not, ◌&&◌, ◌||◌, Some}
 use Rattle.std.proofs.lemmas.Bool.{and_parts, and_from}
 use Rattle.es_tree.specs.Ancestors.{is_boundary}
 use Rattle.es_tree.specs.Attributes.{child_entries}
-use Rattle.es_tree.specs.HasForm.{ElementsPlace, elements_of, has_form, same_type}
+use Rattle.es_tree.specs.HasForm.{ElementsPlace, elements_of, has_form, is_of_sort, same_type}
 use Rattle.es_tree.specs.Tree.{Tree, node, Label, Fields, done, ◌then◌, Field, missing, one, many, statements, Trees, empty, ◌before◌, kind_of}
 use Rattle.es_tree.specs.declared.ast_type.AstType.{AstType}
 use Rattle.es_tree.specs.declared.ast_type.AstType.TheVariants.{ArrayExpression, ArrayPattern, ArrayTarget, BlockStatement, BreakStatement, CatchClause, ClassDeclaration, ContinueStatement, DebuggerStatement, DoWhileStatement, EmptyStatement, ExportAllDeclaration, ExportDefaultDeclaration, ExportNamedDeclaration, ExpressionStatement, ForInStatement, ForOfStatement, ForStatement, FunctionBody, FunctionDeclaration, Identifier, IfStatement, ImportDeclaration, LabeledStatement, Program, ReturnStatement, SwitchCase, SwitchStatement, ThrowStatement, TryStatement, VariableDeclaration, VariableDeclarator, WhileStatement}
@@ -115,7 +115,7 @@ mutual
   quiet-kind : (k : AstType) (i : ℕ) (last : Bool) (t : Tree) → Edges stands k i last t → is_statement k ≡ false → is_boundary k ≡ false → is_statement (kind_of t) ≡ false
   quiet-kind k i last (node j l fs) h e d = lasting k j i last h.0 e d
 
-expression-kind : (k : AstType) → Rattle.es_tree.specs.HasForm.is_of_sort s-Expression k ≡ true → is_statement k ≡ false
+expression-kind : (k : AstType) → is_of_sort s-Expression k ≡ true → is_statement k ≡ false
 expression-kind Program h = absurd (cc h)
 expression-kind BlockStatement h = absurd (cc h)
 expression-kind BreakStatement h = absurd (cc h)

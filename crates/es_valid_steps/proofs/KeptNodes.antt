@@ -2,7 +2,7 @@
 use Rattle.std.proofs.Common.{◌≡◌, ◌==◌, ℕ, refl, sym, ap, ◌∙◌, List, [], ◌∷◌}
 use Rattle.std.specs.Prelude.{Bool, true, false, not, ◌&&◌, ◌||◌, bytes_eq, codes, Option, if◌then◌else◌}
 use Rattle.std.specs.List.{list_any}
-use Rattle.es_tree.specs.Ancestors.{Ancestor, LabelName, ancestor, has_loop_body, is_breakable, is_class, is_derived, is_in_loop, is_labeled_loop, labels, leads_by, own_labels, place_of, stands_in}
+use Rattle.es_tree.specs.Ancestors.{Ancestor, ancestor, has_loop_body, is_derived, is_script_top, labels, leads_by, own_labels, place_of, stands_in}
 use Rattle.es_tree.specs.Children.{child_at}
 use Rattle.es_tree.specs.CoreStaticRules.{has_optional_in, is_bad_delete, is_bad_target, is_empty_chain, is_missing_init, is_name, is_simple_target, is_stray_optional, needs_value}
 use Rattle.es_tree.specs.HasForm.{same_type}
@@ -13,7 +13,7 @@ use Rattle.es_tree.specs.StaticRules.{binds_name, has_pattern, has_value, is_bad
 use Rattle.es_tree.specs.Table.{own_kinds}
 use Rattle.es_tree.specs.Tree.{Tree, node, Label, Fields, done, ◌then◌, Field, missing, one, many, statements, Trees, empty, kind_of}
 use Rattle.es_tree.specs.declared.ast_type.AstType.{AstType}
-use Rattle.es_tree.specs.declared.ast_type.AstType.TheVariants.{BreakStatement, ChainExpression, ClassDeclaration, ClassExpression, ContinueStatement, FunctionExpression, Identifier, LabeledStatement, MetaProperty, MethodDefinition, ObjectPattern, ObjectProperty, ObjectTarget, RestElement, ReturnStatement, Super, TargetRest, UnaryExpression, VariableDeclaration, VariableDeclarator}
+use Rattle.es_tree.specs.declared.ast_type.AstType.TheVariants.{BreakStatement, ChainExpression, ClassDeclaration, ClassExpression, ContinueStatement, ExportNamedDeclaration, ForInStatement, ForOfStatement, FunctionExpression, Identifier, LabeledStatement, MetaProperty, MethodDefinition, ObjectPattern, ObjectProperty, ObjectTarget, RestElement, ReturnStatement, Super, TargetRest, UnaryExpression, VariableDeclaration, VariableDeclarator}
 use Rattle.es_tree.specs.declared.place.Place.{Place}
 use Rattle.es_tree.specs.declared.place.Place.TheVariants.{Declarator, Spine, Target}
 use Rattle.es_runs.proofs.RowKinds.{is_left_kind}
@@ -37,9 +37,6 @@ row-label t e = ap (λ k. is_acted k) e
 -- the name of a label is the same
 label-same : (k : AstType) (last : Bool) (t u : Tree) → is_jump k ≡ true → Edges stands k 0 last t → Changed t u → own_text u ≡ own_text t
 label-same k last t u e h c = kept-text t u c (row-label t (label-kind k last t e h))
-
-jump-open : AstType → Type 0
-jump-open k = is_hidden k ≡ false
 
 jump-hidden : (k : AstType) → is_jump k ≡ true → is_hidden k ≡ false
 jump-hidden BreakStatement e = refl
@@ -113,7 +110,7 @@ using-kept up VariableDeclaration l fs gs h (more {f = many ts} same_field cs) e
 using-kept up VariableDeclaration l fs gs h (more {f = statements ts} same_field cs) e = e
 using-kept up VariableDeclaration l fs gs h (more (unseen d) cs) e = absurd (cc d)
 using-kept up VariableDeclaration l fs gs h (more (child_changed c) cs) e = e
-using-kept up VariableDeclaration l fs gs h (more {fs = rest} {gs = rest'} (children_changed {ts = ts} {us = us} c) cs) e = (λ i. bytes_eq (first_text l.texts) (codes "using") && (pattern-same ts us h.0 c i || Rattle.es_tree.specs.Ancestors.is_script_top up || stands_in Rattle.es_tree.specs.declared.ast_type.AstType.TheVariants.ForInStatement 0 up || stands_in Rattle.es_tree.specs.declared.ast_type.AstType.TheVariants.ExportNamedDeclaration 0 up)) ∙ e
+using-kept up VariableDeclaration l fs gs h (more {fs = rest} {gs = rest'} (children_changed {ts = ts} {us = us} c) cs) e = (λ i. bytes_eq (first_text l.texts) (codes "using") && (pattern-same ts us h.0 c i || is_script_top up || stands_in ForInStatement 0 up || stands_in ExportNamedDeclaration 0 up)) ∙ e
 using-kept up VariableDeclaration l fs gs h (more list_changed cs) e = e
 using-kept up _ l fs gs h c e = refl
 
@@ -125,7 +122,7 @@ head-kept up VariableDeclaration l fs gs h (more {f = many ts} same_field cs) e 
 head-kept up VariableDeclaration l fs gs h (more {f = statements ts} same_field cs) e = e
 head-kept up VariableDeclaration l fs gs h (more (unseen d) cs) e = absurd (cc d)
 head-kept up VariableDeclaration l fs gs h (more (child_changed c) cs) e = e
-head-kept up VariableDeclaration l fs gs h (more (children_changed {ts = ts} {us = us} c) cs) e = (λ i. (stands_in Rattle.es_tree.specs.declared.ast_type.AstType.TheVariants.ForInStatement 0 up || stands_in Rattle.es_tree.specs.declared.ast_type.AstType.TheVariants.ForOfStatement 0 up) && not (lone-same ts us h.0 c i)) ∙ e
+head-kept up VariableDeclaration l fs gs h (more (children_changed {ts = ts} {us = us} c) cs) e = (λ i. (stands_in ForInStatement 0 up || stands_in ForOfStatement 0 up) && not (lone-same ts us h.0 c i)) ∙ e
 head-kept up VariableDeclaration l fs gs h (more list_changed cs) e = e
 head-kept up _ l fs gs h c e = refl
 

@@ -58,9 +58,6 @@ pub never-and : (b c : Bool) → c ≡ false → (b && c) ≡ false
 never-and true c e = e
 never-and false c e = refl
 
-no-jump : (k : AstType) → is_jump k ≡ false → k ≡ BreakStatement → ⊥
-no-jump k e d = absurd (cc (e, d))
-
 module _ (up vp : List Ancestor) where
   pub jump-moved : (jumps : Bool) → Offers jumps up vp → (t : Tree) → (jumps ≡ false → is_jump (kind_of t) ≡ false) → is_missing_label up t ≡ false → is_missing_label vp t ≡ false
   jump-moved true o (node BreakStatement l (one n then fs)) q h = ap (λ ls. not (list_any (is_label (own_text n)) ls)) o.labels ∙ h

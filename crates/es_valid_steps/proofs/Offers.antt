@@ -47,9 +47,6 @@ offers-self up = record { labels = refl; loop = λ j h. h; breakable = λ j h. h
 
 -- INWARDS
 
-if-same : (v : Bool) (ls ms : List LabelName) → ls ≡ ms → (if v then [] else ls) ≡ (if v then [] else ms)
-if-same v ls ms e = ap (λ ns. if v then [] else ns) e
-
 labels-within : (v jumps : Bool) (os ns ls ms : List LabelName) → ns ≡ os → (jumps ≡ false → os ≡ []) → ms ≡ (if jumps then ls else []) → (if v then [] else ns ++ ms) ≡ (if (jumps || v) then (if v then [] else os ++ ls) else [])
 labels-within true true os ns ls ms e d h = refl
 labels-within true false os ns ls ms e d h = refl
@@ -89,9 +86,6 @@ leads_to_constructor a = leads_by MethodDefinition 1 a && bytes_eq (first_text a
 and-false : (b c : Bool) → c ≡ false → (b && c) ≡ false
 and-false true c e = e
 and-false false c e = refl
-
-and-group : (a b c : Bool) → (a && b && c) ≡ ((a && b) && c)
-and-group a b c = refl
 
 constructor-is : (a : Ancestor) (up : List Ancestor) → is_derived_constructor (a ∷ up) ≡ (leads_to_constructor a && in_derived up)
 constructor-is a [] = sym (and-false (leads_to_constructor a) false refl)

@@ -3,7 +3,7 @@ use Rattle.std.proofs.Common.{◌≡◌, ℕ, zero, suc, refl, sym, subst, List,
 use Rattle.std.specs.Prelude.{Bool, true, false, not, ◌&&◌, ◌||◌, Option, Some, None, codes, map, if◌then◌else◌}
 use Rattle.es_tree.specs.Ancestors.{Ancestor, ancestor, is_derived_constructor, place_of, stands_in}
 use Rattle.es_tree.specs.CoreStaticRules.{declarator_place, binding_place, is_bad_target, is_missing_init}
-use Rattle.es_tree.specs.StaticRules.{is_bad_for, is_bad_rest, is_misplaced_super, is_unmarked_callee, is_unmarked_object}
+use Rattle.es_tree.specs.StaticRules.{is_bad_for, is_bad_rest, is_lone_declarator}
 use Rattle.es_tree.specs.Tree.{Tree, node, Label, Fields, done, ◌then◌, missing, one, many, statements, Trees, empty, ◌before◌, trees}
 use Rattle.es_tree.specs.declared.ast_type.AstType.{AstType}
 use Rattle.es_tree.specs.declared.ast_type.AstType.TheVariants.{ArrowFunctionExpression, BlockStatement, ForInStatement, ForOfStatement, FunctionBody, Identifier, Program, ReturnStatement, StaticBlock, SwitchCase, VariableDeclaration, VariableDeclarator}
@@ -96,7 +96,7 @@ place-says p elsewhere = record { target = λ t. refl; inner = λ t. refl; bound
 
 module _ (up : List Ancestor) (h : Listed up) where
   no-head : (t : Tree) → is_bad_for up t ≡ false
-  no-head (node VariableDeclaration l (many ds then fs)) = λ i. (h.for_in i || h.for_of i) && not (Rattle.es_tree.specs.StaticRules.is_lone_declarator ds)
+  no-head (node VariableDeclaration l (many ds then fs)) = λ i. (h.for_in i || h.for_of i) && not (is_lone_declarator ds)
   no-head (node VariableDeclaration l fs) = refl
   no-head (node _ l fs) = refl
 

@@ -3,7 +3,7 @@ use Rattle.std.proofs.Common.{◌≡◌, inl, inr, refl, subst, List, [], ◌∷
 use Rattle.std.specs.Prelude.{◌⊎◌, Bool, true, false}
 use Rattle.es_tree.specs.Ancestors.{Ancestor}
 use Rattle.es_tree.specs.HasForm.{has_form}
-use Rattle.es_tree.specs.Tree.{Tree, node, done, ◌then◌, one, kind_of}
+use Rattle.es_tree.specs.Tree.{Label, Tree, kind_of}
 use Rattle.es_tree.specs.declared.options.EnvOptions.{EnvOptions}
 use Rattle.es_tree.specs.declared.table.Sort.{Sort}
 use Rattle.es_tree.specs.declared.table.Sort.TheVariants.{Expression as s-Expression}
@@ -68,7 +68,7 @@ raising-kinds n w bs t u (power_assignment {m = m} {r = r} {target = target} {re
     at [] = refl
     at (f ∷ fs) = refl
 
-short-kind : (m : Rattle.es_tree.specs.Tree.Label) (ts : List Tree) (short long : Tree) → has_tests ts ≡ true → is_left_kind (kind_of (where_short m ts short long)) ≡ true
+short-kind : (m : Label) (ts : List Tree) (short long : Tree) → has_tests ts ≡ true → is_left_kind (kind_of (where_short m ts short long)) ≡ true
 short-kind m [] short long h = absurd (cc h)
 short-kind m (t ∷ ts) short long h = refl
 

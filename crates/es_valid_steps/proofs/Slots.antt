@@ -2,7 +2,7 @@
 use Rattle.std.proofs.Common.{◌≡◌, ℕ, zero, suc, refl, sym, ap, subst, List, [], ◌∷◌}
 use Rattle.std.specs.Prelude.{Bool, true, false}
 use Rattle.es_tree.specs.Ancestors.{Ancestor, ancestor, is_derived_constructor, is_method_value, place_of}
-use Rattle.es_tree.specs.CoreStaticRules.{place_in}
+use Rattle.es_tree.specs.CoreStaticRules.{is_bad_target, link_place}
 use Rattle.es_tree.specs.HasForm.{has_form}
 use Rattle.es_tree.specs.StaticRules.{is_misplaced_super, is_unmarked_callee, is_unmarked_object}
 use Rattle.es_tree.specs.Tree.{Tree, Label, Fields, done, ◌then◌, one, many, empty, label_of}
@@ -126,8 +126,8 @@ wrapped-keeps up e head f h =
     let arrow = in_arrow e call in
     let c = λ (w : is_misplaced_super up e ≡ false). super-moved up arrow false (wrapped-offers e up s) (λ x. no-true (is_unmarked_callee up) _ s.callee x) (λ x. no-true (is_unmarked_object up) _ s.object x) e w in
     let body = goes up arrow s.is_loose (loose (made [] []) (many empty then one e then done) 1 0 call ArrowFunctionExpression refl) false (wrapped-offers e up s) e c (from-other e (place_of up) s.place) (λ x. expression-jumpless e f) h in
-    let target = subst (λ (p : Place). Rattle.es_tree.specs.CoreStaticRules.is_bad_target p (called_arrow e) ≡ false) (sym s.place) refl in
+    let target = subst (λ (p : Place). is_bad_target p (called_arrow e) ≡ false) (sym s.place) refl in
     (made-there up CallExpression _ _ s.is_loose target refl refl refl, ((made-there call ArrowFunctionExpression (made [] []) (many empty then one e then done) (loose _ _ 0 0 up CallExpression refl) (arrow-target e up s) refl refl refl, (tt, (body, tt))), (tt, tt)))
   where
-    arrow-target : (e : Tree) (up : List Ancestor) → SlotPlace up → Rattle.es_tree.specs.CoreStaticRules.is_bad_target (place_of (call_at_slot e up)) (arrow_node e) ≡ false
-    arrow-target e up s = ap (λ p. Rattle.es_tree.specs.CoreStaticRules.is_bad_target (Rattle.es_tree.specs.CoreStaticRules.link_place p) (arrow_node e)) s.place
+    arrow-target : (e : Tree) (up : List Ancestor) → SlotPlace up → is_bad_target (place_of (call_at_slot e up)) (arrow_node e) ≡ false
+    arrow-target e up s = ap (λ p. is_bad_target (link_place p) (arrow_node e)) s.place
