@@ -1,0 +1,211 @@
+-- The hooks of two types, one after the other, keep the promises of both.
+use Rattle.std.proofs.Common.{◌≡◌, ◌<◌, ◌∙◌, ◌⊎◌, ℕ, Bool, true, false, refl, sym, subst, arith, inl, inr, true≢false, length, List}
+use Rattle.std.specs.Prelude.{cond, ◌&&◌, not}
+use Rattle.es_tree.specs.Tree.{Tree, Trees, empty, ◌before◌}
+use Rattle.es_tree.specs.declared.options.EnvOptions.{EnvOptions}
+use Rattle.es_steps.specs.Steps.{Site}
+use Rattle.es_steps.specs.Open.{Pending, is_statement_body}
+use Rattle.es_visit.specs.declared.hook.Hook.{Hook}
+use Rattle.es_visit.specs.declared.hook.Hook.TheVariants.{Expression, Statement}
+use Rattle.es_changes.specs.Changes.{Each, HasRoom, Kept, heft}
+use Rattle.es_changes.specs.Fits.{Fits, FitAll, FitInList}
+use Rattle.es_changes.specs.Laws.{SamePlace}
+use Rattle.es_changes.specs.Conditions.{Conditions, holds_after, holds_before}
+use Rattle.es_changes.specs.Moments.{Moment, with_pair}
+use Rattle.es_changes.proofs.StillFits.{still-fits}
+use Rattle.es_changes.proofs.StepRows.{steps-trans}
+use Rattle.es_traverse.specs.Laws.{AreApart, Entered, EnteredAs, EnteredList, EnteredParameters, Exited, ExitedBody, ExitedList, ExitedParameters, ExitedProgram, IsLawful, IsReady, Profile, Settled, both_profile, chosen, counts_on, is_construct, is_outermost, opens_body, opens_list}
+use Rattle.es_traverse.proofs.Kept.{kept-then}
+use Rattle.es_traverse.proofs.StepInto.{field-into, rows-into, step-into, trees-into}
+use Rattle.es_traverse.specs.Together.{neither}
+
+-- two types together, under all options
+abbrev pub both_of : (EnvOptions → Profile) → (EnvOptions → Profile) → EnvOptions → Profile
+both_of P Q o = both_profile (P o) (Q o)
+
+-- the same options later
+later : (C : EnvOptions → Type 0) {o o' : EnvOptions} → o' ≡ o → C o' → C o
+later C e h = subst C e h
+
+-- the same conditions of each tree
+each-same : (c d : Conditions) → ((n : Site) (t : Tree) → d.before n t ≡ c.before n t) → (n : Site) (ts : Trees) → Each (holds_before c) n ts → Each (holds_before d) n ts
+each-same c d f n empty h = tt
+each-same c d f n (t before ts) h = (f n t ∙ h.0, each-same c d f n ts h.1)
+
+counted : (p : Profile) → p.brings ≡ false → (n : Site) (t : Tree) → (holds_after p.conditions) n t → counts_on p n t
+counted p e n t h = subst (λ b. chosen b p.conditions n t) (sym e) h
+
+-- ON THE WAY IN
+
+module _ (P Q : EnvOptions → Profile) (apart : (o : EnvOptions) → AreApart (P o) (Q o)) (law : (o : EnvOptions) → IsLawful (P o)) (a b c : Moment) where
+  entered-both : (hook : Hook) {t u v : Tree} → SamePlace a b → b.options ≡ a.options → Entered (P a.options) hook a t b u → Entered (Q b.options) hook b u c v → Entered (both_of P Q a.options) hook a t c v
+  entered-both hook {t = t} {u = u} {v = v} same options g h' =
+      let p = P a.options in let q = Q a.options in let x = apart a.options in
+      let h = later (λ o. Entered (Q o) hook b u c v) options h' in
+      let fits : (n : Site) → Fits a n t → counts_on p n t → Fits b n u = λ n f k. (still-fits p.rule (law a.options).rule).tree a b n t u same f (g.stepped n f k) in
+      let left : (n : Site) → Fits a n t → counts_on p n t → counts_on q n u = λ n f k. counted q x.order n u (x.after n u ∙ g.leaves n f k) in
+      let kept : (v ≡ u) → (v ≡ t) ⊎ (both_of P Q a.options).makes v = λ i. elim g.order [ inl j ↦ inl (i ∙ j) | inr m ↦ inr (inl (subst p.makes (sym i) m)) ] in
+      record {
+        stepped = λ n f k. steps-trans (rows-into (λ s s' x y. step-into (λ n s s' x y h. inl h)) (g.stepped n f k)) (rows-into (λ s s' x y. step-into (λ n s s' x y h. inr h)) (h.stepped n (fits n f k) (left n f k)));
+        leaves = λ n f k. sym (x.after n v) ∙ (h.leaves n (fits n f k) (left n f k));
+        body = h.body ∙ g.body;
+        sort = λ i s. elim (h.sort i s) [ inl earlier ↦ g.sort i earlier | inr this ↦ inr this ];
+        cleared = neither (is_construct (p.constructs hook) v) (is_construct (q.constructs hook) v) (elim h.order [ inl i ↦ subst (λ w. is_construct (p.constructs hook) w ≡ false) (sym i) g.cleared | inr m ↦ x.makes hook v m ]) h.cleared;
+        order = elim h.order [ inl i ↦ kept i | inr m ↦ inr (inr m) ];
+      }
+
+  settled-both : (hook : Hook) {t u v : Tree} → SamePlace a b → b.options ≡ a.options → Settled (P a.options) hook a t b u → Settled (Q b.options) hook b u c v → Settled (both_of P Q a.options) hook a t c v
+  settled-both hook {t = t} {u = u} {v = v} same options g h' =
+      let p = P a.options in let q = Q a.options in let x = apart a.options in
+      let h = later (λ o. Settled (Q o) hook b u c v) options h' in
+      let fits : (n : Site) → Fits a n t → (holds_after p.conditions) n t → Fits b n u = λ n f k. (still-fits p.rule (law a.options).rule).tree a b n t u same f (g.stepped n f k) in
+      let left : (n : Site) → Fits a n t → (holds_after p.conditions) n t → (holds_after q.conditions) n u = λ n f k. x.after n u ∙ g.leaves n f k in
+      let kept : (v ≡ u) → (v ≡ t) ⊎ (both_of P Q a.options).writes v = λ i. elim g.order [ inl j ↦ inl (i ∙ j) | inr m ↦ inr (inl (subst p.writes (sym i) m)) ] in
+      record {
+        stepped = λ n f k. steps-trans (rows-into (λ s s' x y. step-into (λ n s s' x y h. inl h)) (g.stepped n f k)) (rows-into (λ s s' x y. step-into (λ n s s' x y h. inr h)) (h.stepped n (fits n f k) (left n f k)));
+        leaves = λ n f k. sym (x.after n v) ∙ (h.leaves n (fits n f k) (left n f k));
+        body = h.body ∙ g.body;
+        cleared = neither (is_construct (p.constructs hook) v) (is_construct (q.constructs hook) v) (elim h.order [ inl i ↦ subst (λ w. is_construct (p.constructs hook) w ≡ false) (sym i) g.cleared | inr m ↦ x.second_writes hook v m ]) h.cleared;
+        order = elim h.order [ inl i ↦ kept i | inr m ↦ inr (inr m) ];
+      }
+
+  pub entered-as-both : (hook : Hook) (t u v : Tree) → SamePlace a b → b.options ≡ a.options → EnteredAs (P a.options) hook a t b u → EnteredAs (Q b.options) hook b u c v → EnteredAs (both_of P Q a.options) hook a t c v
+  entered-as-both Expression t u v = entered-both Expression
+  entered-as-both Statement t u v = entered-both Statement
+  entered-as-both hook t u v = settled-both hook
+
+  pub entered-list-both : (keeps alone : Bool) → alone ≡ false → {ts us vs : Trees} → SamePlace (opens_list keeps a) b → b.options ≡ a.options → EnteredList (P a.options) keeps a ts b us → EnteredList (Q b.options) alone b us c vs → EnteredList (both_of P Q a.options) keeps a ts c vs
+  entered-list-both keeps true e same options g h = absurd (true≢false e)
+  entered-list-both keeps false e {ts = ts} {us = us} {vs = vs} same options g h' =
+      let p = P a.options in let q = Q a.options in let x = apart a.options in
+      let h = later (λ o. EnteredList (Q o) false b us c vs) options h' in
+      let fits : (n : Site) → FitInList (opens_list keeps a) n ts → Each (holds_before p.conditions) n ts → (o : Pending) → FitInList b n us = λ n f k o. (still-fits p.rule (law a.options).rule).list (opens_list keeps a) b n o ts us same f (g.stepped n f k o) in
+      let left : (n : Site) → FitInList (opens_list keeps a) n ts → Each (holds_before p.conditions) n ts → Each (holds_before q.conditions) n us = λ n f k. each-same p.conditions q.conditions x.before n us (g.leaves n f k) in
+      record {
+        stepped = λ n f k o. steps-trans (rows-into (λ s s' x y. field-into (λ n s s' x y h. inl h)) (g.stepped n f k o)) (rows-into (λ s s' x y. field-into (λ n s s' x y h. inr h)) (h.stepped n (fits n f k o) (left n f k) o));
+        leaves = λ n f k. each-same q.conditions p.conditions (λ n t. sym (x.before n t)) n vs (h.leaves n (fits n f k (record { vars = List.[]; lets = List.[] })) (left n f k));
+      }
+
+  pub entered-parameters-both : {ts us vs : Trees} → SamePlace a b → b.options ≡ a.options → EnteredParameters (P a.options) a ts b us → EnteredParameters (Q b.options) b us c vs → EnteredParameters (both_of P Q a.options) a ts c vs
+  entered-parameters-both {ts = ts} {us = us} {vs = vs} same options g h' =
+      let p = P a.options in let q = Q a.options in let x = apart a.options in
+      let h = later (λ o. EnteredParameters (Q o) b us c vs) options h' in
+      let fits : (n : Site) → FitAll a n ts → Each (holds_before p.conditions) n ts → FitAll b n us = λ n f k. (still-fits p.rule (law a.options).rule).trees a b n ts us same f (g.stepped n f k) in
+      let left : (n : Site) → FitAll a n ts → Each (holds_before p.conditions) n ts → Each (holds_before q.conditions) n us = λ n f k. each-same p.conditions q.conditions x.before n us (g.leaves n f k) in
+      record {
+        stepped = λ n f k. steps-trans (rows-into (λ s s' x y. trees-into (λ n s s' x y h. inl h)) (g.stepped n f k)) (rows-into (λ s s' x y. trees-into (λ n s s' x y h. inr h)) (h.stepped n (fits n f k) (left n f k)));
+        leaves = λ n f k. each-same q.conditions p.conditions (λ n t. sym (x.before n t)) n vs (h.leaves n (fits n f k) (left n f k));
+      }
+
+-- ON THE WAY OUT: the second and then the first, of which that alone keeps pairs
+
+module _ (P Q : EnvOptions → Profile) (law : (o : EnvOptions) → IsLawful (Q o)) (a b c : Moment) where
+  pub exited-both : {t u v : Tree} → SamePlace a b → b.options ≡ a.options → Exited (Q a.options) a t b u → Exited (P b.options) b u c v → Exited (both_of P Q a.options) a t c v
+  exited-both {t = t} {u = u} {v = v} same options g h' =
+      let p = P a.options in let q = Q a.options in
+      let h = later (λ o. Exited (P o) b u c v) options h' in
+      record {
+        stepped = λ n f k. steps-trans (rows-into (λ s s' x y. step-into (λ n s s' x y h. inr h)) (g.stepped n f tt)) (rows-into (λ s s' x y. step-into (λ n s s' x y h. inl h)) (h.stepped n ((still-fits q.rule (law a.options).rule).tree a b n t u same f (g.stepped n f tt)) tt));
+        body = h.body ∙ g.body;
+        none = λ test f k. h.none test (λ w m. f w (inl m)) (g.none test (λ w m. f w (inr m)) k);
+        hooks = omega (arith, g.hooks, h.hooks);
+      }
+
+  pub exited-parameters-both : {ts us vs : Trees} → SamePlace a b → b.options ≡ a.options → ExitedParameters (Q a.options) a ts b us → ExitedParameters (P b.options) b us c vs → ExitedParameters (both_of P Q a.options) a ts c vs
+  exited-parameters-both {ts = ts} {us = us} {vs = vs} same options g h' =
+      let q = Q a.options in
+      let h = later (λ o. ExitedParameters (P o) b us c vs) options h' in
+      record {
+        stepped = λ n f k. steps-trans (rows-into (λ s s' x y. trees-into (λ n s s' x y h. inr h)) (g.stepped n f k)) (rows-into (λ s s' x y. trees-into (λ n s s' x y h. inl h)) (h.stepped n ((still-fits q.rule (law a.options).rule).trees a b n ts us same f (g.stepped n f k)) (each-of n us)));
+        none = λ test f k. h.none test (λ w m. f w (inl m)) (g.none test (λ w m. f w (inr m)) k);
+        hooks = omega (arith, g.hooks, h.hooks);
+      }
+    where
+      each-of : (n : Site) (us : Trees) → Each (λ n t. Unit {0}) n us
+      each-of n empty = tt
+      each-of n (t before ts) = (tt, each-of n ts)
+
+  pub exited-list-both : (keeps alone : Bool) → alone ≡ false → {ts us vs : Trees} → SamePlace a (opens_list alone b) → (opens_list alone b).options ≡ a.options → ExitedList (Q a.options) alone a ts b us → ExitedList (P b.options) keeps b us c vs → ExitedList (both_of P Q a.options) keeps a ts c vs
+  exited-list-both keeps true e same options g h = absurd (true≢false e)
+  exited-list-both keeps false e {ts = ts} {us = us} {vs = vs} same options g h' =
+      let q = Q a.options in
+      let h = later (λ o. ExitedList (P o) keeps b us c vs) options h' in
+      record {
+        stepped = λ n f k o. steps-trans (rows-into (λ s s' x y. field-into (λ n s s' x y h. inr h)) (g.stepped n f k o)) (rows-into (λ s s' x y. field-into (λ n s s' x y h. inl h)) (h.stepped n ((still-fits q.rule (law a.options).rule).list a b n o ts us same f (g.stepped n f k o)) (each-of n us) o));
+        none = λ test f k. h.none test (λ w m. f w (inl m)) (g.none test (λ w m. f w (inr m)) k);
+        hooks = omega (arith, g.hooks, h.hooks);
+      }
+    where
+      each-of : (n : Site) (us : Trees) → Each (λ n t. Unit {0}) n us
+      each-of n empty = tt
+      each-of n (t before ts) = (tt, each-of n ts)
+
+  -- bodies of arrows
+  pub exited-body-both : (keeps alone : Bool) → alone ≡ false → {t u v : Tree} → ExitedBody (Q a.options) alone a t b u → ExitedBody (P b.options) keeps b u c v → ExitedBody (both_of P Q a.options) keeps a t c v
+  exited-body-both keeps true e g h = absurd (true≢false e)
+  exited-body-both keeps false e {t = t} {u = u} {v = v} g h' =
+      let h : ExitedBody (P a.options) keeps a t c v = subst (λ m. ExitedBody (P m.options) keeps m t c v) (g.same refl).1 (subst (λ w. ExitedBody (P b.options) keeps b w c v) (g.same refl).0 h') in
+      record {
+        closed = λ k. ((λ n f o. rows-into (λ s s' x y. field-into (λ n s s' x y h. inl h)) ((h.closed k).0 n f o)), (h.closed k).1);
+        same = h.same;
+        none = λ test f k. h.none test (λ w m. f w (inl m)) k;
+        hooks = h.hooks;
+      }
+
+  -- the program
+  pub exited-program-both : (keeps alone : Bool) → alone ≡ false → {t u v : Tree} → ExitedProgram (Q a.options) alone a t b u → ExitedProgram (P b.options) keeps b u c v → ExitedProgram (both_of P Q a.options) keeps a t c v
+  exited-program-both keeps alone e {t = t} {u = u} {v = v} g h' =
+      let h : ExitedProgram (P a.options) keeps a t c v = subst (λ m. ExitedProgram (P m.options) keeps m t c v) (g.same e).1 (subst (λ w. ExitedProgram (P b.options) keeps b w c v) (g.same e).0 h') in
+      record {
+        stepped = λ k. rows-into (λ s s' x y. step-into (λ n s s' x y h. inl h)) (h.stepped k);
+        finished = h.finished;
+        same = h.same;
+        directives = h.directives;
+        none = λ test f k. h.none test (λ w m. f w (inl m)) k;
+      }
+
+-- THE BODY OF AN ARROW
+
+-- a type that keeps no pairs leaves a body as it was
+pub unkept : (alone : Bool) → alone ≡ false → {p : Profile} {a b : Moment} {t u : Tree} → ExitedBody p alone a t b u → u ≡ t
+unkept true e h = absurd (true≢false e)
+unkept false e h = (h.same refl).0
+
+-- both leave a body as it was, or the first writes what is pending for it
+pub kept-body : (keeps alone : Bool) → alone ≡ false → (a b c : Moment) {w s w' s' w'' s'' : ℕ} (t u : Tree) → is_statement_body u ≡ is_statement_body t → Kept a w s (opens_body alone t b) w' s' → Kept b w' s' (opens_body keeps u c) w'' s'' → Kept a w s (opens_body keeps t c) w'' s''
+kept-body keeps true e a b c t u same g h = absurd (true≢false e)
+kept-body keeps false e a b c {w = w} {s = s} {w'' = w''} {s'' = s''} t u same g h = subst (λ v. Kept a w s (cond (keeps && not v) (with_pair c) c) w'' s'') same (kept-then g h)
+
+-- READY FOR THE NEXT
+
+pub ready-later : {Y : Type 0} (r : Y → EnvOptions → Type 0) (y : Y) {a b : Moment} {w s w' s' : ℕ} → Kept a w s b w' s' → r y a.options → HasRoom a w → 0 < length a.lists → IsReady r y b w'
+ready-later r y g k room pair = record { suited = subst (λ o. r y o) (sym g.options) k; room = omega (arith, g.lighter, room); pair = omega (arith, g.level.deep, pair) }
+
+-- what opens a pair for a list makes nothing heavier
+opens-light : (keeps : Bool) (a : Moment) → heft (opens_list keeps a) ≡ heft a
+opens-light keeps a = at (keeps && not (is_outermost a.around))
+  where
+    at : (b : Bool) → heft (cond b (with_pair a) a) ≡ heft a
+    at true = omega arith
+    at false = refl
+
+opens-pair : (keeps : Bool) (a : Moment) → 0 < length a.lists → 0 < length (opens_list keeps a).lists
+opens-pair keeps a = at (keeps && not (is_outermost a.around))
+  where
+    at : (b : Bool) → 0 < length a.lists → 0 < length (cond b (with_pair a) a).lists
+    at true h = omega arith
+    at false h = h
+
+pub opens-options : (keeps : Bool) (a : Moment) → (opens_list keeps a).options ≡ a.options
+opens-options keeps a = at (keeps && not (is_outermost a.around))
+  where
+    at : (b : Bool) → (cond b (with_pair a) a).options ≡ a.options
+    at true = refl
+    at false = refl
+
+pub ready-in-list : {Y : Type 0} (r : Y → EnvOptions → Type 0) (y : Y) (keeps : Bool) (a : Moment) {b : Moment} {w s w' s' : ℕ} → Kept (opens_list keeps a) w s b w' s' → r y a.options → HasRoom a w → 0 < length a.lists → IsReady r y b w'
+ready-in-list r y keeps a g k room pair = record {
+  suited = subst (λ o. r y o) (sym (g.options ∙ opens-options keeps a)) k;
+  room = omega (arith, g.lighter, room, opens-light keeps a);
+  pair = omega (arith, g.level.deep, opens-pair keeps a pair);
+}

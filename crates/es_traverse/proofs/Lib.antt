@@ -1,0 +1,13 @@
+pub mod StepInto
+pub mod BothHooks
+pub mod Kept
+pub mod KeptParts
+pub mod ClassNames
+pub mod Entering
+pub mod Moments
+pub mod Nodes
+pub mod Parts
+pub mod FieldVisits
+pub mod ListVisits
+pub mod NodeVisits
+pub mod Programs

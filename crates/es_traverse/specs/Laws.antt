@@ -1,0 +1,245 @@
+-- What a lawful type states of itself, and what its hooks promise.
+use Rattle.std.specs.Prelude.{◌≡◌, ◌⊎◌, ℕ, ◌<◌, ◌≤◌, ◌||◌, ◌&&◌, Bool, true, false, not, cond, Option, Some, List, [], ◌∷◌, length}
+use Rattle.es_tree.specs.Tree.{Tree, node, Label, Fields, done, ◌then◌, one, Trees, kind_of, label_of, fields_of, tree_size, trees_size}
+use Rattle.es_tree.specs.Walks.{any_node, any_in_fields, any_in_trees}
+use Rattle.es_tree.specs.Words.{Text}
+use Rattle.es_tree.specs.declared.ast_type.AstType.{AstType}
+use Rattle.es_tree.specs.declared.options.EnvOptions.{EnvOptions}
+use Rattle.es_scope.specs.declared.ancestor.Ancestor.{Ancestor}
+use Rattle.es_resolution.specs.Seen.{seen, seen_among}
+use Rattle.es_runs.specs.Weights.{weight, trees_weight}
+use Rattle.es_steps.specs.Open.{Pending, nothing_pending, OpenFields, body, finished_fields, is_statement_body, opened, opened_field}
+use Rattle.es_steps.specs.Rules.{either_rule}
+use Rattle.es_steps.specs.Steps.{Ledger, Site, Spot, FieldsStep, FieldStep, Step, Steps, the_program}
+use Rattle.es_visit.specs.declared.hook.Hook.{Hook}
+use Rattle.es_visit.specs.declared.hook.Hook.TheVariants.{Expression, Statement}
+use Rattle.es_visit.specs.Hooks.{hook_of_sort, sort_of, IsHooked}
+use Rattle.es_visit.specs.Counts.{hooks_in, hooks_in_trees}
+use Rattle.es_changes.specs.Changes.{Each, HasRoom, Kept, ListStepped, open_program, Stepped, TreesStepped}
+use Rattle.es_changes.specs.Conditions.{AreSound, Conditions, holds_after, holds_before}
+use Rattle.es_changes.specs.Fits.{Fits, FitAll, FitInList, FitsInBody}
+use Rattle.es_changes.specs.Moments.{Moment, below, ledger_with, top, with_pair}
+use Rattle.es_changes.specs.Rules.{IsLawfulRule}
+
+-- What a type states of itself under some options: its rule; the conditions of the visit, and whether its hooks bring a node from the one to
+-- the other (`brings`), or count on the second; for each hook the constructs that it removes, as a test of a node; what it puts in the place
+-- of a node on the way in, and what it puts or writes later.
+pub record Profile : Type 1 where
+  pub rule : Site → Ledger → Spot → Ledger → Spot → Type 0
+  pub conditions : Conditions
+  pub brings : Bool
+  pub constructs : Hook → AstType → Label → Fields → Bool
+  pub makes : Tree → Type 0
+  pub writes : Tree → Type 0
+
+abbrev pub chosen : Bool → Conditions → Site → Tree → Type 0
+chosen true c n t = holds_before c n t
+chosen false c n t = holds_after c n t
+
+abbrev pub counts_on : Profile → Site → Tree → Type 0
+counts_on p n t = chosen p.brings p.conditions n t
+
+-- whether a node is a construct
+abbrev pub is_construct : (AstType → Label → Fields → Bool) → Tree → Bool
+is_construct constructs t = constructs (kind_of t) (label_of t) (fields_of t)
+
+-- LAWS OF A TYPE
+
+-- steps among the fields of a node make it no construct
+abbrev pub IsStable : (Site → Ledger → Spot → Ledger → Spot → Type 0) → (AstType → Label → Fields → Bool) → Type 0
+IsStable R constructs = (c : ℕ → Site) (s s' : Ledger) (k : AstType) (l : Label) (fs gs : OpenFields) → FieldsStep R c s fs s' gs → constructs k l (finished_fields fs) ≡ false → constructs k l (finished_fields gs) ≡ false
+
+pub record IsLawful (profile : Profile) : Type 0 where
+  pub rule : IsLawfulRule profile.rule
+  pub stable : (h : Hook) → IsStable profile.rule (profile.constructs h)
+  -- a node that is a construct gets the hook that removes it
+  pub placed : (h : Hook) (k : AstType) (l : Label) (fs : Fields) → profile.constructs h k l fs ≡ true → IsHooked h k
+  -- what is written is no construct
+  pub own : (h : Hook) (t : Tree) → profile.writes t → is_construct (profile.constructs h) t ≡ false
+
+-- what a hook may count on in its code: the type has the settings of these options, there is room for ids, and a pair is open
+pub record IsReady {X : Type 0} (suits : X → EnvOptions → Type 0) (x : X) (a : Moment) (weight : ℕ) : Type 0 where
+  pub suited : suits x a.options
+  pub room : HasRoom a weight
+  pub pair : 0 < length a.lists
+
+-- A PART as it was and as it is: the sum of weights, pending and ids, and what is seen of it with the symbols of its names, whatever
+-- scopes bind
+
+abbrev pub KeptTree : Moment → Tree → Moment → Tree → Type 0
+KeptTree a t b u = Kept a (weight t) (tree_size t) b (weight u) (tree_size u)
+
+abbrev pub KeptTrees : Moment → Trees → Moment → Trees → Type 0
+KeptTrees a ts b us = Kept a (trees_weight ts) (trees_size ts) b (trees_weight us) (trees_size us)
+
+abbrev pub Seen : (Tree → Tree → Type 0) → Tree → Tree → Type 0
+Seen P t u = (names : ℕ → Text → Option ℕ) → P (seen names t) (seen names u)
+
+abbrev pub SeenAmong : (Trees → Trees → Type 0) → Trees → Trees → Type 0
+SeenAmong P ts us = (names : ℕ → Text → Option ℕ) → P (seen_among names ts) (seen_among names us)
+
+-- HOOKS ON NODES, before what stands inside
+
+-- the hook that a node gets by its sort wherever it stands is this one, or one that the node before it got so
+abbrev pub KeepsSort : Hook → Tree → Tree → Type 0
+KeepsSort hook t u = (h : Hook) → hook_of_sort (sort_of (kind_of u)) ≡ Some h → (hook_of_sort (sort_of (kind_of t)) ≡ Some h) ⊎ (h ≡ hook)
+
+-- a body of statements stays one, and nothing else becomes one
+abbrev pub KeepsBody : Tree → Tree → Type 0
+KeepsBody t u = is_statement_body u ≡ is_statement_body t
+
+-- what a hook leaves wherever the node fits
+abbrev pub Leaves : (Site → Tree → Type 0) → (Site → Tree → Type 0) → Moment → Tree → Tree → Type 0
+Leaves counts leaves a t u = (n : Site) → Fits a n t → counts n t → leaves n u
+
+abbrev pub LeavesEach : (Site → Trees → Type 0) → (Site → Tree → Type 0) → (Site → Tree → Type 0) → Trees → Trees → Type 0
+LeavesEach fits counts leaves ts us = (n : Site) → fits n ts → Each counts n ts → Each leaves n us
+
+-- by the sort of the node
+pub record Entered (profile : Profile) (hook : Hook) (a : Moment) (t : Tree) (b : Moment) (u : Tree) : Type 0 where
+  pub stepped : Stepped profile.rule (counts_on profile) a t b u
+  pub leaves : Leaves (counts_on profile) (holds_after profile.conditions) a t u
+  pub sort : KeepsSort hook t u
+  pub body : KeepsBody t u
+  pub cleared : is_construct (profile.constructs hook) u ≡ false
+  pub order : (u ≡ t) ⊎ profile.makes u
+
+-- by its kind, after its sort
+pub record Settled (profile : Profile) (hook : Hook) (a : Moment) (t : Tree) (b : Moment) (u : Tree) : Type 0 where
+  pub stepped : Stepped profile.rule (holds_after profile.conditions) a t b u
+  pub leaves : Leaves (holds_after profile.conditions) (holds_after profile.conditions) a t u
+  pub body : KeepsBody t u
+  pub cleared : is_construct (profile.constructs hook) u ≡ false
+  pub order : (u ≡ t) ⊎ profile.writes u
+
+-- by this hook
+abbrev pub EnteredAs : Profile → Hook → Moment → Tree → Moment → Tree → Type 0
+EnteredAs p Expression a t b u = Entered p Expression a t b u
+EnteredAs p Statement a t b u = Entered p Statement a t b u
+EnteredAs p h a t b u = Settled p h a t b u
+
+-- MOMENTS OF BODIES AND LISTS
+
+-- A type that keeps the pairs opens one for the body of an arrow that is an expression, and for a list that isn't the program's, whose
+-- pair is there from the start.
+abbrev pub opens_body : Bool → Tree → Moment → Moment
+opens_body keeps t a = cond (keeps && not (is_statement_body t)) (with_pair a) a
+
+-- whether the list is that of the program, which alone has no more than one ancestor
+abbrev pub is_outermost : List Ancestor → Bool
+is_outermost [] = true
+is_outermost (a ∷ []) = true
+is_outermost (a ∷ b ∷ xs) = false
+
+abbrev pub opens_list : Bool → Moment → Moment
+opens_list keeps a = cond (keeps && not (is_outermost a.around)) (with_pair a) a
+
+-- HOOKS ON NODES, after what stands inside
+
+-- A test that is false of what a type writes is so after its exit hook where it was before.
+abbrev pub MakesNone : (Tree → Type 0) → Tree → Tree → Type 0
+MakesNone writes t u = (test : AstType → Label → Fields → Bool) → ((v : Tree) → writes v → is_construct test v ≡ false) → any_node test t ≡ false → any_node test u ≡ false
+
+abbrev pub MakesNoneAmong : (Tree → Type 0) → Trees → Trees → Type 0
+MakesNoneAmong writes ts us = (test : AstType → Label → Fields → Bool) → ((v : Tree) → writes v → is_construct test v ≡ false) → any_in_trees test ts ≡ false → any_in_trees test us ≡ false
+
+abbrev pub MakesNoneIn : (Tree → Type 0) → Fields → Fields → Type 0
+MakesNoneIn writes fs gs = (test : AstType → Label → Fields → Bool) → ((v : Tree) → writes v → is_construct test v ≡ false) → any_in_fields test fs ≡ false → any_in_fields test gs ≡ false
+
+-- nothing is counted on
+abbrev pub anything : Site → Tree → Type 0
+anything n t = Unit {0}
+
+pub record Exited (profile : Profile) (a : Moment) (t : Tree) (b : Moment) (u : Tree) : Type 0 where
+  pub stepped : Stepped profile.rule anything a t b u
+  pub body : KeepsBody t u
+  pub none : MakesNone profile.writes t u
+  pub hooks : hooks_in t ≤ hooks_in u
+
+-- THE BODY OF AN ARROW
+
+-- with what was pending for it, which is the innermost, written
+abbrev pub BodyStepped : (Site → Ledger → Spot → Ledger → Spot → Type 0) → Moment → Tree → Moment → Tree → Type 0
+BodyStepped R a t b u = (n : Site) → FitsInBody a n t → (o : Pending) → Steps (FieldStep R n) (ledger_with o a) (body (top a.lists) (opened t)) (ledger_with o b) (opened_field true (one u))
+
+-- After the body of an arrow: one that is an expression, for which a pair was opened, is written with what is pending for it, and the pair
+-- is closed. Else nothing changes.
+pub record ExitedBody (profile : Profile) (keeps : Bool) (a : Moment) (t : Tree) (b : Moment) (u : Tree) : Type 0 where
+  pub closed : (keeps && not (is_statement_body t)) ≡ true → BodyStepped profile.rule a t b u × (b.lists ≡ below a.lists)
+  pub same : (keeps && not (is_statement_body t)) ≡ false → (u ≡ t) × (b ≡ a)
+  pub none : MakesNone profile.writes t u
+  pub hooks : hooks_in t ≤ hooks_in u
+
+-- HOOKS ON LISTS
+
+-- before the statements of a list: its own pair is on top afterwards
+pub record EnteredList (profile : Profile) (keeps : Bool) (a : Moment) (ts : Trees) (b : Moment) (us : Trees) : Type 0 where
+  pub stepped : ListStepped profile.rule (Each (holds_before profile.conditions)) (opens_list keeps a) ts b us
+  pub leaves : LeavesEach (FitInList (opens_list keeps a)) (holds_before profile.conditions) (holds_before profile.conditions) ts us
+
+-- after them: it was on top before
+pub record ExitedList (profile : Profile) (keeps : Bool) (a : Moment) (ts : Trees) (b : Moment) (us : Trees) : Type 0 where
+  pub stepped : ListStepped profile.rule (Each anything) a ts (opens_list keeps b) us
+  pub none : MakesNoneAmong profile.writes ts us
+  pub hooks : hooks_in_trees ts ≤ hooks_in_trees us
+
+-- before and after the parameters of a function
+pub record EnteredParameters (profile : Profile) (a : Moment) (ts : Trees) (b : Moment) (us : Trees) : Type 0 where
+  pub stepped : TreesStepped profile.rule (Each (holds_before profile.conditions)) a ts b us
+  pub leaves : LeavesEach (FitAll a) (holds_before profile.conditions) (holds_before profile.conditions) ts us
+
+pub record ExitedParameters (profile : Profile) (a : Moment) (ts : Trees) (b : Moment) (us : Trees) : Type 0 where
+  pub stepped : TreesStepped profile.rule (Each anything) a ts b us
+  pub none : MakesNoneAmong profile.writes ts us
+  pub hooks : hooks_in_trees ts ≤ hooks_in_trees us
+
+-- THE PROGRAM
+
+-- its directives
+abbrev pub first_field : Tree → Fields
+first_field (node k l (f then fs)) = f then done
+first_field (node k l done) = done
+
+-- its statements
+abbrev pub body_field : Tree → Fields
+body_field (node k l (f then fs)) = fs
+body_field (node k l done) = done
+
+-- After the program: a type that keeps the pairs writes what is pending, and leaves nothing. With another nothing changes.
+pub record ExitedProgram (profile : Profile) (keeps : Bool) (a : Moment) (t : Tree) (b : Moment) (u : Tree) : Type 0 where
+  pub stepped : keeps ≡ true → Steps (Step profile.rule the_program) (ledger_with nothing_pending a) (open_program (top a.lists) t) (ledger_with nothing_pending b) (open_program (top b.lists) u)
+  pub finished : keeps ≡ true → top b.lists ≡ nothing_pending
+  pub same : keeps ≡ false → (u ≡ t) × (b ≡ a)
+  pub directives : first_field u ≡ first_field t
+  pub none : MakesNoneIn profile.writes (body_field t) (body_field u)
+
+-- TWO TYPES TOGETHER
+
+-- one type's hooks run before those of the other on the way in, and after them on the way out
+abbrev pub both_profile : Profile → Profile → Profile
+both_profile p q = record {
+  rule = either_rule p.rule q.rule;
+  conditions = p.conditions;
+  brings = p.brings;
+  constructs = λ h k l fs. p.constructs h k l fs || q.constructs h k l fs;
+  makes = λ t. p.makes t ⊎ q.makes t;
+  writes = λ t. p.writes t ⊎ q.writes t;
+}
+
+-- The second type makes no construct of the first, neither writes one of the other, and the steps of neither make a node
+-- above them one. They have the same conditions, and the second counts on what the first leaves.
+pub record AreApart (first second : Profile) : Type 0 where
+  pub makes : (h : Hook) (t : Tree) → second.makes t → is_construct (first.constructs h) t ≡ false
+  pub first_writes : (h : Hook) (t : Tree) → first.writes t → is_construct (second.constructs h) t ≡ false
+  pub second_writes : (h : Hook) (t : Tree) → second.writes t → is_construct (first.constructs h) t ≡ false
+  pub first_stable : (h : Hook) → IsStable second.rule (first.constructs h)
+  pub second_stable : (h : Hook) → IsStable first.rule (second.constructs h)
+  pub before : (n : Site) (t : Tree) → second.conditions.before n t ≡ first.conditions.before n t
+  pub after : (n : Site) (t : Tree) → second.conditions.after n t ≡ first.conditions.after n t
+  pub order : second.brings ≡ false
+
+-- what a whole visit asks of a type: it keeps the pairs, its conditions go inward, and its hooks bring nodes from the one to the other
+pub record CanVisit (keeps : Bool) (p : Profile) : Type 0 where
+  pub pairs : keeps ≡ true
+  pub sound : AreSound p.conditions
+  pub bring : p.brings ≡ true

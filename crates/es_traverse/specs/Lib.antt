@@ -1,0 +1,5 @@
+pub mod Laws
+pub mod ContextMoments
+pub mod Sites
+pub mod Visits
+pub mod Together
