@@ -11,3 +11,4 @@ pub mod InField
 pub mod TreeLaws
 pub mod BodyLaws
 pub mod ProgramLaws
+pub mod CoreConditions

@@ -3,4 +3,5 @@ pub mod Fits
 pub mod Changes
 pub mod Rules
 pub mod Conditions
+pub mod CoreConditions
 pub mod Laws

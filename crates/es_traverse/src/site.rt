@@ -11,6 +11,7 @@ ghost use Rattle.es_traverse.specs.declared.site.Site.TheVariants.{Expression as
 ghost use Rattle.es_visit.specs.Counts.{parameters_at};
 
 use es_scope::context::TraverseCtx;
+use es_scope::outer_scopes::scope_of;
 use es_tree::ast_type::AstType;
 use es_tree::ids::{NodeId, ScopeId};
 use es_tree::kind::Kind;
@@ -89,26 +90,6 @@ fn is_computed(kind: &Kind) -> bool
         Kind::TargetProperty { computed, .. } => *computed,
         Kind::MemberExpression { computed, .. } => *computed,
         _ => false,
-    }
-}
-
-/// The scope that a node of this kind makes (ECMA-262, 9.1).
-fn scope_of(kind: &Kind) -> Option<ScopeId> {
-    match kind {
-        Kind::BlockStatement { scope } => *scope,
-        Kind::StaticBlock { scope } => *scope,
-        Kind::FunctionDeclaration { scope } => *scope,
-        Kind::FunctionExpression { scope } => *scope,
-        Kind::FunctionBody { scope } => *scope,
-        Kind::ArrowFunctionExpression { scope } => *scope,
-        Kind::ClassDeclaration { scope } => *scope,
-        Kind::ClassExpression { scope } => *scope,
-        Kind::ForStatement { scope } => *scope,
-        Kind::ForInStatement { scope } => *scope,
-        Kind::ForOfStatement { scope } => *scope,
-        Kind::SwitchStatement { scope } => *scope,
-        Kind::CatchClause { scope } => *scope,
-        _ => None,
     }
 }
 

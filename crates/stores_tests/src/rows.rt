@@ -34,7 +34,10 @@ const ELSEWHERE: NodeId = NodeId(0);
 
 /// Nodes of these names.
 fn all(alloc: Global, first: &str, second: &str) -> Result<Vec<Node>, AllocError> {
-    let nodes = [named(alloc, ELSEWHERE, first)?, named(alloc, ELSEWHERE, second)?];
+    let nodes = [
+        named(alloc, ELSEWHERE, first)?,
+        named(alloc, ELSEWHERE, second)?,
+    ];
     Ok(Vec::from_array(alloc, nodes)?)
 }
 
