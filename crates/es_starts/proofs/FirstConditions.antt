@@ -1,0 +1,239 @@
+-- The source of a program meets the conditions of a visit by the core lowerings: at each exponentiation that is to be lowered `Math` finds
+-- nothing, side by side over the program at its places and the source at its sites.
+use Rattle.std.proofs.Common.{◌≡◌, ℕ, zero, suc, ◌+◌, refl, sym, ap, subst, ◌∙◌, List, [], ◌∷◌, ◌++◌}
+use Rattle.std.specs.Prelude.{Bool, true, false, not, ◌&&◌, ◌||◌, Option, Some, None, bytes_eq, is_some, codes, if◌then◌else◌}
+use Rattle.std.specs.Option.{option_or}
+use Rattle.std.proofs.lemmas.Bool.{and_from, true≢false}
+use Rattle.es_tree.specs.Constructs.{field_at, is_big_int, is_child, is_exponentiation}
+use Rattle.es_tree.specs.Names.{first_text}
+use Rattle.es_tree.specs.Tree.{Tree, node, Label, Fields, done, ◌then◌, Field, missing, one, many, statements, Trees, empty, ◌before◌, kind_of}
+use Rattle.es_tree.specs.declared.ast_type.AstType.{AstType}
+use Rattle.es_tree.specs.declared.ast_type.AstType.TheVariants.{ArrowFunctionExpression, AssignmentExpression, BinaryExpression, FunctionBody, Program, StaticBlock}
+use Rattle.es_tree.specs.declared.options.EnvOptions.{EnvOptions}
+use Rattle.es_semantic.specs.Places.{Place, Visit, is_inside, outermost, own_scope_count, place_in, scope_count_in, scope_count_in_field, visits, visits_in_field, visits_in_fields, visits_in_trees}
+use Rattle.es_semantic.specs.RolesOf.{reads, role_at}
+use Rattle.es_semantic.specs.SymbolsOf.{Declared, find, symbols_of}
+use Rattle.es_semantic.specs.declared.place.Role.{Role}
+use Rattle.es_resolution.specs.Declarations.{has_scope, is_var_scope}
+use Rattle.es_resolution.specs.Laws.{source}
+use Rattle.es_resolution.specs.Resolved.{Place as Around, frame, name_frame, place_in as place_at, var_frame, vars_in, within, within_vars}
+use Rattle.es_resolution.proofs.Forms.{form-placed}
+use Rattle.es_resolution.proofs.Marks.{marked}
+use Rattle.es_resolution.proofs.Placed.{IsWellPlaced, Placed, PlacedAll, PlacedBy, PlacedIn, is_last, kind_fits}
+use Rattle.es_resolution.proofs.Sources.{source-resolved}
+use Rattle.es_resolution.proofs.SymbolTrees.{own_symbols, resolved, resolved_among, resolved_by, resolved_in, resolved_tree}
+use Rattle.es_steps.specs.Open.{OpenFields, finished_fields, is_body, is_statement_body, opened_fields}
+use Rattle.es_steps.specs.SourceSites.{FindsAlike, InProgram, SideBySide, SideBySideAll, SideBySideBy, SideBySideIn}
+use Rattle.es_steps.specs.Steps.{Site, site_in, the_program}
+use Rattle.es_steps.proofs.SourceSites.{law_source_sites_proof}
+use Rattle.es_changes.specs.CoreConditions.{body_site, holds_none_where, is_power_free, powers_free, powers_free_among, powers_free_by, powers_free_in}
+use Rattle.es_unsupported.specs.FirstUnsupported.{first_among, found_at}
+use Rattle.es_unsupported.specs.Shapes.{is_math_bound, shape_at}
+use Rattle.es_starts.specs.Starts.{LawFirstConditions}
+
+-- SITES from which names find the same. The site of the body of an arrow that is an expression has no parameters, which a node asks for
+-- where `var` declares in its scope: no such node is that body.
+
+record Near (asks : Bool) (s m : Site) : Type 0 where
+  role : m.role ≡ s.role
+  scope : m.names.scope ≡ s.names.scope
+  parameters : asks ≡ true → m.names.parameters ≡ s.names.parameters
+
+near-any : (b : Bool) (s m : Site) → Near true s m → Near b s m
+near-any b s m h = record { role = h.role; scope = h.scope; parameters = λ e. h.parameters refl }
+
+near-self : (s : Site) → Near true s s
+near-self s = record { role = refl; scope = refl; parameters = λ e. refl }
+
+var-near : (b : Bool) (P Q : Around) (bs cs : _) → (b ≡ true → Q.parameters ≡ P.parameters) → Q.scope ≡ P.scope →
+    (if b then within_vars Q.parameters bs (within cs Q.scope) else within cs Q.scope) ≡ (if b then within_vars P.parameters bs (within cs P.scope) else within cs P.scope)
+var-near true P Q bs cs h e = λ i. within_vars (h refl i) bs (within cs (e i))
+var-near false P Q bs cs h e = λ i. within cs (e i)
+
+near-in : (k : AstType) (s m : Site) (l : Label) (fs : OpenFields) → Near (is_var_scope k) s m → (i : ℕ) → Near true (site_in s k l fs i) (site_in m k l fs i)
+near-in k s m l fs h i =
+    let gs = finished_fields fs in
+    let rs = role_at s.role k l gs in
+    let lifted : (place_at m.names k l (role_at m.role k l gs) gs i).scope ≡ (place_at m.names k l rs gs i).scope = λ j. (place_at m.names k l (role_at (h.role j) k l gs) gs i).scope in
+    let vars : vars_in m.names k rs gs ≡ vars_in s.names k rs gs = var-near (is_var_scope k) s.names m.names (var_frame rs gs) (name_frame k rs gs) h.parameters h.scope in
+    let there : (place_at m.names k l rs gs i).scope ≡ (place_at s.names k l rs gs i).scope = λ j. if has_scope k && is_inside k i then within (frame k l rs gs) (vars j) else within (name_frame k rs gs) (h.scope j) in
+    record {
+      role = λ j. role_at (h.role j) k l gs i;
+      scope = lifted ∙ there;
+      parameters = λ e. λ j. (place_at m.names k l (role_at (h.role j) k l gs) gs i).parameters;
+    }
+
+-- THE BODY of an arrow
+
+arrow-body : (k : AstType) (i : ℕ) → is_body k i ≡ true → k ≡ ArrowFunctionExpression
+arrow-body ArrowFunctionExpression (suc zero) e = refl
+arrow-body _ i e = absurd (cc e)
+
+body-role : (r : Role) (k : AstType) (l : Label) (fs : Fields) (i : ℕ) → is_body k i ≡ true → role_at r k l fs i ≡ reads
+body-role r ArrowFunctionExpression l fs (suc zero) e = refl
+body-role r _ l fs i e = absurd (cc e)
+
+body-kind : (last : Bool) (k : AstType) (l : Label) (fs : Fields) → kind_fits ArrowFunctionExpression last k ≡ true → is_statement_body (node k l fs) ≡ false → is_var_scope k ≡ false
+body-kind last Program l fs h e = absurd (cc h)
+body-kind last StaticBlock l fs h e = absurd (cc h)
+body-kind last FunctionBody l fs h e = absurd (cc e)
+body-kind last _ l fs h e = refl
+
+-- EXPONENTIATIONS, which symbols don't change
+
+module _ (F : List Declared) where
+  big-field : (p : Place) (n : ℕ) (f : Field) → is_child is_big_int (resolved_by F p n f) ≡ is_child is_big_int f
+  big-field p n missing = refl
+  big-field p n (one (node k l fs)) = refl
+  big-field p n (many ts) = refl
+  big-field p n (statements ts) = refl
+
+  big-at : (i : ℕ) (ps : ℕ → Place) (n : ℕ) (fs : Fields) → is_child is_big_int (field_at i (resolved_in F ps n fs)) ≡ is_child is_big_int (field_at i fs)
+  big-at i ps n done = refl
+  big-at zero ps n (f then fs) = big-field (ps zero) n f
+  big-at (suc i) ps n (f then fs) = big-at i (λ j. ps (suc j)) (n + scope_count_in_field f) fs
+
+  power-kept : (ps : ℕ → Place) (n : ℕ) (k : AstType) (l : Label) (m : List (Option ℕ)) (fs : Fields) → is_exponentiation k (marked l m) (resolved_in F ps n fs) ≡ is_exponentiation k l fs
+  power-kept ps n BinaryExpression l m fs = λ i. bytes_eq (first_text l.texts) (codes "**") && not (big-at 0 ps n fs i) && not (big-at 1 ps n fs i)
+  power-kept ps n AssignmentExpression l m fs = λ i. bytes_eq (first_text l.texts) (codes "**=") && not (big-at 1 ps n fs i)
+  power-kept ps n _ l m fs = refl
+
+-- WHAT IS FOUND AMONG NODES
+
+left-none : {X : Type 0} (a b : Option X) → option_or a b ≡ None → a ≡ None
+left-none None b h = refl
+left-none (Some x) b h = h
+
+right-none : {X : Type 0} (a b : Option X) → option_or a b ≡ None → b ≡ None
+right-none None b h = h
+right-none (Some x) b h = absurd (cc h)
+
+abbrev FindsNone : EnvOptions → List Declared → List Visit → Type 0
+FindsNone o F vs = first_among o F vs ≡ None
+
+found-none : (o : EnvOptions) (F : List Declared) (v : Visit) (vs : List Visit) → FindsNone o F (v ∷ vs) → (shape_at o F v.place.around v.kind v.label v.fields ≡ None) × FindsNone o F vs
+found-none o F v vs h =
+    let shape = shape_at o F v.place.around v.kind v.label v.fields in
+    (at shape (left-none (found_at v.label.id shape) (first_among o F vs) h), right-none (found_at v.label.id shape) (first_among o F vs) h)
+  where
+    at : (shape : _) → found_at v.label.id shape ≡ None → shape ≡ None
+    at None e = refl
+    at (Some x) e = absurd (cc e)
+
+both-none : (o : EnvOptions) (F : List Declared) (vs ws : List Visit) → FindsNone o F (vs ++ ws) → FindsNone o F vs × FindsNone o F ws
+both-none o F [] ws h = (refl, h)
+both-none o F (v ∷ vs) ws h =
+    let here = found_at v.label.id (shape_at o F v.place.around v.kind v.label v.fields) in
+    let rest = both-none o F vs ws (right-none here (first_among o F (vs ++ ws)) h) in
+    (ap (λ s. option_or s (first_among o F vs)) (left-none here (first_among o F (vs ++ ws)) h) ∙ rest.0, rest.1)
+
+unbound : (o : EnvOptions) (F : List Declared) (up : List ℕ) (k : AstType) (l : Label) (fs : Fields) → shape_at o F up k l fs ≡ None → is_math_bound o F up k l fs ≡ false
+unbound o F up k l fs h = at (is_math_bound o F up k l fs) _ _ h
+  where
+    at : {X : Type 0} (b : Bool) (x : X) (y : Option X) → (if b then Some x else y) ≡ None → b ≡ false
+    at true x y e = absurd (cc e)
+    at false x y e = refl
+
+-- POWERS
+
+not-bound : (asked power bound : Bool) → (asked && power && bound) ≡ false → (not (asked && power) || not bound) ≡ true
+not-bound false power bound e = refl
+not-bound true false bound e = refl
+not-bound true true false e = refl
+not-bound true true true e = absurd (true≢false e)
+
+no-power : (asked bound : Bool) → (not (asked && false) || bound) ≡ true
+no-power true bound = refl
+no-power false bound = refl
+
+module _ (o : EnvOptions) (F : List Declared) where
+  own-free : (p : Place) (n : ℕ) (s m : Site) (k : AstType) (l : Label) (fs : Fields) → FindsAlike F p s → m.names.scope ≡ s.names.scope → shape_at o F p.around k l fs ≡ None →
+      is_power_free o m k (marked l (own_symbols F p n k l fs)) (resolved_in F (place_in p n k l fs) (n + own_scope_count k fs) fs) ≡ true
+  own-free p n s m k l fs found same none =
+      let kept = power-kept F (place_in p n k l fs) (n + own_scope_count k fs) k l (own_symbols F p n k l fs) fs in
+      let look : m.names.scope (codes "Math") ≡ find F p.around (codes "Math") = (λ i. same i (codes "Math")) ∙ found.scope (codes "Math") in
+      (λ i. not (o.es2016.exponentiation_operator && kept i) || not (is_some (look i)))
+      ∙ not-bound o.es2016.exponentiation_operator (is_exponentiation k l fs) (is_some (find F p.around (codes "Math"))) (unbound o F p.around k l fs none)
+
+  -- the site of the body of an arrow is near that of its field
+  near-body : (last : Bool) (p : Place) (n : ℕ) (s m : Site) (t : Tree) → Placed ArrowFunctionExpression last t → s.role ≡ reads → Near true s m → (b : Bool) → is_statement_body (resolved_tree F p n t) ≡ b →
+      Near (is_var_scope (kind_of t)) s (body_site m b (resolved_tree F p n t))
+  near-body last p n s m t placed reading near true is = near-any (is_var_scope (kind_of t)) s m near
+  near-body last p n s m (node k l fs) placed reading near false is = record {
+    role = sym reading;
+    scope = near.scope;
+    parameters = λ e. absurd (true≢false (sym e ∙ body-kind last k (marked l (own_symbols F p n k l fs)) (resolved_in F (place_in p n k l fs) (n + own_scope_count k fs) fs) placed.0 is));
+  }
+
+  mutual
+    free-tree : (above : AstType) (last : Bool) (p : Place) (n : ℕ) (s m : Site) (t : Tree) → Placed above last t → SideBySide (FindsAlike F) p n s t (resolved_tree F p n t) → Near (is_var_scope (kind_of t)) s m → FindsNone o F (visits p n t) →
+        powers_free o m (resolved_tree F p n t) ≡ true
+    free-tree above last p n s m (node k l fs) placed beside near none =
+        let gs = resolved_in F (place_in p n k l fs) (n + own_scope_count k fs) fs in
+        let lbl = marked l (own_symbols F p n k l fs) in
+        let both = found-none o F (record { place = p; next = n; kind = k; label = l; fields = fs }) (visits_in_fields (place_in p n k l fs) (n + own_scope_count k fs) fs) none in
+        and_from (is_power_free o m k lbl gs) (powers_free_in o (site_in m k lbl (opened_fields (is_body k) gs)) (is_body k) gs)
+        (own-free p n s m k l fs beside.0 near.scope both.0)
+        (free-in k (place_in p n k l fs) (n + own_scope_count k fs) (site_in s k lbl (opened_fields (is_body k) gs)) (site_in m k lbl (opened_fields (is_body k) gs)) (is_body k) fs placed.2 beside.1
+        (near-in k s m lbl (opened_fields (is_body k) gs) near) (λ i e. (arrow-body k i e, body-role s.role k lbl (finished_fields (opened_fields (is_body k) gs)) i e)) both.1)
+
+    free-in : (k : AstType) (ps : ℕ → Place) (n : ℕ) (ss ms : ℕ → Site) (bodies : ℕ → Bool) (fs : Fields) → PlacedIn k fs → SideBySideIn (FindsAlike F) ps n ss fs (resolved_in F ps n fs) → ((i : ℕ) → Near true (ss i) (ms i)) →
+        ((i : ℕ) → bodies i ≡ true → (k ≡ ArrowFunctionExpression) × ((ss i).role ≡ reads)) → FindsNone o F (visits_in_fields ps n fs) → powers_free_in o ms bodies (resolved_in F ps n fs) ≡ true
+    free-in k ps n ss ms bodies done placed beside near body none = refl
+    free-in k ps n ss ms bodies (f then fs) placed beside near body none =
+        let both = both-none o F (visits_in_field (ps zero) n f) (visits_in_fields (λ i. ps (suc i)) (n + scope_count_in_field f) fs) none in
+        let gs = resolved_in F (λ i. ps (suc i)) (n + scope_count_in_field f) fs in
+        and_from (powers_free_by o (ms zero) (bodies zero) (resolved_by F (ps zero) n f)) (powers_free_in o (λ i. ms (suc i)) (λ i. bodies (suc i)) gs)
+        (free-by k (is_last fs) (ps zero) n (ss zero) (ms zero) (bodies zero) f placed.0 beside.0 (near zero) (body zero) both.0)
+        (free-in k (λ i. ps (suc i)) (n + scope_count_in_field f) (λ i. ss (suc i)) (λ i. ms (suc i)) (λ i. bodies (suc i)) fs placed.1 beside.1 (λ i. near (suc i)) (λ i. body (suc i)) both.1)
+
+    free-by : (k : AstType) (last : Bool) (p : Place) (n : ℕ) (s m : Site) (b : Bool) (f : Field) → PlacedBy k last f → SideBySideBy (FindsAlike F) p n s f (resolved_by F p n f) → Near true s m →
+        (b ≡ true → (k ≡ ArrowFunctionExpression) × (s.role ≡ reads)) → FindsNone o F (visits_in_field p n f) → powers_free_by o m b (resolved_by F p n f) ≡ true
+    free-by k last p n s m true missing placed beside near body none = refl
+    free-by k last p n s m false missing placed beside near body none = refl
+    free-by k last p n s m true (one t) placed beside near body none =
+        let arrow = body refl in
+        let placed_so = subst (λ (z : AstType). Placed z last t) arrow.0 placed in
+        let u = resolved_tree F p n t in
+        free-tree ArrowFunctionExpression last p n s (body_site m (is_statement_body u) u) t placed_so beside (near-body last p n s m t placed_so arrow.1 near (is_statement_body u) refl) none
+    free-by k last p n s m false (one t) placed beside near body none = free-tree k last p n s m t placed beside (near-any (is_var_scope (kind_of t)) s m near) none
+    free-by k last p n s m true (many ts) placed beside near body none = free-all k p n s m ts placed beside near none
+    free-by k last p n s m false (many ts) placed beside near body none = free-all k p n s m ts placed beside near none
+    free-by k last p n s m true (statements ts) placed beside near body none = free-all k p n s m ts placed beside near none
+    free-by k last p n s m false (statements ts) placed beside near body none = free-all k p n s m ts placed beside near none
+
+    free-all : (k : AstType) (p : Place) (n : ℕ) (s m : Site) (ts : Trees) → PlacedAll k ts → SideBySideAll (FindsAlike F) p n s ts (resolved_among F p n ts) → Near true s m → FindsNone o F (visits_in_trees p n ts) →
+        powers_free_among o m (resolved_among F p n ts) ≡ true
+    free-all k p n s m empty placed beside near none = refl
+    free-all k p n s m (t before ts) placed beside near none =
+        let both = both-none o F (visits p n t) (visits_in_trees p (n + scope_count_in t) ts) none in
+        and_from (powers_free o m (resolved_tree F p n t)) (powers_free_among o m (resolved_among F p (n + scope_count_in t) ts))
+        (free-tree k false p n s m t placed.0 beside.0 (near-any (is_var_scope (kind_of t)) s m near) both.0)
+        (free-all k p (n + scope_count_in t) s m ts placed.1 beside.1 near both.1)
+
+-- THE PROGRAM
+
+program-free : (o : EnvOptions) (l : Label) (fs : Fields) → PlacedIn Program fs → InProgram (FindsAlike (symbols_of (node Program l fs))) (node Program l fs) (resolved (node Program l fs)) → FindsNone o (symbols_of (node Program l fs)) (visits (outermost (node Program l fs)) 1 (node Program l fs)) →
+    powers_free o the_program (resolved (node Program l fs)) ≡ true
+program-free o l fs placed beside none =
+    let p = node Program l fs in
+    let F = symbols_of p in
+    let ps = place_in (outermost p) 1 Program l fs in
+    let gs = resolved_in F ps 1 fs in
+    let lbl = marked l [] in
+    let sites = site_in the_program Program lbl (opened_fields (is_body Program) gs) in
+    let both = found-none o F (record { place = outermost p; next = 1; kind = Program; label = l; fields = fs }) (visits_in_fields ps 1 fs) none in
+    and_from (is_power_free o the_program Program lbl gs) (powers_free_in o sites (is_body Program) gs)
+    (no-power o.es2016.exponentiation_operator _)
+    (free-in o F Program ps 1 sites sites (is_body Program) fs placed beside (λ i. near-self (sites i)) (λ i e. absurd (cc e)) both.1)
+
+resolved-free : (o : EnvOptions) (p : Tree) → IsWellPlaced p → InProgram (FindsAlike (symbols_of p)) p (resolved p) → FindsNone o (symbols_of p) (visits (outermost p) 1 p) → powers_free o the_program (resolved p) ≡ true
+resolved-free o (node Program l fs) placed beside none = program-free o l fs placed.1 beside none
+resolved-free o (node k l fs) placed beside none = absurd (cc (placed.0))
+
+pub law_first_conditions_proof : LawFirstConditions
+law_first_conditions_proof o p form none =
+    let same = source-resolved p in
+    let beside = subst (λ (u : Tree). InProgram (FindsAlike (symbols_of p)) p u) same (law_source_sites_proof p form) in
+    and_from (holds_none_where false o (source p)) (powers_free o the_program (source p)) refl
+    (subst (λ (u : Tree). powers_free o the_program u ≡ true) (sym same) (resolved-free o p (form-placed p form) beside none))

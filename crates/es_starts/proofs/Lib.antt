@@ -1,0 +1,5 @@
+pub mod FirstFits
+pub mod FirstConditions
+pub mod FirstTable
+pub mod FirstContext
+pub mod BoundNames
