@@ -1,0 +1,81 @@
+-- What a visit counts on: a program that was read opens as one, and has room for ids; the conditions of a type that asks for
+-- nothing hold.
+use Rattle.std.proofs.Common.{◌≡◌, ◌<◌, ◌^◌, ◌∷◌, [], ℕ, Bool, zero, suc, refl, sym, subst, ap, arith, length}
+use Rattle.std.proofs.lemmas.Bool.{and_parts}
+use Rattle.std.specs.Prelude.{true, false, ◌&&◌}
+use Rattle.es_tree.specs.Arity.{Fits, list, statement_list}
+use Rattle.es_tree.specs.Attributes.{child_entries}
+use Rattle.es_tree.specs.HasForm.{elements_form, elements_of, fields_form, has_form, is_of_sort, match_option, trees_form}
+use Rattle.es_tree.specs.Tree.{Tree, node, Label, Fields, done, ◌then◌, Field, missing, one, many, statements, Trees, empty, ◌before◌, tree_size}
+use Rattle.es_tree.specs.declared.ast_type.AstType.{AstType}
+use Rattle.es_tree.specs.declared.ast_type.AstType.TheVariants.{Program}
+use Rattle.es_tree.specs.declared.table.Sort.TheVariants.{Directive as s-Directive, Program as s-Program, Statement as s-Statement}
+use Rattle.es_tree.proofs.NodeForm.{node_form}
+use Rattle.es_runs.specs.Weights.{weight}
+use Rattle.es_runs.proofs.Weights.{weight-size}
+use Rattle.es_statements.specs.ProgramArity.{IsProgram}
+use Rattle.es_steps.specs.Open.{is_statement_body, nothing_pending}
+use Rattle.es_steps.specs.Steps.{Site}
+use Rattle.es_changes.specs.Changes.{AsBody, Each, EachBy, EachIn, HasRoom, lists_weight}
+use Rattle.es_changes.specs.Conditions.{holds_before}
+use Rattle.es_changes.specs.Moments.{Moment}
+use Rattle.es_traverse.specs.Laws.{CanVisit}
+use Rattle.traverse_tests.specs.Quiet.{quiet}
+
+abbrev ChildrenForm : AstType → Label → Fields → Type 0
+ChildrenForm k l fs = match_option (elements_of (child_entries k)) (fields_form k l (child_entries k) fs) (λ p. elements_form p.sort p.last fs) ≡ true
+
+-- the directives, and the statements
+shape : (l : Label) (fs : Fields) → fields_form Program l (child_entries Program) fs ≡ true → Fits (list ∷ statement_list ∷ []) fs
+shape l (many ds then (statements body then done)) h = (tt, (tt, tt))
+shape l (many ds then (statements body then (g then fs))) h = absurd (cc (and_parts (trees_form s-Statement s-Statement body) false (and_parts (trees_form s-Directive s-Directive ds) (trees_form s-Statement s-Statement body && false) h).1).1)
+shape l (many ds then done) h = absurd (cc (and_parts (trees_form s-Directive s-Directive ds) false h).1)
+shape l (many ds then (missing then fs)) h = absurd (cc (and_parts (trees_form s-Directive s-Directive ds) false h).1)
+shape l (many ds then (one t then fs)) h = absurd (cc (and_parts (trees_form s-Directive s-Directive ds) false h).1)
+shape l (many ds then (many ts then fs)) h = absurd (cc (and_parts (trees_form s-Directive s-Directive ds) false h).1)
+shape l done h = absurd (cc h)
+shape l (missing then fs) h = absurd (cc h)
+shape l (one t then fs) h = absurd (cc h)
+shape l (statements ts then fs) h = absurd (cc h)
+
+pub opens : (p : Tree) → has_form s-Program p ≡ true → IsProgram p
+opens (node k l fs) h = at k (node_form s-Program k l fs h).sort (node_form s-Program k l fs h).children
+  where
+    at : (k : AstType) → is_of_sort s-Program k ≡ true → ChildrenForm k l fs → IsProgram (node k l fs)
+    at Program sort children = record { kind = refl; arity = shape l fs children }
+    at _ sort children = absurd (cc sort)
+
+-- ROOM, where the pair of the program is open
+
+pub some_pair : (a : Moment) → a.lists ≡ nothing_pending ∷ [] → 0 < length a.lists
+some_pair a lists = subst (λ ps. 0 < length ps) (sym lists) (omega arith)
+
+pub room : (p q : Tree) (a : Moment) → q ≡ p → a.lists ≡ nothing_pending ∷ [] → a.next ≡ tree_size p → tree_size p < 2 ^ 20 → HasRoom a (weight q)
+room p q a same lists next small = let light : lists_weight a.lists ≡ 0 = ap lists_weight lists in let w = weight-size p in let e = ap weight same in omega (arith, light, w, e, next, small)
+
+-- CONDITIONS
+
+abbrev Held : Site → Tree → Type 0
+Held = holds_before quiet.conditions
+
+each : (n : Site) (ts : Trees) → Each Held n ts
+each n empty = tt
+each n (t before ts) = (refl, each n ts)
+
+as_body : (n : Site) (b : Bool) (t : Tree) → AsBody Held n b t
+as_body n true t = refl
+as_body n false t = refl
+
+each_by : (n : Site) (b : Bool) (f : Field) → EachBy Held n b f
+each_by n b missing = tt
+each_by n true (one t) = as_body n (is_statement_body t) t
+each_by n false (one t) = refl
+each_by n b (many ts) = each n ts
+each_by n b (statements ts) = each n ts
+
+each_in : (sites : ℕ → Site) (bodies : ℕ → Bool) (fs : Fields) → EachIn Held sites bodies fs
+each_in sites bodies done = tt
+each_in sites bodies (f then fs) = (each_by (sites zero) (bodies zero) f, each_in (λ i. sites (suc i)) (λ i. bodies (suc i)) fs)
+
+pub can : CanVisit true quiet
+can = record { pairs = refl; sound = record { stronger = λ n t h. h; alike = λ n t s h. h; inward = λ n k l fs h. each_in _ _ fs }; bring = refl }
