@@ -1,0 +1,5 @@
+pub mod Sources
+pub mod BareNodes
+pub mod BareAncestors
+pub mod BarePlaces
+pub mod Results

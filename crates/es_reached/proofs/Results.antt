@@ -1,0 +1,109 @@
+-- What steps reach from a program is what it becomes.
+use Rattle.std.proofs.Common.{arith, ◌≡◌, refl, sym, subst, ap, ◌∙◌, inl, List, []}
+use Rattle.std.specs.Prelude.{true}
+use Rattle.es_tree.specs.Bare.{bare}
+use Rattle.es_tree.specs.HasForm.{has_form}
+use Rattle.es_tree.specs.StaticRules.{breaks}
+use Rattle.es_tree.specs.Tree.{Tree, node, kind_of}
+use Rattle.es_tree.specs.Words.{Text}
+use Rattle.es_tree.specs.declared.ast_type.AstType.TheVariants.{Program}
+use Rattle.es_tree.specs.declared.options.EnvOptions.{EnvOptions}
+use Rattle.es_tree.specs.declared.table.Sort.TheVariants.{Program as s-Program}
+use Rattle.es_tree.proofs.BareForm.{has_form-bare}
+use Rattle.es_runs.specs.Alike.{Need, all_of_it}
+use Rattle.es_runs.specs.Open as plain
+use Rattle.es_runs.specs.OpenRules as plain_rules
+use Rattle.es_runs.specs.OpenSteps as plain_steps
+use Rattle.es_runs.proofs.OpenLaws.{law_reached_bindings_proof, law_reached_proof}
+use Rattle.es_runs.proofs.StaticLaws.{law_reached_rules_proof}
+use Rattle.es_runs.proofs.StaticMarks.{tidy_source}
+use Rattle.es_resolution.specs.Laws.{source}
+use Rattle.es_resolution.proofs.Forms.{form-placed}
+use Rattle.es_steps.specs.AllRules.{AllRules}
+use Rattle.es_steps.specs.CoreBridge.{Reached, first_whole}
+use Rattle.es_steps.specs.CoreRules.{CoreRule, rule_under}
+use Rattle.es_steps.specs.Laws.{IsWellBound}
+use Rattle.es_steps.specs.Steps.{Whole}
+use Rattle.es_steps.proofs.BridgeInclusion.{all_under}
+use Rattle.es_steps.proofs.BridgeStart.{law_first_whole_proof, law_reached_by_name_proof}
+use Rattle.es_steps.proofs.CoreLaws.{law_rules_under_proof}
+use Rattle.es_steps.proofs.FormSteps.{law_form_reached_proof}
+use Rattle.es_steps.proofs.Reached.{law_bindings_proof}
+use Rattle.es_steps.proofs.Start.{law_start_proof}
+use Rattle.es_valid_steps.proofs.PlaceSteps.{law_places_reached_proof}
+use Rattle.es_valid_steps.proofs.Visits.{law_among_proof}
+use Rattle.es_reached.specs.Reached.{LawCoreResult, LawFirst, LawResult}
+use Rattle.es_reached.proofs.BarePlaces.{law_bare_places_proof}
+use Rattle.es_reached.proofs.Sources.{law_bare_source_proof}
+
+-- THE SOURCE
+
+form-same : (t u : Tree) → bare t ≡ bare u → has_form s-Program t ≡ true → has_form s-Program u ≡ true
+form-same t u same h = sym (has_form-bare s-Program u) ∙ ap (has_form s-Program) (sym same) ∙ has_form-bare s-Program t ∙ h
+
+program-kind : (t : Tree) → has_form s-Program t ≡ true → kind_of t ≡ Program
+program-kind (node k l fs) h = (form-placed (node k l fs) h).0
+
+source-form : (p : Tree) → has_form s-Program p ≡ true → has_form s-Program (source p) ≡ true
+source-form p h = form-same p (source p) (sym (law_bare_source_proof p)) h
+
+source-well-bound : (p : Tree) → has_form s-Program p ≡ true → breaks p ≡ [] → IsWellBound (first_whole p) (source p)
+source-well-bound p form right = law_start_proof p (first_whole p) form right (λ x e. rw e refl) (omega arith) (λ s. refl)
+
+-- EVERY PROGRAM
+
+pub law_result_proof : LawResult
+law_result_proof o p q r names form right h written =
+    let w = first_whole p in
+    let form_there = source-form p form in
+    let kept_there = law_bare_places_proof p (source p) (sym (law_bare_source_proof p)) (law_among_proof p right) in
+    let by_all = all_under (rule_under o) (AllRules o) (λ n s x s' y a. inl a) h.steps in
+    record {
+      resolved = r;
+      written = written;
+      reached = h;
+      bindings = law_bindings_proof o (source p) r w h.whole (program-kind (source p) form_there) (source-well-bound p form right) by_all;
+      form = form-same r q written (law_form_reached_proof o (source p) r w h.whole form_there h.steps);
+      kept = law_bare_places_proof r q written (law_places_reached_proof o (source p) r w h.whole form_there kept_there h.steps);
+    }
+
+-- CORE PROGRAMS
+
+-- steps by names speak of trees without ids and marks
+written-too : (R : Need → plain_steps.Ledger → plain_steps.Spot → plain_steps.Ledger → plain_steps.Spot → Type 0) (p q r : Tree) (names : List Text) → bare r ≡ bare q → plain_steps.Reached R p names r → plain_steps.Reached R p names q
+written-too R p q r names same h = record {
+  whole = h.whole;
+  steps = subst (λ (t : Tree). plain_steps.Steps (plain_steps.Step R all_of_it) (plain_steps.ledger (plain_steps.whole_of p) plain.nothing_pending) (plain.opened (bare p)) (plain_steps.ledger h.whole plain.nothing_pending) (plain.opened t)) same h.steps;
+  made = h.made;
+  others = h.others;
+}
+
+-- by all core rules together
+by-core : (o : EnvOptions) (p r : Tree) (w : Whole) (names : List Text) → Reached (rule_under o) p w names r → Reached (CoreRule o) p w names r
+by-core o p r w names h = record { whole = h.whole; steps = all_under (rule_under o) (CoreRule o) (λ n s x s' y a. law_rules_under_proof o n s s' x y a) h.steps; made = h.made }
+
+pub law_core_result_proof : LawCoreResult
+law_core_result_proof o p q names core right h =
+    let no_all = o.assumptions.no_document_all in
+    let w = first_whole p in
+    let start = law_first_whole_proof p in
+    let laws = law_reached_by_name_proof o in
+    let under = written-too (plain_rules.rule_under o) p q h.resolved names h.written (laws.1 p h.resolved w names core start h.reached) in
+    let all = written-too (plain_rules.CoreRule no_all) p q h.resolved names h.written (laws.2 p h.resolved w names core start (by-core o p h.resolved w names h.reached)) in
+    record {
+      reached = under;
+      alike = law_reached_proof no_all p q names core (tidy_source p core right) all;
+      bindings = law_reached_bindings_proof no_all p q names core all;
+      kept = law_reached_rules_proof no_all p q names core right all;
+    }
+
+-- WHERE STEPS BEGIN
+
+pub law_first_proof : LawFirst
+law_first_proof p w h = λ i. record {
+  in_use = λ x. h.in_use x i;
+  steady = λ s. h.steady s i;
+  free_symbol = h.free_symbol i;
+  called = λ s. h.called s i;
+  made = h.made i;
+}

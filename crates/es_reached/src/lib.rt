@@ -1,0 +1,39 @@
+//! What a lowering of a program means, of whatever kind the program is, and that the steps of a visit lead to it. The functions do
+//! nothing: their contracts are laws over the definitions.
+#![tactic(auto)]
+
+ghost use Rattle.es_reached.specs.BareTrees.{LawBarePlaces, LawBareSeen, LawBareSource};
+ghost use Rattle.es_reached.specs.Reached.{LawCoreResult, LawFirst, LawResult};
+
+/// What steps of the core rules that options ask for reach from a program that has form and breaks no static rule, with nothing pending,
+/// is what the program becomes, however it is written: names keep their bindings, and the written program has form and breaks no rule of
+/// places.
+pub fn law_result()
+    ensures { LawResult }
+{}
+
+/// If the program is a core program, the written one is reached by names, runs alike, binds its names where they were bound, and breaks
+/// none of the nineteen static rules.
+pub fn law_core_result()
+    ensures { LawCoreResult }
+{}
+
+/// What is known of a whole before the first step tells which one it is.
+pub fn law_first()
+    ensures { LawFirst }
+{}
+
+/// What is seen of a tree with the marks of a scope table is the tree, but for ids and marks.
+pub fn law_bare_seen()
+    ensures { LawBareSeen }
+{}
+
+/// So is the source of a program the program.
+pub fn law_bare_source()
+    ensures { LawBareSource }
+{}
+
+/// No rule of places asks for ids or marks.
+pub fn law_bare_places()
+    ensures { LawBarePlaces }
+{}
