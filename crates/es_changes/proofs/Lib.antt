@@ -11,4 +11,3 @@ pub mod InField
 pub mod TreeLaws
 pub mod BodyLaws
 pub mod ProgramLaws
-pub mod CoreConditions

@@ -3,5 +3,4 @@ pub mod Fits
 pub mod Changes
 pub mod Rules
 pub mod Conditions
-pub mod CoreConditions
 pub mod Laws

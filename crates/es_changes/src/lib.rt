@@ -2,7 +2,6 @@
 //! contracts are laws over the definitions.
 #![tactic(auto)]
 
-ghost use Rattle.es_changes.specs.CoreConditions.{LawConditions};
 ghost use Rattle.es_changes.specs.Laws.{LawBody, LawExpression, LawField, LawFields, LawLawful, LawProgram, LawStillFits, LawTrees};
 
 /// What has the form of an expression is no body and no import, and declares nothing around it.
@@ -43,10 +42,4 @@ pub fn law_program()
 /// The rules of the lowerings that options ask for are lawful.
 pub fn law_lawful()
     ensures { LawLawful }
-{}
-
-/// What a visit by the core lowerings knows of nodes goes inward: slots that aren't wrapped hold nothing that they would be wrapped for, and
-/// `Math` is unbound wherever an exponentiation is to be lowered.
-pub fn law_conditions()
-    ensures { LawConditions }
 {}

@@ -1,15 +1,21 @@
--- The source of a program meets the conditions of a visit by the core lowerings: at each exponentiation that is to be lowered `Math` finds
--- nothing, side by side over the program at its places and the source at its sites.
+-- The source of a program meets the conditions of a visit by the core lowerings. At each exponentiation that is to be lowered `Math` finds
+-- nothing, side by side over the program at its places and the source at its sites; chains stand as the static rules have them.
 use Rattle.std.proofs.Common.{◌≡◌, ℕ, zero, suc, ◌+◌, refl, sym, ap, subst, ◌∙◌, List, [], ◌∷◌, ◌++◌}
 use Rattle.std.specs.Prelude.{Bool, true, false, not, ◌&&◌, ◌||◌, Option, Some, None, bytes_eq, is_some, codes, if◌then◌else◌}
 use Rattle.std.specs.Option.{option_or}
-use Rattle.std.proofs.lemmas.Bool.{and_from, true≢false}
+use Rattle.std.proofs.lemmas.Bool.{and_from, and_parts, true≢false}
 use Rattle.es_tree.specs.Constructs.{field_at, is_big_int, is_child, is_exponentiation}
+use Rattle.es_tree.specs.HasForm.{has_form}
 use Rattle.es_tree.specs.Names.{first_text}
 use Rattle.es_tree.specs.Tree.{Tree, node, Label, Fields, done, ◌then◌, Field, missing, one, many, statements, Trees, empty, ◌before◌, kind_of}
+use Rattle.es_tree.specs.Walks.{any_node}
 use Rattle.es_tree.specs.declared.ast_type.AstType.{AstType}
 use Rattle.es_tree.specs.declared.ast_type.AstType.TheVariants.{ArrowFunctionExpression, AssignmentExpression, BinaryExpression, FunctionBody, Program, StaticBlock}
 use Rattle.es_tree.specs.declared.options.EnvOptions.{EnvOptions}
+use Rattle.es_tree.specs.declared.table.Sort.TheVariants.{Program as s-Program}
+use Rattle.es_tree.proofs.NodeForm.{node_form}
+use Rattle.es_runs.specs.Rules.{strays}
+use Rattle.es_runs.proofs.TidyBare.{strays-bare}
 use Rattle.es_semantic.specs.Places.{Place, Visit, is_inside, outermost, own_scope_count, place_in, scope_count_in, scope_count_in_field, visits, visits_in_field, visits_in_fields, visits_in_trees}
 use Rattle.es_semantic.specs.RolesOf.{reads, role_at}
 use Rattle.es_semantic.specs.SymbolsOf.{Declared, find, symbols_of}
@@ -26,10 +32,16 @@ use Rattle.es_steps.specs.Open.{OpenFields, finished_fields, is_body, is_stateme
 use Rattle.es_steps.specs.SourceSites.{FindsAlike, InProgram, SideBySide, SideBySideAll, SideBySideBy, SideBySideIn}
 use Rattle.es_steps.specs.Steps.{Site, site_in, the_program}
 use Rattle.es_steps.proofs.SourceSites.{law_source_sites_proof}
-use Rattle.es_changes.specs.CoreConditions.{body_site, holds_none_where, is_power_free, powers_free, powers_free_among, powers_free_by, powers_free_in}
-use Rattle.es_unsupported.specs.FirstUnsupported.{first_among, found_at}
+use Rattle.es_valid_steps.proofs.Visits.{law_among_proof, law_places_proof}
+use Rattle.es_conditions.specs.CoreConditions.{body_site, each_passes, each_passes_among, each_passes_by, each_passes_in, holds_none_where, is_chain_inside, is_known, is_power_free, is_settled, is_unmarked_chain, is_wrapped}
+use Rattle.es_conditions.proofs.Inward.{is-known}
+use Rattle.es_conditions.proofs.Marks.{none-where}
+use Rattle.es_unsupported.specs.FirstUnsupported.{first_among, first_unsupported, found_at}
 use Rattle.es_unsupported.specs.Shapes.{is_math_bound, shape_at}
 use Rattle.es_starts.specs.Starts.{LawFirstConditions}
+use Rattle.es_starts.proofs.ChainMarks.{full-bare, full-tree, tidy-tree}
+use Rattle.es_starts.proofs.ChainPlaces.{alike-self, chain_test, passes-bare, placed-tree}
+use Rattle.es_starts.proofs.FirstFits.{source-bare, source-form}
 
 -- SITES from which names find the same. The site of the body of an arrow that is an expression has no parameters, which a node asks for
 -- where `var` declares in its scope: no such node is that body.
@@ -167,28 +179,28 @@ module _ (o : EnvOptions) (F : List Declared) where
 
   mutual
     free-tree : (above : AstType) (last : Bool) (p : Place) (n : ℕ) (s m : Site) (t : Tree) → Placed above last t → SideBySide (FindsAlike F) p n s t (resolved_tree F p n t) → Near (is_var_scope (kind_of t)) s m → FindsNone o F (visits p n t) →
-        powers_free o m (resolved_tree F p n t) ≡ true
+        each_passes (is_power_free o) m (resolved_tree F p n t) ≡ true
     free-tree above last p n s m (node k l fs) placed beside near none =
         let gs = resolved_in F (place_in p n k l fs) (n + own_scope_count k fs) fs in
         let lbl = marked l (own_symbols F p n k l fs) in
         let both = found-none o F (record { place = p; next = n; kind = k; label = l; fields = fs }) (visits_in_fields (place_in p n k l fs) (n + own_scope_count k fs) fs) none in
-        and_from (is_power_free o m k lbl gs) (powers_free_in o (site_in m k lbl (opened_fields (is_body k) gs)) (is_body k) gs)
+        and_from (is_power_free o m k lbl gs) (each_passes_in (is_power_free o) (site_in m k lbl (opened_fields (is_body k) gs)) (is_body k) gs)
         (own-free p n s m k l fs beside.0 near.scope both.0)
         (free-in k (place_in p n k l fs) (n + own_scope_count k fs) (site_in s k lbl (opened_fields (is_body k) gs)) (site_in m k lbl (opened_fields (is_body k) gs)) (is_body k) fs placed.2 beside.1
         (near-in k s m lbl (opened_fields (is_body k) gs) near) (λ i e. (arrow-body k i e, body-role s.role k lbl (finished_fields (opened_fields (is_body k) gs)) i e)) both.1)
 
     free-in : (k : AstType) (ps : ℕ → Place) (n : ℕ) (ss ms : ℕ → Site) (bodies : ℕ → Bool) (fs : Fields) → PlacedIn k fs → SideBySideIn (FindsAlike F) ps n ss fs (resolved_in F ps n fs) → ((i : ℕ) → Near true (ss i) (ms i)) →
-        ((i : ℕ) → bodies i ≡ true → (k ≡ ArrowFunctionExpression) × ((ss i).role ≡ reads)) → FindsNone o F (visits_in_fields ps n fs) → powers_free_in o ms bodies (resolved_in F ps n fs) ≡ true
+        ((i : ℕ) → bodies i ≡ true → (k ≡ ArrowFunctionExpression) × ((ss i).role ≡ reads)) → FindsNone o F (visits_in_fields ps n fs) → each_passes_in (is_power_free o) ms bodies (resolved_in F ps n fs) ≡ true
     free-in k ps n ss ms bodies done placed beside near body none = refl
     free-in k ps n ss ms bodies (f then fs) placed beside near body none =
         let both = both-none o F (visits_in_field (ps zero) n f) (visits_in_fields (λ i. ps (suc i)) (n + scope_count_in_field f) fs) none in
         let gs = resolved_in F (λ i. ps (suc i)) (n + scope_count_in_field f) fs in
-        and_from (powers_free_by o (ms zero) (bodies zero) (resolved_by F (ps zero) n f)) (powers_free_in o (λ i. ms (suc i)) (λ i. bodies (suc i)) gs)
+        and_from (each_passes_by (is_power_free o) (ms zero) (bodies zero) (resolved_by F (ps zero) n f)) (each_passes_in (is_power_free o) (λ i. ms (suc i)) (λ i. bodies (suc i)) gs)
         (free-by k (is_last fs) (ps zero) n (ss zero) (ms zero) (bodies zero) f placed.0 beside.0 (near zero) (body zero) both.0)
         (free-in k (λ i. ps (suc i)) (n + scope_count_in_field f) (λ i. ss (suc i)) (λ i. ms (suc i)) (λ i. bodies (suc i)) fs placed.1 beside.1 (λ i. near (suc i)) (λ i. body (suc i)) both.1)
 
     free-by : (k : AstType) (last : Bool) (p : Place) (n : ℕ) (s m : Site) (b : Bool) (f : Field) → PlacedBy k last f → SideBySideBy (FindsAlike F) p n s f (resolved_by F p n f) → Near true s m →
-        (b ≡ true → (k ≡ ArrowFunctionExpression) × (s.role ≡ reads)) → FindsNone o F (visits_in_field p n f) → powers_free_by o m b (resolved_by F p n f) ≡ true
+        (b ≡ true → (k ≡ ArrowFunctionExpression) × (s.role ≡ reads)) → FindsNone o F (visits_in_field p n f) → each_passes_by (is_power_free o) m b (resolved_by F p n f) ≡ true
     free-by k last p n s m true missing placed beside near body none = refl
     free-by k last p n s m false missing placed beside near body none = refl
     free-by k last p n s m true (one t) placed beside near body none =
@@ -203,18 +215,18 @@ module _ (o : EnvOptions) (F : List Declared) where
     free-by k last p n s m false (statements ts) placed beside near body none = free-all k p n s m ts placed beside near none
 
     free-all : (k : AstType) (p : Place) (n : ℕ) (s m : Site) (ts : Trees) → PlacedAll k ts → SideBySideAll (FindsAlike F) p n s ts (resolved_among F p n ts) → Near true s m → FindsNone o F (visits_in_trees p n ts) →
-        powers_free_among o m (resolved_among F p n ts) ≡ true
+        each_passes_among (is_power_free o) m (resolved_among F p n ts) ≡ true
     free-all k p n s m empty placed beside near none = refl
     free-all k p n s m (t before ts) placed beside near none =
         let both = both-none o F (visits p n t) (visits_in_trees p (n + scope_count_in t) ts) none in
-        and_from (powers_free o m (resolved_tree F p n t)) (powers_free_among o m (resolved_among F p (n + scope_count_in t) ts))
+        and_from (each_passes (is_power_free o) m (resolved_tree F p n t)) (each_passes_among (is_power_free o) m (resolved_among F p (n + scope_count_in t) ts))
         (free-tree k false p n s m t placed.0 beside.0 (near-any (is_var_scope (kind_of t)) s m near) both.0)
         (free-all k p (n + scope_count_in t) s m ts placed.1 beside.1 near both.1)
 
 -- THE PROGRAM
 
 program-free : (o : EnvOptions) (l : Label) (fs : Fields) → PlacedIn Program fs → InProgram (FindsAlike (symbols_of (node Program l fs))) (node Program l fs) (resolved (node Program l fs)) → FindsNone o (symbols_of (node Program l fs)) (visits (outermost (node Program l fs)) 1 (node Program l fs)) →
-    powers_free o the_program (resolved (node Program l fs)) ≡ true
+    each_passes (is_power_free o) the_program (resolved (node Program l fs)) ≡ true
 program-free o l fs placed beside none =
     let p = node Program l fs in
     let F = symbols_of p in
@@ -223,17 +235,82 @@ program-free o l fs placed beside none =
     let lbl = marked l [] in
     let sites = site_in the_program Program lbl (opened_fields (is_body Program) gs) in
     let both = found-none o F (record { place = outermost p; next = 1; kind = Program; label = l; fields = fs }) (visits_in_fields ps 1 fs) none in
-    and_from (is_power_free o the_program Program lbl gs) (powers_free_in o sites (is_body Program) gs)
+    and_from (is_power_free o the_program Program lbl gs) (each_passes_in (is_power_free o) sites (is_body Program) gs)
     (no-power o.es2016.exponentiation_operator _)
     (free-in o F Program ps 1 sites sites (is_body Program) fs placed beside (λ i. near-self (sites i)) (λ i e. absurd (cc e)) both.1)
 
-resolved-free : (o : EnvOptions) (p : Tree) → IsWellPlaced p → InProgram (FindsAlike (symbols_of p)) p (resolved p) → FindsNone o (symbols_of p) (visits (outermost p) 1 p) → powers_free o the_program (resolved p) ≡ true
+resolved-free : (o : EnvOptions) (p : Tree) → IsWellPlaced p → InProgram (FindsAlike (symbols_of p)) p (resolved p) → FindsNone o (symbols_of p) (visits (outermost p) 1 p) → each_passes (is_power_free o) the_program (resolved p) ≡ true
 resolved-free o (node Program l fs) placed beside none = program-free o l fs placed.1 beside none
 resolved-free o (node k l fs) placed beside none = absurd (cc (placed.0))
 
-pub law_first_conditions_proof : LawFirstConditions
-law_first_conditions_proof o p form none =
+power-free : (o : EnvOptions) (p : Tree) → has_form s-Program p ≡ true → first_unsupported o p ≡ None → each_passes (is_power_free o) the_program (source p) ≡ true
+power-free o p form none =
     let same = source-resolved p in
     let beside = subst (λ (u : Tree). InProgram (FindsAlike (symbols_of p)) p u) same (law_source_sites_proof p form) in
-    and_from (holds_none_where false o (source p)) (powers_free o the_program (source p)) refl
-    (subst (λ (u : Tree). powers_free o the_program u ≡ true) (sym same) (resolved-free o p (form-placed p form) beside none))
+    subst (λ (u : Tree). each_passes (is_power_free o) the_program u ≡ true) (sym same) (resolved-free o p (form-placed p form) beside none)
+
+-- BOTH TESTS at each node
+
+module _ (a b : Site → AstType → Label → Fields → Bool) where
+  abbrev both_tests : Site → AstType → Label → Fields → Bool
+  both_tests n k l fs = a n k l fs && b n k l fs
+
+  mutual
+    both-pass : (n : Site) (t : Tree) → each_passes a n t ≡ true → each_passes b n t ≡ true → each_passes both_tests n t ≡ true
+    both-pass n (node k l fs) h g =
+        let sites = site_in n k l (opened_fields (is_body k) fs) in
+        let x = and_parts (a n k l fs) (each_passes_in a sites (is_body k) fs) h in
+        let y = and_parts (b n k l fs) (each_passes_in b sites (is_body k) fs) g in
+        and_from (both_tests n k l fs) (each_passes_in both_tests sites (is_body k) fs) (and_from (a n k l fs) (b n k l fs) x.0 y.0) (both-in sites (is_body k) fs x.1 y.1)
+
+    both-in : (sites : ℕ → Site) (bodies : ℕ → Bool) (fs : Fields) → each_passes_in a sites bodies fs ≡ true → each_passes_in b sites bodies fs ≡ true → each_passes_in both_tests sites bodies fs ≡ true
+    both-in sites bodies done h g = refl
+    both-in sites bodies (f then fs) h g =
+        let x = and_parts (each_passes_by a (sites zero) (bodies zero) f) (each_passes_in a (λ i. sites (suc i)) (λ i. bodies (suc i)) fs) h in
+        let y = and_parts (each_passes_by b (sites zero) (bodies zero) f) (each_passes_in b (λ i. sites (suc i)) (λ i. bodies (suc i)) fs) g in
+        and_from (each_passes_by both_tests (sites zero) (bodies zero) f) (each_passes_in both_tests (λ i. sites (suc i)) (λ i. bodies (suc i)) fs) (both-by (sites zero) (bodies zero) f x.0 y.0) (both-in (λ i. sites (suc i)) (λ i. bodies (suc i)) fs x.1 y.1)
+
+    both-by : (n : Site) (c : Bool) (f : Field) → each_passes_by a n c f ≡ true → each_passes_by b n c f ≡ true → each_passes_by both_tests n c f ≡ true
+    both-by n true missing h g = refl
+    both-by n false missing h g = refl
+    both-by n true (one t) h g = both-pass (body_site n (is_statement_body t) t) t h g
+    both-by n false (one t) h g = both-pass n t h g
+    both-by n true (many ts) h g = both-among n ts h g
+    both-by n false (many ts) h g = both-among n ts h g
+    both-by n true (statements ts) h g = both-among n ts h g
+    both-by n false (statements ts) h g = both-among n ts h g
+
+    both-among : (n : Site) (ts : Trees) → each_passes_among a n ts ≡ true → each_passes_among b n ts ≡ true → each_passes_among both_tests n ts ≡ true
+    both-among n empty h g = refl
+    both-among n (t before ts) h g =
+        let x = and_parts (each_passes a n t) (each_passes_among a n ts) h in
+        let y = and_parts (each_passes b n t) (each_passes_among b n ts) g in
+        and_from (each_passes both_tests n t) (each_passes_among both_tests n ts) (both-pass n t x.0 y.0) (both-among n ts x.1 y.1)
+
+-- THE LAW
+
+-- a program is no chain, and brings nothing about
+program-kind : (k : AstType) (l : Label) (fs : Fields) → has_form s-Program (node k l fs) ≡ true → k ≡ Program
+program-kind Program l fs h = refl
+program-kind k l fs h = absurd (true≢false (sym (node_form s-Program k l fs h).sort))
+
+no-chain : (t : Tree) → has_form s-Program t ≡ true → is_chain_inside t ≡ false
+no-chain (node k l fs) h = at k (program-kind k l fs h)
+  where
+    at : (k : AstType) → k ≡ Program → is_chain_inside (node k l fs) ≡ false
+    at k e = subst (λ (k : AstType). is_chain_inside (node k l fs) ≡ false) (sym e) refl
+
+settled : (o : EnvOptions) (t : Tree) → has_form s-Program t ≡ true → is_settled o t ≡ true
+settled o (node k l fs) h = subst (λ (k : AstType). is_settled o (node k l fs) ≡ true) (sym (program-kind k l fs h)) (none-where o.es2020.optional_chaining false (λ on. refl))
+
+pub law_first_conditions_proof : LawFirstConditions
+law_first_conditions_proof o p form right none =
+    let u = source p in
+    let keeps = (law_places_proof p).to_places (law_among_proof p right) in
+    let same = source-bare p in
+    let chains = sym (passes-bare o the_program the_program u (alike-self o the_program)) ∙ (ap (each_passes (chain_test o) the_program) same ∙ (passes-bare o the_program the_program p (alike-self o the_program) ∙ placed-tree o s-Program [] the_program p form keeps (λ c. absurd (true≢false (sym c ∙ no-chain p form))))) in
+    let placed = both-pass (is_power_free o) (chain_test o) the_program u (power-free o p form none) chains in
+    let tidy = sym (strays-bare false u) ∙ (ap (strays false) same ∙ (strays-bare false p ∙ tidy-tree [] p keeps)) in
+    let full = sym (full-bare u) ∙ (ap (any_node is_unmarked_chain) same ∙ (full-bare p ∙ full-tree [] p keeps)) in
+    let known = is-known o the_program u (record { placed = placed; marked = record { tidy = λ on. tidy; full = λ on. full }; value = λ on c. absurd (true≢false (sym c ∙ no-chain u (source-form p form))) }) in
+    and_from (is_wrapped o the_program u) (is_settled o u) (and_from (holds_none_where false o u) (is_known o the_program u) refl known) (settled o u (source-form p form))

@@ -4,7 +4,7 @@ use Rattle.std.specs.Prelude.{◌||◌, true}
 use Rattle.es_tree.specs.Fresh.{is_among}
 use Rattle.es_tree.specs.Names.{names_of}
 use Rattle.es_tree.specs.Tree.{Tree}
-use Rattle.es_scope.specs.ContextSymbols.{called_of, free_symbol_of}
+use Rattle.es_scope.specs.ContextSymbols.{free_symbol_of}
 use Rattle.es_scope.specs.Contexts.{table_of}
 use Rattle.es_scope.specs.declared.context.TraverseCtx.{TraverseCtx}
 use Rattle.es_semantic.specs.ReferencesOf.{marked_program}
@@ -30,5 +30,5 @@ first-of-context p pending ctx h =
       free_symbol = t.count;
       called = λ s e. t.names s;
       steady = t.steady;
-      made = ap (bound_names (called_of ctx) (free_symbol_of ctx)) h.made;
+      made = ap (bound_names (free_symbol_of ctx)) h.made;
     }

@@ -85,10 +85,12 @@ mutual
   bare-among F p n empty = refl
   bare-among F p n (t before ts) = λ i. bare-tree F p n t i before bare-among F p (n + scope_count_in t) ts i
 
-source-form : (p : Tree) → has_form s-Program p ≡ true → has_form s-Program (source p) ≡ true
+pub source-bare : (p : Tree) → bare (source p) ≡ bare p
+source-bare p = ap bare (source-resolved p) ∙ bare-tree (symbols_of p) (outermost p) 1 p
+
+pub source-form : (p : Tree) → has_form s-Program p ≡ true → has_form s-Program (source p) ≡ true
 source-form p form =
-    let same : bare (source p) ≡ bare p = ap bare (source-resolved p) ∙ bare-tree (symbols_of p) (outermost p) 1 p in
-    sym (has_form-bare s-Program (source p)) ∙ ap (has_form s-Program) same ∙ has_form-bare s-Program p ∙ form
+    sym (has_form-bare s-Program (source p)) ∙ ap (has_form s-Program) (source-bare p) ∙ has_form-bare s-Program p ∙ form
 
 -- NAMES IN USE
 

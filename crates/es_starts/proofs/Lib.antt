@@ -1,3 +1,5 @@
+pub mod ChainMarks
+pub mod ChainPlaces
 pub mod FirstFits
 pub mod FirstConditions
 pub mod FirstTable

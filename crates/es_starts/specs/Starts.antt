@@ -19,7 +19,7 @@ use Rattle.es_steps.specs.CoreBridge.{is_steady_symbol, is_written_name}
 use Rattle.es_steps.specs.Open.{nothing_pending}
 use Rattle.es_steps.specs.Steps.{the_program}
 use Rattle.es_changes.specs.Conditions.{holds_after}
-use Rattle.es_changes.specs.CoreConditions.{core_conditions}
+use Rattle.es_conditions.specs.CoreConditions.{core_conditions}
 use Rattle.es_changes.specs.Fits.{Fits}
 use Rattle.es_changes.specs.Moments.{Moment}
 use Rattle.es_unsupported.specs.FirstUnsupported.{first_unsupported}
@@ -40,9 +40,10 @@ pub record IsFirst (p : Tree) (a : Moment) : Type 0 where
 abbrev pub LawFits : Type 0
 LawFits = (p : Tree) (a : Moment) → has_form s-Program p ≡ true → breaks p ≡ [] → IsFirst p a → Fits a the_program (source p)
 
--- Where no node of the program has a shape that a run doesn't take, its source meets the conditions of a visit by the core lowerings.
+-- Where it breaks no static rule, and no node of the program has a shape that a run doesn't take, its source meets the conditions of a
+-- visit by the core lowerings.
 abbrev pub LawFirstConditions : Type 0
-LawFirstConditions = (o : EnvOptions) (p : Tree) → has_form s-Program p ≡ true → first_unsupported o p ≡ None → holds_after (core_conditions o) the_program (source p)
+LawFirstConditions = (o : EnvOptions) (p : Tree) → has_form s-Program p ≡ true → breaks p ≡ [] → first_unsupported o p ≡ None → holds_after (core_conditions o) the_program (source p)
 
 -- The scope table of a program tells its symbols as the first moment has them.
 pub record TellsSymbols (p : Tree) (s : Scoping) : Type 0 where

@@ -1,5 +1,5 @@
 -- The hooks of two types, one after the other, keep the promises of both.
-use Rattle.std.proofs.Common.{◌≡◌, ◌<◌, ◌∙◌, ◌⊎◌, ℕ, Bool, true, false, refl, sym, subst, arith, inl, inr, true≢false, length, List}
+use Rattle.std.proofs.Common.{◌≡◌, ◌+◌, ◌<◌, ◌∙◌, ◌⊎◌, ℕ, Bool, true, false, refl, sym, subst, arith, inl, inr, true≢false, length, List}
 use Rattle.std.specs.Prelude.{cond, ◌&&◌, not}
 use Rattle.es_tree.specs.Tree.{Tree, Trees, empty, ◌before◌}
 use Rattle.es_tree.specs.declared.options.EnvOptions.{EnvOptions}
@@ -14,7 +14,10 @@ use Rattle.es_changes.specs.Conditions.{Conditions, holds_after, holds_before}
 use Rattle.es_changes.specs.Moments.{Moment, with_pair}
 use Rattle.es_changes.proofs.StillFits.{still-fits}
 use Rattle.es_changes.proofs.StepRows.{steps-trans}
-use Rattle.es_traverse.specs.Laws.{AreApart, Entered, EnteredAs, EnteredList, EnteredParameters, Exited, ExitedBody, ExitedList, ExitedParameters, ExitedProgram, IsLawful, IsReady, Profile, Settled, both_profile, chosen, counts_on, is_construct, is_outermost, opens_body, opens_list}
+use Rattle.es_traverse.specs.Laws.{AreApart, Entered, EnteredAs, EnteredList, EnteredParameters, Exited, ExitedBody, ExitedList, ExitedParameters, ExitedProgram, IsLawful, IsReady, Known, Profile, Settled, both_profile, is_construct, is_outermost, opens_body, opens_list}
+use Rattle.es_traverse.specs.Loads.{wrapping_by, writing_by}
+use Rattle.es_traverse.specs.Sites.{Tells}
+use Rattle.es_traverse.specs.declared.site.Site.{Site as CodeSite}
 use Rattle.es_traverse.proofs.Kept.{kept-then}
 use Rattle.es_traverse.proofs.StepInto.{field-into, rows-into, step-into, trees-into}
 use Rattle.es_traverse.specs.Together.{neither}
@@ -32,47 +35,54 @@ each-same : (c d : Conditions) → ((n : Site) (t : Tree) → d.before n t ≡ c
 each-same c d f n empty h = tt
 each-same c d f n (t before ts) h = (f n t ∙ h.0, each-same c d f n ts h.1)
 
-counted : (p : Profile) → p.brings ≡ false → (n : Site) (t : Tree) → (holds_after p.conditions) n t → counts_on p n t
-counted p e n t h = subst (λ b. chosen b p.conditions n t) (sym e) h
-
 -- ON THE WAY IN
 
 module _ (P Q : EnvOptions → Profile) (apart : (o : EnvOptions) → AreApart (P o) (Q o)) (law : (o : EnvOptions) → IsLawful (P o)) (a b c : Moment) where
-  entered-both : (hook : Hook) {t u v : Tree} → SamePlace a b → b.options ≡ a.options → Entered (P a.options) hook a t b u → Entered (Q b.options) hook b u c v → Entered (both_of P Q a.options) hook a t c v
-  entered-both hook {t = t} {u = u} {v = v} same options g h' =
+  -- the second counts on what the first leaves (`meets`), and what it leaves is asked for in this form (`gives`)
+  entered-both : (hook : Hook) (tells : Site → Type 0) (counts leaves counts' leaves' leaves'' : Site → Tree → Type 0) {t u v : Tree} → ((n : Site) (w : Tree) → leaves n w → counts' n w) → ((n : Site) (w : Tree) → leaves' n w → leaves'' n w) → SamePlace a b →
+      Entered (P a.options) counts leaves hook tells a t b u → Entered (Q a.options) counts' leaves' hook tells b u c v → Entered (both_of P Q a.options) counts leaves'' hook tells a t c v
+  entered-both hook tells counts leaves counts' leaves' leaves'' {t = t} {u = u} {v = v} meets gives same g h =
       let p = P a.options in let q = Q a.options in let x = apart a.options in
-      let h = later (λ o. Entered (Q o) hook b u c v) options h' in
-      let fits : (n : Site) → Fits a n t → counts_on p n t → Fits b n u = λ n f k. (still-fits p.rule (law a.options).rule).tree a b n t u same f (g.stepped n f k) in
-      let left : (n : Site) → Fits a n t → counts_on p n t → counts_on q n u = λ n f k. counted q x.order n u (x.after n u ∙ g.leaves n f k) in
+      let fits : (n : Site) → tells n → Fits a n t → counts n t → Fits b n u = λ n l f k. (still-fits p.rule (law a.options).rule).tree a b n t u same f (g.stepped n l f k) in
+      let left : (n : Site) → tells n → Fits a n t → counts n t → counts' n u = λ n l f k. meets n u (g.left n l f k) in
       let kept : (v ≡ u) → (v ≡ t) ⊎ (both_of P Q a.options).makes v = λ i. elim g.order [ inl j ↦ inl (i ∙ j) | inr m ↦ inr (inl (subst p.makes (sym i) m)) ] in
       record {
-        stepped = λ n f k. steps-trans (rows-into (λ s s' x y. step-into (λ n s s' x y h. inl h)) (g.stepped n f k)) (rows-into (λ s s' x y. step-into (λ n s s' x y h. inr h)) (h.stepped n (fits n f k) (left n f k)));
-        leaves = λ n f k. sym (x.after n v) ∙ (h.leaves n (fits n f k) (left n f k));
-        body = h.body ∙ g.body;
+        stepped = λ n l f k. steps-trans (rows-into (λ s s' x y. step-into (λ n s s' x y h. inl h)) (g.stepped n l f k)) (rows-into (λ s s' x y. step-into (λ n s s' x y h. inr h)) (h.stepped n l (fits n l f k) (left n l f k)));
+        left = λ n l f k. gives n v (h.left n l (fits n l f k) (left n l f k));
+        cleared = λ n l f k. neither (is_construct (p.constructs hook) v) (is_construct (q.constructs hook) v) (elim h.order [ inl i ↦ subst (λ w. is_construct (p.constructs hook) w ≡ false) (sym i) (g.cleared n l f k) | inr m ↦ x.makes hook v m ]) (h.cleared n l (fits n l f k) (left n l f k));
         sort = λ i s. elim (h.sort i s) [ inl earlier ↦ g.sort i earlier | inr this ↦ inr this ];
-        cleared = neither (is_construct (p.constructs hook) v) (is_construct (q.constructs hook) v) (elim h.order [ inl i ↦ subst (λ w. is_construct (p.constructs hook) w ≡ false) (sym i) g.cleared | inr m ↦ x.makes hook v m ]) h.cleared;
+        body = h.body ∙ g.body;
         order = elim h.order [ inl i ↦ kept i | inr m ↦ inr (inr m) ];
       }
 
-  settled-both : (hook : Hook) {t u v : Tree} → SamePlace a b → b.options ≡ a.options → Settled (P a.options) hook a t b u → Settled (Q b.options) hook b u c v → Settled (both_of P Q a.options) hook a t c v
-  settled-both hook {t = t} {u = u} {v = v} same options g h' =
+  settled-both : (hook : Hook) (tells : Site → Type 0) {t u v : Tree} → SamePlace a b → Settled (P a.options) hook tells a t b u → Settled (Q a.options) hook tells b u c v → Settled (both_of P Q a.options) hook tells a t c v
+  settled-both hook tells {t = t} {u = u} {v = v} same g h =
       let p = P a.options in let q = Q a.options in let x = apart a.options in
-      let h = later (λ o. Settled (Q o) hook b u c v) options h' in
-      let fits : (n : Site) → Fits a n t → (holds_after p.conditions) n t → Fits b n u = λ n f k. (still-fits p.rule (law a.options).rule).tree a b n t u same f (g.stepped n f k) in
-      let left : (n : Site) → Fits a n t → (holds_after p.conditions) n t → (holds_after q.conditions) n u = λ n f k. x.after n u ∙ g.leaves n f k in
+      let fits : (n : Site) → tells n → Fits a n t → (holds_after p.conditions) n t → Fits b n u = λ n l f k. (still-fits p.rule (law a.options).rule).tree a b n t u same f (g.stepped n l f k) in
+      let left : (n : Site) → tells n → Fits a n t → (holds_after p.conditions) n t → (holds_after q.conditions) n u = λ n l f k. x.after n u ∙ g.left n l f k in
       let kept : (v ≡ u) → (v ≡ t) ⊎ (both_of P Q a.options).writes v = λ i. elim g.order [ inl j ↦ inl (i ∙ j) | inr m ↦ inr (inl (subst p.writes (sym i) m)) ] in
       record {
-        stepped = λ n f k. steps-trans (rows-into (λ s s' x y. step-into (λ n s s' x y h. inl h)) (g.stepped n f k)) (rows-into (λ s s' x y. step-into (λ n s s' x y h. inr h)) (h.stepped n (fits n f k) (left n f k)));
-        leaves = λ n f k. sym (x.after n v) ∙ (h.leaves n (fits n f k) (left n f k));
+        stepped = λ n l f k. steps-trans (rows-into (λ s s' x y. step-into (λ n s s' x y h. inl h)) (g.stepped n l f k)) (rows-into (λ s s' x y. step-into (λ n s s' x y h. inr h)) (h.stepped n l (fits n l f k) (left n l f k)));
+        left = λ n l f k. sym (x.after n v) ∙ (h.left n l (fits n l f k) (left n l f k));
+        cleared = λ n l f k. neither (is_construct (p.constructs hook) v) (is_construct (q.constructs hook) v) (elim h.order [ inl i ↦ subst (λ w. is_construct (p.constructs hook) w ≡ false) (sym i) (g.cleared n l f k) | inr m ↦ x.second_writes hook v m ]) (h.cleared n l (fits n l f k) (left n l f k));
         body = h.body ∙ g.body;
-        cleared = neither (is_construct (p.constructs hook) v) (is_construct (q.constructs hook) v) (elim h.order [ inl i ↦ subst (λ w. is_construct (p.constructs hook) w ≡ false) (sym i) g.cleared | inr m ↦ x.second_writes hook v m ]) h.cleared;
         order = elim h.order [ inl i ↦ kept i | inr m ↦ inr (inr m) ];
       }
 
-  pub entered-as-both : (hook : Hook) (t u v : Tree) → SamePlace a b → b.options ≡ a.options → EnteredAs (P a.options) hook a t b u → EnteredAs (Q b.options) hook b u c v → EnteredAs (both_of P Q a.options) hook a t c v
-  entered-as-both Expression t u v = entered-both Expression
-  entered-as-both Statement t u v = entered-both Statement
-  entered-as-both hook t u v = settled-both hook
+  abbrev EnteredBoth : Hook → CodeSite → Tree → Tree → Tree → Type 0
+  EnteredBoth hook s t u v = SamePlace a b → EnteredAs (P a.options) hook s a t b u → EnteredAs (Q a.options) hook s b u c v → EnteredAs (both_of P Q a.options) hook s a t c v
+
+  entered-alike : (hook : Hook) (s : CodeSite) (t u v : Tree) → EnteredBoth hook s t u v
+  entered-alike Expression s t u v =
+      let p = P a.options in let q = Q a.options in let x = apart a.options in
+      entered-both Expression (Tells s) (Known p.counts) (Known p.leaves) (Known q.counts) (Known q.leaves) (Known q.leaves) x.meets (λ n w h. h)
+  entered-alike Statement s t u v =
+      let p = P a.options in let q = Q a.options in let x = apart a.options in
+      entered-both Statement (Tells s) (holds_after p.conditions) (holds_after p.conditions) (holds_after q.conditions) (holds_after q.conditions) (holds_after p.conditions) (λ n w h. x.after n w ∙ h) (λ n w h. sym (x.after n w) ∙ h)
+  entered-alike hook s t u v = settled-both hook (Tells s)
+
+  pub entered-as-both : (hook : Hook) (s : CodeSite) (t u v : Tree) → SamePlace a b → b.options ≡ a.options → EnteredAs (P a.options) hook s a t b u → EnteredAs (Q b.options) hook s b u c v → EnteredAs (both_of P Q a.options) hook s a t c v
+  entered-as-both hook s t u v same options g h = entered-alike hook s t u v same g (later (λ o. EnteredAs (Q o) hook s b u c v) options h)
 
   pub entered-list-both : (keeps alone : Bool) → alone ≡ false → {ts us vs : Trees} → SamePlace (opens_list keeps a) b → b.options ≡ a.options → EnteredList (P a.options) keeps a ts b us → EnteredList (Q b.options) alone b us c vs → EnteredList (both_of P Q a.options) keeps a ts c vs
   entered-list-both keeps true e same options g h = absurd (true≢false e)
@@ -172,11 +182,34 @@ unkept true e h = absurd (true≢false e)
 unkept false e h = (h.same refl).0
 
 -- both leave a body as it was, or the first writes what is pending for it
-pub kept-body : (keeps alone : Bool) → alone ≡ false → (a b c : Moment) {w s w' s' w'' s'' : ℕ} (t u : Tree) → is_statement_body u ≡ is_statement_body t → Kept a w s (opens_body alone t b) w' s' → Kept b w' s' (opens_body keeps u c) w'' s'' → Kept a w s (opens_body keeps t c) w'' s''
-kept-body keeps true e a b c t u same g h = absurd (true≢false e)
-kept-body keeps false e a b c {w = w} {s = s} {w'' = w''} {s'' = s''} t u same g h = subst (λ v. Kept a w s (cond (keeps && not v) (with_pair c) c) w'' s'') same (kept-then g h)
+pub kept-body : (keeps alone : Bool) → alone ≡ false → (a b c : Moment) (w w' : ℕ) {s s' w'' s'' : ℕ} (t u : Tree) → is_statement_body u ≡ is_statement_body t → Kept a (w + writing_by alone) s (opens_body alone t b) w' s' → Kept b (w' + writing_by keeps) s' (opens_body keeps u c) w'' s'' →
+    Kept a (w + writing_by keeps) s (opens_body keeps t c) w'' s''
+kept-body keeps true e a b c w w' t u same g h = absurd (true≢false e)
+kept-body keeps false e a b c w w' {s = s} {s' = s'} {w'' = w''} {s'' = s''} t u same g h =
+    let more = writing_by keeps in
+    let first : Kept a (w + more) s b (w' + more) s' = record { level = g.level; around = g.around; options = g.options; counted = g.counted; lighter = omega (arith, g.lighter); nodes = g.nodes } in
+    subst (λ v. Kept a (w + more) s (cond (keeps && not v) (with_pair c) c) w'' s'') same (kept-then first h)
+
+-- the second takes nothing for itself
+pub kept-load-both : (keeps alone : Bool) (hook : Hook) (s : CodeSite) → alone ≡ false → (w w' : ℕ) {a b c : Moment} {z z' w'' z'' : ℕ} → Kept a (w + wrapping_by keeps hook s) z b w' z' → Kept b (w' + wrapping_by alone hook s) z' c w'' z'' → Kept a (w + wrapping_by keeps hook s) z c w'' z''
+kept-load-both keeps true hook s e w w' g h = absurd (true≢false e)
+kept-load-both keeps false hook s e w w' {b = b} {c = c} {z' = z'} {w'' = w''} {z'' = z''} g h =
+    let second : Kept b w' z' c w'' z'' = record { level = h.level; around = h.around; options = h.options; counted = h.counted; lighter = omega (arith, h.lighter); nodes = h.nodes } in
+    kept-then g second
+
+pub wrapping-none : (alone : Bool) (hook : Hook) (s : CodeSite) → alone ≡ false → wrapping_by alone hook s ≡ 0
+wrapping-none true hook s e = absurd (true≢false e)
+wrapping-none false hook s e = refl
+
+pub writing-none : (alone : Bool) → alone ≡ false → writing_by alone ≡ 0
+writing-none true e = absurd (true≢false e)
+writing-none false e = refl
 
 -- READY FOR THE NEXT
+
+pub ready-body : {Y : Type 0} (r : Y → EnvOptions → Type 0) (y : Y) (alone : Bool) → alone ≡ false → (more w : ℕ) (t : Tree) {a b : Moment} {s w' s' : ℕ} → Kept a (w + writing_by alone) s (opens_body alone t b) w' s' → r y a.options → HasRoom a (w + more) → 0 < length a.lists → IsReady r y b (w' + more)
+ready-body r y true e more w t g k room pair = absurd (true≢false e)
+ready-body r y false e more w t g k room pair = record { suited = subst (λ o. r y o) (sym g.options) k; room = omega (arith, g.lighter, room); pair = omega (arith, g.level.deep, pair) }
 
 pub ready-later : {Y : Type 0} (r : Y → EnvOptions → Type 0) (y : Y) {a b : Moment} {w s w' s' : ℕ} → Kept a w s b w' s' → r y a.options → HasRoom a w → 0 < length a.lists → IsReady r y b w'
 ready-later r y g k room pair = record { suited = subst (λ o. r y o) (sym g.options) k; room = omega (arith, g.lighter, room); pair = omega (arith, g.level.deep, pair) }

@@ -1,5 +1,5 @@
 -- The fields of a node, visited one after the other: what holds wherever the node as it was fits.
-use Rattle.std.proofs.Common.{◌≡◌, ◌∙◌, ◌≤◌, ◌<◌, ◌+◌, ◌==◌, ◌&&◌, ◌||◌, refl, sym, ap, subst, arith, ℕ, zero, suc, length, List, [], ◌∷◌, get_or, set, Bool, true, false, Option}
+use Rattle.std.proofs.Common.{◌≡◌, ◌∙◌, ◌≤◌, ◌<◌, ◌+◌, ◌==◌, ◌&&◌, ◌||◌, refl, sym, ap, subst, arith, ℕ, zero, suc, length, List, [], ◌∷◌, get_or, set, Bool, true, false, true≢false, Option}
 use Rattle.std.specs.Prelude.{map}
 use Rattle.std.proofs.lemmas.Bool.{and_parts, eqb-true}
 use Rattle.std.proofs.lemmas.List.{length-map, map-set}
@@ -31,10 +31,10 @@ use Rattle.es_changes.proofs.FieldLaws.{fields-laws}
 use Rattle.es_changes.proofs.FieldParts.{fields-row}
 use Rattle.es_changes.proofs.StepRows.{steps-trans}
 use Rattle.es_traverse.specs.Laws.{IsLawful, Profile}
-use Rattle.es_traverse.specs.Sites.{is_arrow_body, may_be_slot}
-use Rattle.es_traverse.specs.Visits.{TellsSlots, VisitedField, VisitedFields, roles_in}
+use Rattle.es_traverse.specs.Sites.{Tells, is_arrow_body, is_slot_place, leads_to_slot, may_be_slot}
+use Rattle.es_traverse.specs.Visits.{VisitedField, VisitedFields, roles_in}
 use Rattle.es_traverse.specs.declared.site.Site.{Site as CodeSite}
-use Rattle.es_traverse.specs.declared.site.Site.TheVariants.{Expression as c-Expression}
+use Rattle.es_traverse.specs.declared.site.Site.TheVariants.{Slot}
 use Rattle.es_traverse.proofs.ClassNames.{first-set}
 
 -- WHAT IS SEEN of the fields
@@ -70,6 +70,24 @@ slot-told up PatternProperty l fs i e =
     at-index PatternProperty (has_computed PatternProperty l.flags) i 0 both.1 both.0
 slot-told up k l fs i e = absurd (cc e)
 
+-- and leads to one
+slot-leads : (up : List TreeAncestor) (k : AstType) (l : Label) (fs : Fields) (i : ℕ) → may_be_slot k i (has_computed k l.flags) ≡ true → leads_to_slot (ancestor k l fs i 0 ∷ up) ≡ true
+slot-leads up PropertyDefinition l fs (suc zero) e = refl
+slot-leads up AssignmentPattern l fs (suc zero) e = refl
+slot-leads up PatternProperty l fs zero e = e
+slot-leads up _ l fs i e = absurd (true≢false (sym e))
+
+slot-place : (c : CodeSite) → is_slot_place c ≡ true → c ≡ Slot
+slot-place Slot e = refl
+slot-place _ e = absurd (true≢false (sym e))
+
+-- what the code knows of a field is told by its site
+told : (up : List TreeAncestor) (k : AstType) (l : Label) (fs : Fields) (i : ℕ) (c : CodeSite) (n : Site) → n.above ≡ ancestor k l fs i 0 ∷ up → is_slot_place c ≡ may_be_slot k i (has_computed k l.flags) → Tells c n
+told up k l fs i c n above slots = record {
+  slot = λ e. slot-place c (slots ∙ slot-told up k l fs i (subst (λ xs. is_slot xs ≡ true) above e));
+  leads = λ e. subst (λ xs. leads_to_slot xs ≡ true) (sym above) (slot-leads up k l fs i (sym slots ∙ ap is_slot_place e));
+}
+
 -- ONE OF THE FIELDS
 
 pub each-at : (P : Site → Tree → Type 0) (sites : ℕ → Site) (bodies : ℕ → Bool) (xs : List Field) (i : ℕ) (d : Field) → i < length xs → EachIn P sites bodies (fields xs) → EachBy P (sites i) (bodies i) (get_or xs i d)
@@ -100,14 +118,14 @@ module _ (p : Profile) (law : IsLawful p) (n : Site) (k : AstType) (l : Label) w
   fields-visited-none a first h = record { so_far = laws.none n k l a first h; row = stays; free = λ j d m h. absurd (omega (arith, m)); own = refl }
 
   pub fields-visited-more : AreSound p.conditions → (c : CodeSite) (x : Ancestor) {a b m : Moment} (first items : List Field) (d y : Field) → x.kind ≡ k → x.field < length items → get_or items x.field d ≡ get_or first x.field d → is_arrow_body c ≡ is_body k x.field →
-      (may_be_slot k x.field (has_computed k l.flags) ≡ true → c ≡ c-Expression) → SamePlace b m → VisitedField p c (inside_of x b) (get_or items x.field d) (inside_of x m) y → holds_after p.conditions n (node k l (fields first)) → FieldsVisited p n k l a first b items x.field → FieldsVisited p n k l a first m (set items x.field y) (x.field + 1)
-  fields-visited-more sound c x {a = a} {b = b} {m = m} first items d y kind lt same bodies slots place v known h =
+      is_slot_place c ≡ may_be_slot k x.field (has_computed k l.flags) → SamePlace b m → VisitedField p c (inside_of x b) (get_or items x.field d) (inside_of x m) y → Fits a n (node k l (fields first)) → holds_after p.conditions n (node k l (fields first)) → FieldsVisited p n k l a first b items x.field → FieldsVisited p n k l a first m (set items x.field y) (x.field + 1)
+  fields-visited-more sound c x {a = a} {b = b} {m = m} first items d y kind lt same bodies slots place v f known h =
       let i : ℕ = x.field in
       let place_of : ℕ → Site = site_in n k l (opened_fields (is_body k) (fields first)) in
       let fit : FitsBy (inside_of x b) (place_of i) (is_body k i) (get_or items i d) = laws.inside n k l a b first items x d h.so_far kind lt in
       let each : EachBy (holds_before p.conditions) (place_of i) (is_body k i) (get_or items i d) =
-      subst (λ f. EachBy (holds_before p.conditions) (place_of i) (is_body k i) f) (sym same) (each-at (holds_before p.conditions) place_of (is_body k) first i d (omega (arith, lt, h.so_far.count)) (sound.inward n k l (fields first) known)) in
-      let tells : TellsSlots c (place_of i) = λ e. slots (slot-told n.above k l (outline (opened_fields (is_body k) (fields first))) i e) in
+      subst (λ f. EachBy (holds_before p.conditions) (place_of i) (is_body k i) f) (sym same) (each-at (holds_before p.conditions) place_of (is_body k) first i d (omega (arith, lt, h.so_far.count)) (sound.inward n f.sort k l (fields first) f.formed known)) in
+      let tells : Tells c (place_of i) = told n.above k l (outline (opened_fields (is_body k) (fields first))) i c (place_of i) refl slots in
       let steps : Steps (FieldStep p.rule (place_of i)) (ledger_at b) (opened_field (is_body k i) (get_or items i d)) (ledger_at m) (opened_field (is_body k i) y) =
       subst (λ w. FitsBy (inside_of x b) (place_of i) w (get_or items i d) → EachBy (holds_before p.conditions) (place_of i) w (get_or items i d) → Steps (FieldStep p.rule (place_of i)) (ledger_at b) (opened_field w (get_or items i d)) (ledger_at m) (opened_field w y)) bodies (v.stepped (place_of i) tells) fit each in
       let none : (g : Hook) → any_in_field (p.constructs g) y ≡ false =
@@ -139,7 +157,7 @@ fields-seen-none p law computed k a first = record { each = λ names l e n fit k
 
 module _ (P : EnvOptions → Profile) (x : Ancestor) (computed : Bool) (k : AstType) where
   pub fields-seen-more : {a b c m w : Moment} (site : CodeSite) (first items : List NodeField) (d y : NodeField) → IsLawful (P a.options) → AreSound (P a.options).conditions → m ≡ inside_of x b → w ≡ inside_of x c → b.options ≡ a.options → SamePlace b c → x.kind ≡ k → x.field < length items →
-      get_or items x.field d ≡ get_or first x.field d → is_arrow_body site ≡ is_body k x.field → (may_be_slot k x.field computed ≡ true → site ≡ c-Expression) → ((names : ℕ → Text → Option ℕ) → VisitedField (P m.options) site m (seen_field names (get_or items x.field d)) w (seen_field names y)) →
+      get_or items x.field d ≡ get_or first x.field d → is_arrow_body site ≡ is_body k x.field → is_slot_place site ≡ may_be_slot k x.field computed → ((names : ℕ → Text → Option ℕ) → VisitedField (P m.options) site m (seen_field names (get_or items x.field d)) w (seen_field names y)) →
       FieldsSeen (P a.options) computed k a first b items x.field → FieldsSeen (P a.options) computed k a first c (set items x.field y) (x.field + 1)
   fields-seen-more {a = a} {b = b} {c = c} {m = m} {w = w} site first items d y law sound into out options place kind lt same bodies slots v h = record {
     each = λ names l e n fit known.
@@ -151,7 +169,7 @@ module _ (P : EnvOptions → Profile) (x : Ancestor) (computed : Bool) (k : AstT
         subst (λ z. VisitedField (P a.options) site (inside_of x b) (f (get_or items i d)) z (f y)) out (subst (λ z. VisitedField (P a.options) site z (f (get_or items i d)) w (f y)) into (subst (λ q. VisitedField q site m (f (get_or items i d)) w (f y)) profile (v names))) in
         let there : VisitedField (P a.options) site (inside_of x b) (get_or (map f items) i (f d)) (inside_of x c) (f y) = subst (λ z. VisitedField (P a.options) site (inside_of x b) z (inside_of x c) (f y)) (sym at_place) here in
         let still : get_or (map f items) i (f d) ≡ get_or (map f first) i (f d) = at_place ∙ ap f same ∙ sym (get_or-map f first i d) in
-        let more = fields-visited-more (P a.options) law n k l sound site x (map f first) (map f items) (f d) (f y) kind (omega (arith, lt, length-map items f)) still bodies (λ q. slots (subst (λ z. may_be_slot k x.field z ≡ true) (sym e) q)) place there known (h.each names l e n fit known) in
+        let more = fields-visited-more (P a.options) law n k l sound site x (map f first) (map f items) (f d) (f y) kind (omega (arith, lt, length-map items f)) still bodies (slots ∙ ap (λ z. may_be_slot k x.field z) e) place there fit known (h.each names l e n fit known) in
         subst (λ zs. FieldsVisited (P a.options) n k l a (map f first) c zs (x.field + 1)) (sym (map-set f items i y)) more;
   }
 

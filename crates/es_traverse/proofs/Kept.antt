@@ -1,5 +1,5 @@
 -- What stays between two moments, and what is seen of a tree.
-use Rattle.std.proofs.Common.{◌≡◌, ◌∙◌, ◌+◌, ℕ, length, refl, sym, ap, subst, arith, List, Bool, Option, None}
+use Rattle.std.proofs.Common.{◌≡◌, ◌∙◌, ◌+◌, ◌≤◌, ℕ, length, refl, sym, ap, subst, arith, List, Bool, Option, None}
 use Rattle.std.specs.Prelude.{true, false, not, cond, ◌&&◌}
 use Rattle.es_tree.specs.Tree.{Tree, node, Fields, done, ◌then◌, Field, missing, one, many, statements, Trees, empty, ◌before◌, kind_of, label_of}
 use Rattle.es_tree.specs.Words.{Text}
@@ -47,6 +47,16 @@ ready-then {suits = suits} x y g h r = record {
   room = omega (arith, g.lighter, r.room);
   pair = omega (arith, g.level.deep, r.pair);
 }
+
+-- so much may be taken beside it
+pub kept-plus : (m : ℕ) {a b : Moment} {w s w' s' : ℕ} → Kept a w s b w' s' → Kept a (w + m) s b (w' + m) s'
+kept-plus m g = record { level = g.level; around = g.around; options = g.options; counted = g.counted; lighter = omega (arith, g.lighter); nodes = g.nodes }
+
+pub kept-within : {a b : Moment} {w s w' s' : ℕ} (v v' : ℕ) → w ≤ v → v' ≤ w' → Kept a w s b w' s' → Kept a v s b v' s'
+kept-within v v' l l' g = record { level = g.level; around = g.around; options = g.options; counted = g.counted; lighter = omega (arith, g.lighter, l, l'); nodes = g.nodes }
+
+pub ready-within : {X : Type 0} {suits : X → EnvOptions → Type 0} {a : Moment} {w : ℕ} (x : X) (v : ℕ) → v ≤ w → IsReady suits x a w → IsReady suits x a v
+ready-within x v l r = record { suited = r.suited; room = omega (arith, r.room, l); pair = r.pair }
 
 -- WHAT IS SEEN
 

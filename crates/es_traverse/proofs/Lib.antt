@@ -1,9 +1,12 @@
 pub mod StepInto
+pub mod Bodies
 pub mod BothHooks
+pub mod NoHooks
 pub mod Kept
+pub mod LoadParts
 pub mod KeptParts
 pub mod ClassNames
-pub mod Entering
+pub mod NodeHooks
 pub mod Moments
 pub mod Nodes
 pub mod Parts

@@ -16,7 +16,7 @@ module _ {S : Type 0} (pending : S → List Pending) (old new : TraverseCtx S) (
     steady = is_steady (table i);
     free_symbol = symbol_count (table i);
     called = called (table i);
-    made = bound_names (called (table i)) (symbol_count (table i)) (names.made_is i);
+    made = bound_names (symbol_count (table i)) (names.made_is i);
     next = (ast i).next;
     lists = pending (state i);
     around = around i;
@@ -32,7 +32,7 @@ module _ {S : Type 0} (pending : S → List Pending) (old new : TraverseCtx S) (
         steady = is_steady (sym table i);
         free_symbol = symbol_count (sym table i);
         called = called (sym table i);
-        made = bound_names (called (sym table i)) (symbol_count (sym table i)) (sym names.made_is i);
+        made = bound_names (symbol_count (sym table i)) (sym names.made_is i);
         next = (sym ast i).next;
         lists = pending (sym state i);
         around = left i;

@@ -17,17 +17,18 @@ use Rattle.es_changes.proofs.BodyLaws.{body-laws}
 use Rattle.es_changes.proofs.InField.{field-laws}
 use Rattle.es_changes.proofs.StillFits.{still-fits}
 use Rattle.es_traverse.specs.Laws.{CanVisit, IsLawful, Profile, opens_body}
-use Rattle.es_traverse.specs.Visits.{EnteredNode, ExitedNode, TellsSlots, VisitedAt, VisitedBody, VisitedFields, opens_at}
+use Rattle.es_traverse.specs.Sites.{Tells}
+use Rattle.es_traverse.specs.Visits.{EnteredNode, ExitedNode, VisitedAt, VisitedBody, VisitedFields, opens_at}
 use Rattle.es_traverse.specs.declared.site.Site.{Site}
 use Rattle.es_traverse.specs.declared.site.Site.TheVariants.{ArrowBody}
 use Rattle.es_traverse.proofs.ClassNames.{marks-stay}
 use Rattle.es_traverse.proofs.Kept.{opens-options, opens-seen, same-place}
-use Rattle.es_traverse.proofs.Nodes.{no-slot-body, opened-pair, visited-seen}
+use Rattle.es_traverse.proofs.Nodes.{no-slot-body, opened-pair, told-inside, visited-seen}
 
 -- WHERE THE NODE FITS: what a visit leaves is asked for there alone
 
 module _ (p : Profile) (keeps : Bool) (law : IsLawful p) (pairs : keeps ≡ true) (a e : Moment) (t v : Tree) where
-  body-under : ((m : Place) → TellsSlots ArrowBody m → Fits (opens_body keeps t a) m t → holds_before p.conditions m t → VisitedBody p a t e v) → (n : Place) → FitsBy a n true (one t) → AsBody (holds_before p.conditions) n (is_statement_body t) t → VisitedBody p a t e v
+  body-under : ((m : Place) → Tells ArrowBody m → Fits (opens_body keeps t a) m t → holds_before p.conditions m t → VisitedBody p a t e v) → (n : Place) → FitsBy a n true (one t) → AsBody (holds_before p.conditions) n (is_statement_body t) t → VisitedBody p a t e v
   body-under h n f known = by (is_statement_body t) refl
     where
       opens : (o : Bool) → is_statement_body t ≡ o → opens_body keeps t a ≡ cond o a (with_pair a)
@@ -37,9 +38,9 @@ module _ (p : Profile) (keeps : Bool) (law : IsLawful p) (pairs : keeps ≡ true
       by true is = h n (no-slot-body a n t f) (subst (λ m. Fits m n t) (sym (opens true is)) ((field-laws p.rule law.rule).statements_fit a n t is f)) (subst (λ o. AsBody (holds_before p.conditions) n o t) is known)
       by false is =
           let m = site_in_body n nothing_pending t in
-          h m (no-slot-body a n t f) (subst (λ x. Fits x m t) (sym (opens false is)) ((body-laws p.rule law.rule).fits a n t is f)) (subst (λ o. AsBody (holds_before p.conditions) n o t) is known)
+          h m (told-inside n t (no-slot-body a n t f)) (subst (λ x. Fits x m t) (sym (opens false is)) ((body-laws p.rule law.rule).fits a n t is f)) (subst (λ o. AsBody (holds_before p.conditions) n o t) is known)
 
-visited-under : (p : Profile) (keeps : Bool) (c : Site) (a e : Moment) (t v : Tree) → IsLawful p → keeps ≡ true → ((n : Place) → TellsSlots c n → Fits (opens_at c keeps t a) n t → holds_before p.conditions n t → VisitedAt c p a t e v) → VisitedAt c p a t e v
+visited-under : (p : Profile) (keeps : Bool) (c : Site) (a e : Moment) (t v : Tree) → IsLawful p → keeps ≡ true → ((n : Place) → Tells c n → Fits (opens_at c keeps t a) n t → holds_before p.conditions n t → VisitedAt c p a t e v) → VisitedAt c p a t e v
 visited-under p keeps ArrowBody a e t v law pairs h = record {
   stepped = λ n f known. (body-under p keeps law pairs a e t v h n f known).stepped n f known;
   free = λ n f known. (body-under p keeps law pairs a e t v h n f known).free n f known;

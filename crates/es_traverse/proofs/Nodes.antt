@@ -24,29 +24,32 @@ use Rattle.es_changes.proofs.FieldLaws.{same-place-then}
 use Rattle.es_changes.proofs.InField.{field-laws}
 use Rattle.es_changes.proofs.StepRows.{steps-trans}
 use Rattle.es_changes.proofs.StillFits.{still-fits}
+use Rattle.es_traverse.specs.Bodies.{BodiesStandIn}
 use Rattle.es_traverse.specs.Laws.{CanVisit, IsLawful, IsStable, Profile}
-use Rattle.es_traverse.specs.Visits.{EnteredNode, ExitedNode, TellsSlots, Visited, VisitedAt, VisitedBody, VisitedFields, opens_at}
+use Rattle.es_traverse.specs.Sites.{Tells}
+use Rattle.es_traverse.specs.Visits.{EnteredNode, ExitedNode, Visited, VisitedAt, VisitedBody, VisitedFields, opens_at}
 use Rattle.es_traverse.specs.declared.site.Site.{Site}
 use Rattle.es_traverse.specs.declared.site.Site.TheVariants.{ArrowBody}
+use Rattle.es_traverse.proofs.Bodies.{fields-stand, opened-fields-stand}
 use Rattle.es_traverse.proofs.Kept.{opens-options, opens-seen, same-place}
 
 -- NO CONSTRUCT
 
-module _ {R : Place → Ledger → Spot → Ledger → Spot → Type 0} (constructs : AstType → Label → Fields → Bool) (stable : IsStable R constructs) (c : ℕ → Place) (k : AstType) (l : Label) where
-  stable-row : {s s' : Ledger} {fs gs : OpenFields} → Steps (FieldsStep R c) s fs s' gs → constructs k l (finished_fields fs) ≡ false → constructs k l (finished_fields gs) ≡ false
-  stable-row stays e = e
-  stable-row (goes r rs) e = stable-row rs (stable c _ _ k l _ _ r e)
+module _ {R : Place → Ledger → Spot → Ledger → Spot → Type 0} (constructs : AstType → Label → Fields → Bool) (stable : IsStable R constructs) (n : Place) (k : AstType) (l : Label) (first : OpenFields) where
+  stable-row : {s s' : Ledger} {fs gs : OpenFields} → Steps (FieldsStep R (site_in n k l first)) s fs s' gs → BodiesStandIn (is_body k) fs → constructs k l (finished_fields fs) ≡ false → constructs k l (finished_fields gs) ≡ false
+  stable-row stays stand e = e
+  stable-row (goes r rs) stand e = stable-row rs (fields-stand r (is_body k) stand) (stable n _ _ k l first _ _ stand r e)
 
-  still-none : (bodies : ℕ → Bool) {s s' : Ledger} (fs gs : Fields) → Steps (FieldsStep R c) s (opened_fields bodies fs) s' (opened_fields bodies gs) → constructs k l fs ≡ false → constructs k l gs ≡ false
-  still-none bodies fs gs row e =
-      subst (λ xs. constructs k l xs ≡ false) (finished-fields bodies gs) (stable-row row (subst (λ xs. constructs k l xs ≡ false) (sym (finished-fields bodies fs)) e))
+  still-none : {s s' : Ledger} (fs gs : Fields) → Steps (FieldsStep R (site_in n k l first)) s (opened_fields (is_body k) fs) s' (opened_fields (is_body k) gs) → constructs k l fs ≡ false → constructs k l gs ≡ false
+  still-none fs gs row e =
+      subst (λ xs. constructs k l xs ≡ false) (finished-fields (is_body k) gs) (stable-row row (opened-fields-stand (is_body k) fs) (subst (λ xs. constructs k l xs ≡ false) (sym (finished-fields (is_body k) fs)) e))
 
 none-of : (x y : Bool) → x ≡ false → y ≡ false → (x || y) ≡ false
 none-of x y e f = rw (e, f)
 
 -- AT A SITE where the node fits
 
-module _ (p : Profile) (keeps : Bool) (law : IsLawful p) (c : Site) {a b d e : Moment} (t : Tree) (k : AstType) (l : Label) (fs gs : Fields) (v : Tree) (place : SamePlace a b) (place' : SamePlace b d) (x : EnteredNode p c a t b (node k l fs)) (y : VisitedFields p k l b fs d gs) (z : ExitedNode p keeps c d (node k l gs) e v) (n : Place) (tells : TellsSlots c n) (f : Fits a n t) (known : (holds_before p.conditions) n t) where
+module _ (p : Profile) (keeps : Bool) (law : IsLawful p) (c : Site) {a b d e : Moment} (t : Tree) (k : AstType) (l : Label) (fs gs : Fields) (v : Tree) (place : SamePlace a b) (place' : SamePlace b d) (x : EnteredNode p c a t b (node k l fs)) (y : VisitedFields p k l b fs d gs) (z : ExitedNode p keeps c d (node k l gs) e v) (n : Place) (tells : Tells c n) (f : Fits a n t) (known : (holds_before p.conditions) n t) where
   fits-inside : Fits b n (node k l fs)
   fits-inside = (still-fits p.rule law.rule).tree a b n t (node k l fs) place f (x.stepped n tells f known)
 
@@ -61,7 +64,7 @@ module _ (p : Profile) (keeps : Bool) (law : IsLawful p) (c : Site) {a b d e : M
       let after = x.leaves n tells f known in
       z.none (p.constructs h) (λ w own. law.own h w own)
       (none-of (p.constructs h k l gs) (any_in_fields (p.constructs h) gs)
-      (still-none (p.constructs h) (law.stable h) (site_in n k l (opened_fields (is_body k) fs)) k l (is_body k) fs gs (y.row n fits-inside after) (x.cleared h))
+      (still-none (p.constructs h) (law.stable h) n k l (opened_fields (is_body k) fs) fs gs (y.row n fits-inside after) (x.cleared n tells f known h))
       (y.free n fits-inside after h))
 
 -- AT A PLACE THAT IS NO BODY
@@ -76,11 +79,18 @@ module _ (p : Profile) (keeps : Bool) (law : IsLawful p) (c : Site) {a b d e : M
 
 -- AS THE BODY OF AN ARROW
 
-pub no-slot-body : (a : Moment) (n : Place) (t : Tree) → FitsBy a n true (one t) → TellsSlots ArrowBody n
-no-slot-body a n t f s =
-    let form = f.holds.at_one t f.formed in
-    let e : s-Expression ≡ s-ArrowFunctionBody = sym (form.slot s) ∙ form.arrow refl in
-    absurd (cc e)
+pub no-slot-body : (a : Moment) (n : Place) (t : Tree) → FitsBy a n true (one t) → Tells ArrowBody n
+no-slot-body a n t f = record {
+  slot = λ s.
+      let form = f.holds.at_one t f.formed in
+      let e : s-Expression ≡ s-ArrowFunctionBody = sym (form.slot s) ∙ form.arrow refl in
+      absurd (cc e);
+  leads = λ e. absurd (cc e);
+}
+
+-- so inside it
+pub told-inside : (n : Place) (t : Tree) → Tells ArrowBody n → Tells ArrowBody (site_in_body n nothing_pending t)
+told-inside n t x = record { slot = x.slot; leads = x.leads }
 
 pub same-body : (k : AstType) (l : Label) (fs gs : Fields) → is_statement_body (node k l gs) ≡ is_statement_body (node k l fs)
 same-body FunctionBody l fs gs = refl
@@ -121,11 +131,11 @@ module _ (p : Profile) (keeps : Bool) (law : IsLawful p) (a a' : Moment) {b d e 
       record {
         stepped = λ n f known.
             let site = site_in_body n nothing_pending t in
-            let inside = laws.steps a z.moment n t z.tree is f all (reached p keeps law ArrowBody t k l fs gs v first place' enter y z site (no-slot-body a n t f) (laws.fits a n t is f) (here n known)) o in
+            let inside = laws.steps a z.moment n t z.tree is f all (reached p keeps law ArrowBody t k l fs gs v first place' enter y z site (told-inside n t (no-slot-body a n t f)) (laws.fits a n t is f) (here n known)) o in
             let row : Steps (FieldStep p.rule n) (ledger_with o a) (body nothing_pending (opened t)) (ledger_with o e) (opened_field true (one v)) = steps-trans inside.0 (last.0 n inside.1 o) in
             subst (λ (q : Bool). Steps (FieldStep p.rule n) (ledger_at a) (if q then child (opened t) else body nothing_pending (opened t)) (ledger_at e) (opened_field true (one v))) (sym is)
             (subst (λ q. Steps (FieldStep p.rule n) (ledger_with o a) (body nothing_pending (opened t)) (ledger_with q e) (opened_field true (one v))) (sym (ap top (last.1 ∙ all.level.outer))) row);
-        free = λ n f known. left-none p keeps law ArrowBody t k l fs gs v first place' enter y z (site_in_body n nothing_pending t) (no-slot-body a n t f) (laws.fits a n t is f) (here n known);
+        free = λ n f known. left-none p keeps law ArrowBody t k l fs gs v first place' enter y z (site_in_body n nothing_pending t) (told-inside n t (no-slot-body a n t f)) (laws.fits a n t is f) (here n known);
       }
 
 -- ANYWHERE

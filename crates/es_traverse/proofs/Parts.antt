@@ -3,9 +3,8 @@ use Rattle.std.proofs.Common.{◌≡◌, ◌∙◌, ◌≤◌, ◌<◌, ◌+◌,
 use Rattle.std.specs.Prelude.{None, cond, not, ◌&&◌}
 use Rattle.es_tree.specs.Tree.{Tree, node, Label, Fields, fields_size, tree_size, missing, one, many, statements, Trees, empty, ◌before◌}
 use Rattle.es_tree.specs.declared.ast_type.AstType.{AstType}
-use Rattle.es_tree.specs.declared.ast_type.AstType.TheVariants.{AssignmentExpression, BinaryExpression, LogicalExpression}
 use Rattle.es_tree.specs.declared.options.EnvOptions.{EnvOptions}
-use Rattle.es_runs.specs.Weights.{fields_weight, own_weight, weight}
+use Rattle.es_runs.specs.Weights.{fields_weight, weight}
 use Rattle.es_scope.specs.declared.ancestor.Ancestor.{Ancestor}
 use Rattle.es_semantic.specs.RolesOf.{reads}
 use Rattle.es_semantic.specs.declared.place.Role.{Role}
@@ -22,13 +21,15 @@ use Rattle.es_changes.proofs.InField.{field-laws}
 use Rattle.es_changes.proofs.StepRows.{steps-trans}
 use Rattle.es_changes.proofs.StillFits.{still-fits}
 use Rattle.es_changes.proofs.TreeLaws.{trees-laws}
-use Rattle.es_traverse.specs.Laws.{EnteredList, EnteredParameters, ExitedList, ExitedParameters, IsLawful, IsReady, KeptTree, LeavesEach, Profile, anything, is_outermost, opens_list}
+use Rattle.es_traverse.specs.Laws.{EnteredList, EnteredParameters, ExitedList, ExitedParameters, IsLawful, IsReady, LeavesEach, Profile, anything, is_outermost, opens_list}
+use Rattle.es_traverse.specs.Loads.{fields_load, load, own_allowance}
 use Rattle.es_traverse.specs.Visits.{VisitedAt, VisitedField, VisitedList, VisitedTrees, opens_at}
 use Rattle.es_traverse.specs.declared.site.Site.{Site as CodeSite}
 use Rattle.es_traverse.specs.declared.site.Site.TheVariants.{ArrowBody}
 use Rattle.es_traverse.specs.Sites.{is_arrow_body}
 use Rattle.es_traverse.proofs.ClassNames.{own-row, reads-own}
 use Rattle.es_traverse.proofs.Kept.{closed-pair, kept-then, same-place}
+use Rattle.es_traverse.proofs.LoadParts.{own-same}
 
 -- WHAT THE NEXT PART MAY COUNT ON, where a pair may have been opened
 
@@ -61,13 +62,7 @@ ready-inside {suits = suits} x y v l g h r = record {
 
 -- A NODE by its fields
 
-own-same : (k : AstType) (l : Label) (fs gs : Fields) → own_weight k l fs ≡ own_weight k l gs
-own-same LogicalExpression l fs gs = refl
-own-same BinaryExpression l fs gs = refl
-own-same AssignmentExpression l fs gs = refl
-own-same _ l fs gs = refl
-
-pub kept-node : (k : AstType) (l : Label) (fs gs : Fields) {a b : Moment} → Kept a (fields_weight fs) (fields_size fs) b (fields_weight gs) (fields_size gs) → KeptTree a (node k l fs) b (node k l gs)
+pub kept-node : (k : AstType) (l : Label) (fs gs : Fields) {a b : Moment} → Kept a (fields_load fs + own_allowance k) (fields_size fs) b (fields_weight gs) (fields_size gs) → Kept a (load (node k l fs)) (tree_size (node k l fs)) b (weight (node k l gs)) (tree_size (node k l gs))
 kept-node k l fs gs h = record {
   level = h.level;
   around = h.around;
@@ -78,8 +73,8 @@ kept-node k l fs gs h = record {
 }
 
 -- the same of what a node is seen as
-pub kept-viewed : (v u : Tree) → v ≡ u → {a b : Moment} {w s : ℕ} → Kept a w s b (weight u) (tree_size u) → Kept a w s b (weight v) (tree_size v)
-kept-viewed v u e {a = a} {b = b} {w = w} {s = s} h = subst (λ x. Kept a w s b (weight x) (tree_size x)) (sym e) h
+pub kept-viewed : (m : ℕ) (v u : Tree) → v ≡ u → {a b : Moment} {w s : ℕ} → Kept a w s b (load u + m) (tree_size u) → Kept a w s b (load v + m) (tree_size v)
+kept-viewed m v u e {a = a} {b = b} {w = w} {s = s} h = subst (λ x. Kept a w s b (load x + m) (tree_size x)) (sym e) h
 
 -- FIELDS
 

@@ -52,7 +52,7 @@ module _ (p : Profile) (keeps : Bool) (can : CanVisit keeps p) (law : IsLawful p
   at-first = (program-laws p.rule law.rule).fits a l ds ts x place field fits
 
   each-first : Each (holds_before p.conditions) body_site ts
-  each-first = (can.sound.inward the_program Program l (ds then statements ts then done) after).1.0
+  each-first = (can.sound.inward the_program fits.sort Program l (ds then statements ts then done) fits.formed after).1.0
 
   module _ (b c d f : Moment) (us vs ws : Trees) (first : SamePlace (inside_of x a) b) (second : SamePlace b c) (third : SamePlace c d) (e : EnteredList p keeps (inside_of x a) ts b us) (v : VisitedTrees p b us c vs) (h : ExitedList p keeps c vs d ws) (unopened : opens_list keeps (inside_of x a) ≡ inside_of x a) (shut : opens_list keeps d ≡ d) where
     fit-entered : FitInList (opens_list keeps (inside_of x a)) body_site ts

@@ -1,5 +1,5 @@
 -- What a lawful type states of itself, and what its hooks promise.
-use Rattle.std.specs.Prelude.{◌≡◌, ◌⊎◌, ℕ, ◌<◌, ◌≤◌, ◌||◌, ◌&&◌, Bool, true, false, not, cond, Option, Some, List, [], ◌∷◌, length}
+use Rattle.std.specs.Prelude.{◌≡◌, ◌⊎◌, ℕ, ◌+◌, ◌<◌, ◌≤◌, ◌||◌, ◌&&◌, Bool, true, false, not, cond, Option, Some, List, [], ◌∷◌, length}
 use Rattle.es_tree.specs.Tree.{Tree, node, Label, Fields, done, ◌then◌, one, Trees, kind_of, label_of, fields_of, tree_size, trees_size}
 use Rattle.es_tree.specs.Walks.{any_node, any_in_fields, any_in_trees}
 use Rattle.es_tree.specs.Words.{Text}
@@ -8,36 +8,38 @@ use Rattle.es_tree.specs.declared.options.EnvOptions.{EnvOptions}
 use Rattle.es_scope.specs.declared.ancestor.Ancestor.{Ancestor}
 use Rattle.es_resolution.specs.Seen.{seen, seen_among}
 use Rattle.es_runs.specs.Weights.{weight, trees_weight}
-use Rattle.es_steps.specs.Open.{Pending, nothing_pending, OpenFields, body, finished_fields, is_statement_body, opened, opened_field}
+use Rattle.es_steps.specs.Open.{Pending, nothing_pending, OpenFields, body, finished_fields, is_body, is_statement_body, opened, opened_field}
 use Rattle.es_steps.specs.Rules.{either_rule}
-use Rattle.es_steps.specs.Steps.{Ledger, Site, Spot, FieldsStep, FieldStep, Step, Steps, the_program}
+use Rattle.es_steps.specs.Steps.{Ledger, Site, Spot, FieldsStep, FieldStep, Step, Steps, site_in, the_program}
 use Rattle.es_visit.specs.declared.hook.Hook.{Hook}
 use Rattle.es_visit.specs.declared.hook.Hook.TheVariants.{Expression, Statement}
 use Rattle.es_visit.specs.Hooks.{hook_of_sort, sort_of, IsHooked}
 use Rattle.es_visit.specs.Counts.{hooks_in, hooks_in_trees}
 use Rattle.es_changes.specs.Changes.{Each, HasRoom, Kept, ListStepped, open_program, Stepped, TreesStepped}
+use Rattle.es_traverse.specs.Bodies.{BodiesStandIn}
+use Rattle.es_traverse.specs.Loads.{load, trees_load}
+use Rattle.es_traverse.specs.Sites.{Tells}
+use Rattle.es_traverse.specs.declared.site.Site.{Site as CodeSite}
 use Rattle.es_changes.specs.Conditions.{AreSound, Conditions, holds_after, holds_before}
 use Rattle.es_changes.specs.Fits.{Fits, FitAll, FitInList, FitsInBody}
-use Rattle.es_changes.specs.Moments.{Moment, below, ledger_with, top, with_pair}
+use Rattle.es_changes.specs.Moments.{Moment, below, ledger_at, ledger_with, top, with_pair}
 use Rattle.es_changes.specs.Rules.{IsLawfulRule}
 
--- What a type states of itself under some options: its rule; the conditions of the visit, and whether its hooks bring a node from the one to
--- the other (`brings`), or count on the second; for each hook the constructs that it removes, as a test of a node; what it puts in the place
--- of a node on the way in, and what it puts or writes later.
+-- What a type states of itself under some options: its rule; the conditions of the visit, and what its hook before an expression counts on
+-- of it and leaves; for each hook the constructs that it removes, as a test of a node; what it puts in the place of a node on the way in,
+-- and what it puts or writes later.
 pub record Profile : Type 1 where
   pub rule : Site → Ledger → Spot → Ledger → Spot → Type 0
   pub conditions : Conditions
-  pub brings : Bool
+  pub counts : Site → Tree → Bool
+  pub leaves : Site → Tree → Bool
   pub constructs : Hook → AstType → Label → Fields → Bool
   pub makes : Tree → Type 0
   pub writes : Tree → Type 0
 
-abbrev pub chosen : Bool → Conditions → Site → Tree → Type 0
-chosen true c n t = holds_before c n t
-chosen false c n t = holds_after c n t
-
-abbrev pub counts_on : Profile → Site → Tree → Type 0
-counts_on p n t = chosen p.brings p.conditions n t
+-- what a test knows
+abbrev pub Known : (Site → Tree → Bool) → Site → Tree → Type 0
+Known test n t = test n t ≡ true
 
 -- whether a node is a construct
 abbrev pub is_construct : (AstType → Label → Fields → Bool) → Tree → Bool
@@ -45,9 +47,9 @@ is_construct constructs t = constructs (kind_of t) (label_of t) (fields_of t)
 
 -- LAWS OF A TYPE
 
--- steps among the fields of a node make it no construct
+-- steps among the fields of a node, each at the site that its field had at first, make it no construct
 abbrev pub IsStable : (Site → Ledger → Spot → Ledger → Spot → Type 0) → (AstType → Label → Fields → Bool) → Type 0
-IsStable R constructs = (c : ℕ → Site) (s s' : Ledger) (k : AstType) (l : Label) (fs gs : OpenFields) → FieldsStep R c s fs s' gs → constructs k l (finished_fields fs) ≡ false → constructs k l (finished_fields gs) ≡ false
+IsStable R constructs = (n : Site) (s s' : Ledger) (k : AstType) (l : Label) (first fs gs : OpenFields) → BodiesStandIn (is_body k) fs → FieldsStep R (site_in n k l first) s fs s' gs → constructs k l (finished_fields fs) ≡ false → constructs k l (finished_fields gs) ≡ false
 
 pub record IsLawful (profile : Profile) : Type 0 where
   pub rule : IsLawfulRule profile.rule
@@ -72,6 +74,20 @@ KeptTree a t b u = Kept a (weight t) (tree_size t) b (weight u) (tree_size u)
 abbrev pub KeptTrees : Moment → Trees → Moment → Trees → Type 0
 KeptTrees a ts b us = Kept a (trees_weight ts) (trees_size ts) b (trees_weight us) (trees_size us)
 
+-- the same of their loads; before it so much more may be taken
+abbrev pub KeptLoad : ℕ → Moment → Tree → Moment → Tree → Type 0
+KeptLoad more a t b u = Kept a (load t + more) (tree_size t) b (load u) (tree_size u)
+
+abbrev pub KeptLoads : Moment → Trees → Moment → Trees → Type 0
+KeptLoads a ts b us = Kept a (trees_load ts) (trees_size ts) b (trees_load us) (trees_size us)
+
+-- a visit leads from the load of a part to the weight of what it leaves
+abbrev pub KeptVisited : ℕ → Moment → Tree → Moment → Tree → Type 0
+KeptVisited more a t b u = Kept a (load t + more) (tree_size t) b (weight u) (tree_size u)
+
+abbrev pub KeptVisitedTrees : Moment → Trees → Moment → Trees → Type 0
+KeptVisitedTrees a ts b us = Kept a (trees_load ts) (trees_size ts) b (trees_weight us) (trees_size us)
+
 abbrev pub Seen : (Tree → Tree → Type 0) → Tree → Tree → Type 0
 Seen P t u = (names : ℕ → Text → Option ℕ) → P (seen names t) (seen names u)
 
@@ -88,35 +104,40 @@ KeepsSort hook t u = (h : Hook) → hook_of_sort (sort_of (kind_of u)) ≡ Some 
 abbrev pub KeepsBody : Tree → Tree → Type 0
 KeepsBody t u = is_statement_body u ≡ is_statement_body t
 
--- what a hook leaves wherever the node fits
-abbrev pub Leaves : (Site → Tree → Type 0) → (Site → Tree → Type 0) → Moment → Tree → Tree → Type 0
-Leaves counts leaves a t u = (n : Site) → Fits a n t → counts n t → leaves n u
-
+-- what a hook leaves of each node of a list
 abbrev pub LeavesEach : (Site → Trees → Type 0) → (Site → Tree → Type 0) → (Site → Tree → Type 0) → Trees → Trees → Type 0
 LeavesEach fits counts leaves ts us = (n : Site) → fits n ts → Each counts n ts → Each leaves n us
 
--- by the sort of the node
-pub record Entered (profile : Profile) (hook : Hook) (a : Moment) (t : Tree) (b : Moment) (u : Tree) : Type 0 where
-  pub stepped : Stepped profile.rule (counts_on profile) a t b u
-  pub leaves : Leaves (counts_on profile) (holds_after profile.conditions) a t u
+-- By the sort of the node, wherever it fits at such a site and so much is known of it.
+pub record Entered (profile : Profile) (counts leaves : Site → Tree → Type 0) (hook : Hook) (tells : Site → Type 0) (a : Moment) (t : Tree) (b : Moment) (u : Tree) : Type 0 where
+  pub stepped : (n : Site) → tells n → Fits a n t → counts n t → Steps (Step profile.rule n) (ledger_at a) (opened t) (ledger_at b) (opened u)
+  pub left : (n : Site) → tells n → Fits a n t → counts n t → leaves n u
+  pub cleared : (n : Site) → tells n → Fits a n t → counts n t → is_construct (profile.constructs hook) u ≡ false
   pub sort : KeepsSort hook t u
   pub body : KeepsBody t u
-  pub cleared : is_construct (profile.constructs hook) u ≡ false
   pub order : (u ≡ t) ⊎ profile.makes u
 
 -- by its kind, after its sort
-pub record Settled (profile : Profile) (hook : Hook) (a : Moment) (t : Tree) (b : Moment) (u : Tree) : Type 0 where
-  pub stepped : Stepped profile.rule (holds_after profile.conditions) a t b u
-  pub leaves : Leaves (holds_after profile.conditions) (holds_after profile.conditions) a t u
+pub record Settled (profile : Profile) (hook : Hook) (tells : Site → Type 0) (a : Moment) (t : Tree) (b : Moment) (u : Tree) : Type 0 where
+  pub stepped : (n : Site) → tells n → Fits a n t → holds_after profile.conditions n t → Steps (Step profile.rule n) (ledger_at a) (opened t) (ledger_at b) (opened u)
+  pub left : (n : Site) → tells n → Fits a n t → holds_after profile.conditions n t → holds_after profile.conditions n u
+  pub cleared : (n : Site) → tells n → Fits a n t → holds_after profile.conditions n t → is_construct (profile.constructs hook) u ≡ false
   pub body : KeepsBody t u
-  pub cleared : is_construct (profile.constructs hook) u ≡ false
   pub order : (u ≡ t) ⊎ profile.writes u
 
--- by this hook
-abbrev pub EnteredAs : Profile → Hook → Moment → Tree → Moment → Tree → Type 0
-EnteredAs p Expression a t b u = Entered p Expression a t b u
-EnteredAs p Statement a t b u = Entered p Statement a t b u
-EnteredAs p h a t b u = Settled p h a t b u
+-- By this hook, at a place of which the code knows so much. Of a statement the second condition is known before it.
+abbrev pub EnteredAs : Profile → Hook → CodeSite → Moment → Tree → Moment → Tree → Type 0
+EnteredAs p Expression c a t b u = Entered p (Known p.counts) (Known p.leaves) Expression (Tells c) a t b u
+EnteredAs p Statement c a t b u = Entered p (holds_after p.conditions) (holds_after p.conditions) Statement (Tells c) a t b u
+EnteredAs p h c a t b u = Settled p h (Tells c) a t b u
+
+-- whatever the site
+abbrev pub anywhere : Site → Type 0
+anywhere n = Unit {0}
+
+-- A type that acts before expressions alone has constructs of no other hook.
+abbrev pub OnlyOnEntry : Profile → Type 0
+OnlyOnEntry p = (h : Hook) → (h ≡ Expression → ⊥) → (k : AstType) (l : Label) (fs : Fields) → p.constructs h k l fs ≡ false
 
 -- MOMENTS OF BODIES AND LISTS
 
@@ -220,14 +241,15 @@ abbrev pub both_profile : Profile → Profile → Profile
 both_profile p q = record {
   rule = either_rule p.rule q.rule;
   conditions = p.conditions;
-  brings = p.brings;
+  counts = p.counts;
+  leaves = q.leaves;
   constructs = λ h k l fs. p.constructs h k l fs || q.constructs h k l fs;
   makes = λ t. p.makes t ⊎ q.makes t;
   writes = λ t. p.writes t ⊎ q.writes t;
 }
 
 -- The second type makes no construct of the first, neither writes one of the other, and the steps of neither make a node
--- above them one. They have the same conditions, and the second counts on what the first leaves.
+-- above them one. They have the same conditions, and the second counts on no more than the first leaves.
 pub record AreApart (first second : Profile) : Type 0 where
   pub makes : (h : Hook) (t : Tree) → second.makes t → is_construct (first.constructs h) t ≡ false
   pub first_writes : (h : Hook) (t : Tree) → first.writes t → is_construct (second.constructs h) t ≡ false
@@ -236,10 +258,12 @@ pub record AreApart (first second : Profile) : Type 0 where
   pub second_stable : (h : Hook) → IsStable first.rule (second.constructs h)
   pub before : (n : Site) (t : Tree) → second.conditions.before n t ≡ first.conditions.before n t
   pub after : (n : Site) (t : Tree) → second.conditions.after n t ≡ first.conditions.after n t
-  pub order : second.brings ≡ false
+  pub meets : (n : Site) (t : Tree) → first.leaves n t ≡ true → second.counts n t ≡ true
 
--- what a whole visit asks of a type: it keeps the pairs, its conditions go inward, and its hooks bring nodes from the one to the other
+-- what a whole visit asks of a type: it keeps the pairs, its conditions go inward, and its hooks bring an expression from the first to the
+-- second
 pub record CanVisit (keeps : Bool) (p : Profile) : Type 0 where
   pub pairs : keeps ≡ true
   pub sound : AreSound p.conditions
-  pub bring : p.brings ≡ true
+  pub counts : (n : Site) (t : Tree) → p.counts n t ≡ p.conditions.before n t
+  pub leaves : (n : Site) (t : Tree) → p.leaves n t ≡ p.conditions.after n t

@@ -1,5 +1,7 @@
+pub mod Bodies
 pub mod Laws
 pub mod ContextMoments
 pub mod Sites
+pub mod Loads
 pub mod Visits
 pub mod Together

@@ -66,12 +66,12 @@ either-true false b h = inr h
 pub both_lawful : (p q : Profile) → IsLawful p → IsLawful q → AreApart p q → IsLawful (both_profile p q)
 both_lawful p q f g apart = record {
   rule = together p.rule q.rule f.rule g.rule;
-  stable = λ h c s s' k l fs gs step free.
+  stable = λ h n s s' k l first fs gs stand step free.
       let x = left-false (p.constructs h k l (finished_fields fs)) (q.constructs h k l (finished_fields fs)) free in
       let y = right-false (p.constructs h k l (finished_fields fs)) (q.constructs h k l (finished_fields fs)) free in
       elim (split-fields step) [
-        | inl i ↦ neither (p.constructs h k l (finished_fields gs)) (q.constructs h k l (finished_fields gs)) (f.stable h c s s' k l fs gs i x) (apart.second_stable h c s s' k l fs gs i y)
-        | inr j ↦ neither (p.constructs h k l (finished_fields gs)) (q.constructs h k l (finished_fields gs)) (apart.first_stable h c s s' k l fs gs j x) (g.stable h c s s' k l fs gs j y)
+        | inl i ↦ neither (p.constructs h k l (finished_fields gs)) (q.constructs h k l (finished_fields gs)) (f.stable h n s s' k l first fs gs stand i x) (apart.second_stable h n s s' k l first fs gs stand i y)
+        | inr j ↦ neither (p.constructs h k l (finished_fields gs)) (q.constructs h k l (finished_fields gs)) (apart.first_stable h n s s' k l first fs gs stand j x) (g.stable h n s s' k l first fs gs stand j y)
       ];
   placed = λ h k l fs m. elim (either-true (p.constructs h k l fs) (q.constructs h k l fs) m) [ inl i ↦ f.placed h k l fs i | inr j ↦ g.placed h k l fs j ];
   own = λ h t w. elim w [

@@ -8,7 +8,6 @@ use Rattle.es_visit.specs.Hooks.{hook_of_kind, hook_of_sort, sort_of}
 use Rattle.es_semantic.specs.declared.place.Role.{Role}
 use Rattle.es_resolution.specs.Resolved.{first_declared, own_by}
 use Rattle.es_steps.specs.Open.{nothing_pending, no_additions, is_body, list, opened, opened_field, opened_fields, opened_trees}
-use Rattle.es_steps.specs.Slots.{is_slot}
 use Rattle.es_steps.specs.Steps.{FieldStep, FieldsStep, Site, Step, Steps, TreesStep, site_in, the_program}
 use Rattle.es_changes.specs.Changes.{Each, EachBy, Stepped, open_program}
 use Rattle.es_visit.specs.Counts.{hooks_in}
@@ -17,44 +16,40 @@ use Rattle.es_changes.specs.Laws.{SamePlace}
 use Rattle.es_changes.specs.Conditions.{holds_after, holds_before}
 use Rattle.es_changes.specs.Moments.{Moment, ledger_at, ledger_with, top, with_pair}
 use Rattle.es_traverse.specs.Laws.{Profile, is_construct, anything, first_field, body_field, opens_body, ExitedBody, KeepsBody, MakesNone}
-use Rattle.es_traverse.specs.Sites.{is_arrow_body}
+use Rattle.es_traverse.specs.Sites.{Tells, is_arrow_body}
 use Rattle.es_traverse.specs.declared.site.Site.{Site as CodeSite}
-use Rattle.es_traverse.specs.declared.site.Site.TheVariants.{ArrowBody, Expression as c-Expression}
-
--- a slot is known as the place of an expression
-abbrev pub TellsSlots : CodeSite → Site → Type 0
-TellsSlots c n = is_slot n.above ≡ true → c ≡ c-Expression
+use Rattle.es_traverse.specs.declared.site.Site.TheVariants.{ArrowBody}
 
 -- HOOKS OF A NODE
 
 -- the enter hook of a node by its sort: it is no construct that this hook removes
 pub record EnteredSort (p : Profile) (c : CodeSite) (a : Moment) (t : Tree) (b : Moment) (u : Tree) : Type 0 where
-  pub stepped : (n : Site) → TellsSlots c n → Fits a n t → (holds_before p.conditions) n t → Steps (Step p.rule n) (ledger_at a) (opened t) (ledger_at b) (opened u)
-  pub leaves : (n : Site) → TellsSlots c n → Fits a n t → (holds_before p.conditions) n t → (holds_after p.conditions) n u
+  pub stepped : (n : Site) → Tells c n → Fits a n t → (holds_before p.conditions) n t → Steps (Step p.rule n) (ledger_at a) (opened t) (ledger_at b) (opened u)
+  pub leaves : (n : Site) → Tells c n → Fits a n t → (holds_before p.conditions) n t → (holds_after p.conditions) n u
   pub body : KeepsBody t u
-  pub cleared : (h : Hook) → hook_of_sort (sort_of (kind_of u)) ≡ Some h → is_construct (p.constructs h) u ≡ false
+  pub cleared : (n : Site) → Tells c n → Fits a n t → (holds_before p.conditions) n t → (h : Hook) → hook_of_sort (sort_of (kind_of u)) ≡ Some h → is_construct (p.constructs h) u ≡ false
 
 -- by its kind
-pub record EnteredKind (p : Profile) (a : Moment) (t : Tree) (b : Moment) (u : Tree) : Type 0 where
-  pub stepped : (n : Site) → Fits a n t → (holds_after p.conditions) n t → Steps (Step p.rule n) (ledger_at a) (opened t) (ledger_at b) (opened u)
-  pub leaves : (n : Site) → Fits a n t → (holds_after p.conditions) n t → (holds_after p.conditions) n u
+pub record EnteredKind (p : Profile) (c : CodeSite) (a : Moment) (t : Tree) (b : Moment) (u : Tree) : Type 0 where
+  pub stepped : (n : Site) → Tells c n → Fits a n t → (holds_after p.conditions) n t → Steps (Step p.rule n) (ledger_at a) (opened t) (ledger_at b) (opened u)
+  pub leaves : (n : Site) → Tells c n → Fits a n t → (holds_after p.conditions) n t → (holds_after p.conditions) n u
   pub body : KeepsBody t u
-  pub cleared : (h : Hook) → hook_of_kind (kind_of t) ≡ Some h → is_construct (p.constructs h) u ≡ false
+  pub cleared : (n : Site) → Tells c n → Fits a n t → (holds_after p.conditions) n t → (h : Hook) → hook_of_kind (kind_of t) ≡ Some h → is_construct (p.constructs h) u ≡ false
   pub order : (u ≡ t) ⊎ p.writes u
 
 -- both: it is no construct any more
 pub record EnteredNode (p : Profile) (c : CodeSite) (a : Moment) (t : Tree) (b : Moment) (u : Tree) : Type 0 where
-  pub stepped : (n : Site) → TellsSlots c n → Fits a n t → (holds_before p.conditions) n t → Steps (Step p.rule n) (ledger_at a) (opened t) (ledger_at b) (opened u)
-  pub leaves : (n : Site) → TellsSlots c n → Fits a n t → (holds_before p.conditions) n t → (holds_after p.conditions) n u
+  pub stepped : (n : Site) → Tells c n → Fits a n t → (holds_before p.conditions) n t → Steps (Step p.rule n) (ledger_at a) (opened t) (ledger_at b) (opened u)
+  pub leaves : (n : Site) → Tells c n → Fits a n t → (holds_before p.conditions) n t → (holds_after p.conditions) n u
   pub body : KeepsBody t u
-  pub cleared : (h : Hook) → is_construct (p.constructs h) u ≡ false
+  pub cleared : (n : Site) → Tells c n → Fits a n t → (holds_before p.conditions) n t → (h : Hook) → is_construct (p.constructs h) u ≡ false
 
 -- PARTS
 
 -- a node without its hooks as the body of an arrow
 pub record Visited (p : Profile) (c : CodeSite) (a : Moment) (t : Tree) (b : Moment) (u : Tree) : Type 0 where
-  pub stepped : (n : Site) → TellsSlots c n → Fits a n t → (holds_before p.conditions) n t → Steps (Step p.rule n) (ledger_at a) (opened t) (ledger_at b) (opened u)
-  pub free : (n : Site) → TellsSlots c n → Fits a n t → (holds_before p.conditions) n t → (h : Hook) → any_node (p.constructs h) u ≡ false
+  pub stepped : (n : Site) → Tells c n → Fits a n t → (holds_before p.conditions) n t → Steps (Step p.rule n) (ledger_at a) (opened t) (ledger_at b) (opened u)
+  pub free : (n : Site) → Tells c n → Fits a n t → (holds_before p.conditions) n t → (h : Hook) → any_node (p.constructs h) u ≡ false
 
 -- the roles of the fields of a node
 abbrev pub roles_in : Site → AstType → Label → Fields → ℕ → Role
@@ -69,9 +64,9 @@ pub record VisitedFields (p : Profile) (k : AstType) (l : Label) (a : Moment) (f
 
 -- what stands in a field; a name that is declared there stays
 pub record VisitedField (p : Profile) (c : CodeSite) (a : Moment) (f : Field) (b : Moment) (g : Field) : Type 0 where
-  pub stepped : (n : Site) → TellsSlots c n → FitsBy a n (is_arrow_body c) f → EachBy (holds_before p.conditions) n (is_arrow_body c) f → Steps (FieldStep p.rule n) (ledger_at a) (opened_field (is_arrow_body c) f) (ledger_at b) (opened_field (is_arrow_body c) g)
-  pub free : (n : Site) → TellsSlots c n → FitsBy a n (is_arrow_body c) f → EachBy (holds_before p.conditions) n (is_arrow_body c) f → (h : Hook) → any_in_field (p.constructs h) g ≡ false
-  pub own : (n : Site) → TellsSlots c n → FitsBy a n (is_arrow_body c) f → EachBy (holds_before p.conditions) n (is_arrow_body c) f → own_by n.role g ≡ own_by n.role f
+  pub stepped : (n : Site) → Tells c n → FitsBy a n (is_arrow_body c) f → EachBy (holds_before p.conditions) n (is_arrow_body c) f → Steps (FieldStep p.rule n) (ledger_at a) (opened_field (is_arrow_body c) f) (ledger_at b) (opened_field (is_arrow_body c) g)
+  pub free : (n : Site) → Tells c n → FitsBy a n (is_arrow_body c) f → EachBy (holds_before p.conditions) n (is_arrow_body c) f → (h : Hook) → any_in_field (p.constructs h) g ≡ false
+  pub own : (n : Site) → Tells c n → FitsBy a n (is_arrow_body c) f → EachBy (holds_before p.conditions) n (is_arrow_body c) f → own_by n.role g ≡ own_by n.role f
 
 -- the nodes of a list
 pub record VisitedTrees (p : Profile) (a : Moment) (ts : Trees) (b : Moment) (us : Trees) : Type 0 where

@@ -6,6 +6,7 @@ ghost use Rattle.es_traverse.specs.Laws.{AreApart, both_profile};
 ghost use Rattle.es_traverse.specs.Together.{both_lawful};
 
 use crate::lowering::{Additions, Lowering};
+use crate::site::Site;
 use crate::traverse::Traverse;
 use es_scope::context::TraverseCtx;
 use es_statements::program::Program;
@@ -132,11 +133,12 @@ impl<S: Additions, A: Traverse<S>, B: Traverse<S>> Traverse<S> for Both<A, B> {
     fn enter_node(
         &mut self,
         hook: Hook,
+        site: Site,
         node: &mut Node,
         ctx: &mut TraverseCtx<S>,
     ) -> Result<(), AllocError> {
-        self.first.enter_node(hook, node, ctx)?;
-        self.second.enter_node(hook, node, ctx)?;
+        self.first.enter_node(hook, site, node, ctx)?;
+        self.second.enter_node(hook, site, node, ctx)?;
         Ok(())
     }
 

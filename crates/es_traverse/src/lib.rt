@@ -2,6 +2,7 @@
 #![tactic(auto)]
 
 pub mod both;
+pub mod entering;
 pub mod lowering;
 pub mod site;
 pub mod traverse;

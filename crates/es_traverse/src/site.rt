@@ -6,8 +6,7 @@ ghost use Rattle.es_tree.specs.Tree.{kind_of, label_of};
 ghost use Rattle.es_scope.specs.Contexts.{table_of};
 ghost use Rattle.es_scope.specs.Tables.{scope_count};
 ghost use Rattle.es_steps.specs.Open.{is_body};
-ghost use Rattle.es_traverse.specs.Sites.{is_arrow_body, may_be_slot, parameters_in, role_at};
-ghost use Rattle.es_traverse.specs.declared.site.Site.TheVariants.{Expression as IsExpressionSite};
+ghost use Rattle.es_traverse.specs.Sites.{is_arrow_body, is_slot_place, may_be_slot, parameters_in, role_at};
 ghost use Rattle.es_visit.specs.Counts.{parameters_at};
 
 use es_scope::context::TraverseCtx;
@@ -17,12 +16,14 @@ use es_tree::ids::{NodeId, ScopeId};
 use es_tree::kind::Kind;
 use es_tree::node::Node;
 use es_tree::table::{Content, Sort};
-use es_visit::hook::Sort as NodeSort;
+use es_visit::hook::{Sort as NodeSort, sort_of};
 
 /// What may stand at a place, as far as hooks ask.
 #[derive(Clone, Copy, PartialEq, Eq, Debug)]
 pub enum Site {
     Expression,
+    /// An expression that may be a slot: the value of a class field, a default value, or a computed key of a pattern.
+    Slot,
     Statement,
     /// The body of an arrow, a function body or an expression.
     ArrowBody,
@@ -40,13 +41,17 @@ pub enum Role {
     Nothing,
 }
 
-/// As what a node of this sort stands at such a place.
-pub fn role_at(sort: NodeSort, site: Site) -> Role
-    ensures { result ≡ role_at sort site }
+/// As what a node of this kind stands at such a place.
+pub fn role_at(kind: AstType, site: Site) -> Role
+    ensures { result ≡ role_at kind site }
 {
-    match (sort, site) {
+    if kind == AstType::CallExpression {
+        return Role::Expression;
+    }
+    match (sort_of(kind), site) {
         (NodeSort::AlwaysExpression, _)
         | (NodeSort::MaybeExpression, Site::Expression)
+        | (NodeSort::MaybeExpression, Site::Slot)
         | (NodeSort::MaybeExpression, Site::ArrowBody) => Role::Expression,
         (NodeSort::AlwaysStatement, _) | (NodeSort::MaybeStatement, Site::Statement) =>
             Role::Statement,
@@ -108,11 +113,11 @@ pub fn scope_inside<S>(ctx: &TraverseCtx<S>, scope: Option<ScopeId>) -> ScopeId
 pub fn site_at(parent: Parent, index: usize) -> Site
     ensures parameters { (n : ℕ) → parameters_in n result ≤ parameters_at n parent.kind index }
     ensures bodies { is_arrow_body result ≡ is_body parent.kind index }
-    ensures slots { may_be_slot parent.kind index parent.is_computed ≡ true → result ≡ IsExpressionSite }
+    ensures slots { is_slot_place result ≡ may_be_slot parent.kind index parent.is_computed }
 {
     match (parent.kind, index) {
-        (AstType::PropertyDefinition, 1) | (AstType::AssignmentPattern, 1) => Site::Expression,
-        (AstType::PatternProperty, 0) if parent.is_computed => Site::Expression,
+        (AstType::PropertyDefinition, 1) | (AstType::AssignmentPattern, 1) => Site::Slot,
+        (AstType::PatternProperty, 0) if parent.is_computed => Site::Slot,
         (AstType::ArrowFunctionExpression, 1) => Site::ArrowBody,
         (AstType::FunctionDeclaration, 1) => Site::Parameters,
         (AstType::FunctionExpression, 1) => Site::Parameters,
@@ -127,6 +132,7 @@ pub fn site_at(parent: Parent, index: usize) -> Site
 fn site_of(sort: Sort, is_computed: bool) -> Site
     ensures parameters { (n : ℕ) → parameters_in n result ≡ 0 }
     ensures bodies { is_arrow_body result ≡ false }
+    ensures slots { is_slot_place result ≡ false }
 {
     match sort {
         Sort::Statement => Site::Statement,

@@ -4,8 +4,8 @@
 //!
 //! Hooks that remove constructs or keep pairs have no default body: a type that states constructs for a hook and does
 //! nothing there is refused when it is proved.
-ghost use Rattle.std.specs.Prelude.{◌≡◌, OnOk};
-ghost use Rattle.es_tree.specs.Tree.{label_of, trees};
+ghost use Rattle.std.specs.Prelude.{◌≡◌, ◌+◌, OnOk};
+ghost use Rattle.es_tree.specs.Tree.{label_of, tree_size, trees};
 ghost use Rattle.es_tree.specs.declared.options.EnvOptions.{EnvOptions as Options};
 ghost use Rattle.es_runs.specs.Weights.{trees_weight, weight};
 ghost use Rattle.es_statements.specs.ProgramPlain.{plain_program};
@@ -13,9 +13,12 @@ ghost use Rattle.es_visit.specs.Laws.{Goes, GoesOut, GoesOutOfList, KeepsAllIds,
 ghost use Rattle.es_visit.specs.declared.hook.Hook.TheVariants.{ArrowFunctionBody, FormalParameters};
 ghost use Rattle.es_visit.specs.declared.hook.Hook.TheVariants.{Program as WholeProgram, Statements as StatementList};
 ghost use Rattle.es_traverse.specs.ContextMoments.{moment};
-ghost use Rattle.es_traverse.specs.Laws.{EnteredAs, EnteredList, EnteredParameters, Exited, ExitedBody, ExitedList, ExitedParameters, ExitedProgram, IsLawful, IsReady, KeptTree, KeptTrees, Seen, SeenAmong, opens_body, opens_list};
+ghost use Rattle.es_changes.specs.Changes.{Kept};
+ghost use Rattle.es_traverse.specs.Laws.{EnteredAs, EnteredList, EnteredParameters, Exited, ExitedBody, ExitedList, ExitedParameters, ExitedProgram, IsLawful, IsReady, KeptLoad, KeptLoads, KeptTree, KeptTrees, Seen, SeenAmong, opens_body, opens_list};
+ghost use Rattle.es_traverse.specs.Loads.{load, trees_load, wrapping_by, writing_by};
 
 use crate::lowering::{Additions, Lowering};
+use crate::site::Site;
 use es_scope::context::TraverseCtx;
 use es_statements::program::Program;
 use es_tree::node::Node;
@@ -32,7 +35,7 @@ pub trait Traverse<S: Additions>: Lowering {
         program: &Program,
         ctx: &mut TraverseCtx<S>,
     ) -> Result<(), AllocError>
-        requires ready { IsReady Self.suits self.old (moment S.pending ctx.old) (weight (plain_program program.now)) }
+        requires ready { IsReady Self.suits self.old (moment S.pending ctx.old) (load (plain_program program.now)) }
         ensures same { OnOk result (moment S.pending ctx.new ≡ moment S.pending ctx.old) }
         ensures goes { OnOk result (Goes Self.suits Self.tally Self.entries ctx.old.options WholeProgram self.old self.new) };
 
@@ -54,8 +57,8 @@ pub trait Traverse<S: Additions>: Lowering {
         statements: &mut Vec<Statement>,
         ctx: &mut TraverseCtx<S>,
     ) -> Result<(), AllocError>
-        requires ready { IsReady Self.suits self.old (moment S.pending ctx.old) (trees_weight (trees statements.old.items)) }
-        ensures kept { OnOk result (KeptTrees (opens_list Self.keeps (moment S.pending ctx.old)) (trees statements.old.items) (moment S.pending ctx.new) (trees statements.new.items)) }
+        requires ready { IsReady Self.suits self.old (moment S.pending ctx.old) (trees_load (trees statements.old.items)) }
+        ensures kept { OnOk result (KeptLoads (opens_list Self.keeps (moment S.pending ctx.old)) (trees statements.old.items) (moment S.pending ctx.new) (trees statements.new.items)) }
         ensures entered { OnOk result (SeenAmong (λ ts us. EnteredList (Self.profile ctx.old.options) Self.keeps (moment S.pending ctx.old) ts (moment S.pending ctx.new) us) (trees statements.old.items) (trees statements.new.items)) }
         ensures goes { OnOk result (Goes Self.suits Self.tally Self.entries ctx.old.options StatementList self.old self.new) };
 
@@ -77,8 +80,8 @@ pub trait Traverse<S: Additions>: Lowering {
         parameters: &mut Vec<BindingPattern>,
         ctx: &mut TraverseCtx<S>,
     ) -> Result<(), AllocError>
-        requires ready { IsReady Self.suits self.old (moment S.pending ctx.old) (trees_weight (trees parameters.old.items)) }
-        ensures kept { OnOk result (KeptTrees (moment S.pending ctx.old) (trees parameters.old.items) (moment S.pending ctx.new) (trees parameters.new.items)) }
+        requires ready { IsReady Self.suits self.old (moment S.pending ctx.old) (trees_load (trees parameters.old.items)) }
+        ensures kept { OnOk result (KeptLoads (moment S.pending ctx.old) (trees parameters.old.items) (moment S.pending ctx.new) (trees parameters.new.items)) }
         ensures entered { OnOk result (SeenAmong (λ ts us. EnteredParameters (Self.profile ctx.old.options) (moment S.pending ctx.old) ts (moment S.pending ctx.new) us) (trees parameters.old.items) (trees parameters.new.items)) }
         ensures goes { OnOk result (Goes Self.suits Self.tally Self.entries ctx.old.options FormalParameters self.old self.new) };
 
@@ -100,7 +103,7 @@ pub trait Traverse<S: Additions>: Lowering {
         body: &ArrowFunctionBody,
         ctx: &mut TraverseCtx<S>,
     ) -> Result<(), AllocError>
-        requires ready { IsReady Self.suits self.old (moment S.pending ctx.old) (weight body.now) }
+        requires ready { IsReady Self.suits self.old (moment S.pending ctx.old) (load body.now) }
         ensures opened { OnOk result (moment S.pending ctx.new ≡ opens_body Self.keeps body.now (moment S.pending ctx.old)) }
         ensures goes { OnOk result (Goes Self.suits Self.tally Self.entries ctx.old.options ArrowFunctionBody self.old self.new) };
 
@@ -111,23 +114,24 @@ pub trait Traverse<S: Additions>: Lowering {
         body: &mut ArrowFunctionBody,
         ctx: &mut TraverseCtx<S>,
     ) -> Result<(), AllocError>
-        requires ready { IsReady Self.suits self.old (moment S.pending ctx.old) (weight body.old) }
-        ensures kept { OnOk result (KeptTree (moment S.pending ctx.old) body.old (opens_body Self.keeps body.old (moment S.pending ctx.new)) body.new) }
+        requires ready { IsReady Self.suits self.old (moment S.pending ctx.old) (weight body.old + writing_by Self.keeps) }
+        ensures kept { OnOk result (Kept (moment S.pending ctx.old) (weight body.old + writing_by Self.keeps) (tree_size body.old) (opens_body Self.keeps body.old (moment S.pending ctx.new)) (weight body.new) (tree_size body.new)) }
         ensures exited { OnOk result (Seen (λ t u. ExitedBody (Self.profile ctx.old.options) Self.keeps (moment S.pending ctx.old) t (moment S.pending ctx.new) u) body.old body.new) }
         ensures ids { OnOk result (KeepsIds body.old body.new) }
         ensures goes { OnOk result (GoesOut Self.suits Self.tally Self.entries ctx.old.options ArrowFunctionBody (label_of body.old).id self.old self.new) };
 
     /// Before the children of a node, by its sort (`Hook::Expression`, `Hook::Statement`: ECMA-262, 13 and 14 to 16),
-    /// and then by its kind.
+    /// and then by its kind. The site tells what may stand at its place.
     fn enter_node(
         &mut self,
         hook: Hook,
+        site: Site,
         node: &mut Node,
         ctx: &mut TraverseCtx<S>,
     ) -> Result<(), AllocError>
-        requires ready { IsReady Self.suits self.old (moment S.pending ctx.old) (weight node.old) }
-        ensures kept { OnOk result (KeptTree (moment S.pending ctx.old) node.old (moment S.pending ctx.new) node.new) }
-        ensures entered { OnOk result (Seen (λ t u. EnteredAs (Self.profile ctx.old.options) hook (moment S.pending ctx.old) t (moment S.pending ctx.new) u) node.old node.new) }
+        requires ready { IsReady Self.suits self.old (moment S.pending ctx.old) (load node.old + wrapping_by Self.keeps hook site) }
+        ensures kept { OnOk result (KeptLoad (wrapping_by Self.keeps hook site) (moment S.pending ctx.old) node.old (moment S.pending ctx.new) node.new) }
+        ensures entered { OnOk result (Seen (λ t u. EnteredAs (Self.profile ctx.old.options) hook site (moment S.pending ctx.old) t (moment S.pending ctx.new) u) node.old node.new) }
         ensures goes { OnOk result (Goes Self.suits Self.tally Self.entries ctx.old.options hook self.old self.new) };
 
     /// After the children of a node, by its kind, and then by its sort.

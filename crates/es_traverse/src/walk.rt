@@ -1,11 +1,11 @@
 //! The visit: each node's enter hooks, its children in the order of the table of fields, its exit hooks.
 ghost use Rattle.std.specs.Prelude.{◌≡◌, ◌+◌, ◌≤◌, ◌<◌, [], ℕ, OnOk, Option, false, length};
 ghost use Rattle.es_tree.specs.Names.{has_computed};
-ghost use Rattle.es_tree.specs.Tree.{Label, field_size, fields_size, kind_of, label_of, trees, trees_size};
+ghost use Rattle.es_tree.specs.Tree.{Label, field_size, fields_size, kind_of, label_of, tree_size, trees};
 ghost use Rattle.es_tree.specs.Views.{plain_field, plain_fields};
 ghost use Rattle.es_tree.specs.Words.{Text};
 ghost use Rattle.es_resolution.specs.Seen.{seen_by, seen_in};
-ghost use Rattle.es_runs.specs.Weights.{field_weight, fields_weight, trees_weight, weight};
+ghost use Rattle.es_runs.specs.Weights.{field_weight, fields_weight, weight};
 ghost use Rattle.es_scope.specs.Contexts.{around_of};
 ghost use Rattle.es_statements.specs.ProgramPlain.{plain_program};
 ghost use Rattle.es_visit.specs.Counts.{all_hooks, hooks_in, hooks_in_trees, own_parameters, total, total_among, total_at, total_in};
@@ -15,9 +15,9 @@ ghost use Rattle.es_steps.specs.Open.{nothing_pending};
 ghost use Rattle.es_changes.specs.Changes.{Kept};
 ghost use Rattle.es_changes.specs.Moments.{top as first_pending};
 ghost use Rattle.es_traverse.specs.ContextMoments.{moment};
-ghost use Rattle.es_traverse.specs.Laws.{CanVisit, Exited, IsReady, KeptTree, KeptTrees, MakesNone, Seen, SeenAmong};
+ghost use Rattle.es_traverse.specs.Laws.{CanVisit, Exited, IsReady, KeptLoad, KeptTree, KeptVisited, KeptVisitedTrees, MakesNone, Seen, SeenAmong};
+ghost use Rattle.es_traverse.specs.Loads.{allowance, field_load, fields_load, load, own_allowance, trees_load, wrapping, writing};
 ghost use Rattle.es_traverse.specs.Sites.{hook_of_role, is_arrow_body, parameters_in, role_at};
-ghost use Rattle.es_visit.specs.Hooks.{sort_of};
 ghost use Rattle.es_traverse.specs.Visits.{EnteredKind, EnteredNode, EnteredSort, ExitedAt, ExitedNode, VisitedAt, VisitedField, VisitedFields, VisitedList, VisitedProgram, VisitedTrees, opens_at};
 
 use crate::lowering::Additions;
@@ -28,7 +28,7 @@ use es_scope::context::TraverseCtx;
 use es_statements::program::Program;
 use es_tree::ast_type::AstType;
 use es_tree::node::{Field, Node};
-use es_visit::hook::{Hook, hook_of_kind, sort_of};
+use es_visit::hook::{Hook, hook_of_kind};
 use es_visit::steps::Steps;
 use std::alloc::AllocError;
 use std::sync::ledger::Ledger;
@@ -44,9 +44,9 @@ pub fn traverse<T: Traverse<S>, S: Additions, L: Ledger>(
     steps: &mut Steps<L>,
 ) -> Result<(), AllocError>
     requires can { CanVisit T.keeps (T.profile ctx.old.options) }
-    requires ready { IsReady T.suits t.old (moment S.pending ctx.old) (weight (plain_program program.old)) }
+    requires ready { IsReady T.suits t.old (moment S.pending ctx.old) (load (plain_program program.old)) }
     requires top { around_of ctx.old ≡ [] }
-    ensures kept { OnOk result (KeptTree (moment S.pending ctx.old) (plain_program program.old) (moment S.pending ctx.new) (plain_program program.new)) }
+    ensures kept { OnOk result (KeptVisited 0 (moment S.pending ctx.old) (plain_program program.old) (moment S.pending ctx.new) (plain_program program.new)) }
     ensures visited { OnOk result (Seen (λ p q. VisitedProgram (T.profile ctx.old.options) (moment S.pending ctx.old) p (moment S.pending ctx.new) q) (plain_program program.old) (plain_program program.new)) }
     ensures finished { OnOk result (first_pending (moment S.pending ctx.new).lists ≡ nothing_pending) }
     ensures calls { OnOk result (Counted T.suits T.tally T.entries ctx.old.options t.old t.new (λ m. total m (plain_program program.new))) }
@@ -69,9 +69,9 @@ fn visit_program<T: Traverse<S>, S: Additions, L: Ledger>(
     steps: &mut Steps<L>,
 ) -> Result<(), AllocError>
     requires can { CanVisit T.keeps (T.profile ctx.old.options) }
-    requires ready { IsReady T.suits t.old (moment S.pending ctx.old) (weight (plain_program program.old)) }
+    requires ready { IsReady T.suits t.old (moment S.pending ctx.old) (load (plain_program program.old)) }
     requires top { around_of ctx.old ≡ [] }
-    ensures kept { OnOk result (KeptTree (moment S.pending ctx.old) (plain_program program.old) (moment S.pending ctx.new) (plain_program program.new)) }
+    ensures kept { OnOk result (KeptVisited 0 (moment S.pending ctx.old) (plain_program program.old) (moment S.pending ctx.new) (plain_program program.new)) }
     ensures visited { OnOk result (Seen (λ p q. VisitedProgram (T.profile ctx.old.options) (moment S.pending ctx.old) p (moment S.pending ctx.new) q) (plain_program program.old) (plain_program program.new)) }
     ensures calls { OnOk result (Counted T.suits T.tally T.entries ctx.old.options t.old t.new (λ m. m.list + total_among m (trees program.new.body.items))) }
     ensures cost { OnOk result (steps.new ≤ steps.old + 2 + hooks_in_trees (trees program.new.body.items)) }
@@ -102,9 +102,9 @@ fn visit_node<T: Traverse<S>, S: Additions, L: Ledger>(
     steps: &mut Steps<L>,
 ) -> Result<(), AllocError>
     requires can { CanVisit T.keeps (T.profile ctx.old.options) }
-    requires ready { IsReady T.suits t.old (moment S.pending ctx.old) (weight node.old) }
+    requires ready { IsReady T.suits t.old (moment S.pending ctx.old) (load node.old + allowance site) }
     requires deep { 0 < length (around_of ctx.old) }
-    ensures kept { OnOk result (KeptTree (moment S.pending ctx.old) node.old (moment S.pending ctx.new) node.new) }
+    ensures kept { OnOk result (KeptVisited (allowance site) (moment S.pending ctx.old) node.old (moment S.pending ctx.new) node.new) }
     ensures visited { OnOk result (Seen (λ p q. VisitedAt site (T.profile ctx.old.options) (moment S.pending ctx.old) p (moment S.pending ctx.new) q) node.old node.new) }
     ensures calls { OnOk result (Counted T.suits T.tally T.entries ctx.old.options t.old t.new (λ m. total m node.new)) }
     ensures cost { OnOk result (steps.new ≤ steps.old + hooks_in node.new) }
@@ -126,9 +126,9 @@ fn visit_fields<T: Traverse<S>, S: Additions, L: Ledger>(
     steps: &mut Steps<L>,
 ) -> Result<(), AllocError>
     requires can { CanVisit T.keeps (T.profile ctx.old.options) }
-    requires ready { IsReady T.suits t.old (moment S.pending ctx.old) (fields_weight (plain_fields fields.old.items)) }
+    requires ready { IsReady T.suits t.old (moment S.pending ctx.old) (fields_load (plain_fields fields.old.items) + own_allowance parent.kind) }
     requires deep { 0 < length (around_of ctx.old) }
-    ensures kept { OnOk result (Kept (moment S.pending ctx.old) (fields_weight (plain_fields fields.old.items)) (fields_size (plain_fields fields.old.items)) (moment S.pending ctx.new) (fields_weight (plain_fields fields.new.items)) (fields_size (plain_fields fields.new.items))) }
+    ensures kept { OnOk result (Kept (moment S.pending ctx.old) (fields_load (plain_fields fields.old.items) + own_allowance parent.kind) (fields_size (plain_fields fields.old.items)) (moment S.pending ctx.new) (fields_weight (plain_fields fields.new.items)) (fields_size (plain_fields fields.new.items))) }
     ensures visited { OnOk result ((names : ℕ → Text → Option ℕ) (l : Label) → parent.is_computed ≡ has_computed parent.kind l.flags → VisitedFields (T.profile ctx.old.options) parent.kind l (moment S.pending ctx.old) (seen_in names (plain_fields fields.old.items)) (moment S.pending ctx.new) (seen_in names (plain_fields fields.new.items))) }
     ensures calls { OnOk result (Counted T.suits T.tally T.entries ctx.old.options t.old t.new (λ m. own_parameters m.parameters parent.kind + total_in m (plain_fields fields.new.items))) }
     ensures cost { OnOk result (steps.new ≤ steps.old + (own_parameters 2 parent.kind + total_in all_hooks (plain_fields fields.new.items))) }
@@ -157,9 +157,9 @@ fn visit_field<T: Traverse<S>, S: Additions, L: Ledger>(
     steps: &mut Steps<L>,
 ) -> Result<(), AllocError>
     requires can { CanVisit T.keeps (T.profile ctx.old.options) }
-    requires ready { IsReady T.suits t.old (moment S.pending ctx.old) (field_weight (plain_field field.old)) }
+    requires ready { IsReady T.suits t.old (moment S.pending ctx.old) (field_load (plain_field field.old) + allowance site) }
     requires deep { 1 < length (around_of ctx.old) }
-    ensures kept { OnOk result (Kept (moment S.pending ctx.old) (field_weight (plain_field field.old)) (field_size (plain_field field.old)) (moment S.pending ctx.new) (field_weight (plain_field field.new)) (field_size (plain_field field.new))) }
+    ensures kept { OnOk result (Kept (moment S.pending ctx.old) (field_load (plain_field field.old) + allowance site) (field_size (plain_field field.old)) (moment S.pending ctx.new) (field_weight (plain_field field.new)) (field_size (plain_field field.new))) }
     ensures visited { OnOk result ((names : ℕ → Text → Option ℕ) → VisitedField (T.profile ctx.old.options) site (moment S.pending ctx.old) (seen_by names (plain_field field.old)) (moment S.pending ctx.new) (seen_by names (plain_field field.new))) }
     ensures calls { OnOk result (Counted T.suits T.tally T.entries ctx.old.options t.old t.new (λ m. parameters_in m.parameters site + total_at m (plain_field field.new))) }
     ensures cost { OnOk result (steps.new ≤ steps.old + (parameters_in 2 site + total_at all_hooks (plain_field field.new))) }
@@ -183,16 +183,16 @@ fn visit_list<T: Traverse<S>, S: Additions, L: Ledger>(
     steps: &mut Steps<L>,
 ) -> Result<(), AllocError>
     requires can { CanVisit T.keeps (T.profile ctx.old.options) }
-    requires ready { IsReady T.suits t.old (moment S.pending ctx.old) (trees_weight (trees nodes.old.items)) }
+    requires ready { IsReady T.suits t.old (moment S.pending ctx.old) (trees_load (trees nodes.old.items)) }
     requires deep { 0 < length (around_of ctx.old) }
-    ensures kept { OnOk result (KeptTrees (moment S.pending ctx.old) (trees nodes.old.items) (moment S.pending ctx.new) (trees nodes.new.items)) }
+    ensures kept { OnOk result (KeptVisitedTrees (moment S.pending ctx.old) (trees nodes.old.items) (moment S.pending ctx.new) (trees nodes.new.items)) }
     ensures visited { OnOk result (SeenAmong (λ ps qs. VisitedTrees (T.profile ctx.old.options) (moment S.pending ctx.old) ps (moment S.pending ctx.new) qs) (trees nodes.old.items) (trees nodes.new.items)) }
     ensures calls { OnOk result (Counted T.suits T.tally T.entries ctx.old.options t.old t.new (λ m. parameters_in m.parameters site + total_among m (trees nodes.new.items))) }
     ensures cost { OnOk result (steps.new ≤ steps.old + (parameters_in 2 site + hooks_in_trees (trees nodes.new.items))) }
 {
     match site {
         Site::Parameters => visit_parameters(t, nodes, ctx, steps),
-        Site::ArrowBody => visit_nodes(t, nodes, Site::Other, ctx, steps),
+        Site::ArrowBody | Site::Slot => visit_nodes(t, nodes, Site::Other, ctx, steps),
         _ => visit_nodes(t, nodes, site, ctx, steps),
     }
 }
@@ -207,10 +207,10 @@ fn visit_nodes<T: Traverse<S>, S: Additions, L: Ledger>(
     steps: &mut Steps<L>,
 ) -> Result<(), AllocError>
     requires can { CanVisit T.keeps (T.profile ctx.old.options) }
-    requires site { is_arrow_body site ≡ false }
-    requires ready { IsReady T.suits t.old (moment S.pending ctx.old) (trees_weight (trees nodes.old.items)) }
+    requires site { allowance site ≡ 0 }
+    requires ready { IsReady T.suits t.old (moment S.pending ctx.old) (trees_load (trees nodes.old.items)) }
     requires deep { 0 < length (around_of ctx.old) }
-    ensures kept { OnOk result (KeptTrees (moment S.pending ctx.old) (trees nodes.old.items) (moment S.pending ctx.new) (trees nodes.new.items)) }
+    ensures kept { OnOk result (KeptVisitedTrees (moment S.pending ctx.old) (trees nodes.old.items) (moment S.pending ctx.new) (trees nodes.new.items)) }
     ensures visited { OnOk result (SeenAmong (λ ps qs. VisitedTrees (T.profile ctx.old.options) (moment S.pending ctx.old) ps (moment S.pending ctx.new) qs) (trees nodes.old.items) (trees nodes.new.items)) }
     ensures calls { OnOk result (Counted T.suits T.tally T.entries ctx.old.options t.old t.new (λ m. total_among m (trees nodes.new.items))) }
     ensures cost { OnOk result (steps.new ≤ steps.old + hooks_in_trees (trees nodes.new.items)) }
@@ -230,9 +230,9 @@ fn visit_parameters<T: Traverse<S>, S: Additions, L: Ledger>(
     steps: &mut Steps<L>,
 ) -> Result<(), AllocError>
     requires can { CanVisit T.keeps (T.profile ctx.old.options) }
-    requires ready { IsReady T.suits t.old (moment S.pending ctx.old) (trees_weight (trees parameters.old.items)) }
+    requires ready { IsReady T.suits t.old (moment S.pending ctx.old) (trees_load (trees parameters.old.items)) }
     requires deep { 0 < length (around_of ctx.old) }
-    ensures kept { OnOk result (KeptTrees (moment S.pending ctx.old) (trees parameters.old.items) (moment S.pending ctx.new) (trees parameters.new.items)) }
+    ensures kept { OnOk result (KeptVisitedTrees (moment S.pending ctx.old) (trees parameters.old.items) (moment S.pending ctx.new) (trees parameters.new.items)) }
     ensures visited { OnOk result (SeenAmong (λ ps qs. VisitedTrees (T.profile ctx.old.options) (moment S.pending ctx.old) ps (moment S.pending ctx.new) qs) (trees parameters.old.items) (trees parameters.new.items)) }
     ensures calls { OnOk result (Counted T.suits T.tally T.entries ctx.old.options t.old t.new (λ m. m.parameters + total_among m (trees parameters.new.items))) }
     ensures cost { OnOk result (steps.new ≤ steps.old + 2 + hooks_in_trees (trees parameters.new.items)) }
@@ -254,9 +254,9 @@ fn visit_statements<T: Traverse<S>, S: Additions, L: Ledger>(
     steps: &mut Steps<L>,
 ) -> Result<(), AllocError>
     requires can { CanVisit T.keeps (T.profile ctx.old.options) }
-    requires ready { IsReady T.suits t.old (moment S.pending ctx.old) (trees_weight (trees statements.old.items)) }
+    requires ready { IsReady T.suits t.old (moment S.pending ctx.old) (trees_load (trees statements.old.items)) }
     requires deep { 1 < length (around_of ctx.old) }
-    ensures kept { OnOk result (KeptTrees (moment S.pending ctx.old) (trees statements.old.items) (moment S.pending ctx.new) (trees statements.new.items)) }
+    ensures kept { OnOk result (KeptVisitedTrees (moment S.pending ctx.old) (trees statements.old.items) (moment S.pending ctx.new) (trees statements.new.items)) }
     ensures visited { OnOk result (SeenAmong (λ ps qs. VisitedList (T.profile ctx.old.options) (moment S.pending ctx.old) ps (moment S.pending ctx.new) qs) (trees statements.old.items) (trees statements.new.items)) }
     ensures calls { OnOk result (Counted T.suits T.tally T.entries ctx.old.options t.old t.new (λ m. m.list + total_among m (trees statements.new.items))) }
     ensures cost { OnOk result (steps.new ≤ steps.old + 2 + hooks_in_trees (trees statements.new.items)) }
@@ -278,15 +278,15 @@ fn enter_node<T: Traverse<S>, S: Additions, L: Ledger>(
     steps: &mut Steps<L>,
 ) -> Result<(), AllocError>
     requires can { CanVisit T.keeps (T.profile ctx.old.options) }
-    requires ready { IsReady T.suits t.old (moment S.pending ctx.old) (weight node.old) }
-    ensures kept { OnOk result (KeptTree (opens_at site T.keeps node.old (moment S.pending ctx.old)) node.old (moment S.pending ctx.new) node.new) }
+    requires ready { IsReady T.suits t.old (moment S.pending ctx.old) (load node.old + allowance site) }
+    ensures kept { OnOk result (Kept (opens_at site T.keeps node.old (moment S.pending ctx.old)) (load node.old + allowance site) (tree_size node.old) (moment S.pending ctx.new) (load node.new + writing site) (tree_size node.new)) }
     ensures entered { OnOk result (Seen (λ p q. EnteredNode (T.profile ctx.old.options) site (opens_at site T.keeps p (moment S.pending ctx.old)) p (moment S.pending ctx.new) q) node.old node.new) }
     ensures goes { OnOk result (GoesIn T.suits T.tally T.entries ctx.old.options t.old t.new) }
     ensures cost { OnOk result (steps.new ≤ steps.old + 3) }
 {
     enter_body(t, node, site, ctx, steps)?;
     enter_sort(t, node, site, ctx, steps)?;
-    enter_kind(t, node, ctx, steps)?;
+    enter_kind(t, node, site, ctx, steps)?;
     Ok(())
 }
 
@@ -298,8 +298,8 @@ fn exit_node<T: Traverse<S>, S: Additions, L: Ledger>(
     ctx: &mut TraverseCtx<S>,
     steps: &mut Steps<L>,
 ) -> Result<(), AllocError>
-    requires ready { IsReady T.suits t.old (moment S.pending ctx.old) (weight node.old) }
-    ensures kept { OnOk result (KeptTree (moment S.pending ctx.old) node.old (opens_at site T.keeps node.old (moment S.pending ctx.new)) node.new) }
+    requires ready { IsReady T.suits t.old (moment S.pending ctx.old) (weight node.old + writing site) }
+    ensures kept { OnOk result (Kept (moment S.pending ctx.old) (weight node.old + writing site) (tree_size node.old) (opens_at site T.keeps node.old (moment S.pending ctx.new)) (weight node.new) (tree_size node.new)) }
     ensures exited { OnOk result (Seen (λ p q. ExitedNode (T.profile ctx.old.options) T.keeps site (moment S.pending ctx.old) p (moment S.pending ctx.new) q) node.old node.new) }
     ensures ids { OnOk result (KeepsIds node.old node.new) }
     ensures goes { OnOk result (GoesOutOfNode T.suits T.tally T.entries ctx.old.options (label_of node.old).id t.old t.new) }
@@ -319,7 +319,7 @@ fn enter_body<T: Traverse<S>, S: Additions, L: Ledger>(
     ctx: &mut TraverseCtx<S>,
     steps: &mut Steps<L>,
 ) -> Result<(), AllocError>
-    requires ready { IsReady T.suits t.old (moment S.pending ctx.old) (weight node.now) }
+    requires ready { IsReady T.suits t.old (moment S.pending ctx.old) (load node.now) }
     ensures opened { OnOk result (moment S.pending ctx.new ≡ opens_at site T.keeps node.now (moment S.pending ctx.old)) }
     ensures goes { OnOk result (GoesAtBody T.suits T.tally T.entries ctx.old.options t.old t.new) }
     ensures cost { OnOk result (steps.new ≤ steps.old + 1) }
@@ -340,8 +340,8 @@ fn exit_body<T: Traverse<S>, S: Additions, L: Ledger>(
     ctx: &mut TraverseCtx<S>,
     steps: &mut Steps<L>,
 ) -> Result<(), AllocError>
-    requires ready { IsReady T.suits t.old (moment S.pending ctx.old) (weight node.old) }
-    ensures kept { OnOk result (KeptTree (moment S.pending ctx.old) node.old (opens_at site T.keeps node.old (moment S.pending ctx.new)) node.new) }
+    requires ready { IsReady T.suits t.old (moment S.pending ctx.old) (weight node.old + writing site) }
+    ensures kept { OnOk result (Kept (moment S.pending ctx.old) (weight node.old + writing site) (tree_size node.old) (opens_at site T.keeps node.old (moment S.pending ctx.new)) (weight node.new) (tree_size node.new)) }
     ensures exited { OnOk result (Seen (λ p q. ExitedAt site (T.profile ctx.old.options) T.keeps (moment S.pending ctx.old) p (moment S.pending ctx.new) q) node.old node.new) }
     ensures none { OnOk result (Seen (λ p q. MakesNone (T.profile ctx.old.options).writes p q) node.old node.new) }
     ensures hooks { OnOk result (hooks_in node.old ≤ hooks_in node.new) }
@@ -359,9 +359,9 @@ fn exit_body<T: Traverse<S>, S: Additions, L: Ledger>(
 
 /// The hook of a node by its sort, if it has one here.
 fn hook_at(node: &Node, site: Site) -> Option<Hook>
-    ensures { result ≡ hook_of_role (role_at (sort_of (kind_of node.now)) site) }
+    ensures { result ≡ hook_of_role (role_at (kind_of node.now) site) }
 {
-    match role_at(sort_of(node.kind.ast_type()), site) {
+    match role_at(node.kind.ast_type(), site) {
         Role::Expression => Some(Hook::Expression),
         Role::Statement => Some(Hook::Statement),
         Role::Nothing => None,
@@ -377,8 +377,8 @@ fn enter_sort<T: Traverse<S>, S: Additions, L: Ledger>(
     steps: &mut Steps<L>,
 ) -> Result<(), AllocError>
     requires can { CanVisit T.keeps (T.profile ctx.old.options) }
-    requires ready { IsReady T.suits t.old (moment S.pending ctx.old) (weight node.old) }
-    ensures kept { OnOk result (KeptTree (moment S.pending ctx.old) node.old (moment S.pending ctx.new) node.new) }
+    requires ready { IsReady T.suits t.old (moment S.pending ctx.old) (load node.old + wrapping site) }
+    ensures kept { OnOk result (KeptLoad (wrapping site) (moment S.pending ctx.old) node.old (moment S.pending ctx.new) node.new) }
     ensures entered { OnOk result (Seen (λ p q. EnteredSort (T.profile ctx.old.options) site (moment S.pending ctx.old) p (moment S.pending ctx.new) q) node.old node.new) }
     ensures goes { OnOk result (GoesBySort T.suits T.tally T.entries ctx.old.options t.old t.new) }
     ensures cost { OnOk result (steps.new ≤ steps.old + 1) }
@@ -387,7 +387,7 @@ fn enter_sort<T: Traverse<S>, S: Additions, L: Ledger>(
         return Ok(());
     };
     steps.tick();
-    t.enter_node(hook, node, ctx)?;
+    t.enter_node(hook, site, node, ctx)?;
     Ok(())
 }
 
@@ -395,12 +395,13 @@ fn enter_sort<T: Traverse<S>, S: Additions, L: Ledger>(
 fn enter_kind<T: Traverse<S>, S: Additions, L: Ledger>(
     t: &mut T,
     node: &mut Node,
+    site: Site,
     ctx: &mut TraverseCtx<S>,
     steps: &mut Steps<L>,
 ) -> Result<(), AllocError>
-    requires ready { IsReady T.suits t.old (moment S.pending ctx.old) (weight node.old) }
-    ensures kept { OnOk result (KeptTree (moment S.pending ctx.old) node.old (moment S.pending ctx.new) node.new) }
-    ensures entered { OnOk result (Seen (λ p q. EnteredKind (T.profile ctx.old.options) (moment S.pending ctx.old) p (moment S.pending ctx.new) q) node.old node.new) }
+    requires ready { IsReady T.suits t.old (moment S.pending ctx.old) (load node.old) }
+    ensures kept { OnOk result (KeptLoad 0 (moment S.pending ctx.old) node.old (moment S.pending ctx.new) node.new) }
+    ensures entered { OnOk result (Seen (λ p q. EnteredKind (T.profile ctx.old.options) site (moment S.pending ctx.old) p (moment S.pending ctx.new) q) node.old node.new) }
     ensures goes { OnOk result (GoesByKind T.suits T.tally T.entries ctx.old.options (kind_of node.old) t.old t.new) }
     ensures cost { OnOk result (steps.new ≤ steps.old + 1) }
 {
@@ -408,7 +409,7 @@ fn enter_kind<T: Traverse<S>, S: Additions, L: Ledger>(
         return Ok(());
     };
     steps.tick();
-    t.enter_node(hook, node, ctx)?;
+    t.enter_node(hook, site, node, ctx)?;
     Ok(())
 }
 

@@ -12,6 +12,7 @@ use Rattle.es_visit.specs.declared.hook.Hook.{Hook}
 use Rattle.es_visit.specs.declared.hook.Hook.TheVariants.{Expression, Statement}
 use Rattle.es_changes.specs.Moments.{Moment, below, ledger_with, top, with_lists, with_pair}
 use Rattle.es_traverse.specs.Laws.{BodyStepped, EnteredAs, EnteredList, EnteredParameters, Exited, ExitedBody, ExitedList, ExitedParameters, ExitedProgram, Seen, is_outermost, opens_body, opens_list}
+use Rattle.es_traverse.specs.declared.site.Site.{Site as CodeSite}
 use Rattle.es_traverse.specs.declared.site.Site.TheVariants.{ArrowBody}
 use Rattle.es_traverse.proofs.Kept.{opens-seen}
 use Rattle.traverse_tests.specs.Quiet.{never, quiet}
@@ -30,10 +31,10 @@ nothing_on_top (suc n) = refl
 
 -- NODES, PARAMETERS AND THE PROGRAM
 
-pub entered_as : (hook : Hook) (a : Moment) (t : Tree) → EnteredAs quiet hook a t a t
-entered_as Expression a t = record { stepped = λ n f k. stays; leaves = λ n f k. k; sort = λ h e. inl e; body = refl; cleared = refl; order = inl refl }
-entered_as Statement a t = record { stepped = λ n f k. stays; leaves = λ n f k. k; sort = λ h e. inl e; body = refl; cleared = refl; order = inl refl }
-entered_as _ a t = record { stepped = λ n f k. stays; leaves = λ n f k. k; body = refl; cleared = refl; order = inl refl }
+pub entered_as : (hook : Hook) (c : CodeSite) (a : Moment) (t : Tree) → EnteredAs quiet hook c a t a t
+entered_as Expression c a t = record { stepped = λ n l f k. stays; left = λ n l f k. k; cleared = λ n l f k. refl; sort = λ h e. inl e; body = refl; order = inl refl }
+entered_as Statement c a t = record { stepped = λ n l f k. stays; left = λ n l f k. k; cleared = λ n l f k. refl; sort = λ h e. inl e; body = refl; order = inl refl }
+entered_as _ c a t = record { stepped = λ n l f k. stays; left = λ n l f k. k; cleared = λ n l f k. refl; body = refl; order = inl refl }
 
 pub exited_none : (a : Moment) (t : Tree) → Exited quiet a t a t
 exited_none a t = record { stepped = λ n f k. stays; body = refl; none = λ test w h. h; hooks = omega arith }

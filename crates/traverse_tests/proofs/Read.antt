@@ -11,8 +11,6 @@ use Rattle.es_tree.specs.declared.ast_type.AstType.{AstType}
 use Rattle.es_tree.specs.declared.ast_type.AstType.TheVariants.{Program}
 use Rattle.es_tree.specs.declared.table.Sort.TheVariants.{Directive as s-Directive, Program as s-Program, Statement as s-Statement}
 use Rattle.es_tree.proofs.NodeForm.{node_form}
-use Rattle.es_runs.specs.Weights.{weight}
-use Rattle.es_runs.proofs.Weights.{weight-size}
 use Rattle.es_statements.specs.ProgramArity.{IsProgram}
 use Rattle.es_steps.specs.Open.{is_statement_body, nothing_pending}
 use Rattle.es_steps.specs.Steps.{Site}
@@ -20,6 +18,8 @@ use Rattle.es_changes.specs.Changes.{AsBody, Each, EachBy, EachIn, HasRoom, list
 use Rattle.es_changes.specs.Conditions.{holds_before}
 use Rattle.es_changes.specs.Moments.{Moment}
 use Rattle.es_traverse.specs.Laws.{CanVisit}
+use Rattle.es_traverse.specs.Loads.{load}
+use Rattle.es_traverse.proofs.LoadParts.{load-size}
 use Rattle.traverse_tests.specs.Quiet.{quiet}
 
 abbrev ChildrenForm : AstType → Label → Fields → Type 0
@@ -50,8 +50,8 @@ opens (node k l fs) h = at k (node_form s-Program k l fs h).sort (node_form s-Pr
 pub some_pair : (a : Moment) → a.lists ≡ nothing_pending ∷ [] → 0 < length a.lists
 some_pair a lists = subst (λ ps. 0 < length ps) (sym lists) (omega arith)
 
-pub room : (p q : Tree) (a : Moment) → q ≡ p → a.lists ≡ nothing_pending ∷ [] → a.next ≡ tree_size p → tree_size p < 2 ^ 20 → HasRoom a (weight q)
-room p q a same lists next small = let light : lists_weight a.lists ≡ 0 = ap lists_weight lists in let w = weight-size p in let e = ap weight same in omega (arith, light, w, e, next, small)
+pub room : (p q : Tree) (a : Moment) → q ≡ p → a.lists ≡ nothing_pending ∷ [] → a.next ≡ tree_size p → tree_size p < 2 ^ 20 → HasRoom a (load q)
+room p q a same lists next small = let light : lists_weight a.lists ≡ 0 = ap lists_weight lists in let w = load-size p in let e = ap load same in omega (arith, light, w, e, next, small)
 
 -- CONDITIONS
 
@@ -78,4 +78,4 @@ each_in sites bodies done = tt
 each_in sites bodies (f then fs) = (each_by (sites zero) (bodies zero) f, each_in (λ i. sites (suc i)) (λ i. bodies (suc i)) fs)
 
 pub can : CanVisit true quiet
-can = record { pairs = refl; sound = record { stronger = λ n t h. h; alike = λ n t s h. h; inward = λ n k l fs h. each_in _ _ fs }; bring = refl }
+can = record { pairs = refl; sound = record { stronger = λ n t h. h; alike = λ n s k l fs form brings slot h. h; inward = λ n s k l fs form h. each_in _ _ fs }; counts = λ n t. refl; leaves = λ n t. refl }

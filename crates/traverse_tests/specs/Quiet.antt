@@ -42,7 +42,8 @@ abbrev pub quiet : Profile
 quiet = record {
   rule = never;
   conditions = record { before = λ n t. true; after = λ n t. true };
-  brings = true;
+  counts = λ n t. true;
+  leaves = λ n t. true;
   constructs = λ h k l fs. false;
   makes = λ t. ⊥;
   writes = λ t. ⊥;

@@ -2,7 +2,7 @@
 //!
 //! The numbers were counted by hand in the text. Expressions and statements are those that stand where ECMA-262 (13 and 14
 //! to 16) has one: targets of assignments and computed keys are expressions, but other keys, labels, what is bound,
-//! the parts of imports and exports, the element of a chain, the template behind a tag and the function of a method are
+//! the parts of imports and exports, the element of a chain unless it is a call, the template behind a tag and the function of a method are
 //! none; and the blocks of `try`, the declaration of a loop's head and the class of `export default` are no statements.
 //!
 //! | text | expressions | statements | further hooks |

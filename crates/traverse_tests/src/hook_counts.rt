@@ -6,6 +6,7 @@ ghost use Rattle.traverse_tests.specs.Quiet.{quiet, quiet_lawful};
 use es_scope::context::TraverseCtx;
 use es_statements::program::Program;
 use es_traverse::lowering::{Additions, Lowering};
+use es_traverse::site::Site;
 use es_traverse::traverse::Traverse;
 use es_tree::kind::Kind;
 use es_tree::node::Node;
@@ -199,6 +200,7 @@ impl Traverse<OpenPairs> for HookCounts {
     fn enter_node(
         &mut self,
         hook: Hook,
+        _site: Site,
         _node: &mut Node,
         _ctx: &mut TraverseCtx<OpenPairs>,
     ) -> Result<(), AllocError> {

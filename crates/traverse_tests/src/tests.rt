@@ -1,10 +1,10 @@
 //! What a visit calls, and which pairs are open in it.
 ghost use Rattle.std.specs.Prelude.{◌≡◌, ◌<◌, [], IfOk};
-ghost use Rattle.es_runs.specs.Weights.{weight};
 ghost use Rattle.es_scope.specs.Contexts.{around_of};
 ghost use Rattle.es_statements.specs.ProgramPlain.{plain_program};
 ghost use Rattle.es_traverse.specs.ContextMoments.{moment};
 ghost use Rattle.es_traverse.specs.Laws.{CanVisit, IsReady};
+ghost use Rattle.es_traverse.specs.Loads.{load};
 
 use crate::every_kind::{CALLS, MODULE};
 use crate::hook_counts::{HookCounts, OpenPairs};
@@ -119,7 +119,7 @@ fn visit_by<T: Traverse<S>, S: Additions, L: Ledger>(
     requires parts { blank.parts ≡ L.parts }
     requires some { 0 < blank.parts }
     requires can { CanVisit T.keeps (T.profile ctx.old.options) }
-    requires ready { IsReady T.suits t.old (moment S.pending ctx.old) (weight (plain_program program.old)) }
+    requires ready { IsReady T.suits t.old (moment S.pending ctx.old) (load (plain_program program.old)) }
     requires top { around_of ctx.old ≡ [] }
 {
     let mut steps: Steps<L> = Steps::new(blank);

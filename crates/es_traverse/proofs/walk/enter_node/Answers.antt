@@ -3,7 +3,7 @@ use Rattle.es_tree.specs.Tree.{kind_of}
 use Rattle.es_visit.proofs.Entering.{enters_once}
 use Rattle.es_traverse.specs.ContextMoments.{moment}
 use Rattle.es_traverse.specs.Laws.{CanVisit}
-use Rattle.es_traverse.proofs.Entering.{entered-node}
+use Rattle.es_traverse.proofs.NodeHooks.{entered-node}
 use Rattle.es_traverse.proofs.Kept.{opened-options, same-place}
 use Rattle.es_traverse.proofs.walk.enter_node.Goals as goal
 

@@ -1,4 +1,4 @@
-use Rattle.es_traverse.proofs.Entering.{exited-none}
+use Rattle.es_traverse.proofs.NodeHooks.{exited-none}
 use Rattle.es_traverse.proofs.walk.exit_kind.Goals as goal
 
 pub returns-in_default-clause-exited : goal.returns-in_default-clause-exited

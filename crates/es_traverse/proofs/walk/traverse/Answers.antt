@@ -1,13 +1,13 @@
-use Rattle.std.proofs.Common.{◌∙◌, sym, ap, subst, arith, length}
+use Rattle.std.proofs.Common.{◌∙◌, ◌+◌, sym, ap, subst, arith, length}
 use Rattle.std.specs.Prelude.{None}
-use Rattle.es_runs.specs.Weights.{weight}
 use Rattle.es_statements.specs.ProgramPlain.{plain_program}
 use Rattle.es_visit.specs.Counts.{all_hooks}
 use Rattle.es_visit.proofs.Programs.{whole_counted}
 use Rattle.es_changes.specs.Changes.{heft}
 use Rattle.es_changes.specs.Moments.{Moment}
 use Rattle.es_traverse.specs.ContextMoments.{moment}
-use Rattle.es_traverse.specs.Laws.{CanVisit, IsReady, KeptTree}
+use Rattle.es_traverse.specs.Laws.{CanVisit, IsReady, KeptVisited}
+use Rattle.es_traverse.specs.Loads.{load}
 use Rattle.es_traverse.proofs.Kept.{kept-then, ready-then}
 use Rattle.es_traverse.proofs.Programs.{visited-whole}
 use Rattle.es_traverse.proofs.walk.traverse.Goals as goal
@@ -24,13 +24,13 @@ visit_program-requires g c =
 pub exit_program-requires : goal.exit_program-requires
 exit_program-requires g c =
     let same = c.in_ok-enter_program.ensures.same in
-    let ready : IsReady g.T.Lowering.suits c.enter_program.new.self (moment g.S.Additions.pending c.enter_program.new.ctx) (weight (plain_program c.args.program.now)) = record { suited = subst (λ (q : Moment). g.T.Lowering.suits c.enter_program.new.self q.options) (sym same) c.in_ok-enter_program.ensures.goes.suits_still; room = omega (arith, c.requires.ready.room, ap heft same); pair = omega (arith, c.requires.ready.pair, ap (λ (q : Moment). length q.lists) same) } in
+    let ready : IsReady g.T.Lowering.suits c.enter_program.new.self (moment g.S.Additions.pending c.enter_program.new.ctx) (load (plain_program c.args.program.now) + 0) = record { suited = subst (λ (q : Moment). g.T.Lowering.suits c.enter_program.new.self q.options) (sym same) c.in_ok-enter_program.ensures.goes.suits_still; room = omega (arith, c.requires.ready.room, ap heft same); pair = omega (arith, c.requires.ready.pair, ap (λ (q : Moment). length q.lists) same) } in
     record { ready = ready-then c.enter_program.new.self c.visit_program.new.t c.in_ok-visit_program.ensures.kept c.in_ok-visit_program.ensures.calls.suits_still ready }
 
 pub returns-clause-kept : goal.returns-clause-kept
 returns-clause-kept g c =
-    let k : KeptTree (moment g.S.Additions.pending c.args.ctx.now) (plain_program c.args.program.now) (moment g.S.Additions.pending c.visit_program.new.ctx) (plain_program c.visit_program.new.program) =
-    subst (λ q. KeptTree q (plain_program c.args.program.now) (moment g.S.Additions.pending c.visit_program.new.ctx) (plain_program c.visit_program.new.program)) c.in_ok-enter_program.ensures.same c.in_ok-visit_program.ensures.kept in
+    let k : KeptVisited 0 (moment g.S.Additions.pending c.args.ctx.now) (plain_program c.args.program.now) (moment g.S.Additions.pending c.visit_program.new.ctx) (plain_program c.visit_program.new.program) =
+    subst (λ q. KeptVisited 0 q (plain_program c.args.program.now) (moment g.S.Additions.pending c.visit_program.new.ctx) (plain_program c.visit_program.new.program)) c.in_ok-enter_program.ensures.same c.in_ok-visit_program.ensures.kept in
     kept-then k c.in_ok-exit_program.ensures.kept
 
 pub returns-clause-visited : goal.returns-clause-visited

@@ -1,7 +1,6 @@
 use Rattle.std.proofs.Common.{◌≡◌, ◌∙◌, ◌∷◌, [], refl, sym, ap, subst, arith, length}
 use Rattle.es_tree.specs.Tree.{trees}
 use Rattle.es_resolution.specs.Seen.{seen_among}
-use Rattle.es_runs.specs.Weights.{trees_weight}
 use Rattle.es_scope.specs.Contexts.{around_of}
 use Rattle.es_scope.specs.declared.ancestor.Ancestor.{Ancestor}
 use Rattle.es_visit.specs.Counts.{all_hooks}
@@ -13,8 +12,10 @@ use Rattle.es_changes.specs.Laws.{SamePlace}
 use Rattle.es_changes.specs.Moments.{Moment, inside_of}
 use Rattle.es_traverse.specs.ContextMoments.{moment}
 use Rattle.es_traverse.specs.Laws.{CanVisit, EnteredList, ExitedList, IsReady, opens_list}
+use Rattle.es_traverse.specs.Loads.{trees_load}
 use Rattle.es_traverse.specs.Visits.{VisitedTrees}
 use Rattle.es_traverse.proofs.Kept.{ready-then, same-place}
+use Rattle.es_traverse.proofs.LoadParts.{weight-loaded-among}
 use Rattle.es_traverse.proofs.Moments.{moment_inside, moment_left}
 use Rattle.es_traverse.proofs.Programs.{kept-first, kept-last, kept-whole, outer-first, outer-last, program_place, visited-statements}
 use Rattle.es_traverse.proofs.walk.visit_program.Goals as goal
@@ -24,7 +25,7 @@ enter_statements-requires g c =
     let x : Ancestor = program_place c.args.program.now.id in
     let e : moment g.S.Additions.pending c.enter_place.new.self ≡ inside_of x (moment g.S.Additions.pending c.args.ctx.now) =
     moment_inside g.S.Additions.pending c.args.ctx.now c.enter_place.new.self x c.in_ok-enter_place.ensures.around c.in_ok-enter_place.ensures.state c.in_ok-enter_place.ensures.ast c.in_ok-enter_place.ensures.options c.in_ok-enter_place.ensures.table c.in_ok-enter_place.ensures.names in
-    let ready : IsReady g.T.Lowering.suits c.args.t.now (moment g.S.Additions.pending c.enter_place.new.self) (trees_weight (trees c.args.program.now.body.items)) = record {
+    let ready : IsReady g.T.Lowering.suits c.args.t.now (moment g.S.Additions.pending c.enter_place.new.self) (trees_load (trees c.args.program.now.body.items)) = record {
       suited = subst (λ o. g.T.Lowering.suits c.args.t.now o) (sym c.in_ok-enter_place.ensures.options) c.requires.ready.suited;
       room = omega (arith, c.requires.ready.room, ap heft e);
       pair = omega (arith, c.requires.ready.pair, ap (λ (q : Moment). length q.lists) e);
@@ -46,13 +47,13 @@ visit_nodes-requires-clause-ready g c =
     let e : moment g.S.Additions.pending c.enter_place.new.self ≡ inside_of x (moment g.S.Additions.pending c.args.ctx.now) =
     moment_inside g.S.Additions.pending c.args.ctx.now c.enter_place.new.self x c.in_ok-enter_place.ensures.around c.in_ok-enter_place.ensures.state c.in_ok-enter_place.ensures.ast c.in_ok-enter_place.ensures.options c.in_ok-enter_place.ensures.table c.in_ok-enter_place.ensures.names in
     let at_top : (moment g.S.Additions.pending c.args.ctx.now).around ≡ [] = c.requires.top in
-    let ready : IsReady g.T.Lowering.suits c.args.t.now (moment g.S.Additions.pending c.enter_place.new.self) (trees_weight (trees c.args.program.now.body.items)) = record {
+    let ready : IsReady g.T.Lowering.suits c.args.t.now (moment g.S.Additions.pending c.enter_place.new.self) (trees_load (trees c.args.program.now.body.items)) = record {
       suited = subst (λ o. g.T.Lowering.suits c.args.t.now o) (sym c.in_ok-enter_place.ensures.options) c.requires.ready.suited;
       room = omega (arith, c.requires.ready.room, ap heft e);
       pair = omega (arith, c.requires.ready.pair, ap (λ (q : Moment). length q.lists) e);
     } in
     let first = kept-first g.T.Lowering.keeps c.args.program.now.id e at_top c.in_ok-enter_statements.ensures.kept in
-    let second : IsReady g.T.Lowering.suits c.enter_statements.new.self (moment g.S.Additions.pending c.enter_statements.new.ctx) (trees_weight (trees c.enter_statements.new.statements.items)) =
+    let second : IsReady g.T.Lowering.suits c.enter_statements.new.self (moment g.S.Additions.pending c.enter_statements.new.ctx) (trees_load (trees c.enter_statements.new.statements.items)) =
     ready-then c.args.t.now c.enter_statements.new.self first c.in_ok-enter_statements.ensures.goes.suits_still ready in
     second
 
@@ -71,13 +72,13 @@ exit_statements-requires g c =
     let e : moment g.S.Additions.pending c.enter_place.new.self ≡ inside_of x (moment g.S.Additions.pending c.args.ctx.now) =
     moment_inside g.S.Additions.pending c.args.ctx.now c.enter_place.new.self x c.in_ok-enter_place.ensures.around c.in_ok-enter_place.ensures.state c.in_ok-enter_place.ensures.ast c.in_ok-enter_place.ensures.options c.in_ok-enter_place.ensures.table c.in_ok-enter_place.ensures.names in
     let at_top : (moment g.S.Additions.pending c.args.ctx.now).around ≡ [] = c.requires.top in
-    let ready : IsReady g.T.Lowering.suits c.args.t.now (moment g.S.Additions.pending c.enter_place.new.self) (trees_weight (trees c.args.program.now.body.items)) = record {
+    let ready : IsReady g.T.Lowering.suits c.args.t.now (moment g.S.Additions.pending c.enter_place.new.self) (trees_load (trees c.args.program.now.body.items)) = record {
       suited = subst (λ o. g.T.Lowering.suits c.args.t.now o) (sym c.in_ok-enter_place.ensures.options) c.requires.ready.suited;
       room = omega (arith, c.requires.ready.room, ap heft e);
       pair = omega (arith, c.requires.ready.pair, ap (λ (q : Moment). length q.lists) e);
     } in
     let first = kept-first g.T.Lowering.keeps c.args.program.now.id e at_top c.in_ok-enter_statements.ensures.kept in
-    let second : IsReady g.T.Lowering.suits c.enter_statements.new.self (moment g.S.Additions.pending c.enter_statements.new.ctx) (trees_weight (trees c.enter_statements.new.statements.items)) =
+    let second : IsReady g.T.Lowering.suits c.enter_statements.new.self (moment g.S.Additions.pending c.enter_statements.new.ctx) (trees_load (trees c.enter_statements.new.statements.items)) =
     ready-then c.args.t.now c.enter_statements.new.self first c.in_ok-enter_statements.ensures.goes.suits_still ready in
     record { ready = ready-then c.enter_statements.new.self c.visit_nodes.new.t c.in_ok-visit_nodes.ensures.kept c.in_ok-visit_nodes.ensures.calls.suits_still second }
 
@@ -104,7 +105,7 @@ returns-clause-kept g c =
     let n : moment g.S.Additions.pending c.exit_statements.new.ctx ≡ inside_of x (moment g.S.Additions.pending c.leave_place.new.self) =
     moment_left g.S.Additions.pending c.exit_statements.new.ctx c.leave_place.new.self x here c.leave_place.ensures.around c.leave_place.ensures.state c.leave_place.ensures.ast c.leave_place.ensures.options c.leave_place.ensures.table c.leave_place.ensures.names in
     let whole = kept-whole g.T.Lowering.keeps c.args.program.now.id (moment g.S.Additions.pending c.exit_statements.new.ctx) e at_top c.in_ok-enter_statements.ensures.kept c.in_ok-visit_nodes.ensures.kept c.in_ok-exit_statements.ensures.kept n in
-    record { level = whole.level; around = whole.around; options = whole.options; counted = whole.counted; lighter = omega (arith, whole.lighter); nodes = omega (arith, whole.nodes) }
+    record { level = whole.level; around = whole.around; options = whole.options; counted = whole.counted; lighter = omega (arith, whole.lighter, weight-loaded-among (trees c.args.program.now.directives.items)); nodes = omega (arith, whole.nodes) }
 
 pub returns-clause-visited : goal.returns-clause-visited
 returns-clause-visited g c = λ names.

@@ -1,0 +1,12 @@
+pub mod Marks
+pub mod Moves
+pub mod Inward
+pub mod Unwrapped
+pub mod Parts
+pub mod Wraps
+pub mod Rows
+pub mod Coalescing
+pub mod Assigning
+pub mod Powers
+pub mod Spines
+pub mod ChainRows

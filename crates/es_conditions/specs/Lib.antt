@@ -1,0 +1,2 @@
+pub mod CoreConditions
+pub mod Laws

@@ -1,0 +1,117 @@
+-- Each rule of a lowering is lawful alone: those that options ask for are together, and what a row asks of its site it asks alone.
+use Rattle.std.proofs.Common.{◌∙◌, refl, ap, inl, inr}
+use Rattle.std.specs.Prelude.{Bool, true, false, ◌&&◌, List, codes}
+use Rattle.es_tree.specs.Tree.{Tree}
+use Rattle.es_tree.specs.declared.options.EnvOptions.{EnvOptions}
+use Rattle.es_runs.specs.OptionalChaining.{takes_value}
+use Rattle.es_resolution.specs.Declarations.{Bound}
+use Rattle.es_steps.specs.CoreRules.{RowRule, rule_under, where_on}
+use Rattle.es_steps.specs.Exponentiation.{ExponentiationRule, IsMathFree}
+use Rattle.es_steps.specs.Exponentiation.ExponentiationRule.{power, power_assignment}
+use Rattle.es_steps.specs.LogicalAssignment.{LogicalAssignmentRule}
+use Rattle.es_steps.specs.LogicalAssignment.LogicalAssignmentRule.{to_name, to_static_member, to_computed_member}
+use Rattle.es_steps.specs.NullishCoalescing.{NullishCoalescingRule}
+use Rattle.es_steps.specs.NullishCoalescing.NullishCoalescingRule.{with_temporary, reading_again}
+use Rattle.es_steps.specs.OptionalChaining.{OptionalChainingRule}
+use Rattle.es_steps.specs.OptionalChaining.OptionalChainingRule.{by_tests, as_callee, in_delete}
+use Rattle.es_steps.specs.Rules.{Writing}
+use Rattle.es_steps.specs.Rules.Replacing.{replaces}
+use Rattle.es_steps.specs.Rules.Writing.{all_pending, body_declarators, declarators, insertions}
+use Rattle.es_steps.specs.Sites.{AreAlike, IsLocal}
+use Rattle.es_steps.specs.Slots.{in_open_slot, is_slot}
+use Rattle.es_steps.specs.Steps.{Ledger, Site, Spot, Whole}
+use Rattle.es_steps.specs.WrapRule.{WrapRule, takes_one}
+use Rattle.es_steps.specs.WrapRule.WrapRule.{wraps}
+use Rattle.es_steps.proofs.LocalRules.{both-local}
+use Rattle.es_changes.specs.Rules.{IsLawfulRule, is_asked_for}
+use Rattle.es_changes.proofs.Lawful.{law_lawful_proof}
+use Rattle.es_row_laws.specs.Laws.{LawLawfulRows, exponentiation_under, logical_assignment_under, nullish_coalescing_under, optional_chaining_under, writing_under}
+use Rattle.es_row_laws.proofs.Fewer.{fewer-lawful}
+
+-- WHERE EACH STANDS among those that options ask for
+
+pub writing-under : (o : EnvOptions) (n : Site) (s : Ledger) (x : Spot) (s' : Ledger) (y : Spot) → writing_under o n s x s' y → rule_under o n s x s' y
+writing-under o n s x s' y (inl h) = inl h
+writing-under o n s x s' y (inr h) = inr (inl h)
+
+pub logical-assignment-under : (o : EnvOptions) (n : Site) (s : Ledger) (x : Spot) (s' : Ledger) (y : Spot) → logical_assignment_under o n s x s' y → rule_under o n s x s' y
+logical-assignment-under o n s x s' y h = inr (inr (inl h))
+
+pub nullish-coalescing-under : (o : EnvOptions) (n : Site) (s : Ledger) (x : Spot) (s' : Ledger) (y : Spot) → nullish_coalescing_under o n s x s' y → rule_under o n s x s' y
+nullish-coalescing-under o n s x s' y h = inr (inr (inr (inl (inl h))))
+
+pub optional-chaining-under : (o : EnvOptions) (n : Site) (s : Ledger) (x : Spot) (s' : Ledger) (y : Spot) → optional_chaining_under o n s x s' y → rule_under o n s x s' y
+optional-chaining-under o n s x s' y h = inr (inr (inr (inl (inr h))))
+
+pub exponentiation-under : (o : EnvOptions) (n : Site) (s : Ledger) (x : Spot) (s' : Ledger) (y : Spot) → exponentiation_under o n s x s' y → rule_under o n s x s' y
+exponentiation-under o n s x s' y h = inr (inr (inr (inr h)))
+
+-- WHAT A ROW ASKS OF ITS SITE
+
+abbrev RowIsLocal : (Site → Whole → List Bound → Tree → Tree → Type 0) → Type 0
+RowIsLocal R = (n m : Site) (w : Whole) (bs : List Bound) (t u : Tree) → AreAlike is_asked_for n m → R n w bs t u → R m w bs t u
+
+row-local : (R : Site → Whole → List Bound → Tree → Tree → Type 0) → RowIsLocal R → IsLocal (λ s. is_asked_for) (RowRule R)
+row-local R r n m s s' x y a (replaces {w = w} {t = t} {u = u} bs h) = replaces bs (record { rule = r n m w bs t u a h.rule; outside = (λ i. takes_one bs && in_open_slot (a.above i)) ∙ h.outside })
+
+on-local : (b : Bool) (R : Site → Ledger → Spot → Ledger → Spot → Type 0) → IsLocal (λ s. is_asked_for) R → IsLocal (λ s. is_asked_for) (where_on b R)
+on-local true R r = r
+on-local false R r = λ n m s s' x y a h. absurd h
+
+assigning-local : RowIsLocal LogicalAssignmentRule
+assigning-local n m w bs t u a (to_name e1 e2 e3 e4) = to_name e1 e2 e3 e4
+assigning-local n m w bs t u a (to_static_member e1 e2 e3 e4 e5 d) = to_static_member e1 e2 e3 e4 e5 d
+assigning-local n m w bs t u a (to_computed_member e1 e2 e3 e4 e5 d1 d2) = to_computed_member e1 e2 e3 e4 e5 d1 d2
+
+coalescing-local : RowIsLocal NullishCoalescingRule
+coalescing-local n m w bs t u a (with_temporary e1 e2 d) = with_temporary e1 e2 d
+coalescing-local n m w bs t u a (reading_again e1 e2) = reading_again e1 e2
+
+chaining-local : (no_all : Bool) → RowIsLocal (OptionalChainingRule no_all)
+chaining-local no_all n m w bs t u a (by_tests e d h) = by_tests (ap (λ z. takes_value z.level) a.need ∙ e) d h
+chaining-local no_all n m w bs t u a (as_callee e d h b) = as_callee (ap (λ z. z.level) a.need ∙ e) d h b
+chaining-local no_all n m w bs t u a (in_delete e1 e2 e3 d h) = in_delete e1 e2 e3 d h
+
+math-free : (n m : Site) (w : Whole) → AreAlike is_asked_for n m → IsMathFree n w → IsMathFree m w
+math-free n m w a f = record { unbound = a.scope (codes "Math") refl ∙ f.unbound; in_use = f.in_use }
+
+raising-local : RowIsLocal ExponentiationRule
+raising-local n m w bs t u a (power f e1 e2 e3) = power (math-free n m w a f) e1 e2 e3
+raising-local n m w bs t u a (power_assignment f e1 e2 e3 d) = power_assignment (math-free n m w a f) e1 e2 e3 d
+
+writing-local : IsLocal (λ s. is_asked_for) Writing
+writing-local n m s s' x y a declarators = declarators
+writing-local n m s s' x y a all_pending = all_pending
+writing-local n m s s' x y a body_declarators = body_declarators
+writing-local n m s s' x y a insertions = insertions
+
+wrap-local : (o : EnvOptions) → IsLocal (λ s. is_asked_for) (WrapRule o)
+wrap-local o n m s s' x y a (wraps r e slot h) = wraps (a.role ∙ r) e (ap is_slot a.above ∙ slot) h
+
+-- THE LAWS
+
+pub writing-lawful : (o : EnvOptions) → IsLawfulRule (writing_under o)
+writing-lawful o = fewer-lawful (writing-under o) (law_lawful_proof o) (both-local (λ s. is_asked_for) writing-local (wrap-local o))
+
+pub logical-assignment-lawful : (o : EnvOptions) → IsLawfulRule (logical_assignment_under o)
+logical-assignment-lawful o = fewer-lawful (logical-assignment-under o) (law_lawful_proof o) (on-local o.es2021.logical_assignment_operators (RowRule LogicalAssignmentRule) (row-local LogicalAssignmentRule assigning-local))
+
+pub nullish-coalescing-lawful : (o : EnvOptions) → IsLawfulRule (nullish_coalescing_under o)
+nullish-coalescing-lawful o = fewer-lawful (nullish-coalescing-under o) (law_lawful_proof o) (on-local o.es2020.nullish_coalescing_operator (RowRule NullishCoalescingRule) (row-local NullishCoalescingRule coalescing-local))
+
+pub optional-chaining-lawful : (o : EnvOptions) → IsLawfulRule (optional_chaining_under o)
+optional-chaining-lawful o =
+    let row = OptionalChainingRule o.assumptions.no_document_all in
+    fewer-lawful (optional-chaining-under o) (law_lawful_proof o) (on-local o.es2020.optional_chaining (RowRule row) (row-local row (chaining-local o.assumptions.no_document_all)))
+
+pub exponentiation-lawful : (o : EnvOptions) → IsLawfulRule (exponentiation_under o)
+exponentiation-lawful o = fewer-lawful (exponentiation-under o) (law_lawful_proof o) (on-local o.es2016.exponentiation_operator (RowRule ExponentiationRule) (row-local ExponentiationRule raising-local))
+
+pub law_lawful_rows_proof : LawLawfulRows
+law_lawful_rows_proof o = record {
+  writing = writing-lawful o;
+  logical_assignment = logical-assignment-lawful o;
+  nullish_coalescing = nullish-coalescing-lawful o;
+  optional_chaining = optional-chaining-lawful o;
+  exponentiation = exponentiation-lawful o;
+}

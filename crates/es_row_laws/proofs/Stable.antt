@@ -1,0 +1,329 @@
+-- Steps among the fields of a node make it no construct of a lowering: rules act on no private member, on no parentheses and on no BigInt
+-- literal, but for the wrap rule, which acts on slots, and no operand of an assignment or an operator is one.
+use Rattle.std.proofs.Common.{◌≡◌, ◌∙◌, ℕ, zero, Bool, true, false, refl, sym, subst, inl, inr, true≢false}
+use Rattle.std.specs.Prelude.{◌&&◌, ◌||◌, not, List, [], ◌∷◌, bytes_eq, codes}
+use Rattle.es_tree.specs.Constructs.{field_at, is_big_int, is_chain, is_child, is_exponentiation, is_logical_assignment, is_nullish_coalescing, is_private_member, is_private_name, is_private_target}
+use Rattle.es_tree.specs.Names.{first_text}
+use Rattle.es_tree.specs.Parens.{without_parens}
+use Rattle.es_tree.specs.Tree.{Tree, node, Label, fields_of, kind_of}
+use Rattle.es_tree.specs.declared.ast_type.AstType.{AstType}
+use Rattle.es_tree.specs.declared.ast_type.AstType.TheVariants.{AssignmentExpression, BigIntLiteral, BinaryExpression, ChainExpression, Identifier, LogicalExpression, MemberExpression, ParenthesizedExpression, PrivateIdentifier, UnaryExpression}
+use Rattle.es_tree.specs.declared.options.EnvOptions.{EnvOptions}
+use Rattle.es_runs.specs.OptionalChaining.{has_tests, where_short}
+use Rattle.es_resolution.specs.Declarations.{Bound}
+use Rattle.es_steps.specs.CoreRules.{RowRule, rule_under, where_on}
+use Rattle.es_steps.specs.Exponentiation.{ExponentiationRule}
+use Rattle.es_steps.specs.Exponentiation.ExponentiationRule.{power, power_assignment}
+use Rattle.es_steps.specs.LogicalAssignment.{LogicalAssignmentRule}
+use Rattle.es_steps.specs.LogicalAssignment.LogicalAssignmentRule.{to_name, to_static_member, to_computed_member}
+use Rattle.es_steps.specs.NullishCoalescing.{NullishCoalescingRule}
+use Rattle.es_steps.specs.NullishCoalescing.NullishCoalescingRule.{with_temporary, reading_again}
+use Rattle.es_steps.specs.Open.{Open, OpenFields, OpenField, body, child, children, finished, finished_field, finished_fields, gap, list}
+use Rattle.es_steps.specs.OptionalChaining.{OptionalChainingRule}
+use Rattle.es_steps.specs.OptionalChaining.OptionalChainingRule.{by_tests, as_callee, in_delete}
+use Rattle.es_steps.specs.Rules.Replacing.{replaces}
+use Rattle.es_steps.specs.Slots.{is_slot}
+use Rattle.es_steps.specs.Steps.{FieldStep, FieldsStep, Ledger, Site, Spot, Step, Whole, at_node, site_in}
+use Rattle.es_steps.specs.Steps.Step.{acts, inside}
+use Rattle.es_steps.specs.Steps.FieldsStep.{in_first, in_later}
+use Rattle.es_steps.specs.Steps.FieldStep.{in_child, in_children, in_body, in_list, in_target, in_program, acts_on_list, acts_on_body}
+use Rattle.es_steps.specs.WrapRule.WrapRule.{wraps}
+use Rattle.es_steps.proofs.Opened.{finished-opened}
+use Rattle.es_steps.proofs.RuleLaws.{writes-lists}
+use Rattle.es_traverse.specs.Bodies.{BodiesStand, BodiesStandBy, BodiesStandIn}
+use Rattle.es_traverse.specs.Laws.{IsStable}
+use Rattle.es_row_laws.specs.Laws.{KeepsConstructs, LawStable, LawStableRows, is_lowered_assignment, is_lowered_power, is_simple, is_simple_target}
+use Rattle.es_row_laws.proofs.Fewer.{fewer-stable}
+use Rattle.es_row_laws.proofs.Lawful.{exponentiation-under, logical-assignment-under, nullish-coalescing-under, optional-chaining-under, writing-under}
+
+-- WHERE RULES ACT
+
+-- the kinds of nodes on which rows act
+abbrev is_acted_on : AstType → Bool
+is_acted_on AssignmentExpression = true
+is_acted_on BinaryExpression = true
+is_acted_on ChainExpression = true
+is_acted_on LogicalExpression = true
+is_acted_on UnaryExpression = true
+is_acted_on _ = false
+
+-- what is made of them is no target
+abbrev is_no_target : AstType → Bool
+is_no_target Identifier = false
+is_no_target MemberExpression = false
+is_no_target ParenthesizedExpression = false
+is_no_target _ = true
+
+record Acts (t u : Tree) : Type 0 where
+  on : is_acted_on (kind_of t) ≡ true
+  made : is_no_target (kind_of u) ≡ true
+
+abbrev RowActs : (Site → Whole → List Bound → Tree → Tree → Type 0) → Type 0
+RowActs R = (n : Site) (w : Whole) (bs : List Bound) (t u : Tree) → R n w bs t u → Acts t u
+
+-- a rule acts on nodes of such kinds, outside slots
+abbrev ActsOn : (Site → Ledger → Spot → Ledger → Spot → Type 0) → Type 0
+ActsOn R = (n : Site) (s s' : Ledger) (t u : Tree) → is_slot n.above ≡ false → R n s (at_node t) s' (at_node u) → Acts t u
+
+assigning-acts : RowActs LogicalAssignmentRule
+assigning-acts n w bs t u (to_name e1 e2 e3 e4) = record { on = refl; made = refl }
+assigning-acts n w bs t u (to_static_member e1 e2 e3 e4 e5 d) = record { on = refl; made = refl }
+assigning-acts n w bs t u (to_computed_member e1 e2 e3 e4 e5 d1 d2) = record { on = refl; made = refl }
+
+coalescing-acts : RowActs NullishCoalescingRule
+coalescing-acts n w bs t u (with_temporary e1 e2 d) = record { on = refl; made = refl }
+coalescing-acts n w bs t u (reading_again e1 e2) = record { on = refl; made = refl }
+
+short-made : (m : Label) (ts : List Tree) (a b : Tree) → has_tests ts ≡ true → is_no_target (kind_of (where_short m ts a b)) ≡ true
+short-made m [] a b h = absurd (true≢false (sym h))
+short-made m (t ∷ ts) a b h = refl
+
+chaining-acts : (no_all : Bool) → RowActs (OptionalChainingRule no_all)
+chaining-acts no_all n w bs t u (by_tests {m = m} {w = y} e d h) = record { on = refl; made = short-made m y.tests _ _ h }
+chaining-acts no_all n w bs t u (as_callee {m = m} {w = y} e d h b) = record { on = refl; made = short-made m y.tests _ _ h }
+chaining-acts no_all n w bs t u (in_delete {m = m} {w = y} e1 e2 e3 d h) = record { on = refl; made = short-made m y.tests _ _ h }
+
+raising-acts : RowActs ExponentiationRule
+raising-acts n w bs t u (power f e1 e2 e3) = record { on = refl; made = refl }
+raising-acts n w bs t u (power_assignment {m = m} {r = r} {target = target} {read = read} {fs = []} f e1 e2 e3 d) = record { on = refl; made = refl }
+raising-acts n w bs t u (power_assignment {fs = d1 ∷ ds} f e1 e2 e3 d) = record { on = refl; made = refl }
+
+row-acts : (R : Site → Whole → List Bound → Tree → Tree → Type 0) → RowActs R → ActsOn (RowRule R)
+row-acts R all n s s' t u slot (replaces {w = w} bs h) = all n w bs t u h.rule
+
+on-acts : (b : Bool) (R : Site → Ledger → Spot → Ledger → Spot → Type 0) → ActsOn R → ActsOn (where_on b R)
+on-acts true R h = h
+on-acts false R h = λ n s s' t u slot r. absurd r
+
+core-acts : (o : EnvOptions) → ActsOn (rule_under o)
+core-acts o n s s' t u slot (inl h) = absurd (writes-lists h)
+core-acts o n s s' t u slot (inr (inl (wraps r e here h))) = absurd (true≢false (sym here ∙ slot))
+core-acts o n s s' t u slot (inr (inr (inl h))) = on-acts o.es2021.logical_assignment_operators (RowRule LogicalAssignmentRule) (row-acts LogicalAssignmentRule assigning-acts) n s s' t u slot h
+core-acts o n s s' t u slot (inr (inr (inr (inl (inl h))))) = on-acts o.es2020.nullish_coalescing_operator (RowRule NullishCoalescingRule) (row-acts NullishCoalescingRule coalescing-acts) n s s' t u slot h
+core-acts o n s s' t u slot (inr (inr (inr (inl (inr h))))) =
+    on-acts o.es2020.optional_chaining (RowRule (OptionalChainingRule o.assumptions.no_document_all)) (row-acts (OptionalChainingRule o.assumptions.no_document_all) (chaining-acts o.assumptions.no_document_all)) n s s' t u slot h
+core-acts o n s s' t u slot (inr (inr (inr (inr h)))) = on-acts o.es2016.exponentiation_operator (RowRule ExponentiationRule) (row-acts ExponentiationRule raising-acts) n s s' t u slot h
+
+-- TESTS OF NODES
+
+-- a test of kinds that is false of those on which rows act
+abbrev IsQuiet : (AstType → Bool) → Type 0
+IsQuiet test = (k : AstType) → is_acted_on k ≡ true → test k ≡ false
+
+private-quiet : IsQuiet is_private_name
+private-quiet PrivateIdentifier e = absurd (true≢false (sym e))
+private-quiet _ e = refl
+
+big-quiet : IsQuiet is_big_int
+big-quiet BigIntLiteral e = absurd (true≢false (sym e))
+big-quiet _ e = refl
+
+-- whether a tree is a private member, maybe in parentheses
+abbrev is_private : Tree → Bool
+is_private t = is_private_member (kind_of (without_parens t)) (fields_of (without_parens t))
+
+private-acts : (t : Tree) → is_acted_on (kind_of t) ≡ true → is_private t ≡ false
+private-acts (node MemberExpression l fs) e = absurd (true≢false (sym e))
+private-acts (node ParenthesizedExpression l fs) e = absurd (true≢false (sym e))
+private-acts (node _ l fs) e = refl
+
+no-target : (t : Tree) → is_no_target (kind_of t) ≡ true → is_simple t ≡ false
+no-target (node Identifier l fs) e = absurd (true≢false (sym e))
+no-target (node MemberExpression l fs) e = absurd (true≢false (sym e))
+no-target (node ParenthesizedExpression l fs) e = absurd (true≢false (sym e))
+no-target (node _ l fs) e = refl
+
+-- of two tests one of which was false, that one stays so
+either-false : (a b c d : Bool) → (a ≡ false → c ≡ false) → (b ≡ false → d ≡ false) → (a && b) ≡ false → (c && d) ≡ false
+either-false a b false d f g e = refl
+either-false true b true d f g e = g e
+either-false false b true d f g e = absurd (true≢false (f refl))
+
+none-true : {b : Bool} → b ≡ false → b ≡ true → ⊥
+none-true e d = true≢false (sym d ∙ e)
+
+-- of `a && not p && y` a test that was true stays so
+first-less : (a p q y : Bool) → (p ≡ true → q ≡ true) → (a && not p && y) ≡ false → (a && not q && y) ≡ false
+first-less false p q y f e = refl
+first-less true p true y f e = refl
+first-less true true false y f e = absurd (true≢false (sym (f refl)))
+first-less true false false y f e = e
+
+last-less : (a p q : Bool) → (p ≡ true → q ≡ true) → (a && not p) ≡ false → (a && not q) ≡ false
+last-less false p q f e = refl
+last-less true p true f e = refl
+last-less true true false f e = absurd (true≢false (sym (f refl)))
+last-less true false false f e = e
+
+second-less : (a b p q : Bool) → (p ≡ true → q ≡ true) → (a && b && not p) ≡ false → (a && b && not q) ≡ false
+second-less false b p q f e = refl
+second-less true b p q f e = last-less b p q f e
+
+module _ (R : Site → Ledger → Spot → Ledger → Spot → Type 0) (acts-on : ActsOn R) where
+  -- STEPS OF A NODE
+
+  module _ (test : AstType → Bool) (quiet : IsQuiet test) where
+    kind-kept : {n : Site} {s s' : Ledger} {t u : Open} → Step R n s t s' u → is_slot n.above ≡ false → test (kind_of (finished t)) ≡ true → test (kind_of (finished u)) ≡ true
+    kind-kept (acts {n = n} {s = s} {s' = s'} t u r) slot e = absurd (none-true (quiet (kind_of t) (acts-on n s s' t u slot r).on) (subst (λ (x : Tree). test (kind_of x) ≡ true) (finished-opened t) e))
+    kind-kept (inside r) slot e = e
+
+    -- of a field that holds no arrow's body
+    child-kept : {n : Site} {s s' : Ledger} {f g : OpenField} → FieldStep R n s f s' g → is_slot n.above ≡ false → BodiesStandBy false f → is_child test (finished_field f) ≡ true → is_child test (finished_field g) ≡ true
+    child-kept (in_child r) slot h e = kind-kept r slot e
+    child-kept (in_children r) slot h e = absurd (true≢false (sym e))
+    child-kept (in_body x y z r) slot h e = absurd (true≢false (sym h.0))
+    child-kept (in_list x y r) slot h e = absurd (true≢false (sym e))
+    child-kept (in_target x r) slot h e = absurd (true≢false (sym e))
+    child-kept (in_program x r) slot h e = absurd (true≢false (sym e))
+    child-kept (acts_on_list ts us r) slot h e = absurd (true≢false (sym e))
+    child-kept (acts_on_body t u r) slot h e = absurd (true≢false (sym h.0))
+
+  -- PRIVATE MEMBERS
+
+  member-kept : (n : Site) (l : Label) (first : OpenFields) {s s' : Ledger} {fs gs : OpenFields} → FieldsStep R (site_in n MemberExpression l first) s fs s' gs → BodiesStandIn (λ i. false) fs → is_private_member MemberExpression (finished_fields fs) ≡ true → is_private_member MemberExpression (finished_fields gs) ≡ true
+  member-kept n l first (in_first r) h e = e
+  member-kept n l first (in_later (in_first r)) h e = child-kept is_private_name private-quiet r refl h.1.0 e
+  member-kept n l first (in_later (in_later r)) h e = e
+
+  mutual
+    private-kept : {n : Site} {s s' : Ledger} {t u : Open} → Step R n s t s' u → is_slot n.above ≡ false → BodiesStand t → is_private (finished t) ≡ true → is_private (finished u) ≡ true
+    private-kept (acts {n = n} {s = s} {s' = s'} t u r) slot h e = absurd (none-true (private-acts t (acts-on n s s' t u slot r).on) (subst (λ (x : Tree). is_private x ≡ true) (finished-opened t) e))
+    private-kept (inside {n = n} {k = MemberExpression} {l = l} {fs = fs} r) slot h e = member-kept n l fs r h e
+    private-kept (inside {n = n} {k = ParenthesizedExpression} {l = l} {fs = fs} r) slot h e = parens-kept l r refl h e
+    private-kept (inside {k = _} r) slot h e = absurd (true≢false (sym e))
+
+    parens-kept : (l : Label) {c : ℕ → Site} {s s' : Ledger} {fs gs : OpenFields} → FieldsStep R c s fs s' gs → is_slot (c zero).above ≡ false → BodiesStandIn (λ i. false) fs →
+        is_private (node ParenthesizedExpression l (finished_fields fs)) ≡ true → is_private (node ParenthesizedExpression l (finished_fields gs)) ≡ true
+    parens-kept l (in_first (in_child r)) slot h e = private-kept r slot h.0 e
+    parens-kept l (in_first (in_children r)) slot h e = absurd (true≢false (sym e))
+    parens-kept l (in_first (in_body x y z r)) slot h e = absurd (true≢false (sym h.0.0))
+    parens-kept l (in_first (in_list x y r)) slot h e = absurd (true≢false (sym e))
+    parens-kept l (in_first (in_target x r)) slot h e = absurd (true≢false (sym e))
+    parens-kept l (in_first (in_program x r)) slot h e = absurd (true≢false (sym e))
+    parens-kept l (in_first (acts_on_list ts us r)) slot h e = absurd (true≢false (sym e))
+    parens-kept l (in_first (acts_on_body t u r)) slot h e = absurd (true≢false (sym h.0.0))
+    parens-kept l (in_later {f = gap} r) slot h e = e
+    parens-kept l (in_later {f = child t} r) slot h e = e
+    parens-kept l (in_later {f = body p t} r) slot h e = e
+    parens-kept l (in_later {f = children ts} r) slot h e = e
+    parens-kept l (in_later {f = list p x a ts} r) slot h e = e
+
+  target-kept : {n : Site} {s s' : Ledger} {f g : OpenField} → FieldStep R n s f s' g → is_slot n.above ≡ false → BodiesStandBy false f → is_private_target (finished_field f) ≡ true → is_private_target (finished_field g) ≡ true
+  target-kept (in_child r) slot h e = private-kept r slot h e
+  target-kept (in_children r) slot h e = absurd (true≢false (sym e))
+  target-kept (in_body x y z r) slot h e = absurd (true≢false (sym h.0))
+  target-kept (in_list x y r) slot h e = absurd (true≢false (sym e))
+  target-kept (in_target x r) slot h e = absurd (true≢false (sym e))
+  target-kept (in_program x r) slot h e = absurd (true≢false (sym e))
+  target-kept (acts_on_list ts us r) slot h e = absurd (true≢false (sym e))
+  target-kept (acts_on_body t u r) slot h e = absurd (true≢false (sym h.0))
+
+  -- TARGETS that are no name and no member
+
+  mutual
+    plain-kept : {n : Site} {s s' : Ledger} {t u : Open} → Step R n s t s' u → is_slot n.above ≡ false → BodiesStand t → is_simple (finished t) ≡ false → is_simple (finished u) ≡ false
+    plain-kept (acts {n = n} {s = s} {s' = s'} t u r) slot h e = subst (λ (x : Tree). is_simple x ≡ false) (sym (finished-opened u)) (no-target u (acts-on n s s' t u slot r).made)
+    plain-kept (inside {k = ParenthesizedExpression} {l = l} r) slot h e = below-kept l r refl h e
+    plain-kept (inside {k = _} r) slot h e = e
+
+    below-kept : (l : Label) {c : ℕ → Site} {s s' : Ledger} {fs gs : OpenFields} → FieldsStep R c s fs s' gs → is_slot (c zero).above ≡ false → BodiesStandIn (λ i. false) fs →
+        is_simple (node ParenthesizedExpression l (finished_fields fs)) ≡ false → is_simple (node ParenthesizedExpression l (finished_fields gs)) ≡ false
+    below-kept l (in_first (in_child r)) slot h e = plain-kept r slot h.0 e
+    below-kept l (in_first (in_children r)) slot h e = refl
+    below-kept l (in_first (in_body x y z r)) slot h e = absurd (true≢false (sym h.0.0))
+    below-kept l (in_first (in_list x y r)) slot h e = refl
+    below-kept l (in_first (in_target x r)) slot h e = refl
+    below-kept l (in_first (in_program x r)) slot h e = refl
+    below-kept l (in_first (acts_on_list ts us r)) slot h e = refl
+    below-kept l (in_first (acts_on_body t u r)) slot h e = absurd (true≢false (sym h.0.0))
+    below-kept l (in_later {f = gap} r) slot h e = refl
+    below-kept l (in_later {f = child t} r) slot h e = e
+    below-kept l (in_later {f = body p t} r) slot h e = e
+    below-kept l (in_later {f = children ts} r) slot h e = refl
+    below-kept l (in_later {f = list p x a ts} r) slot h e = refl
+
+  simple-kept : {n : Site} {s s' : Ledger} {f g : OpenField} → FieldStep R n s f s' g → is_slot n.above ≡ false → BodiesStandBy false f → is_simple_target (finished_field f) ≡ false → is_simple_target (finished_field g) ≡ false
+  simple-kept (in_child r) slot h e = plain-kept r slot h e
+  simple-kept (in_children r) slot h e = refl
+  simple-kept (in_body x y z r) slot h e = absurd (true≢false (sym h.0))
+  simple-kept (in_list x y r) slot h e = refl
+  simple-kept (in_target x r) slot h e = refl
+  simple-kept (in_program x r) slot h e = refl
+  simple-kept (acts_on_list ts us r) slot h e = refl
+  simple-kept (acts_on_body t u r) slot h e = absurd (true≢false (sym h.0))
+
+  -- the first of the fields of an assignment
+  first-kept : (n : Site) (l : Label) (first : OpenFields) {s s' : Ledger} {fs gs : OpenFields} → FieldsStep R (site_in n AssignmentExpression l first) s fs s' gs → BodiesStandIn (λ i. false) fs →
+      is_simple_target (field_at 0 (finished_fields fs)) ≡ false → is_simple_target (field_at 0 (finished_fields gs)) ≡ false
+  first-kept n l first (in_first r) h e = simple-kept r refl h.0 e
+  first-kept n l first (in_later r) h e = e
+
+  -- CONSTRUCTS
+
+  assignment-kept : (n : Site) (l : Label) (first : OpenFields) {s s' : Ledger} {fs gs : OpenFields} → FieldsStep R (site_in n AssignmentExpression l first) s fs s' gs → BodiesStandIn (λ i. false) fs → is_logical_assignment AssignmentExpression l (finished_fields fs) ≡ false → is_logical_assignment AssignmentExpression l (finished_fields gs) ≡ false
+  assignment-kept n l first (in_first {f = f} {g = g} r) h e =
+      last-less (bytes_eq (first_text l.texts) (codes "||=") || bytes_eq (first_text l.texts) (codes "&&=") || bytes_eq (first_text l.texts) (codes "??=")) (is_private_target (finished_field f)) (is_private_target (finished_field g)) (target-kept r refl h.0) e
+  assignment-kept n l first (in_later r) h e = e
+
+  assignment-stable : IsStable R is_lowered_assignment
+  assignment-stable n s s' AssignmentExpression l first fs gs h r e =
+      either-false (is_logical_assignment AssignmentExpression l (finished_fields fs)) (is_simple_target (field_at 0 (finished_fields fs))) (is_logical_assignment AssignmentExpression l (finished_fields gs)) (is_simple_target (field_at 0 (finished_fields gs)))
+      (assignment-kept n l first r h) (first-kept n l first r h) e
+  assignment-stable n s s' k l first fs gs h r e = refl
+
+  operation-kept : (n : Site) (l : Label) (first : OpenFields) {s s' : Ledger} {fs gs : OpenFields} → FieldsStep R (site_in n BinaryExpression l first) s fs s' gs → BodiesStandIn (λ i. false) fs → is_exponentiation BinaryExpression l (finished_fields fs) ≡ false → is_exponentiation BinaryExpression l (finished_fields gs) ≡ false
+  operation-kept n l first (in_first {f = f} {g = g} {fs = fs} r) h e =
+      first-less (bytes_eq (first_text l.texts) (codes "**")) (is_child is_big_int (finished_field f)) (is_child is_big_int (finished_field g)) (not (is_child is_big_int (field_at 0 (finished_fields fs)))) (child-kept is_big_int big-quiet r refl h.0) e
+  operation-kept n l first (in_later {f = d} (in_first {f = f} {g = g} r)) h e =
+      second-less (bytes_eq (first_text l.texts) (codes "**")) (not (is_child is_big_int (finished_field d))) (is_child is_big_int (finished_field f)) (is_child is_big_int (finished_field g)) (child-kept is_big_int big-quiet r refl h.1.0) e
+  operation-kept n l first (in_later (in_later r)) h e = e
+
+  raised-kept : (n : Site) (l : Label) (first : OpenFields) {s s' : Ledger} {fs gs : OpenFields} → FieldsStep R (site_in n AssignmentExpression l first) s fs s' gs → BodiesStandIn (λ i. false) fs → is_exponentiation AssignmentExpression l (finished_fields fs) ≡ false → is_exponentiation AssignmentExpression l (finished_fields gs) ≡ false
+  raised-kept n l first (in_first r) h e = e
+  raised-kept n l first (in_later (in_first {f = f} {g = g} r)) h e =
+      last-less (bytes_eq (first_text l.texts) (codes "**=")) (is_child is_big_int (finished_field f)) (is_child is_big_int (finished_field g)) (child-kept is_big_int big-quiet r refl h.1.0) e
+  raised-kept n l first (in_later (in_later r)) h e = e
+
+  exponentiation-stable : IsStable R is_lowered_power
+  exponentiation-stable n s s' BinaryExpression l first fs gs h r e = operation-kept n l first r h e
+  exponentiation-stable n s s' AssignmentExpression l first fs gs h r e =
+      either-false (is_exponentiation AssignmentExpression l (finished_fields fs)) (is_simple_target (field_at 0 (finished_fields fs))) (is_exponentiation AssignmentExpression l (finished_fields gs)) (is_simple_target (field_at 0 (finished_fields gs)))
+      (raised-kept n l first r h) (first-kept n l first r h) e
+  exponentiation-stable n s s' k l first fs gs h r e = refl
+
+  -- these look at the kind and the label alone
+  coalescing-stable : IsStable R is_nullish_coalescing
+  coalescing-stable n s s' LogicalExpression l first fs gs h r e = e
+  coalescing-stable n s s' k l first fs gs h r e = refl
+
+  chain-stable : IsStable R is_chain
+  chain-stable n s s' ChainExpression l first fs gs h r e = e
+  chain-stable n s s' k l first fs gs h r e = refl
+
+  all-stable : KeepsConstructs R
+  all-stable = record { logical_assignment = assignment-stable; nullish_coalescing = coalescing-stable; optional_chaining = chain-stable; exponentiation = exponentiation-stable }
+
+-- THE LAWS
+
+pub law_stable_proof : LawStable
+law_stable_proof o = all-stable (rule_under o) (core-acts o)
+
+-- of a rule that holds only where those do that options ask for
+pub fewer-constructs : (o : EnvOptions) {Q : Site → Ledger → Spot → Ledger → Spot → Type 0} → ((n : Site) (s : Ledger) (x : Spot) (s' : Ledger) (y : Spot) → Q n s x s' y → rule_under o n s x s' y) → KeepsConstructs Q
+fewer-constructs o under =
+    let all = law_stable_proof o in
+    record {
+      logical_assignment = fewer-stable under is_lowered_assignment all.logical_assignment;
+      nullish_coalescing = fewer-stable under is_nullish_coalescing all.nullish_coalescing;
+      optional_chaining = fewer-stable under is_chain all.optional_chaining;
+      exponentiation = fewer-stable under is_lowered_power all.exponentiation;
+    }
+
+pub law_stable_rows_proof : LawStableRows
+law_stable_rows_proof o = record {
+  writing = fewer-constructs o (writing-under o);
+  logical_assignment = fewer-constructs o (logical-assignment-under o);
+  nullish_coalescing = fewer-constructs o (nullish-coalescing-under o);
+  optional_chaining = fewer-constructs o (optional-chaining-under o);
+  exponentiation = fewer-constructs o (exponentiation-under o);
+}

@@ -1,0 +1,86 @@
+-- The rows of the core lowerings one by one: each is lawful alone, and the constructs of a lowering stay what they are under steps of all.
+use Rattle.std.specs.Prelude.{◌&&◌, Bool, true, false}
+use Rattle.es_tree.specs.Constructs.{field_at, is_chain, is_exponentiation, is_logical_assignment, is_nullish_coalescing}
+use Rattle.es_tree.specs.Parens.{without_parens}
+use Rattle.es_tree.specs.Tree.{Tree, Label, Fields, Field, one, kind_of}
+use Rattle.es_tree.specs.declared.ast_type.AstType.{AstType}
+use Rattle.es_tree.specs.declared.ast_type.AstType.TheVariants.{BinaryExpression, Identifier, MemberExpression}
+use Rattle.es_tree.specs.declared.options.EnvOptions.{EnvOptions}
+use Rattle.es_steps.specs.CoreRules.{RowRule, rule_under, where_on}
+use Rattle.es_steps.specs.Exponentiation.{ExponentiationRule}
+use Rattle.es_steps.specs.LogicalAssignment.{LogicalAssignmentRule}
+use Rattle.es_steps.specs.NullishCoalescing.{NullishCoalescingRule}
+use Rattle.es_steps.specs.OptionalChaining.{OptionalChainingRule}
+use Rattle.es_steps.specs.Rules.{Writing, either_rule}
+use Rattle.es_steps.specs.Steps.{Ledger, Site, Spot}
+use Rattle.es_steps.specs.WrapRule.{WrapRule}
+use Rattle.es_changes.specs.Rules.{IsLawfulRule}
+use Rattle.es_traverse.specs.Laws.{IsStable}
+
+-- THE RULE OF EACH LOWERING under some options
+
+abbrev pub logical_assignment_under : EnvOptions → Site → Ledger → Spot → Ledger → Spot → Type 0
+logical_assignment_under o = where_on o.es2021.logical_assignment_operators (RowRule LogicalAssignmentRule)
+
+abbrev pub nullish_coalescing_under : EnvOptions → Site → Ledger → Spot → Ledger → Spot → Type 0
+nullish_coalescing_under o = where_on o.es2020.nullish_coalescing_operator (RowRule NullishCoalescingRule)
+
+abbrev pub optional_chaining_under : EnvOptions → Site → Ledger → Spot → Ledger → Spot → Type 0
+optional_chaining_under o = where_on o.es2020.optional_chaining (RowRule (OptionalChainingRule o.assumptions.no_document_all))
+
+abbrev pub exponentiation_under : EnvOptions → Site → Ledger → Spot → Ledger → Spot → Type 0
+exponentiation_under o = where_on o.es2016.exponentiation_operator (RowRule ExponentiationRule)
+
+-- that of the type that keeps what is pending
+abbrev pub writing_under : EnvOptions → Site → Ledger → Spot → Ledger → Spot → Type 0
+writing_under o = either_rule Writing (WrapRule o)
+
+-- Of each of these rules.
+pub record OfEachRule (P : (Site → Ledger → Spot → Ledger → Spot → Type 0) → Type 0) (o : EnvOptions) : Type 0 where
+  pub writing : P (writing_under o)
+  pub logical_assignment : P (logical_assignment_under o)
+  pub nullish_coalescing : P (nullish_coalescing_under o)
+  pub optional_chaining : P (optional_chaining_under o)
+  pub exponentiation : P (exponentiation_under o)
+
+-- WHAT THEY LOWER: of assignments those to a name or a member, maybe in parentheses. No other target is valid beside these operators
+-- (ECMA-262, 13.15.1).
+
+abbrev pub is_simple_kind : AstType → Bool
+is_simple_kind Identifier = true
+is_simple_kind MemberExpression = true
+is_simple_kind _ = false
+
+abbrev pub is_simple : Tree → Bool
+is_simple t = is_simple_kind (kind_of (without_parens t))
+
+abbrev pub is_simple_target : Field → Bool
+is_simple_target (one t) = is_simple t
+is_simple_target _ = false
+
+abbrev pub is_lowered_assignment : AstType → Label → Fields → Bool
+is_lowered_assignment k l fs = is_logical_assignment k l fs && is_simple_target (field_at 0 fs)
+
+abbrev pub is_lowered_power : AstType → Label → Fields → Bool
+is_lowered_power BinaryExpression l fs = is_exponentiation BinaryExpression l fs
+is_lowered_power k l fs = is_exponentiation k l fs && is_simple_target (field_at 0 fs)
+
+-- LAWS
+
+-- each is lawful
+abbrev pub LawLawfulRows : Type 0
+LawLawfulRows = (o : EnvOptions) → OfEachRule IsLawfulRule o
+
+-- Steps of a rule make no node above them a construct of a lowering.
+pub record KeepsConstructs (R : Site → Ledger → Spot → Ledger → Spot → Type 0) : Type 0 where
+  pub logical_assignment : IsStable R is_lowered_assignment
+  pub nullish_coalescing : IsStable R is_nullish_coalescing
+  pub optional_chaining : IsStable R is_chain
+  pub exponentiation : IsStable R is_lowered_power
+
+-- all together, and each
+abbrev pub LawStable : Type 0
+LawStable = (o : EnvOptions) → KeepsConstructs (rule_under o)
+
+abbrev pub LawStableRows : Type 0
+LawStableRows = (o : EnvOptions) → OfEachRule KeepsConstructs o

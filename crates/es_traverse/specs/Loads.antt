@@ -1,0 +1,59 @@
+-- What a visit may still make of a part: its weight, and what the type that keeps the pairs may make beside the rows. A slot may be wrapped:
+-- a call and an arrow, each with an id, and what may be made of that arrow; the body of an arrow that is an expression may become one of
+-- statements: a body and a `return`, each with an id.
+use Rattle.std.specs.Prelude.{ℕ, ◌+◌, suc, Bool, true, false}
+use Rattle.es_tree.specs.Tree.{Tree, node, Fields, done, ◌then◌, Field, missing, one, many, statements, Trees, empty, ◌before◌}
+use Rattle.es_tree.specs.declared.ast_type.AstType.{AstType}
+use Rattle.es_tree.specs.declared.ast_type.AstType.TheVariants.{ArrowFunctionExpression, AssignmentPattern, PatternProperty, PropertyDefinition}
+use Rattle.es_runs.specs.Weights.{own_weight}
+use Rattle.es_visit.specs.declared.hook.Hook.{Hook}
+use Rattle.es_visit.specs.declared.hook.Hook.TheVariants.{Expression}
+use Rattle.es_traverse.specs.declared.site.Site.{Site}
+use Rattle.es_traverse.specs.declared.site.Site.TheVariants.{ArrowBody, Slot}
+
+-- of a node of this kind: it may have a slot, or an arrow's body
+abbrev pub own_allowance : AstType → ℕ
+own_allowance PropertyDefinition = 8
+own_allowance AssignmentPattern = 8
+own_allowance PatternProperty = 8
+own_allowance ArrowFunctionExpression = 4
+own_allowance _ = 0
+
+abbrev mutual
+  pub load : Tree → ℕ
+  load (node k l fs) = suc (own_weight k l fs + own_allowance k + fields_load fs)
+
+  pub fields_load : Fields → ℕ
+  fields_load done = 0
+  fields_load (f then fs) = field_load f + fields_load fs
+
+  pub field_load : Field → ℕ
+  field_load missing = 0
+  field_load (one t) = load t
+  field_load (many ts) = trees_load ts
+  field_load (statements ts) = trees_load ts
+
+  pub trees_load : Trees → ℕ
+  trees_load empty = 0
+  trees_load (t before ts) = load t + trees_load ts
+
+-- what the place of a part may take beside its load: before what stands inside it, and after the body of an arrow
+abbrev pub wrapping : Site → ℕ
+wrapping Slot = 8
+wrapping _ = 0
+
+abbrev pub writing : Site → ℕ
+writing ArrowBody = 4
+writing _ = 0
+
+abbrev pub allowance : Site → ℕ
+allowance c = wrapping c + writing c
+
+-- what of it the hook of an expression may take, and the hook after the body of an arrow, of a type that keeps the pairs
+abbrev pub wrapping_by : Bool → Hook → Site → ℕ
+wrapping_by true Expression Slot = 8
+wrapping_by _ h c = 0
+
+abbrev pub writing_by : Bool → ℕ
+writing_by true = 4
+writing_by false = 0

@@ -1,0 +1,5 @@
+pub mod Coalescings
+pub mod Conditions
+pub mod Hook
+pub mod Loads
+pub mod Sides

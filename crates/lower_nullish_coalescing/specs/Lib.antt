@@ -1,0 +1,3 @@
+pub mod Coalescings
+pub mod Profile
+pub mod Lawful

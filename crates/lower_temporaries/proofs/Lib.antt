@@ -1,0 +1,9 @@
+pub mod Pairs
+pub mod SeenLaws
+pub mod Takings
+pub mod ReadAgain
+pub mod StoreLemmas
+pub mod Duplicated
+pub mod MovedReferences
+pub mod UidNames
+pub mod Entered

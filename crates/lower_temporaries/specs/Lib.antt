@@ -1,0 +1,12 @@
+pub mod SeenTrees
+pub mod Declarators
+pub mod Stacks
+pub mod Store
+pub mod UidVars
+pub mod Takings
+pub mod Temporaries
+pub mod Duplicates
+pub mod FurtherUses
+pub mod TemplateParts
+pub mod Parenthesized
+pub mod Replacings

@@ -1,0 +1,12 @@
+pub mod SlotPlaces
+pub mod SlotSites
+pub mod Searches
+pub mod SeenWeights
+pub mod SeenTests
+pub mod ImportPlaces
+pub mod WrittenLists
+pub mod InertTrees
+pub mod Pairs
+pub mod ListHooks
+pub mod WrappedContexts
+pub mod WrapHooks

@@ -1,0 +1,5 @@
+pub mod Slots
+pub mod Lists
+pub mod Wrapping
+pub mod Writing
+pub mod Lawful

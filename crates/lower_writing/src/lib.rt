@@ -1,0 +1,10 @@
+//! The lowering that stands before all others: it keeps what is pending for each statement list and each arrow body that
+//! is an expression, writes it there, and wraps slots.
+#![tactic(auto)]
+
+pub mod common;
+mod constructs;
+mod lists;
+mod slots;
+mod wrapped;
+mod wrapping;
