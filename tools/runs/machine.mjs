@@ -10,14 +10,14 @@ import { hasParser } from '../estree/lib/parsers.mjs';
 import { textToTree } from '../estree/lib/texts.mjs';
 import { differences } from './lib/compare.mjs';
 import { runProgram } from './lib/engine.mjs';
-import { playMachine, runMachine } from './lib/machine.mjs';
+import { isMeant, playMachine, runMachine } from './lib/machine.mjs';
 import { GivenUp, Mover } from './lib/moves.mjs';
 import { questionText } from './lib/notation.mjs';
 
 const CASES = new URL('../../crates/cases/data/', import.meta.url);
 const LENGTH = 30;
 const [lists = 5, line] = process.argv.slice(2).map(Number);
-const counts = { programs: 0, runs: 0, questions: 0, givenUp: 0, known: 0, differing: 0 };
+const counts = { programs: 0, runs: 0, questions: 0, givenUp: 0, meaningless: 0, known: 0, differing: 0 };
 
 if (!hasParser) console.log('tools/runs: the machine is passed over, neither acorn nor @babel/parser is installed');
 else await checkAll();
@@ -28,9 +28,10 @@ async function checkAll() {
   const lines = written.map((text, index) => [text, index + 1]).filter(isProgram);
   for (const [text, number] of lines) await check(`programs.js:${number}`, text);
   if (!line) for (const text of new Set(caseTexts())) await check('a case', text);
-  const { programs, runs, questions, givenUp, known, differing } = counts;
+  const { programs, runs, questions, givenUp, meaningless, known, differing } = counts;
   const alike = `${programs} programs run alike by machine and engine, by ${runs} lists of moves with ${questions} questions`;
-  console.log(`tools/runs: ${alike}, ${givenUp} lists given up, ${known} differ as is known, ${differing} differ`);
+  const passed = `${givenUp} lists given up, ${meaningless} programs have nodes that the machine gives no meaning`;
+  console.log(`tools/runs: ${alike}, ${passed}, ${known} differ as is known, ${differing} differ`);
   process.exitCode = differing === 0 ? 0 : 1;
 }
 
@@ -44,8 +45,12 @@ function caseTexts() {
 }
 
 async function check(place, text) {
-  counts.programs += 1;
   const tree = textToTree(text);
+  if (!isMeant(tree)) {
+    counts.meaningless += 1;
+    return;
+  }
+  counts.programs += 1;
   const before = counts.runs;
   for (let list = 1; list <= lists; list += 1) {
     const run = playedRun(tree, list, { catches: /\btry\b/.test(text) });

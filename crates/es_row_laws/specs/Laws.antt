@@ -1,11 +1,12 @@
 -- The rows of the core lowerings one by one: each is lawful alone, and the constructs of a lowering stay what they are under steps of all.
-use Rattle.std.specs.Prelude.{◌&&◌, Bool, true, false}
+use Rattle.std.specs.Prelude.{◌&&◌, not, Bool, true, false}
 use Rattle.es_tree.specs.Constructs.{field_at, is_chain, is_exponentiation, is_logical_assignment, is_nullish_coalescing}
 use Rattle.es_tree.specs.Parens.{without_parens}
-use Rattle.es_tree.specs.Tree.{Tree, Label, Fields, Field, one, kind_of}
+use Rattle.es_tree.specs.Tree.{Tree, node, Label, Fields, Field, one}
 use Rattle.es_tree.specs.declared.ast_type.AstType.{AstType}
 use Rattle.es_tree.specs.declared.ast_type.AstType.TheVariants.{BinaryExpression, Identifier, MemberExpression}
 use Rattle.es_tree.specs.declared.options.EnvOptions.{EnvOptions}
+use Rattle.es_runs.specs.Rules.{is_marked}
 use Rattle.es_steps.specs.CoreRules.{RowRule, rule_under, where_on}
 use Rattle.es_steps.specs.Exponentiation.{ExponentiationRule}
 use Rattle.es_steps.specs.LogicalAssignment.{LogicalAssignmentRule}
@@ -43,16 +44,16 @@ pub record OfEachRule (P : (Site → Ledger → Spot → Ledger → Spot → Typ
   pub optional_chaining : P (optional_chaining_under o)
   pub exponentiation : P (exponentiation_under o)
 
--- WHAT THEY LOWER: of assignments those to a name or a member, maybe in parentheses. No other target is valid beside these operators
+-- WHAT THEY LOWER: of assignments those to a name or a member without an optional mark, maybe in parentheses. No other target is valid beside these operators
 -- (ECMA-262, 13.15.1).
 
-abbrev pub is_simple_kind : AstType → Bool
-is_simple_kind Identifier = true
-is_simple_kind MemberExpression = true
-is_simple_kind _ = false
+abbrev pub is_simple_node : Tree → Bool
+is_simple_node (node Identifier l fs) = true
+is_simple_node (node MemberExpression l fs) = not (is_marked MemberExpression l.flags)
+is_simple_node _ = false
 
 abbrev pub is_simple : Tree → Bool
-is_simple t = is_simple_kind (kind_of (without_parens t))
+is_simple t = is_simple_node (without_parens t)
 
 abbrev pub is_simple_target : Field → Bool
 is_simple_target (one t) = is_simple t

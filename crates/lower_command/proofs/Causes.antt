@@ -1,19 +1,18 @@
 -- The causes of a refusal and a source that is taken exclude one another.
-use Rattle.std.proofs.Common.{◌≡◌, ℕ, Bool, List, [], Option, Some, None, ◌&&◌, if◌then◌else◌, sym, ap, ◌∙◌, subst, arith, ◌++◌, refl, ◌∷◌}
+use Rattle.std.proofs.Common.{◌≡◌, ℕ, List, [], Some, None, ◌&&◌, if◌then◌else◌, sym, ap, ◌∙◌, subst, arith, ◌++◌, refl, ◌∷◌}
 use Rattle.serde_json.specs.Data.{Data}
-use Rattle.es_tree.specs.Constructs.{has_enabled_construct}
-use Rattle.es_tree.specs.Core.{is_not_core}
+use Rattle.es_tree.specs.Constructs.{is_exponentiation}
 use Rattle.es_tree.specs.CoreStaticRules.{Break}
 use Rattle.es_tree.specs.Options.{first_fault}
 use Rattle.es_tree.specs.StaticRules.{breaks, IsFirstBreak}
-use Rattle.es_tree.specs.Tree.{Tree}
-use Rattle.es_tree.specs.Walks.{first_node}
+use Rattle.es_tree.specs.Tree.{Tree, Label, Fields}
+use Rattle.es_tree.specs.declared.ast_type.AstType.{AstType}
 use Rattle.es_tree.specs.declared.error.LowerError.{LowerError}
 use Rattle.es_tree.specs.declared.error.LowerError.TheVariants.{Json, Option as e-Option, TooLarge, TooDeep, Shape, Invalid, Unsupported}
 use Rattle.es_tree.specs.declared.error.OptionName.{OptionName}
 use Rattle.es_tree.specs.declared.error.Rule.{Rule}
 use Rattle.es_tree.specs.declared.error.UnsupportedKind.{UnsupportedKind}
-use Rattle.es_tree.specs.declared.error.UnsupportedKind.TheVariants.{MathBound, NotBuilt}
+use Rattle.es_tree.specs.declared.error.UnsupportedKind.TheVariants.{MathBound, TagChain}
 use Rattle.es_tree.specs.declared.ids.NodeId.{NodeId}
 use Rattle.es_tree.specs.declared.options.EnvOptions.{EnvOptions}
 use Rattle.es_tree.specs.declared.table.Sort.TheVariants.{Program as s-Program}
@@ -21,20 +20,24 @@ use Rattle.es_json.specs.Faults.{faults, first_path_of}
 use Rattle.es_json.specs.Programs.{IsProgramForm, IsRefusal}
 use Rattle.es_json.proofs.NoFaults.{no_faults}
 use Rattle.es_json.proofs.OneTree.{one_tree_always}
-use Rattle.std.specs.Prelude.{codes}
+use Rattle.std.specs.Prelude.{codes, is_some}
+use Rattle.std.specs.Option.{option_or}
 use Rattle.std.specs.Fmt.{decimal}
 use Rattle.es_tree.specs.Causes.{rule_name, unsupported_name}
+use Rattle.es_semantic.specs.Places.{Visit, visits_of}
+use Rattle.es_semantic.specs.SymbolsOf.{Declared, find, symbols_of}
+use Rattle.es_unsupported.specs.FirstUnsupported.{first_among, first_unsupported, found_at}
+use Rattle.es_unsupported.specs.Shapes.{has_chain_tag, shape_at}
 use Rattle.es_json.specs.Pointer.{pointer}
 use Rattle.lower_command.specs.Answer.{line, refusal_text}
-use Rattle.lower_driver.specs.UnsupportedPrograms.{first_math_bound, first_not_built}
-use Rattle.lower_driver.specs.Sources.{IsReading, HasReading, ReadsAs, IsSource, IsValueBeyondCore, IsBrokenValue, IsValueWithMath, IsCauseUnder}
+use Rattle.lower_driver.specs.Sources.{IsReading, HasReading, ReadsAs, IsSource, IsBrokenValue, IsUnsupportedValue, IsCauseUnder}
 use Rattle.lower_command.specs.Job.{IsTakenSource}
 
--- the two ask for the same as far as refusals go: what isn't done, what is to be lowered, and the shapes that aren't taken
+-- the two ask for the same as far as refusals go: what isn't done, and the shapes that aren't taken
 pub record SameRefusals (o q : EnvOptions) : Type 0 where
   pub fault : first_fault o ≡ first_fault q
-  pub constructs : (t : Tree) → has_enabled_construct o t ≡ has_enabled_construct q t
   pub power : o.es2016.exponentiation_operator ≡ q.es2016.exponentiation_operator
+  pub chaining : o.es2020.optional_chaining ≡ q.es2020.optional_chaining
 
 -- bytes read as one value, and a value is the form of one program
 one_value : (bytes : List ℕ) (v w : Data) → IsReading bytes v → IsReading bytes w → v ≡ w
@@ -59,16 +62,19 @@ no_refusal v p (Shape path) form refused _ =
     cc
 no_refusal v p _ form refused told = absurd told
 
-same_if : (b c d : Bool) (x y : Option ℕ) → b ≡ c → (if b && d then x else y) ≡ (if c && d then x else y)
-same_if b c d x y same = ap (λ (e : Bool). if e && d then x else y) same
+-- which shapes aren't taken hangs on two of the options
+module _ (o q : EnvOptions) (same : SameRefusals o q) where
+  same_shape : (ds : List Declared) (up : List ℕ) (k : AstType) (l : Label) (fs : Fields) → shape_at o ds up k l fs ≡ shape_at q ds up k l fs
+  same_shape ds up k l fs = λ i.
+      if same.power i && is_exponentiation k l fs && is_some (find ds up (codes "Math")) then Some MathBound
+      else if same.chaining i && has_chain_tag k l fs then Some TagChain else None
 
--- which shape isn't taken hangs on one of the options
-same_shape : (o q : EnvOptions) (t : Tree) → SameRefusals o q → first_math_bound o t ≡ first_math_bound q t
-same_shape o q t same = same_if o.es2016.exponentiation_operator q.es2016.exponentiation_operator _ _ _ same.power
+  same_among : (ds : List Declared) (vs : List Visit) → first_among o ds vs ≡ first_among q ds vs
+  same_among ds [] = refl
+  same_among ds (v ∷ vs) = λ i. option_or (found_at v.label.id (same_shape ds v.place.around v.kind v.label v.fields i)) (same_among ds vs i)
 
--- and which programs aren't built hangs on what is to be lowered
-same_built : (o q : EnvOptions) (t : Tree) → SameRefusals o q → first_not_built o t ≡ first_not_built q t
-same_built o q t same = ap (λ (asked : Bool). if asked then first_node is_not_core t else None) (same.constructs t)
+  same_unsupported : (p : Tree) → first_unsupported o p ≡ first_unsupported q p
+  same_unsupported p = same_among (symbols_of p) (visits_of p)
 
 pub taken_as : (o q : EnvOptions) (bytes : List ℕ) → SameRefusals o q → IsTakenSource o bytes → IsTakenSource q bytes
 taken_as o q bytes same source = record {
@@ -76,8 +82,7 @@ taken_as o q bytes same source = record {
   program = source.program;
   reads = source.reads;
   kept = source.kept;
-  built = sym (same_built o q source.program same) ∙ source.built;
-  taken = sym (same_shape o q source.program same) ∙ source.taken;
+  taken = sym (same_unsupported o q same source.program) ∙ source.taken;
 }
 
 -- ONE CAUSE: an input has at most one line
@@ -85,9 +90,8 @@ taken_as o q bytes same source = record {
 -- a cause by what is known of the value
 data Known (o : EnvOptions) (v : Data) : LowerError → Type 0 where
   unread : {error : LowerError} → IsUnreadError error → IsRefusal v error → Known o v error
-  beyond_core : {id : NodeId} → IsValueBeyondCore o v id → Known o v (Unsupported NotBuilt id)
   broken : {rule : Rule} {id : NodeId} → IsBrokenValue v (Invalid rule id) → Known o v (Invalid rule id)
-  with_math : {id : NodeId} → IsValueWithMath o v id → Known o v (Unsupported MathBound id)
+  unsupported : {kind : UnsupportedKind} {id : NodeId} → IsUnsupportedValue o v kind id → Known o v (Unsupported kind id)
 
 -- or by the bytes that have no reading, or by what the options ask for
 data Told (o : EnvOptions) (bytes : List ℕ) : LowerError → Type 0 where
@@ -101,29 +105,16 @@ told o q bytes (e-Option name) same cause = uncarried (record { value = cause.va
 told o q bytes (TooLarge n) same cause = carried (sym same.fault ∙ cause.holds.0) (record { value = cause.value; reading = cause.reading; holds = unread tt cause.holds.1 })
 told o q bytes (TooDeep n) same cause = carried (sym same.fault ∙ cause.holds.0) (record { value = cause.value; reading = cause.reading; holds = unread tt cause.holds.1 })
 told o q bytes (Shape path) same cause = carried (sym same.fault ∙ cause.holds.0) (record { value = cause.value; reading = cause.reading; holds = unread tt cause.holds.1 })
-told o q bytes (Unsupported NotBuilt id) same cause =
-    let beyond = cause.holds.1 in
+told o q bytes (Unsupported kind id) same cause =
+    let shape = cause.holds.1 in
     carried (sym same.fault ∙ cause.holds.0) (record {
       value = cause.value;
       reading = cause.reading;
-      holds = beyond_core (record {
-        program = beyond.program;
-        source = beyond.source;
-        kept = beyond.kept;
-        first = sym (same_built o q beyond.program same) ∙ beyond.first;
-      });
-    })
-told o q bytes (Unsupported MathBound id) same cause =
-    let math = cause.holds.1 in
-    carried (sym same.fault ∙ cause.holds.0) (record {
-      value = cause.value;
-      reading = cause.reading;
-      holds = with_math (record {
-        program = math.program;
-        source = math.source;
-        kept = math.kept;
-        built = sym (same_built o q math.program same) ∙ math.built;
-        first = sym (same_shape o q math.program same) ∙ math.first;
+      holds = unsupported (record {
+        program = shape.program;
+        source = shape.source;
+        kept = shape.kept;
+        first = sym (same_unsupported o q same shape.program) ∙ shape.first;
       });
     })
 told o q bytes (Invalid rule id) same cause = carried (sym same.fault ∙ cause.holds.0) (record { value = cause.value; reading = cause.reading; holds = broken cause.holds.1 })
@@ -157,41 +148,32 @@ broken_anyway v rule id p b source kept =
     let first : IsFirstBreak (breaks p) (Invalid rule id) = subst (λ t. IsFirstBreak (breaks t) (Invalid rule id)) same b.first in
     subst (λ (bs : List Break). IsFirstBreak bs (Invalid rule id)) kept first
 
-beyond_anyway : (o : EnvOptions) (v : Data) (id : NodeId) (p : Tree) → IsValueBeyondCore o v id → IsSource v p → first_not_built o p ≡ None → ⊥
-beyond_anyway o v id p b source built =
+unsupported_anyway : (o : EnvOptions) (v : Data) (kind : UnsupportedKind) (id : NodeId) (p : Tree) → IsUnsupportedValue o v kind id → IsSource v p → first_unsupported o p ≡ None → ⊥
+unsupported_anyway o v kind id p b source taken =
     let same = one_program v b.program p b.source source in
-    let both : Some id.0 ≡ None = sym (subst (λ t. first_not_built o t ≡ Some id.0) same b.first) ∙ built in
+    let both : Some (kind, id.0) ≡ None = sym (subst (λ t. first_unsupported o t ≡ Some (kind, id.0)) same b.first) ∙ taken in
     cc
 
-unsupported_line : (kind : UnsupportedKind) (m n : ℕ) → Some m ≡ Some n
-    → line (codes "lower: unsupported " ++ unsupported_name kind ++ codes " at node " ++ decimal m) ≡ line (codes "lower: unsupported " ++ unsupported_name kind ++ codes " at node " ++ decimal n)
-unsupported_line kind m n same =
-    let number : m ≡ n = cc in
-    ap (λ (k : ℕ). line (codes "lower: unsupported " ++ unsupported_name kind ++ codes " at node " ++ decimal k)) number
+unsupported_line : (a b : UnsupportedKind × ℕ) → Some a ≡ Some b
+    → line (codes "lower: unsupported " ++ unsupported_name a.0 ++ codes " at node " ++ decimal a.1) ≡ line (codes "lower: unsupported " ++ unsupported_name b.0 ++ codes " at node " ++ decimal b.1)
+unsupported_line a b both =
+    let same : a ≡ b = cc in
+    ap (λ (x : UnsupportedKind × ℕ). line (codes "lower: unsupported " ++ unsupported_name x.0 ++ codes " at node " ++ decimal x.1)) same
 
 one_line : (o : EnvOptions) (v : Data) (e f : LowerError) → Known o v e → Known o v f → refusal_text e ≡ refusal_text f
 one_line o v e f (unread told r) (unread also s) = unread_line v e f told also r s
-one_line o v e _ (unread told r) (beyond_core b) = absurd (no_refusal v b.program e b.source.form r told)
 one_line o v e _ (unread told r) (broken b) = absurd (no_refusal v b.program e b.source.form r told)
-one_line o v e _ (unread told r) (with_math b) = absurd (no_refusal v b.program e b.source.form r told)
-one_line o v _ f (beyond_core b) (unread told r) = absurd (no_refusal v b.program f b.source.form r told)
+one_line o v e _ (unread told r) (unsupported b) = absurd (no_refusal v b.program e b.source.form r told)
 one_line o v _ f (broken b) (unread told r) = absurd (no_refusal v b.program f b.source.form r told)
-one_line o v _ f (with_math b) (unread told r) = absurd (no_refusal v b.program f b.source.form r told)
-one_line o v _ _ (beyond_core {id = i} b) (beyond_core {id = j} d) =
-    let same = one_program v b.program d.program b.source d.source in
-    unsupported_line NotBuilt i.0 j.0 (sym (subst (λ p. first_not_built o p ≡ Some i.0) same b.first) ∙ d.first)
-one_line o v _ _ (beyond_core b) (broken {rule = r} {id = j} d) = absurd (broken_anyway v r j b.program d b.source b.kept)
-one_line o v _ _ (beyond_core {id = i} b) (with_math d) = absurd (beyond_anyway o v i d.program b d.source d.built)
-one_line o v _ _ (broken {rule = r} {id = i} b) (beyond_core d) = absurd (broken_anyway v r i d.program b d.source d.kept)
-one_line o v _ _ (with_math b) (beyond_core {id = j} d) = absurd (beyond_anyway o v j b.program d b.source b.built)
+one_line o v _ f (unsupported b) (unread told r) = absurd (no_refusal v b.program f b.source.form r told)
 one_line o v _ _ (broken {rule = r} {id = i} b) (broken {rule = s} {id = j} d) =
     let same = one_program v b.program d.program b.source d.source in
     break_line (breaks d.program) r s i j (subst (λ p. IsFirstBreak (breaks p) (Invalid r i)) same b.first) d.first
-one_line o v _ _ (broken {rule = r} {id = i} b) (with_math d) = absurd (broken_anyway v r i d.program b d.source d.kept)
-one_line o v _ _ (with_math b) (broken {rule = r} {id = i} d) = absurd (broken_anyway v r i b.program d b.source b.kept)
-one_line o v _ _ (with_math {id = i} b) (with_math {id = j} d) =
+one_line o v _ _ (broken {rule = r} {id = i} b) (unsupported d) = absurd (broken_anyway v r i d.program b d.source d.kept)
+one_line o v _ _ (unsupported b) (broken {rule = r} {id = i} d) = absurd (broken_anyway v r i b.program d b.source b.kept)
+one_line o v _ _ (unsupported {kind = j} {id = i} b) (unsupported {kind = k} {id = m} d) =
     let same = one_program v b.program d.program b.source d.source in
-    unsupported_line MathBound i.0 j.0 (sym (subst (λ p. first_math_bound o p ≡ Some i.0) same b.first) ∙ d.first)
+    unsupported_line (j, i.0) (k, m.0) (sym (subst (λ p. first_unsupported o p ≡ Some (j, i.0)) same b.first) ∙ d.first)
 
 -- what is told of the input, or of the options, is told in one line
 told_line : (o : EnvOptions) (bytes : List ℕ) (e f : LowerError) → Told o bytes e → Told o bytes f → refusal_text e ≡ refusal_text f
@@ -214,25 +196,21 @@ told_line o bytes e f (carried _ r) (carried _ s) =
 pub one_cause : (o q : EnvOptions) (bytes : List ℕ) (e f : LowerError) → SameRefusals o q → IsCauseUnder q bytes e → IsCauseUnder o bytes f
     → refusal_text e ≡ refusal_text f
 one_cause o q bytes e f same cause other =
-    told_line q bytes e f (told q q bytes e (record { fault = refl; constructs = λ t. refl; power = refl }) cause) (told o q bytes f same other)
+    told_line q bytes e f (told q q bytes e (record { fault = refl; power = refl; chaining = refl }) cause) (told o q bytes f same other)
 
 -- a source that is taken is refused for no cause
 not_taken : (o : EnvOptions) (v : Data) (error : LowerError) (p : Tree) → Known o v error
-    → IsSource v p → breaks p ≡ [] → first_not_built o p ≡ None → first_math_bound o p ≡ None → ⊥
-not_taken o v error p (unread told r) source kept built taken = no_refusal v p error source.form r told
-not_taken o v _ p (beyond_core {id = i} b) source kept built taken = beyond_anyway o v i p b source built
-not_taken o v _ p (broken {rule = r} {id = i} b) source kept built taken = broken_anyway v r i p b source kept
-not_taken o v _ p (with_math {id = i} b) source kept built taken =
-    let same = one_program v b.program p b.source source in
-    let both : Some i.0 ≡ None = sym (subst (λ t. first_math_bound o t ≡ Some i.0) same b.first) ∙ taken in
-    cc
+    → IsSource v p → breaks p ≡ [] → first_unsupported o p ≡ None → ⊥
+not_taken o v error p (unread told r) source kept taken = no_refusal v p error source.form r told
+not_taken o v _ p (broken {rule = r} {id = i} b) source kept taken = broken_anyway v r i p b source kept
+not_taken o v _ p (unsupported {kind = k} {id = i} b) source kept taken = unsupported_anyway o v k i p b source taken
 
 not_told : (o : EnvOptions) (bytes : List ℕ) (error : LowerError) → Told o bytes error → IsTakenSource o bytes → ⊥
 not_told o bytes _ (no_reading n) source = n (record { value = source.reads.value; reading = source.reads.reading })
 not_told o bytes _ (uncarried {name = name} _ first) source = let both : Some name ≡ None = sym first ∙ source.carried in cc
 not_told o bytes error (carried _ r) source =
     let same = one_value bytes r.value source.reads.value r.reading source.reads.reading in
-    not_taken o source.reads.value error source.program (subst (λ v. Known o v error) same r.holds) source.reads.holds source.kept source.built source.taken
+    not_taken o source.reads.value error source.program (subst (λ v. Known o v error) same r.holds) source.reads.holds source.kept source.taken
 
 pub not_refused : (o q : EnvOptions) (bytes : List ℕ) (error : LowerError) → SameRefusals o q → IsCauseUnder o bytes error → IsTakenSource q bytes → ⊥
 not_refused o q bytes error same cause source = not_told q bytes error (told o q bytes error same cause) source

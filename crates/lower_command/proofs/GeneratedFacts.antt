@@ -1,5 +1,5 @@
 -- What holds of the script of any number of statements.
-use Rattle.std.proofs.Common.{◌≡◌, ℕ, zero, suc, ◌+◌, ◌*◌, ◌/◌, ◌%◌, ◌<◌, ◌≤◌, ◌^◌, List, [], ◌++◌, map, Bool, true, false, ◌&&◌, Option, None, if◌then◌else◌, refl, ap, ◌∙◌, subst, arith, rules}
+use Rattle.std.proofs.Common.{◌≡◌, ℕ, zero, suc, ◌+◌, ◌*◌, ◌/◌, ◌%◌, ◌<◌, ◌≤◌, ◌^◌, List, [], ◌++◌, map, Bool, true, false, refl, ap, ◌∙◌, subst, arith, rules}
 use Rattle.std.proofs.Math.Dec.{eqb-suc-zero}
 use Rattle.std.proofs.lemmas.List.{append-nil}
 use Rattle.std.specs.List.{range_with_len}
@@ -13,12 +13,10 @@ use Rattle.es_tree.specs.Tree.{Label, Fields, Trees, empty, ◌before◌, trees,
 use Rattle.es_tree.specs.Walks.{all_nodes, all_in_trees, any_in_trees, any_node}
 use Rattle.es_tree.specs.declared.ast_type.AstType.{AstType}
 use Rattle.es_tree.specs.declared.ast_type.AstType.TheVariants.{BigIntLiteral}
-use Rattle.es_tree.specs.declared.options.EnvOptions.{EnvOptions}
 use Rattle.es_tree.specs.declared.place.Place.TheVariants.{ProgramBody}
 use Rattle.es_tree.specs.declared.table.Sort.{Sort}
-use Rattle.es_tree.specs.declared.table.Sort.TheVariants.{Statement as s-Statement}
+use Rattle.es_tree.specs.declared.table.Sort.TheVariants.{Program as s-Program, Statement as s-Statement}
 use Rattle.es_tree.proofs.CoreBreaks.{breaks-core}
-use Rattle.lower_driver.specs.UnsupportedPrograms.{first_math_bound}
 use Rattle.lower_command.specs.Generated.{generated, generated_statement, nodes_of_first, start_of, statement_for}
 
 abbrev pub is_big_int : AstType → Label → Fields → Bool
@@ -142,6 +140,9 @@ body_numbered i (suc n) =
 pub generated-core : (n : ℕ) → IsCoreProgram (generated n)
 generated-core n = record { form = rw (body_form 0 n) refl; core = rw (body_core 0 n) refl }
 
+pub generated-form : (n : ℕ) → has_form s-Program (generated n) ≡ true
+generated-form n = (generated-core n).form
+
 pub generated-kept : (n : ℕ) → breaks (generated n) ≡ []
 generated-kept n =
     breaks-core (generated n) (generated-core n)
@@ -150,13 +151,6 @@ generated-kept n =
 
 pub generated-declares : (n : ℕ) → declared_of (generated n) ≡ []
 generated-declares n = body_declares 0 n
-
--- so `Math` isn't bound
-pub generated-bound : (o : EnvOptions) (n : ℕ) → first_math_bound o (generated n) ≡ None
-generated-bound o n = rw (generated-declares n) (at o.es2016.exponentiation_operator _) where
-  at : (asked : Bool) (first : Option ℕ) → (if asked && false then first else None) ≡ None
-  at true first = refl
-  at false first = refl
 
 pub generated-no_big_int : (n : ℕ) → any_node is_big_int (generated n) ≡ false
 generated-no_big_int n = rw (body_no_big_int 0 n) refl

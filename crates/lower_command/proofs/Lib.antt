@@ -5,4 +5,5 @@ pub mod Outcome
 pub mod Flags
 pub mod Causes
 pub mod GeneratedFacts
+pub mod GeneratedShapes
 pub mod Scripts

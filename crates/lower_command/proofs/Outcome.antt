@@ -10,7 +10,7 @@ use Rattle.es_tree.specs.declared.error.LowerError.{LowerError}
 use Rattle.es_tree.specs.declared.error.LowerError.TheVariants.{Option as e-Option}
 use Rattle.es_tree.specs.declared.error.OptionName.{OptionName}
 use Rattle.es_tree.specs.declared.options.ES2020Options.{ES2020Options}
-use Rattle.lower_common.specs.declared.warning.Warning.{Warning}
+use Rattle.lower_temporaries.specs.declared.warning.Warning.{Warning}
 use Rattle.lower_editions.specs.Warnings.{warnings_of}
 use Rattle.lower_command.specs.declared.answer.Answer.{Answer}
 use Rattle.lower_command.specs.declared.answer.Answer.TheVariants.{Lowered, Generated, Refused, Words, ReadFault, TooLong}

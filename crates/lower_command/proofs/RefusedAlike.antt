@@ -1,13 +1,9 @@
 -- Options that the same words ask for are refused for the same causes.
 use Rattle.std.proofs.Common.{◌≡◌, List, [], ◌∷◌, Bool, Some, cond, String, refl, sym, ◌∙◌, ap, ap₂, find}
-use Rattle.std.specs.Prelude.{◌&&◌, ◌||◌, is_some}
 use Rattle.std.specs.declared.alloc.Global.{Global}
-use Rattle.es_tree.specs.Constructs.{has_enabled_construct, is_arrow, is_chain, is_exponentiation, is_logical_assignment, is_namespace_export, is_nullish_coalescing, is_optional_catch, is_rest_or_spread, is_using}
 use Rattle.es_tree.specs.Options.{asks_for, is_inline, is_loose, is_spec, option_names, uses_built_ins}
 use Rattle.es_tree.specs.declared.error.OptionName.{OptionName}
 use Rattle.es_tree.specs.declared.error.OptionName.TheVariants.{InlineHelpers, Spec, Loose, UseBuiltIns, AsyncToGenerator, AsyncGeneratorFunctions, PureGetters, ObjectRestNoSymbols, IgnoreFunctionLength, NotBuilt}
-use Rattle.es_tree.specs.Tree.{Tree}
-use Rattle.es_tree.specs.Walks.{any_node}
 use Rattle.es_tree.specs.declared.options.EnvOptions.{EnvOptions}
 use Rattle.lower_command.specs.Words.{Asks}
 use Rattle.lower_command.proofs.Causes.{SameRefusals}
@@ -30,32 +26,9 @@ module _ (words : List (String Global)) (o q : EnvOptions) (a : Asks words o) (b
   same_asked IgnoreFunctionLength = a.ignore_function_length ∙ sym b.ignore_function_length
   same_asked NotBuilt = rw (a.arrows, a.rest_spread, a.optional_catch, a.namespace, a.name_warnings, a.resources, b.arrows, b.rest_spread, b.optional_catch, b.namespace, b.name_warnings, b.resources) refl
 
-  -- what is to be lowered is told by nine settings
-  same_constructs : (t : Tree) → has_enabled_construct o t ≡ has_enabled_construct q t
-  same_constructs t =
-      let power = a.exponentiation ∙ sym b.exponentiation in
-      let nullish = a.nullish ∙ sym b.nullish in
-      let chaining = a.chaining ∙ sym b.chaining in
-      let logical = a.logical ∙ sym b.logical in
-      let rest_spread = a.rest_spread ∙ sym b.rest_spread in
-      let arrows = a.arrows ∙ sym b.arrows in
-      let catches = a.optional_catch ∙ sym b.optional_catch in
-      let exports = a.namespace ∙ sym b.namespace in
-      let using = a.resources ∙ sym b.resources in
-      λ i. any_node
-      (λ k l fs.
-      (power i && is_exponentiation k l fs)
-      || (nullish i && is_nullish_coalescing k l fs)
-      || (chaining i && is_chain k l fs)
-      || (logical i && is_logical_assignment k l fs)
-      || (is_some (rest_spread i) && is_rest_or_spread k l fs)
-      || (is_some (arrows i) && is_arrow k l fs)
-      || ((catches i && is_optional_catch k l fs) || (exports i && is_namespace_export k l fs) || (using i && is_using k l fs)))
-      t
-
   pub same_refusals : SameRefusals o q
   same_refusals = record {
     fault = same_find (λ name. asks_for name o) (λ name. asks_for name q) option_names same_asked;
-    constructs = same_constructs;
     power = a.exponentiation ∙ sym b.exponentiation;
+    chaining = a.chaining ∙ sym b.chaining;
   }

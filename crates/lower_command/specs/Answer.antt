@@ -5,9 +5,9 @@ use Rattle.std.specs.List.{flat_map}
 use Rattle.es_tree.specs.Causes.{option_name, rule_name, unsupported_name}
 use Rattle.es_tree.specs.declared.error.LowerError.{LowerError}
 use Rattle.es_tree.specs.declared.error.LowerError.TheVariants.{Json, Option, TooLarge, TooDeep, Shape, Invalid, Unsupported, OutOfMemory}
-use Rattle.lower_common.specs.declared.warning.Warning.{Warning}
-use Rattle.lower_common.specs.declared.warning.WarningKind.{WarningKind}
-use Rattle.lower_common.specs.declared.warning.WarningKind.TheVariants.{BigInt, ModuleName}
+use Rattle.lower_temporaries.specs.declared.warning.Warning.{Warning}
+use Rattle.lower_temporaries.specs.declared.warning.WarningKind.{WarningKind}
+use Rattle.lower_temporaries.specs.declared.warning.WarningKind.TheVariants.{BigInt, ModuleName}
 use Rattle.lower_command.specs.declared.answer.Answer.{Answer}
 use Rattle.lower_command.specs.declared.answer.Answer.TheVariants.{Lowered, Generated, Refused, Words, ReadFault, TooLong}
 use Rattle.lower_command.specs.declared.answer.TheConstants.{DONE, REFUSED, WORDS, READ_FAULT, TOO_LONG}

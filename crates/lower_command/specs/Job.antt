@@ -7,22 +7,21 @@ use Rattle.es_tree.specs.Tree.{Tree, tree_size}
 use Rattle.es_tree.specs.Words.{Text}
 use Rattle.es_tree.specs.declared.options.EnvOptions.{EnvOptions}
 use Rattle.es_json.specs.Canonical.{canonical}
+use Rattle.es_unsupported.specs.FirstUnsupported.{first_unsupported}
 use Rattle.lower_driver.specs.Lowers.{Lowers}
-use Rattle.lower_driver.specs.UnsupportedPrograms.{first_math_bound, first_not_built}
 use Rattle.lower_driver.specs.Sources.{Reads}
 use Rattle.lower_editions.specs.Warnings.{warnings_of}
 use Rattle.lower_command.specs.Answer.{generated_line, warning_lines}
 use Rattle.lower_command.specs.Generated.{generated}
 
--- The options ask for nothing that isn't done, and the bytes read as a program that keeps the static rules: a core program, or one
--- in which no construct stands that these options ask to lower, with no shape that their lowerings don't take.
+-- The options ask for nothing that isn't done, and the bytes read as a program that keeps the static rules, with no shape that the
+-- lowerings of these options don't take.
 pub record IsTakenSource (o : EnvOptions) (bytes : List ℕ) : Type 0 where
   pub carried : first_fault o ≡ None
   pub program : Tree
   pub reads : Reads bytes program
   pub kept : breaks program ≡ []
-  pub built : first_not_built o program ≡ None
-  pub taken : first_math_bound o program ≡ None
+  pub taken : first_unsupported o program ≡ None
 
 -- For an input of these bytes this text goes out: that of the canonical form of the written program, and a newline; and beside
 -- it these lines of warnings.

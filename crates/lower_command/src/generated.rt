@@ -12,7 +12,7 @@ use es_statements::program::{ExpressionStatement, Program};
 use es_tree::builder::AstBuilder;
 use es_tree::node::Node;
 use es_tree::operators::{AssignmentOperator, LogicalOperator, SourceType};
-use lower_common::declarations::MADE;
+use lower_temporaries::declarations::MADE;
 use std::alloc::{AllocError, Global};
 
 /// The script of this many statements, and the builder of further nodes, whose ids follow those of the

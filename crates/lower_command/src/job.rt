@@ -15,10 +15,9 @@ use std::alloc::Global;
 ///
 /// Fails for the first of these causes that holds: `Json` where the bytes have no reading as JSON;
 /// `Option` where the options ask for what isn't done; `TooLarge`, `TooDeep` and `Shape` as
-/// `read_program` has them; `Invalid` as `check_static` has it; `Unsupported(NotBuilt, node)` at the first
-/// node that no core program has, where a construct stands that they ask to lower;
-/// `Unsupported(MathBound, node)` at the first exponentiation that is asked for, where the program binds
-/// `Math`. It fails with `OutOfMemory` where memory runs out.
+/// `read_program` has them; `Invalid` as `check_static` has it; `Unsupported` at the first node with a shape
+/// that their lowerings don't take: `MathBound` an exponentiation that would be lowered where `Math` is bound,
+/// `TagChain` a template whose tag is a chain that would be. It fails with `OutOfMemory` where memory runs out.
 pub fn lower_text(alloc: Global, bytes: &[u8], options: &EnvOptions) -> Result<Texts, LowerError>
     ensures taken { IfOk result (λ _. IsTakenSource options.now bytes.now) }
     ensures text { IfOk result (λ texts. IsLoweredText options.now bytes.now (string_bytes texts.text) (string_bytes texts.warnings)) }

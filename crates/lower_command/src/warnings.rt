@@ -2,7 +2,7 @@
 ghost use Rattle.std.specs.Prelude.{◌≡◌, IfOk, string_bytes};
 ghost use Rattle.lower_command.specs.Answer.{warning_line, warning_lines, warning_name};
 
-use lower_common::warning::{Warning, WarningKind};
+use lower_temporaries::warning::{Warning, WarningKind};
 use std::alloc::{AllocError, Global};
 
 /// A line for each warning, in their order. Fails only where memory runs out.

@@ -1,51 +1,58 @@
--- Where the visit of a core program leaves no construct that is lowered, none is left.
-use Rattle.std.proofs.Common.{◌≡◌, refl, sym, ap, ◌∙◌}
-use Rattle.std.specs.Prelude.{Bool, true, false, ◌&&◌, ◌||◌}
+-- Where a visit leaves no construct among the statements of a program, none is left: its directives have none.
+use Rattle.std.proofs.Common.{◌≡◌, ◌∙◌, ap, arith, refl, sym}
+use Rattle.std.specs.Prelude.{Bool, true, false, ◌&&◌, ◌||◌, is_some}
 use Rattle.es_tree.specs.Attributes.{child_entries}
-use Rattle.es_tree.specs.Bare.{bare, bare_label, bare_fields, bare_trees}
-use Rattle.es_tree.specs.Constructs.{is_chain, is_exponentiation, is_logical_assignment, is_nullish_coalescing}
-use Rattle.es_tree.specs.Core.{IsCoreProgram}
+use Rattle.es_tree.specs.Constructs.{has_enabled_construct, is_arrow, is_chain, is_enabled_construct, is_exponentiation, is_logical_assignment, is_namespace_export, is_nullish_coalescing, is_optional_catch, is_rest_or_spread, is_using}
 use Rattle.es_tree.specs.HasForm.{is_of_sort, elements_of, match_option, has_form, elements_form, fields_form, trees_form}
-use Rattle.es_tree.specs.Walks.{all_nodes, all_in_fields, all_in_trees, any_node, any_in_fields, any_in_trees}
-use Rattle.es_tree.specs.Tree.{Tree, node, Label, Fields, done, ◌then◌, many, statements, Trees, empty, ◌before◌, trees, label_of}
+use Rattle.es_tree.specs.Options.{asks_for_unbuilt}
+use Rattle.es_tree.specs.Tree.{Tree, node, Label, Fields, done, ◌then◌, many, one, statements, missing, Trees, empty, ◌before◌}
+use Rattle.es_tree.specs.Walks.{any_node, any_in_fields, any_in_trees}
 use Rattle.es_tree.specs.declared.ast_type.AstType.{AstType}
 use Rattle.es_tree.specs.declared.ast_type.AstType.TheVariants.{Directive, Program as k-Program}
 use Rattle.es_tree.specs.declared.options.EnvOptions.{EnvOptions}
 use Rattle.es_tree.specs.declared.table.Sort.TheVariants.{Program as s-Program, Directive as s-Directive, Statement as s-Statement}
-use Rattle.es_tree.proofs.BareForm.{has_form-bare}
 use Rattle.es_tree.proofs.NodeForm.{node_form}
-use Rattle.es_statements.specs.ProgramPlain.{plain_program}
-use Rattle.es_statements.specs.declared.program.Program.{Program}
-use Rattle.es_runs.specs.OptionalChaining.{is_chain_kind}
-use Rattle.es_runs.proofs.Named.{and_left, and_right, or_both}
-use Rattle.es_visit.specs.Laws.{body_of, directives_of}
-use Rattle.lower_editions.specs.LogicalAssignments.{is_lowerable_logical_assignment}
-use Rattle.lower_editions.specs.NullishCoalescings.{is_lowerable_nullish_coalescing}
-use Rattle.lower_editions.specs.Exponentiations.{is_lowerable_exponentiation}
-use Rattle.lower_editions.proofs.BareNodes.{assignment-bare, coalescing-bare, power-bare}
-use Rattle.lower_editions.proofs.NoneLeft.{is_settled, settled_assignment, settled_nullish_coalescing, settled_exponentiation}
-use Rattle.lower_driver.specs.Rules.{is_lowered_under}
-use Rattle.lower_driver.proofs.Built.{has_built_construct, is_built_construct}
-use Rattle.lower_driver.proofs.Acting.{chain_kind, less, less_where_on}
-use Rattle.lower_driver.proofs.Walked.{any-bare-trees, none_among}
+use Rattle.lower_driver.specs.Constructs.{is_built_construct, is_lowered_construct}
+use Rattle.es_runs.proofs.Named.{and_left, and_right, or_both, or_first, or_second}
 
--- CONSTRUCTS
+-- BUILT CONSTRUCTS
 
-none_there : (o : EnvOptions) (k : AstType) (l : Label) (fs : Fields) → is_settled k l fs ≡ true → all_in_fields is_settled fs ≡ true → is_lowered_under o k l fs ≡ false → any_in_fields (is_lowered_under o) fs ≡ false → is_built_construct o k l fs ≡ false
-none_there o k l fs settled below h clear =
-    less (o.es2021.logical_assignment_operators && is_lowerable_logical_assignment k l fs) (o.es2020.nullish_coalescing_operator && is_lowerable_nullish_coalescing k l fs) (o.es2020.optional_chaining && is_chain_kind k) (o.es2016.exponentiation_operator && is_lowerable_exponentiation k l fs)
-    (o.es2021.logical_assignment_operators && is_logical_assignment k l fs) (o.es2020.nullish_coalescing_operator && is_nullish_coalescing k l fs) (o.es2020.optional_chaining && is_chain k l fs) (o.es2016.exponentiation_operator && is_exponentiation k l fs)
-    (less_where_on o.es2021.logical_assignment_operators (is_lowerable_logical_assignment k l fs) (is_logical_assignment k l fs) (settled_assignment k l fs settled))
-    (less_where_on o.es2020.nullish_coalescing_operator (is_lowerable_nullish_coalescing k l fs) (is_nullish_coalescing k l fs) (settled_nullish_coalescing k l fs settled))
-    (less_where_on o.es2020.optional_chaining (is_chain_kind k) (is_chain k l fs) (λ e. chain_kind k l fs ∙ e))
-    (less_where_on o.es2016.exponentiation_operator (is_lowerable_exponentiation k l fs) (is_exponentiation k l fs) (settled_exponentiation k l fs settled)) h
+-- the four rows in another order, beside settings that are off
+regrouped : (a b c d : Bool) → (a || b || c || d || false || false || (false || false || false)) ≡ (d || b || c || a)
+regrouped a b c d = grind arith
 
-lowered-bare : (o : EnvOptions) (k : AstType) (l : Label) (fs : Fields) → is_lowered_under o k (bare_label l) (bare_fields fs) ≡ is_lowered_under o k l fs
-lowered-bare o k l fs = λ i.
-    (o.es2021.logical_assignment_operators && assignment-bare k l fs i)
-    || (o.es2020.nullish_coalescing_operator && coalescing-bare k l fs i)
-    || (o.es2020.optional_chaining && is_chain_kind k)
-    || (o.es2016.exponentiation_operator && power-bare k l fs i)
+module _ (o : EnvOptions) (off : asks_for_unbuilt o ≡ false) where
+  built_alone : (k : AstType) (l : Label) (fs : Fields) → is_enabled_construct o k l fs ≡ is_built_construct o k l fs
+  built_alone k l fs =
+      let arrows = is_some o.es2015.arrow_function in
+      let rests = is_some o.es2018.object_rest_spread in
+      let catches = o.es2019.optional_catch_binding in
+      let exports = o.es2020.export_namespace_from in
+      let module_names = o.es2020.arbitrary_module_namespace_names in
+      let using = o.es2026.explicit_resource_management in
+      let five = or_first (arrows || rests || catches || exports || module_names) using off in
+      let four = or_first (arrows || rests || catches || exports) module_names five in
+      let three = or_first (arrows || rests || catches) exports four in
+      let two = or_first (arrows || rests) catches three in
+      let no_arrows = or_first arrows rests two in
+      let no_rests = or_second arrows rests two in
+      let no_catches = or_second (arrows || rests) catches three in
+      let no_exports = or_second (arrows || rests || catches) exports four in
+      let no_using = or_second (arrows || rests || catches || exports || module_names) using off in
+      (λ i.
+      (o.es2016.exponentiation_operator && is_exponentiation k l fs)
+      || (o.es2020.nullish_coalescing_operator && is_nullish_coalescing k l fs)
+      || (o.es2020.optional_chaining && is_chain k l fs)
+      || (o.es2021.logical_assignment_operators && is_logical_assignment k l fs)
+      || (no_rests i && is_rest_or_spread k l fs)
+      || (no_arrows i && is_arrow k l fs)
+      || ((no_catches i && is_optional_catch k l fs) || (no_exports i && is_namespace_export k l fs) || (no_using i && is_using k l fs)))
+      ∙ regrouped (o.es2016.exponentiation_operator && is_exponentiation k l fs) (o.es2020.nullish_coalescing_operator && is_nullish_coalescing k l fs) (o.es2020.optional_chaining && is_chain k l fs)
+      (o.es2021.logical_assignment_operators && is_logical_assignment k l fs)
+
+  -- what they ask for is a construct of these
+  pub enabled-built : (t : Tree) → has_enabled_construct o t ≡ any_node (is_built_construct o) t
+  enabled-built t = λ i. any_node (λ k l fs. built_alone k l fs i) t
 
 -- DIRECTIVES HAVE NO PARTS
 
@@ -65,48 +72,34 @@ module _ (o : EnvOptions) where
       let d = o.es2016.exponentiation_operator in
       or_both (a && false || b && false || c && false) (d && false) (or_both (a && false || b && false) (c && false) (or_both (a && false) (b && false) (switched_off a) (switched_off b)) (switched_off c)) (switched_off d)
 
-  no_directive : (l : Label) (fs : Fields) → is_built_construct o Directive l fs ≡ false
-  no_directive l fs = none_of_four
-
-  no_program : (l : Label) (fs : Fields) → is_built_construct o k-Program l fs ≡ false
-  no_program l fs = none_of_four
-
-  directive_clear : (t : Tree) → has_form s-Directive (bare t) ≡ true → any_node (is_built_construct o) t ≡ false
-  directive_clear (node k l fs) h = at k fs (node_form s-Directive k (bare_label l) (bare_fields fs) h).sort (node_form s-Directive k (bare_label l) (bare_fields fs) h).children
+  directive_clear : (t : Tree) → has_form s-Directive t ≡ true → any_node (is_lowered_construct o) t ≡ false
+  directive_clear (node k l fs) h = at k fs (node_form s-Directive k l fs h).sort (node_form s-Directive k l fs h).children
     where
-      at : (k : AstType) (fs : Fields) → is_of_sort s-Directive k ≡ true → ChildrenForm k (bare_label l) (bare_fields fs) → any_node (is_built_construct o) (node k l fs) ≡ false
-      at Directive done sort children = or_both (is_built_construct o Directive l done) false (no_directive l done) refl
+      at : (k : AstType) (fs : Fields) → is_of_sort s-Directive k ≡ true → ChildrenForm k l fs → any_node (is_lowered_construct o) (node k l fs) ≡ false
+      at Directive done sort children = or_both (is_lowered_construct o Directive l done) false none_of_four refl
       at Directive (f then fs) sort children = absurd (cc children)
       at _ fs sort children = absurd (cc sort)
 
-  directives_clear : (ts : Trees) → trees_form s-Directive s-Directive (bare_trees ts) ≡ true → any_in_trees (is_built_construct o) ts ≡ false
+  directives_clear : (ts : Trees) → trees_form s-Directive s-Directive ts ≡ true → any_in_trees (is_lowered_construct o) ts ≡ false
   directives_clear empty h = refl
-  directives_clear (t before empty) h = or_both (any_node (is_built_construct o) t) false (directive_clear t (and_left (has_form s-Directive (bare t)) true h)) refl
+  directives_clear (t before empty) h = or_both (any_node (is_lowered_construct o) t) false (directive_clear t (and_left (has_form s-Directive t) true h)) refl
   directives_clear (t before (u before ts)) h =
-      or_both (any_node (is_built_construct o) t) (any_in_trees (is_built_construct o) (u before ts))
-      (directive_clear t (and_left (has_form s-Directive (bare t)) (trees_form s-Directive s-Directive (bare_trees (u before ts))) h))
-      (directives_clear (u before ts) (and_right (has_form s-Directive (bare t)) (trees_form s-Directive s-Directive (bare_trees (u before ts))) h))
+      or_both (any_node (is_lowered_construct o) t) (any_in_trees (is_lowered_construct o) (u before ts))
+      (directive_clear t (and_left (has_form s-Directive t) (trees_form s-Directive s-Directive (u before ts)) h))
+      (directives_clear (u before ts) (and_right (has_form s-Directive t) (trees_form s-Directive s-Directive (u before ts)) h))
 
--- the directives of a program that has form
-directives_form : (x : Program) → has_form s-Program (bare (plain_program x)) ≡ true → trees_form s-Directive s-Directive (directives_of x) ≡ true
-directives_form x h =
-    let form : (trees_form s-Directive s-Directive (directives_of x) && (trees_form s-Statement s-Statement (body_of x) && true)) ≡ true = (node_form s-Program k-Program (bare_label (label_of (plain_program x))) (many (directives_of x) then (statements (body_of x) then done)) h).children in
-    and_left (trees_form s-Directive s-Directive (directives_of x)) (trees_form s-Statement s-Statement (body_of x) && true) form
+  -- THE WHOLE
 
--- THE WHOLE
+  abbrev first_list : Fields → Trees
+  first_list (many ts then fs) = ts
+  first_list _ = empty
 
-pub none_written : (o : EnvOptions) (p : Tree) (x y : Program) → IsCoreProgram p → bare (plain_program x) ≡ bare p → all_nodes is_settled (plain_program y) ≡ true → directives_of y ≡ directives_of x
-    → any_in_trees (is_lowered_under o) (body_of y) ≡ false → has_built_construct o (plain_program y) ≡ false
-none_written o p x y core same settled directives free =
-    let test = is_built_construct o in
-    let ds = trees y.directives.items in
-    let body = trees y.body.items in
-    let form : has_form s-Program (bare (plain_program x)) ≡ true = ap (has_form s-Program) same ∙ has_form-bare s-Program p ∙ core.form in
-    let front = directives_clear o ds (ap (trees_form s-Directive s-Directive) directives ∙ directives_form x form) in
-    let all : (all_in_trees is_settled ds && (all_in_trees is_settled body && true)) ≡ true = settled in
-    let body_settled = and_left (all_in_trees is_settled body) true (and_right (all_in_trees is_settled ds) (all_in_trees is_settled body && true) all) in
-    let body_free : any_in_trees (is_lowered_under o) body ≡ false = sym (any-bare-trees (is_lowered_under o) (lowered-bare o) body) ∙ free in
-    let clear = none_among is_settled (is_lowered_under o) test (none_there o) body body_settled body_free in
-    let own : test k-Program (label_of (plain_program y)) (many ds then (statements body then done)) ≡ false = no_program o (label_of (plain_program y)) (many ds then (statements body then done)) in
-    or_both (test k-Program (label_of (plain_program y)) (many ds then (statements body then done))) (any_in_trees test ds || (any_in_trees test body || false)) own
-    (or_both (any_in_trees test ds) (any_in_trees test body || false) front (or_both (any_in_trees test body) false clear refl))
+  -- of a program whose directives are those of one that has form
+  pub none-written : (l m : Label) (ds es ts us : Trees) → has_form s-Program (node k-Program l (many ds then (statements ts then done))) ≡ true → (many es then done) ≡ (many ds then done) → any_in_trees (is_lowered_construct o) us ≡ false →
+      any_node (is_lowered_construct o) (node k-Program m (many es then (statements us then done))) ≡ false
+  none-written l m ds es ts us form same free =
+      let test = is_lowered_construct o in
+      let formed : (trees_form s-Directive s-Directive ds && (trees_form s-Statement s-Statement ts && true)) ≡ true = (node_form s-Program k-Program l (many ds then (statements ts then done)) form).children in
+      let front = directives_clear es (ap (trees_form s-Directive s-Directive) (ap first_list same) ∙ and_left (trees_form s-Directive s-Directive ds) (trees_form s-Statement s-Statement ts && true) formed) in
+      or_both (test k-Program m (many es then (statements us then done))) (any_in_trees test es || (any_in_trees test us || false)) none_of_four
+      (or_both (any_in_trees test es) (any_in_trees test us || false) front (or_both (any_in_trees test us) false free refl))

@@ -1,124 +1,240 @@
 -- From the one visit of a run to what the source becomes.
-use Rattle.std.proofs.Common.{◌≡◌, ◌*◌, ◌≤◌, ◌<◌, ◌^◌, refl, sym, ap, ◌∙◌, subst, List, [], arith}
+use Rattle.std.proofs.Common.{◌≡◌, ◌+◌, ◌*◌, ◌≤◌, ◌<◌, ◌^◌, ℕ, suc, refl, sym, ap, ◌∙◌, subst, List, [], ◌∷◌, Option, None, Some, inl, inr, arith, map, length, true≢false}
 use Rattle.std.specs.Prelude.{Bool, true, false, ◌&&◌, ◌||◌}
-use Rattle.es_tree.specs.Words.{Text}
 use Rattle.es_tree.specs.Bare.{bare}
-use Rattle.es_tree.specs.Core.{IsCoreProgram}
+use Rattle.es_tree.specs.Constructs.{has_enabled_construct, is_chain, is_nullish_coalescing}
+use Rattle.es_row_laws.specs.Laws.{is_lowered_assignment, is_lowered_power}
+use Rattle.es_valid_steps.specs.PlaceRules.{place_breaks}
+use Rattle.es_valid_steps.proofs.Visits.{law_places_proof}
+use Rattle.es_tree.specs.HasForm.{has_form}
+use Rattle.es_tree.specs.Fresh.{is_among}
+use Rattle.es_tree.specs.Names.{names_of}
 use Rattle.es_tree.specs.Options.{asks_for_unbuilt}
 use Rattle.es_tree.specs.StaticRules.{breaks}
-use Rattle.es_tree.specs.Tree.{Tree, Label, Fields, tree_size}
-use Rattle.es_tree.specs.Walks.{any_in_trees}
+use Rattle.es_tree.specs.Tree.{Tree, Label, Fields, done, ◌then◌, statements, label_of, tree_size, trees}
+use Rattle.es_tree.specs.Walks.{any_in_fields, any_in_trees, any_node}
+use Rattle.es_tree.specs.Words.{Text}
 use Rattle.es_tree.specs.declared.ast_type.AstType.{AstType}
-use Rattle.es_tree.specs.declared.options.Assumptions.{Assumptions}
 use Rattle.es_tree.specs.declared.options.EnvOptions.{EnvOptions}
+use Rattle.es_tree.specs.declared.table.Sort.TheVariants.{Program as s-Program}
+use Rattle.es_tree.proofs.BareForm.{has_form-bare, tree_size-bare}
+use Rattle.es_scope.specs.Contexts.{around_of, made_of, table_of, uses_of}
+use Rattle.es_scope.specs.declared.scoping.Scoping.{Scoping}
+use Rattle.es_semantic.specs.TableOf.{IsTableOf}
+use Rattle.es_scope.specs.declared.context.TraverseCtx.{TraverseCtx}
+use Rattle.es_semantic.specs.ReferencesOf.{marked_program}
+use Rattle.es_semantic.specs.SymbolsOf.{symbol_in, symbols_of}
+use Rattle.es_semantic.proofs.MarkedProgram.{bare-marked-program}
 use Rattle.es_statements.specs.ProgramPlain.{plain_program}
 use Rattle.es_statements.specs.declared.program.Program.{Program}
-use Rattle.es_runs.specs.Alike.{Need, all_of_it}
-use Rattle.es_runs.specs.Open.{nothing_pending, opened}
-use Rattle.es_runs.specs.OpenRules.{rule_under}
-use Rattle.es_runs.specs.OptionalChaining.{is_chain_kind}
-use Rattle.es_runs.specs.Runs.{RunAlike}
-use Rattle.es_runs.specs.OpenSteps.{Whole, Ledger, ledger, whole_of, Spot, Step, Steps, Reached}
+use Rattle.es_resolution.specs.Declarations.{Bound}
+use Rattle.es_resolution.specs.Laws.{source}
+use Rattle.es_resolution.specs.Seen.{seen, seen_among}
 use Rattle.es_runs.specs.Weights.{weight}
-use Rattle.es_runs.proofs.OpenLaws.{law_reached_proof, law_reached_bindings_proof}
-use Rattle.es_runs.proofs.StaticLaws.{law_reached_rules_proof}
-use Rattle.es_runs.proofs.StaticMarks.{tidy_source}
-use Rattle.es_runs.proofs.Weights.{size-weight, weight-size}
-use Rattle.es_visit.specs.Laws.{body_of}
-use Rattle.es_visit.specs.Moments.{Moment, IsFinished, heft, is_inert, HasRoom}
-use Rattle.es_visit.specs.Visits.{VisitedProgram}
+use Rattle.es_runs.proofs.Weights.{size-weight}
+use Rattle.es_steps.specs.CoreBridge.{Reached, first_whole, is_written_name, names_among}
+use Rattle.es_steps.specs.CoreRules.{rule_under}
+use Rattle.es_steps.specs.Open.{Open, Pending, nothing_pending, no_additions, opened}
+use Rattle.es_steps.specs.Steps.{Ledger, ledger, Site, Spot, Step, Steps, Whole, the_program}
+use Rattle.es_steps.specs.Steps.Steps.{stays}
+use Rattle.es_runs.proofs.Named.{or_first}
+use Rattle.es_steps.proofs.BridgeInclusion.{all_under}
+use Rattle.es_changes.specs.Changes.{HasRoom, heft, open_program}
+use Rattle.es_changes.specs.Conditions.{holds_after}
+use Rattle.es_changes.specs.Fits.{Fits}
+use Rattle.es_changes.specs.Moments.{Moment, top, whole_at}
+use Rattle.es_conditions.specs.CoreConditions.{core_conditions}
+use Rattle.es_traverse.specs.ContextMoments.{bound_names}
+use Rattle.es_traverse.specs.Laws.{KeptVisited}
+use Rattle.es_traverse.specs.Loads.{load}
+use Rattle.es_traverse.specs.Visits.{VisitedProgram}
+use Rattle.es_traverse.proofs.LoadParts.{load-size}
 use Rattle.es_visit.specs.declared.hook.Hook.TheVariants.{Expression}
-use Rattle.es_visit.proofs.Whole.{reached_whole}
-use Rattle.lower_editions.specs.LogicalAssignments.{is_lowerable_logical_assignment}
-use Rattle.lower_editions.specs.NullishCoalescings.{is_lowerable_nullish_coalescing}
-use Rattle.lower_editions.specs.Exponentiations.{is_lowerable_exponentiation}
+use Rattle.es_unsupported.specs.FirstUnsupported.{first_unsupported}
+use Rattle.es_starts.specs.Contexts.{IsNew}
+use Rattle.es_starts.specs.Starts.{IsFirst}
+use Rattle.es_starts.proofs.FirstConditions.{law_first_conditions_proof}
+use Rattle.es_starts.proofs.FirstContext.{first-of-context}
+use Rattle.es_starts.proofs.FirstFits.{law_fits_proof}
+use Rattle.es_starts.proofs.FirstTable.{law_first_of_table_proof}
+use Rattle.es_reached.specs.Reached.{IsResult}
+use Rattle.es_reached.proofs.Results.{law_core_result_proof, law_first_proof, law_result_proof}
+use Rattle.es_reached.proofs.BarePlaces.{law_bare_places_proof}
+use Rattle.es_reached.proofs.Sources.{law_bare_seen_proof, law_bare_source_proof}
+use Rattle.lower_temporaries.specs.Takings.{moment_of, pending_of}
+use Rattle.lower_temporaries.specs.declared.state.TransformState.{TransformState}
 use Rattle.lower_driver.specs.Copies.{IsCopy}
 use Rattle.lower_driver.specs.Lowers.{Lowers}
-use Rattle.lower_driver.specs.Rules.{is_lowered_under}
-use Rattle.lower_driver.specs.Visits.{IsVisit, visit_profile}
-use Rattle.lower_driver.proofs.Built.{copied-enabled, enabled-built}
-use Rattle.lower_driver.proofs.Canonical.{same_canonical}
-use Rattle.lower_driver.proofs.Contexts.{IsFirst, start_same}
-use Rattle.lower_driver.proofs.Marked.{same_size, same_whole}
-use Rattle.lower_editions.proofs.NoneLeft.{settled_reached}
-use Rattle.lower_driver.proofs.NoneLeft.{none_written}
-use Rattle.lower_driver.proofs.Rules.{reached_under, unchanged}
+use Rattle.lower_driver.specs.Visits.{visit_profile}
+use Rattle.lower_driver.proofs.BareConstructs.{same-constructs}
+use Rattle.lower_driver.proofs.CopiedOptions.{copied-enabled, copied-reached, copied-unbuilt}
+use Rattle.lower_driver.specs.Constructs.{is_lowered_construct}
+use Rattle.lower_driver.proofs.NoneLeft.{enabled-built, none-written}
+use Rattle.lower_driver.proofs.Settled.{tree-settled}
 
--- WHAT A LOWERING MAY COUNT ON
+-- THE FIRST MOMENT
 
--- the weight of the program that the visit begins with
-first_weight : (p : Tree) (x : Program) → bare (plain_program x) ≡ bare p → weight (plain_program x) ≤ 61 * tree_size p
-first_weight p x same = let w = weight-size (plain_program x) in let s = same_size p (plain_program x) same in omega (arith, w, s)
+swapped : (a b : Bool) → (a || b) ≡ (b || a)
+swapped true true = refl
+swapped true false = refl
+swapped false true = refl
+swapped false false = refl
 
-first_heft : (p : Tree) (a : Moment) → IsFirst p a → heft a ≡ tree_size p
-first_heft p a first = rw (first.start.lists, first.start.others, first.next) (omega arith)
+module _ (p : Tree) (ctx : TraverseCtx TransformState) (new : IsNew p pending_of ctx) where
+  first : IsFirst p (moment_of ctx)
+  first = first-of-context p pending_of ctx new
 
-pub first_room : (p : Tree) (a : Moment) (x : Program) → IsFirst p a → bare (plain_program x) ≡ bare p → tree_size p < 2 ^ 20 → HasRoom a (weight (plain_program x))
-first_room p a x first same small = let h = first_heft p a first in let w = first_weight p x same in omega (arith, h, w, small)
+  -- what is known of the whole is what the first step sees
+  whole-first : whole_at (moment_of ctx) ≡ first_whole p
+  whole-first =
+      let t = law_first_of_table_proof p (table_of ctx) new.table in
+      law_first_proof p (whole_at (moment_of ctx)) (record {
+        in_use = λ x. first.in_use x ∙ swapped (is_written_name x) (is_among (names_of p) x);
+        steady = t.steady;
+        free_symbol = t.count;
+        called = t.names;
+        made = first.made;
+      })
 
-pub first_inert : (p : Tree) (a : Moment) → IsFirst p a → is_inert a ≡ true
-first_inert p a first = rw (first.start.lists, first.start.others) refl
+  pub first-heft : ctx.ast.next ≡ tree_size p → heft (moment_of ctx) ≡ tree_size p
+  first-heft next = rw (first.lists, next) (omega arith)
 
--- WHAT THE SOURCE BECOMES
+  -- there is room for all that can be made
+  pub first-room : (x : Program) → bare (plain_program x) ≡ bare p → ctx.ast.next ≡ tree_size p → tree_size p < 2 ^ 20 → HasRoom (moment_of ctx) (load (plain_program x))
+  first-room x same next small =
+      let h = first-heft next in
+      let w = load-size (plain_program x) in
+      let s : tree_size (plain_program x) ≡ tree_size p = sym (tree_size-bare (plain_program x)) ∙ ap tree_size same ∙ tree_size-bare p in
+      omega (arith, h, w, s, small)
 
--- what is reached from a source is reached from one that is equal but for ids and marks
-reached_same : (R : Need → Ledger → Spot → Ledger → Spot → Type 0) (p q r : Tree) (names : List Text) → bare q ≡ bare p → Reached R q names r → Reached R p names r
-reached_same R p q r names same h = record {
-  whole = h.whole;
-  steps = subst (λ (w : Whole). Steps (Step R all_of_it) (ledger w nothing_pending) (opened (bare p)) (ledger h.whole nothing_pending) (opened (bare r))) (same_whole p q same)
-      (subst (λ (t : Tree). Steps (Step R all_of_it) (ledger (whole_of q) nothing_pending) (opened t) (ledger h.whole nothing_pending) (opened (bare r))) same h.steps);
-  made = h.made;
-  others = h.others;
+-- a context that was made of the table and the program with its marks is new
+pub new-context : (p q : Tree) (s : Scoping) (ctx : TraverseCtx TransformState) → q ≡ marked_program p → IsTableOf p s → around_of ctx ≡ [] → ((x : Text) → uses_of ctx x ≡ is_among (names_of q) x) → made_of ctx ≡ [] → ctx.state.var_declarations ≡ nothing_pending ∷ [] → table_of ctx ≡ s → IsNew p pending_of ctx
+new-context p q s ctx marks table place in_use none_made pending is_table = record {
+  table = subst (IsTableOf p) (sym is_table) table;
+  around = place;
+  in_use = λ x. in_use x ∙ ap (λ (t : Tree). is_among (names_of t) x) marks;
+  made = none_made;
+  lists = pending;
 }
 
-pub lowers : (o : EnvOptions) (p : Tree) (a b : Moment) (x y : Program) → asks_for_unbuilt o ≡ false → IsCoreProgram p → breaks p ≡ [] → bare (plain_program x) ≡ bare p → IsFirst p a → IsVisit o a x b y → Lowers o p (plain_program y) b.made
-lowers o p a b x y off core kept same first visit =
-    let begun = reached_whole x y visit.changed (start_same p (plain_program x) a same first.start) visit.finished in
-    let reached : Reached (rule_under o) p b.made (plain_program y) = reached_same (rule_under o) p (plain_program x) (plain_program y) b.made same begun in
-    let no_all = o.assumptions.no_document_all in
-    let by_core = reached_under o p (plain_program y) b.made reached in
-    let keeps : breaks (plain_program y) ≡ [] = law_reached_rules_proof no_all p (plain_program y) b.made core kept by_core in
+-- the program with its marks has form where the program has
+pub marked-form : (p q : Tree) → q ≡ marked_program p → has_form s-Program p ≡ true → has_form s-Program q ≡ true
+marked-form p q marks form = sym (has_form-bare s-Program q) ∙ ap (has_form s-Program) (ap bare marks ∙ bare-marked-program p) ∙ has_form-bare s-Program p ∙ form
+
+-- NAMES
+
+names-bound : (free : ℕ) (xs : List Text) → names_among (bound_names free xs) ≡ xs
+names-bound free [] = refl
+names-bound free (x ∷ xs) = ap (λ ys. x ∷ ys) (names-bound free xs)
+
+-- RULES
+
+by-options : (o : EnvOptions) (n : Site) (s : Ledger) (x : Spot) (s' : Ledger) (y : Spot) → (visit_profile o).rule n s x s' y → rule_under o n s x s' y
+by-options o n s x s' y (inl (inl w)) = inl w
+by-options o n s x s' y (inl (inr w)) = inr (inl w)
+by-options o n s x s' y (inr r) = inr (inr r)
+
+-- the constructs that the hooks remove, in another grouping
+grouped : (a b c d : Bool) → (false || (a || ((b || c) || d))) ≡ (a || b || c || d)
+grouped true b c d = refl
+grouped false true c d = refl
+grouped false false c d = refl
+
+-- STEPS
+
+module _ (names : ℕ → Text → Option ℕ) where
+  opened-there : (x : Program) (q : Pending) → q ≡ nothing_pending → open_program q (seen names (plain_program x)) ≡ opened (seen names (plain_program x))
+  opened-there x q e = ap (λ (r : Pending). open_program r (seen names (plain_program x))) e
+
+module _ (c : EnvOptions) (p : Tree) (ctx ctx' : TraverseCtx TransformState) (x y : Program) (new : IsNew p pending_of ctx) (form : has_form s-Program p ≡ true) (right : breaks p ≡ []) (taken : first_unsupported c p ≡ None) (marked : plain_program x ≡ marked_program p) where
+  abbrev pub names : ℕ → Text → Option ℕ
+  names = symbol_in (symbols_of p)
+
+  abbrev pub result : Tree
+  result = seen names (plain_program y)
+
+  there : seen names (plain_program x) ≡ source p
+  there = ap (seen names) marked
+
+  begun : IsFirst p (moment_of ctx)
+  begun = first p ctx new
+
+  fits : Fits (moment_of ctx) the_program (seen names (plain_program x))
+  fits = subst (λ (t : Tree). Fits (moment_of ctx) the_program t) (sym there) (law_fits_proof p (moment_of ctx) form right begun)
+
+  known : holds_after (core_conditions c) the_program (seen names (plain_program x))
+  known = subst (λ (t : Tree). holds_after (core_conditions c) the_program t) (sym there) (law_first_conditions_proof c p form right taken)
+
+  visited-reached : VisitedProgram (visit_profile c) (moment_of ctx) (seen names (plain_program x)) (moment_of ctx') result → top (moment_of ctx').lists ≡ nothing_pending → Reached (rule_under c) p (first_whole p) (made_of ctx') result
+  visited-reached visited finished =
+      let a = moment_of ctx in
+      let b = moment_of ctx' in
+      let R = (visit_profile c).rule in
+      let start : top a.lists ≡ nothing_pending = ap top begun.lists in
+      let steps = visited.stepped start fits known in
+      let before : open_program (top a.lists) (seen names (plain_program x)) ≡ opened (source p) = opened-there names x (top a.lists) start ∙ ap opened there in
+      let after : open_program (top b.lists) result ≡ opened result = opened-there names y (top b.lists) finished in
+      let whole = whole-first p ctx new in
+      record {
+        whole = whole_at b;
+        steps = all_under R (rule_under c) (by-options c) (subst (λ (z : Type 0). z) (λ i. Steps (Step R the_program) (ledger (whole i) nothing_pending None no_additions) (before i) (ledger (whole_at b) nothing_pending None no_additions) (after i)) steps);
+        made = names-bound (whole_at b).free_symbol (made_of ctx');
+      }
+
+  -- WHAT THE SOURCE BECOMES
+
+  written : bare result ≡ bare (plain_program y)
+  written = law_bare_seen_proof names (plain_program y)
+
+  formed : has_form s-Program (seen names (plain_program x)) ≡ true
+  formed = sym (has_form-bare s-Program (seen names (plain_program x))) ∙ ap (has_form s-Program) (ap bare there ∙ law_bare_source_proof p) ∙ has_form-bare s-Program p ∙ form
+
+  free-there : VisitedProgram (visit_profile c) (moment_of ctx) (seen names (plain_program x)) (moment_of ctx') result → any_in_trees (is_lowered_construct c) (seen_among names (trees y.body.items)) ≡ false
+  free-there visited =
+      let start : top (moment_of ctx).lists ≡ nothing_pending = ap top begun.lists in
+      let none : any_in_fields ((visit_profile c).constructs Expression) (statements (seen_among names (trees y.body.items)) then done) ≡ false = visited.free start fits known Expression in
+      let same : (visit_profile c).constructs Expression ≡ is_lowered_construct c = λ i k l fs. grouped (c.es2021.logical_assignment_operators && is_lowered_assignment k l fs) (c.es2020.nullish_coalescing_operator && is_nullish_coalescing k l fs) (c.es2020.optional_chaining && is_chain k l fs) (c.es2016.exponentiation_operator && is_lowered_power k l fs) i in
+      or_first (any_in_trees (is_lowered_construct c) (seen_among names (trees y.body.items))) false (ap (λ (test : AstType → Label → Fields → Bool). any_in_fields test (statements (seen_among names (trees y.body.items)) then done)) (sym same) ∙ none)
+
+  -- what is written has form and keeps the rules of places, so that no target is left that the lowerings don't take
+  none-left : asks_for_unbuilt c ≡ false → has_form s-Program (plain_program y) ≡ true → place_breaks (plain_program y) ≡ [] → VisitedProgram (visit_profile c) (moment_of ctx) (seen names (plain_program x)) (moment_of ctx') result → has_enabled_construct c (plain_program y) ≡ false
+  none-left unbuilt form' kept visited =
+      let lowered = none-written c (label_of (seen names (plain_program x))) (label_of result) (seen_among names (trees x.directives.items)) (seen_among names (trees y.directives.items)) (seen_among names (trees x.body.items)) (seen_among names (trees y.body.items)) formed visited.directives (free-there visited) in
+      let form'' = sym (has_form-bare s-Program result) ∙ ap (has_form s-Program) written ∙ has_form-bare s-Program (plain_program y) ∙ form' in
+      let keeps = (law_places_proof result).to_places (law_bare_places_proof (plain_program y) result (sym written) kept) in
+      same-constructs c result (plain_program y) (sym written) ∙ enabled-built c unbuilt result ∙ tree-settled c s-Program [] result form'' keeps lowered
+
+  size-left : ctx.ast.next ≡ tree_size p → KeptVisited 0 (moment_of ctx) (plain_program x) (moment_of ctx') (plain_program y) → tree_size (plain_program y) ≤ 64 * tree_size p + 64
+  size-left next kept =
+      let h = first-heft p ctx new next in
+      let l = kept.lighter in
+      let w = load-size (plain_program x) in
+      let s : tree_size (plain_program x) ≡ tree_size p = ap tree_size marked ∙ (sym (tree_size-bare (marked_program p)) ∙ ap tree_size (bare-marked-program p) ∙ tree_size-bare p) in
+      let m = size-weight (plain_program y) in
+      omega (arith, h, l, w, s, m)
+
+  -- by the context's own options, which are those of the run
+  pub lowers : (o : EnvOptions) → IsCopy o c → asks_for_unbuilt o ≡ false → has_enabled_construct o p ≡ true → ctx.ast.next ≡ tree_size p → KeptVisited 0 (moment_of ctx) (plain_program x) (moment_of ctx') (plain_program y) →
+      VisitedProgram (visit_profile c) (moment_of ctx) (seen names (plain_program x)) (moment_of ctx') result → top (moment_of ctx').lists ≡ nothing_pending → Lowers o p (plain_program y) (made_of ctx')
+  lowers o copy unbuilt some next kept visited finished =
+      let reached = copied-reached o c copy p result (first_whole p) (made_of ctx') (visited-reached visited finished) in
+      let becomes = law_result_proof o p (plain_program y) result (made_of ctx') form right reached written in
+      record {
+        result = becomes;
+        none = sym (copied-enabled o c copy (plain_program y)) ∙ none-left (copied-unbuilt o c copy ∙ unbuilt) becomes.form becomes.kept visited;
+        core = λ core. law_core_result_proof o p (plain_program y) (made_of ctx') core right becomes;
+        unchanged = λ none. absurd (true≢false (sym some ∙ none));
+        size = size-left next kept;
+      }
+
+-- A program in which no construct stands that the options ask to lower becomes itself.
+pub becomes-itself : (o : EnvOptions) (p : Tree) → has_form s-Program p ≡ true → breaks p ≡ [] → has_enabled_construct o p ≡ false → Lowers o p p []
+becomes-itself o p form right none =
+    let becomes = law_result_proof o p p (source p) [] form right (record { whole = first_whole p; steps = stays; made = refl }) (law_bare_source_proof p) in
     record {
-      reached = reached;
-      none = enabled-built o off (plain_program y) ∙ none_written o p x y core same (settled_reached no_all p (plain_program y) b.made core kept by_core) visit.directives visit.free;
-      alike = law_reached_proof no_all p (plain_program y) b.made core (tidy_source p core kept) by_core;
-      bindings = law_reached_bindings_proof no_all p (plain_program y) b.made core by_core;
-      kept = keeps;
-      unchanged = λ asked.
-          let u = unchanged o p (plain_program y) b.made core.core reached (sym (enabled-built o off p) ∙ asked) in
-          record { same = same_canonical p (plain_program y) u.tree; no_names = u.none_made };
-      size =
-          let s = size-weight (plain_program y) in
-          let l = visit.changed.lighter in
-          let h = first_heft p a first in
-          let w = first_weight p x same in
-          omega (arith, s, l, h, w);
-    }
-
-or_regrouped : (a b c d : Bool) → (a || b || c || d) ≡ (a || (b || c || d))
-or_regrouped true b c d = refl
-or_regrouped false b c d = refl
-
--- what the visit by its type leaves no node of
-lowered_rows : (o : EnvOptions) → is_lowered_under o ≡ (visit_profile o).constructs Expression
-lowered_rows o = λ i k l fs.
-    or_regrouped (o.es2021.logical_assignment_operators && is_lowerable_logical_assignment k l fs) (o.es2020.nullish_coalescing_operator && is_lowerable_nullish_coalescing k l fs) (o.es2020.optional_chaining && is_chain_kind k)
-    (o.es2016.exponentiation_operator && is_lowerable_exponentiation k l fs) i
-
--- the visit by its type
-pub visit_by_type : (o : EnvOptions) (a b : Moment) (x y : Program) → VisitedProgram (visit_profile o) a x b y → IsFinished b → IsVisit o a x b y
-visit_by_type o a b x y visited finished = record { changed = visited.changed; directives = visited.directives; free = ap (λ (test : AstType → Label → Fields → Bool). any_in_trees test (body_of y)) (lowered_rows o) ∙ visited.free Expression; finished = finished }
-
--- options that are the same
-pub lowers_same : (o c : EnvOptions) (p q : Tree) (names : List Text) → IsCopy o c → Lowers c p q names → Lowers o p q names
-lowers_same o c p q names copy h =
-    let rule : rule_under c ≡ rule_under o = λ i. rule_under (record c { es2016 = copy.es2016 i; es2020 = copy.es2020 i; es2021 = copy.es2021 i; assumptions = copy.assumptions i }) in
-    record {
-      reached = subst (λ (R : Need → Ledger → Spot → Ledger → Spot → Type 0). Reached R p names q) rule h.reached;
-      none = sym (copied-enabled o c copy q) ∙ h.none;
-      alike = subst (λ (a : Assumptions). RunAlike a.no_document_all p q) copy.assumptions h.alike;
-      bindings = h.bindings;
-      kept = h.kept;
-      unchanged = λ asked. h.unchanged (copied-enabled o c copy p ∙ asked);
-      size = h.size;
+      result = becomes;
+      none = none;
+      core = λ core. law_core_result_proof o p p [] core right becomes;
+      unchanged = λ asked. record { same = refl; no_names = refl };
+      size = omega arith;
     }

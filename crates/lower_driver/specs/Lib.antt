@@ -1,7 +1,7 @@
 pub mod Copies
+pub mod Constructs
 pub mod Lowered
 pub mod Lowers
-pub mod Rules
 pub mod UnsupportedPrograms
 pub mod Sources
 pub mod Visits

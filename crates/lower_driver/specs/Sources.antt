@@ -8,10 +8,10 @@ use Rattle.es_tree.specs.Options.{first_fault}
 use Rattle.es_tree.specs.StaticRules.{breaks, IsFirstBreak}
 use Rattle.es_tree.specs.declared.error.LowerError.{LowerError}
 use Rattle.es_tree.specs.declared.error.LowerError.TheVariants.{Json, Option as e-Option, TooLarge, TooDeep, Shape, Invalid, Unsupported, OutOfMemory}
-use Rattle.es_tree.specs.declared.error.UnsupportedKind.TheVariants.{MathBound, NotBuilt}
+use Rattle.es_tree.specs.declared.error.UnsupportedKind.{UnsupportedKind}
 use Rattle.es_tree.specs.declared.ids.NodeId.{NodeId}
 use Rattle.es_tree.specs.declared.options.EnvOptions.{EnvOptions}
-use Rattle.lower_driver.specs.UnsupportedPrograms.{first_math_bound, first_not_built}
+use Rattle.es_unsupported.specs.FirstUnsupported.{first_unsupported}
 use Rattle.es_json.specs.Programs.{IsProgramForm, IsRefusal}
 
 -- VALUES
@@ -28,22 +28,13 @@ pub record IsBrokenValue (v : Data) (error : LowerError) : Type 0 where
   pub source : IsSource v program
   pub first : IsFirstBreak (breaks program) error
 
--- the value is the form of a program that keeps the static rules, in which a construct stands that these options ask to lower, and
--- whose first node, in node order, that no core program has is this
-pub record IsValueBeyondCore (o : EnvOptions) (v : Data) (id : NodeId) : Type 0 where
+-- the value is the form of a program that keeps the static rules, whose first node, in node order, that a run under these options doesn't
+-- take is this, for this shape
+pub record IsUnsupportedValue (o : EnvOptions) (v : Data) (kind : UnsupportedKind) (id : NodeId) : Type 0 where
   pub program : Tree
   pub source : IsSource v program
   pub kept : breaks program ≡ []
-  pub first : first_not_built o program ≡ Some id.0
-
--- the value is the form of a program that keeps the static rules and isn't such a one, and these options ask to lower an
--- exponentiation where it binds `Math`, first of all at this node
-pub record IsValueWithMath (o : EnvOptions) (v : Data) (id : NodeId) : Type 0 where
-  pub program : Tree
-  pub source : IsSource v program
-  pub kept : breaks program ≡ []
-  pub built : first_not_built o program ≡ None
-  pub first : first_math_bound o program ≡ Some id.0
+  pub first : first_unsupported o program ≡ Some (kind, id.0)
 
 -- Why a value is refused, whatever the options are. Causes are told in this order: too many objects, nested too deep, a place
 -- without form, a broken rule.
@@ -54,12 +45,10 @@ IsValueCause v (Shape path) = IsRefusal v (Shape path)
 IsValueCause v (Invalid rule id) = IsBrokenValue v (Invalid rule id)
 IsValueCause v _ = ⊥
 
--- The same where a run has options: what they ask for that isn't done comes first. What their lowerings don't take comes last: a
--- construct in a program that isn't core, and then an exponentiation where `Math` is bound.
+-- The same where a run has options: what they ask for that isn't done comes first, and what their lowerings don't take last.
 abbrev pub IsValueCauseUnder : EnvOptions → Data → LowerError → Type 0
 IsValueCauseUnder o v (e-Option name) = first_fault o ≡ Some name
-IsValueCauseUnder o v (Unsupported NotBuilt id) = (first_fault o ≡ None) × IsValueBeyondCore o v id
-IsValueCauseUnder o v (Unsupported MathBound id) = (first_fault o ≡ None) × IsValueWithMath o v id
+IsValueCauseUnder o v (Unsupported kind id) = (first_fault o ≡ None) × IsUnsupportedValue o v kind id
 IsValueCauseUnder o v error = (first_fault o ≡ None) × IsValueCause v error
 
 -- the cause of a refusal, or want of memory

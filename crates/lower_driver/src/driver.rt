@@ -1,8 +1,7 @@
 //! One run: a program is read, checked, visited once by the lowerings that its options ask for, and written.
-ghost use Rattle.std.specs.Prelude.{◌≡◌, ◌<◌, ◌∷◌, ◌^◌, [], IfErr, IfOk, None, false, true};
+ghost use Rattle.std.specs.Prelude.{◌≡◌, ◌<◌, ◌∷◌, ◌^◌, [], IfErr, IfOk, None, map, string_bytes, true};
 ghost use Rattle.serde_json.specs.View.{view};
 ghost use Rattle.es_tree.specs.Constructs.{has_enabled_construct};
-ghost use Rattle.es_tree.specs.Core.{IsCoreProgram};
 ghost use Rattle.es_tree.specs.Fresh.{is_among};
 ghost use Rattle.es_tree.specs.HasForm.{has_form};
 ghost use Rattle.es_tree.specs.Names.{names_of};
@@ -12,33 +11,34 @@ ghost use Rattle.es_tree.specs.Tree.{kind_of, tree_size};
 ghost use Rattle.es_tree.specs.Words.{Text};
 ghost use Rattle.es_tree.specs.declared.ast_type.AstType.TheVariants.{Program as k-Program};
 ghost use Rattle.es_tree.specs.declared.table.Sort.TheVariants.{Program as s-Program};
-ghost use Rattle.es_runs.specs.Open.{nothing_pending};
 ghost use Rattle.es_scope.specs.Contexts.{BindsNamesOf, around_of, made_of, table_of, uses_of};
+ghost use Rattle.es_steps.specs.Open.{nothing_pending};
+ghost use Rattle.es_unsupported.specs.FirstUnsupported.{first_unsupported};
 ghost use Rattle.lower_driver.specs.Copies.{IsCopy};
 ghost use Rattle.lower_driver.specs.Lowered.{IsLoweredTree, IsLoweredValue};
-ghost use Rattle.lower_driver.specs.UnsupportedPrograms.{IsMathBoundOrMemory, IsTreeCauseOrMemory, IsUnsupportedOrMemory};
+ghost use Rattle.lower_driver.specs.Lowers.{Lowers};
 ghost use Rattle.lower_driver.specs.Sources.{IsCauseOrMemory, IsValueCauseOrMemory, ReadsAs};
+ghost use Rattle.lower_driver.specs.UnsupportedPrograms.{IsTreeCauseOrMemory, IsUnsupportedOrMemory};
 
 use crate::copies::copy_options;
 use crate::reading::{read_bytes, read_source};
-use crate::unsupported::find_unsupported;
 use crate::visiting::visit;
 use es_json::program::ReadProgram;
 use es_json::writer::write_program;
 use es_nodes::construct::has_enabled_construct;
-use es_nodes::core_grammar::first_not_core;
 use es_scope::context::TraverseCtx;
 use es_scope::scoping::Scoping;
 use es_semantic::building::build_scoping;
 use es_statements::program::Program;
 use es_tree::builder::AstBuilder;
-use es_tree::error::{LowerError, UnsupportedKind};
+use es_tree::error::LowerError;
 use es_tree::kind::Kind;
 use es_tree::node::Node;
 use es_tree::operators::SourceType;
 use es_tree::options::{EnvOptions, options_fault};
-use lower_common::state::TransformState;
-use lower_common::warning::Warning;
+use es_unsupported::finding::find_unsupported;
+use lower_temporaries::state::TransformState;
+use lower_temporaries::warning::Warning;
 use lower_editions::es2020::ES2020;
 use serde_json::Value;
 use std::alloc::{AllocError, Global};
@@ -64,16 +64,15 @@ pub struct Lowered {
 }
 
 /// Lowers the program that the value is the form of, as the options ask: its logical assignments, `??`,
-/// optional chains and exponentiations. A program in which no construct stands that they ask to lower comes
-/// back as it is, of whatever kind it is; one with such a construct has to be a core program so far. Where
-/// they ask for warnings of BigInt literals (ECMA-262, 12.9.3), it answers one for each of the source.
+/// optional chains and exponentiations, in programs of every kind. A program in which no construct stands that
+/// they ask to lower comes back as it is. Where they ask for warnings of BigInt literals (ECMA-262, 12.9.3), it
+/// answers one for each of the source.
 ///
 /// Fails for the first of these causes that holds: `Option` where the options ask for what isn't done, with
 /// the name `NotBuilt` where that is a lowering or a warning that isn't built; `TooLarge`, `TooDeep` and
-/// `Shape` as `read_program` has them; `Invalid` as `check_static` has it; `Unsupported(NotBuilt, node)` at
-/// the first node that no core program has, where such a construct stands; `Unsupported(MathBound, node)` at
-/// the first exponentiation that would be lowered, where the program binds `Math`. It fails with
-/// `OutOfMemory` where memory runs out.
+/// `Shape` as `read_program` has them; `Invalid` as `check_static` has it; `Unsupported` at the first node that
+/// the lowerings don't take: `MathBound` an exponentiation that would be lowered where `Math` is bound,
+/// `TagChain` a template whose tag is a chain. It fails with `OutOfMemory` where memory runs out.
 pub fn lower(alloc: Global, source: &Value, options: &EnvOptions) -> Result<Lowered, LowerError>
     ensures lowered { IfOk result (λ lowered. IsLoweredValue options.now (view source.now) lowered) }
     ensures options { IfOk result (λ _. first_fault options.now ≡ None) }
@@ -98,18 +97,17 @@ pub fn lower_bytes(alloc: Global, bytes: &[u8], options: &EnvOptions) -> Result<
     Ok(Lowered { tree, value })
 }
 
-/// The same for a core program that keeps the static rules and was made as a tree. Its ids and marks need
+/// The same for a program that has form and keeps the static rules and was made as a tree. Its ids and marks need
 /// not be those that a read program has.
 ///
-/// Fails for the first of these causes that holds: `Option` as `lower` has it; `Unsupported(MathBound, node)`
-/// at the first exponentiation that would be lowered, where the program binds `Math`. It fails with
-/// `OutOfMemory` where memory runs out.
+/// Fails for the first of these causes that holds: `Option` as `lower` has it; `Unsupported` as `lower` has it. It
+/// fails with `OutOfMemory` where memory runs out.
 pub fn lower_tree(
     alloc: Global,
     read: ReadProgram,
     options: &EnvOptions,
 ) -> Result<LoweredTree, LowerError>
-    requires core { IsCoreProgram read.program }
+    requires form { has_form s-Program read.program ≡ true }
     requires kept { breaks read.program ≡ [] }
     requires size { tree_size read.program < 2 ^ 20 }
     requires next { read.ast.next ≡ tree_size read.program }
@@ -120,12 +118,12 @@ pub fn lower_tree(
     if let Some(name) = options_fault(options) {
         return Err(LowerError::Option(name));
     }
-    let lowered = lower_core(alloc, read, options)?;
+    let lowered = lower_program(alloc, read, options)?;
     Ok(lowered)
 }
 
 /// What a program that keeps the static rules becomes under options that ask for nothing that isn't done. Fails
-/// where it isn't core and a construct stands in it that they ask to lower, and else as `lower_core` does.
+/// where it has a shape that the lowerings don't take, and where memory runs out.
 fn lower_program(
     alloc: Global,
     read: ReadProgram,
@@ -139,55 +137,42 @@ fn lower_program(
     ensures lowered { IfOk result (λ lowered. IsLoweredTree options.now read.program lowered) }
     ensures cause { IfErr result (λ error. IsUnsupportedOrMemory options.now read.program error) }
 {
-    let Some(node) = first_not_core(&read.program) else {
-        return lower_core(alloc, read, options);
-    };
-    if has_enabled_construct(&read.program, options) {
-        return Err(LowerError::Unsupported(UnsupportedKind::NotBuilt, node));
+    let warnings = ES2020::warnings(alloc, &options.es2020, &read.program)?;
+    if !has_enabled_construct(&read.program, options) {
+        return Ok(LoweredTree {
+            program: read.program,
+            warnings,
+            temporaries: Vec::new(alloc),
+        });
     }
-    let lowered = left_as_it_is(alloc, read.program, options)?;
-    Ok(lowered)
-}
-
-/// A program in which no construct stands that the options ask to lower, and its warnings. Fails only where
-/// memory runs out.
-fn left_as_it_is(
-    alloc: Global,
-    program: Node,
-    options: &EnvOptions,
-) -> Result<LoweredTree, AllocError>
-    requires none { has_enabled_construct options.now program ≡ false }
-    requires kept { breaks program ≡ [] }
-    ensures { IfOk result (λ lowered. IsLoweredTree options.now program lowered) }
-{
-    let warnings = ES2020::warnings(alloc, &options.es2020, &program)?;
+    let (program, temporaries) = lower_constructs(alloc, read, options)?;
     Ok(LoweredTree {
         program,
         warnings,
-        temporaries: Vec::new(alloc),
+        temporaries,
     })
 }
 
-/// What a core program that keeps the static rules becomes under options that ask for nothing that isn't
-/// done. Fails where it has a shape that no lowering takes, and where memory runs out.
-fn lower_core(
+/// The program with its constructs lowered, and the names that were made. Fails as `lower_program` does.
+fn lower_constructs(
     alloc: Global,
     read: ReadProgram,
     options: &EnvOptions,
-) -> Result<LoweredTree, LowerError>
-    requires core { IsCoreProgram read.program }
+) -> Result<(Node, Vec<String>), LowerError>
+    requires form { has_form s-Program read.program ≡ true }
     requires kept { breaks read.program ≡ [] }
+    requires some { has_enabled_construct options.now read.program ≡ true }
     requires size { tree_size read.program < 2 ^ 20 }
     requires next { read.ast.next ≡ tree_size read.program }
     requires carried { first_fault options.now ≡ None }
-    ensures lowered { IfOk result (λ lowered. IsLoweredTree options.now read.program lowered) }
-    ensures cause { IfErr result (λ error. IsMathBoundOrMemory options.now read.program error) }
+    ensures lowers { IfOk result (λ made. Lowers options.now read.program made.0 (map string_bytes made.1.items)) }
+    ensures taken { IfOk result (λ _. first_unsupported options.now read.program ≡ None) }
+    ensures cause { IfErr result (λ error. IsUnsupportedOrMemory options.now read.program error) }
 {
     let ReadProgram {
         program: mut source,
         ast,
     } = read;
-    let warnings = ES2020::warnings(alloc, &options.es2020, &source)?;
     let scoping = build_scoping(alloc, &mut source)?;
     if let Some((kind, node)) = find_unsupported(&source, &scoping, options) {
         return Err(LowerError::Unsupported(kind, node));
@@ -196,11 +181,7 @@ fn lower_core(
     let mut program = Program::open(source);
     visit(&mut program, &mut ctx)?;
     let program = program.close(alloc)?;
-    Ok(LoweredTree {
-        program,
-        warnings,
-        temporaries: ctx.into_uids(),
-    })
+    Ok((program, ctx.into_uids()))
 }
 
 /// The context of the visit of this program, with nothing to declare. Fails only where memory runs out.

@@ -4,5 +4,4 @@
 mod copies;
 pub mod driver;
 mod reading;
-mod unsupported;
 mod visiting;

@@ -1,14 +1,1 @@
-pub mod BareNodes
-pub mod Views
-pub mod NullishCoalescings
-pub mod Switched
-pub mod TwoFields
-pub mod LeafTests
-pub mod LogicalAssignments
-pub mod ExponentiationBare
-pub mod ExponentiationTargets
-pub mod ExponentiationRows
-pub mod ExponentiationHook
-pub mod WellMade
-pub mod NoneLeft
 pub mod Collected

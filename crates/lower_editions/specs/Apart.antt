@@ -1,249 +1,223 @@
--- The lowerings may stand together, in the order of logical assignment, nullish coalescing, optional chaining and
--- exponentiation: the first makes what the second takes away, and none of them makes what one before it does.
-use Rattle.std.proofs.Common.{Bool, ◌≡◌, refl, ap, inl, inr}
-use Rattle.std.proofs.lemmas.Slice.Eq.{bytes_eq-Decides}
-use Rattle.std.specs.Prelude.{true, false, ◌&&◌, bytes_eq, codes}
-use Rattle.es_tree.specs.Names.{first_text}
-use Rattle.es_tree.specs.Parens.{without_parens}
-use Rattle.es_tree.specs.Tree.{Tree, node, Label, Fields, done, ◌then◌, one, kind_of}
-use Rattle.es_tree.specs.declared.ast_type.AstType.TheVariants.{AssignmentExpression, BinaryExpression, ChainExpression, ConditionalExpression, LogicalExpression}
+-- No lowering makes, writes or brings about a construct that one before it takes away, and each counts on what those before it leave.
+use Rattle.std.proofs.Common.{◌≡◌, Bool, ap, refl, sym, true≢false}
+use Rattle.std.specs.Prelude.{true, false, ◌&&◌}
+use Rattle.es_tree.specs.Constructs.{is_chain, is_nullish_coalescing}
+use Rattle.es_tree.specs.Tree.{Tree, node, Label, Fields, fields_of, kind_of, label_of}
+use Rattle.es_tree.specs.declared.ast_type.AstType.{AstType}
+use Rattle.es_tree.specs.declared.ast_type.AstType.TheVariants.{AssignmentExpression, BinaryExpression, CallExpression, ChainExpression, ConditionalExpression, LogicalExpression, SequenceExpression}
 use Rattle.es_tree.specs.declared.options.EnvOptions.{EnvOptions}
-use Rattle.es_runs.specs.LogicalAssignment.{is_logical_assignment_operator}
-use Rattle.es_runs.specs.Open.{closed_fields}
-use Rattle.es_runs.specs.OpenRules.{OpenLogicalAssignment, OpenOptionalChaining, OpenNullishCoalescing, OpenExponentiation, Writing}
-use Rattle.es_runs.proofs.Named.{or_first, or_second}
 use Rattle.es_visit.specs.declared.hook.Hook.{Hook}
 use Rattle.es_visit.specs.declared.hook.Hook.TheVariants.{Expression}
-use Rattle.es_visit.specs.Laws.{AreApart, Profile, both_profile, is_construct}
-use Rattle.es_visit.specs.Moments.{is_inert_node}
-use Rattle.es_visit.specs.Together.{neither, split_fields}
-use Rattle.lower_common.specs.CommonLaws.{common_profile}
-use Rattle.lower_optional_chaining.specs.Chains.{is_left}
-use Rattle.lower_optional_chaining.specs.Lawful.{optional_chaining_stable}
-use Rattle.lower_optional_chaining.specs.Profiles.{optional_chaining_profile, optional_chaining_constructs}
-use Rattle.lower_editions.specs.LogicalAssignments.{is_duplicated_target, is_lowerable_logical_assignment}
-use Rattle.lower_editions.specs.Exponentiations.{is_exponentiation_made}
-use Rattle.lower_editions.specs.Profiles.{logical_assignment_profile, logical_assignment_constructs, optional_chaining_under, nullish_coalescing_profile, nullish_coalescing_constructs, nullish_coalescing_under, exponentiation_profile, exponentiation_constructs, switched}
-use Rattle.lower_editions.specs.Stable.{logical_assignment_calm, logical_assignment_stable, optional_chaining_calm, nullish_coalescing_calm, nullish_coalescing_stable, no_fields_step, exponentiation_calm, exponentiation_stable, writing_calm}
+use Rattle.es_row_laws.specs.Laws.{KeepsConstructs, OfEachRule, is_lowered_assignment, is_lowered_power}
+use Rattle.es_row_laws.proofs.Stable.{law_stable_rows_proof}
+use Rattle.es_changes.specs.Conditions.{Conditions}
+use Rattle.es_conditions.specs.CoreConditions.{core_conditions}
+use Rattle.es_steps.specs.Open.{finished_fields}
+use Rattle.es_steps.specs.Steps.{Ledger, Site, Spot}
+use Rattle.es_traverse.specs.Laws.{AreApart, IsStable, Profile, both_profile, is_construct}
+use Rattle.lower_chains.specs.Profiles.{chain_constructs, chain_profile, is_left}
+use Rattle.lower_exponentiation.specs.Exponentiations.{IsCallOrAssignment}
+use Rattle.lower_exponentiation.specs.Profile.{exponentiation_constructs, exponentiation_profile}
+use Rattle.lower_logical_assignment.specs.Lawful.{assignment_stable}
+use Rattle.lower_logical_assignment.specs.Profile.{logical_assignment_constructs, logical_assignment_profile}
+use Rattle.lower_nullish_coalescing.specs.Lawful.{coalescing_stable}
+use Rattle.lower_nullish_coalescing.specs.Profile.{nullish_coalescing_constructs, nullish_coalescing_profile}
+use Rattle.lower_writing.specs.Writing.{MayBeWritten, common_profile}
+use Rattle.lower_editions.specs.ApartTogether.{AreSeparate, apart, both_separate_from, separate_from_both}
+use Rattle.lower_editions.specs.Editions.{es2016_profile, es2020_profile, es2021_profile}
 
--- WHAT IS MADE
+-- WHAT IS MADE is none of these constructs, where they are on or not
 
-conditional_no_assignment : (h : Hook) (t : Tree) → kind_of t ≡ ConditionalExpression → is_construct (logical_assignment_constructs h) t ≡ false
-conditional_no_assignment Expression (node AssignmentExpression l fs) e = absurd (cc e)
-conditional_no_assignment Expression (node _ l fs) e = refl
-conditional_no_assignment _ t e = refl
+off : (b : Bool) → (b && false) ≡ false
+off true = refl
+off false = refl
 
--- a plain assignment is no logical one
-plain_no_assignment : (l : Label) (fs : Fields) → bytes_eq (first_text l.texts) (codes "=") ≡ true → is_lowerable_logical_assignment AssignmentExpression l fs ≡ false
-plain_no_assignment l (one t then (one r then done)) e =
-    let is : is_logical_assignment_operator (first_text l.texts) ≡ false = ap is_logical_assignment_operator ((bytes_eq-Decides (first_text l.texts) (codes "=")).0 e) in
-    ap (λ b. b && is_duplicated_target (without_parens t)) is
-plain_no_assignment l _ e = refl
+no_coalescing : (on : Bool) (h : Hook) (t : Tree) → is_nullish_coalescing (kind_of t) (label_of t) (fields_of t) ≡ false → is_construct (nullish_coalescing_constructs on h) t ≡ false
+no_coalescing on Expression t e = rw e (off on)
+no_coalescing on _ t e = refl
 
-exponentiation_no_assignment : (h : Hook) (t : Tree) → is_exponentiation_made t ≡ true → is_construct (logical_assignment_constructs h) t ≡ false
-exponentiation_no_assignment Expression (node AssignmentExpression l fs) e = plain_no_assignment l fs e
-exponentiation_no_assignment Expression (node _ l fs) e = refl
-exponentiation_no_assignment _ t e = refl
+no_assignment : (on : Bool) (h : Hook) (t : Tree) → is_lowered_assignment (kind_of t) (label_of t) (fields_of t) ≡ false → is_construct (logical_assignment_constructs on h) t ≡ false
+no_assignment on Expression t e = rw e (off on)
+no_assignment on _ t e = refl
 
-exponentiation_no_nullish_coalescing : (h : Hook) (t : Tree) → is_exponentiation_made t ≡ true → is_construct (nullish_coalescing_constructs h) t ≡ false
-exponentiation_no_nullish_coalescing Expression (node LogicalExpression l fs) e = absurd (cc e)
-exponentiation_no_nullish_coalescing Expression (node _ l fs) e = refl
-exponentiation_no_nullish_coalescing _ t e = refl
+no_chain : (o : EnvOptions) (h : Hook) (t : Tree) → is_chain (kind_of t) (label_of t) (fields_of t) ≡ false → is_construct (chain_constructs o h) t ≡ false
+no_chain o Expression t e = rw e (off o.es2020.optional_chaining)
+no_chain o _ t e = refl
 
-exponentiation_no_chain : (h : Hook) (t : Tree) → is_exponentiation_made t ≡ true → is_construct (optional_chaining_constructs h) t ≡ false
-exponentiation_no_chain Expression (node ChainExpression l fs) e = absurd (cc e)
-exponentiation_no_chain Expression (node _ l fs) e = refl
-exponentiation_no_chain _ t e = refl
+-- a conditional, or a call of one
+left_plain : (t : Tree) → is_left (kind_of t) ≡ true → (is_nullish_coalescing (kind_of t) (label_of t) (fields_of t) ≡ false) × (is_lowered_assignment (kind_of t) (label_of t) (fields_of t) ≡ false)
+left_plain (node ConditionalExpression l fs) e = (refl, refl)
+left_plain (node CallExpression l fs) e = (refl, refl)
+left_plain (node _ l fs) e = absurd (cc e)
 
-left_no_assignment : (h : Hook) (t : Tree) → is_left (kind_of t) ≡ true → is_construct (logical_assignment_constructs h) t ≡ false
-left_no_assignment Expression (node AssignmentExpression l fs) e = absurd (cc e)
-left_no_assignment Expression (node _ l fs) e = refl
-left_no_assignment _ t e = refl
+-- what takes the place of a `??`
+conditional_plain : (t : Tree) → kind_of t ≡ ConditionalExpression → is_lowered_assignment (kind_of t) (label_of t) (fields_of t) ≡ false
+conditional_plain (node ConditionalExpression l fs) e = refl
+conditional_plain (node _ l fs) e = absurd (cc e)
 
-left_no_nullish_coalescing : (h : Hook) (t : Tree) → is_left (kind_of t) ≡ true → is_construct (nullish_coalescing_constructs h) t ≡ false
-left_no_nullish_coalescing Expression (node LogicalExpression l fs) e = absurd (cc e)
-left_no_nullish_coalescing Expression (node _ l fs) e = refl
-left_no_nullish_coalescing _ t e = refl
+-- a call, a sequence, or an assignment by `=`
+power_plain : (t : Tree) → IsCallOrAssignment t → (is_nullish_coalescing (kind_of t) (label_of t) (fields_of t) ≡ false) × (is_chain (kind_of t) (label_of t) (fields_of t) ≡ false) × (is_lowered_assignment (kind_of t) (label_of t) (fields_of t) ≡ false)
+power_plain (node CallExpression l fs) e = (refl, refl, refl)
+power_plain (node SequenceExpression l fs) e = (refl, refl, refl)
+power_plain (node AssignmentExpression l fs) e = (refl, refl, rw e refl)
+power_plain (node _ l fs) e = absurd e
 
--- WHAT IS WRITTEN
+-- what is written for lists and bodies
+written_plain : (t : Tree) → MayBeWritten t → (is_nullish_coalescing (kind_of t) (label_of t) (fields_of t) ≡ false) × (is_chain (kind_of t) (label_of t) (fields_of t) ≡ false) × (is_lowered_assignment (kind_of t) (label_of t) (fields_of t) ≡ false)
+written_plain (node LogicalExpression l fs) w = absurd (true≢false (sym w))
+written_plain (node ChainExpression l fs) w = absurd (true≢false (sym w))
+written_plain (node AssignmentExpression l fs) w = absurd (true≢false (sym w))
+written_plain (node _ l fs) w = (refl, refl, refl)
 
-inert_no_assignment : (h : Hook) (t : Tree) → is_construct is_inert_node t ≡ true → is_construct (logical_assignment_constructs h) t ≡ false
-inert_no_assignment Expression (node AssignmentExpression l fs) w = absurd (cc w)
-inert_no_assignment Expression (node _ l fs) w = refl
-inert_no_assignment _ t w = refl
+written_power : (t : Tree) → MayBeWritten t → is_lowered_power (kind_of t) (label_of t) (fields_of t) ≡ false
+written_power (node BinaryExpression l fs) w = absurd (true≢false (sym w))
+written_power (node AssignmentExpression l fs) w = absurd (true≢false (sym w))
+written_power (node _ l fs) w = refl
 
-inert_no_nullish_coalescing : (h : Hook) (t : Tree) → is_construct is_inert_node t ≡ true → is_construct (nullish_coalescing_constructs h) t ≡ false
-inert_no_nullish_coalescing Expression (node LogicalExpression l fs) w = absurd (cc w)
-inert_no_nullish_coalescing Expression (node _ l fs) w = refl
-inert_no_nullish_coalescing _ t w = refl
+no_power : (on : Bool) (h : Hook) (t : Tree) → is_lowered_power (kind_of t) (label_of t) (fields_of t) ≡ false → is_construct (exponentiation_constructs on h) t ≡ false
+no_power on Expression t e = rw e (off on)
+no_power on _ t e = refl
 
-inert_no_exponentiation : (h : Hook) (t : Tree) → is_construct is_inert_node t ≡ true → is_construct (exponentiation_constructs h) t ≡ false
-inert_no_exponentiation Expression (node AssignmentExpression l fs) w = absurd (cc w)
-inert_no_exponentiation Expression (node BinaryExpression l fs) w = absurd (cc w)
-inert_no_exponentiation Expression (node _ l fs) w = refl
-inert_no_exponentiation _ t w = refl
+-- steps that make no node an exponentiation make none one that is to be lowered
+power_stable : (R : Site → Ledger → Spot → Ledger → Spot → Type 0) → IsStable R is_lowered_power → (on : Bool) (h : Hook) → IsStable R (exponentiation_constructs on h)
+power_stable R stable true Expression = stable
+power_stable R stable false Expression = λ n s s' k l first fs gs stand r e. refl
+power_stable R stable on _ = λ n s s' k l first fs gs stand r e. refl
 
-inert_no_chain : (h : Hook) (t : Tree) → is_construct is_inert_node t ≡ true → is_construct (optional_chaining_constructs h) t ≡ false
-inert_no_chain Expression (node ChainExpression l fs) w = absurd (cc w)
-inert_no_chain Expression (node _ l fs) w = refl
-inert_no_chain _ t w = refl
+-- a chain is told by its kind alone
+chain_stable : (R : Site → Ledger → Spot → Ledger → Spot → Type 0) (o : EnvOptions) (h : Hook) → IsStable R (chain_constructs o h)
+chain_stable R o Expression = λ n s s' k l first fs gs stand r e. kind_alone k l (finished_fields fs) (finished_fields gs) e
+  where
+    kind_alone : (k : AstType) (l : Label) (fs gs : Fields) → chain_constructs o Expression k l fs ≡ false → chain_constructs o Expression k l gs ≡ false
+    kind_alone ChainExpression l fs gs e = e
+    kind_alone _ l fs gs e = e
+chain_stable R o _ = λ n s s' k l first fs gs stand r e. refl
 
--- TWO LOWERINGS
+-- THE PAIRS
 
--- `??=` becomes `??`, and the conditional of a `??` is no assignment
-pub logical_assignment_nullish_coalescing : AreApart logical_assignment_profile nullish_coalescing_profile
-logical_assignment_nullish_coalescing = record {
-  makes = conditional_no_assignment;
-  first_writes = λ h t w. absurd w;
-  second_writes = λ h t w. absurd w;
-  first_stable = logical_assignment_stable OpenNullishCoalescing nullish_coalescing_calm;
-  second_stable = nullish_coalescing_stable OpenLogicalAssignment logical_assignment_calm;
-}
-
-pub logical_assignment_exponentiation : AreApart logical_assignment_profile exponentiation_profile
-logical_assignment_exponentiation = record {
-  makes = exponentiation_no_assignment;
-  first_writes = λ h t w. absurd w;
-  second_writes = λ h t w. absurd w;
-  first_stable = logical_assignment_stable OpenExponentiation exponentiation_calm;
-  second_stable = exponentiation_stable OpenLogicalAssignment logical_assignment_calm;
-}
-
-pub nullish_coalescing_exponentiation : AreApart nullish_coalescing_profile exponentiation_profile
-nullish_coalescing_exponentiation = record {
-  makes = exponentiation_no_nullish_coalescing;
-  first_writes = λ h t w. absurd w;
-  second_writes = λ h t w. absurd w;
-  first_stable = nullish_coalescing_stable OpenExponentiation exponentiation_calm;
-  second_stable = exponentiation_stable OpenNullishCoalescing nullish_coalescing_calm;
-}
-
--- the conditional of a chain is no operator, and a call of `Math.pow` no chain
 module _ (o : EnvOptions) where
-  pub logical_assignment_optional_chaining : AreApart logical_assignment_profile (optional_chaining_profile o)
-  logical_assignment_optional_chaining = record {
-    makes = left_no_assignment;
+  rows : OfEachRule KeepsConstructs o
+  rows = law_stable_rows_proof o
+
+  abbrev on_nullish : Bool
+  on_nullish = o.es2020.nullish_coalescing_operator
+
+  abbrev on_logical : Bool
+  on_logical = o.es2021.logical_assignment_operators
+
+  abbrev on_power : Bool
+  on_power = o.es2016.exponentiation_operator
+
+  coalescing_chains : AreSeparate (nullish_coalescing_profile o) (chain_profile o)
+  coalescing_chains = record {
+    makes = λ h t m. no_coalescing on_nullish h t (left_plain t m).0;
     first_writes = λ h t w. absurd w;
     second_writes = λ h t w. absurd w;
-    first_stable = logical_assignment_stable (OpenOptionalChaining o.assumptions.no_document_all) (optional_chaining_calm o.assumptions.no_document_all);
-    second_stable = optional_chaining_stable OpenLogicalAssignment;
+    first_stable = coalescing_stable (chain_profile o).rule rows.optional_chaining.nullish_coalescing on_nullish;
+    second_stable = chain_stable (nullish_coalescing_profile o).rule o;
+    before = λ n t. refl;
+    after = λ n t. refl;
   }
 
-  pub nullish_coalescing_optional_chaining : AreApart nullish_coalescing_profile (optional_chaining_profile o)
-  nullish_coalescing_optional_chaining = record {
-    makes = left_no_nullish_coalescing;
+  coalescing_powers : AreSeparate (nullish_coalescing_profile o) (exponentiation_profile o)
+  coalescing_powers = record {
+    makes = λ h t m. no_coalescing on_nullish h t (power_plain t m).0;
     first_writes = λ h t w. absurd w;
     second_writes = λ h t w. absurd w;
-    first_stable = nullish_coalescing_stable (OpenOptionalChaining o.assumptions.no_document_all) (optional_chaining_calm o.assumptions.no_document_all);
-    second_stable = optional_chaining_stable OpenNullishCoalescing;
+    first_stable = coalescing_stable (exponentiation_profile o).rule rows.exponentiation.nullish_coalescing on_nullish;
+    second_stable = power_stable (nullish_coalescing_profile o).rule rows.nullish_coalescing.exponentiation on_power;
+    before = λ n t. refl;
+    after = λ n t. refl;
   }
 
-  pub optional_chaining_exponentiation : AreApart (optional_chaining_profile o) exponentiation_profile
-  optional_chaining_exponentiation = record {
-    makes = exponentiation_no_chain;
+  chains_powers : AreSeparate (chain_profile o) (exponentiation_profile o)
+  chains_powers = record {
+    makes = λ h t m. no_chain o h t (power_plain t m).1;
     first_writes = λ h t w. absurd w;
     second_writes = λ h t w. absurd w;
-    first_stable = optional_chaining_stable OpenExponentiation;
-    second_stable = exponentiation_stable (OpenOptionalChaining o.assumptions.no_document_all) (optional_chaining_calm o.assumptions.no_document_all);
+    first_stable = chain_stable (exponentiation_profile o).rule o;
+    second_stable = power_stable (chain_profile o).rule rows.optional_chaining.exponentiation on_power;
+    before = λ n t. refl;
+    after = λ n t. refl;
   }
 
-  pub common_optional_chaining : AreApart common_profile (optional_chaining_profile o)
-  common_optional_chaining = record {
+  assignments_coalescing : AreSeparate (logical_assignment_profile o) (nullish_coalescing_profile o)
+  assignments_coalescing = record {
+    makes = λ h t m. no_assignment on_logical h t (conditional_plain t m);
+    first_writes = λ h t w. absurd w;
+    second_writes = λ h t w. absurd w;
+    first_stable = assignment_stable (nullish_coalescing_profile o).rule rows.nullish_coalescing.logical_assignment on_logical;
+    second_stable = coalescing_stable (logical_assignment_profile o).rule rows.logical_assignment.nullish_coalescing on_nullish;
+    before = λ n t. refl;
+    after = λ n t. refl;
+  }
+
+  assignments_chains : AreSeparate (logical_assignment_profile o) (chain_profile o)
+  assignments_chains = record {
+    makes = λ h t m. no_assignment on_logical h t (left_plain t m).1;
+    first_writes = λ h t w. absurd w;
+    second_writes = λ h t w. absurd w;
+    first_stable = assignment_stable (chain_profile o).rule rows.optional_chaining.logical_assignment on_logical;
+    second_stable = chain_stable (logical_assignment_profile o).rule o;
+    before = λ n t. refl;
+    after = λ n t. refl;
+  }
+
+  assignments_powers : AreSeparate (logical_assignment_profile o) (exponentiation_profile o)
+  assignments_powers = record {
+    makes = λ h t m. no_assignment on_logical h t (power_plain t m).2;
+    first_writes = λ h t w. absurd w;
+    second_writes = λ h t w. absurd w;
+    first_stable = assignment_stable (exponentiation_profile o).rule rows.exponentiation.logical_assignment on_logical;
+    second_stable = power_stable (logical_assignment_profile o).rule rows.logical_assignment.exponentiation on_power;
+    before = λ n t. refl;
+    after = λ n t. refl;
+  }
+
+  -- WHAT IS WRITTEN for lists and bodies is none of them
+
+  common_from : (q : Profile) → q.conditions ≡ core_conditions o → ((h : Hook) (t : Tree) → MayBeWritten t → is_construct (q.constructs h) t ≡ false) → ((t : Tree) → q.writes t → ⊥) → ((h : Hook) → IsStable (common_profile o).rule (q.constructs h)) → AreSeparate (common_profile o) q
+  common_from q same written none stable = record {
     makes = λ h t m. refl;
-    first_writes = inert_no_chain;
-    second_writes = λ h t w. absurd w;
-    first_stable = λ h c s s' k l fs gs r e. refl;
-    second_stable = optional_chaining_stable Writing;
+    first_writes = written;
+    second_writes = λ h t w. absurd (none t w);
+    first_stable = λ h n s s' k l first fs gs stand step free. refl;
+    second_stable = stable;
+    before = λ n t. ap (λ (c : Conditions). c.before n t) same;
+    after = λ n t. ap (λ (c : Conditions). c.after n t) same;
   }
 
-pub common_logical_assignment : AreApart common_profile logical_assignment_profile
-common_logical_assignment = record {
-  makes = λ h t m. refl;
-  first_writes = inert_no_assignment;
-  second_writes = λ h t w. absurd w;
-  first_stable = λ h c s s' k l fs gs r e. refl;
-  second_stable = logical_assignment_stable Writing writing_calm;
-}
+  common_assignments : AreSeparate (common_profile o) (logical_assignment_profile o)
+  common_assignments = common_from (logical_assignment_profile o) refl (λ h t w. no_assignment on_logical h t (written_plain t w).2) (λ t w. w) (assignment_stable (common_profile o).rule rows.writing.logical_assignment on_logical)
 
-pub common_nullish_coalescing : AreApart common_profile nullish_coalescing_profile
-common_nullish_coalescing = record {
-  makes = λ h t m. refl;
-  first_writes = inert_no_nullish_coalescing;
-  second_writes = λ h t w. absurd w;
-  first_stable = λ h c s s' k l fs gs r e. refl;
-  second_stable = nullish_coalescing_stable Writing writing_calm;
-}
+  common_coalescing : AreSeparate (common_profile o) (nullish_coalescing_profile o)
+  common_coalescing = common_from (nullish_coalescing_profile o) refl (λ h t w. no_coalescing on_nullish h t (written_plain t w).0) (λ t w. w) (coalescing_stable (common_profile o).rule rows.writing.nullish_coalescing on_nullish)
 
-pub common_exponentiation : AreApart common_profile exponentiation_profile
-common_exponentiation = record {
-  makes = λ h t m. refl;
-  first_writes = inert_no_exponentiation;
-  second_writes = λ h t w. absurd w;
-  first_stable = λ h c s s' k l fs gs r e. refl;
-  second_stable = exponentiation_stable Writing writing_calm;
-}
+  common_chains : AreSeparate (common_profile o) (chain_profile o)
+  common_chains = common_from (chain_profile o) refl (λ h t w. no_chain o h t (written_plain t w).1) (λ t w. w) (chain_stable (common_profile o).rule o)
 
--- WHERE THEY ARE ON, AND MORE THAN TWO
+  common_powers : AreSeparate (common_profile o) (exponentiation_profile o)
+  common_powers = common_from (exponentiation_profile o) refl (λ h t w. no_power on_power h t (written_power t w)) (λ t w. w) (power_stable (common_profile o).rule rows.writing.exponentiation on_power)
 
--- a lowering that is off has no construct, makes nothing and takes no step
-pub switched_first : (on : Bool) (p q : Profile) → AreApart p q → AreApart (switched on p) q
-switched_first true p q apart = record {
-  makes = apart.makes;
-  first_writes = λ h t w. apart.first_writes h t w.1;
-  second_writes = apart.second_writes;
-  first_stable = apart.first_stable;
-  second_stable = apart.second_stable;
-}
-switched_first false p q apart = record {
-  makes = λ h t m. refl;
-  first_writes = λ h t w. absurd (cc w.0);
-  second_writes = λ h t w. refl;
-  first_stable = λ h c s s' k l fs gs r e. refl;
-  second_stable = λ h c s s' k l fs gs r e. absurd (no_fields_step p.rule r);
-}
+  -- TOGETHER
 
-pub switched_second : (on : Bool) (p q : Profile) → AreApart p q → AreApart p (switched on q)
-switched_second true p q apart = record {
-  makes = λ h t m. apart.makes h t m.1;
-  first_writes = apart.first_writes;
-  second_writes = λ h t w. apart.second_writes h t w.1;
-  first_stable = apart.first_stable;
-  second_stable = apart.second_stable;
-}
-switched_second false p q apart = record {
-  makes = λ h t m. absurd (cc m.0);
-  first_writes = λ h t w. refl;
-  second_writes = λ h t w. absurd (cc w.0);
-  first_stable = λ h c s s' k l fs gs r e. absurd (no_fields_step q.rule r);
-  second_stable = λ h c s s' k l fs gs r e. refl;
-}
+  pub es2020_apart : AreApart (nullish_coalescing_profile o) (chain_profile o)
+  es2020_apart = apart (nullish_coalescing_profile o) (chain_profile o) coalescing_chains (λ n t e. e)
 
-pub apart_of_both : (p q r : Profile) → AreApart p q → AreApart p r → AreApart p (both_profile q r)
-apart_of_both p q r f g = record {
-  makes = λ h t m. elim m [ inl i ↦ f.makes h t i | inr j ↦ g.makes h t j ];
-  first_writes = λ h t w. neither (is_construct (q.constructs h) t) (is_construct (r.constructs h) t) (f.first_writes h t w) (g.first_writes h t w);
-  second_writes = λ h t w. elim w [ inl i ↦ f.second_writes h t i | inr j ↦ g.second_writes h t j ];
-  first_stable = λ h c s s' k l fs gs step free. elim (split_fields step) [ inl i ↦ f.first_stable h c s s' k l fs gs i free | inr j ↦ g.first_stable h c s s' k l fs gs j free ];
-  second_stable = λ h c s s' k l fs gs step free.
-      neither (q.constructs h k l (closed_fields gs)) (r.constructs h k l (closed_fields gs))
-      (f.second_stable h c s s' k l fs gs step (or_first (q.constructs h k l (closed_fields fs)) (r.constructs h k l (closed_fields fs)) free))
-      (g.second_stable h c s s' k l fs gs step (or_second (q.constructs h k l (closed_fields fs)) (r.constructs h k l (closed_fields fs)) free));
-}
+  later_separate : AreSeparate (es2020_profile o) (es2016_profile o)
+  later_separate = both_separate_from (nullish_coalescing_profile o) (chain_profile o) (exponentiation_profile o) coalescing_powers chains_powers
 
-pub both_apart : (p q r : Profile) → AreApart p r → AreApart q r → AreApart (both_profile p q) r
-both_apart p q r f g = record {
-  makes = λ h t m. neither (is_construct (p.constructs h) t) (is_construct (q.constructs h) t) (f.makes h t m) (g.makes h t m);
-  first_writes = λ h t w. elim w [ inl i ↦ f.first_writes h t i | inr j ↦ g.first_writes h t j ];
-  second_writes = λ h t w. neither (is_construct (p.constructs h) t) (is_construct (q.constructs h) t) (f.second_writes h t w) (g.second_writes h t w);
-  first_stable = λ h c s s' k l fs gs step free.
-      neither (p.constructs h k l (closed_fields gs)) (q.constructs h k l (closed_fields gs))
-      (f.first_stable h c s s' k l fs gs step (or_first (p.constructs h k l (closed_fields fs)) (q.constructs h k l (closed_fields fs)) free))
-      (g.first_stable h c s s' k l fs gs step (or_second (p.constructs h k l (closed_fields fs)) (q.constructs h k l (closed_fields fs)) free));
-  second_stable = λ h c s s' k l fs gs step free. elim (split_fields step) [ inl i ↦ f.second_stable h c s s' k l fs gs i free | inr j ↦ g.second_stable h c s s' k l fs gs j free ];
-}
+  pub later_apart : AreApart (es2020_profile o) (es2016_profile o)
+  later_apart = apart (es2020_profile o) (es2016_profile o) later_separate (λ n t e. e)
 
--- the two of ECMAScript 2020, each on or off
-pub nullish_chains : (o : EnvOptions) → AreApart (nullish_coalescing_under o) (optional_chaining_under o)
-nullish_chains o =
-    switched_first o.es2020.nullish_coalescing_operator nullish_coalescing_profile (optional_chaining_under o)
-    (switched_second o.es2020.optional_chaining nullish_coalescing_profile (optional_chaining_profile o) (nullish_coalescing_optional_chaining o))
+  pub editions_apart : AreApart (es2021_profile o) (both_profile (es2020_profile o) (es2016_profile o))
+  editions_apart =
+      apart (es2021_profile o) (both_profile (es2020_profile o) (es2016_profile o))
+      (separate_from_both (es2021_profile o) (es2020_profile o) (es2016_profile o) (separate_from_both (es2021_profile o) (nullish_coalescing_profile o) (chain_profile o) assignments_coalescing assignments_chains) assignments_powers) (λ n t e. e)
+
+  -- the type that writes comes before all
+  pub all_apart : AreApart (common_profile o) (both_profile (es2021_profile o) (both_profile (es2020_profile o) (es2016_profile o)))
+  all_apart =
+      apart (common_profile o) (both_profile (es2021_profile o) (both_profile (es2020_profile o) (es2016_profile o)))
+      (separate_from_both (common_profile o) (es2021_profile o) (both_profile (es2020_profile o) (es2016_profile o)) common_assignments
+      (separate_from_both (common_profile o) (es2020_profile o) (es2016_profile o) (separate_from_both (common_profile o) (nullish_coalescing_profile o) (chain_profile o) common_coalescing common_chains) common_powers)) (λ n t e. e)

@@ -1,14 +1,4 @@
-pub mod NullishCoalescings
-pub mod LogicalAssignments
-pub mod Exponentiations
-pub mod Profiles
-pub mod Takings
-pub mod LogicalAssignmentParts
-pub mod Stable
-pub mod Apart
-pub mod Lawful
-pub mod ExponentiationParts
-pub mod ExponentiationTargets
+pub mod ApartTogether
 pub mod Editions
+pub mod Apart
 pub mod Warnings
-pub mod MathRefusals

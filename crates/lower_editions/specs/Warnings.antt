@@ -5,8 +5,8 @@ use Rattle.es_tree.specs.Tree.{Tree, node, Label, Fields, done, ◌then◌, Fiel
 use Rattle.es_tree.specs.declared.ast_type.AstType.{AstType}
 use Rattle.es_tree.specs.declared.ast_type.AstType.TheVariants.{BigIntLiteral}
 use Rattle.es_tree.specs.declared.options.ES2020Options.{ES2020Options}
-use Rattle.lower_common.specs.declared.warning.Warning.{Warning}
-use Rattle.lower_common.specs.declared.warning.WarningKind.TheVariants.{BigInt}
+use Rattle.lower_temporaries.specs.declared.warning.Warning.{Warning}
+use Rattle.lower_temporaries.specs.declared.warning.WarningKind.TheVariants.{BigInt}
 
 -- what is found at the nodes of the tree, in node order
 abbrev mutual

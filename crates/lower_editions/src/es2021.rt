@@ -1,72 +1,20 @@
-//! The lowerings of ECMAScript 2021 that the options ask for.
-ghost use Rattle.std.specs.Prelude.{◌≡◌, false};
-ghost use Rattle.lower_editions.specs.Lawful.{es2021_lawful};
-ghost use Rattle.lower_editions.specs.Profiles.{es2021_profile};
+//! The lowerings of ECMAScript 2021.
+ghost use Rattle.std.specs.Prelude.{◌≡◌};
 
-use crate::logical_assignment_operators::LogicalAssignmentOperators;
-use es_scope::context::TraverseCtx;
-use es_tree::error::LowerError;
-use es_tree::options::ES2021Options;
-use es_tree::sorts::Expression;
-use es_visit::hook::Hook;
-use es_visit::lowering::Lowering;
-use es_visit::traverse::Traverse;
-use lower_common::state::TransformState;
+use es_traverse::entering::OnEntry;
+use es_tree::options::EnvOptions;
+use lower_logical_assignment::LogicalAssignmentOperators;
 
-/// The lowerings of ECMAScript 2021, with the options that say which of them are on.
-#[derive(Clone, Copy, Debug)]
-pub struct ES2021 {
-    options: ES2021Options,
-    logical_assignment_operators: LogicalAssignmentOperators,
-}
+/// The lowerings of ECMAScript 2021.
+pub struct ES2021;
 
 impl ES2021 {
-    ghost use Rattle.lower_editions.specs.Editions.{es2021_options_of};
-
-    /// The lowerings that these options ask for. It takes no memory.
-    pub fn new(options: ES2021Options) -> ES2021
-        ensures { es2021_options_of result ≡ options }
+    /// Those that the options ask for: logical assignment. It takes no memory.
+    pub fn lowerings(options: &EnvOptions) -> OnEntry<LogicalAssignmentOperators>
+        ensures { result.lowering.is_on ≡ options.now.es2021.logical_assignment_operators }
     {
-        ES2021 {
-            options,
-            logical_assignment_operators: LogicalAssignmentOperators::new(),
+        OnEntry {
+            lowering: LogicalAssignmentOperators::new(options),
         }
     }
-}
-
-impl Lowering for ES2021 {
-    ghost profile = { es2021_profile };
-
-    ghost keeps = { false };
-
-    ghost suits = { λ x o. x.options ≡ o.es2021 };
-
-    ghost tally = { λ x h id. 0 };
-
-    ghost entries = { λ x h. 0 };
-
-    fn keeps_pairs(&self) -> bool {
-        false
-    }
-
-    fn acts(&self, hook: Hook) -> bool {
-        self.options.logical_assignment_operators && matches!(hook, Hook::Expression)
-    }
-}
-
-impl Traverse<TransformState> for ES2021 {
-    /// Lowers logical assignment, where it is on (ECMA-262, 13.15). Answers an error only for want of memory.
-    fn enter_expression(
-        &mut self,
-        node: &mut Expression,
-        ctx: &mut TraverseCtx<TransformState>,
-    ) -> Result<(), LowerError> {
-        if self.options.logical_assignment_operators {
-            self.logical_assignment_operators
-                .enter_expression(node, ctx)?;
-        }
-        Ok(())
-    }
-
-    ghost lawful = { λ x o. es2021_lawful o };
 }

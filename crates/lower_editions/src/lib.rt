@@ -1,17 +1,7 @@
-//! The lowerings of the editions of ECMA-262, each a type that takes part in a visit.
+//! The lowerings by the edition of ECMAScript whose constructs they take away, and what else the options of an edition ask for.
 #![tactic(auto)]
 
 pub mod es2016;
 pub mod es2020;
 pub mod es2021;
-pub mod exponentiation_constructs;
-mod exponentiation_nodes;
-pub mod exponentiation_operator;
-mod exponentiation_targets;
-mod logical_assignment_constructs;
-mod logical_assignment_nodes;
-pub mod logical_assignment_operators;
-mod made_nodes;
-pub mod nullish_coalescing;
-mod nullish_coalescing_nodes;
-mod warnings;
+pub mod warnings;

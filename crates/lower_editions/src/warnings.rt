@@ -8,7 +8,7 @@ use crate::es2020::ES2020;
 use es_tree::kind::Kind;
 use es_tree::node::{Field, Node};
 use es_tree::options::ES2020Options;
-use lower_common::warning::{Warning, WarningKind};
+use lower_temporaries::warning::{Warning, WarningKind};
 use std::alloc::{AllocError, Global};
 
 impl ES2020 {

@@ -52,7 +52,7 @@ quiet = record {
 pub quiet_lawful : IsLawful quiet
 quiet_lawful = record {
   rule = never_lawful;
-  stable = λ h c s s' k l fs gs step e. e;
+  stable = λ h n s s' k l first fs gs stand step e. e;
   placed = λ h k l fs e. absurd (true≢false (sym e));
   own = λ h t w. absurd w;
 }

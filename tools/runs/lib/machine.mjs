@@ -9,6 +9,7 @@ replace('es_runs', 'Machine', 'ask', ask => question => state => answering ? ans
 
 const run = definition('es_statement_runs', 'Runs', 'run');
 const outcomeOf = definition('es_statement_runs', 'Runs', 'outcome');
+const isMeantBy = definition('es_statement_runs', 'Meant', 'is_meant');
 const declaredAtTop = definition('es_statement_runs', 'Names', 'declared_at_top');
 const stateOf = definition('es_runs', 'Runs', 'state_of');
 const askedIn = definition('es_runs', 'Runs', 'asked');
@@ -40,6 +41,11 @@ function answered(question, { a: [cells, moves, asked] }) {
   if (move === undefined) return datum('stops', datum('waits'), state);
   const { c, a: [value] } = moveDatum(move);
   return c === 'answer' ? datum('gives', value, state) : datum('stops', datum('throws', value), state);
+}
+
+/** Whether every node of the tree has a meaning; functions, arrows and classes have none. */
+export function isMeant(tree) {
+  return isMeantBy(datum('no_helpers'))(plainTree(tree));
 }
 
 /** The run of a tree from so many turns: its questions, the latest first, its outcome, and what each name of its top holds. */

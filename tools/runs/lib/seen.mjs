@@ -60,8 +60,9 @@ class SeenRun {
     return true;
   }
 
+  /** A hole is the list of nothing; read, it gives undefined. */
   array(elements, { index }) {
-    this.contents.set(index, arrayText(elements.map(value => this.text(value))));
+    this.contents.set(index, arrayText(elements.map(value => value.is === 'list' && value.values.length === 0 ? 'undefined' : this.text(value))));
     return true;
   }
 

@@ -2,7 +2,7 @@ use Rattle.std.proofs.Common.{ℕ, List, [], ◌∷◌, ◌++◌, map, ap, ◌�
 use Rattle.std.specs.Prelude.{string_bytes}
 use Rattle.serde_json.specs.Written.{compact_text, has_float}
 use Rattle.es_json.proofs.NoFloat.{no_float-canonical}
-use Rattle.lower_common.specs.declared.warning.Warning.{Warning}
+use Rattle.lower_temporaries.specs.declared.warning.Warning.{Warning}
 use Rattle.lower_command.specs.Answer.{warning_lines}
 use Rattle.lower_command.proofs.job.lower_text.Goals as goal
 
@@ -14,7 +14,6 @@ returns-clause-taken c =
       program = found.holds.source;
       reads = record { value = found.value; reading = found.reading; holds = found.holds.is_source };
       kept = found.holds.kept;
-      built = found.holds.lowered.built;
       taken = found.holds.lowered.taken;
     }
 

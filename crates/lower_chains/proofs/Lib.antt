@@ -1,0 +1,14 @@
+pub mod Fields
+pub mod Shapes
+pub mod SeenSpines
+pub mod Sound
+pub mod Weights
+pub mod Held
+pub mod Receiving
+pub mod Testing
+pub mod Calling
+pub mod Spines
+pub mod Chained
+pub mod Marks
+pub mod Inside
+pub mod Hooked

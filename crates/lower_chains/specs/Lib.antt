@@ -1,0 +1,10 @@
+pub mod Spines
+pub mod Weights
+pub mod Ways
+pub mod WayParts
+pub mod Parts
+pub mod Chains
+pub mod Hooks
+pub mod Profiles
+pub mod Within
+pub mod Lawful

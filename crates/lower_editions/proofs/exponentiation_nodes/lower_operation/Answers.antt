@@ -1,5 +1,0 @@
-use Rattle.lower_editions.proofs.ExponentiationRows.{lowered_operation}
-use Rattle.lower_editions.proofs.exponentiation_nodes.lower_operation.Goals as goal
-
-pub returns : goal.returns
-returns c = lowered_operation c.args.ctx.now c.new_power.new.ctx c.args.node c.in_ok-made.made c.open-operator.result c.open-operator.ensures c.requires.lowerable c.requires.unbound c.in_ok-made.ensures.made c.in_ok-made.ensures.reads

@@ -1,0 +1,4 @@
+pub mod Exponentiations
+pub mod Targets
+pub mod Profile
+pub mod Lawful

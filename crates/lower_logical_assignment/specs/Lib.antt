@@ -1,0 +1,4 @@
+pub mod Assignments
+pub mod Targets
+pub mod Profile
+pub mod Lawful

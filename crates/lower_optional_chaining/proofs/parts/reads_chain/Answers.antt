@@ -1,9 +1,0 @@
-use Rattle.std.proofs.Common.{sym, arith}
-use Rattle.lower_optional_chaining.proofs.Fields.{fewer_than_read, more_than_read}
-use Rattle.lower_optional_chaining.proofs.parts.reads_chain.Goals as goal
-
-pub returns-in_default : goal.returns-in_default
-returns-in_default c = sym (fewer_than_read c.args.fields.now (omega (arith, c.in_default.len_below)))
-
-pub returns-in_default-4 : goal.returns-in_default-4
-returns-in_default-4 c = sym (more_than_read c.args.fields.now (omega (arith, c.in_default.len_at_least)))
