@@ -37,9 +37,9 @@ use es_tree::node::Node;
 use es_tree::operators::SourceType;
 use es_tree::options::{EnvOptions, options_fault};
 use es_unsupported::finding::find_unsupported;
+use lower_editions::es2020::ES2020;
 use lower_temporaries::state::TransformState;
 use lower_temporaries::warning::Warning;
-use lower_editions::es2020::ES2020;
 use serde_json::Value;
 use std::alloc::{AllocError, Global};
 

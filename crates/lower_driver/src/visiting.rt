@@ -30,10 +30,7 @@ use std::sync::ledger::{Blank, Ledger};
 
 /// Visits a program, its own list pending, by the lowerings that the context's options ask for. Fails only where memory
 /// runs out; the program is then in no stated shape.
-pub fn visit(
-    program: &mut Program,
-    ctx: &mut TraverseCtx<TransformState>,
-) -> Result<(), AllocError>
+pub fn visit(program: &mut Program, ctx: &mut TraverseCtx<TransformState>) -> Result<(), AllocError>
     requires top { around_of ctx.old ≡ [] }
     requires pair { 0 < length (moment_of ctx.old).lists }
     requires room { HasRoom (moment_of ctx.old) (load (plain_program program.old)) }
