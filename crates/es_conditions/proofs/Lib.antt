@@ -10,3 +10,4 @@ pub mod Assigning
 pub mod Powers
 pub mod Spines
 pub mod ChainRows
+pub mod Catches

@@ -1,10 +1,10 @@
 -- The laws of the conditions of a visit by the core lowerings: they go inward, and each lowering brings them about, or keeps them.
-use Rattle.std.specs.Prelude.{◌≡◌, ◌&&◌, List, Bool, true, false}
+use Rattle.std.specs.Prelude.{◌≡◌, ◌&&◌, List, Bool, true, false, bytes_eq, codes}
 use Rattle.es_tree.specs.CoreStaticRules.{has_optional}
 use Rattle.es_tree.specs.HasForm.{has_form}
 use Rattle.es_tree.specs.Parens.{without_parens}
-use Rattle.es_tree.specs.Tree.{Tree, node, Label, done, ◌then◌, one, many, Trees}
-use Rattle.es_tree.specs.declared.ast_type.AstType.TheVariants.{CallExpression, ChainExpression}
+use Rattle.es_tree.specs.Tree.{Tree, node, Label, done, ◌then◌, Field, missing, one, many, Trees}
+use Rattle.es_tree.specs.declared.ast_type.AstType.TheVariants.{CallExpression, CatchClause, ChainExpression}
 use Rattle.es_tree.specs.declared.options.EnvOptions.{EnvOptions}
 use Rattle.es_tree.specs.declared.table.Sort.{Sort}
 use Rattle.es_tree.specs.declared.table.Sort.TheVariants.{Expression as s-Expression}
@@ -14,6 +14,7 @@ use Rattle.es_runs.specs.OptionalChaining.{takes_value}
 use Rattle.es_runs.specs.Rules.{strays}
 use Rattle.es_steps.specs.Exponentiation.{ExponentiationRule}
 use Rattle.es_steps.specs.LogicalAssignment.{LogicalAssignmentRule}
+use Rattle.es_steps.specs.Nodes.{identifier}
 use Rattle.es_steps.specs.NullishCoalescing.{NullishCoalescingRule}
 use Rattle.es_steps.specs.Open.{is_body, opened_fields}
 use Rattle.es_steps.specs.OptionalChaining.{OptionalChainingRule}
@@ -85,3 +86,12 @@ LawChains = (o : EnvOptions) → o.es2020.optional_chaining ≡ true → ChainsK
 -- where chains aren't lowered, what is wrapped is free
 abbrev pub LawChainsOff : Type 0
 LawChainsOff = (o : EnvOptions) (n : Site) (t : Tree) → o.es2020.optional_chaining ≡ false → is_wrapped o n t ≡ true → is_free o n t ≡ true
+
+-- OPTIONAL CATCH
+
+abbrev pub catching : Label → Field → Tree → Tree
+catching m parameter body = node CatchClause m (parameter then one body then done)
+
+-- A `catch` without a parameter that takes one stays free: its body finds `Math` as before, since the name is another.
+abbrev pub LawCatch : Type 0
+LawCatch = (o : EnvOptions) (n : Site) (m : Label) (body : Tree) (b : Bound) → bytes_eq b.name (codes "Math") ≡ false → is_free o n (catching m missing body) ≡ true → is_free o n (catching m (one (identifier b)) body) ≡ true

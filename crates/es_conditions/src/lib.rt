@@ -2,7 +2,7 @@
 //! definitions.
 #![tactic(auto)]
 
-ghost use Rattle.es_conditions.specs.Laws.{LawChains, LawChainsOff, LawConditions, LawRows, LawSlots};
+ghost use Rattle.es_conditions.specs.Laws.{LawCatch, LawChains, LawChainsOff, LawConditions, LawRows, LawSlots};
 
 /// What a visit by the core lowerings knows of nodes goes inward.
 pub fn law_conditions()
@@ -27,4 +27,9 @@ pub fn law_chains()
 /// Where chains aren't lowered, nothing is asked of them.
 pub fn law_chains_off()
     ensures { LawChainsOff }
+{}
+
+/// A `catch` that takes a parameter keeps what the hooks after it count on.
+pub fn law_catch()
+    ensures { LawCatch }
 {}

@@ -1,5 +1,5 @@
 -- What steps reach from a program is what it becomes.
-use Rattle.std.proofs.Common.{arith, ◌≡◌, refl, sym, subst, ap, ◌∙◌, inl, List, []}
+use Rattle.std.proofs.Common.{arith, ◌≡◌, refl, sym, subst, ap, ◌∙◌, inl, inr, List, []}
 use Rattle.std.specs.Prelude.{true}
 use Rattle.es_tree.specs.Bare.{bare}
 use Rattle.es_tree.specs.HasForm.{has_form}
@@ -21,20 +21,22 @@ use Rattle.es_resolution.specs.Laws.{source}
 use Rattle.es_resolution.proofs.Forms.{form-placed}
 use Rattle.es_steps.specs.AllRules.{AllRules}
 use Rattle.es_steps.specs.CoreBridge.{Reached, first_whole}
-use Rattle.es_steps.specs.CoreRules.{CoreRule, rule_under}
 use Rattle.es_steps.specs.Laws.{IsWellBound}
-use Rattle.es_steps.specs.Steps.{Whole}
+use Rattle.es_steps.specs.Open.{opened}
+use Rattle.es_steps.specs.Steps.{Ledger, Site, Spot}
 use Rattle.es_steps.proofs.BridgeInclusion.{all_under}
 use Rattle.es_steps.proofs.BridgeStart.{law_first_whole_proof, law_reached_by_name_proof}
-use Rattle.es_steps.proofs.CoreLaws.{law_rules_under_proof}
-use Rattle.es_steps.proofs.FormSteps.{law_form_reached_proof}
+use Rattle.es_steps.proofs.Opened.{finished-opened}
 use Rattle.es_steps.proofs.Reached.{law_bindings_proof}
 use Rattle.es_steps.proofs.Start.{law_start_proof}
-use Rattle.es_valid_steps.proofs.PlaceSteps.{law_places_reached_proof}
+use Rattle.es_valid_steps.specs.Laws.{with_further_rules}
+use Rattle.es_valid_steps.specs.PlaceRules.{place_breaks}
+use Rattle.es_valid_steps.proofs.FurtherSteps.{law_further_form_proof, law_further_places_proof}
 use Rattle.es_valid_steps.proofs.Visits.{law_among_proof}
-use Rattle.es_reached.specs.Reached.{LawCoreResult, LawFirst, LawResult}
+use Rattle.es_reached.specs.Reached.{LawCoreResult, LawFirst, LawResult, built_rules}
 use Rattle.es_reached.proofs.BarePlaces.{law_bare_places_proof}
 use Rattle.es_reached.proofs.Sources.{law_bare_source_proof}
+use Rattle.es_reached.proofs.StepsByName.{reached-core}
 
 -- THE SOURCE
 
@@ -50,6 +52,16 @@ source-form p h = form-same p (source p) (sym (law_bare_source_proof p)) h
 source-well-bound : (p : Tree) → has_form s-Program p ≡ true → breaks p ≡ [] → IsWellBound (first_whole p) (source p)
 source-well-bound p form right = law_start_proof p (first_whole p) form right (λ x e. rw e refl) (omega arith) (λ s. refl)
 
+-- THE BUILT LOWERINGS are among all, and among those of which form and rules of places are known
+
+built-all : (o : EnvOptions) (n : Site) (s : Ledger) (x : Spot) (s' : Ledger) (y : Spot) → built_rules o n s x s' y → AllRules o n s x s' y
+built-all o n s x s' y (inl r) = inl r
+built-all o n s x s' y (inr r) = inr (inl r)
+
+built-further : (o : EnvOptions) (n : Site) (s : Ledger) (x : Spot) (s' : Ledger) (y : Spot) → built_rules o n s x s' y → with_further_rules o n s x s' y
+built-further o n s x s' y (inl r) = inl r
+built-further o n s x s' y (inr r) = inr (inl r)
+
 -- EVERY PROGRAM
 
 pub law_result_proof : LawResult
@@ -57,14 +69,17 @@ law_result_proof o p q r names form right h written =
     let w = first_whole p in
     let form_there = source-form p form in
     let kept_there = law_bare_places_proof p (source p) (sym (law_bare_source_proof p)) (law_among_proof p right) in
-    let by_all = all_under (rule_under o) (AllRules o) (λ n s x s' y a. inl a) h.steps in
+    let by_all = all_under (built_rules o) (AllRules o) (built-all o) h.steps in
+    let by_further = all_under (built_rules o) (with_further_rules o) (built-further o) h.steps in
+    let formed = law_further_form_proof o (source p) w h.whole (opened r) form_there by_further in
+    let kept = law_further_places_proof o (source p) w h.whole (opened r) form_there kept_there by_further in
     record {
       resolved = r;
       written = written;
       reached = h;
       bindings = law_bindings_proof o (source p) r w h.whole (program-kind (source p) form_there) (source-well-bound p form right) by_all;
-      form = form-same r q written (law_form_reached_proof o (source p) r w h.whole form_there h.steps);
-      kept = law_bare_places_proof r q written (law_places_reached_proof o (source p) r w h.whole form_there kept_there h.steps);
+      form = form-same r q written (subst (λ (t : Tree). has_form s-Program t ≡ true) (finished-opened r) formed);
+      kept = law_bare_places_proof r q written (subst (λ (t : Tree). place_breaks t ≡ []) (finished-opened r) kept);
     }
 
 -- CORE PROGRAMS
@@ -78,18 +93,13 @@ written-too R p q r names same h = record {
   others = h.others;
 }
 
--- by all core rules together
-by-core : (o : EnvOptions) (p r : Tree) (w : Whole) (names : List Text) → Reached (rule_under o) p w names r → Reached (CoreRule o) p w names r
-by-core o p r w names h = record { whole = h.whole; steps = all_under (rule_under o) (CoreRule o) (λ n s x s' y a. law_rules_under_proof o n s s' x y a) h.steps; made = h.made }
-
 pub law_core_result_proof : LawCoreResult
 law_core_result_proof o p q names core right h =
     let no_all = o.assumptions.no_document_all in
-    let w = first_whole p in
-    let start = law_first_whole_proof p in
-    let laws = law_reached_by_name_proof o in
-    let under = written-too (plain_rules.rule_under o) p q h.resolved names h.written (laws.1 p h.resolved w names core start h.reached) in
-    let all = written-too (plain_rules.CoreRule no_all) p q h.resolved names h.written (laws.2 p h.resolved w names core start (by-core o p h.resolved w names h.reached)) in
+    let by_all : Reached (AllRules o) p (first_whole p) names h.resolved = record { whole = h.reached.whole; steps = all_under (built_rules o) (AllRules o) (built-all o) h.reached.steps; made = h.reached.made } in
+    let by_name = (law_reached_by_name_proof o).0 p h.resolved (first_whole p) names core (law_first_whole_proof p) by_all in
+    let under = written-too (plain_rules.rule_under o) p q h.resolved names h.written by_name in
+    let all = reached-core o p q names under in
     record {
       reached = under;
       alike = law_reached_proof no_all p q names core (tidy_source p core right) all;

@@ -19,9 +19,15 @@ use Rattle.es_resolution.specs.Called.{name_at}
 use Rattle.es_resolution.specs.Laws.{source}
 use Rattle.es_steps.specs.Bindings.{Bindings}
 use Rattle.es_steps.specs.CoreBridge.{Reached, first_whole, is_steady_symbol}
-use Rattle.es_steps.specs.CoreRules.{rule_under}
-use Rattle.es_steps.specs.Steps.{Whole}
+use Rattle.es_steps.specs.CoreRules.{rule_under, where_on}
+use Rattle.es_steps.specs.OptionalCatch.{CatchRule}
+use Rattle.es_steps.specs.Rules.{either_rule}
+use Rattle.es_steps.specs.Steps.{Ledger, Site, Spot, Whole}
 use Rattle.es_valid_steps.specs.PlaceRules.{place_breaks}
+
+-- the rules of the lowerings that are built, as far as options ask for them
+abbrev pub built_rules : EnvOptions → Site → Ledger → Spot → Ledger → Spot → Type 0
+built_rules o = either_rule (rule_under o) (where_on o.es2019.optional_catch_binding CatchRule)
 
 -- What a program p becomes under these options: q, with these made names.
 pub record IsResult (o : EnvOptions) (p q : Tree) (names : List Text) : Type 0 where
@@ -29,7 +35,7 @@ pub record IsResult (o : EnvOptions) (p q : Tree) (names : List Text) : Type 0 w
   pub resolved : Tree
   pub written : bare resolved ≡ bare q
   -- by steps of the rules that the options ask for, from the source with its symbols, with nothing pending at the end
-  pub reached : Reached (rule_under o) p (first_whole p) names resolved
+  pub reached : Reached (built_rules o) p (first_whole p) names resolved
   -- A name of the source has the symbol that it had, and the others are made; each is bound to what looking it up finds, by one
   -- scope, and one without a symbol is unbound.
   pub bindings : Bindings (source p) resolved (first_whole p) reached.whole
@@ -39,7 +45,7 @@ pub record IsResult (o : EnvOptions) (p q : Tree) (names : List Text) : Type 0 w
 
 -- What a core program becomes besides, since the machine knows its runs.
 pub record IsCoreResult (o : EnvOptions) (p q : Tree) (names : List Text) : Type 0 where
-  -- by steps of the rules by names
+  -- by steps of the core rules by names: of the built lowerings no other acts on a core program
   pub reached : plain_steps.Reached (plain_rules.rule_under o) p names q
   -- The same questions in the same order, the same outcome, and equal cells of the source's names; where the options assume
   -- that no value is `document.all`, of every run in which none is.
@@ -54,7 +60,7 @@ pub record IsCoreResult (o : EnvOptions) (p q : Tree) (names : List Text) : Type
 -- So it is of whatever steps reach from a program that has form and breaks no static rule, at whatever places they are taken and in
 -- whatever order.
 abbrev pub LawResult : Type 0
-LawResult = (o : EnvOptions) (p q r : Tree) (names : List Text) → has_form s-Program p ≡ true → breaks p ≡ [] → Reached (rule_under o) p (first_whole p) names r → bare r ≡ bare q → IsResult o p q names
+LawResult = (o : EnvOptions) (p q r : Tree) (names : List Text) → has_form s-Program p ≡ true → breaks p ≡ [] → Reached (built_rules o) p (first_whole p) names r → bare r ≡ bare q → IsResult o p q names
 
 abbrev pub LawCoreResult : Type 0
 LawCoreResult = (o : EnvOptions) (p q : Tree) (names : List Text) → IsCoreProgram p → breaks p ≡ [] → IsResult o p q names → IsCoreResult o p q names

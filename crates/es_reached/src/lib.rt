@@ -5,9 +5,9 @@
 ghost use Rattle.es_reached.specs.BareTrees.{LawBarePlaces, LawBareSeen, LawBareSource};
 ghost use Rattle.es_reached.specs.Reached.{LawCoreResult, LawFirst, LawResult};
 
-/// What steps of the core rules that options ask for reach from a program that has form and breaks no static rule, with nothing pending,
-/// is what the program becomes, however it is written: names keep their bindings, and the written program has form and breaks no rule of
-/// places.
+/// What steps of the built lowerings that options ask for reach from a program that has form and breaks no static rule, with nothing
+/// pending, is what the program becomes, however it is written: names keep their bindings, and the written program has form and breaks no
+/// rule of places.
 pub fn law_result()
     ensures { LawResult }
 {}

@@ -1,4 +1,4 @@
--- Each rule of a lowering is lawful alone: those that options ask for are together, and what a row asks of its site it asks alone.
+-- Each rule of a lowering is lawful alone: the core rules that options ask for are together, and what a row asks of its site it asks alone.
 use Rattle.std.proofs.Common.{◌∙◌, refl, ap, inl, inr}
 use Rattle.std.specs.Prelude.{Bool, true, false, ◌&&◌, List, codes}
 use Rattle.es_tree.specs.Tree.{Tree}
@@ -12,6 +12,8 @@ use Rattle.es_steps.specs.LogicalAssignment.{LogicalAssignmentRule}
 use Rattle.es_steps.specs.LogicalAssignment.LogicalAssignmentRule.{to_name, to_static_member, to_computed_member}
 use Rattle.es_steps.specs.NullishCoalescing.{NullishCoalescingRule}
 use Rattle.es_steps.specs.NullishCoalescing.NullishCoalescingRule.{with_temporary, reading_again}
+use Rattle.es_steps.specs.OptionalCatch.{CatchRule}
+use Rattle.es_steps.specs.OptionalCatch.CatchRule.{catches}
 use Rattle.es_steps.specs.OptionalChaining.{OptionalChainingRule}
 use Rattle.es_steps.specs.OptionalChaining.OptionalChainingRule.{by_tests, as_callee, in_delete}
 use Rattle.es_steps.specs.Rules.{Writing}
@@ -22,10 +24,15 @@ use Rattle.es_steps.specs.Slots.{in_open_slot, is_slot}
 use Rattle.es_steps.specs.Steps.{Ledger, Site, Spot, Whole}
 use Rattle.es_steps.specs.WrapRule.{WrapRule, takes_one}
 use Rattle.es_steps.specs.WrapRule.WrapRule.{wraps}
+use Rattle.es_steps.proofs.Catching.{catch-lawful}
+use Rattle.es_steps.proofs.CoreLaws.{on-lawful, on-writes}
+use Rattle.es_steps.proofs.FormRules.{on-form}
 use Rattle.es_steps.proofs.LocalRules.{both-local}
+use Rattle.es_steps.proofs.RulesWrite.{catch-writes}
+use Rattle.es_valid_steps.proofs.FurtherForms.{catch-form}
 use Rattle.es_changes.specs.Rules.{IsLawfulRule, is_asked_for}
 use Rattle.es_changes.proofs.Lawful.{law_lawful_proof}
-use Rattle.es_row_laws.specs.Laws.{LawLawfulRows, exponentiation_under, logical_assignment_under, nullish_coalescing_under, optional_chaining_under, writing_under}
+use Rattle.es_row_laws.specs.Laws.{LawLawfulRows, exponentiation_under, logical_assignment_under, nullish_coalescing_under, optional_catch_under, optional_chaining_under, writing_under}
 use Rattle.es_row_laws.proofs.Fewer.{fewer-lawful}
 
 -- WHERE EACH STANDS among those that options ask for
@@ -88,6 +95,9 @@ writing-local n m s s' x y a insertions = insertions
 wrap-local : (o : EnvOptions) → IsLocal (λ s. is_asked_for) (WrapRule o)
 wrap-local o n m s s' x y a (wraps r e slot h) = wraps (a.role ∙ r) e (ap is_slot a.above ∙ slot) h
 
+catch-local : IsLocal (λ s. is_asked_for) CatchRule
+catch-local n m s s' x y a (catches fresh) = catches fresh
+
 -- THE LAWS
 
 pub writing-lawful : (o : EnvOptions) → IsLawfulRule (writing_under o)
@@ -107,6 +117,11 @@ optional-chaining-lawful o =
 pub exponentiation-lawful : (o : EnvOptions) → IsLawfulRule (exponentiation_under o)
 exponentiation-lawful o = fewer-lawful (exponentiation-under o) (law_lawful_proof o) (on-local o.es2016.exponentiation_operator (RowRule ExponentiationRule) (row-local ExponentiationRule raising-local))
 
+pub optional-catch-lawful : (o : EnvOptions) → IsLawfulRule (optional_catch_under o)
+optional-catch-lawful o =
+    let on = o.es2019.optional_catch_binding in
+    record { names = on-lawful on CatchRule catch-lawful; writes = on-writes on CatchRule catch-writes; form = on-form on CatchRule catch-form; local = on-local on CatchRule catch-local }
+
 pub law_lawful_rows_proof : LawLawfulRows
 law_lawful_rows_proof o = record {
   writing = writing-lawful o;
@@ -114,4 +129,5 @@ law_lawful_rows_proof o = record {
   nullish_coalescing = nullish-coalescing-lawful o;
   optional_chaining = optional-chaining-lawful o;
   exponentiation = exponentiation-lawful o;
+  optional_catch = optional-catch-lawful o;
 }

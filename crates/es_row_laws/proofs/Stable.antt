@@ -1,13 +1,14 @@
 -- Steps among the fields of a node make it no construct of a lowering: rules act on no private member, on no parentheses and on no BigInt
 -- literal, but for the wrap rule, which acts on slots, and no operand of an assignment or an operator is one.
-use Rattle.std.proofs.Common.{◌≡◌, ◌∙◌, ℕ, zero, Bool, true, false, refl, sym, subst, inl, inr, true≢false}
+-- A field that holds something holds something after a step, and one that holds nothing has none.
+use Rattle.std.proofs.Common.{◌≡◌, ◌∙◌, ℕ, zero, Bool, true, false, refl, sym, ap, subst, inl, inr, true≢false}
 use Rattle.std.specs.Prelude.{◌&&◌, ◌||◌, not, List, [], ◌∷◌, bytes_eq, codes}
-use Rattle.es_tree.specs.Constructs.{field_at, is_big_int, is_chain, is_child, is_exponentiation, is_logical_assignment, is_nullish_coalescing, is_private_member, is_private_name, is_private_target}
+use Rattle.es_tree.specs.Constructs.{field_at, is_big_int, is_chain, is_child, is_exponentiation, is_logical_assignment, is_nullish_coalescing, is_optional_catch, is_private_member, is_private_name, is_private_target, stands}
 use Rattle.es_tree.specs.Names.{first_text}
 use Rattle.es_tree.specs.Parens.{without_parens}
 use Rattle.es_tree.specs.Tree.{Tree, node, Label, fields_of, kind_of}
 use Rattle.es_tree.specs.declared.ast_type.AstType.{AstType}
-use Rattle.es_tree.specs.declared.ast_type.AstType.TheVariants.{AssignmentExpression, BigIntLiteral, BinaryExpression, ChainExpression, Identifier, LogicalExpression, MemberExpression, ParenthesizedExpression, PrivateIdentifier, UnaryExpression}
+use Rattle.es_tree.specs.declared.ast_type.AstType.TheVariants.{AssignmentExpression, BigIntLiteral, BinaryExpression, CatchClause, ChainExpression, Identifier, LogicalExpression, MemberExpression, ParenthesizedExpression, PrivateIdentifier, UnaryExpression}
 use Rattle.es_tree.specs.declared.options.EnvOptions.{EnvOptions}
 use Rattle.es_runs.specs.OptionalChaining.{has_tests, where_short}
 use Rattle.es_resolution.specs.Declarations.{Bound}
@@ -19,6 +20,8 @@ use Rattle.es_steps.specs.LogicalAssignment.LogicalAssignmentRule.{to_name, to_s
 use Rattle.es_steps.specs.NullishCoalescing.{NullishCoalescingRule}
 use Rattle.es_steps.specs.NullishCoalescing.NullishCoalescingRule.{with_temporary, reading_again}
 use Rattle.es_steps.specs.Open.{Open, OpenFields, OpenField, body, child, children, finished, finished_field, finished_fields, gap, list}
+use Rattle.es_steps.specs.OptionalCatch.{CatchRule}
+use Rattle.es_steps.specs.OptionalCatch.CatchRule.{catches}
 use Rattle.es_steps.specs.OptionalChaining.{OptionalChainingRule}
 use Rattle.es_steps.specs.OptionalChaining.OptionalChainingRule.{by_tests, as_callee, in_delete}
 use Rattle.es_steps.specs.Rules.Replacing.{replaces}
@@ -32,16 +35,17 @@ use Rattle.es_steps.proofs.Opened.{finished-opened}
 use Rattle.es_steps.proofs.RuleLaws.{writes-lists}
 use Rattle.es_traverse.specs.Bodies.{BodiesStand, BodiesStandBy, BodiesStandIn}
 use Rattle.es_traverse.specs.Laws.{IsStable}
-use Rattle.es_row_laws.specs.Laws.{KeepsConstructs, LawStable, LawStableRows, is_lowered_assignment, is_lowered_power, is_simple, is_simple_target}
+use Rattle.es_row_laws.specs.Laws.{KeepsConstructs, LawStable, LawStableRows, is_lowered_assignment, is_lowered_power, is_simple, is_simple_target, optional_catch_under}
 use Rattle.es_row_laws.proofs.Fewer.{fewer-stable}
 use Rattle.es_row_laws.proofs.Lawful.{exponentiation-under, logical-assignment-under, nullish-coalescing-under, optional-chaining-under, writing-under}
 
 -- WHERE RULES ACT
 
--- the kinds of nodes on which rows act
+-- the kinds of nodes on which rules act, outside slots
 abbrev is_acted_on : AstType → Bool
 is_acted_on AssignmentExpression = true
 is_acted_on BinaryExpression = true
+is_acted_on CatchClause = true
 is_acted_on ChainExpression = true
 is_acted_on LogicalExpression = true
 is_acted_on UnaryExpression = true
@@ -104,9 +108,12 @@ core-acts o n s s' t u slot (inr (inr (inr (inl (inr h))))) =
     on-acts o.es2020.optional_chaining (RowRule (OptionalChainingRule o.assumptions.no_document_all)) (row-acts (OptionalChainingRule o.assumptions.no_document_all) (chaining-acts o.assumptions.no_document_all)) n s s' t u slot h
 core-acts o n s s' t u slot (inr (inr (inr (inr h)))) = on-acts o.es2016.exponentiation_operator (RowRule ExponentiationRule) (row-acts ExponentiationRule raising-acts) n s s' t u slot h
 
+catch-acts : ActsOn CatchRule
+catch-acts n s s' t u slot (catches fresh) = record { on = refl; made = refl }
+
 -- TESTS OF NODES
 
--- a test of kinds that is false of those on which rows act
+-- a test of kinds that is false of those on which rules act
 abbrev IsQuiet : (AstType → Bool) → Type 0
 IsQuiet test = (k : AstType) → is_acted_on k ≡ true → test k ≡ false
 
@@ -300,15 +307,34 @@ module _ (R : Site → Ledger → Spot → Ledger → Spot → Type 0) (acts-on 
   chain-stable n s s' ChainExpression l first fs gs h r e = e
   chain-stable n s s' k l first fs gs h r e = refl
 
+  -- what a step leaves in a field stands there
+  still-stands : {n : Site} {s s' : Ledger} {f g : OpenField} → FieldStep R n s f s' g → stands (finished_field g) ≡ true
+  still-stands (in_child r) = refl
+  still-stands (in_children r) = refl
+  still-stands (in_body x y z r) = refl
+  still-stands (in_list x y r) = refl
+  still-stands (in_target x r) = refl
+  still-stands (in_program x r) = refl
+  still-stands (acts_on_list ts us r) = refl
+  still-stands (acts_on_body t u r) = refl
+
+  parameter-kept : {c : ℕ → Site} {s s' : Ledger} {fs gs : OpenFields} → FieldsStep R c s fs s' gs → not (stands (field_at 0 (finished_fields fs))) ≡ false → not (stands (field_at 0 (finished_fields gs))) ≡ false
+  parameter-kept (in_first r) e = ap (λ b. not b) (still-stands r)
+  parameter-kept (in_later r) e = e
+
+  catch-stable : IsStable R is_optional_catch
+  catch-stable n s s' CatchClause l first fs gs h r e = parameter-kept r e
+  catch-stable n s s' k l first fs gs h r e = refl
+
   all-stable : KeepsConstructs R
-  all-stable = record { logical_assignment = assignment-stable; nullish_coalescing = coalescing-stable; optional_chaining = chain-stable; exponentiation = exponentiation-stable }
+  all-stable = record { logical_assignment = assignment-stable; nullish_coalescing = coalescing-stable; optional_chaining = chain-stable; exponentiation = exponentiation-stable; optional_catch = catch-stable }
 
 -- THE LAWS
 
 pub law_stable_proof : LawStable
 law_stable_proof o = all-stable (rule_under o) (core-acts o)
 
--- of a rule that holds only where those do that options ask for
+-- of a rule that holds only where the core rules do that options ask for
 pub fewer-constructs : (o : EnvOptions) {Q : Site → Ledger → Spot → Ledger → Spot → Type 0} → ((n : Site) (s : Ledger) (x : Spot) (s' : Ledger) (y : Spot) → Q n s x s' y → rule_under o n s x s' y) → KeepsConstructs Q
 fewer-constructs o under =
     let all = law_stable_proof o in
@@ -317,6 +343,7 @@ fewer-constructs o under =
       nullish_coalescing = fewer-stable under is_nullish_coalescing all.nullish_coalescing;
       optional_chaining = fewer-stable under is_chain all.optional_chaining;
       exponentiation = fewer-stable under is_lowered_power all.exponentiation;
+      optional_catch = fewer-stable under is_optional_catch all.optional_catch;
     }
 
 pub law_stable_rows_proof : LawStableRows
@@ -326,4 +353,5 @@ law_stable_rows_proof o = record {
   nullish_coalescing = fewer-constructs o (nullish-coalescing-under o);
   optional_chaining = fewer-constructs o (optional-chaining-under o);
   exponentiation = fewer-constructs o (exponentiation-under o);
+  optional_catch = all-stable (optional_catch_under o) (on-acts o.es2019.optional_catch_binding CatchRule catch-acts);
 }

@@ -48,6 +48,7 @@ impl Scoping {
         ensures err { OnErr result (SameNames self.old self.new) }
     {
         let Ok(number) = u32::try_from(self.scopes.len()) else {
+            // The numbers of scopes have passed their end.
             return Err(AllocError);
         };
         self.scopes.push(Scope {
@@ -71,6 +72,7 @@ impl Scoping {
         ensures err { OnErr result (SameNames self.old self.new) }
     {
         let Ok(number) = u32::try_from(self.symbols.len()) else {
+            // The numbers of symbols have passed their end.
             return Err(AllocError);
         };
         let key = name.clone()?;
@@ -92,6 +94,7 @@ impl Scoping {
         ensures err { OnErr result (SameNames self.old self.new) }
     {
         let Ok(number) = u32::try_from(self.references.len()) else {
+            // The numbers of references have passed their end.
             return Err(AllocError);
         };
         self.references.push(reference)?;

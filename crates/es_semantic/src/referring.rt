@@ -148,6 +148,7 @@ fn number_if(is_made: bool, next: &mut u32) -> Result<Option<ScopeId>, AllocErro
     }
     let number = *next;
     let Some(following) = number.checked_add(1) else {
+        // The numbers of scopes have passed their end.
         return Err(AllocError);
     };
     *next = following;

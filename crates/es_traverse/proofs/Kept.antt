@@ -95,12 +95,12 @@ mutual
 
 -- AT A PLACE THAT MAY BE THE BODY OF AN ARROW
 
-opens-body-same : (b : Bool) (a : Moment) → (cond b (with_pair a) a).options ≡ a.options
-opens-body-same true a = refl
-opens-body-same false a = refl
+pub pair-options : (b : Bool) (a : Moment) → (cond b (with_pair a) a).options ≡ a.options
+pair-options true a = refl
+pair-options false a = refl
 
 pub opens-options : (c : Site) (keeps : Bool) (t : Tree) (a : Moment) → (opens_at c keeps t a).options ≡ a.options
-opens-options ArrowBody keeps t a = opens-body-same (keeps && not (is_statement_body t)) a
+opens-options ArrowBody keeps t a = pair-options (keeps && not (is_statement_body t)) a
 opens-options _ keeps t a = refl
 
 pub opened-options : (c : Site) (keeps : Bool) (t : Tree) (a b : Moment) → b ≡ opens_at c keeps t a → b.options ≡ a.options

@@ -2,7 +2,9 @@ pub mod StepInto
 pub mod Bodies
 pub mod BothHooks
 pub mod NoHooks
+pub mod NothingAsked
 pub mod Kept
+pub mod Pairs
 pub mod LoadParts
 pub mod KeptParts
 pub mod ClassNames

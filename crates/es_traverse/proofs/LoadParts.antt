@@ -2,14 +2,14 @@
 use Rattle.std.proofs.Common.{◌≡◌, ◌≤◌, ◌<◌, ◌+◌, ◌*◌, refl, sym, ap, arith, ℕ, zero, suc, length, List, [], ◌∷◌, get_or, set, Bool, true, false, true≢false}
 use Rattle.es_tree.specs.Tree.{Tree, node, Label, Fields, done, ◌then◌, Field, missing, one, many, statements, Trees, empty, ◌before◌, field_size, fields_size, tree_size, trees_size}
 use Rattle.es_tree.specs.declared.ast_type.AstType.{AstType}
-use Rattle.es_tree.specs.declared.ast_type.AstType.TheVariants.{ArrowFunctionExpression, AssignmentExpression, AssignmentPattern, BinaryExpression, LogicalExpression, PatternProperty, PropertyDefinition}
+use Rattle.es_tree.specs.declared.ast_type.AstType.TheVariants.{ArrowFunctionExpression, AssignmentExpression, AssignmentPattern, BinaryExpression, CatchClause, LogicalExpression, PatternProperty, PropertyDefinition}
 use Rattle.es_runs.specs.Weights.{own_weight, field_weight, fields_weight, trees_weight, weight}
 use Rattle.es_runs.proofs.Weights.{weight-size}
 use Rattle.es_steps.specs.Open.{is_body}
 use Rattle.es_visit.specs.declared.hook.Hook.{Hook}
 use Rattle.es_visit.specs.declared.hook.Hook.TheVariants.{Expression}
-use Rattle.es_visit.proofs.Entering.{is_of_kind}
-use Rattle.es_traverse.specs.Loads.{allowance, field_load, fields_load, load, own_allowance, trees_load, wrapping, wrapping_by, writing, writing_by}
+use Rattle.es_visit.proofs.Calls.{is_of_kind}
+use Rattle.es_traverse.specs.Loads.{allowance, field_load, fields_load, load, own_allowance, parameter_allowance, trees_load, wrapping, wrapping_by, writing, writing_by}
 use Rattle.es_traverse.specs.Sites.{is_arrow_body, is_slot_place, may_be_slot}
 use Rattle.es_traverse.specs.declared.site.Site.{Site as CodeSite}
 use Rattle.es_traverse.specs.declared.site.Site.TheVariants.{ArrowBody, Slot}
@@ -41,11 +41,19 @@ own-same BinaryExpression l fs gs = refl
 own-same AssignmentExpression l fs gs = refl
 own-same _ l fs gs = refl
 
-own-loaded : (k : AstType) (l : Label) (fs : Fields) → own_weight k l fs + own_allowance k ≤ 60
+parameter-loaded : (fs : Fields) → parameter_allowance CatchClause fs ≤ 2
+parameter-loaded (missing then fs) = omega arith
+parameter-loaded (one t then fs) = omega arith
+parameter-loaded (many ts then fs) = omega arith
+parameter-loaded (statements ts then fs) = omega arith
+parameter-loaded done = omega arith
+
+own-loaded : (k : AstType) (l : Label) (fs : Fields) → own_weight k l fs + own_allowance k + parameter_allowance k fs ≤ 60
 own-loaded PropertyDefinition l fs = omega arith
 own-loaded AssignmentPattern l fs = omega arith
 own-loaded PatternProperty l fs = omega arith
 own-loaded ArrowFunctionExpression l fs = omega arith
+own-loaded CatchClause l fs = omega (arith, parameter-loaded fs)
 own-loaded k l fs = omega (arith, weight-size (node k l done), own-same k l fs done)
 
 -- a tree has at most 61 times its number of nodes as its load

@@ -1,14 +1,15 @@
--- Hooks that do nothing, of a type that keeps no pairs and acts before expressions alone.
+-- Hooks that do nothing, of a type that keeps no pairs and acts at one hook alone.
 use Rattle.std.proofs.Common.{◌≡◌, ◌+◌, ℕ, refl, sym, arith, inl, Bool, true, false, true≢false}
 use Rattle.es_tree.specs.Tree.{Tree, Trees, kind_of, label_of, fields_of}
 use Rattle.es_tree.specs.declared.options.EnvOptions.{EnvOptions}
 use Rattle.es_steps.specs.Steps.Steps.{stays}
 use Rattle.es_visit.specs.declared.hook.Hook.{Hook}
 use Rattle.es_visit.specs.declared.hook.Hook.TheVariants.{Expression, Statement}
-use Rattle.es_visit.specs.Laws.{Goes, GoesOut, GoesOutOfList}
+use Rattle.es_visit.specs.Calls.{Goes, GoesOut, GoesOutOfList}
+use Rattle.es_visit.proofs.Calls.{is_of_kind}
 use Rattle.es_changes.specs.Changes.{Kept}
 use Rattle.es_changes.specs.Moments.{Moment}
-use Rattle.es_traverse.specs.Laws.{Entered, EnteredAs, EnteredList, EnteredParameters, ExitedBody, ExitedList, ExitedParameters, ExitedProgram, Known, OnlyOnEntry, Profile, anywhere, opens_body, opens_list}
+use Rattle.es_traverse.specs.Laws.{Entered, EnteredAs, EnteredList, EnteredParameters, ExitedBody, ExitedList, ExitedParameters, ExitedProgram, Known, OnlyAt, OnlyOnEntry, PassesOn, Profile, Settled, anywhere, opens_body, opens_list}
 use Rattle.es_traverse.specs.Loads.{writing_by}
 use Rattle.es_traverse.specs.declared.site.Site.{Site}
 use Rattle.es_traverse.proofs.Kept.{kept-none}
@@ -58,9 +59,17 @@ module _ (p : Profile) (a : Moment) where
 
   -- NODES
 
-  pub entered-none : OnlyOnEntry p → (h : Hook) → (h ≡ Expression → ⊥) → (c : Site) (t : Tree) → EnteredAs p h c a t a t
-  entered-none only Expression other c t = absurd (other refl)
-  entered-none only Statement other c t = record {
+  -- a hook that isn't the one where it acts
+  pub entered-elsewhere : (at : Hook) → OnlyAt at p → (h : Hook) → (h ≡ at → ⊥) → (h ≡ Expression → PassesOn p) → (c : Site) (t : Tree) → EnteredAs p h c a t a t
+  entered-elsewhere at only Expression other passes c t = record {
+    stepped = λ n l f k. stays;
+    left = λ n l f k. passes refl n t k;
+    cleared = λ n l f k. only Expression other (kind_of t) (label_of t) (fields_of t);
+    sort = λ g e. inl e;
+    body = refl;
+    order = inl refl;
+  }
+  entered-elsewhere at only Statement other passes c t = record {
     stepped = λ n l f k. stays;
     left = λ n l f k. k;
     cleared = λ n l f k. only Statement other (kind_of t) (label_of t) (fields_of t);
@@ -68,13 +77,16 @@ module _ (p : Profile) (a : Moment) where
     body = refl;
     order = inl refl;
   }
-  entered-none only h other c t = record {
+  entered-elsewhere at only h other passes c t = record {
     stepped = λ n l f k. stays;
     left = λ n l f k. k;
     cleared = λ n l f k. only h other (kind_of t) (label_of t) (fields_of t);
     body = refl;
     order = inl refl;
   }
+
+  pub entered-none : OnlyOnEntry p → (h : Hook) → (h ≡ Expression → ⊥) → (c : Site) (t : Tree) → EnteredAs p h c a t a t
+  entered-none only h other c t = entered-elsewhere Expression only h other (λ e. absurd (other e)) c t
 
   -- what holds wherever a node stands holds where the code knows of its place
   pub entered-anywhere : {b : Moment} (h : Hook) → h ≡ Expression → (c : Site) (t u : Tree) → Entered p (Known p.counts) (Known p.leaves) Expression anywhere a t b u → EnteredAs p h c a t b u
@@ -87,6 +99,17 @@ module _ (p : Profile) (a : Moment) where
     order = x.order;
   }
   entered-anywhere _ e c t u x = absurd (cc e)
+
+  pub settled-anywhere : {b : Moment} (h : Hook) → is_of_kind h ≡ true → (c : Site) (t u : Tree) → Settled p h anywhere a t b u → EnteredAs p h c a t b u
+  settled-anywhere Expression e c t u x = absurd (true≢false (sym e))
+  settled-anywhere Statement e c t u x = absurd (true≢false (sym e))
+  settled-anywhere h e c t u x = record {
+    stepped = λ n l f k. x.stepped n tt f k;
+    left = λ n l f k. x.left n tt f k;
+    cleared = λ n l f k. x.cleared n tt f k;
+    body = x.body;
+    order = x.order;
+  }
 
 -- CALLS are not counted
 

@@ -1,5 +1,5 @@
 -- The hooks of a node, one after the other.
-use Rattle.std.proofs.Common.{◌≡◌, ◌∙◌, ◌≤◌, ◌||◌, ◌⊎◌, refl, sym, ap, subst, arith, ℕ, Bool, true, false, true≢false, Option, Some, None, inl, inr}
+use Rattle.std.proofs.Common.{◌≡◌, ◌∙◌, ◌≤◌, ◌||◌, ◌⊎◌, refl, sym, ap, subst, arith, ℕ, Bool, true, false, true≢false, Option, Some, None, inl, inr, List}
 use Rattle.std.specs.Prelude.{not}
 use Rattle.std.proofs.lemmas.Option.{none-some}
 use Rattle.es_tree.specs.HasForm.{has_form, is_of_sort}
@@ -12,7 +12,7 @@ use Rattle.es_tree.specs.declared.table.Sort.TheVariants.{Expression as s-Expres
 use Rattle.es_tree.proofs.NodeForm.{node_form}
 use Rattle.es_resolution.specs.Seen.{seen}
 use Rattle.es_steps.specs.Slots.{is_slot}
-use Rattle.es_steps.specs.Open.{opened}
+use Rattle.es_steps.specs.Open.{Pending, opened}
 use Rattle.es_steps.specs.Steps.{Site as Place, Step, Steps}
 use Rattle.es_steps.specs.Steps.Steps.{stays}
 use Rattle.es_visit.specs.Counts.{hooks_in}
@@ -21,9 +21,8 @@ use Rattle.es_visit.specs.declared.hook.Hook.{Hook}
 use Rattle.es_visit.specs.declared.hook.Hook.TheVariants.{Expression, Statement}
 use Rattle.es_visit.specs.declared.hook.Sort.{Sort}
 use Rattle.es_visit.specs.declared.hook.Sort.TheVariants.{AlwaysExpression, AlwaysStatement}
-use Rattle.es_visit.specs.Laws.{Goes, GoesOut, OneEntry, OneExit}
-use Rattle.es_visit.specs.Visits.{GoesBySort, GoesOutBySort}
-use Rattle.es_visit.proofs.Entering.{is_of_kind, of_kind}
+use Rattle.es_visit.specs.Calls.{Goes, GoesBySort, GoesOut, GoesOutBySort, OneEntry, OneExit}
+use Rattle.es_visit.proofs.Calls.{is_of_kind, of_kind}
 use Rattle.es_changes.specs.Conditions.{AreSound, Conditions, holds_after, holds_before, may_bring}
 use Rattle.es_changes.specs.Fits.{Fits}
 use Rattle.es_changes.specs.Laws.{SamePlace}
@@ -114,7 +113,7 @@ record ByRole (p : Profile) (c : Site) (h : Hook) (a : Moment) (t : Tree) (b : M
   body : KeepsBody t u
   sort : KeepsSort h t u
 
-module _ (keeps : Bool) (p : Profile) (can : CanVisit keeps p) where
+module _ {S : Type 0} (pending : S → List Pending) (keeps : Bool) (p : Profile) (can : CanVisit pending keeps p) where
   by-role : (r : Role) (c : Site) {a b : Moment} (t u : Tree) → role_at (kind_of t) c ≡ r → (h : Hook) → hook_of_role r ≡ Some h → EnteredAs p h c a t b u → ByRole p c h a t b u
   by-role Nothing c t u is h e x = absurd (none-some _ e)
   by-role r-Expression c {a = a} {b = b} t u is h e x' =

@@ -1,6 +1,6 @@
 -- What stands in a field, and lists of parameters and of statements, between the hooks of the list.
 use Rattle.std.proofs.Common.{◌≡◌, ◌∙◌, ◌≤◌, ◌<◌, ◌+◌, refl, sym, ap, subst, arith, ℕ, length, List, [], ◌∷◌, Bool, true, false}
-use Rattle.std.specs.Prelude.{None, cond, not, ◌&&◌}
+use Rattle.std.specs.Prelude.{cond, not, ◌&&◌}
 use Rattle.es_tree.specs.Tree.{Tree, node, Label, Fields, fields_size, tree_size, missing, one, many, statements, Trees, empty, ◌before◌}
 use Rattle.es_tree.specs.declared.ast_type.AstType.{AstType}
 use Rattle.es_tree.specs.declared.options.EnvOptions.{EnvOptions}
@@ -9,27 +9,28 @@ use Rattle.es_scope.specs.declared.ancestor.Ancestor.{Ancestor}
 use Rattle.es_semantic.specs.RolesOf.{reads}
 use Rattle.es_semantic.specs.declared.place.Role.{Role}
 use Rattle.es_resolution.specs.Resolved.{own_of}
-use Rattle.es_steps.specs.Open.{is_statement_body, list, no_additions, nothing_pending, opened_trees}
-use Rattle.es_steps.specs.Steps.{FieldStep, Site, Steps}
+use Rattle.es_steps.specs.Open.{is_statement_body}
+use Rattle.es_steps.specs.Steps.{Site}
 use Rattle.es_steps.specs.Steps.Steps.{stays}
 use Rattle.es_changes.specs.Changes.{Each, Kept, ListStepped, heft}
 use Rattle.es_changes.specs.Conditions.{holds_before}
 use Rattle.es_changes.specs.Fits.{FitInList}
 use Rattle.es_changes.specs.Laws.{LawsOfField, SamePlace}
-use Rattle.es_changes.specs.Moments.{Moment, ledger_at, ledger_with, top, with_pair}
+use Rattle.es_changes.specs.Moments.{Moment, ledger_at, top, with_pair}
 use Rattle.es_changes.proofs.InField.{field-laws}
 use Rattle.es_changes.proofs.StepRows.{steps-trans}
 use Rattle.es_changes.proofs.StillFits.{still-fits}
 use Rattle.es_changes.proofs.TreeLaws.{trees-laws}
-use Rattle.es_traverse.specs.Laws.{EnteredList, EnteredParameters, ExitedList, ExitedParameters, IsLawful, IsReady, LeavesEach, Profile, anything, is_outermost, opens_list}
+use Rattle.es_traverse.specs.Laws.{EnteredList, EnteredParameters, ExitedList, ExitedParameters, IsLawful, IsQuiet, IsReady, LeavesEach, Profile, anything, is_outermost, opens_list}
 use Rattle.es_traverse.specs.Loads.{fields_load, load, own_allowance}
 use Rattle.es_traverse.specs.Visits.{VisitedAt, VisitedField, VisitedList, VisitedTrees, opens_at}
 use Rattle.es_traverse.specs.declared.site.Site.{Site as CodeSite}
 use Rattle.es_traverse.specs.declared.site.Site.TheVariants.{ArrowBody}
 use Rattle.es_traverse.specs.Sites.{is_arrow_body}
 use Rattle.es_traverse.proofs.ClassNames.{own-row, reads-own}
-use Rattle.es_traverse.proofs.Kept.{closed-pair, kept-then, same-place}
+use Rattle.es_traverse.proofs.Kept.{closed-pair, kept-then, pair-options, same-place}
 use Rattle.es_traverse.proofs.LoadParts.{own-same}
+use Rattle.es_traverse.proofs.Pairs.{paired, paired-list, paired-steps}
 
 -- WHAT THE NEXT PART MAY COUNT ON, where a pair may have been opened
 
@@ -137,10 +138,9 @@ inner [] h = absurd (omega (arith, h))
 inner (x ∷ []) h = absurd (omega (arith, h))
 inner (x ∷ y ∷ xs) h = refl
 
-opens-inner : (keeps : Bool) (a : Moment) → keeps ≡ true → 1 < length a.around → opens_list keeps a ≡ with_pair a
-opens-inner keeps a e h =
-    let opened_here : (keeps && not (is_outermost a.around)) ≡ true = rw (e, inner a.around h) in
-    ap (λ b. cond b (with_pair a) a) opened_here
+opens-inner : (keeps : Bool) (a : Moment) → 1 < length a.around → opens_list keeps a ≡ paired keeps a
+opens-inner true a h = ap (λ b. cond (true && not b) (with_pair a) a) (inner a.around h)
+opens-inner false a h = refl
 
 list-around : (keeps : Bool) (a : Moment) → (opens_list keeps a).around ≡ a.around
 list-around keeps a = at (keeps && not (is_outermost a.around)) where
@@ -150,43 +150,43 @@ list-around keeps a = at (keeps && not (is_outermost a.around)) where
 
 -- the pair of a list is closed as it was opened
 record Pairs (keeps : Bool) (a : Moment) (w s : ℕ) (d : Moment) (u z : ℕ) : Type 0 where
-  closed : opens_list keeps d ≡ with_pair d
-  kept : Kept (with_pair a) w s (with_pair d) u z
+  closed : opens_list keeps d ≡ paired keeps d
+  kept : Kept (paired keeps a) w s (paired keeps d) u z
 
 -- a list that isn't the program's, with a pair of its own
-module _ (keeps : Bool) (e : keeps ≡ true) (a d : Moment) {b c : Moment} (deep : 1 < length a.around) {w s v r q o u z : ℕ} (g : Kept (opens_list keeps a) w s b v r) (h : Kept b v r c q o) (k : Kept c q o (opens_list keeps d) u z) where
+module _ (keeps : Bool) (a d : Moment) {b c : Moment} (deep : 1 < length a.around) {w s v r q o u z : ℕ} (g : Kept (opens_list keeps a) w s b v r) (h : Kept b v r c q o) (k : Kept c q o (opens_list keeps d) u z) where
   kept-pairs : Pairs keeps a w s d u z
   kept-pairs =
       let far : d.around ≡ a.around = sym (list-around keeps d) ∙ (k.around ∙ (h.around ∙ (g.around ∙ list-around keeps a))) in
-      let closed : opens_list keeps d ≡ with_pair d = opens-inner keeps d e (omega (arith, deep, ap length far)) in
-      record { closed = closed; kept = subst (λ y. Kept y w s (with_pair d) u z) (opens-inner keeps a e deep) (subst (λ y. Kept (opens_list keeps a) w s y u z) closed (kept-then g (kept-then h k))) }
+      let closed : opens_list keeps d ≡ paired keeps d = opens-inner keeps d (omega (arith, deep, ap length far)) in
+      record { closed = closed; kept = subst (λ y. Kept y w s (paired keeps d) u z) (opens-inner keeps a deep) (subst (λ y. Kept (opens_list keeps a) w s y u z) closed (kept-then g (kept-then h k))) }
 
   pub kept-list : Kept a w s d u z
-  kept-list = closed-pair true kept-pairs.kept
+  kept-list = closed-pair keeps kept-pairs.kept
 
-  pub visited-list : (P : EnvOptions → Profile) (ts us vs ws : Trees) → IsLawful (P a.options) → EnteredList (P a.options) keeps a ts b us → VisitedTrees (P b.options) b us c vs → ExitedList (P c.options) keeps c vs d ws → VisitedList (P a.options) a ts d ws
-  visited-list P ts us vs ws law x v' y' =
+  pub visited-list : IsQuiet keeps a.lists → IsQuiet keeps d.lists → (P : EnvOptions → Profile) (ts us vs ws : Trees) → IsLawful (P a.options) → EnteredList (P a.options) keeps a ts b us → VisitedTrees (P b.options) b us c vs → ExitedList (P c.options) keeps c vs d ws → VisitedList (P a.options) a ts d ws
+  visited-list quiet quiet' P ts us vs ws law x v' y' =
       let p = P a.options in
-      let opened = opens-inner keeps a e deep in
-      let same : b.options ≡ a.options = g.options ∙ ap (λ y. y.options) opened in
+      let opened = opens-inner keeps a deep in
+      let same : b.options ≡ a.options = g.options ∙ pair-options (keeps && not (is_outermost a.around)) a in
       let v : VisitedTrees p b us c vs = subst (λ i. VisitedTrees (P i) b us c vs) same v' in
       let y : ExitedList p keeps c vs d ws = subst (λ i. ExitedList (P i) keeps c vs d ws) (h.options ∙ same) y' in
-      let entered : ListStepped p.rule (Each (holds_before p.conditions)) (with_pair a) ts b us = subst (λ y. ListStepped p.rule (Each (holds_before p.conditions)) y ts b us) opened x.stepped in
-      let leaves : LeavesEach (FitInList (with_pair a)) (holds_before p.conditions) (holds_before p.conditions) ts us = subst (λ y. LeavesEach (FitInList y) (holds_before p.conditions) (holds_before p.conditions) ts us) opened x.leaves in
-      let exited : ListStepped p.rule (Each anything) c vs (with_pair d) ws = subst (λ y. ListStepped p.rule (Each anything) c vs y ws) kept-pairs.closed y.stepped in
-      let at_first : SamePlace (with_pair a) b = subst (λ y. SamePlace y b) opened (same-place g) in
+      let entered : ListStepped p.rule (Each (holds_before p.conditions)) (paired keeps a) ts b us = subst (λ y. ListStepped p.rule (Each (holds_before p.conditions)) y ts b us) opened x.stepped in
+      let leaves : LeavesEach (FitInList (paired keeps a)) (holds_before p.conditions) (holds_before p.conditions) ts us = subst (λ y. LeavesEach (FitInList y) (holds_before p.conditions) (holds_before p.conditions) ts us) opened x.leaves in
+      let exited : ListStepped p.rule (Each anything) c vs (paired keeps d) ws = subst (λ y. ListStepped p.rule (Each anything) c vs y ws) kept-pairs.closed y.stepped in
+      let at_first : SamePlace (paired keeps a) b = subst (λ y. SamePlace y b) opened (same-place g) in
       let still = still-fits p.rule law.rule in
       let trees = trees-laws p.rule law.rule in
       let around = top a.lists in
-      let lists : d.lists ≡ a.lists = kept-pairs.kept.level.outer in
       record {
-        stepped = λ n fit known.
-            let at_b = still.list (with_pair a) b n around ts us at_first fit (entered n fit known around) in
+        stepped = λ n fits known.
+            let fit = paired-list keeps a n ts fits in
+            let at_b = still.list (paired keeps a) b n around ts us at_first fit (entered n fit known around) in
             let inside = trees.inside_steps b c n us vs at_b (same-place h) (v.stepped n (trees.inside_fits b n us at_b) (leaves n fit known)) around in
             let at_c = still.list b c n around us vs (same-place h) at_b inside in
-            let whole = steps-trans (entered n fit known around) (steps-trans inside (exited n at_c (each-anything n vs) around)) in
-            subst (λ i. Steps (FieldStep p.rule n) (ledger_at a) (list nothing_pending None no_additions (opened_trees ts)) (ledger_with i d) (list nothing_pending None no_additions (opened_trees ws))) (sym (ap top lists)) whole;
-        free = λ n fit known i.
-            let at_b = still.list (with_pair a) b n around ts us at_first fit (entered n fit known around) in
+            paired-steps keeps n a d ts ws quiet quiet' kept-pairs.kept.level (steps-trans (entered n fit known around) (steps-trans inside (exited n at_c (each-anything n vs) around)));
+        free = λ n fits known i.
+            let fit = paired-list keeps a n ts fits in
+            let at_b = still.list (paired keeps a) b n around ts us at_first fit (entered n fit known around) in
             y.none (p.constructs i) (λ t own. law.own i t own) (v.free n (trees.inside_fits b n us at_b) (leaves n fit known) i);
       }

@@ -9,9 +9,10 @@ use Rattle.es_tree.specs.declared.options.EnvOptions.{EnvOptions}
 use Rattle.es_scope.specs.declared.ancestor.Ancestor.{Ancestor}
 use Rattle.es_steps.specs.Open.{is_body, list, no_additions, nothing_pending, opened_fields, opened_trees}
 use Rattle.es_steps.specs.Steps.{FieldStep, Site, Step, Steps, site_in, the_program}
+use Rattle.es_steps.specs.Steps.Steps.{stays}
 use Rattle.es_visit.specs.declared.hook.Hook.{Hook}
 use Rattle.es_changes.specs.Changes.{Each, Kept, open_program}
-use Rattle.es_changes.specs.Conditions.{holds_after, holds_before}
+use Rattle.es_changes.specs.Conditions.{AreSound, holds_after, holds_before}
 use Rattle.es_changes.specs.Fits.{Fits, FitInList}
 use Rattle.es_changes.specs.Laws.{SamePlace}
 use Rattle.es_changes.specs.Moments.{Moment, inside_of, ledger_with, top, with_pair}
@@ -20,7 +21,7 @@ use Rattle.es_changes.proofs.StepRows.{steps-trans}
 use Rattle.es_changes.proofs.StillFits.{still-fits}
 use Rattle.es_changes.proofs.TreeLaws.{trees-laws}
 use Rattle.es_traverse.proofs.Kept.{kept-then}
-use Rattle.es_traverse.specs.Laws.{CanVisit, EnteredList, ExitedList, ExitedProgram, IsLawful, Profile, is_outermost, opens_list}
+use Rattle.es_traverse.specs.Laws.{EnteredList, ExitedList, ExitedProgram, IsLawful, IsQuiet, Profile, is_outermost, opens_list}
 use Rattle.es_traverse.specs.Visits.{VisitedProgram, VisitedTrees}
 
 -- the place of a program's statements
@@ -44,7 +45,7 @@ no-more false e = refl
 
 -- THE STATEMENTS OF A PROGRAM, between the hooks of their list
 
-module _ (p : Profile) (keeps : Bool) (can : CanVisit keeps p) (law : IsLawful p) (x : Ancestor) (place : x.kind ≡ Program) (field : x.field ≡ 1) (a : Moment) (l : Label) (ds : Field) (ts : Trees) (none : top a.lists ≡ nothing_pending) (fits : Fits a the_program (node Program l (ds then statements ts then done))) (after : holds_after p.conditions the_program (node Program l (ds then statements ts then done))) where
+module _ (p : Profile) (keeps : Bool) (sound : AreSound p.conditions) (law : IsLawful p) (x : Ancestor) (place : x.kind ≡ Program) (field : x.field ≡ 1) (a : Moment) (l : Label) (ds : Field) (ts : Trees) (none : top a.lists ≡ nothing_pending) (fits : Fits a the_program (node Program l (ds then statements ts then done))) (after : holds_after p.conditions the_program (node Program l (ds then statements ts then done))) where
   abbrev body_site : Site
   body_site = site_in the_program Program l (opened_fields (is_body Program) (ds then statements ts then done)) 1
 
@@ -52,7 +53,7 @@ module _ (p : Profile) (keeps : Bool) (can : CanVisit keeps p) (law : IsLawful p
   at-first = (program-laws p.rule law.rule).fits a l ds ts x place field fits
 
   each-first : Each (holds_before p.conditions) body_site ts
-  each-first = (can.sound.inward the_program fits.sort Program l (ds then statements ts then done) fits.formed after).1.0
+  each-first = (sound.inward the_program fits.sort Program l (ds then statements ts then done) fits.formed after).1.0
 
   module _ (b c d f : Moment) (us vs ws : Trees) (first : SamePlace (inside_of x a) b) (second : SamePlace b c) (third : SamePlace c d) (e : EnteredList p keeps (inside_of x a) ts b us) (v : VisitedTrees p b us c vs) (h : ExitedList p keeps c vs d ws) (unopened : opens_list keeps (inside_of x a) ≡ inside_of x a) (shut : opens_list keeps d ≡ d) where
     fit-entered : FitInList (opens_list keeps (inside_of x a)) body_site ts
@@ -84,23 +85,35 @@ module _ (p : Profile) (keeps : Bool) (can : CanVisit keeps p) (law : IsLawful p
     pub whole-free : (q : Hook) → any_in_fields (p.constructs q) (statements ws then done) ≡ false
     whole-free q = no-more (any_in_trees (p.constructs q) ws) (h.none (p.constructs q) (λ t w. law.own q t w) (v.free body_site ((trees-laws p.rule law.rule).inside_fits b body_site us at-second) each-second q))
 
-pub visited-statements : (p : Profile) (keeps : Bool) → CanVisit keeps p → IsLawful p → (x : Ancestor) → x.kind ≡ Program → x.field ≡ 1 → (a b c d f : Moment) (l : Label) (ds : Field) (ts us vs ws : Trees) → SamePlace (inside_of x a) b → SamePlace b c → SamePlace c d → d ≡ inside_of x f → SamePlace a f →
+pub visited-statements : (p : Profile) (keeps : Bool) → AreSound p.conditions → IsLawful p → (x : Ancestor) → x.kind ≡ Program → x.field ≡ 1 → (a b c d f : Moment) (l : Label) (ds : Field) (ts us vs ws : Trees) → SamePlace (inside_of x a) b → SamePlace b c → SamePlace c d → d ≡ inside_of x f → SamePlace a f →
     EnteredList p keeps (inside_of x a) ts b us → VisitedTrees p b us c vs → ExitedList p keeps c vs d ws → opens_list keeps (inside_of x a) ≡ inside_of x a → opens_list keeps d ≡ d →
     VisitedProgram p a (node Program l (ds then statements ts then done)) f (node Program l (ds then statements ws then done))
-visited-statements p keeps can law x place field a b c d f l ds ts us vs ws first second third left whole e v h unopened shut = record {
-  stepped = λ none fits after. whole-steps p keeps can law x place field a l ds ts none fits after b c d f us vs ws first second third e v h unopened shut left whole;
+visited-statements p keeps sound law x place field a b c d f l ds ts us vs ws first second third left whole e v h unopened shut = record {
+  stepped = λ none fits after. whole-steps p keeps sound law x place field a l ds ts none fits after b c d f us vs ws first second third e v h unopened shut left whole;
   directives = refl;
-  free = λ none fits after. whole-free p keeps can law x place field a l ds ts none fits after b c d f us vs ws first second third e v h unopened shut;
+  free = λ none fits after. whole-free p keeps sound law x place field a l ds ts none fits after b c d f us vs ws first second third e v h unopened shut;
 }
 
 -- THE WHOLE, with the hooks of the program
 
-pub visited-whole : (P : EnvOptions → Profile) (keeps : Bool) → keeps ≡ true → ((o : EnvOptions) → IsLawful (P o)) → (a m b c : Moment) (t u w : Tree) → m ≡ a → b.options ≡ m.options → VisitedProgram (P m.options) m t b u → ExitedProgram (P b.options) keeps b u c w → VisitedProgram (P a.options) a t c w
-visited-whole P keeps k law a m b c t u w e options v' x' =
+-- after its exit hook, of a type that keeps the pairs or of another
+last-steps : (p : Profile) (keeps : Bool) (b c : Moment) (u w : Tree) → ExitedProgram p keeps b u c w → Steps (Step p.rule the_program) (ledger_with nothing_pending b) (open_program (top b.lists) u) (ledger_with nothing_pending c) (open_program (top c.lists) w)
+last-steps p true b c u w x = x.stepped refl
+last-steps p false b c u w x =
+    let same = x.same refl in
+    subst (λ (m : Moment). Steps (Step p.rule the_program) (ledger_with nothing_pending b) (open_program (top b.lists) u) (ledger_with nothing_pending m) (open_program (top m.lists) w)) (sym same.1)
+    (subst (λ (t : Tree). Steps (Step p.rule the_program) (ledger_with nothing_pending b) (open_program (top b.lists) u) (ledger_with nothing_pending b) (open_program (top b.lists) t)) (sym same.0) stays)
+
+pub left-empty : (p : Profile) (keeps : Bool) {b c : Moment} {u w : Tree} → IsQuiet keeps c.lists → ExitedProgram p keeps b u c w → top c.lists ≡ nothing_pending
+left-empty p true quiet x = x.finished refl
+left-empty p false quiet x = ap top (quiet refl)
+
+pub visited-whole : (P : EnvOptions → Profile) (keeps : Bool) → ((o : EnvOptions) → IsLawful (P o)) → (a m b c : Moment) (t u w : Tree) → m ≡ a → b.options ≡ m.options → VisitedProgram (P m.options) m t b u → ExitedProgram (P b.options) keeps b u c w → VisitedProgram (P a.options) a t c w
+visited-whole P keeps law a m b c t u w e options v' x' =
     let v : VisitedProgram (P a.options) a t b u = subst (λ q. VisitedProgram (P q.options) q t b u) e v' in
     let x : ExitedProgram (P a.options) keeps b u c w = subst (λ o. ExitedProgram (P o) keeps b u c w) (options ∙ ap (λ (q : Moment). q.options) e) x' in
     record {
-      stepped = λ none fits after. steps-trans (v.stepped none fits after) (x.stepped k);
+      stepped = λ none fits after. steps-trans (v.stepped none fits after) (last-steps (P a.options) keeps b c u w x);
       directives = x.directives ∙ v.directives;
       free = λ none fits after h. x.none ((P a.options).constructs h) (λ t w. (law a.options).own h t w) (v.free none fits after h);
     }

@@ -135,9 +135,16 @@ EnteredAs p h c a t b u = Settled p h (Tells c) a t b u
 abbrev pub anywhere : Site → Type 0
 anywhere n = Unit {0}
 
--- A type that acts before expressions alone has constructs of no other hook.
+-- A type that acts at one hook alone has constructs of no other one.
+abbrev pub OnlyAt : Hook → Profile → Type 0
+OnlyAt hook p = (h : Hook) → (h ≡ hook → ⊥) → (k : AstType) (l : Label) (fs : Fields) → p.constructs h k l fs ≡ false
+
 abbrev pub OnlyOnEntry : Profile → Type 0
-OnlyOnEntry p = (h : Hook) → (h ≡ Expression → ⊥) → (k : AstType) (l : Label) (fs : Fields) → p.constructs h k l fs ≡ false
+OnlyOnEntry p = OnlyAt Expression p
+
+-- A type that does nothing before expressions leaves as much as it counts on.
+abbrev pub PassesOn : Profile → Type 0
+PassesOn p = (n : Site) (t : Tree) → p.counts n t ≡ true → p.leaves n t ≡ true
 
 -- MOMENTS OF BODIES AND LISTS
 
@@ -260,10 +267,14 @@ pub record AreApart (first second : Profile) : Type 0 where
   pub after : (n : Site) (t : Tree) → second.conditions.after n t ≡ first.conditions.after n t
   pub meets : (n : Site) (t : Tree) → first.leaves n t ≡ true → second.counts n t ≡ true
 
--- what a whole visit asks of a type: it keeps the pairs, its conditions go inward, and its hooks bring an expression from the first to the
--- second
-pub record CanVisit (keeps : Bool) (p : Profile) : Type 0 where
-  pub pairs : keeps ≡ true
+-- with a type that keeps no pairs nothing is pending
+abbrev pub IsQuiet : Bool → List Pending → Type 0
+IsQuiet keeps ps = keeps ≡ false → ps ≡ nothing_pending ∷ []
+
+-- What a whole visit asks of a type and of what is pending in its state: the type keeps the pairs, or nothing is pending in any state; its
+-- conditions go inward, and its hooks bring an expression from the first to the second.
+pub record CanVisit {S : Type 0} (pending : S → List Pending) (keeps : Bool) (p : Profile) : Type 0 where
+  pub pairs : (s : S) → IsQuiet keeps (pending s)
   pub sound : AreSound p.conditions
   pub counts : (n : Site) (t : Tree) → p.counts n t ≡ p.conditions.before n t
   pub leaves : (n : Site) (t : Tree) → p.leaves n t ≡ p.conditions.after n t

@@ -5,3 +5,4 @@ pub mod Sites
 pub mod Loads
 pub mod Visits
 pub mod Together
+pub mod NothingAsked

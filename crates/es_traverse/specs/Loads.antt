@@ -1,10 +1,10 @@
--- What a visit may still make of a part: its weight, and what the type that keeps the pairs may make beside the rows. A slot may be wrapped:
--- a call and an arrow, each with an id, and what may be made of that arrow; the body of an arrow that is an expression may become one of
--- statements: a body and a `return`, each with an id.
+-- What a visit may still make of a part: its weight, and what may be made beside the rows. A slot may be wrapped: a call and an arrow, each
+-- with an id, and what may be made of that arrow; the body of an arrow that is an expression may become one of statements: a body and a
+-- `return`, each with an id; and a `catch` without a parameter may get one, a node with an id.
 use Rattle.std.specs.Prelude.{ℕ, ◌+◌, suc, Bool, true, false}
 use Rattle.es_tree.specs.Tree.{Tree, node, Fields, done, ◌then◌, Field, missing, one, many, statements, Trees, empty, ◌before◌}
 use Rattle.es_tree.specs.declared.ast_type.AstType.{AstType}
-use Rattle.es_tree.specs.declared.ast_type.AstType.TheVariants.{ArrowFunctionExpression, AssignmentPattern, PatternProperty, PropertyDefinition}
+use Rattle.es_tree.specs.declared.ast_type.AstType.TheVariants.{ArrowFunctionExpression, AssignmentPattern, CatchClause, PatternProperty, PropertyDefinition}
 use Rattle.es_runs.specs.Weights.{own_weight}
 use Rattle.es_visit.specs.declared.hook.Hook.{Hook}
 use Rattle.es_visit.specs.declared.hook.Hook.TheVariants.{Expression}
@@ -19,9 +19,14 @@ own_allowance PatternProperty = 8
 own_allowance ArrowFunctionExpression = 4
 own_allowance _ = 0
 
+-- of a node of this kind with these fields: it may get the parameter that it lacks
+abbrev pub parameter_allowance : AstType → Fields → ℕ
+parameter_allowance CatchClause (missing then fs) = 2
+parameter_allowance _ fs = 0
+
 abbrev mutual
   pub load : Tree → ℕ
-  load (node k l fs) = suc (own_weight k l fs + own_allowance k + fields_load fs)
+  load (node k l fs) = suc (own_weight k l fs + own_allowance k + parameter_allowance k fs + fields_load fs)
 
   pub fields_load : Fields → ℕ
   fields_load done = 0

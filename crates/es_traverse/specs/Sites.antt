@@ -1,5 +1,5 @@
 -- What the code knows of a place, and what that says of its site.
-use Rattle.std.specs.Prelude.{◌≡◌, ℕ, ◌+◌, zero, suc, ◌||◌, Bool, true, false, Option, Some, None, List, [], ◌∷◌}
+use Rattle.std.specs.Prelude.{◌≡◌, ℕ, suc, zero, ◌||◌, Bool, true, false, Option, Some, None, List, [], ◌∷◌}
 use Rattle.es_tree.specs.declared.ast_type.AstType.{AstType}
 use Rattle.es_tree.specs.declared.ast_type.AstType.TheVariants.{AssignmentPattern, CallExpression, PatternProperty, PropertyDefinition}
 use Rattle.es_tree.specs.Ancestors.{Ancestor, is_field_value}
@@ -9,7 +9,6 @@ use Rattle.es_traverse.specs.declared.site.Role.{Role}
 use Rattle.es_traverse.specs.declared.site.Role.TheVariants.{Expression as r-Expression, Statement as r-Statement, Nothing}
 use Rattle.es_traverse.specs.declared.site.Site.{Site}
 use Rattle.es_traverse.specs.declared.site.Site.TheVariants.{Expression, Slot, Statement, ArrowBody, Parameters}
-use Rattle.es_visit.specs.Counts.{parameters_at}
 use Rattle.es_visit.specs.declared.hook.Hook.{Hook}
 use Rattle.es_visit.specs.Hooks.{sort_of}
 use Rattle.es_visit.specs.declared.hook.Hook.TheVariants.{Expression as h-Expression, Statement as h-Statement}
@@ -48,11 +47,6 @@ pub record Tells (c : Site) (n : ProgramSite) : Type 0 where
 abbrev pub parameters_in : ℕ → Site → ℕ
 parameters_in n Parameters = n
 parameters_in n _ = 0
-
--- so much for those in the first fields of a node
-abbrev pub parameters_before : ℕ → AstType → ℕ → ℕ
-parameters_before n k zero = 0
-parameters_before n k (suc i) = parameters_at n k i + parameters_before n k i
 
 -- As what a node of this kind and sort stands at such a place. A call is an expression wherever it stands, the content of a chain among it.
 abbrev pub role_of : Sort → Site → Role

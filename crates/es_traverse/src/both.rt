@@ -1,7 +1,7 @@
 //! Two lowerings as one.
 ghost use Rattle.std.specs.Prelude.{◌≡◌, false};
 ghost use Rattle.es_tree.specs.declared.options.EnvOptions.{EnvOptions as Options};
-ghost use Rattle.es_visit.specs.Laws.{most};
+ghost use Rattle.es_visit.specs.Calls.{most};
 ghost use Rattle.es_traverse.specs.Laws.{AreApart, both_profile};
 ghost use Rattle.es_traverse.specs.Together.{both_lawful};
 

@@ -3,6 +3,7 @@
 
 pub mod both;
 pub mod entering;
+pub mod entering_kinds;
 pub mod lowering;
 pub mod site;
 pub mod traverse;

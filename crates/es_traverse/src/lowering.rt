@@ -5,7 +5,8 @@ ghost use Rattle.es_steps.specs.Open.{Pending};
 ghost use Rattle.es_traverse.specs.Laws.{Profile};
 ghost use Rattle.es_visit.specs.declared.hook.Hook.{Hook as AnyHook};
 
-/// A state that keeps what is to be written later.
+/// A state that keeps what is to be written later. One in which nothing ever is has the one empty pair of the program,
+/// for all lists and bodies; a type that keeps no pairs is visited with such a state.
 pub trait Additions {
     /// The declarators of each statement list and each arrow body that is an expression around the place, the
     /// innermost first.

@@ -9,7 +9,7 @@ ghost use Rattle.es_tree.specs.Tree.{label_of, tree_size, trees};
 ghost use Rattle.es_tree.specs.declared.options.EnvOptions.{EnvOptions as Options};
 ghost use Rattle.es_runs.specs.Weights.{trees_weight, weight};
 ghost use Rattle.es_statements.specs.ProgramPlain.{plain_program};
-ghost use Rattle.es_visit.specs.Laws.{Goes, GoesOut, GoesOutOfList, KeepsAllIds, KeepsIds};
+ghost use Rattle.es_visit.specs.Calls.{Goes, GoesOut, GoesOutOfList, KeepsAllIds, KeepsIds};
 ghost use Rattle.es_visit.specs.declared.hook.Hook.TheVariants.{ArrowFunctionBody, FormalParameters};
 ghost use Rattle.es_visit.specs.declared.hook.Hook.TheVariants.{Program as WholeProgram, Statements as StatementList};
 ghost use Rattle.es_traverse.specs.ContextMoments.{moment};

@@ -9,8 +9,7 @@ ghost use Rattle.es_runs.specs.Weights.{field_weight, fields_weight, weight};
 ghost use Rattle.es_scope.specs.Contexts.{around_of};
 ghost use Rattle.es_statements.specs.ProgramPlain.{plain_program};
 ghost use Rattle.es_visit.specs.Counts.{all_hooks, hooks_in, hooks_in_trees, own_parameters, total, total_among, total_at, total_in};
-ghost use Rattle.es_visit.specs.Laws.{KeepsIds};
-ghost use Rattle.es_visit.specs.Visits.{Counted, GoesAtBody, GoesByKind, GoesBySort, GoesIn, GoesOutAtBody, GoesOutByKind, GoesOutBySort, GoesOutOfNode};
+ghost use Rattle.es_visit.specs.Calls.{Counted, GoesAtBody, GoesByKind, GoesBySort, GoesIn, GoesOutAtBody, GoesOutByKind, GoesOutBySort, GoesOutOfNode, KeepsIds};
 ghost use Rattle.es_steps.specs.Open.{nothing_pending};
 ghost use Rattle.es_changes.specs.Changes.{Kept};
 ghost use Rattle.es_changes.specs.Moments.{top as first_pending};
@@ -35,15 +34,15 @@ use std::sync::ledger::Ledger;
 
 /// Visits a whole program, from its own pair of lists to what is pending at the end: each node's enter
 /// hooks, its children in the order of the table of fields, and its exit hooks. A node that an enter hook
-/// made is visited as it stands after the hook. A step is a call of a hook. Fails only for want of memory; the program
-/// is then in no stated shape.
+/// made is visited as it stands after the hook. The type keeps the pairs, or nothing is pending in any state of the
+/// visit. A step is a call of a hook. Fails only for want of memory; the program is then in no stated shape.
 pub fn traverse<T: Traverse<S>, S: Additions, L: Ledger>(
     t: &mut T,
     program: &mut Program,
     ctx: &mut TraverseCtx<S>,
     steps: &mut Steps<L>,
 ) -> Result<(), AllocError>
-    requires can { CanVisit T.keeps (T.profile ctx.old.options) }
+    requires can { CanVisit S.pending T.keeps (T.profile ctx.old.options) }
     requires ready { IsReady T.suits t.old (moment S.pending ctx.old) (load (plain_program program.old)) }
     requires top { around_of ctx.old ≡ [] }
     ensures kept { OnOk result (KeptVisited 0 (moment S.pending ctx.old) (plain_program program.old) (moment S.pending ctx.new) (plain_program program.new)) }
@@ -68,7 +67,7 @@ fn visit_program<T: Traverse<S>, S: Additions, L: Ledger>(
     ctx: &mut TraverseCtx<S>,
     steps: &mut Steps<L>,
 ) -> Result<(), AllocError>
-    requires can { CanVisit T.keeps (T.profile ctx.old.options) }
+    requires can { CanVisit S.pending T.keeps (T.profile ctx.old.options) }
     requires ready { IsReady T.suits t.old (moment S.pending ctx.old) (load (plain_program program.old)) }
     requires top { around_of ctx.old ≡ [] }
     ensures kept { OnOk result (KeptVisited 0 (moment S.pending ctx.old) (plain_program program.old) (moment S.pending ctx.new) (plain_program program.new)) }
@@ -101,7 +100,7 @@ fn visit_node<T: Traverse<S>, S: Additions, L: Ledger>(
     ctx: &mut TraverseCtx<S>,
     steps: &mut Steps<L>,
 ) -> Result<(), AllocError>
-    requires can { CanVisit T.keeps (T.profile ctx.old.options) }
+    requires can { CanVisit S.pending T.keeps (T.profile ctx.old.options) }
     requires ready { IsReady T.suits t.old (moment S.pending ctx.old) (load node.old + allowance site) }
     requires deep { 0 < length (around_of ctx.old) }
     ensures kept { OnOk result (KeptVisited (allowance site) (moment S.pending ctx.old) node.old (moment S.pending ctx.new) node.new) }
@@ -125,7 +124,7 @@ fn visit_fields<T: Traverse<S>, S: Additions, L: Ledger>(
     ctx: &mut TraverseCtx<S>,
     steps: &mut Steps<L>,
 ) -> Result<(), AllocError>
-    requires can { CanVisit T.keeps (T.profile ctx.old.options) }
+    requires can { CanVisit S.pending T.keeps (T.profile ctx.old.options) }
     requires ready { IsReady T.suits t.old (moment S.pending ctx.old) (fields_load (plain_fields fields.old.items) + own_allowance parent.kind) }
     requires deep { 0 < length (around_of ctx.old) }
     ensures kept { OnOk result (Kept (moment S.pending ctx.old) (fields_load (plain_fields fields.old.items) + own_allowance parent.kind) (fields_size (plain_fields fields.old.items)) (moment S.pending ctx.new) (fields_weight (plain_fields fields.new.items)) (fields_size (plain_fields fields.new.items))) }
@@ -156,7 +155,7 @@ fn visit_field<T: Traverse<S>, S: Additions, L: Ledger>(
     ctx: &mut TraverseCtx<S>,
     steps: &mut Steps<L>,
 ) -> Result<(), AllocError>
-    requires can { CanVisit T.keeps (T.profile ctx.old.options) }
+    requires can { CanVisit S.pending T.keeps (T.profile ctx.old.options) }
     requires ready { IsReady T.suits t.old (moment S.pending ctx.old) (field_load (plain_field field.old) + allowance site) }
     requires deep { 1 < length (around_of ctx.old) }
     ensures kept { OnOk result (Kept (moment S.pending ctx.old) (field_load (plain_field field.old) + allowance site) (field_size (plain_field field.old)) (moment S.pending ctx.new) (field_weight (plain_field field.new)) (field_size (plain_field field.new))) }
@@ -182,7 +181,7 @@ fn visit_list<T: Traverse<S>, S: Additions, L: Ledger>(
     ctx: &mut TraverseCtx<S>,
     steps: &mut Steps<L>,
 ) -> Result<(), AllocError>
-    requires can { CanVisit T.keeps (T.profile ctx.old.options) }
+    requires can { CanVisit S.pending T.keeps (T.profile ctx.old.options) }
     requires ready { IsReady T.suits t.old (moment S.pending ctx.old) (trees_load (trees nodes.old.items)) }
     requires deep { 0 < length (around_of ctx.old) }
     ensures kept { OnOk result (KeptVisitedTrees (moment S.pending ctx.old) (trees nodes.old.items) (moment S.pending ctx.new) (trees nodes.new.items)) }
@@ -206,7 +205,7 @@ fn visit_nodes<T: Traverse<S>, S: Additions, L: Ledger>(
     ctx: &mut TraverseCtx<S>,
     steps: &mut Steps<L>,
 ) -> Result<(), AllocError>
-    requires can { CanVisit T.keeps (T.profile ctx.old.options) }
+    requires can { CanVisit S.pending T.keeps (T.profile ctx.old.options) }
     requires site { allowance site ≡ 0 }
     requires ready { IsReady T.suits t.old (moment S.pending ctx.old) (trees_load (trees nodes.old.items)) }
     requires deep { 0 < length (around_of ctx.old) }
@@ -229,7 +228,7 @@ fn visit_parameters<T: Traverse<S>, S: Additions, L: Ledger>(
     ctx: &mut TraverseCtx<S>,
     steps: &mut Steps<L>,
 ) -> Result<(), AllocError>
-    requires can { CanVisit T.keeps (T.profile ctx.old.options) }
+    requires can { CanVisit S.pending T.keeps (T.profile ctx.old.options) }
     requires ready { IsReady T.suits t.old (moment S.pending ctx.old) (trees_load (trees parameters.old.items)) }
     requires deep { 0 < length (around_of ctx.old) }
     ensures kept { OnOk result (KeptVisitedTrees (moment S.pending ctx.old) (trees parameters.old.items) (moment S.pending ctx.new) (trees parameters.new.items)) }
@@ -253,7 +252,7 @@ fn visit_statements<T: Traverse<S>, S: Additions, L: Ledger>(
     ctx: &mut TraverseCtx<S>,
     steps: &mut Steps<L>,
 ) -> Result<(), AllocError>
-    requires can { CanVisit T.keeps (T.profile ctx.old.options) }
+    requires can { CanVisit S.pending T.keeps (T.profile ctx.old.options) }
     requires ready { IsReady T.suits t.old (moment S.pending ctx.old) (trees_load (trees statements.old.items)) }
     requires deep { 1 < length (around_of ctx.old) }
     ensures kept { OnOk result (KeptVisitedTrees (moment S.pending ctx.old) (trees statements.old.items) (moment S.pending ctx.new) (trees statements.new.items)) }
@@ -277,7 +276,7 @@ fn enter_node<T: Traverse<S>, S: Additions, L: Ledger>(
     ctx: &mut TraverseCtx<S>,
     steps: &mut Steps<L>,
 ) -> Result<(), AllocError>
-    requires can { CanVisit T.keeps (T.profile ctx.old.options) }
+    requires can { CanVisit S.pending T.keeps (T.profile ctx.old.options) }
     requires ready { IsReady T.suits t.old (moment S.pending ctx.old) (load node.old + allowance site) }
     ensures kept { OnOk result (Kept (opens_at site T.keeps node.old (moment S.pending ctx.old)) (load node.old + allowance site) (tree_size node.old) (moment S.pending ctx.new) (load node.new + writing site) (tree_size node.new)) }
     ensures entered { OnOk result (Seen (λ p q. EnteredNode (T.profile ctx.old.options) site (opens_at site T.keeps p (moment S.pending ctx.old)) p (moment S.pending ctx.new) q) node.old node.new) }
@@ -376,7 +375,7 @@ fn enter_sort<T: Traverse<S>, S: Additions, L: Ledger>(
     ctx: &mut TraverseCtx<S>,
     steps: &mut Steps<L>,
 ) -> Result<(), AllocError>
-    requires can { CanVisit T.keeps (T.profile ctx.old.options) }
+    requires can { CanVisit S.pending T.keeps (T.profile ctx.old.options) }
     requires ready { IsReady T.suits t.old (moment S.pending ctx.old) (load node.old + wrapping site) }
     ensures kept { OnOk result (KeptLoad (wrapping site) (moment S.pending ctx.old) node.old (moment S.pending ctx.new) node.new) }
     ensures entered { OnOk result (Seen (λ p q. EnteredSort (T.profile ctx.old.options) site (moment S.pending ctx.old) p (moment S.pending ctx.new) q) node.old node.new) }

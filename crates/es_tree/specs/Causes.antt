@@ -49,7 +49,6 @@ use Rattle.es_tree.specs.declared.error.UnsupportedKind.TheVariants.{
   UsingFunction as UnsupportedKind-UsingFunction,
   ArrowOuter as UnsupportedKind-ArrowOuter,
   ArrowThis as UnsupportedKind-ArrowThis,
-  NotBuilt as UnsupportedKind-NotBuilt,
 }
 
 abbrev pub option_name : OptionName → Text
@@ -97,4 +96,3 @@ unsupported_name UnsupportedKind-TagChain = codes "TagChain"
 unsupported_name UnsupportedKind-UsingFunction = codes "UsingFunction"
 unsupported_name UnsupportedKind-ArrowOuter = codes "ArrowOuter"
 unsupported_name UnsupportedKind-ArrowThis = codes "ArrowThis"
-unsupported_name UnsupportedKind-NotBuilt = codes "NotBuilt"

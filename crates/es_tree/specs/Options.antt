@@ -37,9 +37,7 @@ uses_built_ins None = false
 
 -- whether the options ask for a lowering or a warning that isn't built yet
 abbrev pub asks_for_unbuilt : EnvOptions → Bool
-asks_for_unbuilt o =
-    is_some o.es2015.arrow_function || is_some o.es2018.object_rest_spread || o.es2019.optional_catch_binding
-    || o.es2020.export_namespace_from || o.es2020.arbitrary_module_namespace_names || o.es2026.explicit_resource_management
+asks_for_unbuilt o = is_some o.es2015.arrow_function || is_some o.es2018.object_rest_spread || o.es2020.export_namespace_from || o.es2026.explicit_resource_management
 
 -- whether the options ask for this
 abbrev pub asks_for : OptionName → EnvOptions → Bool

@@ -144,8 +144,6 @@ pub enum UnsupportedKind {
     ArrowOuter,
     /// A `this` inside a lowered arrow in a class field or in parameters.
     ArrowThis,
-    /// A node that no lowering takes so far.
-    NotBuilt,
 }
 
 impl UnsupportedKind {
@@ -165,7 +163,6 @@ impl UnsupportedKind {
             UnsupportedKind::UsingFunction => "UsingFunction",
             UnsupportedKind::ArrowOuter => "ArrowOuter",
             UnsupportedKind::ArrowThis => "ArrowThis",
-            UnsupportedKind::NotBuilt => "NotBuilt",
         }
     }
 }

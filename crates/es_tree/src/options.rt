@@ -180,9 +180,7 @@ fn asks_for_unbuilt(options: &EnvOptions) -> bool
 {
     options.es2015.arrow_function.is_some()
         || options.es2018.object_rest_spread.is_some()
-        || options.es2019.optional_catch_binding
         || options.es2020.export_namespace_from
-        || options.es2020.arbitrary_module_namespace_names
         || options.es2026.explicit_resource_management
 }
 

@@ -9,7 +9,7 @@ use Rattle.es_tree.specs.Parens.{without_parens}
 use Rattle.es_tree.specs.StaticRules.{is_bad_accessor, is_bad_for, is_bad_using, is_declaration, is_duplicate_label, is_label, is_lone_body, is_misplaced_meta, is_misplaced_module_item, is_misplaced_return, is_misplaced_super, is_missing_label, is_unmarked_callee, is_unmarked_object}
 use Rattle.es_tree.specs.Tree.{Tree, node, Label, Fields, done, ◌then◌, missing, one, many, statements, Trees, empty, ◌before◌, kind_of}
 use Rattle.es_tree.specs.declared.ast_type.AstType.{AstType}
-use Rattle.es_tree.specs.declared.ast_type.AstType.TheVariants.{ArrowFunctionExpression, AssignmentExpression, BinaryExpression, BooleanLiteral, CallExpression, ChainExpression, ConditionalExpression, FunctionBody, Identifier, LogicalExpression, MemberExpression, NullLiteral, NumericLiteral, ObjectExpression, ParenthesizedExpression, SequenceExpression, SpreadElement, StringLiteral, Super, ThisExpression, UnaryExpression}
+use Rattle.es_tree.specs.declared.ast_type.AstType.TheVariants.{ArrowFunctionExpression, AssignmentExpression, BinaryExpression, BooleanLiteral, CallExpression, ChainExpression, ConditionalExpression, FunctionBody, Identifier, ImportAttribute, ImportNamespaceSpecifier, LogicalExpression, MemberExpression, NullLiteral, NumericLiteral, ObjectExpression, ParenthesizedExpression, SequenceExpression, SpreadElement, StringLiteral, Super, ThisExpression, UnaryExpression}
 use Rattle.es_tree.specs.declared.place.Place.{Place}
 use Rattle.es_tree.specs.declared.place.Place.TheVariants.{Other, Spine, Target}
 use Rattle.es_tree.specs.declared.table.Sort.{Sort}
@@ -288,6 +288,8 @@ is_quiet BooleanLiteral = true
 is_quiet CallExpression = true
 is_quiet ConditionalExpression = true
 is_quiet Identifier = true
+is_quiet ImportAttribute = true
+is_quiet ImportNamespaceSpecifier = true
 is_quiet LogicalExpression = true
 is_quiet MemberExpression = true
 is_quiet NullLiteral = true
@@ -322,6 +324,8 @@ module _ (l : Label) (fs : Fields) where
   quiet CallExpression e = record { jump = λ up. refl; returned = λ up. refl; super_word = λ up. refl; chain = refl; value = λ p. refl; using_word = λ up. refl; head = λ up. refl; item = λ up. refl; accessor = refl; declaration = refl; meta = λ up. refl }
   quiet ConditionalExpression e = record { jump = λ up. refl; returned = λ up. refl; super_word = λ up. refl; chain = refl; value = λ p. refl; using_word = λ up. refl; head = λ up. refl; item = λ up. refl; accessor = refl; declaration = refl; meta = λ up. refl }
   quiet Identifier e = record { jump = λ up. refl; returned = λ up. refl; super_word = λ up. refl; chain = refl; value = λ p. refl; using_word = λ up. refl; head = λ up. refl; item = λ up. refl; accessor = refl; declaration = refl; meta = λ up. refl }
+  quiet ImportAttribute e = record { jump = λ up. refl; returned = λ up. refl; super_word = λ up. refl; chain = refl; value = λ p. refl; using_word = λ up. refl; head = λ up. refl; item = λ up. refl; accessor = refl; declaration = refl; meta = λ up. refl }
+  quiet ImportNamespaceSpecifier e = record { jump = λ up. refl; returned = λ up. refl; super_word = λ up. refl; chain = refl; value = λ p. refl; using_word = λ up. refl; head = λ up. refl; item = λ up. refl; accessor = refl; declaration = refl; meta = λ up. refl }
   quiet LogicalExpression e = record { jump = λ up. refl; returned = λ up. refl; super_word = λ up. refl; chain = refl; value = λ p. refl; using_word = λ up. refl; head = λ up. refl; item = λ up. refl; accessor = refl; declaration = refl; meta = λ up. refl }
   quiet MemberExpression e = record { jump = λ up. refl; returned = λ up. refl; super_word = λ up. refl; chain = refl; value = λ p. refl; using_word = λ up. refl; head = λ up. refl; item = λ up. refl; accessor = refl; declaration = refl; meta = λ up. refl }
   quiet NullLiteral e = record { jump = λ up. refl; returned = λ up. refl; super_word = λ up. refl; chain = refl; value = λ p. refl; using_word = λ up. refl; head = λ up. refl; item = λ up. refl; accessor = refl; declaration = refl; meta = λ up. refl }

@@ -7,7 +7,6 @@ use Rattle.es_tree.specs.HasForm.{has_form, is_of_sort, trees_form}
 use Rattle.es_tree.specs.Table.{takes_expressions}
 use Rattle.es_tree.specs.Tree.{Tree, node, Label, done, ◌then◌, missing, one, many, Trees, kind_of, trees}
 use Rattle.es_tree.specs.declared.ast_type.AstType.TheVariants.{CatchClause, ObjectExpression, SpreadElement}
-use Rattle.es_tree.specs.declared.options.EnvOptions.{EnvOptions}
 use Rattle.es_tree.specs.declared.table.Sort.{Sort}
 use Rattle.es_tree.specs.declared.table.Sort.TheVariants.{Argument as s-Argument, Expression as s-Expression, ObjectMember as s-ObjectMember, Program as s-Program}
 use Rattle.es_tree.proofs.NodeForm.{node_form, has_form-node}
@@ -29,14 +28,12 @@ use Rattle.es_steps.proofs.FormMembers.{formed-call, formed-first}
 use Rattle.es_steps.proofs.FormParts.{HasSpan, IsFormed, and-left, no-span, span-of}
 use Rattle.es_steps.proofs.FormPowers.{AreFormed}
 use Rattle.es_steps.proofs.FormRows.{next-text}
-use Rattle.es_steps.proofs.FormRules.{AtNodes, FormLawful, NodeFormed, both-form, no-names, nodes-only, on-form, rule-under-form}
+use Rattle.es_steps.proofs.FormRules.{AtNodes, FormLawful, NodeFormed, no-names, nodes-only}
 use Rattle.es_steps.proofs.FormSorts.{form-wider}
-use Rattle.es_steps.proofs.FormSteps.{steps-keep-form}
-use Rattle.es_valid_steps.specs.Laws.{LawFurtherForm, with_catch_and_spread}
 
 -- OPTIONAL CATCH
 
-catch-nodes : (n : Site) (s s' : Ledger) (x y : Spot) → CatchRule n s x s' y → AtNodes x y
+pub catch-nodes : (n : Site) (s s' : Ledger) (x y : Spot) → CatchRule n s x s' y → AtNodes x y
 catch-nodes n s s' x y (catches fresh) = tt
 
 pub catch-form : FormLawful CatchRule
@@ -137,7 +134,7 @@ wide-object s = at (is_of_sort s ObjectExpression) (takes_expressions s) (all-wi
     at true b e d = e
     at false b e d = absurd (cc d)
 
-spread-nodes : (n : Site) (s s' : Ledger) (x y : Spot) → Replacing SpreadRule n s x s' y → AtNodes x y
+pub spread-nodes : (n : Site) (s s' : Ledger) (x y : Spot) → Replacing SpreadRule n s x s' y → AtNodes x y
 spread-nodes n s s' x y (replaces bs h) = tt
 
 pub spread-form : FormLawful (Replacing SpreadRule)
@@ -149,9 +146,3 @@ spread-form = nodes-only (Replacing SpreadRule) spread-nodes nodes
         let inner = and-left (trees_form s-ObjectMember s-ObjectMember ps) true f.children in
         let formed = placed-form (helper_node (codes "objectSpread2")) refl m v (span-of a ObjectExpression m (many ps then done) h) (copies-form (helper_node (codes "objectSpread2")) refl None [] ps v r some no_copy tt inner) in
         record { formed = form-wider a (placed m v) (wide-object a f.sort) formed; names = record { names = []; texts = tt; pending = refl; this = refl; top = refl } }
-
-pub further-form : (o : EnvOptions) → FormLawful (with_catch_and_spread o)
-further-form o = both-form (rule-under-form o) (both-form (on-form o.es2019.optional_catch_binding _ catch-form) (on-form (is_some o.es2018.object_rest_spread) _ spread-form))
-
-pub law_further_form_proof : LawFurtherForm
-law_further_form_proof o = steps-keep-form (with_catch_and_spread o) (further-form o)

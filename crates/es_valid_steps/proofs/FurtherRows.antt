@@ -22,7 +22,6 @@ use Rattle.es_steps.specs.Rules.Replacing.{replaces}
 use Rattle.es_steps.specs.Slots.{is_slot}
 use Rattle.es_steps.specs.Steps.{Ledger, Site}
 use Rattle.es_steps.specs.Steps.Spot.{at_node}
-use Rattle.es_valid_steps.specs.Laws.{LawFurtherPlaces, with_catch_and_spread}
 use Rattle.es_valid_steps.specs.PlaceRules.{Keeps, KeepsAll, KeepsHere}
 use Rattle.es_valid_steps.proofs.Changed.{ChangedFields}
 use Rattle.es_valid_steps.proofs.Changed.Changed.{inside, row}
@@ -32,19 +31,18 @@ use Rattle.es_valid_steps.proofs.Edges.{edges}
 use Rattle.es_valid_steps.proofs.Free.{Free, FreeAll, as-free, free-as, made-there, part}
 use Rattle.es_valid_steps.proofs.Free.From.{from_other}
 use Rattle.es_valid_steps.proofs.Free.Under.{deeper, itself}
-use Rattle.es_valid_steps.proofs.FurtherForms.{further-form, or-later, or-none}
+use Rattle.es_valid_steps.proofs.FurtherForms.{or-later, or-none}
 use Rattle.es_valid_steps.proofs.KeptNodes.{alike-changed, here-kept}
 use Rattle.es_valid_steps.proofs.Loose.{loose}
 use Rattle.es_valid_steps.proofs.MadeNodes.{free-call, free-empty, free-member, free-more, free-name, free-object, in-call, is_acted, left-keeps}
 use Rattle.es_valid_steps.proofs.Moves.{keeps-moved}
 use Rattle.es_valid_steps.proofs.Offers.{near-self, near-within, offers-self, offers-within}
-use Rattle.es_valid_steps.proofs.PlaceRows.{NodeKept, PlaceLawful, both-lawful, on-lawful, under-lawful}
-use Rattle.es_valid_steps.proofs.PlaceSteps.{steps-keep-places}
+use Rattle.es_valid_steps.proofs.PlaceRows.{NodeKept, PlaceLawful}
 use Rattle.es_valid_steps.proofs.Slots.{SlotHead}
 
 -- OPTIONAL CATCH: the clause is the same to its body, and its parameter a name
 
-catch-lawful : PlaceLawful CatchRule
+pub catch-lawful : PlaceLawful CatchRule
 catch-lawful = record { at_nodes = nodes }
   where
     nodes : (n : Site) (s s' : Ledger) (t u : Tree) (a : Sort) (up : List Ancestor) → (is_slot n.above ≡ true → a ≡ s-Expression) → (is_slot n.above ≡ true → SlotHead up) → CatchRule n s (at_node t) s' (at_node u) → has_form a t ≡ true → Keeps up t → NodeKept n up t u
@@ -117,7 +115,7 @@ module _ (up : List Ancestor) (f : Tree) (h : Free up f) where
 helper-free : (up : List Ancestor) (x : List ℕ) → Free up (helper_node x)
 helper-free up x = free-member up (made [] (false ∷ false ∷ [])) (word (codes "babelHelpers")) (word x) refl (free-as false true up (word (codes "babelHelpers")) (free-name up _)) (free-name up _)
 
-spread-lawful : PlaceLawful (Replacing SpreadRule)
+pub spread-lawful : PlaceLawful (Replacing SpreadRule)
 spread-lawful = record { at_nodes = nodes }
   where
     nodes : (n : Site) (s s' : Ledger) (t u : Tree) (a : Sort) (up : List Ancestor) → (is_slot n.above ≡ true → a ≡ s-Expression) → (is_slot n.above ≡ true → SlotHead up) → Replacing SpreadRule n s (at_node t) s' (at_node u) → has_form a t ≡ true → Keeps up t → NodeKept n up t u
@@ -126,8 +124,3 @@ spread-lawful = record { at_nodes = nodes }
         let free = helper-free up (codes "objectSpread2") in
         let left = placed-keeps up helper free t m v refl h.0 (copies-free up helper free m (many ps then done) None [] ps v r some no_copy tt h.1.0) in
         record { keeps = left.keeps; seen = inl (row refl left.left) }
-
--- TOGETHER
-
-pub law_further_places_proof : LawFurtherPlaces
-law_further_places_proof o = steps-keep-places (with_catch_and_spread o) (further-form o) (both-lawful (under-lawful o) (both-lawful (on-lawful o.es2019.optional_catch_binding _ catch-lawful) (on-lawful (is_some o.es2018.object_rest_spread) _ spread-lawful)))

@@ -14,5 +14,10 @@ pub mod KeptNodes
 pub mod FieldForms
 pub mod PlaceRows
 pub mod PlaceSteps
+pub mod Spread
+pub mod SpreadSteps
+pub mod ProgramLists
+pub mod NamespaceRows
 pub mod FurtherForms
 pub mod FurtherRows
+pub mod FurtherSteps

@@ -10,7 +10,7 @@ use Rattle.es_tree.specs.Parens.{without_parens}
 use Rattle.es_tree.specs.StaticRules.{has_pattern, is_bad_for, is_bad_rest, is_bad_using, is_declaration, is_duplicate_label, is_label, is_lone_body, is_lone_declarator, is_misplaced_module_item, is_misplaced_super, is_module_item}
 use Rattle.es_tree.specs.Tree.{Tree, node, Label, Fields, ◌then◌, many, kind_of, label_of}
 use Rattle.es_tree.specs.declared.ast_type.AstType.{AstType}
-use Rattle.es_tree.specs.declared.ast_type.AstType.TheVariants.{ArrowFunctionExpression, AssignmentExpression, AssignmentPattern, BinaryExpression, BlockStatement, CallExpression, CatchClause, ChainExpression, ConditionalExpression, ExportNamedDeclaration, ForInStatement, ForOfStatement, FunctionBody, Identifier, LabeledStatement, LogicalExpression, MemberExpression, ObjectExpression, ObjectPattern, ObjectTarget, ParenthesizedExpression, PatternProperty, Program, PropertyDefinition, RestElement, ReturnStatement, SequenceExpression, SpreadElement, StaticBlock, SwitchCase, TargetRest, UnaryExpression, VariableDeclaration}
+use Rattle.es_tree.specs.declared.ast_type.AstType.TheVariants.{ArrowFunctionExpression, AssignmentExpression, AssignmentPattern, BinaryExpression, BlockStatement, CallExpression, CatchClause, ChainExpression, ConditionalExpression, ExportNamedDeclaration, ExportSpecifier, ForInStatement, ForOfStatement, FunctionBody, Identifier, ImportDeclaration, ImportNamespaceSpecifier, LabeledStatement, LogicalExpression, MemberExpression, ObjectExpression, ObjectPattern, ObjectTarget, ParenthesizedExpression, PatternProperty, Program, PropertyDefinition, RestElement, ReturnStatement, SequenceExpression, SpreadElement, StaticBlock, SwitchCase, TargetRest, UnaryExpression, VariableDeclaration}
 use Rattle.es_tree.specs.declared.place.Place.{Place}
 use Rattle.es_tree.specs.declared.place.Place.TheVariants.{Other, Spine, Target}
 use Rattle.es_tree.specs.declared.table.Sort.{Sort}
@@ -25,6 +25,9 @@ use Rattle.es_valid_steps.proofs.Offers.PlaceOffers.{on_spine, same_place}
 abbrev pub is_loose : AstType → Bool
 is_loose ArrowFunctionExpression = true
 is_loose CatchClause = true
+is_loose ExportSpecifier = true
+is_loose ImportDeclaration = true
+is_loose ImportNamespaceSpecifier = true
 is_loose ObjectExpression = true
 is_loose SpreadElement = true
 is_loose BlockStatement = true
@@ -72,6 +75,9 @@ module _ (l : Label) (all : Fields) (i n : ℕ) (up : List Ancestor) where
       at k e [] = refl
       at ArrowFunctionExpression e (b ∷ up) = refl
       at CatchClause e (b ∷ up) = refl
+      at ExportSpecifier e (b ∷ up) = refl
+      at ImportDeclaration e (b ∷ up) = refl
+      at ImportNamespaceSpecifier e (b ∷ up) = refl
       at ObjectExpression e (b ∷ up) = refl
       at SpreadElement e (b ∷ up) = refl
       at BlockStatement e (b ∷ up) = refl
@@ -118,6 +124,9 @@ module _ (l : Label) (all : Fields) (i n : ℕ) (up : List Ancestor) where
   stands : (k : AstType) → is_loose k ≡ true → Stands k
   stands ArrowFunctionExpression e = record { label = refl; top = refl; for_in = refl; for_of = refl; exported = refl; lone = refl }
   stands CatchClause e = record { label = refl; top = refl; for_in = refl; for_of = refl; exported = refl; lone = refl }
+  stands ExportSpecifier e = record { label = refl; top = refl; for_in = refl; for_of = refl; exported = refl; lone = refl }
+  stands ImportDeclaration e = record { label = refl; top = refl; for_in = refl; for_of = refl; exported = refl; lone = refl }
+  stands ImportNamespaceSpecifier e = record { label = refl; top = refl; for_in = refl; for_of = refl; exported = refl; lone = refl }
   stands ObjectExpression e = record { label = refl; top = refl; for_in = refl; for_of = refl; exported = refl; lone = refl }
   stands SpreadElement e = record { label = refl; top = refl; for_in = refl; for_of = refl; exported = refl; lone = refl }
   stands BlockStatement e = record { label = refl; top = refl; for_in = refl; for_of = refl; exported = refl; lone = refl }

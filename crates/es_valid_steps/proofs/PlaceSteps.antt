@@ -43,15 +43,15 @@ use Rattle.es_valid_steps.proofs.Visits.{law_places_proof}
 
 -- WHAT A STEP LEAVES: nodes that keep the rules, and that look to those around them as before
 
-record TreeKept (n : Site) (up : List Ancestor) (s s' : Ledger) (t u : Open) : Type 0 where
-  keeps : Keeps up (finished u)
+pub record TreeKept (n : Site) (up : List Ancestor) (s s' : Ledger) (t u : Open) : Type 0 where
+  pub keeps : Keeps up (finished u)
   seen : Changed (finished t) (finished u) ⊎ (is_slot n.above ≡ true)
   names : NewNames s s'
 
-record FieldsKept (k : AstType) (l : Label) (up : List Ancestor) (all : Fields) (i : ℕ) (s s' : Ledger) (fs gs : OpenFields) : Type 0 where
-  keeps : KeepsIn up k l all i (finished_fields gs)
-  seen : ChangedFields k (finished_fields fs) (finished_fields gs)
-  names : NewNames s s'
+pub record FieldsKept (k : AstType) (l : Label) (up : List Ancestor) (all : Fields) (i : ℕ) (s s' : Ledger) (fs gs : OpenFields) : Type 0 where
+  pub keeps : KeepsIn up k l all i (finished_fields gs)
+  pub seen : ChangedFields k (finished_fields fs) (finished_fields gs)
+  pub names : NewNames s s'
 
 record FieldKept (k : AstType) (up : List Ancestor) (s s' : Ledger) (f g : OpenField) : Type 0 where
   keeps : KeepsBy up (finished_field g)
@@ -110,7 +110,7 @@ module _ (l : Label) (all : Fields) (up : List Ancestor) (k : AstType) (i : ℕ)
 -- A NODE whose fields took a step
 
 module _ (n : Site) (up : List Ancestor) (s s' : Ledger) (k : AstType) (l : Label) (fs gs : OpenFields) where
-  in-node : (a : Sort) → has_form a (node k l (finished_fields fs)) ≡ true → Keeps up (node k l (finished_fields fs)) → FieldsKept k l up (finished_fields fs) 0 s s' fs gs → TreeKept n up s s' (open_node k l fs) (open_node k l gs)
+  pub in-node : (a : Sort) → has_form a (node k l (finished_fields fs)) ≡ true → Keeps up (node k l (finished_fields fs)) → FieldsKept k l up (finished_fields fs) 0 s s' fs gs → TreeKept n up s s' (open_node k l fs) (open_node k l gs)
   in-node a f h r =
       let old = finished_fields fs in
       let new = finished_fields gs in
@@ -145,7 +145,7 @@ either C (inr b) f g = g b
 
 module _ (R : Site → Ledger → Spot → Ledger → Spot → Type 0) (form : FormLawful R) (law : PlaceLawful R) where
   mutual
-    kept-after : {n : Site} {s s' : Ledger} {t u : Open} → Step R n s t s' u → (a : Sort) (up : List Ancestor) → (is_slot n.above ≡ true → a ≡ s-Expression) → (is_slot n.above ≡ true → SlotHead up) → IsProper t → has_form a (finished t) ≡ true → Keeps up (finished t) → TreeKept n up s s' t u
+    pub kept-after : {n : Site} {s s' : Ledger} {t u : Open} → Step R n s t s' u → (a : Sort) (up : List Ancestor) → (is_slot n.above ≡ true → a ≡ s-Expression) → (is_slot n.above ≡ true → SlotHead up) → IsProper t → has_form a (finished t) ≡ true → Keeps up (finished t) → TreeKept n up s s' t u
     kept-after (acts {n = n} {s = s} {s' = s'} t u h) a up slot head proper f g =
         let formed = subst (λ (x : Tree). has_form a x ≡ true) (finished-opened t) f in
         let r = law.at_nodes n s s' t u a up slot head h formed (subst (λ (x : Tree). Keeps up x) (finished-opened t) g) in

@@ -1,15 +1,4 @@
-pub mod Changes
-pub mod NoHooks
-pub mod EitherSteps
-pub mod BothHooks
 pub mod Sums
-pub mod Reach
-pub mod Refused
-pub mod Entering
 pub mod SoFar
+pub mod Calls
 pub mod FewHooks
-pub mod Whole
-pub mod Places
-pub mod Lists
-pub mod Programs
-pub mod OneField

@@ -4,7 +4,7 @@ use Rattle.std.proofs.lemmas.List.Sums.{sum_by-cons}
 use Rattle.es_tree.specs.declared.options.EnvOptions.{EnvOptions}
 use Rattle.es_visit.specs.declared.hook.Hook.{Hook}
 use Rattle.es_visit.specs.Counts.{Measure, nodes_of, places_of, all_hooks}
-use Rattle.es_visit.specs.Visits.{Counted}
+use Rattle.es_visit.specs.Calls.{Counted}
 
 -- what these sums come to over those before i, with what is counted beside them
 abbrev pub sum_so_far : {X : Type 0} → (Measure → X → ℕ) → (ℕ → ℕ → ℕ) → List X → ℕ → Measure → ℕ

@@ -2,52 +2,21 @@
 use Rattle.std.proofs.Common.{◌≡◌, ℕ, ◌+◌, ◌≤◌, ◌==◌, List, [], ◌∷◌, sum_by, refl, arith, zero, suc}
 use Rattle.std.specs.Prelude.{if◌then◌else◌}
 use Rattle.std.proofs.lemmas.List.Sums.{sum_by-cons}
-use Rattle.es_tree.specs.Bare.{bare, bare_fields, bare_field, bare_trees}
-use Rattle.es_tree.specs.Tree.{Tree, ◌then◌, trees, tree_size, field_size, fields_size, trees_size}
+use Rattle.es_tree.specs.Tree.{Tree, trees}
 use Rattle.es_tree.specs.Views.{plain_field, plain_fields}
 use Rattle.es_tree.specs.declared.ast_type.AstType.{AstType}
 use Rattle.es_tree.specs.declared.ast_type.AstType.TheVariants.{FunctionDeclaration, FunctionExpression, ArrowFunctionExpression}
 use Rattle.es_tree.specs.declared.node.Field.{Field as NodeField}
-use Rattle.es_runs.specs.Weights.{weight, fields_weight, field_weight, trees_weight}
-use Rattle.es_visit.specs.Counts.{Measure, total, total_in, total_at, total_among, own_parameters, parameters_at}
-use Rattle.es_visit.specs.Sites.{parameters_before}
+use Rattle.es_visit.specs.Counts.{Measure, total, total_in, total_at, total_among, own_parameters, parameters_at, parameters_before}
 
 -- SUMS
-
-abbrev pub bare_weight : NodeField → ℕ
-bare_weight f = field_weight (bare_field (plain_field f))
-
-abbrev pub bare_size : NodeField → ℕ
-bare_size f = field_size (bare_field (plain_field f))
 
 abbrev pub total_of : Measure → NodeField → ℕ
 total_of m f = total_at m (plain_field f)
 
-pub fields_weight-sum : (xs : List NodeField) → fields_weight (bare_fields (plain_fields xs)) ≡ sum_by bare_weight xs
-fields_weight-sum [] = refl
-fields_weight-sum (x ∷ xs) = omega (arith, fields_weight-sum xs, sum_by-cons bare_weight x xs)
-
-pub fields_size-sum : (xs : List NodeField) → fields_size (bare_fields (plain_fields xs)) ≡ sum_by bare_size xs
-fields_size-sum [] = refl
-fields_size-sum (x ∷ xs) = omega (arith, fields_size-sum xs, sum_by-cons bare_size x xs)
-
 pub fields_total-sum : (m : Measure) (xs : List NodeField) → total_in m (plain_fields xs) ≡ sum_by (total_of m) xs
 fields_total-sum m [] = refl
 fields_total-sum m (x ∷ xs) = omega (arith, fields_total-sum m xs, sum_by-cons (total_of m) x xs)
-
-abbrev pub weight_bare : Tree → ℕ
-weight_bare t = weight (bare t)
-
-abbrev pub size_bare : Tree → ℕ
-size_bare t = tree_size (bare t)
-
-pub trees_weight-sum : (xs : List Tree) → trees_weight (bare_trees (trees xs)) ≡ sum_by weight_bare xs
-trees_weight-sum [] = refl
-trees_weight-sum (x ∷ xs) = omega (arith, trees_weight-sum xs, sum_by-cons weight_bare x xs)
-
-pub trees_size-sum : (xs : List Tree) → trees_size (bare_trees (trees xs)) ≡ sum_by size_bare xs
-trees_size-sum [] = refl
-trees_size-sum (x ∷ xs) = omega (arith, trees_size-sum xs, sum_by-cons size_bare x xs)
 
 pub trees_total-sum : (m : Measure) (xs : List Tree) → total_among m (trees xs) ≡ sum_by (total m) xs
 trees_total-sum m [] = refl

@@ -1,5 +1,5 @@
 -- Sums over the nodes and the lists of a tree, and the most calls of hooks that a visit makes there.
-use Rattle.std.specs.Prelude.{ℕ, ◌+◌, ◌==◌, if◌then◌else◌}
+use Rattle.std.specs.Prelude.{ℕ, zero, suc, ◌+◌, ◌==◌, if◌then◌else◌}
 use Rattle.es_tree.specs.declared.ast_type.AstType.{AstType}
 use Rattle.es_tree.specs.declared.ast_type.AstType.TheVariants.{FunctionDeclaration, FunctionExpression, ArrowFunctionExpression}
 use Rattle.es_tree.specs.Tree.{Tree, node, Fields, done, ◌then◌, Field, missing, one, many, statements, Trees, empty, ◌before◌}
@@ -69,3 +69,8 @@ hooks_in t = total all_hooks t
 
 abbrev pub hooks_in_trees : Trees → ℕ
 hooks_in_trees ts = total_among all_hooks ts
+
+-- so much for those in the first fields of a node
+abbrev pub parameters_before : ℕ → AstType → ℕ → ℕ
+parameters_before n k zero = 0
+parameters_before n k (suc i) = parameters_at n k i + parameters_before n k i

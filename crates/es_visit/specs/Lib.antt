@@ -1,10 +1,3 @@
 pub mod Hooks
 pub mod Counts
-pub mod Moments
-pub mod Changes
-pub mod Refusals
-pub mod Laws
-pub mod Visits
-pub mod Sites
-pub mod Together
-pub mod Starts
+pub mod Calls

@@ -1,10 +1,5 @@
-//! One visit of a scoped tree, for every lowering whose type keeps the laws of `Traverse`.
+//! The hooks of a visit: which of them a node gets, how often they are called, and the count of the calls.
 #![tactic(auto)]
 
-pub mod both;
 pub mod hook;
-pub mod lowering;
-mod site;
 pub mod steps;
-pub mod traverse;
-pub mod walk;

@@ -4,6 +4,7 @@ use Rattle.std.proofs.lemmas.Bool.{eqb-true}
 use Rattle.std.specs.Prelude.{Bool, true, false, is_some}
 use Rattle.es_resolution.specs.Declarations.{Bound}
 use Rattle.es_resolution.specs.Seen.{seen}
+use Rattle.es_runs.proofs.OptionalChainingWeights.{tests_size-append}
 use Rattle.es_runs.specs.OptionalChaining.{call_at, is_member, member_at, null_checks}
 use Rattle.es_runs.specs.Rules.{assign_node}
 use Rattle.es_steps.specs.Nodes.{identifier}
@@ -20,11 +21,11 @@ use Rattle.lower_temporaries.proofs.Takings.{takes-reads, takes-then}
 use Rattle.lower_temporaries.specs.Takings.{ReadsMore, Takes, moment_of}
 use Rattle.lower_temporaries.specs.Temporaries.{TakesTemporary, bound_of}
 use Rattle.lower_temporaries.specs.declared.temporaries.Temporary.{Temporary}
-use Rattle.lower_chains.proofs.Held.{next-moved}
+use Rattle.lower_temporaries.proofs.Later.{next-moved}
 use Rattle.lower_chains.proofs.Receiving.{receives-moved}
 use Rattle.lower_chains.proofs.SeenSpines.{plain_member-seen}
 use Rattle.lower_chains.proofs.Testing.{current-is, none-before, not-standing, standing, tests-size}
-use Rattle.lower_chains.proofs.Weights.{call_made, few_receivers, more_made, read_again_few, single_name, stored_callee_few, stored_few, tests_size-append}
+use Rattle.lower_chains.proofs.Weights.{call_made, few_receivers, more_made, read_again_few, single_name, stored_callee_few, stored_few}
 use Rattle.lower_chains.specs.Spines.{is_plain_member, stands}
 use Rattle.lower_chains.specs.WayParts.{CallsMember, CallsStored, WritesCallee, has_none, named_by, names_for, nodes_for, test_nodes}
 use Rattle.lower_chains.specs.Ways.{CallsTo, Ctx, IsWay, Names, call_label, held, whole_of}

@@ -25,14 +25,17 @@ use Rattle.es_tree.specs.Words.{Text, unary_operator_text}
 use Rattle.es_tree.specs.declared.ast_type.AstType.TheVariants.{ChainExpression, ConditionalExpression, UnaryExpression}
 use Rattle.es_tree.specs.declared.ids.Span.{Span}
 use Rattle.es_tree.specs.declared.table.Sort.TheVariants.{Expression as s-Expression}
+use Rattle.lower_temporaries.proofs.Loads.{stripped_load}
 use Rattle.lower_temporaries.proofs.SeenLaws.{load-seen, parens-seen}
 use Rattle.lower_temporaries.proofs.Takings.{takes-reads, takes-then}
 use Rattle.lower_temporaries.specs.Takings.{moment_of}
+use Rattle.lower_temporaries.specs.Shapes.{at_span}
 use Rattle.lower_chains.proofs.Shapes.{left}
-use Rattle.lower_chains.proofs.Sound.{bare-tidy, content-sound, formed-alone}
-use Rattle.lower_chains.proofs.Weights.{callee_affords, delete_affords, stripped_load, tests_afford}
+use Rattle.lower_temporaries.proofs.ParensForm.{alone-form}
+use Rattle.lower_chains.proofs.Sound.{bare-tidy, content-sound}
+use Rattle.lower_chains.proofs.Weights.{callee_affords, delete_affords, tests_afford}
 use Rattle.lower_chains.specs.Chains.{IsSoundNode, LowersAt, anywhere_at, takes_by}
-use Rattle.lower_chains.specs.Parts.{Chooses, ChoosesCallee, ChoosesDeleted, ChoosesValue, at_span}
+use Rattle.lower_chains.specs.Parts.{Chooses, ChoosesCallee, ChoosesDeleted, ChoosesValue}
 use Rattle.lower_chains.specs.Spines.{IsPlain, IsSound, is_delete}
 use Rattle.lower_chains.specs.Ways.{BindsTo, Ctx, IsWay, Names, WalksTo, held, whole_of}
 use Rattle.lower_chains.specs.Weights.{FewBound}
@@ -170,7 +173,7 @@ module _ (names : Names) (no_all : Bool) (old mid new : Ctx) (t chain made : Tre
         made = w.taken;
         ids = k.is.ids + (length way.tests.items + 2);
         takes = takes-reads mid new k.is.takes c.reads;
-        row = λ n place s. in_delete (delete-texts names t e opened deletes) (formed-alone o (operand-formed m o s)) below (k.walked (operand-content m l o x below s)) some;
+        row = λ n place s. in_delete (delete-texts names t e opened deletes) (alone-form s-Expression o (operand-formed m o s)) below (k.walked (operand-content m l o x below s)) some;
         kind = short-kind m w.tests true_node (delete_node w.current) some;
         nodes = a.nodes;
         lighter = a.lighter;

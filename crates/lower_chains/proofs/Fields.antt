@@ -4,7 +4,7 @@ use Rattle.std.specs.Prelude.{false}
 use Rattle.es_tree.specs.Tree.{Fields, done, ◌then◌, Field, missing, one, many, statements}
 use Rattle.es_tree.specs.Views.{plain_field, plain_fields}
 use Rattle.es_tree.specs.declared.node.Field.{Field as NodeField}
-use Rattle.lower_chains.specs.Spines.{is_call_pair, is_pair, is_single}
+use Rattle.lower_chains.specs.Spines.{is_call_pair, is_single}
 
 -- ONE FIELD
 
@@ -46,29 +46,3 @@ more_than_call (f ∷ g ∷ k ∷ fs) h = three_call (plain_field f) (plain_fiel
 more_than_call [] h = absurd (omega (arith, h))
 more_than_call (f ∷ []) h = absurd (omega (arith, h))
 more_than_call (f ∷ g ∷ []) h = absurd (omega (arith, h))
-
-one_pair : (f : Field) → is_pair (f then done) ≡ false
-one_pair (one t) = refl
-one_pair missing = refl
-one_pair (many ts) = refl
-one_pair (statements ts) = refl
-
-three_pair : (f g h : Field) (fs : Fields) → is_pair (f then (g then (h then fs))) ≡ false
-three_pair (one t) (one u) h fs = refl
-three_pair (one t) missing h fs = refl
-three_pair (one t) (many ts) h fs = refl
-three_pair (one t) (statements ts) h fs = refl
-three_pair missing g h fs = refl
-three_pair (many ts) g h fs = refl
-three_pair (statements ts) g h fs = refl
-
-pub fewer_than_pair : (fs : List NodeField) → length fs < 2 → is_pair (plain_fields fs) ≡ false
-fewer_than_pair [] h = refl
-fewer_than_pair (f ∷ []) h = one_pair (plain_field f)
-fewer_than_pair (f ∷ g ∷ fs) h = absurd (omega (arith, h))
-
-pub more_than_pair : (fs : List NodeField) → 2 < length fs → is_pair (plain_fields fs) ≡ false
-more_than_pair (f ∷ g ∷ k ∷ fs) h = three_pair (plain_field f) (plain_field g) (plain_field k) (plain_fields fs)
-more_than_pair [] h = absurd (omega (arith, h))
-more_than_pair (f ∷ []) h = absurd (omega (arith, h))
-more_than_pair (f ∷ g ∷ []) h = absurd (omega (arith, h))

@@ -36,8 +36,9 @@ use Rattle.es_tree.specs.declared.table.Sort.{Sort}
 use Rattle.es_tree.specs.declared.table.Sort.TheVariants.{Expression as s-Expression}
 use Rattle.es_visit.specs.declared.hook.Hook.TheVariants.{Expression}
 use Rattle.lower_temporaries.proofs.Entered.{entered-by-row, entered-by-step, entered-same, kept-by-row, on-rule, sort-expression}
+use Rattle.lower_temporaries.proofs.RowProfiles.{none-where}
 use Rattle.lower_temporaries.proofs.Takings.{reads-none, takes-none}
-use Rattle.lower_temporaries.specs.Replacings.{IsPut, KeepsKnown, StepsTo, ledger_taking}
+use Rattle.lower_temporaries.specs.Replacings.{IsPut, StepsTo, ledger_taking}
 use Rattle.lower_temporaries.specs.Takings.{Takes, moment_of}
 use Rattle.lower_chains.proofs.Inside.{called-step, put-load, put-size}
 use Rattle.lower_chains.proofs.Marks.{AreMarked, chain-marked, first-flag, inside-marked}
@@ -53,12 +54,8 @@ use Rattle.lower_chains.specs.Ways.{Ctx, Names}
 
 -- WHAT IS PUT
 
-none-there : (on : Bool) → (on && false) ≡ false
-none-there true = refl
-none-there false = refl
-
 conditional-put : (o : EnvOptions) (t u : Tree) → is_statement_body t ≡ false → kind_of u ≡ ConditionalExpression → IsPut (chain_profile o) t u
-conditional-put o t (node ConditionalExpression l fs) body k = record { cleared = none-there o.es2020.optional_chaining; sort = sort-expression t (node ConditionalExpression l fs) refl; body = sym body; made = refl }
+conditional-put o t (node ConditionalExpression l fs) body k = record { cleared = none-where o.es2020.optional_chaining; sort = sort-expression t (node ConditionalExpression l fs) refl; body = sym body; made = refl }
 conditional-put o t (node _ l fs) body k = absurd (cc k)
 
 chain-body : (t : Tree) → is_marked_chain t ≡ true → is_statement_body t ≡ false
@@ -117,11 +114,11 @@ unlowered s UnaryExpression l fs h m chain delete call = at fs h m delete (unary
 unlowered s _ l fs h m chain delete call = refl
 
 settled-there : (o : EnvOptions) (s : Sort) (t : Tree) → has_form s t ≡ true → AreMarked t → is_marked_chain t ≡ false → deletes_chain t ≡ false → calls_chain t ≡ false → is_settled o t ≡ true
-settled-there o s (node k l fs) h m chain delete call = rw (unlowered s k l fs h m chain delete call) (ap not (none-there o.es2020.optional_chaining))
+settled-there o s (node k l fs) h m chain delete call = rw (unlowered s k l fs h m chain delete call) (ap not (none-where o.es2020.optional_chaining))
 
 no-chain : (o : EnvOptions) (s : Sort) (t : Tree) → has_form s t ≡ true → AreMarked t → is_marked_chain t ≡ false → is_construct (chain_constructs o Expression) t ≡ false
 no-chain o s (node ChainExpression l fs) h m chain = absurd (cc (sym (chain-marked s (node ChainExpression l fs) h m refl) ∙ chain))
-no-chain o s (node _ l fs) h m chain = none-there o.es2020.optional_chaining
+no-chain o s (node _ l fs) h m chain = none-where o.es2020.optional_chaining
 
 -- WHERE THE OPTION IS ON
 
@@ -136,16 +133,13 @@ module _ (laws : LawChains) (rows : RowKeeps) (o : EnvOptions) (on : o.es2020.op
   abbrev R : Site → Whole → List Bound → Tree → Tree → Type 0
   R = OptionalChainingRule o.assumptions.no_document_all
 
-  keeps : KeepsKnown (is_wrapped o) (is_free o) R
-  keeps = let k = rows o on in record { outside = k.outside; known = k.known }
-
   sound-here : (n : Site) → Fits a n t → is_wrapped o n t ≡ true → IsSoundNode t
   sound-here n f k = record { sort = f.sort; formed = f.formed; tidy = law.tidy n t k }
 
   -- by a row at the node
   entered-at : (place : Site → Type 0) → ((n : Site) → is_wrapped o n t ≡ true → place n) → is_statement_body t ≡ false → LowersAt place o.assumptions.no_document_all a t b u → Entered (chain_profile o) (Known (is_wrapped o)) (Known (is_free o)) Expression anywhere a t b u
   entered-at place stands body r =
-      entered-by-row (chain_profile o) a t b u R (on-rule (RowRule R) o.es2020.optional_chaining on) keeps there
+      entered-by-row (chain_profile o) a t b u R (on-rule (RowRule R) o.es2020.optional_chaining on) (rows o on) there
       (record { made = r.made; ids = r.ids; takes = r.takes; row = λ n f k. r.row n (stands n k) (sound-here n f k); nodes = r.nodes; lighter = r.lighter })
       (conditional-put o t u body r.kind)
 
@@ -196,7 +190,7 @@ module _ (laws : LawChains) (rows : RowKeeps) (o : EnvOptions) (on : o.es2020.op
       } in
       entered-by-step (chain_profile o) a t b u there steps
       (λ n w k. subst (λ (v : Tree). is_free o n v ≡ true) (sym after) (law.called n (whole_at a) r.made w.sort l f d ts (formed n w) (known n k) inside (row n w k)))
-      (subst (λ (v : Tree). IsPut (chain_profile o) v u) (sym c.before) (subst (λ (v : Tree). IsPut (chain_profile o) (called_by l f ts) v) (sym after) (record { cleared = none-there o.es2020.optional_chaining; sort = sort-expression (called_by l f ts) (called_by l (put_inside f d) ts) refl; body = refl; made = refl })))
+      (subst (λ (v : Tree). IsPut (chain_profile o) v u) (sym c.before) (subst (λ (v : Tree). IsPut (chain_profile o) (called_by l f ts) v) (sym after) (record { cleared = none-where o.es2020.optional_chaining; sort = sort-expression (called_by l f ts) (called_by l (put_inside f d) ts) refl; body = refl; made = refl })))
 
   pub entered-node : LowersNode o.assumptions.no_document_all a t b u → Entered (chain_profile o) (Known (is_wrapped o)) (Known (is_free o)) Expression anywhere a t b u
   entered-node (as_chain h r) = entered-at (takes_by false) (λ n k. chain-value o law n t h k) (chain-body t h) r

@@ -1,15 +1,12 @@
 -- Receivers, by what their code makes of them.
 use Rattle.std.proofs.Common.{◌≡◌, ℕ, ◌+◌, ◌*◌, ◌≤◌, List, [], ◌∷◌, ◌++◌, length, refl, sym, ap, subst, ◌∙◌, arith, Option}
-use Rattle.std.specs.Prelude.{Bool, true, false, not, is_some}
+use Rattle.std.specs.Prelude.{Bool, true, false, is_some}
 use Rattle.es_tree.specs.Fresh.{node_base}
-use Rattle.es_tree.specs.Tree.{Tree, node, done, ◌then◌, label_of, tree_size}
+use Rattle.es_tree.specs.Tree.{Tree, node, done, ◌then◌, one, tree_size}
 use Rattle.es_tree.specs.declared.ast_type.AstType.TheVariants.{Identifier, MemberExpression}
-use Rattle.es_expressions.specs.MembersPlain.{plain_member_expression}
-use Rattle.es_expressions.specs.declared.members.MemberExpression.{MemberExpression as Member}
 use Rattle.es_resolution.specs.Declarations.{Bound}
 use Rattle.es_resolution.specs.Seen.{seen}
-use Rattle.es_runs.specs.Core.{flag_after}
-use Rattle.es_runs.specs.OptionalChaining.{is_member, is_this_or_super, member_at}
+use Rattle.es_runs.specs.OptionalChaining.{is_member, is_super, is_this_or_super, member_at}
 use Rattle.es_scope.specs.ContextSymbols.{steady_symbols_of}
 use Rattle.es_steps.specs.Duplication.{is_among_symbols}
 use Rattle.es_steps.specs.OptionalChaining.{BoundCallee, Receives, bind_node, or_held}
@@ -22,13 +19,12 @@ use Rattle.lower_temporaries.specs.Parenthesized.{first_child}
 use Rattle.lower_temporaries.specs.Takings.{ReadsMore, Takes, moment_of}
 use Rattle.lower_temporaries.specs.Temporaries.{TakesTemporary, bound_of}
 use Rattle.lower_temporaries.specs.declared.temporaries.Temporary.{Temporary}
-use Rattle.lower_chains.proofs.Held.{next-moved}
-use Rattle.lower_chains.proofs.Shapes.{left, un-not}
+use Rattle.lower_temporaries.proofs.Later.{next-moved}
 use Rattle.lower_chains.proofs.SeenSpines.{first_child-seen, own_name-seen, to_this-seen}
 use Rattle.lower_chains.proofs.Weights.{bound_few}
-use Rattle.lower_chains.specs.Spines.{IsPlain, is_own_name, is_pair, is_plain_member, stands}
+use Rattle.lower_chains.specs.Spines.{IsPlain, is_own_name, is_plain_member, stands}
 use Rattle.lower_chains.specs.WayParts.{ChoosesReceiver, IsMeant, WritesCallee, WritesMember, names_for, nodes_for, read_for, written_for}
-use Rattle.lower_chains.specs.Ways.{BindsTo, Ctx, Names, ReceivesTo, to_this, whole_of}
+use Rattle.lower_chains.specs.Ways.{BindsTo, Ctx, Names, to_this, whole_of}
 use Rattle.lower_chains.specs.Weights.{FewBound}
 use Rattle.lower_chains.specs.declared.receivers.Receiver.{Receiver}
 use Rattle.lower_chains.specs.declared.receivers.Receiver.TheVariants.{This, Again, Stored}
@@ -72,22 +68,6 @@ receiver-ids This = omega arith
 receiver-ids Again = omega arith
 receiver-ids (Stored t) = omega arith
 
-pub received : (names : Names) (with_this : Bool) (old mid new : Ctx) (holder : Option Bound) (object written receiver : Tree) (r : Receiver) → ChoosesReceiver with_this old mid holder (seen names object) r → IsMeant r object → written ≡ written_for r (seen names object) → receiver ≡ read_for r (seen names object) → ReadsMore (nodes_for r) mid new → ReceivesTo with_this old new holder (seen names object) written receiver
-received names with_this old mid new holder object written receiver r chosen meant wrote read reads =
-    let o = seen names object in
-    let size = receiver-size names r object meant in
-    let w = ap tree_size wrote in
-    let d = ap tree_size read in
-    record {
-      names = names_for r;
-      ids = 3 * length (names_for r) + nodes_for r;
-      receives = subst (λ (t : Tree). Receives (to_this with_this) (whole_of old) holder (names_for r) o t receiver) (sym wrote)
-          (subst (λ (t : Tree). Receives (to_this with_this) (whole_of old) holder (names_for r) o (written_for r o) t) (sym read) chosen.receives);
-      takes = takes-reads mid new chosen.takes reads;
-      few = receiver-few r;
-      sized = omega (arith, size, w, d);
-    }
-
 -- with more known, and another name held
 pub receives-moved : {to : Tree → Bool} {v w : Whole} {h k : Option Bound} {xs : List Bound} {o d r : Tree} → v ≡ w → h ≡ k → Receives to v h xs o d r → Receives to w k xs o d r
 receives-moved {to} {v} {w} {h} {k} {xs} {o} {d} {r} same holder m = subst (λ (a : Whole). Receives to a k xs o d r) same (subst (λ (a : Option Bound). Receives to v a xs o d r) holder m)
@@ -101,31 +81,25 @@ plain-not (node _ l fs) h e = refl
 pub bound-other : (old : Ctx) (holder : Option Bound) (e : Tree) → is_plain_member e ≡ false → BindsTo old old holder e e
 bound-other old holder e other = record { names = []; ids = 0; binds = λ h. no_member (plain-not e h other); bound = record { own = 0; few = omega arith; paid = omega arith; size = omega arith }; takes = takes-none (reads-none old); sized = omega arith }
 
-unmarked : (t : Tree) → is_plain_member t ≡ true → flag_after (label_of t).flags ≡ false
-unmarked (node MemberExpression l fs) h = un-not (flag_after l.flags) (left (not (flag_after l.flags)) (is_pair fs) h)
-unmarked (node _ l fs) h = absurd (cc h)
-
-pub member-unmarked : (t : Tree) (m : Member) → plain_member_expression m ≡ t → is_plain_member t ≡ true → m.optional ≡ false
-member-unmarked t m opened h = ap (λ (u : Tree). flag_after (label_of u).flags) opened ∙ unmarked t h
-
-pub bound-member : (names : Names) (old mid new : Ctx) (holder : Option Bound) (member o1 r made : Tree) (m : Member) → plain_member_expression m ≡ member → is_plain_member member ≡ true → ReceivesTo false old mid holder (seen names m.object) o1 r →
-    made ≡ bind_node (member_at (label_of (seen names (plain_member_expression m))) m.computed o1 (seen names m.property)) r → ReadsMore 3 mid new → BindsTo old new holder (seen names member) made
-bound-member names old mid new holder member o1 r made m opened plain received wrote reads =
-    let k = label_of (seen names (plain_member_expression m)) in
-    let unmarked = member-unmarked member m opened plain in
-    let flags : k.flags ≡ m.computed ∷ false ∷ [] = ap (λ (b : Bool). m.computed ∷ b ∷ []) unmarked in
-    let bound = to_object {p = seen names m.property} flags received.receives in
-    let few = bound_few bound in
-    let before = ap (λ (t : Tree). tree_size (seen names t)) opened in
-    let after = ap tree_size wrote in
-    let all = subst (λ (t : Tree). FewBound received.names (seen names t) made) opened (subst (λ (t : Tree). FewBound received.names (seen names (plain_member_expression m)) t) (sym wrote) few) in
+pub bound-member : (names : Names) (old mid next new : Ctx) (holder : Option Bound) (member object : Tree) (r : Receiver) → object ≡ first_child member → IsMeant r object → (written receiver made : Tree) → WritesMember r (seen names member) written receiver → ChoosesReceiver false old mid holder (seen names object) r →
+    ReadsMore (nodes_for r) mid next → made ≡ bind_node written receiver → ReadsMore 3 next new → BindsTo old new holder (seen names member) made
+bound-member names old mid next new holder member object r child meant written receiver made wrote chosen reads bind more =
+    let same : seen names object ≡ wrote.object = ap (seen names) child ∙ sym (first_child-seen names member) ∙ ap first_child wrote.member_is in
+    let receives : Receives is_super (whole_of old) holder (names_for r) wrote.object (written_for r wrote.object) (read_for r wrote.object) = subst (λ (o : Tree). Receives is_super (whole_of old) holder (names_for r) o (written_for r o) (read_for r o)) same chosen.receives in
+    let size : tree_size (written_for r wrote.object) + tree_size (read_for r wrote.object) + 2 * length (names_for r) ≡ 3 * length (names_for r) + nodes_for r + tree_size wrote.object =
+    subst (λ (o : Tree). tree_size (written_for r o) + tree_size (read_for r o) + 2 * length (names_for r) ≡ 3 * length (names_for r) + nodes_for r + tree_size o) same (receiver-size names r object meant) in
+    let before = node MemberExpression wrote.k (one wrote.object then (one wrote.property then done)) in
+    let after : made ≡ bind_node (member_at wrote.k wrote.computed (written_for r wrote.object) wrote.property) (read_for r wrote.object) = bind ∙ (λ i. bind_node (wrote.written_is i) (wrote.receiver_is i)) in
+    let bound : BoundCallee (whole_of old) holder (names_for r) before made = subst (λ (t : Tree). BoundCallee (whole_of old) holder (names_for r) before t) (sym after) (to_object wrote.flags receives) in
+    let grown = ap tree_size after in
+    let whole = ap tree_size wrote.member_is in
     record {
-      names = received.names;
-      ids = received.ids + 3;
-      binds = λ h. subst (λ (t : Tree). BoundCallee (whole_of old) holder received.names (seen names t) made) opened (subst (λ (t : Tree). BoundCallee (whole_of old) holder received.names (seen names (plain_member_expression m)) t) (sym wrote) bound);
-      bound = all;
-      takes = takes-reads mid new received.takes reads;
-      sized = omega (arith, received.sized, before, after);
+      names = names_for r;
+      ids = 3 * length (names_for r) + nodes_for r + 3;
+      binds = λ h. subst (λ (t : Tree). BoundCallee (whole_of old) holder (names_for r) t made) (sym wrote.member_is) bound;
+      bound = subst (λ (t : Tree). FewBound (names_for r) t made) (sym wrote.member_is) (bound_few bound);
+      takes = takes-reads next new (takes-reads mid next chosen.takes reads) more;
+      sized = omega (arith, size, grown, whole);
     }
 
 -- A CALLEE WITH ITS RECEIVER

@@ -12,7 +12,10 @@ use Rattle.es_tree.specs.Tree.{Tree, node, Fields, done, ◌then◌, missing, on
 use Rattle.es_tree.specs.Words.{Text}
 use Rattle.es_tree.specs.declared.ast_type.AstType.TheVariants.{CallExpression, ChainExpression, Identifier, MemberExpression, ParenthesizedExpression, Super, ThisExpression, UnaryExpression}
 use Rattle.lower_temporaries.specs.Parenthesized.{first_child}
-use Rattle.lower_chains.specs.Spines.{but_eval, calls_chain, deletes_chain, first_has_chain, first_has_mark, has_chain, has_mark, is_call_pair, is_call_step, is_content, is_delete, is_marked_chain, is_member_step, is_own_name, is_pair, is_plain_call, is_plain_member, is_single, stands}
+use Rattle.lower_temporaries.specs.Shapes.{is_pair}
+use Rattle.lower_temporaries.proofs.ReadAgain.{no_fields-seen}
+use Rattle.lower_temporaries.proofs.TwoFields.{two-seen}
+use Rattle.lower_chains.specs.Spines.{but_eval, calls_chain, deletes_chain, first_has_chain, first_has_mark, has_chain, has_mark, is_call_pair, is_call_step, is_content, is_delete, is_marked_chain, is_member_step, is_own_name, is_plain_call, is_plain_member, is_single, stands}
 use Rattle.lower_chains.specs.Ways.{Names, to_this}
 
 -- a name of these symbols stands alone
@@ -25,19 +28,15 @@ alone-among symbols x s fs = at (has_no_fields fs) (symbols s) (not (is_eval x))
   at a false c h = absurd (cc h)
 
 module _ (names : Names) where
-  no_fields-seen : (fs : Fields) → has_no_fields (seen_in names fs) ≡ has_no_fields fs
-  no_fields-seen done = refl
-  no_fields-seen (f then fs) = refl
-
   pub own_name-seen : (symbols : Option ℕ → Bool) (t : Tree) → is_name_among symbols (seen names t) ≡ is_own_name symbols t
-  own_name-seen symbols (node Identifier l fs) = ap (λ b. b && symbols (symbol_mark l) && not (is_eval (first_text l.texts))) (no_fields-seen fs)
+  own_name-seen symbols (node Identifier l fs) = ap (λ b. b && symbols (symbol_mark l) && not (is_eval (first_text l.texts))) (no_fields-seen names fs)
   own_name-seen symbols (node _ l fs) = refl
 
   pub to_this-seen : (with_this : Bool) (t : Tree) → to_this with_this (seen names t) ≡ to_this with_this t
-  to_this-seen true (node ThisExpression l fs) = no_fields-seen fs
-  to_this-seen true (node Super l fs) = no_fields-seen fs
+  to_this-seen true (node ThisExpression l fs) = no_fields-seen names fs
+  to_this-seen true (node Super l fs) = no_fields-seen names fs
   to_this-seen true (node _ l fs) = refl
-  to_this-seen false (node Super l fs) = no_fields-seen fs
+  to_this-seen false (node Super l fs) = no_fields-seen names fs
   to_this-seen false (node _ l fs) = refl
 
   pub link-seen : (t : Tree) → is_link (seen names t) ≡ is_link t
@@ -58,16 +57,7 @@ module _ (names : Names) where
   single-seen done = refl
 
   pair-seen : (fs : Fields) → is_pair (seen_in names fs) ≡ is_pair fs
-  pair-seen (one t then (one u then done)) = refl
-  pair-seen (one t then (one u then (f then fs))) = refl
-  pair-seen (one t then (missing then fs)) = refl
-  pair-seen (one t then (many ts then fs)) = refl
-  pair-seen (one t then (statements ts then fs)) = refl
-  pair-seen (one t then done) = refl
-  pair-seen (missing then fs) = refl
-  pair-seen (many ts then fs) = refl
-  pair-seen (statements ts then fs) = refl
-  pair-seen done = refl
+  pair-seen = two-seen names (λ a b. true) (λ a b. refl)
 
   call_pair-seen : (fs : Fields) → is_call_pair (seen_in names fs) ≡ is_call_pair fs
   call_pair-seen (one t then (many u then done)) = refl

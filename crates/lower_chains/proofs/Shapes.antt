@@ -8,7 +8,8 @@ use Rattle.es_tree.specs.Parens.{without_parens}
 use Rattle.es_tree.specs.Tree.{Tree, node, Fields, done, ◌then◌, one, many, tree_size}
 use Rattle.es_tree.specs.declared.ast_type.AstType.TheVariants.{CallExpression, ChainExpression, MemberExpression, ParenthesizedExpression, UnaryExpression}
 use Rattle.lower_temporaries.specs.Parenthesized.{first_child}
-use Rattle.lower_chains.specs.Spines.{deletes_chain, has_chain, has_mark, is_call_pair, is_call_step, is_content, is_delete, is_marked_chain, is_member_step, is_optional, is_pair, is_parenthesized, is_plain_call, is_plain_member, is_single, is_step}
+use Rattle.lower_temporaries.specs.Shapes.{is_pair}
+use Rattle.lower_chains.specs.Spines.{deletes_chain, has_chain, has_mark, is_call_pair, is_call_step, is_content, is_delete, is_marked_chain, is_member_step, is_optional, is_parenthesized, is_plain_call, is_plain_member, is_single, is_step}
 
 both : (a b : Bool) → (a && b) ≡ true → (a ≡ true) × (b ≡ true)
 both true true h = (refl, refl)

@@ -1,6 +1,6 @@
 -- What form and marks say of a spine that is sound: its steps have the fields of their kinds, parentheses have what they hold alone, and
 -- what stands before a step is sound.
-use Rattle.std.proofs.Common.{◌≡◌, ◌∙◌, refl, sym, subst, [], ◌∷◌}
+use Rattle.std.proofs.Common.{◌≡◌, ◌∙◌, refl, sym, ap, subst, [], ◌∷◌}
 use Rattle.std.proofs.lemmas.Bool.{or_parts}
 use Rattle.std.specs.Prelude.{Bool, true, false, not, ◌&&◌, ◌||◌}
 use Rattle.es_runs.specs.Core.{flag, flag_after}
@@ -8,61 +8,45 @@ use Rattle.es_runs.specs.OptionalChaining.{is_chain_kind, is_link, is_member}
 use Rattle.es_runs.specs.Rules.{strays, strays_fields}
 use Rattle.es_steps.proofs.FormChains.{chain-content, element-form}
 use Rattle.es_steps.proofs.FormMembers.{call-form, member-form}
-use Rattle.es_steps.proofs.FormParts.{IsFormed, and-left, and-right, formed-bare}
-use Rattle.es_steps.specs.Duplication.{is_alone}
+use Rattle.es_steps.proofs.FormParts.{IsFormed, and-right, formed-bare}
 use Rattle.es_tree.proofs.NodeForm.{node_form}
-use Rattle.es_tree.specs.HasForm.{has_form, sort_at}
+use Rattle.es_tree.specs.HasForm.{field_form, fields_form, has_form}
 use Rattle.es_tree.specs.Parens.{without_parens}
 use Rattle.es_tree.specs.Tree.{Tree, node, Label, Fields, done, ◌then◌, missing, one, many, statements, Trees, kind_of}
+use Rattle.es_tree.specs.declared.ast_type.AstType.{AstType}
 use Rattle.es_tree.specs.declared.ast_type.AstType.TheVariants.{CallExpression, ChainExpression, MemberExpression, ParenthesizedExpression, UnaryExpression}
+use Rattle.es_tree.specs.declared.table.Content.TheVariants.{Child}
+use Rattle.es_tree.specs.declared.table.Entry.{Entry}
+use Rattle.es_tree.specs.declared.table.Often.TheVariants.{Required}
 use Rattle.es_tree.specs.declared.table.Sort.{Sort}
 use Rattle.es_tree.specs.declared.table.Sort.TheVariants.{ChainElement as s-ChainElement, Expression as s-Expression, MemberProperty as s-MemberProperty}
+use Rattle.lower_temporaries.specs.Shapes.{is_pair}
+use Rattle.lower_temporaries.proofs.TwoFields.{two-children}
 use Rattle.lower_chains.specs.Chains.{IsSoundNode}
-use Rattle.lower_chains.specs.Spines.{IsPlain, IsSound, is_call_pair, is_call_step, is_content, is_member_step, is_pair, is_plain_member, is_single}
+use Rattle.lower_chains.specs.Spines.{IsPlain, IsSound, is_call_pair, is_call_step, is_content, is_member_step, is_plain_member, is_single}
 
 -- FIELDS BY FORM
 
+-- the one child that a node of such a kind has
+single-child : (k : AstType) (l : Label) (s : Sort) (d : Entry) → d.content ≡ Child s Required → (fs : Fields) → fields_form k l (d ∷ []) fs ≡ true → is_single fs ≡ true
+single-child k l s d i (one t then done) h = refl
+single-child k l s d i (missing then done) h = absurd (cc (rw i at h))
+single-child k l s d i (many ts then done) h = absurd (cc (rw i at h))
+single-child k l s d i (statements ts then done) h = absurd (cc (rw i at h))
+single-child k l s d i (f then (g then fs)) h = absurd (cc (and-right (field_form k l d.content f) false h))
+single-child k l s d i done h = absurd (cc h)
+
 pub paren-single : (s : Sort) (l : Label) (fs : Fields) → has_form s (node ParenthesizedExpression l fs) ≡ true → is_single fs ≡ true
-paren-single s l (one t then done) h = refl
-paren-single s l (one t then (f then fs)) h = absurd (cc (and-right (has_form s-Expression t) false (node_form s ParenthesizedExpression l (one t then (f then fs)) h).children))
-paren-single s l done h = absurd (cc (node_form s ParenthesizedExpression l done h).children)
-paren-single s l (missing then fs) h = absurd (cc (node_form s ParenthesizedExpression l (missing then fs) h).children)
-paren-single s l (many ts then fs) h = absurd (cc (node_form s ParenthesizedExpression l (many ts then fs) h).children)
-paren-single s l (statements ts then fs) h = absurd (cc (node_form s ParenthesizedExpression l (statements ts then fs) h).children)
+paren-single s l fs h = single-child ParenthesizedExpression l s-Expression _ refl fs (node_form s ParenthesizedExpression l fs h).children
 
 pub unary-single : (s : Sort) (l : Label) (fs : Fields) → has_form s (node UnaryExpression l fs) ≡ true → is_single fs ≡ true
-unary-single s l (one t then done) h = refl
-unary-single s l (one t then (f then fs)) h = absurd (cc (and-right (has_form s-Expression t) false (node_form s UnaryExpression l (one t then (f then fs)) h).children))
-unary-single s l done h = absurd (cc (node_form s UnaryExpression l done h).children)
-unary-single s l (missing then fs) h = absurd (cc (node_form s UnaryExpression l (missing then fs) h).children)
-unary-single s l (many ts then fs) h = absurd (cc (node_form s UnaryExpression l (many ts then fs) h).children)
-unary-single s l (statements ts then fs) h = absurd (cc (node_form s UnaryExpression l (statements ts then fs) h).children)
+unary-single s l fs h = single-child UnaryExpression l s-Expression _ refl fs (node_form s UnaryExpression l fs h).children
 
 pub chain-single : (s : Sort) (l : Label) (fs : Fields) → has_form s (node ChainExpression l fs) ≡ true → is_single fs ≡ true
-chain-single s l (one t then done) h = refl
-chain-single s l (one t then (f then fs)) h = absurd (cc (and-right (has_form s-ChainElement t) false (node_form s ChainExpression l (one t then (f then fs)) h).children))
-chain-single s l done h = absurd (cc (node_form s ChainExpression l done h).children)
-chain-single s l (missing then fs) h = absurd (cc (node_form s ChainExpression l (missing then fs) h).children)
-chain-single s l (many ts then fs) h = absurd (cc (node_form s ChainExpression l (many ts then fs) h).children)
-chain-single s l (statements ts then fs) h = absurd (cc (node_form s ChainExpression l (statements ts then fs) h).children)
-
-none-right : (a b : Bool) → b ≡ false → (a && b) ≡ true → true ≡ false
-none-right true b e h = sym h ∙ e
-none-right false b e h = sym h
+chain-single s l fs h = single-child ChainExpression l s-ChainElement _ refl fs (node_form s ChainExpression l fs h).children
 
 pub member-pair : (s : Sort) (l : Label) (fs : Fields) → has_form s (node MemberExpression l fs) ≡ true → is_pair fs ≡ true
-member-pair s l (one o then (one p then done)) h = refl
-member-pair s l (one o then (one p then (f then fs))) h =
-    let n = node_form s MemberExpression l (one o then (one p then (f then fs))) h in
-    absurd (cc (and-right (has_form (sort_at MemberExpression l s-MemberProperty) p) false (and-right (has_form s-Expression o) (has_form (sort_at MemberExpression l s-MemberProperty) p && false) n.children)))
-member-pair s l (one o then done) h = absurd (cc (and-right (has_form s-Expression o) false (node_form s MemberExpression l (one o then done) h).children))
-member-pair s l (one o then (missing then fs)) h = absurd (cc (and-right (has_form s-Expression o) false (node_form s MemberExpression l (one o then (missing then fs)) h).children))
-member-pair s l (one o then (many ts then fs)) h = absurd (cc (and-right (has_form s-Expression o) false (node_form s MemberExpression l (one o then (many ts then fs)) h).children))
-member-pair s l (one o then (statements ts then fs)) h = absurd (cc (and-right (has_form s-Expression o) false (node_form s MemberExpression l (one o then (statements ts then fs)) h).children))
-member-pair s l done h = absurd (cc (node_form s MemberExpression l done h).children)
-member-pair s l (missing then fs) h = absurd (cc (node_form s MemberExpression l (missing then fs) h).children)
-member-pair s l (many ts then fs) h = absurd (cc (node_form s MemberExpression l (many ts then fs) h).children)
-member-pair s l (statements ts then fs) h = absurd (cc (node_form s MemberExpression l (statements ts then fs) h).children)
+member-pair s l fs h = ap is_pair (two-children MemberExpression l s-Expression s-MemberProperty _ _ refl refl fs (node_form s MemberExpression l fs h).children).fields_are
 
 pub call-pair : (s : Sort) (l : Label) (fs : Fields) → has_form s (node CallExpression l fs) ≡ true → is_call_pair fs ≡ true
 call-pair s l (one f then (many ts then done)) h = refl
@@ -83,16 +67,6 @@ pub formed-base : (t : Tree) → IsFormed t → is_member_step t ≡ false → i
 formed-base (node MemberExpression l fs) h m c = absurd (cc (sym (member-pair s-Expression l fs h) ∙ m))
 formed-base (node CallExpression l fs) h m c = absurd (cc (sym (call-pair s-Expression l fs h) ∙ c))
 formed-base (node _ l fs) h m c = refl
-
--- what stands in parentheses does so alone
-pub formed-alone : (t : Tree) → IsFormed t → is_alone t ≡ true
-formed-alone (node ParenthesizedExpression l (one t then done)) h = formed-alone t (and-left (has_form s-Expression t) true (node_form s-Expression ParenthesizedExpression l (one t then done) h).children)
-formed-alone (node ParenthesizedExpression l (one t then (f then fs))) h = absurd (cc (paren-single s-Expression l (one t then (f then fs)) h))
-formed-alone (node ParenthesizedExpression l done) h = refl
-formed-alone (node ParenthesizedExpression l (missing then fs)) h = refl
-formed-alone (node ParenthesizedExpression l (many ts then fs)) h = refl
-formed-alone (node ParenthesizedExpression l (statements ts then fs)) h = refl
-formed-alone (node _ l fs) h = refl
 
 -- a chain has a content
 pub formed-content : (t : Tree) → IsFormed t → is_content t ≡ false → is_chain_kind (kind_of t) ≡ false

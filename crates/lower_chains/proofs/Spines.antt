@@ -6,6 +6,7 @@ use Rattle.es_expressions.specs.declared.members.CallExpression.{CallExpression 
 use Rattle.es_expressions.specs.declared.members.ChainExpression.{ChainExpression as AnyChainExpression}
 use Rattle.es_expressions.specs.declared.members.MemberExpression.{MemberExpression as AnyMemberExpression}
 use Rattle.es_resolution.specs.Seen.{seen, seen_among}
+use Rattle.es_runs.proofs.OptionalChainingWeights.{stripped_size}
 use Rattle.es_runs.specs.OptionalChaining.{call_at, is_chain_kind, is_link, member_at}
 use Rattle.es_steps.proofs.FormParts.{formed-bare}
 use Rattle.es_steps.specs.OptionalChaining.{Way, start}
@@ -18,9 +19,11 @@ use Rattle.es_tree.specs.declared.table.Sort.TheVariants.{Expression as s-Expres
 use Rattle.es_traverse.specs.Loads.{load}
 use Rattle.lower_temporaries.proofs.SeenLaws.{parens-seen}
 use Rattle.lower_temporaries.proofs.Takings.{reads-none, takes-none}
+use Rattle.lower_temporaries.proofs.Loads.{stripped_load}
 use Rattle.lower_chains.proofs.SeenSpines.{call_step-seen, content-seen, member_step-seen}
-use Rattle.lower_chains.proofs.Sound.{base-plain, callee-sound, formed-alone, formed-base, formed-content, inner-sound, object-sound}
-use Rattle.lower_chains.proofs.Weights.{inner_affords, marked_call_load, marked_member_load, marked_call_affords, marked_member_affords, plain_call_affords, plain_member_affords, start_affords, stripped_load, stripped_size, tested_few}
+use Rattle.lower_temporaries.proofs.ParensForm.{alone-form}
+use Rattle.lower_chains.proofs.Sound.{base-plain, callee-sound, formed-base, formed-content, inner-sound, object-sound}
+use Rattle.lower_chains.proofs.Weights.{inner_affords, marked_call_load, marked_member_load, marked_call_affords, marked_member_affords, plain_call_affords, plain_member_affords, start_affords, tested_few}
 use Rattle.lower_chains.specs.Spines.{is_call_step, is_content, is_member_step}
 use Rattle.lower_chains.specs.Ways.{CallsTo, ContinuesTo, Ctx, IsWay, Names, TestsTo, WalksTo, held}
 use Rattle.lower_chains.specs.Weights.{AffordsWay}
@@ -61,7 +64,7 @@ walks-base names no_all ctx t way no_member no_call tests current holder =
         ids = 0;
         takes = takes-none (reads-none ctx);
       };
-      walked = λ s. base (formed-base e s.formed (member_step-seen names t ∙ no_member) (call_step-seen names t ∙ no_call)) (formed-alone e s.formed);
+      walked = λ s. base (formed-base e s.formed (member_step-seen names t ∙ no_member) (call_step-seen names t ∙ no_call)) (alone-form s-Expression e s.formed);
       plain = λ s. base-plain e (formed-base e s.formed (member_step-seen names t ∙ no_member) (call_step-seen names t ∙ no_call)) s;
       affords = start_affords e;
     }
@@ -182,7 +185,7 @@ continues-inner names t c opened w =
     record {
       to = w.to;
       is = w.is;
-      walked = λ s. inner_spine none (formed-alone e s.formed) below (w.walked (inner-sound e (seen names c.expression) l none below s));
+      walked = λ s. inner_spine none (alone-form s-Expression e s.formed) below (w.walked (inner-sound e (seen names c.expression) l none below s));
       plain = λ s. w.plain (inner-sound e (seen names c.expression) l none below s);
       affords = inner_affords e (seen names c.expression) l w.to below w.affords;
     }

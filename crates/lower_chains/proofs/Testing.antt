@@ -3,6 +3,7 @@ use Rattle.std.proofs.Common.{◌≡◌, ℕ, ◌+◌, ◌≤◌, List, [], ◌�
 use Rattle.std.specs.Prelude.{Bool, true, false, is_some}
 use Rattle.es_resolution.specs.Declarations.{Bound}
 use Rattle.es_resolution.specs.Seen.{seen}
+use Rattle.es_runs.proofs.OptionalChainingWeights.{tests_size-append}
 use Rattle.es_runs.specs.OptionalChaining.{null_checks}
 use Rattle.es_runs.specs.Rules.{assign_node}
 use Rattle.es_steps.specs.Nodes.{identifier}
@@ -18,9 +19,9 @@ use Rattle.lower_temporaries.proofs.Takings.{takes-reads, takes-then}
 use Rattle.lower_temporaries.specs.Takings.{ReadsMore, Takes, moment_of}
 use Rattle.lower_temporaries.specs.Temporaries.{bound_of}
 use Rattle.lower_temporaries.specs.declared.temporaries.Temporary.{Temporary}
-use Rattle.lower_chains.proofs.Held.{next-moved}
+use Rattle.lower_temporaries.proofs.Later.{next-moved}
 use Rattle.lower_chains.proofs.SeenSpines.{stands-none, stands-not, stands-seen}
-use Rattle.lower_chains.proofs.Weights.{single_name, tests_size-append}
+use Rattle.lower_chains.proofs.Weights.{single_name}
 use Rattle.lower_chains.specs.Spines.{stands}
 use Rattle.lower_chains.specs.WayParts.{ChoosesTarget, TargetBy, test_nodes}
 use Rattle.lower_chains.specs.WayParts.TargetBy.{by_held, by_fresh}

@@ -3,9 +3,10 @@
 use Rattle.std.proofs.Common.{◌≡◌, ℕ, ◌+◌, ◌*◌, ◌≤◌, refl, ap, subst, append-nil, ◌∙◌, List, [], ◌∷◌, ◌++◌, length, length-append, arith}
 use Rattle.std.specs.Prelude.{Bool, true, false, codes, Option, Some, is_some}
 use Rattle.es_tree.specs.Parens.{without_parens}
-use Rattle.es_tree.specs.Tree.{Tree, node, Label, done, ◌then◌, missing, one, many, statements, Trees, trees, tree_size, trees_size}
-use Rattle.es_tree.specs.declared.ast_type.AstType.TheVariants.{CallExpression, ChainExpression, Identifier, MemberExpression, ParenthesizedExpression, UnaryExpression}
+use Rattle.es_tree.specs.Tree.{Tree, node, Label, done, ◌then◌, one, many, Trees, trees, tree_size, trees_size}
+use Rattle.es_tree.specs.declared.ast_type.AstType.TheVariants.{CallExpression, ChainExpression, Identifier, MemberExpression, UnaryExpression}
 use Rattle.es_resolution.specs.Declarations.{Bound}
+use Rattle.es_runs.proofs.OptionalChainingWeights.{short_size, stripped_size, tests_size-append}
 use Rattle.es_runs.specs.OptionalChaining.{call_at, delete_node, has_tests, joined_by_or, member_at, null_checks, true_node, where_short}
 use Rattle.es_runs.specs.Rules.{assign_node, logical_node, void_zero_node}
 use Rattle.es_steps.specs.Duplication.{is_among_symbols}
@@ -16,25 +17,8 @@ use Rattle.es_steps.specs.OptionalChaining.Tested.{as_name, in_holder, in_tempor
 use Rattle.es_steps.specs.OptionalChaining.BoundCallee.{no_member, to_object}
 use Rattle.es_steps.specs.Steps.{Whole}
 use Rattle.es_traverse.specs.Loads.{load, trees_load}
+use Rattle.lower_temporaries.proofs.Loads.{stripped_load, trees_load-append}
 use Rattle.lower_chains.specs.Weights.{AffordsRow, AffordsWay, FewBound, FewMade, stripped, way_size}
-
--- BELOW PARENTHESES
-
-pub stripped_load : (t : Tree) → load (without_parens t) ≤ load t
-stripped_load (node ParenthesizedExpression l (one t then fs)) = let h = stripped_load t in omega arith
-stripped_load (node ParenthesizedExpression l done) = omega arith
-stripped_load (node ParenthesizedExpression l (missing then fs)) = omega arith
-stripped_load (node ParenthesizedExpression l (many ts then fs)) = omega arith
-stripped_load (node ParenthesizedExpression l (statements ts then fs)) = omega arith
-stripped_load (node _ l fs) = omega arith
-
-pub stripped_size : (t : Tree) → tree_size (without_parens t) ≤ tree_size t
-stripped_size (node ParenthesizedExpression l (one t then fs)) = let h = stripped_size t in omega arith
-stripped_size (node ParenthesizedExpression l done) = omega arith
-stripped_size (node ParenthesizedExpression l (missing then fs)) = omega arith
-stripped_size (node ParenthesizedExpression l (many ts then fs)) = omega arith
-stripped_size (node ParenthesizedExpression l (statements ts then fs)) = omega arith
-stripped_size (node _ l fs) = omega arith
 
 -- SOURCES
 
@@ -61,14 +45,6 @@ single_name names (node Identifier l (f then fs)) h = absurd (cc h)
 single_name names (node _ l fs) h = absurd (cc h)
 
 -- TESTS
-
-pub tests_load-append : (ts us : List Tree) → trees_load (trees (ts ++ us)) ≡ trees_load (trees ts) + trees_load (trees us)
-tests_load-append [] us = omega arith
-tests_load-append (t ∷ ts) us = let h = tests_load-append ts us in omega arith
-
-pub tests_size-append : (ts us : List Tree) → trees_size (trees (ts ++ us)) ≡ trees_size (trees ts) + trees_size (trees us)
-tests_size-append [] us = omega arith
-tests_size-append (t ∷ ts) us = let h = tests_size-append ts us in omega arith
 
 -- of an expression that is read again as one node
 pub record FewTests (e : Tree) (ts : List Tree) : Type 0 where
@@ -116,7 +92,7 @@ stored_few no_all w x holder xs h =
     let t = few_tests no_all e (identifier x) (record { light = refl; small = refl }) in
     let n = length-append w.tests (null_checks no_all e (identifier x)) in
     let k = tests_size-append w.tests (null_checks no_all e (identifier x)) in
-    let g = tests_load-append w.tests (null_checks no_all e (identifier x)) in
+    let g = trees_load-append w.tests (null_checks no_all e (identifier x)) in
     let m = length-append w.taken xs in
     record { made = t.own + 3 + 2 * length xs; few = omega arith; size = omega arith; paid = omega arith }
 
@@ -136,7 +112,7 @@ stored_callee_few no_all l k computed ts w names xs c o o1 p r is flags count f 
     let t = few_tests no_all e (identifier c) (record { light = refl; small = refl }) in
     let n = length-append w.tests (null_checks no_all e (identifier c)) in
     let s = tests_size-append w.tests (null_checks no_all e (identifier c)) in
-    let g = tests_load-append w.tests (null_checks no_all e (identifier c)) in
+    let g = trees_load-append w.tests (null_checks no_all e (identifier c)) in
     let m = length-append w.taken names in
     let small = ap tree_size is in
     let light = ap load is ∙ plain_member_load k computed o p flags in
@@ -190,17 +166,9 @@ pub joined_load : (t : Tree) (us : List Tree) → load (joined_by_or t us) ≡ l
 joined_load t [] = omega arith
 joined_load t (u ∷ us) = let h = joined_load (logical_node (codes "||") t u) us in omega arith
 
-pub joined_size : (t : Tree) (us : List Tree) → tree_size (joined_by_or t us) ≡ tree_size t + trees_size (trees us) + length us
-joined_size t [] = omega arith
-joined_size t (u ∷ us) = let h = joined_size (logical_node (codes "||") t u) us in omega arith
-
 pub short_load : (m : Label) (ts : List Tree) (short long : Tree) → has_tests ts ≡ true → load (where_short m ts short long) ≡ trees_load (trees ts) + length ts + load short + load long
 short_load m [] short long h = absurd (cc h)
 short_load m (t ∷ ts) short long h = let k = joined_load t ts in omega arith
-
-pub short_size : (m : Label) (ts : List Tree) (short long : Tree) → has_tests ts ≡ true → tree_size (where_short m ts short long) ≡ trees_size (trees ts) + length ts + tree_size short + tree_size long
-short_size m [] short long h = absurd (cc h)
-short_size m (t ∷ ts) short long h = let k = joined_size t ts in omega arith
 
 pub bound_few : {w : Whole} {holder : Option Bound} {xs : List Bound} {e d : Tree} → BoundCallee w holder xs e d → FewBound xs e d
 bound_few (no_member none) = record { own = 0; few = omega arith; paid = omega arith; size = omega arith }

@@ -6,5 +6,4 @@ pub mod Parts
 pub mod Chains
 pub mod Hooks
 pub mod Profiles
-pub mod Within
 pub mod Lawful

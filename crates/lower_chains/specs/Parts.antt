@@ -1,18 +1,14 @@
 -- What is made of a way: the choice between what a chain is where it is cut short and the rest of its spine.
-use Rattle.std.specs.Prelude.{◌≡◌, ◌+◌, ◌<◌, [], length, map}
-use Rattle.es_tree.specs.Tree.{Tree, Label}
+use Rattle.std.specs.Prelude.{◌≡◌, ◌+◌, ◌<◌, length, map}
+use Rattle.es_tree.specs.Tree.{Tree}
 use Rattle.es_tree.specs.declared.ids.Span.{Span}
 use Rattle.es_resolution.specs.Seen.{seen}
 use Rattle.es_runs.specs.OptionalChaining.{delete_node, true_node, where_short}
 use Rattle.es_runs.specs.Rules.{void_zero_node}
-use Rattle.es_steps.specs.Nodes.{made}
+use Rattle.lower_temporaries.specs.Shapes.{at_span}
 use Rattle.lower_temporaries.specs.Takings.{ReadsMore}
 use Rattle.lower_chains.specs.Ways.{BindsTo, Ctx, Names, held}
 use Rattle.lower_chains.specs.declared.way.Way.{Way as CodeWay}
-
--- the label of a made node with this span
-abbrev pub at_span : Span → Label
-at_span s = record (made [] []) { start = s.start; stop = s.end }
 
 -- With this span it is chosen between `short` and `long` by the way's tests, of which there are some.
 pub record Chooses (names : Names) (span : Span) (way : CodeWay) (short long made_of : Tree) : Type 0 where

@@ -12,6 +12,7 @@ use Rattle.es_runs.specs.Rules.{strays}
 use Rattle.es_semantic.specs.NodeMarks.{symbol_mark}
 use Rattle.es_steps.proofs.FormParts.{IsFormed}
 use Rattle.lower_temporaries.specs.Parenthesized.{first_child}
+use Rattle.lower_temporaries.specs.Shapes.{is_pair}
 
 -- FIELDS
 
@@ -19,11 +20,6 @@ use Rattle.lower_temporaries.specs.Parenthesized.{first_child}
 abbrev pub is_single : Fields → Bool
 is_single (one t then done) = true
 is_single _ = false
-
--- an object and a key
-abbrev pub is_pair : Fields → Bool
-is_pair (one o then (one p then done)) = true
-is_pair _ = false
 
 -- a callee and arguments
 abbrev pub is_call_pair : Fields → Bool

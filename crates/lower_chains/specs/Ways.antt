@@ -1,5 +1,5 @@
 -- How far a spine is lowered, as the code holds it, and what each part of the walk along a spine leaves, whatever scopes bind.
-use Rattle.std.specs.Prelude.{◌≡◌, ℕ, ◌+◌, ◌*◌, ◌≤◌, Bool, true, false, Option, Some, None, List, [], ◌∷◌, length, map, string_bytes}
+use Rattle.std.specs.Prelude.{◌≡◌, ℕ, ◌+◌, ◌*◌, Bool, true, false, Option, Some, None, List, [], ◌∷◌, length, map, string_bytes}
 use Rattle.es_tree.specs.Tree.{Tree, Trees, Label, tree_size, trees_size}
 use Rattle.es_tree.specs.Words.{Text}
 use Rattle.es_tree.specs.declared.ids.Span.{Span}
@@ -11,7 +11,7 @@ use Rattle.es_scope.specs.declared.context.TraverseCtx.{TraverseCtx}
 use Rattle.es_scope.specs.declared.context_names.BoundIdentifier.{BoundIdentifier}
 use Rattle.es_changes.specs.Moments.{whole_at}
 use Rattle.es_steps.specs.Nodes.{made}
-use Rattle.es_steps.specs.OptionalChaining.{BoundCallee, Called, Continued, Receives, Tested, Walked, Way}
+use Rattle.es_steps.specs.OptionalChaining.{BoundCallee, Called, Continued, Tested, Walked, Way}
 use Rattle.es_steps.specs.Steps.{Whole}
 use Rattle.es_traverse.specs.Loads.{trees_load}
 use Rattle.lower_temporaries.specs.Takings.{Takes, moment_of}
@@ -97,15 +97,6 @@ pub record CallsTo (names : Names) (no_all : Bool) (begin now : Ctx) (span : Spa
 abbrev pub to_this : Bool → Tree → Bool
 to_this true = is_this_or_super
 to_this false = is_super
-
--- an object was made into what is written for it, and what is read as the receiver
-pub record ReceivesTo (with_this : Bool) (old new : Ctx) (holder : Option Bound) (object written receiver : Tree) : Type 0 where
-  pub names : List Bound
-  pub ids : ℕ
-  pub receives : Receives (to_this with_this) (whole_of old) holder names object written receiver
-  pub takes : Takes names ids (moment_of old) (moment_of new)
-  pub few : ids ≤ 5
-  pub sized : tree_size written + tree_size receiver + 2 * length names ≡ ids + tree_size object
 
 -- what a chain ends in was bound, where it is a callee
 pub record BindsTo (old new : Ctx) (holder : Option Bound) (e d : Tree) : Type 0 where

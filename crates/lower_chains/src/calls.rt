@@ -1,5 +1,5 @@
 //! Marked calls (ECMA-262, 13.3.9): the callee is stored and tested, and then called.
-ghost use Rattle.std.specs.Prelude.{◌≡◌, ◌+◌, ◌-◌, ◌^◌, ◌<◌, ◌∷◌, ◌++◌, IfOk, OnOk, Some, false, length, map, true};
+ghost use Rattle.std.specs.Prelude.{◌≡◌, ◌+◌, ◌-◌, ◌^◌, ◌<◌, ◌∷◌, ◌++◌, IfOk, OnOk, false, length, map, true};
 ghost use Rattle.es_resolution.specs.Seen.{seen, seen_among};
 ghost use Rattle.es_runs.specs.OptionalChaining.{call_at, null_checks};
 ghost use Rattle.es_steps.specs.OptionalChaining.{call_method};

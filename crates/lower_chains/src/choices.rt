@@ -2,7 +2,8 @@
 ghost use Rattle.std.specs.Prelude.{◌≡◌, ◌+◌, ◌-◌, ◌^◌, ◌<◌, IfOk, length, map};
 ghost use Rattle.es_resolution.specs.Seen.{seen};
 ghost use Rattle.es_runs.specs.OptionalChaining.{joined_by_or, where_short};
-ghost use Rattle.lower_chains.specs.Parts.{at_span, ChoosesCallee, ChoosesDeleted, ChoosesValue};
+ghost use Rattle.lower_temporaries.specs.Shapes.{at_span};
+ghost use Rattle.lower_chains.specs.Parts.{ChoosesCallee, ChoosesDeleted, ChoosesValue};
 ghost use Rattle.lower_chains.specs.Ways.{Names};
 
 use crate::receivers::bind_callee;

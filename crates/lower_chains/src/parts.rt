@@ -2,24 +2,18 @@
 ghost use Rattle.std.specs.Prelude.{◌≡◌};
 ghost use Rattle.es_tree.specs.Views.{plain_fields};
 ghost use Rattle.lower_temporaries.specs.Parenthesized.{first_child};
-ghost use Rattle.lower_chains.specs.Spines.{calls_chain, deletes_chain, has_chain, has_mark, is_call_pair, is_call_step, is_content, is_delete, is_marked_chain, is_member_step, is_optional, is_pair, is_parenthesized, is_plain_call, is_plain_member, is_single, is_step};
+ghost use Rattle.lower_chains.specs.Spines.{calls_chain, deletes_chain, has_chain, has_mark, is_call_pair, is_call_step, is_content, is_delete, is_marked_chain, is_member_step, is_optional, is_parenthesized, is_plain_call, is_plain_member, is_single, is_step};
 
 use es_tree::kind::Kind;
 use es_tree::node::{Field, Node};
 use es_tree::operators::UnaryOperator;
+use lower_temporaries::shapes::is_pair;
 
 /// Whether these are one child and no more.
 pub(crate) fn is_single(fields: &[Field]) -> bool
     ensures { result ≡ is_single (plain_fields fields.now) }
 {
     matches!(fields, [Field::One(..)])
-}
-
-/// Whether these are two children, as a member's object and its key.
-pub(crate) fn is_pair(fields: &[Field]) -> bool
-    ensures { result ≡ is_pair (plain_fields fields.now) }
-{
-    matches!(fields, [Field::One(..), Field::One(..)])
 }
 
 /// Whether these are a child and a list, as a callee and arguments.

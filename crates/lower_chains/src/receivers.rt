@@ -6,12 +6,12 @@ ghost use Rattle.lower_temporaries.specs.Parenthesized.{first_child};
 ghost use Rattle.lower_temporaries.specs.Takings.{ReadsMore};
 ghost use Rattle.lower_chains.specs.Spines.{is_plain_member};
 ghost use Rattle.lower_chains.specs.WayParts.{ChoosesReceiver, IsMeant, WritesMember, nodes_for, read_for, written_for};
-ghost use Rattle.lower_chains.specs.Ways.{BindsTo, Names, ReceivesTo, held, to_this};
+ghost use Rattle.lower_chains.specs.Ways.{BindsTo, Names, held, to_this};
 
 use crate::members::new_method;
 use crate::names::is_kept_name;
 use crate::null_checks::store;
-use crate::parts::is_plain_member;
+use crate::parts::{first_child, is_plain_member};
 use es_expressions::literals::new_this_expression;
 use es_expressions::members::{MemberExpression, new_call_expression};
 use es_scope::context::TraverseCtx;
@@ -48,7 +48,8 @@ fn is_to_this(object: &Node, with_this: bool) -> bool
     }
 }
 
-/// How an object is read as the receiver. The name of a temporary is made here, from the object.
+/// How an object is read as the receiver: `this` for `super`, and, where `with_this` is set, for `this`; the temporary
+/// that is held, or a name that no reference writes, is read again; all else takes a temporary, whose name is made here.
 pub(crate) fn choose_receiver(
     object: &Node,
     with_this: bool,
@@ -137,24 +138,6 @@ pub(crate) fn write_member(
     Ok((written, read))
 }
 
-/// An object as it is written in its member, and as it is read as the receiver: `this` for `super`, and, where
-/// `with_this` is set, for `this`; the temporary that is held, or a name that no reference writes, is read again;
-/// all else takes a temporary.
-pub(crate) fn take_receiver(
-    object: Node,
-    with_this: bool,
-    holder: &Option<BoundIdentifier>,
-    ctx: &mut TraverseCtx<TransformState>,
-) -> Result<(Node, Node), AllocError>
-    requires there { 0 < length ctx.old.state.var_declarations }
-    requires room { ctx.old.ast.next + 6 < 2 ^ 32 - 1 }
-    ensures { IfOk result (λ r. (names : Names) → ReceivesTo with_this ctx.old ctx.new (held holder.now) (seen names object) (seen names r.0) (seen names r.1)) }
-{
-    let receiver = choose_receiver(&object, with_this, holder, ctx)?;
-    let (written, read) = write_receiver(object, receiver, ctx)?;
-    Ok((written, read))
-}
-
 /// `member.bind(receiver)`
 fn new_bind(member: Node, receiver: Node, ast: &mut AstBuilder) -> Result<Node, AllocError>
     requires room { ast.old.next + 3 < 2 ^ 32 - 1 }
@@ -178,25 +161,9 @@ fn bind_member(
     requires room { ctx.old.ast.next + 9 < 2 ^ 32 - 1 }
     ensures { IfOk result (λ d. (names : Names) → BindsTo ctx.old ctx.new (held holder.now) (seen names member) (seen names d)) }
 {
-    let MemberExpression {
-        id,
-        span,
-        computed,
-        optional: _optional,
-        object,
-        property,
-    } = MemberExpression::open(member);
-    let (object, receiver) = take_receiver(object, false, holder, ctx)?;
-    let member = MemberExpression {
-        id,
-        span,
-        computed,
-        optional: false,
-        object,
-        property,
-    };
-    let member = member.close(ctx.ast.alloc)?;
-    let node = new_bind(member, receiver, &mut ctx.ast)?;
+    let receiver = choose_receiver(first_child(&member), false, holder, ctx)?;
+    let (written, read) = write_member(member, receiver, ctx)?;
+    let node = new_bind(written, read, &mut ctx.ast)?;
     Ok(node)
 }
 

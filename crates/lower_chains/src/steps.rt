@@ -1,5 +1,5 @@
 //! The marked steps of a spine: what stands before one is stored and tested (ECMA-262, 13.3.9).
-ghost use Rattle.std.specs.Prelude.{◌≡◌, ◌+◌, ◌-◌, ◌^◌, ◌<◌, IfOk, length};
+ghost use Rattle.std.specs.Prelude.{◌+◌, ◌-◌, ◌^◌, ◌<◌, IfOk, length};
 ghost use Rattle.es_resolution.specs.Seen.{seen_among};
 ghost use Rattle.es_steps.specs.OptionalChaining.{Way as SpecWay};
 ghost use Rattle.es_tree.specs.Tree.{trees};

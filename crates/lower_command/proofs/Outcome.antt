@@ -5,13 +5,10 @@ use Rattle.std.proofs.lemmas.Bool.{eq-eqb}
 use Rattle.std.specs.declared.alloc.Global.{Global}
 use Rattle.std.specs.Io.KnownBytes.{append_known}
 use Rattle.es_tree.specs.Options.{first_fault}
-use Rattle.es_tree.specs.Tree.{Tree}
 use Rattle.es_tree.specs.declared.error.LowerError.{LowerError}
 use Rattle.es_tree.specs.declared.error.LowerError.TheVariants.{Option as e-Option}
 use Rattle.es_tree.specs.declared.error.OptionName.{OptionName}
-use Rattle.es_tree.specs.declared.options.ES2020Options.{ES2020Options}
 use Rattle.lower_temporaries.specs.declared.warning.Warning.{Warning}
-use Rattle.lower_editions.specs.Warnings.{warnings_of}
 use Rattle.lower_command.specs.declared.answer.Answer.{Answer}
 use Rattle.lower_command.specs.declared.answer.Answer.TheVariants.{Lowered, Generated, Refused, Words, ReadFault, TooLong}
 use Rattle.lower_command.specs.declared.answer.TheConstants.{DONE, OUT_OF_MEMORY, REFUSED, WORDS, TOO_LONG}
@@ -21,6 +18,7 @@ use Rattle.es_tree.specs.declared.options.EnvOptions.{EnvOptions}
 use Rattle.lower_driver.specs.Sources.{IsCauseUnder}
 use Rattle.lower_command.specs.Job.{IsTakenSource}
 use Rattle.lower_command.specs.Words.{AreProper, Asks, generate_of, has_flag}
+use Rattle.lower_editions.proofs.Walked.{none_asked}
 use Rattle.lower_command.proofs.RefusedAlike.{same_refusals}
 use Rattle.lower_command.proofs.Causes.{taken_as, not_refused, one_cause}
 use Rattle.lower_command.specs.Run.{AskForInput, IsGeneratedAnswer, IsJobAnswer, WasWhole, WasAnswered, WasGenerated, IsDue, Took, TookFront, Ends, Gave, Table, HasInput, Causes}
@@ -143,17 +141,14 @@ is_generated o TooLong words old new n due asked proper counted carried = no_cou
 other : {P : Type 0} {m n : ℕ} → nat_eq m n ≡ false → m ≡ n → P
 other {P} {m} {n} differ same = absurd (cc (sym differ, eq-eqb m n same))
 
--- where no warnings are asked for there are none
-none_asked : (o : ES2020Options) (source : Tree) → o.big_int ≡ false → warnings_of o source ≡ []
-none_asked o source off = rw off refl
-
 -- nothing is due to the notes where nothing is said there
 pub quiet : (answer : Answer) (words : List (String Global)) (old new : End) → IsDue answer words old new
-    → (status_of answer ≡ OUT_OF_MEMORY) ⊎ ((status_of answer ≡ DONE) × (has_flag words (codes "bigint-warnings") ≡ false)) → notes_text answer ≡ []
+    → (status_of answer ≡ OUT_OF_MEMORY) ⊎ ((status_of answer ≡ DONE) × (has_flag words (codes "bigint-warnings") ≡ false) × (has_flag words (codes "name-warnings") ≡ false)) → notes_text answer ≡ []
 quiet (Lowered texts) words old new due (inl memory) = other refl memory
 quiet (Lowered texts) words old new due (inr done) =
     let text = due.1.whole.3.1 in
-    text.warned ∙ ap (λ (warnings : List Warning). warning_lines warnings) (none_asked due.1.options.es2020 text.source (due.1.asked.bigint_warnings ∙ done.1))
+    let asked = due.1.asked in
+    text.warned ∙ ap (λ (warnings : List Warning). warning_lines warnings) (none_asked due.1.options.es2020 text.source (asked.bigint_warnings ∙ done.1) (asked.name_warnings ∙ done.2))
 quiet (Generated line) words old new due when = refl
 quiet (Refused text) words old new due (inl memory) = other refl memory
 quiet (Refused text) words old new due (inr done) = other refl done.0

@@ -43,7 +43,7 @@ pub fn run_tool<S: Source, O: Sink, E: Sink>(
     // What isn't used isn't touched, whether or not it tells its bytes.
     ensures unread { (¬ AreProper words.now) ⊎ IsSome (generate_of words.now) → input.new ≡ input.old }
     ensures output_kept { result ≢ DONE → result ≢ WRITE_FAULT → output.new ≡ output.old }
-    ensures notes_kept { (result ≡ OUT_OF_MEMORY) ⊎ ((result ≡ DONE) × (has_flag words.now (codes "bigint-warnings") ≡ false)) → notes.new ≡ notes.old }
+    ensures notes_kept { (result ≡ OUT_OF_MEMORY) ⊎ ((result ≡ DONE) × (has_flag words.now (codes "bigint-warnings") ≡ false) × (has_flag words.now (codes "name-warnings") ≡ false)) → notes.new ≡ notes.old }
 {
     let Ok(answer) = find_answer(alloc, words, input) else {
         return OUT_OF_MEMORY;

@@ -1,23 +1,23 @@
 -- Options that are the same ask for the same.
-use Rattle.std.proofs.Common.{◌≡◌, ℕ, Option, refl, sym, ap, ◌∙◌, subst, List, [], ◌∷◌, inl, inr}
-use Rattle.std.specs.Prelude.{Bool, true, false}
+use Rattle.std.proofs.Common.{◌≡◌, ℕ, refl, sym, ap, ◌∙◌, subst, List, [], ◌∷◌, inl, inr}
+use Rattle.std.specs.Prelude.{Bool}
 use Rattle.std.specs.Option.{option_or}
 use Rattle.es_tree.specs.Constructs.{has_enabled_construct}
 use Rattle.es_tree.specs.Options.{asks_for_unbuilt}
 use Rattle.es_tree.specs.Tree.{Tree, Label, Fields}
 use Rattle.es_tree.specs.declared.ast_type.AstType.{AstType}
-use Rattle.es_tree.specs.declared.error.UnsupportedKind.{UnsupportedKind}
 use Rattle.es_tree.specs.declared.options.EnvOptions.{EnvOptions}
 use Rattle.es_semantic.specs.Places.{Visit, visits_of}
 use Rattle.es_semantic.specs.SymbolsOf.{Declared, symbols_of}
 use Rattle.es_steps.specs.CoreBridge.{Reached}
-use Rattle.es_steps.specs.CoreRules.{rows_under, rule_under}
-use Rattle.es_steps.specs.Open.{Open}
+use Rattle.es_steps.specs.CoreRules.{rows_under, rule_under, where_on}
+use Rattle.es_steps.specs.OptionalCatch.{CatchRule}
 use Rattle.es_steps.specs.Slots.{holds}
-use Rattle.es_steps.specs.Steps.{Ledger, Site, Spot, Step, Steps, Whole}
+use Rattle.es_steps.specs.Steps.{Ledger, Site, Spot, Whole}
 use Rattle.es_steps.specs.WrapRule.{WrapRule, is_wrapped_for}
 use Rattle.es_steps.specs.WrapRule.WrapRule.{wraps}
 use Rattle.es_steps.proofs.BridgeInclusion.{all_under}
+use Rattle.es_reached.specs.Reached.{built_rules}
 use Rattle.es_unsupported.specs.FirstUnsupported.{first_among, first_unsupported, found_at}
 use Rattle.es_unsupported.specs.Shapes.{shape_at}
 use Rattle.lower_driver.specs.Copies.{IsCopy}
@@ -59,5 +59,9 @@ module _ (o c : EnvOptions) (copy : IsCopy o c) where
   copied-rule n s x s' y (inr (inl w)) = inr (inl (copied-wraps n s s' x y w))
   copied-rule n s x s' y (inr (inr r)) = inr (inr (copied-rows n s s' x y r))
 
-  pub copied-reached : (p q : Tree) (w : Whole) (names : List _) → Reached (rule_under c) p w names q → Reached (rule_under o) p w names q
-  copied-reached p q w names h = record { whole = h.whole; steps = all_under (rule_under c) (rule_under o) copied-rule h.steps; made = h.made }
+  copied-built : (n : Site) (s : Ledger) (x : Spot) (s' : Ledger) (y : Spot) → built_rules c n s x s' y → built_rules o n s x s' y
+  copied-built n s x s' y (inl r) = inl (copied-rule n s x s' y r)
+  copied-built n s x s' y (inr h) = inr (subst (λ (z : Type 0). z) (λ i. where_on (copy.es2019 i).optional_catch_binding CatchRule n s x s' y) h)
+
+  pub copied-reached : (p q : Tree) (w : Whole) (names : List _) → Reached (built_rules c) p w names q → Reached (built_rules o) p w names q
+  copied-reached p q w names h = record { whole = h.whole; steps = all_under (built_rules c) (built_rules o) copied-built h.steps; made = h.made }

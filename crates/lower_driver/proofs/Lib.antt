@@ -7,3 +7,4 @@ pub mod CopiedOptions
 pub mod NoneLeft
 pub mod Settled
 pub mod Visits
+pub mod EitherTest

@@ -1,12 +1,12 @@
 -- Where a visit leaves no construct among the statements of a program, none is left: its directives have none.
-use Rattle.std.proofs.Common.{◌≡◌, ◌∙◌, ap, arith, refl, sym}
+use Rattle.std.proofs.Common.{◌≡◌, ◌∙◌, ap, arith, refl}
 use Rattle.std.specs.Prelude.{Bool, true, false, ◌&&◌, ◌||◌, is_some}
 use Rattle.es_tree.specs.Attributes.{child_entries}
 use Rattle.es_tree.specs.Constructs.{has_enabled_construct, is_arrow, is_chain, is_enabled_construct, is_exponentiation, is_logical_assignment, is_namespace_export, is_nullish_coalescing, is_optional_catch, is_rest_or_spread, is_using}
 use Rattle.es_tree.specs.HasForm.{is_of_sort, elements_of, match_option, has_form, elements_form, fields_form, trees_form}
 use Rattle.es_tree.specs.Options.{asks_for_unbuilt}
-use Rattle.es_tree.specs.Tree.{Tree, node, Label, Fields, done, ◌then◌, many, one, statements, missing, Trees, empty, ◌before◌}
-use Rattle.es_tree.specs.Walks.{any_node, any_in_fields, any_in_trees}
+use Rattle.es_tree.specs.Tree.{Tree, node, Label, Fields, done, ◌then◌, many, one, statements, Trees, empty, ◌before◌}
+use Rattle.es_tree.specs.Walks.{any_node, any_in_trees}
 use Rattle.es_tree.specs.declared.ast_type.AstType.{AstType}
 use Rattle.es_tree.specs.declared.ast_type.AstType.TheVariants.{Directive, Program as k-Program}
 use Rattle.es_tree.specs.declared.options.EnvOptions.{EnvOptions}
@@ -17,28 +17,23 @@ use Rattle.es_runs.proofs.Named.{and_left, and_right, or_both, or_first, or_seco
 
 -- BUILT CONSTRUCTS
 
--- the four rows in another order, beside settings that are off
-regrouped : (a b c d : Bool) → (a || b || c || d || false || false || (false || false || false)) ≡ (d || b || c || a)
-regrouped a b c d = grind arith
+-- the five rows in another order, beside settings that are off
+regrouped : (a b c d e : Bool) → (a || b || c || d || false || false || (e || false || false)) ≡ (d || b || c || e || a)
+regrouped a b c d e = grind arith
 
 module _ (o : EnvOptions) (off : asks_for_unbuilt o ≡ false) where
   built_alone : (k : AstType) (l : Label) (fs : Fields) → is_enabled_construct o k l fs ≡ is_built_construct o k l fs
   built_alone k l fs =
       let arrows = is_some o.es2015.arrow_function in
       let rests = is_some o.es2018.object_rest_spread in
-      let catches = o.es2019.optional_catch_binding in
       let exports = o.es2020.export_namespace_from in
-      let module_names = o.es2020.arbitrary_module_namespace_names in
       let using = o.es2026.explicit_resource_management in
-      let five = or_first (arrows || rests || catches || exports || module_names) using off in
-      let four = or_first (arrows || rests || catches || exports) module_names five in
-      let three = or_first (arrows || rests || catches) exports four in
-      let two = or_first (arrows || rests) catches three in
+      let three = or_first (arrows || rests || exports) using off in
+      let two = or_first (arrows || rests) exports three in
       let no_arrows = or_first arrows rests two in
       let no_rests = or_second arrows rests two in
-      let no_catches = or_second (arrows || rests) catches three in
-      let no_exports = or_second (arrows || rests || catches) exports four in
-      let no_using = or_second (arrows || rests || catches || exports || module_names) using off in
+      let no_exports = or_second (arrows || rests) exports three in
+      let no_using = or_second (arrows || rests || exports) using off in
       (λ i.
       (o.es2016.exponentiation_operator && is_exponentiation k l fs)
       || (o.es2020.nullish_coalescing_operator && is_nullish_coalescing k l fs)
@@ -46,9 +41,9 @@ module _ (o : EnvOptions) (off : asks_for_unbuilt o ≡ false) where
       || (o.es2021.logical_assignment_operators && is_logical_assignment k l fs)
       || (no_rests i && is_rest_or_spread k l fs)
       || (no_arrows i && is_arrow k l fs)
-      || ((no_catches i && is_optional_catch k l fs) || (no_exports i && is_namespace_export k l fs) || (no_using i && is_using k l fs)))
+      || ((o.es2019.optional_catch_binding && is_optional_catch k l fs) || (no_exports i && is_namespace_export k l fs) || (no_using i && is_using k l fs)))
       ∙ regrouped (o.es2016.exponentiation_operator && is_exponentiation k l fs) (o.es2020.nullish_coalescing_operator && is_nullish_coalescing k l fs) (o.es2020.optional_chaining && is_chain k l fs)
-      (o.es2021.logical_assignment_operators && is_logical_assignment k l fs)
+      (o.es2021.logical_assignment_operators && is_logical_assignment k l fs) (o.es2019.optional_catch_binding && is_optional_catch k l fs)
 
   -- what they ask for is a construct of these
   pub enabled-built : (t : Tree) → has_enabled_construct o t ≡ any_node (is_built_construct o) t
@@ -64,19 +59,21 @@ switched_off true = refl
 switched_off false = refl
 
 module _ (o : EnvOptions) where
-  none_of_four : (o.es2021.logical_assignment_operators && false || o.es2020.nullish_coalescing_operator && false || o.es2020.optional_chaining && false || o.es2016.exponentiation_operator && false) ≡ false
-  none_of_four =
+  none_of_five : (o.es2021.logical_assignment_operators && false || o.es2020.nullish_coalescing_operator && false || o.es2020.optional_chaining && false || o.es2019.optional_catch_binding && false || o.es2016.exponentiation_operator && false) ≡ false
+  none_of_five =
       let a = o.es2021.logical_assignment_operators in
       let b = o.es2020.nullish_coalescing_operator in
       let c = o.es2020.optional_chaining in
-      let d = o.es2016.exponentiation_operator in
-      or_both (a && false || b && false || c && false) (d && false) (or_both (a && false || b && false) (c && false) (or_both (a && false) (b && false) (switched_off a) (switched_off b)) (switched_off c)) (switched_off d)
+      let d = o.es2019.optional_catch_binding in
+      let e = o.es2016.exponentiation_operator in
+      or_both (a && false || b && false || c && false || d && false) (e && false)
+      (or_both (a && false || b && false || c && false) (d && false) (or_both (a && false || b && false) (c && false) (or_both (a && false) (b && false) (switched_off a) (switched_off b)) (switched_off c)) (switched_off d)) (switched_off e)
 
   directive_clear : (t : Tree) → has_form s-Directive t ≡ true → any_node (is_lowered_construct o) t ≡ false
   directive_clear (node k l fs) h = at k fs (node_form s-Directive k l fs h).sort (node_form s-Directive k l fs h).children
     where
       at : (k : AstType) (fs : Fields) → is_of_sort s-Directive k ≡ true → ChildrenForm k l fs → any_node (is_lowered_construct o) (node k l fs) ≡ false
-      at Directive done sort children = or_both (is_lowered_construct o Directive l done) false none_of_four refl
+      at Directive done sort children = or_both (is_lowered_construct o Directive l done) false none_of_five refl
       at Directive (f then fs) sort children = absurd (cc children)
       at _ fs sort children = absurd (cc sort)
 
@@ -101,5 +98,5 @@ module _ (o : EnvOptions) where
       let test = is_lowered_construct o in
       let formed : (trees_form s-Directive s-Directive ds && (trees_form s-Statement s-Statement ts && true)) ≡ true = (node_form s-Program k-Program l (many ds then (statements ts then done)) form).children in
       let front = directives_clear es (ap (trees_form s-Directive s-Directive) (ap first_list same) ∙ and_left (trees_form s-Directive s-Directive ds) (trees_form s-Statement s-Statement ts && true) formed) in
-      or_both (test k-Program m (many es then (statements us then done))) (any_in_trees test es || (any_in_trees test us || false)) none_of_four
+      or_both (test k-Program m (many es then (statements us then done))) (any_in_trees test es || (any_in_trees test us || false)) none_of_five
       (or_both (any_in_trees test es) (any_in_trees test us || false) front (or_both (any_in_trees test us) false free refl))

@@ -1,5 +1,5 @@
 -- A program in which no construct stands that the options ask to lower has no shape that a run doesn't take.
-use Rattle.std.proofs.Common.{◌≡◌, ℕ, suc, ◌+◌, None, Option, Some, refl, sym, ap, ◌∙◌, List, [], ◌∷◌, ◌++◌}
+use Rattle.std.proofs.Common.{◌≡◌, ℕ, suc, ◌+◌, None, Option, Some, refl, ◌∙◌, List, [], ◌∷◌, ◌++◌}
 use Rattle.std.specs.Prelude.{Bool, true, false, ◌&&◌, ◌||◌, is_some, codes, if◌then◌else◌}
 use Rattle.std.specs.Option.{option_or}
 use Rattle.es_tree.specs.Constructs.{field_at, has_enabled_construct, is_arrow, is_chain, is_enabled_construct, is_enabled_statement, is_exponentiation, is_logical_assignment, is_nullish_coalescing, is_rest_or_spread}

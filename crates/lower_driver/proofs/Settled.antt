@@ -6,8 +6,8 @@ use Rattle.std.specs.List.{list_any}
 use Rattle.std.proofs.lemmas.Bool.{and_parts}
 use Rattle.es_tree.specs.Ancestors.{Ancestor, ancestor, place_of}
 use Rattle.es_tree.specs.Attributes.{child_entries}
-use Rattle.es_tree.specs.Constructs.{field_at, is_chain, is_exponentiation, is_logical_assignment, is_nullish_coalescing}
-use Rattle.es_tree.specs.CoreStaticRules.{is_bad_target, is_simple_target, is_stray_optional, target_place}
+use Rattle.es_tree.specs.Constructs.{is_exponentiation, is_logical_assignment}
+use Rattle.es_tree.specs.CoreStaticRules.{is_simple_target, is_stray_optional}
 use Rattle.es_tree.specs.HasForm.{ElementsPlace, element_form, elements_form, elements_of, field_form, fields_form, has_form, match_option, same_type, sort_at, sort_before_fields, sort_before_trees, trees_form}
 use Rattle.es_tree.specs.Names.{first_text, flag_at}
 use Rattle.es_tree.specs.Parens.{without_parens}
@@ -107,7 +107,7 @@ module _ (o : EnvOptions) where
       let simple : bytes_eq op (codes "=") ≡ false → is_simple t ≡ true = λ h. simple-kept (ancestor AssignmentExpression l (one t then fs) 0 0 ∷ up) t keeps.0 refl (kept-simple (bytes_eq op (codes "=")) (kind_of t) kind kept h) in
       let logical = same-and (is_logical_assignment AssignmentExpression l (one t then fs)) (is_simple t) (λ h. simple (one-of-three op _ h)) in
       let power = same-and (is_exponentiation AssignmentExpression l (one t then fs)) (is_simple t) (λ h. simple (raised op _ h)) in
-      λ i. (o.es2021.logical_assignment_operators && logical i) || (o.es2020.nullish_coalescing_operator && false) || (o.es2020.optional_chaining && false) || (o.es2016.exponentiation_operator && power i)
+      λ i. (o.es2021.logical_assignment_operators && logical i) || (o.es2020.nullish_coalescing_operator && false) || (o.es2020.optional_chaining && false) || (o.es2019.optional_catch_binding && false) || (o.es2016.exponentiation_operator && power i)
   assignment-same up l done form keeps = absurd (true≢false (sym form))
   assignment-same up l (missing then fs) form keeps = absurd (true≢false (sym form))
   assignment-same up l (many ts then fs) form keeps = absurd (true≢false (sym form))

@@ -1,8 +1,8 @@
 -- From the one visit of a run to what the source becomes.
-use Rattle.std.proofs.Common.{◌≡◌, ◌+◌, ◌*◌, ◌≤◌, ◌<◌, ◌^◌, ℕ, suc, refl, sym, ap, ◌∙◌, subst, List, [], ◌∷◌, Option, None, Some, inl, inr, arith, map, length, true≢false}
+use Rattle.std.proofs.Common.{◌≡◌, ◌+◌, ◌*◌, ◌≤◌, ◌<◌, ◌^◌, ℕ, refl, sym, ap, ◌∙◌, subst, List, [], ◌∷◌, Option, None, inl, inr, arith, true≢false}
 use Rattle.std.specs.Prelude.{Bool, true, false, ◌&&◌, ◌||◌}
 use Rattle.es_tree.specs.Bare.{bare}
-use Rattle.es_tree.specs.Constructs.{has_enabled_construct, is_chain, is_nullish_coalescing}
+use Rattle.es_tree.specs.Constructs.{has_enabled_construct, is_chain, is_nullish_coalescing, is_optional_catch}
 use Rattle.es_row_laws.specs.Laws.{is_lowered_assignment, is_lowered_power}
 use Rattle.es_valid_steps.specs.PlaceRules.{place_breaks}
 use Rattle.es_valid_steps.proofs.Visits.{law_places_proof}
@@ -12,7 +12,7 @@ use Rattle.es_tree.specs.Names.{names_of}
 use Rattle.es_tree.specs.Options.{asks_for_unbuilt}
 use Rattle.es_tree.specs.StaticRules.{breaks}
 use Rattle.es_tree.specs.Tree.{Tree, Label, Fields, done, ◌then◌, statements, label_of, tree_size, trees}
-use Rattle.es_tree.specs.Walks.{any_in_fields, any_in_trees, any_node}
+use Rattle.es_tree.specs.Walks.{any_in_fields, any_in_trees}
 use Rattle.es_tree.specs.Words.{Text}
 use Rattle.es_tree.specs.declared.ast_type.AstType.{AstType}
 use Rattle.es_tree.specs.declared.options.EnvOptions.{EnvOptions}
@@ -27,29 +27,27 @@ use Rattle.es_semantic.specs.SymbolsOf.{symbol_in, symbols_of}
 use Rattle.es_semantic.proofs.MarkedProgram.{bare-marked-program}
 use Rattle.es_statements.specs.ProgramPlain.{plain_program}
 use Rattle.es_statements.specs.declared.program.Program.{Program}
-use Rattle.es_resolution.specs.Declarations.{Bound}
 use Rattle.es_resolution.specs.Laws.{source}
 use Rattle.es_resolution.specs.Seen.{seen, seen_among}
-use Rattle.es_runs.specs.Weights.{weight}
 use Rattle.es_runs.proofs.Weights.{size-weight}
 use Rattle.es_steps.specs.CoreBridge.{Reached, first_whole, is_written_name, names_among}
-use Rattle.es_steps.specs.CoreRules.{rule_under}
-use Rattle.es_steps.specs.Open.{Open, Pending, nothing_pending, no_additions, opened}
-use Rattle.es_steps.specs.Steps.{Ledger, ledger, Site, Spot, Step, Steps, Whole, the_program}
+use Rattle.es_steps.specs.Open.{Pending, nothing_pending, no_additions, opened}
+use Rattle.es_steps.specs.Steps.{Ledger, ledger, Site, Spot, Step, Steps, the_program}
 use Rattle.es_steps.specs.Steps.Steps.{stays}
 use Rattle.es_runs.proofs.Named.{or_first}
 use Rattle.es_steps.proofs.BridgeInclusion.{all_under}
 use Rattle.es_changes.specs.Changes.{HasRoom, heft, open_program}
 use Rattle.es_changes.specs.Conditions.{holds_after}
 use Rattle.es_changes.specs.Fits.{Fits}
-use Rattle.es_changes.specs.Moments.{Moment, top, whole_at}
+use Rattle.es_changes.specs.Moments.{top, whole_at}
 use Rattle.es_conditions.specs.CoreConditions.{core_conditions}
 use Rattle.es_traverse.specs.ContextMoments.{bound_names}
 use Rattle.es_traverse.specs.Laws.{KeptVisited}
 use Rattle.es_traverse.specs.Loads.{load}
 use Rattle.es_traverse.specs.Visits.{VisitedProgram}
 use Rattle.es_traverse.proofs.LoadParts.{load-size}
-use Rattle.es_visit.specs.declared.hook.Hook.TheVariants.{Expression}
+use Rattle.es_visit.specs.declared.hook.Hook.{Hook}
+use Rattle.es_visit.specs.declared.hook.Hook.TheVariants.{CatchClause, Expression}
 use Rattle.es_unsupported.specs.FirstUnsupported.{first_unsupported}
 use Rattle.es_starts.specs.Contexts.{IsNew}
 use Rattle.es_starts.specs.Starts.{IsFirst}
@@ -57,7 +55,7 @@ use Rattle.es_starts.proofs.FirstConditions.{law_first_conditions_proof}
 use Rattle.es_starts.proofs.FirstContext.{first-of-context}
 use Rattle.es_starts.proofs.FirstFits.{law_fits_proof}
 use Rattle.es_starts.proofs.FirstTable.{law_first_of_table_proof}
-use Rattle.es_reached.specs.Reached.{IsResult}
+use Rattle.es_reached.specs.Reached.{built_rules}
 use Rattle.es_reached.proofs.Results.{law_core_result_proof, law_first_proof, law_result_proof}
 use Rattle.es_reached.proofs.BarePlaces.{law_bare_places_proof}
 use Rattle.es_reached.proofs.Sources.{law_bare_seen_proof, law_bare_source_proof}
@@ -69,6 +67,7 @@ use Rattle.lower_driver.specs.Visits.{visit_profile}
 use Rattle.lower_driver.proofs.BareConstructs.{same-constructs}
 use Rattle.lower_driver.proofs.CopiedOptions.{copied-enabled, copied-reached, copied-unbuilt}
 use Rattle.lower_driver.specs.Constructs.{is_lowered_construct}
+use Rattle.lower_driver.proofs.EitherTest.{none-of-trees}
 use Rattle.lower_driver.proofs.NoneLeft.{enabled-built, none-written}
 use Rattle.lower_driver.proofs.Settled.{tree-settled}
 
@@ -129,16 +128,22 @@ names-bound free (x ∷ xs) = ap (λ ys. x ∷ ys) (names-bound free xs)
 
 -- RULES
 
-by-options : (o : EnvOptions) (n : Site) (s : Ledger) (x : Spot) (s' : Ledger) (y : Spot) → (visit_profile o).rule n s x s' y → rule_under o n s x s' y
-by-options o n s x s' y (inl (inl w)) = inl w
-by-options o n s x s' y (inl (inr w)) = inr (inl w)
-by-options o n s x s' y (inr r) = inr (inr r)
+by-options : (o : EnvOptions) (n : Site) (s : Ledger) (x : Spot) (s' : Ledger) (y : Spot) → (visit_profile o).rule n s x s' y → built_rules o n s x s' y
+by-options o n s x s' y (inl (inl w)) = inl (inl w)
+by-options o n s x s' y (inl (inr w)) = inl (inr (inl w))
+by-options o n s x s' y (inr (inl a)) = inl (inr (inr (inl a)))
+by-options o n s x s' y (inr (inr (inl b))) = inl (inr (inr (inr (inl b))))
+by-options o n s x s' y (inr (inr (inr (inl c)))) = inr c
+by-options o n s x s' y (inr (inr (inr (inr p)))) = inl (inr (inr (inr (inr p))))
 
--- the constructs that the hooks remove, in another grouping
-grouped : (a b c d : Bool) → (false || (a || ((b || c) || d))) ≡ (a || b || c || d)
-grouped true b c d = refl
-grouped false true c d = refl
-grouped false false c d = refl
+-- the constructs that the hooks of expressions and of catch clauses remove, together
+grouped : (a b c d e : Bool) → (a || b || c || e || d) ≡ ((false || (a || ((b || c) || (false || d)))) || (false || (false || ((false || false) || (e || false)))))
+grouped true b c d e = refl
+grouped false true c d e = refl
+grouped false false true d e = refl
+grouped false false false false e = refl
+grouped false false false true true = refl
+grouped false false false true false = refl
 
 -- STEPS
 
@@ -165,7 +170,7 @@ module _ (c : EnvOptions) (p : Tree) (ctx ctx' : TraverseCtx TransformState) (x 
   known : holds_after (core_conditions c) the_program (seen names (plain_program x))
   known = subst (λ (t : Tree). holds_after (core_conditions c) the_program t) (sym there) (law_first_conditions_proof c p form right taken)
 
-  visited-reached : VisitedProgram (visit_profile c) (moment_of ctx) (seen names (plain_program x)) (moment_of ctx') result → top (moment_of ctx').lists ≡ nothing_pending → Reached (rule_under c) p (first_whole p) (made_of ctx') result
+  visited-reached : VisitedProgram (visit_profile c) (moment_of ctx) (seen names (plain_program x)) (moment_of ctx') result → top (moment_of ctx').lists ≡ nothing_pending → Reached (built_rules c) p (first_whole p) (made_of ctx') result
   visited-reached visited finished =
       let a = moment_of ctx in
       let b = moment_of ctx' in
@@ -177,7 +182,7 @@ module _ (c : EnvOptions) (p : Tree) (ctx ctx' : TraverseCtx TransformState) (x 
       let whole = whole-first p ctx new in
       record {
         whole = whole_at b;
-        steps = all_under R (rule_under c) (by-options c) (subst (λ (z : Type 0). z) (λ i. Steps (Step R the_program) (ledger (whole i) nothing_pending None no_additions) (before i) (ledger (whole_at b) nothing_pending None no_additions) (after i)) steps);
+        steps = all_under R (built_rules c) (by-options c) (subst (λ (z : Type 0). z) (λ i. Steps (Step R the_program) (ledger (whole i) nothing_pending None no_additions) (before i) (ledger (whole_at b) nothing_pending None no_additions) (after i)) steps);
         made = names-bound (whole_at b).free_symbol (made_of ctx');
       }
 
@@ -191,10 +196,13 @@ module _ (c : EnvOptions) (p : Tree) (ctx ctx' : TraverseCtx TransformState) (x 
 
   free-there : VisitedProgram (visit_profile c) (moment_of ctx) (seen names (plain_program x)) (moment_of ctx') result → any_in_trees (is_lowered_construct c) (seen_among names (trees y.body.items)) ≡ false
   free-there visited =
+      let ts = seen_among names (trees y.body.items) in
       let start : top (moment_of ctx).lists ≡ nothing_pending = ap top begun.lists in
-      let none : any_in_fields ((visit_profile c).constructs Expression) (statements (seen_among names (trees y.body.items)) then done) ≡ false = visited.free start fits known Expression in
-      let same : (visit_profile c).constructs Expression ≡ is_lowered_construct c = λ i k l fs. grouped (c.es2021.logical_assignment_operators && is_lowered_assignment k l fs) (c.es2020.nullish_coalescing_operator && is_nullish_coalescing k l fs) (c.es2020.optional_chaining && is_chain k l fs) (c.es2016.exponentiation_operator && is_lowered_power k l fs) i in
-      or_first (any_in_trees (is_lowered_construct c) (seen_among names (trees y.body.items))) false (ap (λ (test : AstType → Label → Fields → Bool). any_in_fields test (statements (seen_among names (trees y.body.items)) then done)) (sym same) ∙ none)
+      let test : Hook → AstType → Label → Fields → Bool = (visit_profile c).constructs in
+      let free : (h : Hook) → any_in_trees (test h) ts ≡ false = λ h. or_first (any_in_trees (test h) ts) false (visited.free start fits known h) in
+      none-of-trees (test Expression) (test CatchClause) (is_lowered_construct c)
+      (λ k l fs. grouped (c.es2021.logical_assignment_operators && is_lowered_assignment k l fs) (c.es2020.nullish_coalescing_operator && is_nullish_coalescing k l fs) (c.es2020.optional_chaining && is_chain k l fs) (c.es2016.exponentiation_operator && is_lowered_power k l fs)
+      (c.es2019.optional_catch_binding && is_optional_catch k l fs)) ts (free Expression) (free CatchClause)
 
   -- what is written has form and keeps the rules of places, so that no target is left that the lowerings don't take
   none-left : asks_for_unbuilt c ≡ false → has_form s-Program (plain_program y) ≡ true → place_breaks (plain_program y) ≡ [] → VisitedProgram (visit_profile c) (moment_of ctx) (seen names (plain_program x)) (moment_of ctx') result → has_enabled_construct c (plain_program y) ≡ false

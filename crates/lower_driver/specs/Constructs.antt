@@ -1,7 +1,7 @@
 -- The constructs that the built lowerings take away, where the options ask for them: of assignments those to a name or a member, maybe in
 -- parentheses.
 use Rattle.std.specs.Prelude.{Bool, ◌&&◌, ◌||◌}
-use Rattle.es_tree.specs.Constructs.{is_chain, is_exponentiation, is_logical_assignment, is_nullish_coalescing}
+use Rattle.es_tree.specs.Constructs.{is_chain, is_exponentiation, is_logical_assignment, is_nullish_coalescing, is_optional_catch}
 use Rattle.es_tree.specs.Tree.{Label, Fields}
 use Rattle.es_tree.specs.declared.ast_type.AstType.{AstType}
 use Rattle.es_tree.specs.declared.options.EnvOptions.{EnvOptions}
@@ -12,6 +12,7 @@ is_lowered_construct o k l fs =
     (o.es2021.logical_assignment_operators && is_lowered_assignment k l fs)
     || (o.es2020.nullish_coalescing_operator && is_nullish_coalescing k l fs)
     || (o.es2020.optional_chaining && is_chain k l fs)
+    || (o.es2019.optional_catch_binding && is_optional_catch k l fs)
     || (o.es2016.exponentiation_operator && is_lowered_power k l fs)
 
 -- the rows of the lowerings that are built
@@ -20,4 +21,5 @@ is_built_construct o k l fs =
     (o.es2021.logical_assignment_operators && is_logical_assignment k l fs)
     || (o.es2020.nullish_coalescing_operator && is_nullish_coalescing k l fs)
     || (o.es2020.optional_chaining && is_chain k l fs)
+    || (o.es2019.optional_catch_binding && is_optional_catch k l fs)
     || (o.es2016.exponentiation_operator && is_exponentiation k l fs)

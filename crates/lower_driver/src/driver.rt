@@ -64,15 +64,16 @@ pub struct Lowered {
 }
 
 /// Lowers the program that the value is the form of, as the options ask: its logical assignments, `??`,
-/// optional chains and exponentiations, in programs of every kind. A program in which no construct stands that
-/// they ask to lower comes back as it is. Where they ask for warnings of BigInt literals (ECMA-262, 12.9.3), it
-/// answers one for each of the source.
+/// optional chains, catch clauses without a parameter and exponentiations, in programs of every kind. A program
+/// in which no construct stands that they ask to lower comes back as it is. Where they ask for warnings, of
+/// BigInt literals (ECMA-262, 12.9.3) or of strings that name imports and exports (16.2), it answers one for each
+/// of the source.
 ///
 /// Fails for the first of these causes that holds: `Option` where the options ask for what isn't done, with
-/// the name `NotBuilt` where that is a lowering or a warning that isn't built; `TooLarge`, `TooDeep` and
-/// `Shape` as `read_program` has them; `Invalid` as `check_static` has it; `Unsupported` at the first node that
-/// the lowerings don't take: `MathBound` an exponentiation that would be lowered where `Math` is bound,
-/// `TagChain` a template whose tag is a chain. It fails with `OutOfMemory` where memory runs out.
+/// the name `NotBuilt` where that is a lowering that isn't built; `TooLarge`, `TooDeep` and `Shape` as
+/// `read_program` has them; `Invalid` as `check_static` has it; `Unsupported` at the first node that the
+/// lowerings don't take: `MathBound` an exponentiation that would be lowered where `Math` is bound, `TagChain` a
+/// template whose tag is a chain. It fails with `OutOfMemory` where memory runs out.
 pub fn lower(alloc: Global, source: &Value, options: &EnvOptions) -> Result<Lowered, LowerError>
     ensures lowered { IfOk result (λ lowered. IsLoweredValue options.now (view source.now) lowered) }
     ensures options { IfOk result (λ _. first_fault options.now ≡ None) }

@@ -20,6 +20,7 @@ use es_traverse::traverse::Traverse;
 use es_traverse::walk::traverse;
 use es_visit::steps::Steps;
 use lower_editions::es2016::ES2016;
+use lower_editions::es2019::ES2019;
 use lower_editions::es2020::ES2020;
 use lower_editions::es2021::ES2021;
 use lower_temporaries::state::TransformState;
@@ -40,8 +41,10 @@ pub fn visit(program: &mut Program, ctx: &mut TraverseCtx<TransformState>) -> Re
 {
     let es2021 = ES2021::lowerings(&ctx.options);
     let es2020 = ES2020::lowerings(&ctx.options);
+    let es2019 = ES2019::lowerings(&ctx.options);
     let es2016 = ES2016::lowerings(&ctx.options);
-    let editions = Both::new(es2021, Both::new(es2020, es2016));
+    let last = Both::new(es2019, es2016);
+    let editions = Both::new(es2021, Both::new(es2020, last));
     let mut all = Both::new(Common::new(), editions);
     visit_by::<_, _, Brand>(&mut all, program, ctx, Blank::new(1))?;
     Ok(())
@@ -57,7 +60,7 @@ fn visit_by<T: Traverse<S>, S: Additions, L: Ledger>(
     requires name { blank.name ≡ L.name }
     requires parts { blank.parts ≡ L.parts }
     requires some { 0 < blank.parts }
-    requires can { CanVisit T.keeps (T.profile ctx.old.options) }
+    requires can { CanVisit S.pending T.keeps (T.profile ctx.old.options) }
     requires ready { IsReady T.suits lowering.old (moment S.pending ctx.old) (load (plain_program program.old)) }
     requires top { around_of ctx.old ≡ [] }
     ensures kept { OnOk result (KeptVisited 0 (moment S.pending ctx.old) (plain_program program.old) (moment S.pending ctx.new) (plain_program program.new)) }

@@ -1,13 +1,13 @@
 -- No lowering makes, writes or brings about a construct that one before it takes away, and each counts on what those before it leave.
 use Rattle.std.proofs.Common.{◌≡◌, Bool, ap, refl, sym, true≢false}
 use Rattle.std.specs.Prelude.{true, false, ◌&&◌}
-use Rattle.es_tree.specs.Constructs.{is_chain, is_nullish_coalescing}
+use Rattle.es_tree.specs.Constructs.{is_chain, is_nullish_coalescing, is_optional_catch}
 use Rattle.es_tree.specs.Tree.{Tree, node, Label, Fields, fields_of, kind_of, label_of}
 use Rattle.es_tree.specs.declared.ast_type.AstType.{AstType}
-use Rattle.es_tree.specs.declared.ast_type.AstType.TheVariants.{AssignmentExpression, BinaryExpression, CallExpression, ChainExpression, ConditionalExpression, LogicalExpression, SequenceExpression}
+use Rattle.es_tree.specs.declared.ast_type.AstType.TheVariants.{AssignmentExpression, BinaryExpression, CallExpression, CatchClause, ChainExpression, ConditionalExpression, LogicalExpression, SequenceExpression}
 use Rattle.es_tree.specs.declared.options.EnvOptions.{EnvOptions}
 use Rattle.es_visit.specs.declared.hook.Hook.{Hook}
-use Rattle.es_visit.specs.declared.hook.Hook.TheVariants.{Expression}
+use Rattle.es_visit.specs.declared.hook.Hook.TheVariants.{CatchClause as h-CatchClause, Expression}
 use Rattle.es_row_laws.specs.Laws.{KeepsConstructs, OfEachRule, is_lowered_assignment, is_lowered_power}
 use Rattle.es_row_laws.proofs.Stable.{law_stable_rows_proof}
 use Rattle.es_changes.specs.Conditions.{Conditions}
@@ -22,9 +22,11 @@ use Rattle.lower_logical_assignment.specs.Lawful.{assignment_stable}
 use Rattle.lower_logical_assignment.specs.Profile.{logical_assignment_constructs, logical_assignment_profile}
 use Rattle.lower_nullish_coalescing.specs.Lawful.{coalescing_stable}
 use Rattle.lower_nullish_coalescing.specs.Profile.{nullish_coalescing_constructs, nullish_coalescing_profile}
+use Rattle.lower_optional_catch.specs.Lawful.{catch_stable}
+use Rattle.lower_optional_catch.specs.Profile.{IsWholeCatch, optional_catch_constructs, optional_catch_profile}
 use Rattle.lower_writing.specs.Writing.{MayBeWritten, common_profile}
 use Rattle.lower_editions.specs.ApartTogether.{AreSeparate, apart, both_separate_from, separate_from_both}
-use Rattle.lower_editions.specs.Editions.{es2016_profile, es2020_profile, es2021_profile}
+use Rattle.lower_editions.specs.Editions.{es2016_profile, es2019_profile, es2020_profile, es2021_profile}
 
 -- WHAT IS MADE is none of these constructs, where they are on or not
 
@@ -78,6 +80,34 @@ no_power : (on : Bool) (h : Hook) (t : Tree) → is_lowered_power (kind_of t) (l
 no_power on Expression t e = rw e (off on)
 no_power on _ t e = refl
 
+-- a clause with its parameter
+abbrev is_clause : AstType → Bool
+is_clause CatchClause = true
+is_clause _ = false
+
+clause_plain : (t : Tree) → is_clause (kind_of t) ≡ true →
+    (is_nullish_coalescing (kind_of t) (label_of t) (fields_of t) ≡ false) × (is_chain (kind_of t) (label_of t) (fields_of t) ≡ false) × (is_lowered_assignment (kind_of t) (label_of t) (fields_of t) ≡ false) × (is_lowered_power (kind_of t) (label_of t) (fields_of t) ≡ false)
+clause_plain (node CatchClause l fs) e = (refl, refl, refl, refl)
+clause_plain (node _ l fs) e = absurd (true≢false (sym e))
+
+-- what the lowering of catch clauses writes
+clause_written : (t : Tree) → IsWholeCatch t → is_clause (kind_of t) ≡ true
+clause_written t w = ap is_clause w.kind
+
+-- what no lowering of expressions and lists makes
+no_catch : (on : Bool) (h : Hook) (t : Tree) → is_clause (kind_of t) ≡ false → is_construct (optional_catch_constructs on h) t ≡ false
+no_catch on h-CatchClause (node CatchClause l fs) e = absurd (true≢false e)
+no_catch on h-CatchClause (node _ l fs) e = off on
+no_catch on _ t e = refl
+
+raised_no_clause : (t : Tree) → IsCallOrAssignment t → is_clause (kind_of t) ≡ false
+raised_no_clause (node CatchClause l fs) e = absurd e
+raised_no_clause (node _ l fs) e = refl
+
+written_no_clause : (t : Tree) → MayBeWritten t → is_clause (kind_of t) ≡ false
+written_no_clause (node CatchClause l fs) w = absurd (true≢false (sym w))
+written_no_clause (node _ l fs) w = refl
+
 -- steps that make no node an exponentiation make none one that is to be lowered
 power_stable : (R : Site → Ledger → Spot → Ledger → Spot → Type 0) → IsStable R is_lowered_power → (on : Bool) (h : Hook) → IsStable R (exponentiation_constructs on h)
 power_stable R stable true Expression = stable
@@ -107,6 +137,9 @@ module _ (o : EnvOptions) where
 
   abbrev on_power : Bool
   on_power = o.es2016.exponentiation_operator
+
+  abbrev on_catch : Bool
+  on_catch = o.es2019.optional_catch_binding
 
   coalescing_chains : AreSeparate (nullish_coalescing_profile o) (chain_profile o)
   coalescing_chains = record {
@@ -174,13 +207,46 @@ module _ (o : EnvOptions) where
     after = λ n t. refl;
   }
 
+  -- a lowering of expressions before that of catch clauses
+  before_catches : (p : Profile) → p.conditions ≡ core_conditions o → ((t : Tree) → p.writes t → ⊥) → ((h : Hook) (t : Tree) → is_clause (kind_of t) ≡ true → is_construct (p.constructs h) t ≡ false) → IsStable p.rule is_optional_catch → ((h : Hook) → IsStable (optional_catch_profile o).rule (p.constructs h)) →
+      AreSeparate p (optional_catch_profile o)
+  before_catches p same none plain stable own = record {
+    makes = λ h t m. absurd m;
+    first_writes = λ h t w. absurd (none t w);
+    second_writes = λ h t w. plain h t (clause_written t w);
+    first_stable = own;
+    second_stable = catch_stable p.rule stable on_catch;
+    before = λ n t. ap (λ (c : Conditions). c.before n t) (sym same);
+    after = λ n t. ap (λ (c : Conditions). c.after n t) (sym same);
+  }
+
+  coalescing_catches : AreSeparate (nullish_coalescing_profile o) (optional_catch_profile o)
+  coalescing_catches = before_catches (nullish_coalescing_profile o) refl (λ t w. w) (λ h t c. no_coalescing on_nullish h t (clause_plain t c).0) rows.nullish_coalescing.optional_catch (coalescing_stable (optional_catch_profile o).rule rows.optional_catch.nullish_coalescing on_nullish)
+
+  chains_catches : AreSeparate (chain_profile o) (optional_catch_profile o)
+  chains_catches = before_catches (chain_profile o) refl (λ t w. w) (λ h t c. no_chain o h t (clause_plain t c).1) rows.optional_chaining.optional_catch (chain_stable (optional_catch_profile o).rule o)
+
+  assignments_catches : AreSeparate (logical_assignment_profile o) (optional_catch_profile o)
+  assignments_catches = before_catches (logical_assignment_profile o) refl (λ t w. w) (λ h t c. no_assignment on_logical h t (clause_plain t c).2) rows.logical_assignment.optional_catch (assignment_stable (optional_catch_profile o).rule rows.optional_catch.logical_assignment on_logical)
+
+  catches_powers : AreSeparate (optional_catch_profile o) (exponentiation_profile o)
+  catches_powers = record {
+    makes = λ h t m. no_catch on_catch h t (raised_no_clause t m);
+    first_writes = λ h t w. no_power on_power h t (clause_plain t (clause_written t w)).3;
+    second_writes = λ h t w. absurd w;
+    first_stable = catch_stable (exponentiation_profile o).rule rows.exponentiation.optional_catch on_catch;
+    second_stable = power_stable (optional_catch_profile o).rule rows.optional_catch.exponentiation on_power;
+    before = λ n t. refl;
+    after = λ n t. refl;
+  }
+
   -- WHAT IS WRITTEN for lists and bodies is none of them
 
-  common_from : (q : Profile) → q.conditions ≡ core_conditions o → ((h : Hook) (t : Tree) → MayBeWritten t → is_construct (q.constructs h) t ≡ false) → ((t : Tree) → q.writes t → ⊥) → ((h : Hook) → IsStable (common_profile o).rule (q.constructs h)) → AreSeparate (common_profile o) q
-  common_from q same written none stable = record {
+  common_from : (q : Profile) → q.conditions ≡ core_conditions o → ((h : Hook) (t : Tree) → MayBeWritten t → is_construct (q.constructs h) t ≡ false) → ((h : Hook) → IsStable (common_profile o).rule (q.constructs h)) → AreSeparate (common_profile o) q
+  common_from q same written stable = record {
     makes = λ h t m. refl;
     first_writes = written;
-    second_writes = λ h t w. absurd (none t w);
+    second_writes = λ h t w. refl;
     first_stable = λ h n s s' k l first fs gs stand step free. refl;
     second_stable = stable;
     before = λ n t. ap (λ (c : Conditions). c.before n t) same;
@@ -188,36 +254,48 @@ module _ (o : EnvOptions) where
   }
 
   common_assignments : AreSeparate (common_profile o) (logical_assignment_profile o)
-  common_assignments = common_from (logical_assignment_profile o) refl (λ h t w. no_assignment on_logical h t (written_plain t w).2) (λ t w. w) (assignment_stable (common_profile o).rule rows.writing.logical_assignment on_logical)
+  common_assignments = common_from (logical_assignment_profile o) refl (λ h t w. no_assignment on_logical h t (written_plain t w).2) (assignment_stable (common_profile o).rule rows.writing.logical_assignment on_logical)
 
   common_coalescing : AreSeparate (common_profile o) (nullish_coalescing_profile o)
-  common_coalescing = common_from (nullish_coalescing_profile o) refl (λ h t w. no_coalescing on_nullish h t (written_plain t w).0) (λ t w. w) (coalescing_stable (common_profile o).rule rows.writing.nullish_coalescing on_nullish)
+  common_coalescing = common_from (nullish_coalescing_profile o) refl (λ h t w. no_coalescing on_nullish h t (written_plain t w).0) (coalescing_stable (common_profile o).rule rows.writing.nullish_coalescing on_nullish)
 
   common_chains : AreSeparate (common_profile o) (chain_profile o)
-  common_chains = common_from (chain_profile o) refl (λ h t w. no_chain o h t (written_plain t w).1) (λ t w. w) (chain_stable (common_profile o).rule o)
+  common_chains = common_from (chain_profile o) refl (λ h t w. no_chain o h t (written_plain t w).1) (chain_stable (common_profile o).rule o)
 
   common_powers : AreSeparate (common_profile o) (exponentiation_profile o)
-  common_powers = common_from (exponentiation_profile o) refl (λ h t w. no_power on_power h t (written_power t w)) (λ t w. w) (power_stable (common_profile o).rule rows.writing.exponentiation on_power)
+  common_powers = common_from (exponentiation_profile o) refl (λ h t w. no_power on_power h t (written_power t w)) (power_stable (common_profile o).rule rows.writing.exponentiation on_power)
+
+  common_catches : AreSeparate (common_profile o) (optional_catch_profile o)
+  common_catches = common_from (optional_catch_profile o) refl (λ h t w. no_catch on_catch h t (written_no_clause t w)) (catch_stable (common_profile o).rule rows.writing.optional_catch on_catch)
 
   -- TOGETHER
 
   pub es2020_apart : AreApart (nullish_coalescing_profile o) (chain_profile o)
   es2020_apart = apart (nullish_coalescing_profile o) (chain_profile o) coalescing_chains (λ n t e. e)
 
-  later_separate : AreSeparate (es2020_profile o) (es2016_profile o)
-  later_separate = both_separate_from (nullish_coalescing_profile o) (chain_profile o) (exponentiation_profile o) coalescing_powers chains_powers
+  -- catch clauses and then exponentiations
+  abbrev last_profile : Profile
+  last_profile = both_profile (es2019_profile o) (es2016_profile o)
 
-  pub later_apart : AreApart (es2020_profile o) (es2016_profile o)
-  later_apart = apart (es2020_profile o) (es2016_profile o) later_separate (λ n t e. e)
+  pub last_apart : AreApart (es2019_profile o) (es2016_profile o)
+  last_apart = apart (es2019_profile o) (es2016_profile o) catches_powers (λ n t e. e)
 
-  pub editions_apart : AreApart (es2021_profile o) (both_profile (es2020_profile o) (es2016_profile o))
+  later_separate : AreSeparate (es2020_profile o) last_profile
+  later_separate = both_separate_from (nullish_coalescing_profile o) (chain_profile o) last_profile (separate_from_both (nullish_coalescing_profile o) (es2019_profile o) (es2016_profile o) coalescing_catches coalescing_powers) (separate_from_both (chain_profile o) (es2019_profile o) (es2016_profile o) chains_catches chains_powers)
+
+  pub later_apart : AreApart (es2020_profile o) last_profile
+  later_apart = apart (es2020_profile o) last_profile later_separate (λ n t e. e)
+
+  pub editions_apart : AreApart (es2021_profile o) (both_profile (es2020_profile o) last_profile)
   editions_apart =
-      apart (es2021_profile o) (both_profile (es2020_profile o) (es2016_profile o))
-      (separate_from_both (es2021_profile o) (es2020_profile o) (es2016_profile o) (separate_from_both (es2021_profile o) (nullish_coalescing_profile o) (chain_profile o) assignments_coalescing assignments_chains) assignments_powers) (λ n t e. e)
+      apart (es2021_profile o) (both_profile (es2020_profile o) last_profile)
+      (separate_from_both (es2021_profile o) (es2020_profile o) last_profile (separate_from_both (es2021_profile o) (nullish_coalescing_profile o) (chain_profile o) assignments_coalescing assignments_chains)
+      (separate_from_both (es2021_profile o) (es2019_profile o) (es2016_profile o) assignments_catches assignments_powers)) (λ n t e. e)
 
   -- the type that writes comes before all
-  pub all_apart : AreApart (common_profile o) (both_profile (es2021_profile o) (both_profile (es2020_profile o) (es2016_profile o)))
+  pub all_apart : AreApart (common_profile o) (both_profile (es2021_profile o) (both_profile (es2020_profile o) last_profile))
   all_apart =
-      apart (common_profile o) (both_profile (es2021_profile o) (both_profile (es2020_profile o) (es2016_profile o)))
-      (separate_from_both (common_profile o) (es2021_profile o) (both_profile (es2020_profile o) (es2016_profile o)) common_assignments
-      (separate_from_both (common_profile o) (es2020_profile o) (es2016_profile o) (separate_from_both (common_profile o) (nullish_coalescing_profile o) (chain_profile o) common_coalescing common_chains) common_powers)) (λ n t e. e)
+      apart (common_profile o) (both_profile (es2021_profile o) (both_profile (es2020_profile o) last_profile))
+      (separate_from_both (common_profile o) (es2021_profile o) (both_profile (es2020_profile o) last_profile) common_assignments
+      (separate_from_both (common_profile o) (es2020_profile o) last_profile (separate_from_both (common_profile o) (nullish_coalescing_profile o) (chain_profile o) common_coalescing common_chains)
+      (separate_from_both (common_profile o) (es2019_profile o) (es2016_profile o) common_catches common_powers))) (λ n t e. e)

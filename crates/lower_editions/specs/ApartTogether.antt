@@ -1,5 +1,5 @@
 -- Types that make no constructs of each of two make none of both together.
-use Rattle.std.proofs.Common.{◌≡◌, Bool, true, false, ◌⊎◌, inl, inr, refl, true≢false}
+use Rattle.std.proofs.Common.{◌≡◌, Bool, true, false, inl, inr, refl, true≢false}
 use Rattle.std.specs.Prelude.{◌||◌}
 use Rattle.es_tree.specs.Tree.{Tree, Label, Fields}
 use Rattle.es_tree.specs.declared.ast_type.AstType.{AstType}

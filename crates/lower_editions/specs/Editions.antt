@@ -5,6 +5,7 @@ use Rattle.lower_chains.specs.Profiles.{chain_profile}
 use Rattle.lower_exponentiation.specs.Profile.{exponentiation_profile}
 use Rattle.lower_logical_assignment.specs.Profile.{logical_assignment_profile}
 use Rattle.lower_nullish_coalescing.specs.Profile.{nullish_coalescing_profile}
+use Rattle.lower_optional_catch.specs.Profile.{optional_catch_profile}
 
 -- nullish coalescing and then optional chaining
 abbrev pub es2020_profile : EnvOptions → Profile
@@ -15,3 +16,6 @@ es2021_profile o = logical_assignment_profile o
 
 abbrev pub es2016_profile : EnvOptions → Profile
 es2016_profile o = exponentiation_profile o
+
+abbrev pub es2019_profile : EnvOptions → Profile
+es2019_profile o = optional_catch_profile o

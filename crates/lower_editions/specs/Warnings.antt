@@ -1,37 +1,40 @@
 -- What is warned of: what the options ask for that no lowering can take away.
-use Rattle.std.specs.Prelude.{List, [], ◌++◌, Option, Some, None, if◌then◌else◌}
-use Rattle.std.specs.Option.{option_to_list}
-use Rattle.es_tree.specs.Tree.{Tree, node, Label, Fields, done, ◌then◌, Field, missing, one, many, statements, Trees, empty, ◌before◌}
+use Rattle.std.specs.Prelude.{zero, suc, ℕ, List, [], ◌∷◌, Bool, true, false, ◌&&◌, Option, Some, None, option_map, if◌then◌else◌}
+use Rattle.std.specs.List.{filter_map}
+use Rattle.es_tree.specs.Ancestors.{Ancestor, visits}
+use Rattle.es_tree.specs.Tree.{Tree, Label, kind_of, label_of}
 use Rattle.es_tree.specs.declared.ast_type.AstType.{AstType}
-use Rattle.es_tree.specs.declared.ast_type.AstType.TheVariants.{BigIntLiteral}
+use Rattle.es_tree.specs.declared.ast_type.AstType.TheVariants.{ImportSpecifier, ExportSpecifier, ExportAllDeclaration, BigIntLiteral, StringLiteral}
 use Rattle.es_tree.specs.declared.options.ES2020Options.{ES2020Options}
 use Rattle.lower_temporaries.specs.declared.warning.Warning.{Warning}
-use Rattle.lower_temporaries.specs.declared.warning.WarningKind.TheVariants.{BigInt}
+use Rattle.lower_temporaries.specs.declared.warning.WarningKind.{WarningKind}
+use Rattle.lower_temporaries.specs.declared.warning.WarningKind.TheVariants.{BigInt, ModuleName}
 
--- what is found at the nodes of the tree, in node order
-abbrev mutual
-  pub collected : {A : Type 0} → (AstType → Label → Option A) → Tree → List A
-  collected found (node k l fs) = option_to_list (found k l) ++ collected_in_fields found fs
+-- whether this field of a node of this kind, counted from 0, holds a name of an import or an export (ECMA-262, 16.2):
+-- `imported`, `local` and `exported` of a specifier, `exported` of `export *`
+abbrev pub holds_module_name : AstType → ℕ → Bool
+holds_module_name ImportSpecifier zero = true
+holds_module_name ExportSpecifier zero = true
+holds_module_name ExportSpecifier (suc zero) = true
+holds_module_name ExportAllDeclaration zero = true
+holds_module_name _ i = false
 
-  pub collected_in_fields : {A : Type 0} → (AstType → Label → Option A) → Fields → List A
-  collected_in_fields found done = []
-  collected_in_fields found (f then fs) = collected_in_field found f ++ collected_in_fields found fs
+-- whether a node with these ancestors stands as such a name
+abbrev pub is_module_name : List Ancestor → Bool
+is_module_name [] = false
+is_module_name (a ∷ up) = holds_module_name a.kind a.index
 
-  pub collected_in_field : {A : Type 0} → (AstType → Label → Option A) → Field → List A
-  collected_in_field found missing = []
-  collected_in_field found (one t) = collected found t
-  collected_in_field found (many ts) = collected_in_trees found ts
-  collected_in_field found (statements ts) = collected_in_trees found ts
+-- what the options ask to warn of at a node of this kind, which stands as such a name or not: a BigInt literal (12.9.3),
+-- and a string that is a name
+abbrev pub warning_kind : ES2020Options → Bool → AstType → Option WarningKind
+warning_kind o named BigIntLiteral = if o.big_int then Some BigInt else None
+warning_kind o named StringLiteral = if named && o.arbitrary_module_namespace_names then Some ModuleName else None
+warning_kind o named _ = None
 
-  pub collected_in_trees : {A : Type 0} → (AstType → Label → Option A) → Trees → List A
-  collected_in_trees found empty = []
-  collected_in_trees found (t before ts) = collected found t ++ collected_in_trees found ts
+-- with its place in the source text
+abbrev pub warning_at : ES2020Options → Bool → AstType → Label → Option Warning
+warning_at o named k l = option_map (λ kind. record { kind = kind; span = record { start = l.start; end = l.stop } }) (warning_kind o named k)
 
--- a BigInt literal (ECMA-262, 12.9.3), at its place in the source text
-abbrev pub big_int_at : AstType → Label → Option Warning
-big_int_at BigIntLiteral l = Some (record { kind = BigInt; span = record { start = l.start; end = l.stop } })
-big_int_at _ l = None
-
--- the warnings that these options ask for
+-- the warnings that these options ask for, in node order
 abbrev pub warnings_of : ES2020Options → Tree → List Warning
-warnings_of o t = if o.big_int then collected big_int_at t else []
+warnings_of o t = filter_map (λ v. warning_at o (is_module_name v.ancestors) (kind_of v.tree) (label_of v.tree)) (visits [] 0 t)

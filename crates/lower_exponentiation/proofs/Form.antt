@@ -5,7 +5,7 @@ use Rattle.std.specs.Prelude.{Bool, true, false, ◌&&◌, not, bytes_eq, codes,
 use Rattle.es_tree.proofs.NodeForm.{node_form}
 use Rattle.es_tree.specs.Attributes.{flag_entries}
 use Rattle.es_tree.specs.Constructs.{is_big_int, is_exponentiation}
-use Rattle.es_tree.specs.HasForm.{field_form, fields_form, flag_of, has_form, is_of_sort, sort_at}
+use Rattle.es_tree.specs.HasForm.{flag_of, has_form, is_of_sort}
 use Rattle.es_tree.specs.Names.{first_text}
 use Rattle.es_tree.specs.Parens.{without_parens}
 use Rattle.es_tree.specs.Tree.{Tree, node, Label, Fields, done, ◌then◌, missing, one, many, statements, kind_of, label_of, fields_of}
@@ -13,21 +13,18 @@ use Rattle.es_tree.specs.declared.ast_type.AstType.{AstType}
 use Rattle.es_tree.specs.declared.ast_type.AstType.TheVariants.{AssignmentExpression, BinaryExpression, Identifier, MemberExpression, ParenthesizedExpression, PrivateIdentifier}
 use Rattle.es_tree.specs.declared.options.EnvOptions.{EnvOptions}
 use Rattle.es_tree.specs.declared.table.FieldName.TheVariants.{Computed as f-Computed}
-use Rattle.es_tree.specs.declared.table.Entry.{Entry}
-use Rattle.es_tree.specs.declared.table.Content.TheVariants.{Child}
-use Rattle.es_tree.specs.declared.table.Often.TheVariants.{Required}
 use Rattle.es_tree.specs.declared.table.Sort.{Sort}
 use Rattle.es_tree.specs.declared.table.Sort.TheVariants.{AssignmentTarget as s-AssignmentTarget, BinaryLeft as s-BinaryLeft, Expression as s-Expression, MemberProperty as s-MemberProperty}
 use Rattle.es_runs.proofs.Named.{and_left, and_right}
-use Rattle.es_runs.specs.Duplication.{has_no_fields}
 use Rattle.es_runs.specs.Rules.{is_marked}
-use Rattle.es_steps.specs.Duplication.{is_alone}
 use Rattle.es_steps.specs.Open.{is_body, opened_fields}
 use Rattle.es_steps.specs.Slots.{in_open_slot}
 use Rattle.es_steps.specs.Steps.{Site, site_in}
 use Rattle.es_conditions.specs.CoreConditions.{are_marked, each_passes, each_passes_in, holds_none_where, is_chain_placed, is_free, is_known, is_no_stray, is_placed, is_power_free, is_settled, is_wrapped}
 use Rattle.es_traverse.specs.Laws.{is_construct}
 use Rattle.lower_exponentiation.specs.Exponentiations.{has_exponentiation_key, has_exponentiation_member, is_exponentiation_target, is_lowerable_exponentiation}
+use Rattle.lower_temporaries.proofs.ParensForm.{inside-form}
+use Rattle.lower_temporaries.proofs.TwoFields.{no-part, two-children}
 use Rattle.es_row_laws.specs.Laws.{is_lowered_power, is_simple}
 use Rattle.lower_exponentiation.proofs.TargetParts.{not_false}
 
@@ -46,52 +43,7 @@ passed o n (node k l fs) h =
       power = and_left (is_power_free o n k l fs) (is_chain_placed o n k) (and_left (is_placed o n k l fs) (each_passes_in (is_placed o) (site_in n k l (opened_fields (is_body k) fs)) (is_body k) fs) each);
     }
 
--- CHILDREN
-
--- the two children that a node of such a kind has
-pub record TwoChildren (k : AstType) (l : Label) (s u : Sort) (fs : Fields) : Type 0 where
-  pub first : Tree
-  pub second : Tree
-  pub fields_are : fs ≡ (one first then (one second then done))
-  pub left : has_form (sort_at k l s) first ≡ true
-  pub right : has_form (sort_at k l u) second ≡ true
-
-module _ (k : AstType) (l : Label) (s u : Sort) (d e : Entry) (i : d.content ≡ Child s Required) (j : e.content ≡ Child u Required) where
-  two : (fs : Fields) → fields_form k l (d ∷ e ∷ []) fs ≡ true → TwoChildren k l s u fs
-  two (one a then (one b then done)) h =
-      let below = and_right (field_form k l d.content (one a)) (field_form k l e.content (one b) && true) h in
-      let left = and_left (field_form k l d.content (one a)) (field_form k l e.content (one b) && true) h in
-      let right = and_left (field_form k l e.content (one b)) true below in
-      record { first = a; second = b; fields_are = refl; left = rw i at left; right = rw j at right }
-  two (f then (g then (x then fs))) h = absurd (cc (and_right (field_form k l e.content g) false (and_right (field_form k l d.content f) (field_form k l e.content g && false) h)))
-  two (one a then (missing then done)) h = absurd (cc (and_right (has_form (sort_at k l s) a) false (rw (i, j) at h)))
-  two (one a then (many ts then done)) h = absurd (cc (and_right (has_form (sort_at k l s) a) false (rw (i, j) at h)))
-  two (one a then (statements ts then done)) h = absurd (cc (and_right (has_form (sort_at k l s) a) false (rw (i, j) at h)))
-  two (missing then (g then done)) h = absurd (cc (rw i at h))
-  two (many ts then (g then done)) h = absurd (cc (rw i at h))
-  two (statements ts then (g then done)) h = absurd (cc (rw i at h))
-  two (f then done) h = absurd (cc (and_right (field_form k l d.content f) false h))
-  two done h = absurd (cc h)
-
--- PARENTHESES
-
-inside-form : (l : Label) (t : Tree) (fs : Fields) (s : Sort) → has_form s (node ParenthesizedExpression l (one t then fs)) ≡ true → (has_form s-Expression t ≡ true) × (has_no_fields fs ≡ true)
-inside-form l t done s h = (and_left (has_form s-Expression t) true (node_form s ParenthesizedExpression l (one t then done) h).children, refl)
-inside-form l t (f then fs) s h = absurd (let no = and_right (has_form s-Expression t) false (node_form s ParenthesizedExpression l (one t then (f then fs)) h).children in cc no)
-
-pub alone-form : (s : Sort) (t : Tree) → has_form s t ≡ true → is_alone t ≡ true
-alone-form s (node ParenthesizedExpression l (one t then fs)) h = let p = inside-form l t fs s h in and_from (has_no_fields fs) (is_alone t) p.1 (alone-form s-Expression t p.0)
-alone-form s (node ParenthesizedExpression l done) h = refl
-alone-form s (node ParenthesizedExpression l (missing then fs)) h = refl
-alone-form s (node ParenthesizedExpression l (many ts then fs)) h = refl
-alone-form s (node ParenthesizedExpression l (statements ts then fs)) h = refl
-alone-form s (node _ l fs) h = refl
-
 -- TARGETS
-
-no-part : (k : AstType) (l : Label) (fs : Fields) → fields_form k l [] fs ≡ true → has_no_fields fs ≡ true
-no-part k l done h = refl
-no-part k l (f then fs) h = absurd (cc h)
 
 -- a key without brackets
 name-key : (k : AstType) (l : Label) (fs : Fields) → has_form s-MemberProperty (node k l fs) ≡ true → is_of_sort s-MemberProperty k ≡ true → has_exponentiation_key (false ∷ false ∷ []) (node k l fs) ≡ true
@@ -110,7 +62,7 @@ key-form (a ∷ b ∷ d ∷ ds) k n e h = absurd (cc n)
 member-form : (s : Sort) (l : Label) (fs : Fields) → has_form s (node MemberExpression l fs) ≡ true → is_marked MemberExpression l.flags ≡ false → has_exponentiation_member l.flags fs ≡ true
 member-form s l fs h e =
     let form = node_form s MemberExpression l fs h in
-    let parts = two MemberExpression l s-Expression s-MemberProperty _ _ refl refl fs form.children in
+    let parts = two-children MemberExpression l s-Expression s-MemberProperty _ _ refl refl fs form.children in
     ap (has_exponentiation_member l.flags) parts.fields_are ∙ key-form l.flags parts.second form.flags e parts.right
 
 -- a simple target
@@ -124,15 +76,11 @@ target-form s (node Identifier l fs) h e = no-part Identifier l fs (node_form s 
 target-form s (node MemberExpression l fs) h e = member-form s l fs h (not_false (is_marked MemberExpression l.flags) e)
 target-form s (node _ l fs) h e = absurd (cc e)
 
--- the target of an assignment with its two sides
-pub sides-alone : (s : Sort) (m : Label) (t r : Tree) → has_form s (node AssignmentExpression m (one t then (one r then done))) ≡ true → is_alone t ≡ true
-sides-alone s m t r h = alone-form s-AssignmentTarget t (and_left (has_form s-AssignmentTarget t) _ (node_form s AssignmentExpression m (one t then (one r then done)) h).children)
-
 -- EXPONENTIATIONS
 
 operation-form : (s : Sort) (l : Label) (fs : Fields) → has_form s (node BinaryExpression l fs) ≡ true → is_exponentiation BinaryExpression l fs ≡ true → is_lowerable_exponentiation BinaryExpression l fs ≡ true
 operation-form s l fs h e =
-    let parts = two BinaryExpression l s-BinaryLeft s-Expression _ _ refl refl fs (node_form s BinaryExpression l fs h).children in
+    let parts = two-children BinaryExpression l s-BinaryLeft s-Expression _ _ refl refl fs (node_form s BinaryExpression l fs h).children in
     let at : is_exponentiation BinaryExpression l (one parts.first then (one parts.second then done)) ≡ true = ap (is_exponentiation BinaryExpression l) (sym parts.fields_are) ∙ e in
     ap (is_lowerable_exponentiation BinaryExpression l) parts.fields_are ∙ regroup (bytes_eq (first_text l.texts) (codes "**")) (not (is_big_int (kind_of parts.first))) (not (is_big_int (kind_of parts.second))) at
   where
@@ -142,7 +90,7 @@ operation-form s l fs h e =
 
 assignment-form : (s : Sort) (l : Label) (fs : Fields) → has_form s (node AssignmentExpression l fs) ≡ true → is_lowered_power AssignmentExpression l fs ≡ true → is_lowerable_exponentiation AssignmentExpression l fs ≡ true
 assignment-form s l fs h e =
-    let parts = two AssignmentExpression l s-AssignmentTarget s-Expression _ _ refl refl fs (node_form s AssignmentExpression l fs h).children in
+    let parts = two-children AssignmentExpression l s-AssignmentTarget s-Expression _ _ refl refl fs (node_form s AssignmentExpression l fs h).children in
     let fields = one parts.first then (one parts.second then done) in
     let op = bytes_eq (first_text l.texts) (codes "**=") in
     let right = not (is_big_int (kind_of parts.second)) in

@@ -1,7 +1,5 @@
 pub mod SeenParts
-pub mod TwoFields
 pub mod TargetParts
 pub mod Rows
 pub mod Form
-pub mod Conditions
 pub mod Hook

@@ -7,9 +7,9 @@ use Rattle.es_tree.specs.Constructs.{is_big_int, is_exponentiation}
 use Rattle.es_tree.specs.Heads.{head_of, label}
 use Rattle.es_tree.specs.Names.{first_text}
 use Rattle.es_tree.specs.Parens.{without_parens}
-use Rattle.es_tree.specs.Tree.{Tree, Trees, node, Label, done, ◌then◌, missing, one, many, statements, trees, ◌before◌, tree_size, trees_size, kind_of, label_of, fields_of}
+use Rattle.es_tree.specs.Tree.{Tree, Trees, node, Label, done, ◌then◌, one, many, trees, ◌before◌, tree_size, trees_size, kind_of, label_of, fields_of}
 use Rattle.es_tree.specs.Words.{Text, assignment_operator_text, binary_operator_text}
-use Rattle.es_tree.specs.declared.ast_type.AstType.TheVariants.{AssignmentExpression, BinaryExpression, ParenthesizedExpression, SequenceExpression}
+use Rattle.es_tree.specs.declared.ast_type.AstType.TheVariants.{AssignmentExpression, BinaryExpression, SequenceExpression}
 use Rattle.es_tree.specs.declared.ids.Span.{Span}
 use Rattle.es_tree.specs.declared.kind.Kind.TheVariants.{AssignmentExpression as k-AssignmentExpression, BinaryExpression as k-BinaryExpression}
 use Rattle.es_tree.specs.declared.options.EnvOptions.{EnvOptions}
@@ -18,7 +18,7 @@ use Rattle.es_expressions.specs.declared.operations.AssignmentExpression.{Assign
 use Rattle.es_expressions.specs.declared.operations.BinaryExpression.{BinaryExpression as AnyOperation}
 use Rattle.es_scope.specs.declared.context.TraverseCtx.{TraverseCtx}
 use Rattle.es_runs.proofs.Named.{and_left, and_right}
-use Rattle.es_runs.proofs.OptionalChainingWeights.{stripped_size}
+use Rattle.es_runs.proofs.OptionalChainingWeights.{stripped_size, tests_size-append}
 use Rattle.es_runs.proofs.Temporary.{bytes_eq-equal}
 use Rattle.es_runs.specs.Exponentiation.{assign_at}
 use Rattle.es_runs.specs.Rules.{assign_node, in_place_of}
@@ -29,18 +29,21 @@ use Rattle.es_steps.specs.Steps.{Site}
 use Rattle.es_changes.specs.Fits.{Fits}
 use Rattle.es_changes.specs.Moments.{Moment, whole_at}
 use Rattle.es_conditions.specs.CoreConditions.{is_free}
+use Rattle.es_traverse.proofs.Kept.{kind-seen}
 use Rattle.es_traverse.specs.Laws.{Seen}
 use Rattle.es_traverse.specs.Loads.{load, trees_load}
 use Rattle.lower_temporaries.specs.Takings.{ReadsMore, moment_of}
 use Rattle.lower_temporaries.specs.declared.state.TransformState.{TransformState}
+use Rattle.lower_temporaries.proofs.Loads.{stripped_load, trees_load-append}
 use Rattle.lower_temporaries.proofs.SeenLaws.{parens-seen}
 use Rattle.lower_temporaries.proofs.Takings.{takes-none, takes-reads}
-use Rattle.lower_exponentiation.specs.Exponentiations.{IsCallOrAssignment, at_span, has_sides, is_exponentiation_target, is_lowerable_exponentiation}
+use Rattle.lower_temporaries.specs.Shapes.{at_span}
+use Rattle.lower_exponentiation.specs.Exponentiations.{IsCallOrAssignment, has_sides, is_exponentiation_target, is_lowerable_exponentiation}
 use Rattle.lower_exponentiation.specs.Targets.{Lowers, SeenTwice, UsedTwice, UsesTarget, nodes_around}
 use Rattle.lower_exponentiation.specs.declared.targets.Twice.{Twice}
-use Rattle.lower_exponentiation.proofs.Form.{passed, sides-alone}
-use Rattle.lower_exponentiation.proofs.SeenParts.{kind-seen}
-use Rattle.lower_exponentiation.proofs.TargetParts.{TargetRule, not_false, trees_load-append, trees_size-append}
+use Rattle.lower_temporaries.proofs.ParensForm.{sides-alone}
+use Rattle.lower_exponentiation.proofs.Form.{passed}
+use Rattle.lower_exponentiation.proofs.TargetParts.{TargetRule, not_false}
 
 abbrev raised : Label → Tree → Tree → Tree
 raised m l r = node BinaryExpression m (one l then (one r then done))
@@ -62,19 +65,11 @@ written_load m (f ∷ fs) target read r = let h = trees_load-append (f ∷ fs) (
 
 written_size : (m : Label) (fs : List Tree) (target read r : Tree) → tree_size (assigned_power m fs target read r) ≡ nodes_around fs + trees_size (trees fs) + tree_size target + tree_size read + tree_size r
 written_size m [] target read r = omega arith
-written_size m (f ∷ fs) target read r = let h = trees_size-append (f ∷ fs) (assign_node target (power_node read r) ∷ []) in omega (arith, h)
+written_size m (f ∷ fs) target read r = let h = tests_size-append (f ∷ fs) (assign_node target (power_node read r) ∷ []) in omega (arith, h)
 
 few_around : (fs : List Tree) → nodes_around fs ≤ 6
 few_around [] = omega arith
 few_around (f ∷ fs) = omega arith
-
-stripped_load : (t : Tree) → load (without_parens t) ≤ load t
-stripped_load (node ParenthesizedExpression l (one t then fs)) = let h = stripped_load t in omega arith
-stripped_load (node ParenthesizedExpression l done) = omega arith
-stripped_load (node ParenthesizedExpression l (missing then fs)) = omega arith
-stripped_load (node ParenthesizedExpression l (many ts then fs)) = omega arith
-stripped_load (node ParenthesizedExpression l (statements ts then fs)) = omega arith
-stripped_load (node _ l fs) = omega arith
 
 -- `Math`
 

@@ -11,6 +11,7 @@ use Rattle.es_tree.specs.declared.ast_type.AstType.TheVariants.{BigIntLiteral, B
 use Rattle.es_tree.specs.declared.ids.SymbolId.{SymbolId}
 use Rattle.es_scope.specs.declared.context.TraverseCtx.{TraverseCtx}
 use Rattle.es_runs.proofs.Named.{and_left, and_right}
+use Rattle.es_runs.proofs.OptionalChainingWeights.{tests_size-append}
 use Rattle.es_runs.specs.Duplication.{has_no_fields}
 use Rattle.es_runs.specs.Exponentiation.{is_literal_key, string_node}
 use Rattle.es_runs.specs.Rules.{assign_node, member_node}
@@ -20,29 +21,21 @@ use Rattle.es_steps.specs.Duplication.{IsNext}
 use Rattle.es_steps.specs.Exponentiation.{Holds, TargetTwice, stays}
 use Rattle.es_steps.specs.Exponentiation.TargetTwice.{bound_name, other_name, static_member, private_member, literal_key, other_key}
 use Rattle.es_steps.specs.Nodes.{identifier}
-use Rattle.es_steps.specs.Open.{with_vars}
 use Rattle.es_steps.specs.Rules.{with_made}
 use Rattle.es_steps.specs.Steps.{Whole}
 use Rattle.es_changes.specs.Moments.{Moment, whole_at}
 use Rattle.es_traverse.specs.Loads.{load, trees_load}
 use Rattle.lower_temporaries.specs.Takings.{ReadsMore, Takes, moment_of}
 use Rattle.lower_temporaries.specs.declared.state.TransformState.{TransformState}
-use Rattle.lower_temporaries.proofs.Pairs.{with_top-there}
 use Rattle.lower_temporaries.proofs.Takings.{reads-takes, takes-none, takes-reads, takes-then}
-use Rattle.lower_exponentiation.proofs.SeenParts.{no_fields-seen}
-use Rattle.lower_exponentiation.specs.Exponentiations.{has_exponentiation_key, is_evaluated_key, is_expression_key, is_name}
+use Rattle.lower_temporaries.specs.Shapes.{is_name}
+use Rattle.lower_temporaries.proofs.Loads.{trees_load-append}
+use Rattle.lower_temporaries.proofs.ReadAgain.{no_fields-seen}
+use Rattle.lower_exponentiation.specs.Exponentiations.{has_exponentiation_key, is_evaluated_key, is_expression_key}
 use Rattle.lower_exponentiation.specs.Targets.{InTemporary, IsWrittenAndRead, KeyTwice, UsedTwice, names_that_stay}
 use Rattle.lower_exponentiation.specs.Targets.KeyTwice.{named_key, private_key, written_again, by_temporary}
 
 -- COUNTS
-
-pub trees_load-append : (ts us : List Tree) → trees_load (trees (ts ++ us)) ≡ trees_load (trees ts) + trees_load (trees us)
-trees_load-append [] us = omega arith
-trees_load-append (t ∷ ts) us = let h = trees_load-append ts us in omega (arith, h)
-
-pub trees_size-append : (ts us : List Tree) → trees_size (trees (ts ++ us)) ≡ trees_size (trees ts) + trees_size (trees us)
-trees_size-append [] us = omega arith
-trees_size-append (t ∷ ts) us = let h = trees_size-append ts us in omega (arith, h)
 
 -- a node without fields, but for the constructs, is one node whose load is one
 pub record IsOneNode (t : Tree) : Type 0 where
@@ -285,7 +278,7 @@ pub used_member : (old mid last new : TraverseCtx TransformState) (ev c d : Bool
     UsedTwice (TargetRule old (node MemberExpression l (one o then (one k then done)))) 14 33 old new (node MemberExpression l (one o then (one k then done))) first written read
 used_member old mid last new ev c d l o k objects keys first object object_again key key_again written read flags a b more f e g =
     let fw = ap (λ (hs : List Tree). trees_load (trees hs)) f ∙ trees_load-append objects keys in
-    let fz = ap (λ (hs : List Tree). trees_size (trees hs)) f ∙ trees_size-append objects keys in
+    let fz = ap (λ (hs : List Tree). trees_size (trees hs)) f ∙ tests_size-append objects keys in
     let ew = ap load e in
     let ez = ap tree_size e in
     let gw = ap load g in
@@ -319,9 +312,6 @@ next-read r = ap (λ (m : Moment). m.next) r.moment_is
 
 pub there-read : {ids : ℕ} {old new : TraverseCtx TransformState} → ReadsMore ids old new → 0 < length old.state.var_declarations → 0 < length new.state.var_declarations
 there-read r there = let same = ap (λ (m : Moment). length m.lists) r.moment_is in omega (arith, same, there)
-
-pub there-taken : {bs : List Bound} {ids : ℕ} (old new : TraverseCtx TransformState) → Takes bs ids (moment_of old) (moment_of new) → 0 < length old.state.var_declarations → 0 < length new.state.var_declarations
-there-taken {bs} old new t there = with_top-there (with_vars bs) old.state.var_declarations new.state.var_declarations t.lists_are there
 
 -- symbols of names, as the code has them
 pub some-symbol : (s : Option SymbolId) → is_some (symbol_number s) ≡ is_some s

@@ -3,25 +3,14 @@ use Rattle.std.specs.Prelude.{◌≡◌, ◌&&◌, ◌||◌, not, Bool, true, fa
 use Rattle.es_tree.specs.Constructs.{is_big_int, is_private_name}
 use Rattle.es_tree.specs.Names.{first_text}
 use Rattle.es_tree.specs.Parens.{without_parens}
-use Rattle.es_tree.specs.Tree.{Tree, node, Label, Fields, done, ◌then◌, one, kind_of}
+use Rattle.es_tree.specs.Tree.{Tree, node, Label, Fields, one, kind_of}
 use Rattle.es_tree.specs.declared.ast_type.AstType.{AstType}
 use Rattle.es_tree.specs.declared.ast_type.AstType.TheVariants.{AssignmentExpression, BinaryExpression, CallExpression, Identifier, MemberExpression, PrivateIdentifier, SequenceExpression}
-use Rattle.es_tree.specs.declared.ids.Span.{Span}
 use Rattle.es_runs.specs.Duplication.{has_no_fields}
 use Rattle.es_runs.specs.Exponentiation.{is_literal_key}
-use Rattle.es_steps.specs.Nodes.{made}
+use Rattle.lower_temporaries.specs.Shapes.{on_two}
 
 -- SHAPES, which each has that has form
-
--- a test of two children
-abbrev pub on_two : (Tree → Tree → Bool) → Fields → Bool
-on_two P (one a then (one b then done)) = P a b
-on_two P _ = false
-
--- a name
-abbrev pub is_name : Tree → Bool
-is_name (node Identifier l fs) = has_no_fields fs
-is_name _ = false
 
 -- the key of a member without an optional mark: any expression where it is computed, and else a name or a private name
 abbrev pub has_exponentiation_key : List Bool → Tree → Bool
@@ -70,10 +59,6 @@ abbrev pub is_expression_key : Bool → Tree → Bool
 is_expression_key computed k = computed || not (is_private_name (kind_of k))
 
 -- WHAT IS MADE
-
--- the label of a made node with this span
-abbrev pub at_span : Span → Label
-at_span s = record (made [] []) { start = s.start; stop = s.end }
 
 -- what takes the place of an exponentiation: a call, a sequence, or an assignment by `=`
 abbrev pub IsCallOrAssignment : Tree → Type 0

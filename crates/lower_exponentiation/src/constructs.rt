@@ -4,7 +4,7 @@ ghost use Rattle.es_tree.specs.Constructs.{is_big_int, is_private_name};
 ghost use Rattle.es_tree.specs.Tree.{fields_of, kind_of, label_of};
 ghost use Rattle.es_tree.specs.Views.{plain_fields};
 ghost use Rattle.es_runs.specs.Exponentiation.{is_literal_key};
-ghost use Rattle.lower_exponentiation.specs.Exponentiations.{has_exponentiation_key, has_exponentiation_member, has_operands, has_sides, is_evaluated_key, is_exponentiation_target, is_expression_key, is_lowerable_exponentiation, is_name};
+ghost use Rattle.lower_exponentiation.specs.Exponentiations.{has_exponentiation_key, has_exponentiation_member, has_operands, has_sides, is_evaluated_key, is_exponentiation_target, is_expression_key, is_lowerable_exponentiation};
 
 use es_tree::kind::Kind;
 use es_tree::node::{Field, Node};
@@ -77,16 +77,6 @@ fn is_name_key(key: &Node) -> bool
 {
     match &key.kind {
         Kind::Identifier { .. } | Kind::PrivateIdentifier { .. } => key.fields.is_empty(),
-        _ => false,
-    }
-}
-
-/// Whether the node is a name.
-pub(crate) fn is_name(node: &Node) -> bool
-    ensures { result ≡ is_name node.now }
-{
-    match &node.kind {
-        Kind::Identifier { .. } => node.fields.is_empty(),
         _ => false,
     }
 }

@@ -8,9 +8,10 @@ ghost use Rattle.es_steps.specs.Exponentiation.{assigned_power, power_at};
 ghost use Rattle.es_changes.specs.Changes.{HasRoom};
 ghost use Rattle.es_traverse.specs.Laws.{Seen};
 ghost use Rattle.es_traverse.specs.Loads.{load};
+ghost use Rattle.lower_temporaries.specs.Shapes.{at_span};
 ghost use Rattle.lower_temporaries.specs.Takings.{ReadsMore, moment_of};
-ghost use Rattle.lower_exponentiation.specs.Exponentiations.{at_span, is_lowerable_exponentiation};
-ghost use Rattle.lower_exponentiation.specs.Targets.{Lowers, SeenTwice, nodes_around};
+ghost use Rattle.lower_exponentiation.specs.Exponentiations.{is_lowerable_exponentiation};
+ghost use Rattle.lower_exponentiation.specs.Targets.{Lowers, nodes_around};
 
 use crate::targets::{Twice, use_target};
 use es_expressions::literals::new_identifier;

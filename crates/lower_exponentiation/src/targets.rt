@@ -3,7 +3,7 @@
 //! What stays where it is: a name that is bound, `super`, a key without brackets, and a key that is a literal. All else takes a
 //! temporary, which is assigned in front. Where the key is evaluated, the object takes one too, even if it is a name, since the
 //! key may write it.
-ghost use Rattle.std.specs.Prelude.{◌≡◌, ◌+◌, ◌-◌, ◌^◌, ◌<◌, [], ◌∷◌, ◌++◌, ℕ, IfOk, OnOk, Option, false, length, map, true};
+ghost use Rattle.std.specs.Prelude.{◌≡◌, ◌+◌, ◌-◌, ◌^◌, ◌<◌, [], ◌∷◌, ◌++◌, ℕ, IfOk, OnOk, Option, false, length, true};
 ghost use Rattle.es_tree.specs.Names.{first_text};
 ghost use Rattle.es_tree.specs.Tree.{fields_of, label_of};
 ghost use Rattle.es_tree.specs.Words.{Text};
@@ -13,11 +13,12 @@ ghost use Rattle.es_runs.specs.Exponentiation.{string_node};
 ghost use Rattle.es_runs.specs.Rules.{member_node};
 ghost use Rattle.es_steps.specs.Exponentiation.{stays};
 ghost use Rattle.es_expressions.specs.MembersPlain.{plain_member_expression};
+ghost use Rattle.lower_temporaries.specs.Shapes.{is_name};
 ghost use Rattle.lower_temporaries.specs.Takings.{ReadsMore};
-ghost use Rattle.lower_exponentiation.specs.Exponentiations.{has_exponentiation_key, is_exponentiation_target, is_name};
+ghost use Rattle.lower_exponentiation.specs.Exponentiations.{has_exponentiation_key, is_exponentiation_target};
 ghost use Rattle.lower_exponentiation.specs.Targets.{AssignsTemporary, InTemporary, IsWrittenAndRead, SeenTwice, UsesKey, UsesObject, UsesTarget, names_that_stay};
 
-use crate::constructs::{is_evaluated_key, is_expression_key, is_name, is_private_name};
+use crate::constructs::{is_evaluated_key, is_expression_key, is_private_name};
 use es_expressions::literals::{Identifier, new_string_literal};
 use es_expressions::members::{MemberExpression, new_member_expression};
 use es_expressions::operations::new_assignment_expression;
@@ -30,6 +31,7 @@ use es_tree::operators::AssignmentOperator;
 use lower_temporaries::declarations::MADE;
 use lower_temporaries::readings::{WRITES, read_once_more};
 use lower_temporaries::references::set_name_flags;
+use lower_temporaries::shapes::is_name;
 use lower_temporaries::state::TransformState;
 use lower_temporaries::temporaries::{Temporary, new_temporary, read_name};
 use std::alloc::AllocError;

@@ -19,7 +19,7 @@ use Rattle.lower_temporaries.specs.Duplicates.{Duplicates}
 use Rattle.lower_temporaries.specs.Takings.{ReadsMore, moment_of}
 use Rattle.lower_temporaries.specs.declared.state.TransformState.{TransformState}
 use Rattle.lower_temporaries.proofs.Takings.{takes-none, takes-reads, takes-then}
-use Rattle.lower_logical_assignment.specs.Assignments.{is_name}
+use Rattle.lower_temporaries.specs.Shapes.{is_name}
 use Rattle.lower_logical_assignment.specs.Targets.{DuplicatesMember, DuplicatesOnce, DuplicatesTarget}
 use Rattle.lower_logical_assignment.specs.Targets.TwiceTarget.{twice_computed, twice_name, twice_static}
 

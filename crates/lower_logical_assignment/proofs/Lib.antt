@@ -1,6 +1,4 @@
-pub mod Conditions
 pub mod Duplicated
 pub mod Formed
 pub mod Hook
 pub mod Replaced
-pub mod TwoFields

@@ -4,9 +4,9 @@ use Rattle.std.proofs.lemmas.Bool.{and_parts}
 use Rattle.std.specs.Prelude.{Bool, true, false, bytes_eq, if◌then◌else◌}
 use Rattle.es_tree.specs.Heads.{head_of, label}
 use Rattle.es_tree.specs.Parens.{without_parens}
-use Rattle.es_tree.specs.Tree.{Tree, node, Label, done, ◌then◌, missing, one, many, statements, fields_of, kind_of, label_of, tree_size}
+use Rattle.es_tree.specs.Tree.{Tree, node, Label, done, ◌then◌, one, fields_of, kind_of, label_of, tree_size}
 use Rattle.es_tree.specs.Words.{Text, assignment_operator_text, logical_operator_text}
-use Rattle.es_tree.specs.declared.ast_type.AstType.TheVariants.{AssignmentExpression, ParenthesizedExpression}
+use Rattle.es_tree.specs.declared.ast_type.AstType.TheVariants.{AssignmentExpression}
 use Rattle.es_tree.specs.declared.kind.Kind.TheVariants.{AssignmentExpression as k-AssignmentExpression}
 use Rattle.es_tree.specs.declared.operators.AssignmentOperator.{AssignmentOperator}
 use Rattle.es_tree.specs.declared.operators.AssignmentOperator.TheVariants.{LogicalOr, LogicalAnd, LogicalNullish}
@@ -24,16 +24,18 @@ use Rattle.es_steps.specs.Duplication.{is_alone}
 use Rattle.es_steps.specs.LogicalAssignment.{LogicalAssignmentRule}
 use Rattle.es_steps.specs.LogicalAssignment.LogicalAssignmentRule.{to_name, to_static_member, to_computed_member}
 use Rattle.es_steps.specs.Steps.{Site, Whole}
+use Rattle.es_traverse.specs.Laws.{anything}
 use Rattle.es_traverse.specs.Loads.{load}
 use Rattle.lower_temporaries.specs.Replacings.{Replaces}
 use Rattle.lower_temporaries.specs.Takings.{ReadsMore, moment_of}
 use Rattle.lower_temporaries.specs.declared.state.TransformState.{TransformState}
+use Rattle.lower_temporaries.proofs.Loads.{stripped_load}
 use Rattle.lower_temporaries.proofs.SeenLaws.{parens-seen}
 use Rattle.lower_temporaries.proofs.Takings.{takes-reads}
-use Rattle.lower_logical_assignment.specs.Assignments.{always, assigned_at, is_duplicated_target, is_lowerable_assignment}
+use Rattle.lower_logical_assignment.specs.Assignments.{assigned_at, is_duplicated_target, is_lowerable_assignment}
 use Rattle.lower_logical_assignment.specs.Targets.{DuplicatesTarget, TwiceTarget}
 use Rattle.lower_logical_assignment.specs.Targets.TwiceTarget.{twice_computed, twice_name, twice_static}
-use Rattle.lower_logical_assignment.proofs.Formed.{alone-formed}
+use Rattle.lower_temporaries.proofs.ParensForm.{sides-alone}
 
 -- THE ROW
 
@@ -58,14 +60,6 @@ test-weight op = at (bytes_eq op (codes "??"))
     at true = omega arith
     at false = omega arith
 
-bare-load : (t : Tree) → load (without_parens t) ≤ load t
-bare-load (node ParenthesizedExpression l (one t then fs)) = let h = bare-load t in omega arith
-bare-load (node ParenthesizedExpression l done) = omega arith
-bare-load (node ParenthesizedExpression l (missing then fs)) = omega arith
-bare-load (node ParenthesizedExpression l (many ts then fs)) = omega arith
-bare-load (node ParenthesizedExpression l (statements ts then fs)) = omega arith
-bare-load (node _ l fs) = omega arith
-
 -- THE NODE THAT WAS OPENED
 
 -- the label of an opened assignment, as it is seen
@@ -82,10 +76,10 @@ pub target-in : (t : Tree) (e : AnyAssignmentExpression) → plain_assignment_ex
 target-in t e opened h = (parts-in t e opened h).1
 
 replaced-opened : (old mid new : TraverseCtx TransformState) (names : ℕ → Text → Option ℕ) (e : AnyAssignmentExpression) (read written : Tree) → is_logical_assignment_operator (assignment_operator_text e.operator) ≡ true → DuplicatesTarget old mid (seen names (without_parens e.left)) read written → ReadsMore 2 mid new →
-    Replaces always LogicalAssignmentRule (moment_of old) (seen names (plain_assignment_expression e)) (moment_of new) (assigned_where (label_in e) (assignment_operator_text e.operator) read written (seen names e.right))
+    Replaces anything LogicalAssignmentRule (moment_of old) (seen names (plain_assignment_expression e)) (moment_of new) (assigned_where (label_in e) (assignment_operator_text e.operator) read written (seen names e.right))
 replaced-opened old mid new names e read written assigning d more =
     let below = parens-seen names e.left in
-    let w = bare-load (seen names e.left) in
+    let w = stripped_load (seen names e.left) in
     let s = stripped_size (seen names e.left) in
     let op = operator-weight e.operator assigning in
     let test = test-weight (without_last (assignment_operator_text e.operator)) in
@@ -93,18 +87,18 @@ replaced-opened old mid new names e read written assigning d more =
       made = d.made;
       ids = d.ids + 2;
       takes = takes-reads mid new d.takes more;
-      row = λ n f known. row-of n _ d.made (label_in e) (seen names e.left) _ read written (seen names e.right) (assignment_operator_text e.operator) d.twice refl assigning (alone-formed f.sort (label_in e) (seen names e.left) (seen names e.right) f.formed) below;
+      row = λ n f known. row-of n _ d.made (label_in e) (seen names e.left) _ read written (seen names e.right) (assignment_operator_text e.operator) d.twice refl assigning (sides-alone f.sort (label_in e) (seen names e.left) (seen names e.right) f.formed) below;
       nodes = omega (arith, d.nodes, s, ap tree_size below);
       lighter = omega (arith, d.lighter, w, ap load below, op, test);
     }
 
 pub replaced-assignment : (old mid new : TraverseCtx TransformState) (names : ℕ → Text → Option ℕ) (t target read written made : Tree) (e : AnyAssignmentExpression) (o : LogicalOperator) → plain_assignment_expression e ≡ t → IsLowerable t → target ≡ without_parens e.left →
     DuplicatesTarget old mid (seen names target) (seen names read) (seen names written) → ReadsMore 2 mid new → logical_operator_text o ≡ without_last (assignment_operator_text e.operator) →
-    seen names made ≡ assigned_at e.span (logical_operator_text o) (seen names read) (seen names written) (seen names e.right) → Replaces always LogicalAssignmentRule (moment_of old) (seen names t) (moment_of new) (seen names made)
+    seen names made ≡ assigned_at e.span (logical_operator_text o) (seen names read) (seen names written) (seen names e.right) → Replaces anything LogicalAssignmentRule (moment_of old) (seen names t) (moment_of new) (seen names made)
 replaced-assignment old mid new names t target read written made e o opened lowerable is d more op wrote =
     let whole : seen names made ≡ assigned_where (label_in e) (assignment_operator_text e.operator) (seen names read) (seen names written) (seen names e.right) = wrote ∙ ap (λ p. assigned_at e.span p (seen names read) (seen names written) (seen names e.right)) op in
     let step = replaced-opened old mid new names e (seen names read) (seen names written) (parts-in t e opened lowerable).0 (subst (λ v. DuplicatesTarget old mid (seen names v) (seen names read) (seen names written)) is d) more in
-    subst (λ v. Replaces always LogicalAssignmentRule (moment_of old) (seen names v) (moment_of new) (seen names made)) opened (subst (λ v. Replaces always LogicalAssignmentRule (moment_of old) (seen names (plain_assignment_expression e)) (moment_of new) v) (sym whole) step)
+    subst (λ v. Replaces anything LogicalAssignmentRule (moment_of old) (seen names v) (moment_of new) (seen names made)) opened (subst (λ v. Replaces anything LogicalAssignmentRule (moment_of old) (seen names (plain_assignment_expression e)) (moment_of new) v) (sym whole) step)
 
 -- such a node weighs enough for all that its target takes
 pub heavy : (t : Tree) (e : AnyAssignmentExpression) → plain_assignment_expression e ≡ t → IsLowerable t → 61 ≤ load t

@@ -10,13 +10,7 @@ use Rattle.es_tree.specs.declared.ids.Span.{Span}
 use Rattle.es_runs.specs.Duplication.{has_no_fields}
 use Rattle.es_runs.specs.LogicalAssignment.{is_logical_assignment_operator}
 use Rattle.es_runs.specs.Rules.{assign_node}
-use Rattle.es_steps.specs.Nodes.{made}
-use Rattle.es_steps.specs.Steps.{Site}
-
--- a name
-abbrev pub is_name : Tree → Bool
-is_name (node Identifier l fs) = has_no_fields fs
-is_name _ = false
+use Rattle.lower_temporaries.specs.Shapes.{at_span, is_name, on_two}
 
 -- a member without an optional mark: with a computed key, or with a name as its key
 abbrev pub has_duplicated_key : List Bool → Tree → Bool
@@ -24,18 +18,13 @@ has_duplicated_key (true ∷ false ∷ []) k = true
 has_duplicated_key (false ∷ false ∷ []) k = is_name k
 has_duplicated_key _ k = false
 
--- a test that is this of two children, and false of other fields
-abbrev pub on_two : (Tree → Tree → Bool) → Fields → Bool
-on_two P (one a then (one b then done)) = P a b
-on_two P _ = false
-
 abbrev pub has_duplicated_member : Bool → Fields → Bool
 has_duplicated_member computed fs = on_two (λ o k. has_duplicated_key (computed ∷ false ∷ []) k) fs
 
 -- a name, or such a member
 abbrev pub is_duplicated_target : Tree → Bool
 is_duplicated_target (node Identifier l fs) = has_no_fields fs
-is_duplicated_target (node MemberExpression l (one o then (one k then done))) = has_duplicated_key l.flags k
+is_duplicated_target (node MemberExpression l fs) = on_two (λ o k. has_duplicated_key l.flags k) fs
 is_duplicated_target _ = false
 
 -- two sides, of which the first one is such a target, maybe in parentheses
@@ -46,14 +35,6 @@ has_target fs = on_two (λ t r. is_duplicated_target (without_parens t)) fs
 abbrev pub is_lowerable_assignment : AstType → Label → Fields → Bool
 is_lowerable_assignment AssignmentExpression l fs = is_logical_assignment_operator (first_text l.texts) && has_target fs
 is_lowerable_assignment _ l fs = false
-
--- nothing is asked of the node beside that it fits
-abbrev pub always : Site → Tree → Type 0
-always n t = Unit {0}
-
--- the label of a made node with this span
-abbrev pub at_span : Span → Label
-at_span s = record (made [] []) { start = s.start; stop = s.end }
 
 -- `begin op (again = r)`, with this span
 abbrev pub assigned_at : Span → Text → Tree → Tree → Tree → Tree

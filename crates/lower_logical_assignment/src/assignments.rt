@@ -9,11 +9,11 @@ ghost use Rattle.es_runs.specs.Core.{without_last};
 ghost use Rattle.es_runs.specs.LogicalAssignment.{is_logical_assignment_operator};
 ghost use Rattle.es_steps.specs.LogicalAssignment.{LogicalAssignmentRule};
 ghost use Rattle.es_changes.specs.Changes.{HasRoom};
-ghost use Rattle.es_traverse.specs.Laws.{Seen};
+ghost use Rattle.es_traverse.specs.Laws.{Seen, anything};
 ghost use Rattle.es_traverse.specs.Loads.{load};
 ghost use Rattle.lower_temporaries.specs.Replacings.{Replaces};
 ghost use Rattle.lower_temporaries.specs.Takings.{moment_of};
-ghost use Rattle.lower_logical_assignment.specs.Assignments.{always, assigned_at, has_target, is_lowerable_assignment};
+ghost use Rattle.lower_logical_assignment.specs.Assignments.{assigned_at, has_target, is_lowerable_assignment};
 
 use crate::targets::{duplicate_target, is_target};
 use es_expressions::operations::{
@@ -105,7 +105,7 @@ pub(crate) fn lower_assignment(
     requires lowerable { is_lowerable_assignment (kind_of node) (label_of node) (fields_of node) ≡ true }
     requires room { HasRoom (moment_of ctx.old) (load node) }
     requires there { 0 < length ctx.old.state.var_declarations }
-    ensures replaced { IfOk result (λ made. Seen (λ t u. Replaces always LogicalAssignmentRule (moment_of ctx.old) t (moment_of ctx.new) u) node made) }
+    ensures replaced { IfOk result (λ made. Seen (λ t u. Replaces anything LogicalAssignmentRule (moment_of ctx.old) t (moment_of ctx.new) u) node made) }
     ensures kinds { IfOk result (λ made. Seen (λ t u. (kind_of t ≡ AnyAssignmentExpression) × (kind_of u ≡ AnyLogicalExpression)) node made) }
 {
     let AssignmentExpression {

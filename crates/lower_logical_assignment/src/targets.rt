@@ -5,7 +5,8 @@ ghost use Rattle.es_tree.specs.Views.{plain_fields};
 ghost use Rattle.es_tree.specs.Words.{Text};
 ghost use Rattle.es_resolution.specs.Seen.{seen};
 ghost use Rattle.es_traverse.specs.Laws.{Seen};
-ghost use Rattle.lower_logical_assignment.specs.Assignments.{has_duplicated_member, is_duplicated_target, is_name};
+ghost use Rattle.lower_temporaries.specs.Shapes.{is_name};
+ghost use Rattle.lower_logical_assignment.specs.Assignments.{has_duplicated_member, is_duplicated_target};
 ghost use Rattle.lower_logical_assignment.specs.Targets.{DuplicatesMember, DuplicatesOnce, DuplicatesTarget};
 
 use es_expressions::members::{MemberExpression, new_member_expression};
@@ -17,18 +18,9 @@ use lower_temporaries::declarations::MADE;
 use lower_temporaries::duplicate::duplicate_expression;
 use lower_temporaries::readings::{WRITES, read_once_more};
 use lower_temporaries::references::set_name_flags;
+use lower_temporaries::shapes::is_name;
 use lower_temporaries::state::TransformState;
 use std::alloc::AllocError;
-
-/// Whether a node is a name.
-fn is_name(node: &Node) -> bool
-    ensures { result ≡ is_name node.now }
-{
-    match &node.kind {
-        Kind::Identifier { .. } => node.fields.is_empty(),
-        _ => false,
-    }
-}
 
 /// Whether these are an object and a name, or a key between brackets.
 fn is_object_with_key(computed: bool, fields: &[Field]) -> bool

@@ -1,6 +1,5 @@
 -- A `??` that became a conditional, as a row that replaced it.
-use Rattle.std.proofs.Common.{◌≡◌, ◌∙◌, ◌==◌, ℕ, suc, length, refl, sym, ap, subst, arith, List, [], ◌∷◌, Option, Some, codes}
-use Rattle.std.proofs.lemmas.Bool.{eqb-true}
+use Rattle.std.proofs.Common.{◌≡◌, ◌∙◌, ◌==◌, ℕ, length, refl, sym, ap, subst, arith, List, [], ◌∷◌, Option, Some, codes}
 use Rattle.std.specs.Prelude.{◌&&◌, Bool, true, false, bytes_eq}
 use Rattle.es_tree.specs.Heads.{head_of, label}
 use Rattle.es_tree.specs.Tree.{Tree, node, Label, Fields, done, ◌then◌, fields_of, kind_of, label_of, tree_size}
@@ -21,6 +20,7 @@ use Rattle.es_scope.specs.ContextSymbols.{steady_symbols_of}
 use Rattle.es_scope.specs.declared.context.TraverseCtx.{TraverseCtx}
 use Rattle.es_resolution.specs.Declarations.{Bound}
 use Rattle.es_resolution.specs.Seen.{seen, seen_in}
+use Rattle.es_runs.proofs.Named.{and_left}
 use Rattle.es_runs.specs.Duplication.{has_no_fields}
 use Rattle.es_runs.specs.Rules.{assign_node, tested}
 use Rattle.es_steps.specs.Duplication.{IsNext, is_among_symbols}
@@ -28,20 +28,18 @@ use Rattle.es_steps.specs.Nodes.{identifier}
 use Rattle.es_steps.specs.NullishCoalescing.{NullishCoalescingRule, reads_again, tested_by}
 use Rattle.es_steps.specs.NullishCoalescing.NullishCoalescingRule.{with_temporary, reading_again}
 use Rattle.es_changes.specs.Moments.{whole_at}
-use Rattle.es_traverse.specs.Laws.{Seen}
+use Rattle.es_traverse.specs.Laws.{Seen, anything}
 use Rattle.es_traverse.specs.Loads.{load}
 use Rattle.lower_temporaries.specs.Replacings.{Replaces}
+use Rattle.lower_temporaries.specs.Shapes.{at_span}
 use Rattle.lower_temporaries.specs.SeenTrees.{IsSeenAs}
 use Rattle.lower_temporaries.specs.Takings.{ReadsMore, moment_of}
 use Rattle.lower_temporaries.specs.declared.state.TransformState.{TransformState}
+use Rattle.lower_temporaries.proofs.ReadAgain.{no_fields, no_fields-seen}
 use Rattle.lower_temporaries.proofs.SeenLaws.{base-seen}
 use Rattle.lower_temporaries.proofs.Takings.{takes-none}
-use Rattle.lower_nullish_coalescing.specs.Coalescings.{ByTemporary, always, at_span, is_lowerable_coalescing}
+use Rattle.lower_nullish_coalescing.specs.Coalescings.{ByTemporary, is_lowerable_coalescing}
 use Rattle.lower_nullish_coalescing.proofs.Loads.{coalesced, coalesced-load, coalesced-size, tested-load, tested-size, tested_by-load, tested_by-size}
-
-first-true : (a b : Bool) → (a && b) ≡ true → a ≡ true
-first-true true b e = refl
-first-true false b e = absurd (cc e)
 
 -- a left side that is read again is one node
 again-alone : (steady : ℕ → Bool) (t : Tree) → has_no_fields (fields_of t) ≡ true → reads_again steady t ≡ true → (load t ≡ 1) × (tree_size t ≡ 1)
@@ -71,26 +69,26 @@ abbrev IsLowerable : Tree → Type 0
 IsLowerable t = is_lowerable_coalescing (kind_of t) (label_of t) (fields_of t) ≡ true
 
 texts-in : (e : AnyLogicalExpression) → IsLowerable (plain_logical_expression e) → (label_in e).texts ≡ Some (codes "??") ∷ []
-texts-in e h = ap (λ y. Some y ∷ []) (coalesce_text e.operator (first-true (bytes_eq (logical_operator_text e.operator) (codes "??")) true h))
+texts-in e h = ap (λ y. Some y ∷ []) (coalesce_text e.operator (and_left (bytes_eq (logical_operator_text e.operator) (codes "??")) true h))
 
 -- WHAT IS MADE
 
 module _ (old new : TraverseCtx TransformState) (whole made : Tree) (e : AnyLogicalExpression) (opened : plain_logical_expression e ≡ whole) (lowerable : IsLowerable whole) where
   abbrev Row : (ℕ → Text → Option ℕ) → Tree → Tree → Type 0
-  Row names t u = Replaces always NullishCoalescingRule (moment_of old) (seen names t) (moment_of new) u
+  Row names t u = Replaces anything NullishCoalescingRule (moment_of old) (seen names t) (moment_of new) u
 
   texts : (label_in e).texts ≡ Some (codes "??") ∷ []
   texts = texts-in e (subst IsLowerable (sym opened) lowerable)
 
   -- a `??` whose left side is read again
   pub by-reading : has_no_fields (fields_of e.left) ≡ true → ReadsMore 9 old new → ((names : ℕ → Text → Option ℕ) → reads_again (steady_symbols_of old) (seen names e.left) ≡ true) →
-      ((names : ℕ → Text → Option ℕ) → seen names made ≡ tested (at_span e.span) (seen names e.left) (seen names e.left) (seen names e.right)) → Seen (λ t u. Replaces always NullishCoalescingRule (moment_of old) t (moment_of new) u) whole made
+      ((names : ℕ → Text → Option ℕ) → seen names made ≡ tested (at_span e.span) (seen names e.left) (seen names e.left) (seen names e.right)) → Seen (λ t u. Replaces anything NullishCoalescingRule (moment_of old) t (moment_of new) u) whole made
   by-reading alone reads again wrote names =
       let m = label_in e in
       let l = seen names e.left in
       let r = seen names e.right in
       let one_node = again-alone (steady_symbols_of old) l (seen-alone names e.left alone) (again names) in
-      let step : Replaces always NullishCoalescingRule (moment_of old) (coalesced m l r) (moment_of new) (tested m l l r) = record {
+      let step : Replaces anything NullishCoalescingRule (moment_of old) (coalesced m l r) (moment_of new) (tested m l l r) = record {
         made = [];
         ids = 9;
         takes = takes-none reads;
@@ -101,12 +99,12 @@ module _ (old new : TraverseCtx TransformState) (whole made : Tree) (e : AnyLogi
       subst (λ v. Row names v (seen names made)) opened (subst (λ u. Row names (plain_logical_expression e) u) (sym (wrote names)) step)
 
   -- a `??` whose left side takes a temporary
-  pub by-temporary : ((names : ℕ → Text → Option ℕ) → reads_again (steady_symbols_of old) (seen names e.left) ≡ false) → ByTemporary old new e.span e.left e.right made → Seen (λ t u. Replaces always NullishCoalescingRule (moment_of old) t (moment_of new) u) whole made
+  pub by-temporary : ((names : ℕ → Text → Option ℕ) → reads_again (steady_symbols_of old) (seen names e.left) ≡ false) → ByTemporary old new e.span e.left e.right made → Seen (λ t u. Replaces anything NullishCoalescingRule (moment_of old) t (moment_of new) u) whole made
   by-temporary again b names =
       let m = label_in e in
       let l = seen names e.left in
       let r = seen names e.right in
-      let step : Replaces always NullishCoalescingRule (moment_of old) (coalesced m l r) (moment_of new) (tested_by m b.temporary l r) = record {
+      let step : Replaces anything NullishCoalescingRule (moment_of old) (coalesced m l r) (moment_of new) (tested_by m b.temporary l r) = record {
         made = b.temporary ∷ [];
         ids = 13;
         takes = b.takes;
@@ -127,14 +125,7 @@ wrote-by m b id target left first again right made t a f wrote names =
 -- WHAT IS READ AGAIN, as the code sees it
 
 no-fields : (names : ℕ → Text → Option ℕ) (fs : List NodeField) → has_no_fields (seen_in names (plain_fields fs)) ≡ (length fs == 0)
-no-fields names [] = refl
-no-fields names (f ∷ fs) = sym (some_fields (length fs))
-  where
-    some_fields : (n : ℕ) → (suc n == 0) ≡ false
-    some_fields n = at (suc n == 0) refl where
-      at : (b : Bool) → (suc n == 0) ≡ b → b ≡ false
-      at true e = absurd (omega (arith, eqb-true (suc n) 0 e))
-      at false e = refl
+no-fields names fs = no_fields-seen names (plain_fields fs) ∙ no_fields fs
 
 pub this-again : (steady : ℕ → Bool) (names : ℕ → Text → Option ℕ) (t : Tree) (id : NodeId) (span : Span) (kind : NodeKind) (fs : List NodeField) (n : ℕ) → plain id span kind (plain_fields fs) ≡ t → kind ≡ k-ThisExpression → n ≡ length fs →
     (n == 0) ≡ reads_again steady (seen names t)

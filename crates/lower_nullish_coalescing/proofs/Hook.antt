@@ -1,84 +1,30 @@
 -- What the hook leaves: a `??` that was lowered, or a node that is none.
-use Rattle.std.proofs.Common.{◌≡◌, ◌∙◌, ◌<◌, ◌&&◌, ℕ, Bool, true, false, refl, sym, ap, subst, length, Option, true≢false}
+use Rattle.std.proofs.Common.{◌≡◌, ◌<◌, ◌&&◌, Bool, true, false, refl, length}
 use Rattle.es_tree.specs.Constructs.{is_nullish_coalescing}
-use Rattle.es_tree.specs.HasForm.{has_form}
-use Rattle.es_tree.specs.Tree.{Tree, node, Label, Fields, fields_of, kind_of, label_of}
-use Rattle.es_tree.specs.Words.{Text}
-use Rattle.es_tree.specs.declared.ast_type.AstType.{AstType}
+use Rattle.es_tree.specs.Tree.{Tree, kind_of}
 use Rattle.es_tree.specs.declared.ast_type.AstType.TheVariants.{ConditionalExpression, LogicalExpression}
 use Rattle.es_tree.specs.declared.options.EnvOptions.{EnvOptions}
-use Rattle.es_tree.specs.declared.table.Sort.{Sort}
 use Rattle.es_resolution.specs.Seen.{seen}
 use Rattle.es_steps.specs.CoreRules.{RowRule}
 use Rattle.es_steps.specs.NullishCoalescing.{NullishCoalescingRule}
-use Rattle.es_steps.specs.Open.{is_statement_body}
-use Rattle.es_visit.specs.Hooks.{hook_of_sort, sort_of}
-use Rattle.es_visit.specs.declared.hook.Hook.TheVariants.{Expression}
 use Rattle.es_changes.specs.Moments.{Moment}
-use Rattle.es_traverse.specs.Laws.{Entered, KeptLoad, Known, Seen, anywhere, is_construct}
+use Rattle.es_conditions.proofs.Coalescing.{coalescing-keeps}
+use Rattle.es_traverse.specs.Laws.{Seen, anything, is_construct}
 use Rattle.lower_temporaries.specs.Replacings.{IsPut, Replaces}
-use Rattle.lower_temporaries.proofs.Entered.{entered-by-row, entered-same, is_expression_hook, kept-by-row, on-rule, sort-expression}
-use Rattle.lower_nullish_coalescing.specs.Coalescings.{always, is_lowerable_coalescing}
-use Rattle.lower_nullish_coalescing.specs.Profile.{nullish_coalescing_constructs, nullish_coalescing_profile}
-use Rattle.lower_nullish_coalescing.proofs.Conditions.{coalescing-keeps}
-use Rattle.lower_nullish_coalescing.proofs.Sides.{no-coalescing}
-
--- WHAT IS PUT
-
-no-conditional : (k : AstType) (l : Label) (fs : Fields) → k ≡ ConditionalExpression → is_nullish_coalescing k l fs ≡ false
-no-conditional LogicalExpression l fs e = absurd (cc e)
-no-conditional _ l fs e = refl
-
-where-none : (on b : Bool) → b ≡ false → (on && b) ≡ false
-where-none true b e = e
-where-none false b e = refl
-
-no-body : (t : Tree) (k : AstType) → kind_of t ≡ k → is_statement_body (node k (label_of t) (fields_of t)) ≡ false → is_statement_body t ≡ false
-no-body (node j l fs) k e h = ap (λ x. is_statement_body (node x l fs)) e ∙ h
+use Rattle.lower_temporaries.proofs.Entered.{on-rule}
+use Rattle.lower_temporaries.proofs.RowProfiles.{EnteredBy, left-alone, none-where, put-by-kinds, row-entered, whatever-known}
+use Rattle.lower_nullish_coalescing.specs.Coalescings.{is_lowerable_coalescing}
+use Rattle.lower_nullish_coalescing.specs.Profile.{nullish_coalescing_profile}
+use Rattle.lower_nullish_coalescing.proofs.Sides.{formed-coalescing, lowerable-seen}
 
 is-put : (o : EnvOptions) (t u : Tree) → kind_of t ≡ LogicalExpression → kind_of u ≡ ConditionalExpression → IsPut (nullish_coalescing_profile o) t u
-is-put o t u e d = record {
-  cleared = where-none o.es2020.nullish_coalescing_operator (is_nullish_coalescing (kind_of u) (label_of u) (fields_of u)) (no-conditional (kind_of u) (label_of u) (fields_of u) d);
-  sort = sort-expression t u (ap (λ k. is_expression_hook (hook_of_sort (sort_of k))) d);
-  body = no-body u ConditionalExpression d refl ∙ sym (no-body t LogicalExpression e refl);
-  made = d;
-}
+is-put o t u e d = put-by-kinds (nullish_coalescing_profile o) LogicalExpression ConditionalExpression t u e d (none-where o.es2020.nullish_coalescing_operator) refl refl refl d
 
-abbrev EnteredBy : EnvOptions → Moment → Tree → Moment → Tree → Type 0
-EnteredBy o a t b u = Entered (nullish_coalescing_profile o) (Known (nullish_coalescing_profile o).counts) (Known (nullish_coalescing_profile o).leaves) Expression anywhere a t b u
+pub entered : (o : EnvOptions) → o.es2020.nullish_coalescing_operator ≡ true → (a b : Moment) (t s u : Tree) → s ≡ t → 0 < length a.lists → Seen (λ x y. Replaces anything NullishCoalescingRule a x b y) s u →
+    Seen (λ x y. (kind_of x ≡ LogicalExpression) × (kind_of y ≡ ConditionalExpression)) s u → Seen (λ x y. EnteredBy (nullish_coalescing_profile o) a x b y) t u
+entered o on a b t s u taken there rows kinds =
+    row-entered NullishCoalescingRule a b t s u taken there (nullish_coalescing_profile o) (on-rule (RowRule NullishCoalescingRule) o.es2020.nullish_coalescing_operator on) (coalescing-keeps o on) (λ names. whatever-known (rows names))
+    (λ names. let k = kinds names in is-put o (seen names s) (seen names u) k.0 k.1)
 
-pub lowered : (o : EnvOptions) → o.es2020.nullish_coalescing_operator ≡ true → (a b : Moment) (t u : Tree) → 0 < length a.lists → Seen (λ x y. Replaces always NullishCoalescingRule a x b y) t u →
-    Seen (λ x y. (kind_of x ≡ LogicalExpression) × (kind_of y ≡ ConditionalExpression)) t u → Seen (λ x y. EnteredBy o a x b y) t u
-lowered o on a b t u there rows kinds names =
-    let r = rows names in
-    let k = kinds names in
-    entered-by-row (nullish_coalescing_profile o) a (seen names t) b (seen names u) NullishCoalescingRule (on-rule (RowRule NullishCoalescingRule) o.es2020.nullish_coalescing_operator on) (coalescing-keeps o on) there
-    (record { made = r.made; ids = r.ids; takes = r.takes; row = λ n f known. r.row n f tt; nodes = r.nodes; lighter = r.lighter }) (is-put o (seen names t) (seen names u) k.0 k.1)
-
--- of the node that was taken out
-pub taken-entered : (o : EnvOptions) → o.es2020.nullish_coalescing_operator ≡ true → (a b : Moment) (t s u : Tree) → s ≡ t → 0 < length a.lists → Seen (λ x y. Replaces always NullishCoalescingRule a x b y) s u →
-    Seen (λ x y. (kind_of x ≡ LogicalExpression) × (kind_of y ≡ ConditionalExpression)) s u → Seen (λ x y. EnteredBy o a x b y) t u
-taken-entered o on a b t s u e there rows kinds = subst (λ v. Seen (λ x y. EnteredBy o a x b y) v u) e (lowered o on a b s u there rows kinds)
-
-pub taken-kept : (a b : Moment) (t s u : Tree) → s ≡ t → 0 < length a.lists → Seen (λ x y. Replaces always NullishCoalescingRule a x b y) s u → KeptLoad 0 a t b u
-taken-kept a b t s u e there rows = subst (λ v. KeptLoad 0 a v b u) e (kept-by-row always NullishCoalescingRule a s b u there rows)
-
-pub first-true : (a b : Bool) → (a && b) ≡ true → a ≡ true
-first-true true b e = refl
-first-true false b e = absurd (true≢false (sym e))
-
-pub second-true : (a b : Bool) → (a && b) ≡ true → b ≡ true
-second-true true b e = e
-second-true false b e = absurd (true≢false (sym e))
-
--- NOTHING WAS DONE, where it is off, or the node is no `??` that has form
-
-none-left : (on low : Bool) (names : ℕ → Text → Option ℕ) (t : Tree) (s : Sort) → low ≡ is_lowerable_coalescing (kind_of t) (label_of t) (fields_of t) → (on && low) ≡ false → has_form s (seen names t) ≡ true →
-    is_construct (nullish_coalescing_constructs on Expression) (seen names t) ≡ false
-none-left false low names t s told e h = refl
-none-left true low names t s told e h = no-coalescing names t s (sym told ∙ e) h
-
-pub left-alone : (o : EnvOptions) (is_on : Bool) → is_on ≡ o.es2020.nullish_coalescing_operator → (a : Moment) (t : Tree) → (is_on && is_lowerable_coalescing (kind_of t) (label_of t) (fields_of t)) ≡ false → Seen (λ x y. EnteredBy o a x a y) t t
-left-alone o is_on on a t e names =
-    entered-same (nullish_coalescing_profile o) a (seen names t) (λ n f known. known)
-    (λ n f known. none-left o.es2020.nullish_coalescing_operator (is_lowerable_coalescing (kind_of t) (label_of t) (fields_of t)) names t f.sort refl (ap (λ b. b && is_lowerable_coalescing (kind_of t) (label_of t) (fields_of t)) (sym on) ∙ e) f.formed)
+pub left : (o : EnvOptions) (is_on : Bool) → is_on ≡ o.es2020.nullish_coalescing_operator → (a : Moment) (t : Tree) → (is_on && is_construct is_lowerable_coalescing t) ≡ false → Seen (λ x y. EnteredBy (nullish_coalescing_profile o) a x a y) t t
+left o is_on = left-alone (nullish_coalescing_profile o) is_nullish_coalescing is_lowerable_coalescing o.es2020.nullish_coalescing_operator is_on (λ t. refl) (λ n t known. known) formed-coalescing lowerable-seen

@@ -1,8 +1,8 @@
 -- The `??` that are lowered (ECMA-262, 13.13), and what their lowering makes.
-use Rattle.std.specs.Prelude.{◌≡◌, ◌&&◌, ℕ, Bool, true, false, [], ◌∷◌, Option}
+use Rattle.std.specs.Prelude.{◌≡◌, ◌&&◌, ℕ, Bool, [], ◌∷◌, Option}
 use Rattle.es_tree.specs.Constructs.{is_nullish_coalescing}
 use Rattle.es_tree.specs.Fresh.{node_base}
-use Rattle.es_tree.specs.Tree.{Tree, Label, Fields, done, ◌then◌, one}
+use Rattle.es_tree.specs.Tree.{Tree, Label, Fields}
 use Rattle.es_tree.specs.Words.{Text}
 use Rattle.es_tree.specs.declared.ast_type.AstType.{AstType}
 use Rattle.es_tree.specs.declared.ids.Span.{Span}
@@ -10,29 +10,15 @@ use Rattle.es_scope.specs.declared.context.TraverseCtx.{TraverseCtx}
 use Rattle.es_resolution.specs.Declarations.{Bound}
 use Rattle.es_resolution.specs.Seen.{seen}
 use Rattle.es_steps.specs.Duplication.{IsNext}
-use Rattle.es_steps.specs.Nodes.{made}
 use Rattle.es_steps.specs.NullishCoalescing.{tested_by}
-use Rattle.es_steps.specs.Steps.{Site}
 use Rattle.es_changes.specs.Moments.{whole_at}
+use Rattle.lower_temporaries.specs.Shapes.{at_span, is_pair}
 use Rattle.lower_temporaries.specs.Takings.{Takes, moment_of}
 use Rattle.lower_temporaries.specs.declared.state.TransformState.{TransformState}
 
--- two sides
-abbrev pub has_sides : Fields → Bool
-has_sides (one l then (one r then done)) = true
-has_sides _ = false
-
 -- `l ?? r` with its two sides, which each has that has form
 abbrev pub is_lowerable_coalescing : AstType → Label → Fields → Bool
-is_lowerable_coalescing k l fs = is_nullish_coalescing k l fs && has_sides fs
-
--- nothing is asked of the node beside that it fits
-abbrev pub always : Site → Tree → Type 0
-always n t = Unit {0}
-
--- the label of a made node with this span
-abbrev pub at_span : Span → Label
-at_span s = record (made [] []) { start = s.start; stop = s.end }
+is_lowerable_coalescing k l fs = is_nullish_coalescing k l fs && is_pair fs
 
 -- A `??` became a conditional by this temporary.
 pub record ByTemporary (old new : TraverseCtx TransformState) (span : Span) (left right node : Tree) : Type 0 where

@@ -2,7 +2,6 @@
 ghost use Rattle.std.specs.Prelude.{◌≡◌, ◌+◌, ◌-◌, ◌^◌, ◌<◌, ℕ, IfOk, OnOk, Option, length, true};
 ghost use Rattle.es_tree.specs.Constructs.{is_nullish_coalescing};
 ghost use Rattle.es_tree.specs.Tree.{fields_of, kind_of, label_of};
-ghost use Rattle.es_tree.specs.Views.{plain_fields};
 ghost use Rattle.es_tree.specs.Words.{Text};
 ghost use Rattle.es_tree.specs.declared.ast_type.AstType.TheVariants.{ConditionalExpression as AnyConditionalExpression, LogicalExpression as AnyLogicalExpression};
 ghost use Rattle.es_resolution.specs.Seen.{seen};
@@ -11,11 +10,12 @@ ghost use Rattle.es_runs.specs.Duplication.{has_no_fields};
 ghost use Rattle.es_runs.specs.Rules.{tested};
 ghost use Rattle.es_steps.specs.NullishCoalescing.{NullishCoalescingRule, reads_again};
 ghost use Rattle.es_changes.specs.Changes.{HasRoom};
-ghost use Rattle.es_traverse.specs.Laws.{Seen};
+ghost use Rattle.es_traverse.specs.Laws.{Seen, anything};
 ghost use Rattle.es_traverse.specs.Loads.{load};
 ghost use Rattle.lower_temporaries.specs.Replacings.{Replaces};
+ghost use Rattle.lower_temporaries.specs.Shapes.{at_span};
 ghost use Rattle.lower_temporaries.specs.Takings.{ReadsMore, moment_of};
-ghost use Rattle.lower_nullish_coalescing.specs.Coalescings.{ByTemporary, always, at_span, has_sides, is_lowerable_coalescing};
+ghost use Rattle.lower_nullish_coalescing.specs.Coalescings.{ByTemporary, is_lowerable_coalescing};
 
 use es_expressions::operations::{
     LogicalExpression, new_assignment_expression, new_conditional_expression,
@@ -25,11 +25,12 @@ use es_scope::context::TraverseCtx;
 use es_tree::builder::AstBuilder;
 use es_tree::ids::Span;
 use es_tree::kind::Kind;
-use es_tree::node::{Field, Node};
+use es_tree::node::Node;
 use es_tree::operators::{AssignmentOperator, BinaryOperator, LogicalOperator};
 use lower_temporaries::declarations::MADE;
 use lower_temporaries::made_nodes::{new_null_test, new_undefined_test};
 use lower_temporaries::readings::{is_steady, read_once_more};
+use lower_temporaries::shapes::is_pair;
 use lower_temporaries::state::TransformState;
 use lower_temporaries::temporaries::{Temporary, new_temporary, read_name};
 use std::alloc::AllocError;
@@ -44,18 +45,11 @@ fn is_coalescing(node: &Node) -> bool
     }
 }
 
-/// Whether the fields are two sides.
-fn has_sides(fields: &[Field]) -> bool
-    ensures { result ≡ has_sides (plain_fields fields.now) }
-{
-    matches!(fields, [Field::One(..), Field::One(..)])
-}
-
 /// Whether the node is a `??` with its sides.
 pub(crate) fn is_lowerable(node: &Node) -> bool
     ensures { result ≡ is_lowerable_coalescing (kind_of node.now) (label_of node.now) (fields_of node.now) }
 {
-    is_coalescing(node) && has_sides(node.fields.as_slice())
+    is_coalescing(node) && is_pair(node.fields.as_slice())
 }
 
 /// Whether a left side is read twice as it stands: `this`, and a name with a symbol that no reference writes.
@@ -150,7 +144,7 @@ pub(crate) fn lower_coalescing(
     requires lowerable { is_lowerable_coalescing (kind_of node) (label_of node) (fields_of node) ≡ true }
     requires room { HasRoom (moment_of ctx.old) (load node) }
     requires there { 0 < length ctx.old.state.var_declarations }
-    ensures replaced { IfOk result (λ made. Seen (λ t u. Replaces always NullishCoalescingRule (moment_of ctx.old) t (moment_of ctx.new) u) node made) }
+    ensures replaced { IfOk result (λ made. Seen (λ t u. Replaces anything NullishCoalescingRule (moment_of ctx.old) t (moment_of ctx.new) u) node made) }
     ensures kinds { IfOk result (λ made. Seen (λ t u. (kind_of t ≡ AnyLogicalExpression) × (kind_of u ≡ AnyConditionalExpression)) node made) }
 {
     let LogicalExpression {

@@ -15,9 +15,10 @@ use Rattle.es_visit.specs.declared.hook.Hook.TheVariants.{Expression}
 use Rattle.es_changes.specs.Changes.{lists_size, lists_weight}
 use Rattle.es_changes.specs.Fits.{Fits}
 use Rattle.es_changes.specs.Moments.{Moment, ledger_at, top, whole_at}
+use Rattle.es_conditions.specs.Laws.{Keeps}
 use Rattle.es_traverse.specs.Laws.{Entered, KeepsSort, KeptLoad, Known, Profile, Seen, anywhere, is_construct}
 use Rattle.es_traverse.specs.Loads.{load}
-use Rattle.lower_temporaries.specs.Replacings.{IsPut, KeepsKnown, Replaces, StepsTo, ledger_taking}
+use Rattle.lower_temporaries.specs.Replacings.{IsPut, Replaces, StepsTo, ledger_taking}
 use Rattle.lower_temporaries.specs.SeenTrees.{no_bindings}
 use Rattle.lower_temporaries.specs.Takings.{Takes}
 use Rattle.lower_temporaries.proofs.Pairs.{lists-size, lists-weight, with_top-level, with_top-top}
@@ -96,7 +97,7 @@ module _ (p : Profile) (a : Moment) (t : Tree) (b : Moment) (u : Tree) where
   }
 
   -- By a row, of which it is known that it keeps the conditions.
-  pub entered-by-row : (R : Site → Whole → List Bound → Tree → Tree → Type 0) → ((n : Site) (s : Ledger) (x : Spot) (s' : Ledger) (y : Spot) → RowRule R n s x s' y → p.rule n s x s' y) → KeepsKnown p.counts p.leaves R → 0 < length a.lists → Replaces (Known p.counts) R a t b u → IsPut p t u →
+  pub entered-by-row : (R : Site → Whole → List Bound → Tree → Tree → Type 0) → ((n : Site) (s : Ledger) (x : Spot) (s' : Ledger) (y : Spot) → RowRule R n s x s' y → p.rule n s x s' y) → Keeps p.counts p.leaves R → 0 < length a.lists → Replaces (Known p.counts) R a t b u → IsPut p t u →
       Entered p (Known p.counts) (Known p.leaves) Expression anywhere a t b u
   entered-by-row R on keeps there r put =
       entered-by-step there

@@ -7,3 +7,8 @@ pub mod Duplicated
 pub mod MovedReferences
 pub mod UidNames
 pub mod Entered
+pub mod TwoFields
+pub mod RowProfiles
+pub mod Loads
+pub mod Later
+pub mod ParensForm

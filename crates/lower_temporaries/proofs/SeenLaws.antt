@@ -10,12 +10,12 @@ use Rattle.es_tree.specs.Tree.{Tree, node, Label, Fields, done, ◌then◌, Fiel
 use Rattle.es_tree.specs.Walks.{any_in_field, any_in_fields, any_in_trees, any_node}
 use Rattle.es_tree.specs.Words.{Text}
 use Rattle.es_tree.specs.declared.ast_type.AstType.{AstType}
-use Rattle.es_tree.specs.declared.ast_type.AstType.TheVariants.{AssignmentExpression, BinaryExpression, CallExpression, ChainExpression, ClassDeclaration, ClassExpression, Identifier, LogicalExpression, MemberExpression, NewExpression, ParenthesizedExpression, PrivateIdentifier, Super, ThisExpression, VariableDeclaration}
+use Rattle.es_tree.specs.declared.ast_type.AstType.TheVariants.{AssignmentExpression, BinaryExpression, CallExpression, CatchClause, ChainExpression, ClassDeclaration, ClassExpression, Identifier, LogicalExpression, MemberExpression, NewExpression, ParenthesizedExpression, PrivateIdentifier, Super, ThisExpression, VariableDeclaration}
 use Rattle.es_resolution.specs.Seen.{name_inside, seen, seen_among, seen_by, seen_in, seen_marks}
 use Rattle.es_runs.specs.Duplication.{duplicate_base}
 use Rattle.es_semantic.specs.NodeMarks.{scope_mark}
 use Rattle.es_runs.specs.Weights.{own_weight}
-use Rattle.es_traverse.specs.Loads.{field_load, fields_load, load, own_allowance, trees_load}
+use Rattle.es_traverse.specs.Loads.{field_load, fields_load, load, own_allowance, parameter_allowance, trees_load}
 use Rattle.lower_temporaries.specs.SeenTrees.{is_inert, is_active_node, no_bindings, seen_alone}
 
 module _ (names : ℕ → Text → Option ℕ) where
@@ -50,9 +50,17 @@ module _ (names : ℕ → Text → Option ℕ) where
   own-load ChainExpression l fs gs = refl
   own-load _ l fs gs = refl
 
+  own-parameter : (k : AstType) (fs : Fields) → parameter_allowance k (seen_in names fs) ≡ parameter_allowance k fs
+  own-parameter CatchClause done = refl
+  own-parameter CatchClause (missing then fs) = refl
+  own-parameter CatchClause (one t then fs) = refl
+  own-parameter CatchClause (many ts then fs) = refl
+  own-parameter CatchClause (statements ts then fs) = refl
+  own-parameter _ fs = refl
+
   mutual
     pub load-seen : (t : Tree) → load (seen names t) ≡ load t
-    load-seen (node k l fs) = λ i. suc (own-load k l fs (seen_in names fs) i + own_allowance k + loads-in fs i)
+    load-seen (node k l fs) = λ i. suc (own-load k l fs (seen_in names fs) i + own_allowance k + own-parameter k fs i + loads-in fs i)
 
     loads-in : (fs : Fields) → fields_load (seen_in names fs) ≡ fields_load fs
     loads-in done = refl

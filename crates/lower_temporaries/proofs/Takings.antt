@@ -5,11 +5,12 @@ use Rattle.es_tree.specs.Fresh.{also}
 use Rattle.es_tree.specs.References.{is_symbol}
 use Rattle.es_tree.specs.Words.{Text}
 use Rattle.es_scope.specs.ContextSymbols.{called_of, free_symbol_of, steady_symbols_of}
-use Rattle.es_scope.specs.Contexts.{Binds, KeepsNames, KeptBeside, Refers, function_scoped, made_of, table_of, uses_of}
+use Rattle.es_scope.specs.Contexts.{Binds, KeepsNames, KeptBeside, MakesName, Refers, function_scoped, made_of, table_of, uses_of}
 use Rattle.es_scope.specs.Tables.{called, is_mutated, is_steady, symbol_count}
 use Rattle.es_scope.specs.declared.context.TraverseCtx.{TraverseCtx}
 use Rattle.es_scope.specs.declared.context_names.BoundIdentifier.{BoundIdentifier}
 use Rattle.es_scope.specs.declared.flags.ReferenceFlags.{ReferenceFlags}
+use Rattle.es_scope.specs.declared.flags.SymbolFlags.{SymbolFlags}
 use Rattle.es_scope.proofs.SymbolContexts.{SaysSame, called-bound, called-written, free-bound, free-written, steady-temporary, steady-written, symbols-read}
 use Rattle.es_resolution.specs.Declarations.{Bound}
 use Rattle.es_steps.specs.CoreBridge.{is_written_name}
@@ -23,7 +24,7 @@ use Rattle.es_traverse.specs.ContextMoments.{bound_names}
 use Rattle.lower_temporaries.specs.Declarators.{bound_as}
 use Rattle.lower_temporaries.specs.SeenTrees.{named}
 use Rattle.lower_temporaries.specs.Stacks.{with_top}
-use Rattle.lower_temporaries.specs.Takings.{ReadsMore, Takes, WritesOnce, moment_of, with_ids, writing}
+use Rattle.lower_temporaries.specs.Takings.{ReadsMore, Takes, TakesBound, WritesOnce, moment_of, with_ids, writing}
 use Rattle.lower_temporaries.specs.UidVars.{Declares, DeclaresVar}
 use Rattle.lower_temporaries.specs.declared.state.TransformState.{TransformState}
 use Rattle.lower_temporaries.proofs.Pairs.{with_no_names, with_vars_then}
@@ -151,17 +152,21 @@ or-assoc : (a b c : Bool) → (a || (b || c)) ≡ ((a || b) || c)
 or-assoc true b c = refl
 or-assoc false b c = refl
 
+-- A name that is made, bound in a scope and written is one more.
+module _ (old mid written : TraverseCtx TransformState) (b : BoundIdentifier) (scope : ℕ) (flags : SymbolFlags) where
+  whole-written : MakesName old mid (bound_as b).name → Binds (beside old mid) mid scope (bound_as b).name flags → b.symbol_id.0 ≡ symbol_count (table_of old) → Refers mid written (Some b.symbol_id.0) writing → whole_at (moment_of written) ≡ with_made (bound_as b ∷ []) (whole_at (moment_of old))
+  whole-written makes binds symbol r =
+      let x = (bound_as b).name in
+      let free : free_symbol_of written ≡ free_symbol_of old + 1 = free-written mid written (Some b.symbol_id.0) writing r ∙ free-bound (beside old mid) mid scope x flags binds in
+      let uses = λ (y : Text). ap (λ v. is_written_name y || v) (r.names.used y ∙ makes.used y) ∙ or-assoc (is_written_name y) (uses_of old y) (bytes_eq x y) in
+      let steady = steady-temporary (beside old mid) mid written scope x flags b.symbol_id.0 writing binds symbol r refl in
+      let names = λ (n : ℕ). called-written mid written (Some b.symbol_id.0) writing r n ∙ (called-bound (beside old mid) mid scope x flags binds n ∙ ap (λ m. if m == n then x else called_of old n) (sym symbol)) in
+      let made : bound_names (free_symbol_of written) (made_of written) ≡ bound_names (free_symbol_of old) (made_of old) ++ bound_as b ∷ [] =
+      (λ i. bound_names (free i) ((r.names.made_is ∙ makes.made_is) i)) ∙ (names-more (free_symbol_of old) (made_of old) x ∙ ap (λ m. bound_names (free_symbol_of old) (made_of old) ++ named x (Some m) ∷ []) (sym symbol)) in
+      λ i. record { in_use = λ y. uses y i; steady = λ n. steady n i; free_symbol = free i; called = λ n. names n i; made = made i }
+
 whole-taken : (old mid written : TraverseCtx TransformState) (b : BoundIdentifier) (ps : List Pending) → Declares old mid b ps → Refers mid written (Some b.symbol_id.0) writing → whole_at (moment_of written) ≡ with_made (bound_as b ∷ []) (whole_at (moment_of old))
-whole-taken old mid written b ps d r =
-    let x = (bound_as b).name in
-    let binds = declares-binds old mid b ps d in
-    let free : free_symbol_of written ≡ free_symbol_of old + 1 = free-written mid written (Some b.symbol_id.0) writing r ∙ free-bound (beside old mid) mid d.binds.scope x function_scoped binds in
-    let uses = λ (y : Text). ap (λ v. is_written_name y || v) (r.names.used y ∙ d.makes.used y) ∙ or-assoc (is_written_name y) (uses_of old y) (bytes_eq x y) in
-    let steady = steady-temporary (beside old mid) mid written d.binds.scope x function_scoped b.symbol_id.0 writing binds d.symbol r refl in
-    let names = λ (n : ℕ). called-written mid written (Some b.symbol_id.0) writing r n ∙ (called-bound (beside old mid) mid d.binds.scope x function_scoped binds n ∙ ap (λ m. if m == n then x else called_of old n) (sym d.symbol)) in
-    let made : bound_names (free_symbol_of written) (made_of written) ≡ bound_names (free_symbol_of old) (made_of old) ++ bound_as b ∷ [] =
-    (λ i. bound_names (free i) ((r.names.made_is ∙ d.makes.made_is) i)) ∙ (names-more (free_symbol_of old) (made_of old) x ∙ ap (λ m. bound_names (free_symbol_of old) (made_of old) ++ named x (Some m) ∷ []) (sym d.symbol)) in
-    λ i. record { in_use = λ y. uses y i; steady = λ n. steady n i; free_symbol = free i; called = λ n. names n i; made = made i }
+whole-taken old mid written b ps d r = whole-written old mid written b d.binds.scope function_scoped d.makes (declares-binds old mid b ps d) d.symbol r
 
 -- AS A CHANGE OF THE MOMENT
 
@@ -190,6 +195,18 @@ takes-one old mid new b d w =
       lists_are = ap (λ x. x.lists) m ∙ (ap (λ (s : TransformState). s.var_declarations) w.refers.kept.state ∙ d.pending_is);
       around_is = ap (λ x. x.around) m ∙ (w.refers.kept.around ∙ d.around);
       options_are = ap (λ x. x.options) m ∙ (w.refers.kept.options ∙ d.options);
+    }
+
+-- A name that was bound where it stands, and then written.
+pub takes-bound : (old mid new : TraverseCtx TransformState) (b : BoundIdentifier) (scope : ℕ) (flags : SymbolFlags) → MakesName old mid (bound_as b).name → Binds old mid scope (bound_as b).name flags → b.symbol_id.0 ≡ symbol_count (table_of old) → Refers mid new (Some b.symbol_id.0) writing → TakesBound (bound_as b) 1 (moment_of old) (moment_of new)
+takes-bound old mid new b scope flags makes binds symbol r =
+    let next : new.ast.next ≡ mid.ast.next + 1 = refers-next mid new (Some b.symbol_id.0) writing r in
+    record {
+      whole_is = whole-written old mid new b scope flags makes (record { table = binds.table; ast = refl; kept = record { state = refl; options = binds.kept.options; around = binds.kept.around; scopes = binds.kept.scopes; place = binds.kept.place } }) symbol r;
+      next_is = omega (arith, next, ap (λ a. a.next) binds.ast);
+      lists_are = ap (λ (s : TransformState). s.var_declarations) (r.kept.state ∙ binds.kept.state);
+      around_is = r.kept.around ∙ binds.kept.around;
+      options_are = r.kept.options ∙ binds.kept.options;
     }
 
 -- and then references that read

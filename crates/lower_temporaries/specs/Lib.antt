@@ -10,3 +10,5 @@ pub mod FurtherUses
 pub mod TemplateParts
 pub mod Parenthesized
 pub mod Replacings
+pub mod Shapes
+pub mod RowProfiles

@@ -1,14 +1,10 @@
 -- What a lowering leaves that replaced a node by a row, or made a step below it, and what it owes beside the row.
-use Rattle.std.specs.Prelude.{◌≡◌, ℕ, ◌+◌, ◌*◌, ◌≤◌, ◌&&◌, Bool, true, false, List, None, length}
-use Rattle.es_tree.specs.HasForm.{has_form}
+use Rattle.std.specs.Prelude.{◌≡◌, ℕ, ◌+◌, ◌*◌, ◌≤◌, false, List, None, length}
 use Rattle.es_tree.specs.Tree.{Tree, tree_size}
-use Rattle.es_tree.specs.declared.table.Sort.{Sort}
 use Rattle.es_resolution.specs.Declarations.{Bound}
 use Rattle.es_steps.specs.Open.{Pending, no_additions, opened, with_vars}
 use Rattle.es_steps.specs.Rules.{with_made}
-use Rattle.es_steps.specs.Slots.{in_open_slot}
 use Rattle.es_steps.specs.Steps.{Ledger, ledger, Site, Spot, Step, Whole}
-use Rattle.es_steps.specs.WrapRule.{takes_one}
 use Rattle.es_visit.specs.declared.hook.Hook.TheVariants.{Expression}
 use Rattle.es_changes.specs.Fits.{Fits}
 use Rattle.es_changes.specs.Moments.{Moment, ledger_with, whole_at}
@@ -38,11 +34,6 @@ pub record StepsTo (known : Site → Tree → Type 0) (R : Site → Ledger → S
   pub step : (n : Site) → Fits a n t → known n t → (p : Pending) → Step R n (ledger_with p a) (opened t) (ledger_taking made p a) (opened u)
   pub nodes : tree_size u + 2 * length made ≤ tree_size t + ids
   pub lighter : ids + 4 * length made + load u ≤ load t
-
--- Where a node is known by the first test, a row acts in no open slot with a temporary, and what it leaves is known by the second.
-pub record KeepsKnown (before after : Site → Tree → Bool) (R : Site → Whole → List Bound → Tree → Tree → Type 0) : Type 0 where
-  pub outside : (n : Site) (w : Whole) (bs : List Bound) (s : Sort) (t u : Tree) → has_form s t ≡ true → before n t ≡ true → R n w bs t u → (takes_one bs && in_open_slot n.above) ≡ false
-  pub known : (n : Site) (w : Whole) (bs : List Bound) (s : Sort) (t u : Tree) → has_form s t ≡ true → before n t ≡ true → R n w bs t u → after n u ≡ true
 
 -- what a lowering puts in the place of an expression
 pub record IsPut (p : Profile) (t u : Tree) : Type 0 where

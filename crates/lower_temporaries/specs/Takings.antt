@@ -1,5 +1,5 @@
 -- What is between two moments where a node was lowered, and what a call adds for it.
-use Rattle.std.specs.Prelude.{◌≡◌, ℕ, ◌+◌, List, Some, true, false}
+use Rattle.std.specs.Prelude.{◌≡◌, ℕ, ◌+◌, List, [], ◌∷◌, Some, true, false}
 use Rattle.es_scope.specs.Contexts.{KeptBeside, Refers, table_of}
 use Rattle.es_scope.specs.Tables.{symbol_count}
 use Rattle.es_scope.specs.declared.context.TraverseCtx.{TraverseCtx}
@@ -26,6 +26,14 @@ pub record Takes (bs : List Bound) (ids : ℕ) (a b : Moment) : Type 0 where
   pub whole_is : whole_at b ≡ with_made bs (whole_at a)
   pub next_is : b.next ≡ a.next + ids
   pub lists_are : b.lists ≡ with_top (with_vars bs) a.lists
+  pub around_is : b.around ≡ a.around
+  pub options_are : b.options ≡ a.options
+
+-- This name more, with the next symbol, and so many ids: it is declared where it stands, and all else is as before.
+pub record TakesBound (name : Bound) (ids : ℕ) (a b : Moment) : Type 0 where
+  pub whole_is : whole_at b ≡ with_made (name ∷ []) (whole_at a)
+  pub next_is : b.next ≡ a.next + ids
+  pub lists_are : b.lists ≡ a.lists
   pub around_is : b.around ≡ a.around
   pub options_are : b.options ≡ a.options
 

@@ -8,6 +8,7 @@ pub mod made_nodes;
 pub mod parens;
 pub mod readings;
 pub mod references;
+pub mod shapes;
 pub mod state;
 pub mod temporaries;
 pub mod uid_vars;

@@ -1,22 +1,25 @@
-//! Temporaries that the caller assigns, and names that are read or written once more.
+//! Temporaries that the caller assigns, parameters, and names that are read or written once more.
 //!
 //! A call answers an error only for want of memory, and the context is then of no more use.
 ghost use Rattle.std.specs.Prelude.{◌≡◌, ◌+◌, ◌-◌, ◌^◌, ◌<◌, ◌≤◌, IfOk, OnOk, false, length, true};
-ghost use Rattle.es_tree.specs.Fresh.{node_base};
+ghost use Rattle.es_tree.specs.Fresh.{node_base, text_base};
 ghost use Rattle.es_tree.specs.Heads.{symbol as symbol_number};
 ghost use Rattle.es_scope.specs.ContextSymbols.{steady_symbols_of};
+ghost use Rattle.es_scope.specs.Contexts.{table_of};
+ghost use Rattle.es_scope.specs.Tables.{scope_count};
 ghost use Rattle.es_steps.specs.Duplication.{is_among_symbols};
 ghost use Rattle.es_steps.specs.Nodes.{identifier};
 ghost use Rattle.lower_temporaries.specs.SeenTrees.{IsSeenAs, named};
 ghost use Rattle.lower_temporaries.specs.Takings.{ReadsMore};
-ghost use Rattle.lower_temporaries.specs.Temporaries.{TakesTemporary};
+ghost use Rattle.lower_temporaries.specs.Temporaries.{TakesParameter, TakesTemporary};
 
 use crate::declarations::{MADE, VarDeclarationsStore};
 use crate::readings::{READS, WRITES, new_name};
 use crate::state::TransformState;
 use es_scope::context::TraverseCtx;
 use es_scope::context_names::BoundIdentifier;
-use es_tree::ids::SymbolId;
+use es_scope::flags::SymbolFlags;
+use es_tree::ids::{ScopeId, SymbolId};
 use es_tree::node::Node;
 use es_tree::sorts::Expression;
 use std::alloc::AllocError;
@@ -50,6 +53,23 @@ pub fn new_temporary(
         symbol_id,
         target,
     })
+}
+
+/// A fresh name of the base that this text gives, as a parameter: it is bound in this scope, where its node is to stand
+/// as a binding. What stands there gives it its value, so it counts as written.
+pub fn new_parameter(
+    base: &str,
+    scope: ScopeId,
+    flags: SymbolFlags,
+    ctx: &mut TraverseCtx<TransformState>,
+) -> Result<Node, AllocError>
+    requires scope { scope.0 < scope_count (table_of ctx.old) }
+    requires room { ctx.old.ast.next < 2 ^ 32 - 1 }
+    ensures taken { IfOk result (λ node. TakesParameter (text_base base.now) ctx.old ctx.new node) }
+{
+    let BoundIdentifier { name, symbol_id } = ctx.generate_uid(base, scope, flags)?;
+    let node = ctx.create_bound_ident_expr(MADE, name.as_str(), symbol_id, WRITES)?;
+    Ok(node)
 }
 
 /// A name of this symbol, or of none, once more, as it is read.

@@ -20,7 +20,7 @@ use Rattle.es_steps.specs.Steps.Step.{inside}
 use Rattle.es_steps.specs.Steps.Steps.{goes, stays}
 use Rattle.es_steps.specs.WrapRule.{WrapRule}
 use Rattle.es_visit.specs.Counts.{all_hooks, hooks_in, hooks_in_trees}
-use Rattle.es_visit.specs.Laws.{KeepsAllIds, KeepsIds}
+use Rattle.es_visit.specs.Calls.{KeepsAllIds, KeepsIds}
 use Rattle.es_changes.specs.Changes.{Each, Kept, ListStepped, pending_size, pending_weight}
 use Rattle.es_changes.specs.Moments.{Moment, ledger_with, top, with_pair}
 use Rattle.es_traverse.specs.Laws.{EnteredList, EnteredParameters, Exited, ExitedBody, ExitedList, ExitedParameters, ExitedProgram, KeptTree, KeptTrees, Seen, SeenAmong, anything, is_construct, is_outermost, opens_body, opens_list}

@@ -29,7 +29,7 @@ ghost use Rattle.std.specs.Prelude.{◌≡◌, ◌+◌, ◌-◌, ◌<◌, ◌^�
 ghost use Rattle.es_tree.specs.Tree.{trees};
 ghost use Rattle.es_scope.specs.Contexts.{around_of};
 ghost use Rattle.es_steps.specs.Open.{is_statement_body, no_additions, whole_list, written_body};
-ghost use Rattle.es_visit.specs.Laws.{KeepsAllIds, KeepsIds};
+ghost use Rattle.es_visit.specs.Calls.{KeepsAllIds, KeepsIds};
 ghost use Rattle.es_changes.specs.Moments.{top};
 ghost use Rattle.es_traverse.specs.Laws.{Seen, SeenAmong, is_outermost};
 ghost use Rattle.lower_temporaries.specs.Declarators.{declarations_written};

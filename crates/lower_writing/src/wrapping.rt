@@ -1,8 +1,5 @@
 //! An expression as the call of an arrow, which has a list of its own: `e` becomes `(() => e)()`.
-ghost use Rattle.std.specs.Prelude.{◌≡◌, ◌+◌, ◌-◌, ◌<◌, ◌^◌, ℕ, IfOk, OnOk, Option};
-ghost use Rattle.es_tree.specs.Words.{Text};
-ghost use Rattle.es_resolution.specs.Seen.{seen};
-ghost use Rattle.es_steps.specs.WrapRule.{called_arrow};
+ghost use Rattle.std.specs.Prelude.{◌+◌, ◌-◌, ◌<◌, ◌^◌, IfOk, OnOk};
 ghost use Rattle.lower_temporaries.specs.Takings.{ReadsMore};
 ghost use Rattle.lower_writing.specs.Wrapping.{IsCallOf};
 

@@ -1,25 +1,23 @@
--- What a visit counts on: a program that was read opens as one, and has room for ids; the conditions of a type that asks for
--- nothing hold.
-use Rattle.std.proofs.Common.{◌≡◌, ◌<◌, ◌^◌, ◌∷◌, [], ℕ, Bool, zero, suc, refl, sym, subst, ap, arith, length}
+-- What a visit counts on: a program that was read opens as one, and has room for ids.
+use Rattle.std.proofs.Common.{◌≡◌, ◌<◌, ◌^◌, ◌∷◌, [], List, refl, sym, subst, ap, arith, length, true≢false}
 use Rattle.std.proofs.lemmas.Bool.{and_parts}
 use Rattle.std.specs.Prelude.{true, false, ◌&&◌}
 use Rattle.es_tree.specs.Arity.{Fits, list, statement_list}
 use Rattle.es_tree.specs.Attributes.{child_entries}
 use Rattle.es_tree.specs.HasForm.{elements_form, elements_of, fields_form, has_form, is_of_sort, match_option, trees_form}
-use Rattle.es_tree.specs.Tree.{Tree, node, Label, Fields, done, ◌then◌, Field, missing, one, many, statements, Trees, empty, ◌before◌, tree_size}
+use Rattle.es_tree.specs.Tree.{Tree, node, Label, Fields, done, ◌then◌, missing, one, many, statements, tree_size}
 use Rattle.es_tree.specs.declared.ast_type.AstType.{AstType}
 use Rattle.es_tree.specs.declared.ast_type.AstType.TheVariants.{Program}
 use Rattle.es_tree.specs.declared.table.Sort.TheVariants.{Directive as s-Directive, Program as s-Program, Statement as s-Statement}
 use Rattle.es_tree.proofs.NodeForm.{node_form}
 use Rattle.es_statements.specs.ProgramArity.{IsProgram}
-use Rattle.es_steps.specs.Open.{is_statement_body, nothing_pending}
-use Rattle.es_steps.specs.Steps.{Site}
-use Rattle.es_changes.specs.Changes.{AsBody, Each, EachBy, EachIn, HasRoom, lists_weight}
-use Rattle.es_changes.specs.Conditions.{holds_before}
+use Rattle.es_steps.specs.Open.{Pending, nothing_pending}
+use Rattle.es_changes.specs.Changes.{HasRoom, lists_weight}
 use Rattle.es_changes.specs.Moments.{Moment}
 use Rattle.es_traverse.specs.Laws.{CanVisit}
 use Rattle.es_traverse.specs.Loads.{load}
 use Rattle.es_traverse.proofs.LoadParts.{load-size}
+use Rattle.es_traverse.proofs.NothingAsked.{nothing-asked-sound}
 use Rattle.traverse_tests.specs.Quiet.{quiet}
 
 abbrev ChildrenForm : AstType → Label → Fields → Type 0
@@ -53,29 +51,7 @@ some_pair a lists = subst (λ ps. 0 < length ps) (sym lists) (omega arith)
 pub room : (p q : Tree) (a : Moment) → q ≡ p → a.lists ≡ nothing_pending ∷ [] → a.next ≡ tree_size p → tree_size p < 2 ^ 20 → HasRoom a (load q)
 room p q a same lists next small = let light : lists_weight a.lists ≡ 0 = ap lists_weight lists in let w = load-size p in let e = ap load same in omega (arith, light, w, e, next, small)
 
--- CONDITIONS
+-- THE TYPE, which keeps the pairs and asks nothing of nodes
 
-abbrev Held : Site → Tree → Type 0
-Held = holds_before quiet.conditions
-
-each : (n : Site) (ts : Trees) → Each Held n ts
-each n empty = tt
-each n (t before ts) = (refl, each n ts)
-
-as_body : (n : Site) (b : Bool) (t : Tree) → AsBody Held n b t
-as_body n true t = refl
-as_body n false t = refl
-
-each_by : (n : Site) (b : Bool) (f : Field) → EachBy Held n b f
-each_by n b missing = tt
-each_by n true (one t) = as_body n (is_statement_body t) t
-each_by n false (one t) = refl
-each_by n b (many ts) = each n ts
-each_by n b (statements ts) = each n ts
-
-each_in : (sites : ℕ → Site) (bodies : ℕ → Bool) (fs : Fields) → EachIn Held sites bodies fs
-each_in sites bodies done = tt
-each_in sites bodies (f then fs) = (each_by (sites zero) (bodies zero) f, each_in (λ i. sites (suc i)) (λ i. bodies (suc i)) fs)
-
-pub can : CanVisit true quiet
-can = record { pairs = refl; sound = record { stronger = λ n t h. h; alike = λ n s k l fs form brings slot h. h; inward = λ n s k l fs form h. each_in _ _ fs }; counts = λ n t. refl; leaves = λ n t. refl }
+pub can : {S : Type 0} (pending : S → List Pending) → CanVisit pending true quiet
+can pending = record { pairs = λ s e. absurd (true≢false e); sound = nothing-asked-sound; counts = λ n t. refl; leaves = λ n t. refl }

@@ -4,6 +4,7 @@ use Rattle.std.proofs.Common.{sym, true≢false}
 use Rattle.es_steps.specs.Steps.{Ledger, Site, Spot}
 use Rattle.es_changes.specs.Rules.{IsLawfulRule}
 use Rattle.es_traverse.specs.Laws.{IsLawful, Profile}
+use Rattle.es_traverse.specs.NothingAsked.{nothing_asked}
 
 -- the rule that never acts
 abbrev pub never : Site → Ledger → Spot → Ledger → Spot → Type 0
@@ -41,7 +42,7 @@ never_lawful = record {
 abbrev pub quiet : Profile
 quiet = record {
   rule = never;
-  conditions = record { before = λ n t. true; after = λ n t. true };
+  conditions = nothing_asked;
   counts = λ n t. true;
   leaves = λ n t. true;
   constructs = λ h k l fs. false;

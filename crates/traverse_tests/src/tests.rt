@@ -118,7 +118,7 @@ fn visit_by<T: Traverse<S>, S: Additions, L: Ledger>(
     requires name { blank.name ≡ L.name }
     requires parts { blank.parts ≡ L.parts }
     requires some { 0 < blank.parts }
-    requires can { CanVisit T.keeps (T.profile ctx.old.options) }
+    requires can { CanVisit S.pending T.keeps (T.profile ctx.old.options) }
     requires ready { IsReady T.suits t.old (moment S.pending ctx.old) (load (plain_program program.old)) }
     requires top { around_of ctx.old ≡ [] }
 {

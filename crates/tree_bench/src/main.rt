@@ -3,7 +3,8 @@
 //!
 //! Words: `values N` reads the JSON text of a script of N statements by serde_json and writes it again,
 //! `trees N` reads it as a tree and writes that, and `walks N` reads it, copies it, counts it and checks its
-//! rules. Each prints the nodes that it counted and the bytes that it wrote.
+//! rules. With `-` in place of N the text is that of standard input. Each prints the nodes that it counted and the
+//! bytes that it wrote.
 #![tactic(auto)]
 
 use es_json::program::read_program;
@@ -91,17 +92,29 @@ fn read_words(rt: &(impl Env + AllocGlobal)) -> io::Result<Vec<String>> {
     Ok(words)
 }
 
+/// The text for a job: that of standard input where the word is `-`, else a script of so many statements, and none where
+/// the word is no number.
+fn given_text(rt: &HostRuntime, word: &str) -> io::Result<Option<String>> {
+    if word == "-" {
+        let text = io::read_to_string(rt.alloc(), rt.stdin())?;
+        return Ok(Some(text));
+    }
+    let Ok(count) = word.parse::<u32>() else {
+        return Ok(None);
+    };
+    let text = script(rt.alloc(), count)?;
+    Ok(Some(text))
+}
+
 fn run(rt: &HostRuntime) -> io::Result<ExitCode> {
-    let alloc = rt.alloc();
     let words = read_words(rt)?;
-    let [name, count] = words.as_slice() else {
+    let [name, word] = words.as_slice() else {
         return Ok(ExitCode::from(2));
     };
-    let Ok(count) = count.parse::<u32>() else {
+    let Some(text) = given_text(rt, word.as_str())? else {
         return Ok(ExitCode::from(2));
     };
-    let text = script(alloc, count)?;
-    match job(alloc, name.as_str(), text.as_str()) {
+    match job(rt.alloc(), name.as_str(), text.as_str()) {
         Ok(Some(done)) => {
             println!(rt; "{} nodes {} bytes {}", name, done.nodes, done.bytes)?;
             Ok(ExitCode::SUCCESS)

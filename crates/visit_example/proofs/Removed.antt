@@ -1,47 +1,70 @@
--- One step for one node.
-use Rattle.std.proofs.Common.{◌≡◌, inl, inr, refl, sym, subst, true, false, not, Bool, arith}
-use Rattle.es_tree.specs.Bare.{bare}
-use Rattle.es_tree.specs.declared.ast_type.AstType.TheVariants.{DebuggerStatement, EmptyStatement}
-use Rattle.es_tree.specs.Tree.{Tree, node, kind_of, label_of, fields_of}
-use Rattle.es_runs.specs.OpenSteps.{acts, goes, stays}
-use Rattle.es_visit.specs.declared.hook.Hook.TheVariants.{Statement}
-use Rattle.es_visit.specs.Laws.{Entered}
-use Rattle.es_visit.specs.Moments.{Moment}
-use Rattle.es_visit.proofs.Changes.{changed_none, kept_none}
-use Rattle.visit_example.specs.Removals.{removal, removes, is_debugger, as_empty}
+-- Before a statement: one step for a `debugger;`, and none for another.
+use Rattle.std.proofs.Common.{◌≡◌, ◌∙◌, ℕ, Option, [], true, true≢false, refl, sym, ap, subst, inl, inr}
+use Rattle.es_tree.specs.HasForm.{fields_form, has_form}
+use Rattle.es_tree.specs.Tree.{Tree, node, Label, Fields, done, ◌then◌}
+use Rattle.es_tree.specs.Words.{Text}
+use Rattle.es_tree.specs.declared.ast_type.AstType.TheVariants.{DebuggerStatement}
+use Rattle.es_tree.specs.declared.table.Sort.{Sort}
+use Rattle.es_tree.proofs.NodeForm.{node_form}
+use Rattle.es_resolution.specs.Seen.{seen}
+use Rattle.es_steps.specs.Open.{opened}
+use Rattle.es_steps.specs.Steps.{Site, Step, Steps}
+use Rattle.es_steps.specs.Steps.Step.{acts}
+use Rattle.es_steps.specs.Steps.Steps.{goes, stays}
+use Rattle.es_visit.specs.declared.hook.Hook.{Hook}
+use Rattle.es_visit.specs.declared.hook.Hook.TheVariants.{Expression, Statement}
+use Rattle.es_changes.specs.Fits.{Fits}
+use Rattle.es_changes.specs.Moments.{Moment, ledger_at}
+use Rattle.es_traverse.specs.Laws.{EnteredAs}
+use Rattle.es_traverse.specs.declared.site.Site.{Site as CodeSite}
+use Rattle.visit_example.specs.Removals.{Removing, removal, without_debugger}
+use Rattle.visit_example.specs.Removals.Removing.{removes}
 
-pub entered_removed : (a : Moment) (t : Tree) → is_debugger (kind_of t) (label_of t) (fields_of t) ≡ true → Entered removal Statement a t a (as_empty t)
-entered_removed a (node DebuggerStatement l fs) e = record {
-  changed = record {
-    kept = kept_none a;
-    steps = λ n fits. goes (acts (node DebuggerStatement l fs) (node EmptyStatement l fs) removes) stays;
-    lighter = omega arith;
-    nodes = omega arith;
-  };
-  sort = λ h s. inl s;
-  cleared = refl;
+-- a `debugger;` of a program has no fields
+no-fields : (a : Sort) (l : Label) (fs : Fields) → has_form a (node DebuggerStatement l fs) ≡ true → fs ≡ done
+no-fields a l fs h = at fs (node_form a DebuggerStatement l fs h).children
+  where
+    at : (fs : Fields) → fields_form DebuggerStatement l [] fs ≡ true → fs ≡ done
+    at done e = refl
+    at (f then fs) e = absurd (true≢false (sym e))
+
+removed : (a : Moment) (n : Site) (t : Tree) → Fits a n t → Steps (Step Removing n) (ledger_at a) (opened t) (ledger_at a) (opened (without_debugger t))
+removed a n (node DebuggerStatement l fs) fit =
+    let none = no-fields fit.sort l fs fit.formed in
+    subst (λ gs. Steps (Step Removing n) (ledger_at a) (opened (node DebuggerStatement l gs)) (ledger_at a) (opened (without_debugger (node DebuggerStatement l gs)))) (sym none)
+    (goes (acts (node DebuggerStatement l done) (without_debugger (node DebuggerStatement l done)) removes) stays)
+removed a n (node _ l fs) fit = stays
+
+entered-removed : (c : CodeSite) (a : Moment) (t : Tree) → EnteredAs removal Statement c a t a (without_debugger t)
+entered-removed c a (node DebuggerStatement l fs) = record {
+  stepped = λ n tells fit known. removed a n (node DebuggerStatement l fs) fit;
+  left = λ n tells fit known. refl;
+  cleared = λ n tells fit known. refl;
+  sort = λ h e. inl e;
+  body = refl;
   order = inr refl;
 }
-entered_removed a (node _ l fs) e = absurd (cc e)
+entered-removed c a (node _ l fs) = record {
+  stepped = λ n tells fit known. stays;
+  left = λ n tells fit known. refl;
+  cleared = λ n tells fit known. refl;
+  sort = λ h e. inl e;
+  body = refl;
+  order = inl refl;
+}
 
-pub entered_kept : (a : Moment) (t : Tree) → is_debugger (kind_of t) (label_of t) (fields_of t) ≡ false → Entered removal Statement a t a t
-entered_kept a t e = record { changed = changed_none a _; sort = λ h s. inl s; cleared = e; order = inl refl }
+-- WHAT IS SEEN
 
-pub bare_test : (t : Tree) → is_debugger (kind_of (bare t)) (label_of (bare t)) (fields_of (bare t)) ≡ is_debugger (kind_of t) (label_of t) (fields_of t)
-bare_test (node DebuggerStatement l fs) = refl
-bare_test (node _ l fs) = refl
+seen-without : (names : ℕ → Text → Option ℕ) (t : Tree) → seen names (without_debugger t) ≡ without_debugger (seen names t)
+seen-without names (node DebuggerStatement l fs) = refl
+seen-without names (node _ l fs) = refl
 
-pub false_of : (b : Bool) → not b ≡ true → b ≡ false
-false_of true h = absurd (cc h)
-false_of false h = refl
+pub entered-statement : (h : Hook) → h ≡ Statement → (c : CodeSite) (a : Moment) (t u : Tree) (names : ℕ → Text → Option ℕ) → u ≡ without_debugger t → EnteredAs removal h c a (seen names t) a (seen names u)
+entered-statement h is c a t u names e =
+    subst (λ i. EnteredAs removal i c a (seen names t) a (seen names u)) (sym is)
+    (subst (λ v. EnteredAs removal Statement c a (seen names t) a v) (sym (ap (seen names) e ∙ seen-without names t)) (entered-removed c a (seen names t)))
 
-pub true_of : (b : Bool) → not b ≡ false → b ≡ true
-true_of true h = refl
-true_of false h = absurd (cc h)
-
--- what is said of the node that was taken out is said of the node before
-pub emptied_at : {t u : Tree} (r : Tree) → u ≡ t → (is_debugger (kind_of u) (label_of u) (fields_of u) ≡ true → bare r ≡ as_empty (bare u)) → is_debugger (kind_of t) (label_of t) (fields_of t) ≡ true → bare r ≡ as_empty (bare t)
-emptied_at r e h = subst (λ v. is_debugger (kind_of v) (label_of v) (fields_of v) ≡ true → bare r ≡ as_empty (bare v)) e h
-
-pub entered_as : (a : Moment) (t u : Tree) → is_debugger (kind_of t) (label_of t) (fields_of t) ≡ true → u ≡ as_empty t → Entered removal Statement a t a u
-entered_as a t u e same = subst (λ v. Entered removal Statement a t a v) (sym same) (entered_removed a t e)
+pub entered-other : (h : Hook) → (h ≡ Statement → ⊥) → (c : CodeSite) (a : Moment) (t : Tree) → EnteredAs removal h c a t a t
+entered-other Statement other c a t = absurd (other refl)
+entered-other Expression other c a t = record { stepped = λ n l f k. stays; left = λ n l f k. k; cleared = λ n l f k. refl; sort = λ h e. inl e; body = refl; order = inl refl }
+entered-other _ other c a t = record { stepped = λ n l f k. stays; left = λ n l f k. k; cleared = λ n l f k. refl; body = refl; order = inl refl }

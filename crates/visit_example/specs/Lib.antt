@@ -1,4 +1,3 @@
 pub mod Removals
-pub mod OpenLists
-pub mod Apart
-pub mod Pendings
+pub mod Lawful
+pub mod Moments

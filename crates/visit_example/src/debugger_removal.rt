@@ -1,58 +1,31 @@
 //! `debugger;` becomes `;` (ECMA-262, 14.16 and 14.4): `a; debugger; b;` becomes `a; ; b;`. The node keeps its id and its
 //! span.
-ghost use Rattle.std.specs.Prelude.{◌≡◌, false, true};
-ghost use Rattle.es_tree.specs.Bare.{bare};
-ghost use Rattle.es_tree.specs.Tree.{fields_of, kind_of, label_of};
-ghost use Rattle.visit_example.specs.Removals.{as_empty, is_debugger, removal, removal_lawful};
+ghost use Rattle.std.specs.Prelude.{◌≡◌, false};
+ghost use Rattle.visit_example.specs.Lawful.{removal_lawful};
+ghost use Rattle.visit_example.specs.Removals.{removal, without_debugger};
 
 use es_scope::context::TraverseCtx;
-use es_tree::error::LowerError;
-use es_tree::ids::{NodeId, Span};
+use es_statements::program::Program;
+use es_traverse::lowering::{Additions, Lowering};
+use es_traverse::site::Site;
+use es_traverse::traverse::Traverse;
 use es_tree::kind::Kind;
-use es_tree::node::{Node, Parts};
-use es_tree::sorts::Statement;
+use es_tree::node::Node;
+use es_tree::sorts::{ArrowFunctionBody, BindingPattern, Statement};
 use es_visit::hook::Hook;
-use es_visit::lowering::{Additions, Lowering};
-use es_visit::traverse::Traverse;
-use std::alloc::Global;
-use std::mem;
+use std::alloc::AllocError;
 
-/// Whether the node is a `debugger;`.
-fn is_debugger(node: &Node) -> bool
-    ensures { result ≡ is_debugger (kind_of node.now) (label_of node.now) (fields_of node.now) }
+/// Makes a `debugger;` a `;`, and leaves other statements.
+fn remove_debugger(statement: &mut Statement)
+    ensures { statement.new ≡ without_debugger statement.old }
 {
-    matches!(node.kind, Kind::DebuggerStatement)
-}
-
-/// The node as a `;`.
-fn emptied(node: Node) -> Node
-    ensures { is_debugger (kind_of node) (label_of node) (fields_of node) ≡ true → bare result ≡ as_empty (bare node) }
-{
-    let Parts {
-        id,
-        span,
-        kind: _kind,
-        fields,
-    } = node.into_parts();
-    Node {
-        id,
-        span,
-        kind: Kind::EmptyStatement,
-        fields,
+    match statement.kind {
+        Kind::DebuggerStatement => statement.kind = Kind::EmptyStatement,
+        _ => {}
     }
 }
 
-/// What stands for a moment in the place of a node.
-fn placeholder(alloc: Global) -> Node {
-    Node {
-        id: NodeId(0),
-        span: Span { start: 0, end: 0 },
-        kind: Kind::EmptyStatement,
-        fields: Vec::new(alloc),
-    }
-}
-
-/// The lowering.
+/// The lowering: it acts before statements alone, keeps no pairs, and counts no hooks.
 #[derive(Drop)]
 pub struct DebuggerRemoval {}
 
@@ -66,27 +39,93 @@ impl Lowering for DebuggerRemoval {
     ghost tally = { λ x h j. 0 };
 
     ghost entries = { λ x h. 0 };
-
-    fn keeps_pairs(&self) -> bool {
-        false
-    }
-
-    fn acts(&self, hook: Hook) -> bool {
-        matches!(hook, Hook::Statement)
-    }
 }
 
 impl<S: Additions> Traverse<S> for DebuggerRemoval {
-    fn enter_statement(
+    fn enter_program(
         &mut self,
-        node: &mut Statement,
-        ctx: &mut TraverseCtx<S>,
-    ) -> Result<(), LowerError> {
-        if !is_debugger(node) {
-            return Ok(());
+        _program: &Program,
+        _ctx: &mut TraverseCtx<S>,
+    ) -> Result<(), AllocError> {
+        Ok(())
+    }
+
+    fn exit_program(
+        &mut self,
+        _program: &mut Program,
+        _ctx: &mut TraverseCtx<S>,
+    ) -> Result<(), AllocError> {
+        Ok(())
+    }
+
+    fn enter_statements(
+        &mut self,
+        _statements: &mut Vec<Statement>,
+        _ctx: &mut TraverseCtx<S>,
+    ) -> Result<(), AllocError> {
+        Ok(())
+    }
+
+    fn exit_statements(
+        &mut self,
+        _statements: &mut Vec<Statement>,
+        _ctx: &mut TraverseCtx<S>,
+    ) -> Result<(), AllocError> {
+        Ok(())
+    }
+
+    fn enter_formal_parameters(
+        &mut self,
+        _parameters: &mut Vec<BindingPattern>,
+        _ctx: &mut TraverseCtx<S>,
+    ) -> Result<(), AllocError> {
+        Ok(())
+    }
+
+    fn exit_formal_parameters(
+        &mut self,
+        _parameters: &mut Vec<BindingPattern>,
+        _ctx: &mut TraverseCtx<S>,
+    ) -> Result<(), AllocError> {
+        Ok(())
+    }
+
+    fn enter_arrow_function_body(
+        &mut self,
+        _body: &ArrowFunctionBody,
+        _ctx: &mut TraverseCtx<S>,
+    ) -> Result<(), AllocError> {
+        Ok(())
+    }
+
+    fn exit_arrow_function_body(
+        &mut self,
+        _body: &mut ArrowFunctionBody,
+        _ctx: &mut TraverseCtx<S>,
+    ) -> Result<(), AllocError> {
+        Ok(())
+    }
+
+    fn enter_node(
+        &mut self,
+        hook: Hook,
+        _site: Site,
+        node: &mut Node,
+        _ctx: &mut TraverseCtx<S>,
+    ) -> Result<(), AllocError> {
+        match hook {
+            Hook::Statement => remove_debugger(node),
+            _ => {}
         }
-        let removed = mem::replace(node, placeholder(ctx.ast.alloc));
-        *node = emptied(removed);
+        Ok(())
+    }
+
+    fn exit_node(
+        &mut self,
+        _hook: Hook,
+        _node: &mut Node,
+        _ctx: &mut TraverseCtx<S>,
+    ) -> Result<(), AllocError> {
         Ok(())
     }
 

@@ -2,5 +2,4 @@
 #![tactic(auto)]
 
 pub mod debugger_removal;
-pub mod open_lists;
 pub mod removal;

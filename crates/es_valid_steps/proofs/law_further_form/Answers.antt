@@ -1,4 +1,4 @@
-use Rattle.es_valid_steps.proofs.FurtherForms.{law_further_form_proof}
+use Rattle.es_valid_steps.proofs.FurtherSteps.{law_further_form_proof}
 use Rattle.es_valid_steps.proofs.law_further_form.Goals as goal
 
 pub returns : goal.returns

@@ -1,4 +1,4 @@
-use Rattle.es_valid_steps.proofs.FurtherRows.{law_further_places_proof}
+use Rattle.es_valid_steps.proofs.FurtherSteps.{law_further_places_proof}
 use Rattle.es_valid_steps.proofs.law_further_places.Goals as goal
 
 pub returns : goal.returns

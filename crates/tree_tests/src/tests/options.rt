@@ -72,7 +72,7 @@ fn ask_for_fault(options: &mut EnvOptions, number: usize) {
         6 => options.assumptions.pure_getters = true,
         7 => options.assumptions.object_rest_no_symbols = true,
         8 => options.assumptions.ignore_function_length = true,
-        _ => options.es2020.arbitrary_module_namespace_names = true,
+        _ => options.es2020.export_namespace_from = true,
     }
 }
 
@@ -100,13 +100,13 @@ fn the_first_fault_of_options_is_told(rt: HostRuntime) -> Result<(), Fail> {
     for (number, word) in LOWERINGS.iter().enumerate() {
         let mut options = no_options(alloc)?;
         ask(&mut options, word);
-        let fault = if number < 4 {
+        let fault = if number < 5 {
             None
         } else {
             Some(OptionName::NotBuilt)
         };
         assert_eq!(rt; options_fault(&options), fault, "{word}");
-        if number < 4 {
+        if number < 5 {
             ask(&mut together, word);
         }
     }

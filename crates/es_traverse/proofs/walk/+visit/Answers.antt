@@ -11,9 +11,8 @@ use Rattle.es_scope.specs.Contexts.{around_of}
 use Rattle.es_scope.specs.declared.ancestor.Ancestor.{Ancestor}
 use Rattle.es_resolution.specs.Seen.{seen, seen_among, seen_in, seen_marks}
 use Rattle.es_steps.specs.Open.{is_statement_body}
-use Rattle.es_visit.specs.Counts.{all_hooks, own_parameters, parameters_at, total}
-use Rattle.es_visit.proofs.Entering.{node_counted, counted_within}
-use Rattle.es_visit.proofs.Lists.{parameters_counted, statements_counted}
+use Rattle.es_visit.specs.Counts.{all_hooks, own_parameters, parameters_at, parameters_before, total}
+use Rattle.es_visit.proofs.Calls.{counted_within, node_counted, parameters_counted, statements_counted}
 use Rattle.es_visit.proofs.SoFar.{so_far_none, so_far_more}
 use Rattle.es_visit.proofs.Sums.{fields_total-sum, trees_total-sum, total_of, parameters-within}
 use Rattle.es_changes.specs.Changes.{Kept, heft}
@@ -21,7 +20,6 @@ use Rattle.es_changes.specs.Moments.{inside_of}
 use Rattle.es_traverse.specs.ContextMoments.{moment}
 use Rattle.es_traverse.specs.Laws.{CanVisit, IsReady, KeptVisited}
 use Rattle.es_traverse.specs.Loads.{allowance, field_load, fields_load, load, own_allowance, trees_load, writing}
-use Rattle.es_traverse.specs.Sites.{parameters_before}
 use Rattle.es_traverse.specs.Visits.{EnteredNode, VisitedAt, VisitedField, VisitedFields, opens_at}
 use Rattle.es_traverse.proofs.FieldVisits.{fields-seen-all, fields-seen-more, fields-seen-none, seen_field}
 use Rattle.es_traverse.proofs.Kept.{body-seen, kept-closed, kept-plus, kept-then, ready-then, ready-within, same-place}
@@ -54,7 +52,7 @@ visit_nodes-visit_node-requires g t c κs within =
     let none : allowance c.args.site ≡ 0 = c.requires.site in
     let ready : IsReady g.T.Lowering.suits c.loop-index.t (moment g.S.Additions.pending c.loop-index.ctx) (load c.index_mut.result.now + allowance c.args.site) =
     subst (λ x. IsReady g.T.Lowering.suits c.loop-index.t (moment g.S.Additions.pending c.loop-index.ctx) (load x + allowance c.args.site)) here (ready-tree (allowance c.args.site) c.args.t.now c.loop-index.t c.args.nodes.now.items c.loop-index.nodes.items c.loop-index.index c.index_mut.result.now none l c.loop-index.invariant.kept c.loop-index.invariant.so_far.calls.suits_still c.requires.ready) in
-    let can : CanVisit g.T.Lowering.keeps (g.T.Lowering.profile c.loop-index.ctx.options) = subst (λ o. CanVisit g.T.Lowering.keeps (g.T.Lowering.profile o)) (sym c.loop-index.invariant.kept.options) c.requires.can in
+    let can : CanVisit g.S.Additions.pending g.T.Lowering.keeps (g.T.Lowering.profile c.loop-index.ctx.options) = subst (λ o. CanVisit g.S.Additions.pending g.T.Lowering.keeps (g.T.Lowering.profile o)) (sym c.loop-index.invariant.kept.options) c.requires.can in
     let deep : 0 < length (around_of c.loop-index.ctx) = omega (arith, c.requires.deep, ap length c.loop-index.invariant.kept.around) in
     grind (arith, light, none, ready, deep, can)
 
@@ -114,7 +112,7 @@ visit_fields-visit_field-requires g t c κs within =
     (lighter-field x e c.args.parent.kind more c.args.fields.now.items c.loop-index.fields.items c.loop-index.index c.index_mut.result.now l room c.loop-index.invariant.kept) in
     let ready : IsReady g.T.Lowering.suits c.loop-index.t (moment g.S.Additions.pending c.enter_place.new.self) (field_load (plain_field c.index_mut.result.now) + more) =
     subst (λ y. IsReady g.T.Lowering.suits c.loop-index.t (moment g.S.Additions.pending c.enter_place.new.self) (plain_load y + more)) here (ready-field x e c.args.parent.kind more c.args.t.now c.loop-index.t c.args.fields.now.items c.loop-index.fields.items c.loop-index.index c.index_mut.result.now l room c.loop-index.invariant.kept c.loop-index.invariant.so_far.calls.suits_still c.requires.ready) in
-    let can : CanVisit g.T.Lowering.keeps (g.T.Lowering.profile c.enter_place.new.self.options) = subst (λ o. CanVisit g.T.Lowering.keeps (g.T.Lowering.profile o)) (sym (ap (λ y. y.options) e ∙ c.loop-index.invariant.kept.options)) c.requires.can in
+    let can : CanVisit g.S.Additions.pending g.T.Lowering.keeps (g.T.Lowering.profile c.enter_place.new.self.options) = subst (λ o. CanVisit g.S.Additions.pending g.T.Lowering.keeps (g.T.Lowering.profile o)) (sym (ap (λ y. y.options) e ∙ c.loop-index.invariant.kept.options)) c.requires.can in
     let deep : 1 < length (around_of c.enter_place.new.self) = omega (arith, c.requires.deep, ap length c.in_ok-enter_place.ensures.around, ap length c.loop-index.invariant.kept.around) in
     grind (arith, light, ready, deep, can)
 
@@ -169,7 +167,7 @@ pub visit_parameters-visit_nodes-requires : goal.visit_parameters-visit_nodes-re
 visit_parameters-visit_nodes-requires g t c κs within =
     let kept = c.in_ok-enter_formal_parameters.ensures.kept in
     let ready : IsReady g.T.Lowering.suits c.enter_formal_parameters.new.self (moment g.S.Additions.pending c.enter_formal_parameters.new.ctx) (trees_load (trees c.enter_formal_parameters.new.parameters.items)) = ready-then _ _ kept c.in_ok-enter_formal_parameters.ensures.goes.suits_still c.requires.ready in
-    let can : CanVisit g.T.Lowering.keeps (g.T.Lowering.profile c.enter_formal_parameters.new.ctx.options) = subst (λ o. CanVisit g.T.Lowering.keeps (g.T.Lowering.profile o)) (sym kept.options) c.requires.can in
+    let can : CanVisit g.S.Additions.pending g.T.Lowering.keeps (g.T.Lowering.profile c.enter_formal_parameters.new.ctx.options) = subst (λ o. CanVisit g.S.Additions.pending g.T.Lowering.keeps (g.T.Lowering.profile o)) (sym kept.options) c.requires.can in
     let deep : 0 < length (around_of c.enter_formal_parameters.new.ctx) = omega (arith, c.requires.deep, ap length kept.around) in
     grind (arith, kept.lighter, ready, deep, can)
 
@@ -197,7 +195,7 @@ pub visit_statements-visit_nodes-requires : goal.visit_statements-visit_nodes-re
 visit_statements-visit_nodes-requires g t c κs within =
     let inside = inside-list g.T.Lowering.keeps (moment g.S.Additions.pending c.args.ctx.now) c.in_ok-enter_statements.ensures.kept in
     let ready : IsReady g.T.Lowering.suits c.enter_statements.new.self (moment g.S.Additions.pending c.enter_statements.new.ctx) (trees_load (trees c.enter_statements.new.statements.items)) = ready-inside _ _ (trees_load (trees c.enter_statements.new.statements.items)) (omega arith) inside c.in_ok-enter_statements.ensures.goes.suits_still c.requires.ready in
-    let can : CanVisit g.T.Lowering.keeps (g.T.Lowering.profile c.enter_statements.new.ctx.options) = subst (λ o. CanVisit g.T.Lowering.keeps (g.T.Lowering.profile o)) (sym inside.options) c.requires.can in
+    let can : CanVisit g.S.Additions.pending g.T.Lowering.keeps (g.T.Lowering.profile c.enter_statements.new.ctx.options) = subst (λ o. CanVisit g.S.Additions.pending g.T.Lowering.keeps (g.T.Lowering.profile o)) (sym inside.options) c.requires.can in
     let deep : 0 < length (around_of c.enter_statements.new.ctx) = omega (arith, c.requires.deep, ap length inside.around) in
     grind (arith, inside.lighter, ready, deep, can)
 
@@ -210,11 +208,11 @@ visit_statements-exit_statements-requires g t c =
 
 pub visit_statements-returns-clause-kept : goal.visit_statements-returns-clause-kept
 visit_statements-returns-clause-kept g t c =
-    kept-list g.T.Lowering.keeps c.requires.can.pairs (moment g.S.Additions.pending c.args.ctx.now) (moment g.S.Additions.pending c.exit_statements.new.ctx) c.requires.deep c.in_ok-enter_statements.ensures.kept c.in_ok-visit_nodes.ensures.kept c.in_ok-exit_statements.ensures.kept
+    kept-list g.T.Lowering.keeps (moment g.S.Additions.pending c.args.ctx.now) (moment g.S.Additions.pending c.exit_statements.new.ctx) c.requires.deep c.in_ok-enter_statements.ensures.kept c.in_ok-visit_nodes.ensures.kept c.in_ok-exit_statements.ensures.kept
 
 pub visit_statements-returns-clause-visited : goal.visit_statements-returns-clause-visited
 visit_statements-returns-clause-visited g t c names =
-    visited-list g.T.Lowering.keeps c.requires.can.pairs (moment g.S.Additions.pending c.args.ctx.now) (moment g.S.Additions.pending c.exit_statements.new.ctx) c.requires.deep c.in_ok-enter_statements.ensures.kept c.in_ok-visit_nodes.ensures.kept c.in_ok-exit_statements.ensures.kept g.T.Lowering.profile _ _ _ _ (g.met.T.Traverse.lawful c.args.t.now c.args.ctx.now.options)
+    visited-list g.T.Lowering.keeps (moment g.S.Additions.pending c.args.ctx.now) (moment g.S.Additions.pending c.exit_statements.new.ctx) c.requires.deep c.in_ok-enter_statements.ensures.kept c.in_ok-visit_nodes.ensures.kept c.in_ok-exit_statements.ensures.kept (c.requires.can.pairs c.args.ctx.now.state) (c.requires.can.pairs c.exit_statements.new.ctx.state) g.T.Lowering.profile _ _ _ _ (g.met.T.Traverse.lawful c.args.t.now c.args.ctx.now.options)
     (c.in_ok-enter_statements.ensures.entered names) (c.in_ok-visit_nodes.ensures.visited names) (c.in_ok-exit_statements.ensures.exited names)
 
 pub visit_statements-returns-clause-calls : goal.visit_statements-returns-clause-calls
@@ -240,7 +238,7 @@ visit_node-visit_fields-requires g t c κs within =
     let more = fields_load fs + own_allowance c.parent_of-parent.result.kind in
     let lighter : heft (moment g.S.Additions.pending c.enter_node.new.ctx) + suc more ≤ heft start + (load c.args.node.now + allowance c.args.site) = omega (arith, inside.lighter, ap own_allowance kind) in
     let ready : IsReady g.T.Lowering.suits c.enter_node.new.t (moment g.S.Additions.pending c.enter_node.new.ctx) more = ready-inside _ _ more (omega (arith, ap own_allowance kind)) inside c.in_ok-enter_node.ensures.goes.suits_still c.requires.ready in
-    let can : CanVisit g.T.Lowering.keeps (g.T.Lowering.profile c.enter_node.new.ctx.options) = subst (λ o. CanVisit g.T.Lowering.keeps (g.T.Lowering.profile o)) (sym inside.options) c.requires.can in
+    let can : CanVisit g.S.Additions.pending g.T.Lowering.keeps (g.T.Lowering.profile c.enter_node.new.ctx.options) = subst (λ o. CanVisit g.S.Additions.pending g.T.Lowering.keeps (g.T.Lowering.profile o)) (sym inside.options) c.requires.can in
     let deep : 0 < length (around_of c.enter_node.new.ctx) = omega (arith, c.requires.deep, ap length inside.around) in
     grind (arith, lighter, ready, deep, can)
 
@@ -292,7 +290,7 @@ visit_node-returns-clause-visited g t c names =
     let m : Label = record l { id = 0; marks = seen_marks names k l fs } in
     let visited : VisitedFields (g.T.Lowering.profile c.enter_node.new.ctx.options) k m (moment g.S.Additions.pending c.enter_node.new.ctx) (seen_in names fs) (moment g.S.Additions.pending c.visit_fields.new.ctx) (seen_in names gs) =
     subst (λ q. VisitedFields (g.T.Lowering.profile c.enter_node.new.ctx.options) q m (moment g.S.Additions.pending c.enter_node.new.ctx) (seen_in names fs) (moment g.S.Additions.pending c.visit_fields.new.ctx) (seen_in names gs)) kind (c.in_ok-visit_fields.ensures.visited names m computed) in
-    visited-whole g.T.Lowering.profile g.T.Lowering.keeps c.args.site start (moment g.S.Additions.pending c.exit_node.new.ctx) c.args.node.now k l fs gs (seen names c.exit_node.new.node) (g.met.T.Traverse.lawful c.args.t.now c.args.ctx.now.options) c.requires.can c.in_ok-enter_node.ensures.kept c.in_ok-visit_fields.ensures.kept names entered visited (c.in_ok-exit_node.ensures.exited names)
+    visited-whole g.T.Lowering.profile g.T.Lowering.keeps c.args.site start (moment g.S.Additions.pending c.exit_node.new.ctx) c.args.node.now k l fs gs (seen names c.exit_node.new.node) (g.met.T.Traverse.lawful c.args.t.now c.args.ctx.now.options) (c.requires.can.pairs c.args.ctx.now.state) (c.requires.can.pairs c.exit_node.new.ctx.state) c.in_ok-enter_node.ensures.kept c.in_ok-visit_fields.ensures.kept names entered visited (c.in_ok-exit_node.ensures.exited names)
 
 pub visit_node-returns-clause-calls : goal.visit_node-returns-clause-calls
 visit_node-returns-clause-calls g t c =

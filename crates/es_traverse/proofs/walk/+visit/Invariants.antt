@@ -2,14 +2,13 @@ use Rattle.std.proofs.Common.{◌+◌, ◌*◌, ℕ}
 use Rattle.es_tree.specs.Tree.{Tree, trees}
 use Rattle.es_tree.specs.Views.{plain_field, plain_fields}
 use Rattle.es_tree.specs.declared.node.Field.{Field as NodeField}
-use Rattle.es_visit.specs.Counts.{total}
+use Rattle.es_visit.specs.Counts.{parameters_before, total}
 use Rattle.es_visit.proofs.SoFar.{SoFar}
 use Rattle.es_visit.proofs.Sums.{total_of}
 use Rattle.es_changes.specs.Changes.{heft}
 use Rattle.es_changes.specs.Moments.{Moment}
 use Rattle.es_traverse.specs.ContextMoments.{moment}
 use Rattle.es_traverse.specs.Loads.{allowance, field_load, fields_load, load, own_allowance, trees_load}
-use Rattle.es_traverse.specs.Sites.{parameters_before}
 use Rattle.es_traverse.proofs.FieldVisits.{FieldsSeen}
 use Rattle.es_traverse.proofs.KeptParts.{KeptFields, KeptSome, Untouched}
 use Rattle.es_traverse.proofs.ListVisits.{ListSeen}

@@ -1,6 +1,6 @@
 use Rattle.std.proofs.Common.{subst, sym}
 use Rattle.es_tree.specs.Tree.{kind_of}
-use Rattle.es_visit.proofs.Entering.{enters_once}
+use Rattle.es_visit.proofs.Calls.{enters_once}
 use Rattle.es_traverse.specs.ContextMoments.{moment}
 use Rattle.es_traverse.specs.Laws.{CanVisit}
 use Rattle.es_traverse.proofs.NodeHooks.{entered-node}
@@ -9,7 +9,7 @@ use Rattle.es_traverse.proofs.walk.enter_node.Goals as goal
 
 pub enter_sort-requires-clause-can : goal.enter_sort-requires-clause-can
 enter_sort-requires-clause-can g c =
-    subst (λ o. CanVisit g.T.Lowering.keeps (g.T.Lowering.profile o))
+    subst (λ o. CanVisit g.S.Additions.pending g.T.Lowering.keeps (g.T.Lowering.profile o))
     (sym (opened-options c.args.site g.T.Lowering.keeps c.args.node.now (moment g.S.Additions.pending c.args.ctx.now) (moment g.S.Additions.pending c.enter_body.new.ctx) c.in_ok-enter_body.ensures.opened)) c.requires.can
 
 pub returns-clause-entered : goal.returns-clause-entered

@@ -2,7 +2,7 @@ use Rattle.std.proofs.Common.{◌∙◌, ◌+◌, arith, subst}
 use Rattle.es_tree.specs.Tree.{kind_of, tree_size}
 use Rattle.es_runs.specs.Weights.{weight}
 use Rattle.es_changes.specs.Changes.{Kept}
-use Rattle.es_visit.proofs.Entering.{exits_once}
+use Rattle.es_visit.proofs.Calls.{exits_once}
 use Rattle.es_traverse.specs.ContextMoments.{moment}
 use Rattle.es_traverse.specs.Laws.{KeepsBody}
 use Rattle.es_traverse.proofs.NodeHooks.{exited-node}

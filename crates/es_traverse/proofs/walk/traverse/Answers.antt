@@ -2,21 +2,21 @@ use Rattle.std.proofs.Common.{◌∙◌, ◌+◌, sym, ap, subst, arith, length}
 use Rattle.std.specs.Prelude.{None}
 use Rattle.es_statements.specs.ProgramPlain.{plain_program}
 use Rattle.es_visit.specs.Counts.{all_hooks}
-use Rattle.es_visit.proofs.Programs.{whole_counted}
+use Rattle.es_visit.proofs.Calls.{whole_counted}
 use Rattle.es_changes.specs.Changes.{heft}
 use Rattle.es_changes.specs.Moments.{Moment}
 use Rattle.es_traverse.specs.ContextMoments.{moment}
 use Rattle.es_traverse.specs.Laws.{CanVisit, IsReady, KeptVisited}
 use Rattle.es_traverse.specs.Loads.{load}
 use Rattle.es_traverse.proofs.Kept.{kept-then, ready-then}
-use Rattle.es_traverse.proofs.Programs.{visited-whole}
+use Rattle.es_traverse.proofs.Programs.{left-empty, visited-whole}
 use Rattle.es_traverse.proofs.walk.traverse.Goals as goal
 
 pub visit_program-requires : goal.visit_program-requires
 visit_program-requires g c =
     let same = c.in_ok-enter_program.ensures.same in
     record {
-      can = subst (λ (q : Moment). CanVisit g.T.Lowering.keeps (g.T.Lowering.profile q.options)) (sym same) c.requires.can;
+      can = subst (λ (q : Moment). CanVisit g.S.Additions.pending g.T.Lowering.keeps (g.T.Lowering.profile q.options)) (sym same) c.requires.can;
       ready = record { suited = subst (λ (q : Moment). g.T.Lowering.suits c.enter_program.new.self q.options) (sym same) c.in_ok-enter_program.ensures.goes.suits_still; room = omega (arith, c.requires.ready.room, ap heft same); pair = omega (arith, c.requires.ready.pair, ap (λ (q : Moment). length q.lists) same) };
       top = ap (λ (q : Moment). q.around) same ∙ c.requires.top;
     }
@@ -35,10 +35,10 @@ returns-clause-kept g c =
 
 pub returns-clause-visited : goal.returns-clause-visited
 returns-clause-visited g c = λ names.
-    visited-whole g.T.Lowering.profile g.T.Lowering.keeps c.requires.can.pairs (λ o. g.met.T.Traverse.lawful c.args.t.now o) _ _ _ _ _ _ _ c.in_ok-enter_program.ensures.same c.in_ok-visit_program.ensures.kept.options (c.in_ok-visit_program.ensures.visited names) (c.in_ok-exit_program.ensures.exited names)
+    visited-whole g.T.Lowering.profile g.T.Lowering.keeps (λ o. g.met.T.Traverse.lawful c.args.t.now o) _ _ _ _ _ _ _ c.in_ok-enter_program.ensures.same c.in_ok-visit_program.ensures.kept.options (c.in_ok-visit_program.ensures.visited names) (c.in_ok-exit_program.ensures.exited names)
 
 pub returns-clause-finished : goal.returns-clause-finished
-returns-clause-finished g c = (c.in_ok-exit_program.ensures.exited (λ s x. None)).finished c.requires.can.pairs
+returns-clause-finished g c = left-empty _ g.T.Lowering.keeps (c.requires.can.pairs c.exit_program.new.ctx.state) (c.in_ok-exit_program.ensures.exited (λ s x. None))
 
 pub returns-clause-calls : goal.returns-clause-calls
 returns-clause-calls g c =

@@ -4,9 +4,9 @@ use Rattle.es_resolution.specs.Seen.{seen_among}
 use Rattle.es_scope.specs.Contexts.{around_of}
 use Rattle.es_scope.specs.declared.ancestor.Ancestor.{Ancestor}
 use Rattle.es_visit.specs.Counts.{all_hooks}
-use Rattle.es_visit.specs.Laws.{Goes}
+use Rattle.es_visit.specs.Calls.{Goes}
 use Rattle.es_visit.specs.declared.hook.Hook.TheVariants.{Statements as StatementList}
-use Rattle.es_visit.proofs.Lists.{statements_counted}
+use Rattle.es_visit.proofs.Calls.{statements_counted}
 use Rattle.es_changes.specs.Changes.{heft}
 use Rattle.es_changes.specs.Laws.{SamePlace}
 use Rattle.es_changes.specs.Moments.{Moment, inside_of}
@@ -39,7 +39,7 @@ visit_nodes-requires-clause-can g c =
     moment_inside g.S.Additions.pending c.args.ctx.now c.enter_place.new.self x c.in_ok-enter_place.ensures.around c.in_ok-enter_place.ensures.state c.in_ok-enter_place.ensures.ast c.in_ok-enter_place.ensures.options c.in_ok-enter_place.ensures.table c.in_ok-enter_place.ensures.names in
     let at_top : (moment g.S.Additions.pending c.args.ctx.now).around ≡ [] = c.requires.top in
     let first = kept-first g.T.Lowering.keeps c.args.program.now.id e at_top c.in_ok-enter_statements.ensures.kept in
-    subst (λ o. CanVisit g.T.Lowering.keeps (g.T.Lowering.profile o)) (sym (first.options ∙ c.in_ok-enter_place.ensures.options)) c.requires.can
+    subst (λ o. CanVisit g.S.Additions.pending g.T.Lowering.keeps (g.T.Lowering.profile o)) (sym (first.options ∙ c.in_ok-enter_place.ensures.options)) c.requires.can
 
 pub visit_nodes-requires-clause-ready : goal.visit_nodes-requires-clause-ready
 visit_nodes-requires-clause-ready g c =
@@ -133,7 +133,7 @@ returns-clause-visited g c = λ names.
     let entered : EnteredList (P a.options) g.T.Lowering.keeps (inside_of x a) ts b us = subst (λ z. EnteredList (P z.options) g.T.Lowering.keeps z ts b us) e (c.in_ok-enter_statements.ensures.entered names) in
     let visited : VisitedTrees (P a.options) b us q vs = subst (λ o. VisitedTrees (P o) b us q vs) (first.options ∙ c.in_ok-enter_place.ensures.options) (c.in_ok-visit_nodes.ensures.visited names) in
     let exited : ExitedList (P a.options) g.T.Lowering.keeps q vs d ws = subst (λ o. ExitedList (P o) g.T.Lowering.keeps q vs d ws) (c.in_ok-visit_nodes.ensures.kept.options ∙ (first.options ∙ c.in_ok-enter_place.ensures.options)) (c.in_ok-exit_statements.ensures.exited names) in
-    visited-statements (P a.options) g.T.Lowering.keeps c.requires.can (g.met.T.Traverse.lawful c.args.t.now a.options) x refl refl a b q d f _ _ ts us vs ws
+    visited-statements (P a.options) g.T.Lowering.keeps c.requires.can.sound (g.met.T.Traverse.lawful c.args.t.now a.options) x refl refl a b q d f _ _ ts us vs ws
     (subst (λ z. SamePlace z b) e (same-place first)) (same-place c.in_ok-visit_nodes.ensures.kept) (same-place last) n (same-place whole)
     entered visited exited
     (subst (λ z. opens_list g.T.Lowering.keeps z ≡ z) e (outer-first g.T.Lowering.keeps c.args.program.now.id e at_top))

@@ -2,7 +2,8 @@ use Rattle.std.proofs.Common.{arith, refl}
 use Rattle.es_tree.specs.Fresh.{node_base}
 use Rattle.lower_temporaries.proofs.Takings.{takes-reads}
 use Rattle.lower_temporaries.specs.SeenTrees.{no_bindings}
-use Rattle.lower_chains.proofs.Held.{own-made, own-moved, there-moved}
+use Rattle.lower_temporaries.proofs.Later.{there-moved}
+use Rattle.lower_chains.proofs.Held.{own-made, own-moved}
 use Rattle.es_resolution.specs.Seen.{seen}
 use Rattle.lower_chains.specs.Ways.{held}
 use Rattle.lower_chains.proofs.Receiving.{receiver-few, receiver-ids, written-first, written-last}

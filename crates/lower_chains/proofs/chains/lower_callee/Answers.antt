@@ -1,7 +1,7 @@
 use Rattle.std.proofs.Common.{arith, ap}
 use Rattle.es_traverse.specs.Loads.{load}
 use Rattle.lower_temporaries.specs.SeenTrees.{no_bindings}
-use Rattle.lower_chains.proofs.Held.{there-moved}
+use Rattle.lower_temporaries.proofs.Later.{there-moved}
 use Rattle.lower_chains.proofs.Chained.{tests-few, callee-lowered}
 use Rattle.lower_chains.proofs.chains.lower_callee.Goals as goal
 

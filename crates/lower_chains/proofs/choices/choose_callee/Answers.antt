@@ -4,8 +4,8 @@ use Rattle.es_runs.specs.OptionalChaining.{where_short}
 use Rattle.es_tree.specs.Tree.{Tree}
 use Rattle.lower_temporaries.proofs.Takings.{reads-none}
 use Rattle.lower_temporaries.specs.SeenTrees.{no_bindings}
-use Rattle.lower_chains.specs.Parts.{at_span}
-use Rattle.lower_chains.proofs.Held.{reads-made}
+use Rattle.lower_temporaries.specs.Shapes.{at_span}
+use Rattle.lower_temporaries.proofs.Later.{reads-made}
 use Rattle.lower_chains.proofs.choices.choose_callee.Goals as goal
 
 pub new_void_zero-requires : goal.new_void_zero-requires

@@ -3,7 +3,7 @@ use Rattle.es_resolution.specs.Seen.{seen}
 use Rattle.es_runs.specs.OptionalChaining.{null_checks}
 use Rattle.es_tree.specs.Tree.{tree_size}
 use Rattle.lower_chains.specs.WayParts.{test_nodes}
-use Rattle.lower_chains.proofs.Held.{reads-made}
+use Rattle.lower_temporaries.proofs.Later.{reads-made}
 use Rattle.lower_chains.proofs.null_checks.push_tests.Goals as goal
 
 pub returns-then-no_document_all-clause-pushed :

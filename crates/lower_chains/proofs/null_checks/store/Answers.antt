@@ -1,5 +1,5 @@
 use Rattle.std.proofs.Common.{refl}
-use Rattle.lower_chains.proofs.Held.{reads-made}
+use Rattle.lower_temporaries.proofs.Later.{reads-made}
 use Rattle.lower_chains.proofs.null_checks.store.Goals as goal
 
 pub returns-clause-reads : goal.returns-clause-reads

@@ -3,7 +3,7 @@ use Rattle.es_tree.specs.Tree.{tree_size}
 use Rattle.es_traverse.specs.Loads.{load}
 use Rattle.lower_temporaries.proofs.SeenLaws.{load-seen}
 use Rattle.lower_temporaries.specs.SeenTrees.{no_bindings}
-use Rattle.lower_chains.proofs.Held.{there-moved}
+use Rattle.lower_temporaries.proofs.Later.{there-moved}
 use Rattle.lower_chains.specs.Spines.{is_content}
 use Rattle.lower_chains.proofs.Spines.{accessed-load, called-load, content-load, content-size, continues-inner, continues-same, walks-base, walks-marked-call, walks-marked-member, walks-plain-call, walks-plain-member}
 use Rattle.lower_chains.proofs.walk.+walk.Goals as goal

@@ -1,7 +1,6 @@
 use Rattle.std.proofs.Common.{◌≡◌, List, None, sym, ap, ◌∙◌, subst}
 use Rattle.es_tree.specs.Bare.{bare}
-use Rattle.es_tree.specs.Options.{asks_for_unbuilt}
-use Rattle.es_tree.specs.Tree.{Tree, tree_size}
+use Rattle.es_tree.specs.Tree.{Tree}
 use Rattle.es_tree.specs.Words.{Text}
 use Rattle.es_tree.specs.declared.builder.AstBuilder.{AstBuilder}
 use Rattle.es_tree.specs.declared.error.OptionName.TheVariants.{NotBuilt}

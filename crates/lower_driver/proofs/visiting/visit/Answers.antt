@@ -1,7 +1,10 @@
-use Rattle.std.proofs.Common.{refl}
+use Rattle.std.proofs.Common.{refl, true≢false}
 use Rattle.es_conditions.proofs.Inward.{law_conditions_proof}
-use Rattle.lower_editions.specs.Apart.{all_apart, editions_apart, later_apart}
+use Rattle.lower_editions.specs.Apart.{all_apart, editions_apart, last_apart, later_apart}
 use Rattle.lower_driver.proofs.visiting.visit.Goals as goal
+
+pub new-last-requires-clause-apart : goal.new-last-requires-clause-apart
+new-last-requires-clause-apart c = last_apart
 
 pub new-requires-clause-apart : goal.new-requires-clause-apart
 new-requires-clause-apart c = later_apart
@@ -13,4 +16,4 @@ pub new-all-requires-clause-apart : goal.new-all-requires-clause-apart
 new-all-requires-clause-apart c = all_apart
 
 pub visit_by-requires-clause-can : goal.visit_by-requires-clause-can
-visit_by-requires-clause-can c = record { pairs = refl; sound = law_conditions_proof c.args.ctx.now.options; counts = λ n t. refl; leaves = λ n t. refl }
+visit_by-requires-clause-can c = record { pairs = λ s e. absurd (true≢false e); sound = law_conditions_proof c.args.ctx.now.options; counts = λ n t. refl; leaves = λ n t. refl }

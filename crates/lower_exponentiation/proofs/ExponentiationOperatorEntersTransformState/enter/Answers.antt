@@ -4,14 +4,14 @@ use Rattle.es_traverse.specs.Laws.{is_construct}
 use Rattle.lower_temporaries.specs.Takings.{moment_of}
 use Rattle.lower_temporaries.proofs.Entered.{kept-same}
 use Rattle.lower_exponentiation.specs.Exponentiations.{is_lowerable_exponentiation}
-use Rattle.lower_exponentiation.proofs.Hook.{entered-lowered, kept-lowered, left-alone}
+use Rattle.lower_exponentiation.proofs.Hook.{entered-lowered, kept-lowered, left}
 use Rattle.lower_exponentiation.proofs.ExponentiationOperatorEntersTransformState.enter.Goals as goal
 
 pub returns-then-not-lowers-clause-kept : goal.returns-then-not-lowers-clause-kept
 returns-then-not-lowers-clause-kept c = kept-same (moment_of c.args.ctx.now) c.args.expression.now
 
 pub returns-then-not-lowers-clause-entered : goal.returns-then-not-lowers-clause-entered
-returns-then-not-lowers-clause-entered c = left-alone c.args.ctx.now.options c.args.self.now.is_on c.requires.ready.suited (moment_of c.args.ctx.now) c.args.expression.now (sym c.lowers.ensures ∙ c.if-not-lowers.true)
+returns-then-not-lowers-clause-entered c = left c.args.ctx.now.options c.args.self.now.is_on c.requires.ready.suited (moment_of c.args.ctx.now) c.args.expression.now (sym c.lowers.ensures ∙ c.if-not-lowers.true)
 
 pub lower_exponentiation-requires-clause-on : goal.lower_exponentiation-requires-clause-on
 lower_exponentiation-requires-clause-on c = sym c.requires.ready.suited ∙ and_left c.args.self.now.is_on (is_construct is_lowerable_exponentiation c.args.expression.now) (sym c.lowers.ensures ∙ c.if-not-lowers.false)

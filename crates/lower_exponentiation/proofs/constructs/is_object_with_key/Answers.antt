@@ -1,5 +1,5 @@
 use Rattle.std.proofs.Common.{sym, arith}
-use Rattle.lower_exponentiation.proofs.TwoFields.{fewer_than_two, more_than_two}
+use Rattle.lower_temporaries.proofs.TwoFields.{fewer_than_two, more_than_two}
 use Rattle.lower_exponentiation.proofs.constructs.is_object_with_key.Goals as goal
 
 pub returns-in_default : goal.returns-in_default

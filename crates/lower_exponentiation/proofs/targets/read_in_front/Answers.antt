@@ -5,7 +5,7 @@ use Rattle.es_resolution.specs.Seen.{seen}
 use Rattle.es_steps.specs.Nodes.{identifier}
 use Rattle.lower_temporaries.specs.Declarators.{bound_as}
 use Rattle.lower_temporaries.specs.SeenTrees.{named, no_bindings}
-use Rattle.lower_exponentiation.proofs.SeenParts.{name-seen}
+use Rattle.lower_temporaries.proofs.TwoFields.{name-seen}
 use Rattle.lower_exponentiation.proofs.TargetParts.{name_alone, name_reads, next-read, there-read, used_in_front}
 use Rattle.lower_exponentiation.proofs.targets.read_in_front.Goals as goal
 

@@ -7,7 +7,7 @@ use Rattle.es_resolution.specs.Seen.{seen, seen_in}
 use Rattle.es_runs.specs.Duplication.{has_no_fields}
 use Rattle.es_steps.specs.Exponentiation.{stays}
 use Rattle.lower_temporaries.proofs.ReadAgain.{asks_fields}
-use Rattle.lower_exponentiation.proofs.SeenParts.{no_fields-seen}
+use Rattle.lower_temporaries.proofs.ReadAgain.{no_fields-seen}
 use Rattle.lower_exponentiation.proofs.TargetParts.{some-symbol}
 use Rattle.lower_exponentiation.specs.Targets.{names_that_stay}
 use Rattle.lower_exponentiation.proofs.targets.stays.Goals as goal

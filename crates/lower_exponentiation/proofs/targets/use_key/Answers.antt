@@ -4,7 +4,8 @@ use Rattle.es_tree.specs.Constructs.{is_private_name}
 use Rattle.es_tree.specs.Tree.{kind_of}
 use Rattle.es_resolution.specs.Seen.{seen}
 use Rattle.lower_temporaries.proofs.Takings.{reads-ids}
-use Rattle.lower_exponentiation.proofs.SeenParts.{evaluated-seen, key-seen, kind-seen, texts-seen}
+use Rattle.es_traverse.proofs.Kept.{kind-seen}
+use Rattle.lower_exponentiation.proofs.SeenParts.{evaluated-seen, key-seen, texts-seen}
 use Rattle.lower_exponentiation.proofs.TargetParts.{used_key_copies, used_key_temporary, used_key_texts}
 use Rattle.lower_exponentiation.proofs.targets.use_key.Goals as goal
 use Rattle.lower_exponentiation.proofs.targets.use_key.Goals.{then-computed, else-computed}

@@ -8,7 +8,8 @@ use Rattle.es_runs.specs.Rules.{member_node}
 use Rattle.lower_temporaries.specs.SeenTrees.{no_bindings}
 use Rattle.lower_temporaries.proofs.Takings.{reads-ids}
 use Rattle.lower_exponentiation.proofs.SeenParts.{evaluated-seen, expression-seen}
-use Rattle.lower_exponentiation.proofs.TargetParts.{plain_flags, there-taken, used_member}
+use Rattle.lower_temporaries.proofs.Later.{there-moved}
+use Rattle.lower_exponentiation.proofs.TargetParts.{plain_flags, used_member}
 use Rattle.lower_exponentiation.specs.Exponentiations.{has_exponentiation_key, is_evaluated_key, is_expression_key}
 use Rattle.lower_exponentiation.specs.Targets.{UsesObject}
 use Rattle.lower_exponentiation.proofs.targets.use_member.Goals as goal
@@ -36,7 +37,7 @@ use_key-requires c =
     let used = c.in_ok-objects.ensures no_bindings in
     record {
       key = subst (λ (flags : List Bool). has_exponentiation_key flags m.property ≡ true) (plain_flags m.computed m.optional m.property c.requires.target) c.requires.target;
-      there = there-taken c.args.ctx.now c.use_object.new.ctx used.takes c.requires.there;
+      there = there-moved c.args.ctx.now c.use_object.new.ctx used.takes c.requires.there;
       room = omega (arith, used.takes.next_is, used.few);
     }
 

@@ -1,6 +1,6 @@
 use Rattle.std.proofs.Common.{◌∙◌, arith, sym}
 use Rattle.es_resolution.specs.Seen.{seen}
-use Rattle.lower_exponentiation.proofs.SeenParts.{name-seen}
+use Rattle.lower_temporaries.proofs.TwoFields.{name-seen}
 use Rattle.lower_exponentiation.proofs.TargetParts.{name_no_fields, next-read, there-read, used_after, used_bound}
 use Rattle.lower_exponentiation.proofs.targets.use_name.Goals as goal
 

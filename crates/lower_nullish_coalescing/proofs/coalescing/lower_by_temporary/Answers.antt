@@ -2,9 +2,9 @@ use Rattle.std.proofs.Common.{◌≡◌, ◌+◌, ◌∙◌, ap, arith, refl, So
 use Rattle.es_resolution.specs.Seen.{seen}
 use Rattle.es_steps.specs.Nodes.{identifier}
 use Rattle.lower_temporaries.specs.SeenTrees.{named}
+use Rattle.lower_temporaries.specs.Shapes.{at_span}
 use Rattle.lower_temporaries.specs.Temporaries.{bound_of}
 use Rattle.lower_temporaries.proofs.Takings.{reads-ids, reads-then, takes-reads}
-use Rattle.lower_nullish_coalescing.specs.Coalescings.{at_span}
 use Rattle.lower_nullish_coalescing.proofs.Coalescings.{wrote-by}
 use Rattle.lower_nullish_coalescing.proofs.coalescing.lower_by_temporary.Goals as goal
 

@@ -13,7 +13,7 @@ pub open-program-requires : goal.open-program-requires
 open-program-requires c = opens c.in_ok-program.field-0.program (form_has_form s-Program (view c.in_ok-value.value) c.in_ok-program.field-0.program c.in_ok-program.ensures.form.form)
 
 pub visit_by-requires-clause-can : goal.visit_by-requires-clause-can
-visit_by-requires-clause-can c = can
+visit_by-requires-clause-can c = can _
 
 pub visit_by-requires-clause-ready : goal.visit_by-requires-clause-ready
 visit_by-requires-clause-ready c =

@@ -1,5 +1,0 @@
-use Rattle.es_visit.proofs.NoHooks.{settled_none}
-use Rattle.es_visit.proofs.traverse.Traverse.enter_for_in_statement.Goals as goal
-
-pub returns-clause-entered : goal.returns-clause-entered
-returns-clause-entered g c = settled_none (g.Self.Lowering.profile c.args.ctx.now.options) _ (c.acts.ensures _ c.requires.ready.suited c.if-acts.false) _ _

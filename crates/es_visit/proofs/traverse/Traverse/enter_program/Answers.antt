@@ -1,5 +1,0 @@
-use Rattle.es_visit.proofs.NoHooks.{entered_program_none}
-use Rattle.es_visit.proofs.traverse.Traverse.enter_program.Goals as goal
-
-pub returns-clause-entered : goal.returns-clause-entered
-returns-clause-entered g c = entered_program_none (g.Self.Lowering.profile c.args.ctx.now.options) _ _

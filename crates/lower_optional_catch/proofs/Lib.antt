@@ -1,0 +1,2 @@
+pub mod BareClauses
+pub mod Hook

@@ -1,0 +1,3 @@
+pub mod Catches
+pub mod Profile
+pub mod Lawful

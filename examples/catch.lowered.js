@@ -1,0 +1,7 @@
+function parse(text, reviver) {
+  try {
+    return JSON.parse(text, reviver);
+  } catch (_unused) {
+    return null;
+  }
+}
