@@ -15,7 +15,6 @@ use Rattle.es_runs.specs.Open as plain
 use Rattle.es_runs.specs.OpenRules as plain_rules
 use Rattle.es_runs.specs.OpenSteps as plain_steps
 use Rattle.es_runs.proofs.OpenLaws.{law_reached_bindings_proof, law_reached_proof}
-use Rattle.es_runs.proofs.StaticLaws.{law_reached_rules_proof}
 use Rattle.es_runs.proofs.StaticMarks.{tidy_source}
 use Rattle.es_resolution.specs.Laws.{source}
 use Rattle.es_resolution.proofs.Forms.{form-placed}
@@ -30,9 +29,13 @@ use Rattle.es_steps.proofs.Opened.{finished-opened}
 use Rattle.es_steps.proofs.Reached.{law_bindings_proof}
 use Rattle.es_steps.proofs.Start.{law_start_proof}
 use Rattle.es_valid_steps.specs.Laws.{with_further_rules}
-use Rattle.es_valid_steps.specs.PlaceRules.{place_breaks}
-use Rattle.es_valid_steps.proofs.FurtherSteps.{law_further_form_proof, law_further_places_proof}
+use Rattle.es_valid_steps.proofs.FurtherSteps.{law_further_form_proof}
 use Rattle.es_valid_steps.proofs.Visits.{law_among_proof}
+use Rattle.es_module_names.specs.Laws.{SameOutside}
+use Rattle.es_module_names.proofs.BareNames.{law_outside_bare_proof}
+use Rattle.es_module_names.proofs.ProgramSteps.{law_outside_reached_proof}
+use Rattle.es_valid_names.proofs.BareNames.{law_bare_declared_proof, law_declared_among_proof, law_together_proof}
+use Rattle.es_valid_names.proofs.FurtherNames.{law_further_rules_reached_proof}
 use Rattle.es_reached.specs.Reached.{LawCoreResult, LawFirst, LawResult, built_rules}
 use Rattle.es_reached.proofs.BarePlaces.{law_bare_places_proof}
 use Rattle.es_reached.proofs.Sources.{law_bare_source_proof}
@@ -56,11 +59,21 @@ source-well-bound p form right = law_start_proof p (first_whole p) form right (�
 
 built-all : (o : EnvOptions) (n : Site) (s : Ledger) (x : Spot) (s' : Ledger) (y : Spot) → built_rules o n s x s' y → AllRules o n s x s' y
 built-all o n s x s' y (inl r) = inl r
-built-all o n s x s' y (inr r) = inr (inl r)
+built-all o n s x s' y (inr (inl r)) = inr (inl r)
+built-all o n s x s' y (inr (inr r)) = inr (inr (inl r))
 
 built-further : (o : EnvOptions) (n : Site) (s : Ledger) (x : Spot) (s' : Ledger) (y : Spot) → built_rules o n s x s' y → with_further_rules o n s x s' y
 built-further o n s x s' y (inl r) = inl r
-built-further o n s x s' y (inr r) = inr (inl r)
+built-further o n s x s' y (inr (inl r)) = inr (inl r)
+built-further o n s x s' y (inr (inr r)) = inr (inr (inl r))
+
+-- no static rule asks for ids or marks
+rules-bare : (t u : Tree) → bare t ≡ bare u → breaks t ≡ [] → breaks u ≡ []
+rules-bare t u same h = law_together_proof u (law_bare_places_proof t u same (law_among_proof t h)) (law_bare_declared_proof t u same (law_declared_among_proof t h))
+
+-- what two others are alike to is alike itself
+outside-then : {p q r : Tree} → SameOutside p q → SameOutside q r → SameOutside p r
+outside-then a b = record { requests = b.requests ∙ a.requests; stars = b.stars ∙ a.stars; exports = b.exports ∙ a.exports }
 
 -- EVERY PROGRAM
 
@@ -68,18 +81,20 @@ pub law_result_proof : LawResult
 law_result_proof o p q r names form right h written =
     let w = first_whole p in
     let form_there = source-form p form in
-    let kept_there = law_bare_places_proof p (source p) (sym (law_bare_source_proof p)) (law_among_proof p right) in
+    let right_there = rules-bare p (source p) (sym (law_bare_source_proof p)) right in
+    let bound = source-well-bound p form right in
     let by_all = all_under (built_rules o) (AllRules o) (built-all o) h.steps in
     let by_further = all_under (built_rules o) (with_further_rules o) (built-further o) h.steps in
     let formed = law_further_form_proof o (source p) w h.whole (opened r) form_there by_further in
-    let kept = law_further_places_proof o (source p) w h.whole (opened r) form_there kept_there by_further in
+    let kept = law_further_rules_reached_proof o (source p) r w h.whole form_there right_there bound by_further in
     record {
       resolved = r;
       written = written;
       reached = h;
-      bindings = law_bindings_proof o (source p) r w h.whole (program-kind (source p) form_there) (source-well-bound p form right) by_all;
+      bindings = law_bindings_proof o (source p) r w h.whole (program-kind (source p) form_there) bound by_all;
       form = form-same r q written (subst (λ (t : Tree). has_form s-Program t ≡ true) (finished-opened r) formed);
-      kept = law_bare_places_proof r q written (subst (λ (t : Tree). place_breaks t ≡ []) (finished-opened r) kept);
+      kept = rules-bare r q written kept;
+      outside = outside-then (law_outside_bare_proof p (source p) (sym (law_bare_source_proof p))) (outside-then (law_outside_reached_proof o (source p) r w h.whole form_there by_further) (law_outside_bare_proof r q written));
     }
 
 -- CORE PROGRAMS
@@ -104,7 +119,6 @@ law_core_result_proof o p q names core right h =
       reached = under;
       alike = law_reached_proof no_all p q names core (tidy_source p core right) all;
       bindings = law_reached_bindings_proof no_all p q names core all;
-      kept = law_reached_rules_proof no_all p q names core right all;
     }
 
 -- WHERE STEPS BEGIN

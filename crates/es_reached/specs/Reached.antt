@@ -20,14 +20,15 @@ use Rattle.es_resolution.specs.Laws.{source}
 use Rattle.es_steps.specs.Bindings.{Bindings}
 use Rattle.es_steps.specs.CoreBridge.{Reached, first_whole, is_steady_symbol}
 use Rattle.es_steps.specs.CoreRules.{rule_under, where_on}
+use Rattle.es_steps.specs.NamespaceExports.{NamespaceRule}
 use Rattle.es_steps.specs.OptionalCatch.{CatchRule}
 use Rattle.es_steps.specs.Rules.{either_rule}
 use Rattle.es_steps.specs.Steps.{Ledger, Site, Spot, Whole}
-use Rattle.es_valid_steps.specs.PlaceRules.{place_breaks}
+use Rattle.es_module_names.specs.Laws.{SameOutside}
 
 -- the rules of the lowerings that are built, as far as options ask for them
 abbrev pub built_rules : EnvOptions → Site → Ledger → Spot → Ledger → Spot → Type 0
-built_rules o = either_rule (rule_under o) (where_on o.es2019.optional_catch_binding CatchRule)
+built_rules o = either_rule (rule_under o) (either_rule (where_on o.es2019.optional_catch_binding CatchRule) (where_on o.es2020.export_namespace_from NamespaceRule))
 
 -- What a program p becomes under these options: q, with these made names.
 pub record IsResult (o : EnvOptions) (p q : Tree) (names : List Text) : Type 0 where
@@ -39,9 +40,11 @@ pub record IsResult (o : EnvOptions) (p q : Tree) (names : List Text) : Type 0 w
   -- A name of the source has the symbol that it had, and the others are made; each is bound to what looking it up finds, by one
   -- scope, and one without a symbol is unbound.
   pub bindings : Bindings (source p) resolved (first_whole p) reached.whole
-  -- it is a program, and breaks none of the sixteen static rules of places
+  -- it is a program, and breaks none of the nineteen static rules
   pub form : has_form s-Program q ≡ true
-  pub kept : place_breaks q ≡ []
+  pub kept : breaks q ≡ []
+  -- to other modules it is what p is: it asks for the same ones in the same order, and exports under the same names
+  pub outside : SameOutside p q
 
 -- What a core program becomes besides, since the machine knows its runs.
 pub record IsCoreResult (o : EnvOptions) (p q : Tree) (names : List Text) : Type 0 where
@@ -52,8 +55,6 @@ pub record IsCoreResult (o : EnvOptions) (p q : Tree) (names : List Text) : Type
   pub alike : RunAlike o.assumptions.no_document_all p q
   -- a name of the source is bound exactly where it was bound before
   pub bindings : (x : Text) → is_among (names_of p) x ≡ true → is_declared (declared_of q) x ≡ is_declared (declared_of p) x
-  -- and it breaks none of the nineteen static rules
-  pub kept : breaks q ≡ []
 
 -- THE LAWS
 

@@ -6,14 +6,13 @@ ghost use Rattle.es_reached.specs.BareTrees.{LawBarePlaces, LawBareSeen, LawBare
 ghost use Rattle.es_reached.specs.Reached.{LawCoreResult, LawFirst, LawResult};
 
 /// What steps of the built lowerings that options ask for reach from a program that has form and breaks no static rule, with nothing
-/// pending, is what the program becomes, however it is written: names keep their bindings, and the written program has form and breaks no
-/// rule of places.
+/// pending, is what the program becomes, however it is written: names keep their bindings, and the written program has form, breaks no
+/// static rule, and is to other modules what the source is.
 pub fn law_result()
     ensures { LawResult }
 {}
 
-/// If the program is a core program, the written one is reached by names, runs alike, binds its names where they were bound, and breaks
-/// none of the nineteen static rules.
+/// If the program is a core program, the written one is reached by names, runs alike, and binds its names where they were bound.
 pub fn law_core_result()
     ensures { LawCoreResult }
 {}

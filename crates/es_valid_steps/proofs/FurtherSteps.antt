@@ -35,10 +35,10 @@ use Rattle.es_valid_steps.proofs.Visits.{law_places_proof}
 
 -- THE RULES that put no statement beside another
 
-abbrev alone : EnvOptions → Site → Ledger → Spot → Ledger → Spot → Type 0
+abbrev pub alone : EnvOptions → Site → Ledger → Spot → Ledger → Spot → Type 0
 alone o = either_rule (rule_under o) (either_rule (where_on o.es2019.optional_catch_binding CatchRule) (where_on (is_some o.es2018.object_rest_spread) (Replacing SpreadRule)))
 
-alone-form : (o : EnvOptions) → FormLawful (alone o)
+pub alone-form : (o : EnvOptions) → FormLawful (alone o)
 alone-form o = both-form (rule-under-form o) (both-form (on-form o.es2019.optional_catch_binding _ catch-form) (on-form (is_some o.es2018.object_rest_spread) _ spread-form))
 
 alone-lawful : (o : EnvOptions) → PlaceLawful (alone o)
@@ -48,7 +48,7 @@ on-nodes : (b : Bool) (R : Site → Ledger → Spot → Ledger → Spot → Type
 on-nodes true R at n s s' x y r = at n s s' x y r
 on-nodes false R at n s s' x y r = absurd r
 
-alone-written : (o : EnvOptions) (n : Site) (s s' : Ledger) (t : Tree) (bs cs : List Tree) (us : Trees) → alone o n s (at_beside bs t cs) s' (at_trees us) → (s ≡ s') × (flanks_with bs t cs empty ≡ us)
+pub alone-written : (o : EnvOptions) (n : Site) (s s' : Ledger) (t : Tree) (bs cs : List Tree) (us : Trees) → alone o n s (at_beside bs t cs) s' (at_trees us) → (s ≡ s') × (flanks_with bs t cs empty ≡ us)
 alone-written o n s s' t bs cs us (inl r) = (rule-under-lawful o).unflanking n s s' t bs cs us r
 alone-written o n s s' t bs cs us (inr (inl r)) = absurd (on-nodes o.es2019.optional_catch_binding CatchRule catch-nodes n s s' (at_beside bs t cs) (at_trees us) r)
 alone-written o n s s' t bs cs us (inr (inr r)) = absurd (on-nodes (is_some o.es2018.object_rest_spread) (Replacing SpreadRule) spread-nodes n s s' (at_beside bs t cs) (at_trees us) r)
@@ -58,7 +58,7 @@ on-exports : (b : Bool) (n : Site) (s : Ledger) (x : Spot) (s' : Ledger) (y : Sp
 on-exports true n s x s' y r = r
 on-exports false n s x s' y r = absurd r
 
-apart : (o : EnvOptions) (n : Site) (s : Ledger) (x : Spot) (s' : Ledger) (y : Spot) → with_further_rules o n s x s' y → either_rule (alone o) NamespaceRule n s x s' y
+pub apart : (o : EnvOptions) (n : Site) (s : Ledger) (x : Spot) (s' : Ledger) (y : Spot) → with_further_rules o n s x s' y → either_rule (alone o) NamespaceRule n s x s' y
 apart o n s x s' y (inl r) = inl (inl r)
 apart o n s x s' y (inr (inl r)) = inl (inr (inl r))
 apart o n s x s' y (inr (inr (inl r))) = inr (on-exports o.es2020.export_namespace_from n s x s' y r)

@@ -18,6 +18,7 @@ pub mod Spread
 pub mod SpreadSteps
 pub mod ProgramLists
 pub mod NamespaceRows
+pub mod NamespacePlaces
 pub mod FurtherForms
 pub mod FurtherRows
 pub mod FurtherSteps

@@ -38,13 +38,13 @@ use Rattle.es_valid_steps.proofs.ProgramLists.ProgramExported.{at_list as in_the
 
 -- FORM: of `import * as x from "m" with { .. }` and of `export { x as n }`
 
-record ExportForm (m : Label) (e source : Tree) (attributes : Trees) : Type 0 where
-  exported : has_form s-ModuleExportName e ≡ true
-  from : has_form s-StringLiteral source ≡ true
-  given : trees_form s-ImportAttribute s-ImportAttribute attributes ≡ true
-  span : HasSpan m
+pub record ExportForm (m : Label) (e source : Tree) (attributes : Trees) : Type 0 where
+  pub exported : has_form s-ModuleExportName e ≡ true
+  pub from : has_form s-StringLiteral source ≡ true
+  pub given : trees_form s-ImportAttribute s-ImportAttribute attributes ≡ true
+  pub span : HasSpan m
 
-export-form : (m : Label) (e source : Tree) (attributes : Trees) → has_form s-Statement (node ExportAllDeclaration m (one e then one source then many attributes then done)) ≡ true → ExportForm m e source attributes
+pub export-form : (m : Label) (e source : Tree) (attributes : Trees) → has_form s-Statement (node ExportAllDeclaration m (one e then one source then many attributes then done)) ≡ true → ExportForm m e source attributes
 export-form m e source attributes h =
     let fs : Fields = one e then one source then many attributes then done in
     let first = and_parts (has_form s-ModuleExportName e) _ (node_form s-Statement ExportAllDeclaration m fs h).children in
@@ -175,7 +175,7 @@ pub record ProgramLeft (x y : Open) : Type 0 where
   pub formed : has_form s-Program (finished y) ≡ true
   pub keeps : Keeps [] (finished x) → Keeps [] (finished y)
 
-pub program-left : {x y : Open} → ProgramExported x y → IsProper x → has_form s-Program (finished x) ≡ true → ProgramLeft x y
+pub program-left : {s s' : Ledger} {x y : Open} → ProgramExported s s' x y → IsProper x → has_form s-Program (finished x) ≡ true → ProgramLeft x y
 program-left (in_the_list {n = n} {w = w} {l = l} {d = d} {p = p} {q = q} {x = x} {y = y} {a = a} {b = b} {ts = ts} {us = us} h) proper f =
     let old = d and (list p x a ts and ends) in
     let new = d and (list q y b us and ends) in

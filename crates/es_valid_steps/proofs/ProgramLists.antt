@@ -13,7 +13,7 @@ use Rattle.es_tree.specs.declared.table.Often.TheVariants.{Statements}
 use Rattle.es_tree.specs.declared.table.Sort.TheVariants.{Program as s-Program, Statement as s-Statement}
 use Rattle.es_tree.proofs.NodeForm.{node_form}
 use Rattle.es_resolution.specs.Declarations.{Bound}
-use Rattle.es_semantic.proofs.FormEdges.{Edges, EdgesAll, EdgesBy, EdgesIn, ElementsFit, edges-inside, elements-are, entries_fit, is_last}
+use Rattle.es_semantic.proofs.FormEdges.{Edges, EdgesAll, EdgesBy, EdgesIn, ElementsFit, TableFits, edges-inside, elements-are, entries_fit, is_last}
 use Rattle.es_steps.specs.NamespaceExports.{NamespaceRule, namespace_import}
 use Rattle.es_steps.specs.NamespaceExports.NamespaceRule.{exports}
 use Rattle.es_steps.specs.Nodes.{joined_trees, placed, return_node}
@@ -30,7 +30,7 @@ use Rattle.es_valid_steps.proofs.Spread.{opened_before, spread, spread_field, sp
 
 -- NO PROGRAM BELOW A NODE
 
-abbrev below : AstType → ℕ → Bool → AstType → Bool
+abbrev pub below : AstType → ℕ → Bool → AstType → Bool
 below k i last j = not (same_type j Program)
 
 entries-fit : (k : AstType) → entries_fit below k 0 (child_entries k) ≡ true
@@ -42,6 +42,9 @@ elements-fit ArrayExpression p e = elements-are below ArrayExpression _ p e (rec
 elements-fit ArrayPattern p e = elements-are below ArrayPattern _ p e (record { sort = λ i b. refl; last = λ i b. refl })
 elements-fit ArrayTarget p e = elements-are below ArrayTarget _ p e (record { sort = λ i b. refl; last = λ i b. refl })
 elements-fit _ p e = absurd (cc e)
+
+pub no-program : TableFits below
+no-program = record { entries = entries-fit; elements = elements-fit }
 
 -- whatever stands in a list with others before it, or in the body of an arrow with declarators
 
@@ -141,20 +144,20 @@ exported-in (after_flanked {bs = bs} {cs = cs} {t = t} h) e = behind bs (there (
 exported-in (flanks {ts = ts} t u h) e = flanked-here t u (spread_trees ts) h
 exported-in (acts_on_flanked t us h) e = absurd (exports-nodes h)
 
--- a program in whose list that happened, with what is pending beside it
-pub data ProgramExported : Open → Open → Type 0 where
-  at_list : {n : Site} {w w' : Whole} {l : Label} {d : OpenField} {p q : Pending} {x y : Option Bound} {a b : Additions} {ts us : OpenTrees} → Exported n (ledger w p x a) (ledger w' q y b) ts us → ProgramExported (open_node Program l (d and (list p x a ts and ends))) (open_node Program l (d and (list q y b us and ends)))
+-- a program in whose list that happened, with what is pending beside it; the whole is what the list knows
+pub data ProgramExported : Ledger → Ledger → Open → Open → Type 0 where
+  at_list : {n : Site} {w w' : Whole} {o : Pending} {z : Option Bound} {c : Additions} {l : Label} {d : OpenField} {p q : Pending} {x y : Option Bound} {a b : Additions} {ts us : OpenTrees} → Exported n (ledger w p x a) (ledger w' q y b) ts us → ProgramExported (ledger w o z c) (ledger w' o z c) (open_node Program l (d and (list p x a ts and ends))) (open_node Program l (d and (list q y b us and ends)))
 
 -- the fields of a program: directives, and a list
 module _ (l : Label) where
-  two-fields : (f g : Field) (hs : Fields) → fields_form Program l (child_entries Program) (f then (g then hs)) ≡ true → (field_form Program l (c-Child s-Statement Statements) g ≡ true) × (fields_form Program l [] hs ≡ true)
+  pub two-fields : (f g : Field) (hs : Fields) → fields_form Program l (child_entries Program) (f then (g then hs)) ≡ true → (field_form Program l (c-Child s-Statement Statements) g ≡ true) × (fields_form Program l [] hs ≡ true)
   two-fields f g hs h = and_parts _ (fields_form Program l [] hs) (and_parts _ _ h).1
 
   no-third : {c : ℕ → Site} {s s' : Ledger} {fs gs : OpenFields} → FieldsStep NamespaceRule c s fs s' gs → fields_form Program l [] (finished_fields fs) ≡ true → ⊥
   no-third (in_first h) e = absurd (cc e)
   no-third (in_later h) e = absurd (cc e)
 
-  in-list : {n : Site} {s s' : Ledger} {f g : OpenField} (d : OpenField) (last : Bool) → FieldStep NamespaceRule n s f s' g → is_program_list n.above ≡ true → is_target n.above ≡ false → EdgesBy below Program 1 last (finished_field f) → field_form Program l (c-Child s-Statement Statements) (finished_field f) ≡ true → ProgramExported (open_node Program l (d and (spread_field f and ends))) (open_node Program l (d and (spread_field g and ends)))
+  in-list : {n : Site} {s s' : Ledger} {f g : OpenField} (d : OpenField) (last : Bool) → FieldStep NamespaceRule n s f s' g → is_program_list n.above ≡ true → is_target n.above ≡ false → EdgesBy below Program 1 last (finished_field f) → field_form Program l (c-Child s-Statement Statements) (finished_field f) ≡ true → ProgramExported s s' (open_node Program l (d and (spread_field f and ends))) (open_node Program l (d and (spread_field g and ends)))
   in-list d last (in_child h) top other e form = absurd (cc form)
   in-list d last (in_children h) top other e form = absurd (cc form)
   in-list d last (in_body a b c h) top other e form = absurd (cc form)
@@ -164,15 +167,15 @@ module _ (l : Label) where
   in-list d last (acts_on_list ts us h) top other e form = absurd (exports-nodes h)
   in-list d last (acts_on_body t u h) top other e form = absurd (exports-nodes h)
 
-  in-fields : {s s' : Ledger} {fs gs : OpenFields} (n : ℕ → Site) → ((i : ℕ) → (n i).above ≡ ancestor Program l (outline fs) i 0 ∷ []) → FieldsStep NamespaceRule n s fs s' gs → EdgesIn below Program 0 (finished_fields fs) → fields_form Program l (child_entries Program) (finished_fields fs) ≡ true → ProgramExported (open_node Program l (spread_fields fs)) (open_node Program l (spread_fields gs))
+  in-fields : {s s' : Ledger} {fs gs : OpenFields} (n : ℕ → Site) → ((i : ℕ) → (n i).above ≡ ancestor Program l (outline fs) i 0 ∷ []) → FieldsStep NamespaceRule n s fs s' gs → EdgesIn below Program 0 (finished_fields fs) → fields_form Program l (child_entries Program) (finished_fields fs) ≡ true → ProgramExported s s' (open_node Program l (spread_fields fs)) (open_node Program l (spread_fields gs))
   in-fields n up (in_first {fs = fs} h) e form = absurd (still-by h Program 0 (is_last (finished_fields fs)) (ap (λ a. is_program_list a) (up 0)) e.0)
   in-fields n up (in_later {f = d} (in_first {f = f} {fs = ends} h)) e form = in-list (spread_field d) true h (ap (λ a. is_program_list a) (up 1)) (ap (λ a. is_target a) (up 1)) e.1.0 (two-fields (finished_field d) (finished_field f) done form).0
   in-fields n up (in_later {f = d} (in_first {f = f} {fs = g and fs} h)) e form = absurd (let no : false ≡ true = (two-fields (finished_field d) (finished_field f) (finished_field g then finished_fields fs) form).1 in cc no)
   in-fields n up (in_later {f = d} (in_later {f = f} {fs = fs} h)) e form = absurd (no-third h (two-fields (finished_field d) (finished_field f) (finished_fields fs) form).1)
 
 -- wherever the step is taken, it is taken in the list of the program
-pub program-exported : {s s' : Ledger} {x y : Open} → Step NamespaceRule the_program s x s' y → has_form s-Program (finished x) ≡ true → ProgramExported (spread x) (spread y)
+pub program-exported : {s s' : Ledger} {x y : Open} → Step NamespaceRule the_program s x s' y → has_form s-Program (finished x) ≡ true → ProgramExported s s' (spread x) (spread y)
 program-exported (acts t u h) f = absurd (exports-nodes h)
 program-exported (inside {k = Program} {l = l} {fs = fs} h) f =
-    in-fields l (site_in the_program Program l fs) (λ i. refl) h (edges-inside below (record { entries = entries-fit; elements = elements-fit }) s-Program Program l (finished_fields fs) f) (node_form s-Program Program l (finished_fields fs) f).children
+    in-fields l (site_in the_program Program l fs) (λ i. refl) h (edges-inside below no-program s-Program Program l (finished_fields fs) f) (node_form s-Program Program l (finished_fields fs) f).children
 program-exported (inside {k = k} {l = l} {fs = fs} h) f = absurd (let no : false ≡ true = (node_form s-Program k l (finished_fields fs) f).sort in cc no)

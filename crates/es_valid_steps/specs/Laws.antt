@@ -1,8 +1,11 @@
 -- The laws of static rules: what is reached by steps breaks no rule of places, where the source broke none.
-use Rattle.std.specs.Prelude.{◌≡◌, [], true, is_some}
+use Rattle.std.specs.Prelude.{◌≡◌, ◌&&◌, ◌||◌, [], Bool, true, false, is_some}
+use Rattle.es_tree.specs.Constructs.{is_namespace_export}
 use Rattle.es_tree.specs.HasForm.{has_form}
 use Rattle.es_tree.specs.StaticRules.{breaks}
-use Rattle.es_tree.specs.Tree.{Tree}
+use Rattle.es_tree.specs.Tree.{Tree, node, Label, Fields, ◌then◌, statements, Trees, empty, ◌before◌, kind_of, label_of, fields_of}
+use Rattle.es_tree.specs.Walks.{any_node, any_in_fields}
+use Rattle.es_tree.specs.declared.ast_type.AstType.{AstType}
 use Rattle.es_tree.specs.declared.options.EnvOptions.{EnvOptions}
 use Rattle.es_tree.specs.declared.table.Sort.TheVariants.{Program as s-Program}
 use Rattle.es_steps.specs.CoreRules.{CoreRule, rule_under, where_on}
@@ -61,3 +64,29 @@ LawFurtherForm = (o : EnvOptions) → StepsKeepForm (with_further_rules o)
 
 abbrev pub LawFurtherPlaces : Type 0
 LawFurtherPlaces = (o : EnvOptions) → StepsKeepPlaces (with_further_rules o)
+
+-- NAMESPACE EXPORTS stand in the list of a program itself, and nowhere deeper.
+
+-- whether a statement of a list is such a node, and not what stands in it
+abbrev pub any_statement : (AstType → Label → Fields → Bool) → Trees → Bool
+any_statement test empty = false
+any_statement test (t before ts) = test (kind_of t) (label_of t) (fields_of t) || any_statement test ts
+
+-- whether such a node stands in a statement of a list
+abbrev pub any_inside : (AstType → Label → Fields → Bool) → Trees → Bool
+any_inside test empty = false
+any_inside test (t before ts) = any_in_fields test (fields_of t) || any_inside test ts
+
+-- the statements of a program
+abbrev pub statements_of : Tree → Trees
+statements_of (node k l (directives then (statements ts then fs))) = ts
+statements_of _ = empty
+
+-- Such nodes stand in the list of the program alone: none in a statement of it, and none in the program where no statement is one.
+pub record StandInList (test : AstType → Label → Fields → Bool) (t : Tree) : Type 0 where
+  pub inside : any_inside test (statements_of t) ≡ false
+  pub none : any_statement test (statements_of t) ≡ false → any_node test t ≡ false
+
+-- asked for or not
+abbrev pub LawNamespacePlaces : Type 0
+LawNamespacePlaces = (on : Bool) (t : Tree) → has_form s-Program t ≡ true → place_breaks t ≡ [] → StandInList (λ k l fs. on && is_namespace_export k l fs) t

@@ -2,7 +2,7 @@
 //! definitions.
 #![tactic(auto)]
 
-ghost use Rattle.es_valid_steps.specs.Laws.{LawAmong, LawCorePlaces, LawFurtherForm, LawFurtherPlaces, LawPlaceSteps, LawPlaces, LawPlacesReached};
+ghost use Rattle.es_valid_steps.specs.Laws.{LawAmong, LawCorePlaces, LawFurtherForm, LawFurtherPlaces, LawNamespacePlaces, LawPlaceSteps, LawPlaces, LawPlacesReached};
 
 /// None of the rules of places is broken exactly where each node, with its ancestors, keeps each of them.
 pub fn law_places()
@@ -38,4 +38,9 @@ pub fn law_further_form()
 /// And they break no rule of places that wasn't broken.
 pub fn law_further_places()
     ensures { LawFurtherPlaces }
+{}
+
+/// In a program that has form and breaks none of them, namespace exports stand in the program's own list alone.
+pub fn law_namespace_places()
+    ensures { LawNamespacePlaces }
 {}
