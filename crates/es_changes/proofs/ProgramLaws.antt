@@ -18,7 +18,7 @@ use Rattle.es_changes.proofs.StepRows.{steps-map}
 use Rattle.es_changes.proofs.TreeLaws.{list-fits}
 
 -- the list of a program is its last field
-with-last : (p q : Pending) (x : Option Bound) (a : Additions) (f : OpenField) (ts : OpenTrees) → with_pending p (f and (list q x a ts and ends)) ≡ (f and (list p x a ts and ends))
+pub with-last : (p q : Pending) (x : Option Bound) (a : Additions) (f : OpenField) (ts : OpenTrees) → with_pending p (f and (list q x a ts and ends)) ≡ (f and (list p x a ts and ends))
 with-last p q x a gap ts = refl
 with-last p q x a (child t) ts = refl
 with-last p q x a (body o t) ts = refl

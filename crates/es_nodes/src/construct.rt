@@ -84,7 +84,7 @@ fn is_enabled_statement(node: &Node, options: &EnvOptions) -> bool
 
 /// Whether the node is `**` with no BigInt literal directly at either side, or `**=` with none directly
 /// at its right.
-fn is_exponentiation(node: &Node) -> bool
+pub fn is_exponentiation(node: &Node) -> bool
     ensures { result ≡ is_exponentiation (kind_of node.now) (label_of node.now) (fields_of node.now) }
 {
     match &node.kind {
@@ -99,7 +99,7 @@ fn is_exponentiation(node: &Node) -> bool
 }
 
 /// Whether the node is `??`.
-fn is_nullish_coalescing(node: &Node) -> bool
+pub fn is_nullish_coalescing(node: &Node) -> bool
     ensures { result ≡ is_nullish_coalescing (kind_of node.now) (label_of node.now) (fields_of node.now) }
 {
     match &node.kind {
@@ -108,14 +108,15 @@ fn is_nullish_coalescing(node: &Node) -> bool
     }
 }
 
-fn is_chain(node: &Node) -> bool
+/// Whether the node is an optional chain.
+pub fn is_chain(node: &Node) -> bool
     ensures { result ≡ is_chain (kind_of node.now) (label_of node.now) (fields_of node.now) }
 {
     matches!(node.kind, Kind::ChainExpression)
 }
 
 /// Whether the node is `||=`, `&&=` or `??=` to something other than a private member.
-fn is_logical_assignment(node: &Node) -> bool
+pub fn is_logical_assignment(node: &Node) -> bool
     ensures { result ≡ is_logical_assignment (kind_of node.now) (label_of node.now) (fields_of node.now) }
 {
     match &node.kind {
@@ -127,7 +128,7 @@ fn is_logical_assignment(node: &Node) -> bool
 }
 
 /// Whether the node is a `catch` without a parameter.
-fn is_optional_catch(node: &Node) -> bool
+pub fn is_optional_catch(node: &Node) -> bool
     ensures { result ≡ is_optional_catch (kind_of node.now) (label_of node.now) (fields_of node.now) }
 {
     match &node.kind {
@@ -137,7 +138,7 @@ fn is_optional_catch(node: &Node) -> bool
 }
 
 /// Whether the node is `export * as` with a name.
-fn is_namespace_export(node: &Node) -> bool
+pub fn is_namespace_export(node: &Node) -> bool
     ensures { result ≡ is_namespace_export (kind_of node.now) (label_of node.now) (fields_of node.now) }
 {
     match &node.kind {
@@ -147,7 +148,7 @@ fn is_namespace_export(node: &Node) -> bool
 }
 
 /// Whether the node is an object literal with a spread, or an object pattern with a rest.
-fn is_rest_or_spread(node: &Node) -> bool
+pub fn is_rest_or_spread(node: &Node) -> bool
     ensures { result ≡ is_rest_or_spread (kind_of node.now) (label_of node.now) (fields_of node.now) }
 {
     match &node.kind {
@@ -158,7 +159,7 @@ fn is_rest_or_spread(node: &Node) -> bool
 }
 
 /// Whether the node is a declaration by `using`.
-fn is_using(node: &Node) -> bool
+pub fn is_using(node: &Node) -> bool
     ensures { result ≡ is_using (kind_of node.now) (label_of node.now) (fields_of node.now) }
 {
     match &node.kind {
@@ -167,7 +168,8 @@ fn is_using(node: &Node) -> bool
     }
 }
 
-fn is_arrow(node: &Node) -> bool
+/// Whether the node is an arrow function.
+pub fn is_arrow(node: &Node) -> bool
     ensures { result ≡ is_arrow (kind_of node.now) (label_of node.now) (fields_of node.now) }
 {
     matches!(node.kind, Kind::ArrowFunctionExpression { .. })
@@ -209,7 +211,7 @@ fn is_using_word(kind: VariableDeclarationKind) -> bool
 }
 
 /// Whether the field is a BigInt literal.
-fn is_big_int(field: Option<&Field>) -> bool
+pub fn is_big_int(field: Option<&Field>) -> bool
     ensures { result ≡ is_child is_big_int (maybe_field field.entry) }
 {
     match field {
@@ -229,7 +231,7 @@ fn is_private_name(field: Option<&Field>) -> bool
 }
 
 /// Whether the field is a member with a private name, maybe in parentheses.
-fn is_private_target(field: Option<&Field>) -> bool
+pub fn is_private_target(field: Option<&Field>) -> bool
     ensures { result ≡ is_private_target (maybe_field field.entry) }
 {
     match field {
@@ -275,7 +277,7 @@ fn is_spread(node: &Node) -> bool
 }
 
 /// Whether the field is a list with a rest.
-fn has_rest(field: Option<&Field>) -> bool
+pub fn has_rest(field: Option<&Field>) -> bool
     ensures { result ≡ has_member is_rest (maybe_field field.entry) }
 {
     match field {

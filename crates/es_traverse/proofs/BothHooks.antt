@@ -1,9 +1,9 @@
 -- The hooks of two types, one after the other, keep the promises of both.
 use Rattle.std.proofs.Common.{◌≡◌, ◌+◌, ◌<◌, ◌∙◌, ◌⊎◌, ℕ, Bool, true, false, refl, sym, subst, arith, inl, inr, true≢false, length, List}
 use Rattle.std.specs.Prelude.{cond, ◌&&◌, not}
-use Rattle.es_tree.specs.Tree.{Tree, Trees, empty, ◌before◌}
+use Rattle.es_tree.specs.Tree.{Tree, Fields, done, ◌then◌, missing, one, many, statements, Trees, empty, ◌before◌}
 use Rattle.es_tree.specs.declared.options.EnvOptions.{EnvOptions}
-use Rattle.es_steps.specs.Steps.{Site}
+use Rattle.es_steps.specs.Steps.{Ledger, Site, Spot}
 use Rattle.es_steps.specs.Open.{Pending, is_statement_body}
 use Rattle.es_visit.specs.declared.hook.Hook.{Hook}
 use Rattle.es_visit.specs.declared.hook.Hook.TheVariants.{Expression, Statement}
@@ -14,13 +14,14 @@ use Rattle.es_changes.specs.Conditions.{Conditions, holds_after, holds_before}
 use Rattle.es_changes.specs.Moments.{Moment, with_pair}
 use Rattle.es_changes.proofs.StillFits.{still-fits}
 use Rattle.es_changes.proofs.StepRows.{steps-trans}
-use Rattle.es_traverse.specs.Laws.{AreApart, Entered, EnteredAs, EnteredList, EnteredParameters, Exited, ExitedBody, ExitedList, ExitedParameters, ExitedProgram, IsLawful, IsReady, Known, Profile, Settled, both_profile, is_construct, is_outermost, opens_body, opens_list}
+use Rattle.es_traverse.specs.Laws.{AreApart, Ending, EndsApart, Entered, EnteredAs, EnteredList, EnteredParameters, Exited, ExitedBody, ExitedList, ExitedParameters, ExitedProgram, IsLawful, IsReady, Known, Profile, Settled, body_field, both_endings, both_profile, is_construct, is_outermost, opens_body, opens_list, whole_rule}
+use Rattle.es_traverse.specs.Listed.{any_among, any_listed}
 use Rattle.es_traverse.specs.Loads.{wrapping_by, writing_by}
 use Rattle.es_traverse.specs.Sites.{Tells}
 use Rattle.es_traverse.specs.declared.site.Site.{Site as CodeSite}
 use Rattle.es_traverse.proofs.Kept.{kept-then}
 use Rattle.es_traverse.proofs.StepInto.{field-into, rows-into, step-into, trees-into}
-use Rattle.es_traverse.specs.Together.{neither}
+use Rattle.es_traverse.specs.Together.{left-false, neither, right-false}
 
 -- two types together, under all options
 abbrev pub both_of : (EnvOptions → Profile) → (EnvOptions → Profile) → EnvOptions → Profile
@@ -162,17 +163,51 @@ module _ (P Q : EnvOptions → Profile) (law : (o : EnvOptions) → IsLawful (Q 
         hooks = h.hooks;
       }
 
-  -- the program
-  pub exited-program-both : (keeps alone : Bool) → alone ≡ false → {t u v : Tree} → ExitedProgram (Q a.options) alone a t b u → ExitedProgram (P b.options) keeps b u c v → ExitedProgram (both_of P Q a.options) keeps a t c v
-  exited-program-both keeps alone e {t = t} {u = u} {v = v} g h' =
-      let h : ExitedProgram (P a.options) keeps a t c v = subst (λ m. ExitedProgram (P m.options) keeps m t c v) (g.same e).1 (subst (λ w. ExitedProgram (P b.options) keeps b w c v) (g.same e).0 h') in
-      record {
-        stepped = λ k. rows-into (λ s s' x y. step-into (λ n s s' x y h. inl h)) (h.stepped k);
-        finished = h.finished;
-        same = h.same;
-        directives = h.directives;
-        none = λ test f k. h.none test (λ w m. f w (inl m)) k;
-      }
+-- THE PROGRAM
+
+-- the rules of both, one after the other
+module _ (p q : Profile) (e f : Ending) where
+  first-whole : (n : Site) (s s' : Ledger) (x y : Spot) → whole_rule p e n s x s' y → whole_rule (both_profile p q) (both_endings e f) n s x s' y
+  first-whole n s s' x y (inl h) = inl (inl h)
+  first-whole n s s' x y (inr h) = inr (inl h)
+
+  second-whole : (n : Site) (s s' : Ledger) (x y : Spot) → whole_rule q f n s x s' y → whole_rule (both_profile p q) (both_endings e f) n s x s' y
+  second-whole n s s' x y (inl h) = inl (inr h)
+  second-whole n s s' x y (inr h) = inr (inr h)
+
+-- a list has none of two kinds of constructs where it has none of either
+none-of-either : (e f : Ending) (ts : Trees) → any_among e.constructs ts ≡ false → any_among f.constructs ts ≡ false → any_among (both_endings e f).constructs ts ≡ false
+none-of-either e f empty h k = refl
+none-of-either e f (t before ts) h k =
+    neither (is_construct (both_endings e f).constructs t) (any_among (both_endings e f).constructs ts)
+    (neither (is_construct e.constructs t) (is_construct f.constructs t) (left-false _ (any_among e.constructs ts) h) (left-false _ (any_among f.constructs ts) k))
+    (none-of-either e f ts (right-false (is_construct e.constructs t) _ h) (right-false (is_construct f.constructs t) _ k))
+
+none-listed-of-either : (e f : Ending) (fs : Fields) → any_listed e.constructs fs ≡ false → any_listed f.constructs fs ≡ false → any_listed (both_endings e f).constructs fs ≡ false
+none-listed-of-either e f done h k = refl
+none-listed-of-either e f (missing then fs) h k = none-listed-of-either e f fs h k
+none-listed-of-either e f (one t then fs) h k = none-listed-of-either e f fs h k
+none-listed-of-either e f (many ts then fs) h k = none-listed-of-either e f fs h k
+none-listed-of-either e f (statements ts then fs) h k =
+    neither (any_among (both_endings e f).constructs ts) (any_listed (both_endings e f).constructs fs)
+    (none-of-either e f ts (left-false _ (any_listed e.constructs fs) h) (left-false _ (any_listed f.constructs fs) k))
+    (none-listed-of-either e f fs (right-false (any_among e.constructs ts) _ h) (right-false (any_among f.constructs ts) _ k))
+
+-- the second type acts, and then the first, which alone may keep pairs
+pub exited-program-both : (P Q : EnvOptions → Profile) (E F : EnvOptions → Ending) → ((o : EnvOptions) → EndsApart (P o) (F o)) → (a b c : Moment) (keeps alone : Bool) {t u v : Tree} → b.options ≡ a.options →
+    ExitedProgram (Q a.options) (F a.options) alone a t b u → ExitedProgram (P b.options) (E b.options) keeps b u c v → ExitedProgram (both_of P Q a.options) (both_endings (E a.options) (F a.options)) keeps a t c v
+exited-program-both P Q E F apart a b c keeps alone {t = t} {u = u} {v = v} options g h' =
+    let e = E a.options in let f = F a.options in
+    let h = later (λ o. ExitedProgram (P o) (E o) keeps b u c v) options h' in
+    record {
+      stepped = λ k. steps-trans (rows-into (λ s s' x y. step-into (second-whole (P a.options) (Q a.options) e f)) (g.stepped k)) (rows-into (λ s s' x y. step-into (first-whole (P a.options) (Q a.options) e f)) (h.stepped (g.stays k)));
+      stays = λ k. h.stays (g.stays k);
+      cleared = λ k. none-listed-of-either e f (body_field v) (h.cleared (g.stays k)) (h.none_listed f.constructs (apart a.options) (g.cleared k));
+      finished = h.finished;
+      directives = h.directives ∙ g.directives;
+      none = λ test m k. h.none test (λ w i. m w (inl i)) (g.none test (λ w i. m w (inr i)) k);
+      none_listed = λ test m k. h.none_listed test (λ w i. m w (inl i)) (g.none_listed test (λ w i. m w (inr i)) k);
+    }
 
 -- THE BODY OF AN ARROW
 

@@ -15,4 +15,5 @@ pub mod Parts
 pub mod FieldVisits
 pub mod ListVisits
 pub mod NodeVisits
+pub mod Endings
 pub mod Programs

@@ -1,17 +1,20 @@
 -- Hooks that do nothing, of a type that keeps no pairs and acts at one hook alone.
-use Rattle.std.proofs.Common.{◌≡◌, ◌+◌, ℕ, refl, sym, arith, inl, Bool, true, false, true≢false}
-use Rattle.es_tree.specs.Tree.{Tree, Trees, kind_of, label_of, fields_of}
+use Rattle.std.proofs.Common.{◌≡◌, ◌∙◌, ◌||◌, ◌+◌, ℕ, refl, sym, ap, subst, arith, inl, Bool, true, false, true≢false}
+use Rattle.es_tree.specs.Tree.{Tree, Fields, done, ◌then◌, missing, one, many, statements, Trees, empty, ◌before◌, kind_of, label_of, fields_of}
 use Rattle.es_tree.specs.declared.options.EnvOptions.{EnvOptions}
+use Rattle.es_steps.specs.Steps.{Site}
 use Rattle.es_steps.specs.Steps.Steps.{stays}
 use Rattle.es_visit.specs.declared.hook.Hook.{Hook}
 use Rattle.es_visit.specs.declared.hook.Hook.TheVariants.{Expression, Statement}
 use Rattle.es_visit.specs.Calls.{Goes, GoesOut, GoesOutOfList}
-use Rattle.es_visit.proofs.Calls.{is_of_kind}
 use Rattle.es_changes.specs.Changes.{Kept}
+use Rattle.es_changes.specs.Conditions.{holds_after}
 use Rattle.es_changes.specs.Moments.{Moment}
-use Rattle.es_traverse.specs.Laws.{Entered, EnteredAs, EnteredList, EnteredParameters, ExitedBody, ExitedList, ExitedParameters, ExitedProgram, Known, OnlyAt, OnlyOnEntry, PassesOn, Profile, Settled, anywhere, opens_body, opens_list}
+use Rattle.es_traverse.specs.Laws.{Entered, EnteredAs, EnteredWhere, EnteredList, EnteredParameters, ExitedBody, ExitedList, ExitedParameters, ExitedProgram, Known, OnlyAt, PassesOn, Profile, anywhere, body_field, no_ending, opens_body, opens_list}
+use Rattle.es_traverse.specs.Listed.{any_among, any_listed}
 use Rattle.es_traverse.specs.Loads.{writing_by}
-use Rattle.es_traverse.specs.declared.site.Site.{Site}
+use Rattle.es_traverse.specs.Sites.{Tells}
+use Rattle.es_traverse.specs.declared.site.Site.{Site as CodeSite}
 use Rattle.es_traverse.proofs.Kept.{kept-none}
 
 -- LISTS AND BODIES
@@ -34,6 +37,18 @@ pub opens-no-body : (keeps : Bool) → keeps ≡ false → (t : Tree) (a : Momen
 opens-no-body true e t a = absurd (true≢false e)
 opens-no-body false e t a = refl
 
+-- nothing is taken away after the program by a type that does nothing there
+none-among : (ts : Trees) → any_among no_ending.constructs ts ≡ false
+none-among empty = refl
+none-among (t before ts) = none-among ts
+
+pub none-listed : (fs : Fields) → any_listed no_ending.constructs fs ≡ false
+none-listed done = refl
+none-listed (missing then fs) = none-listed fs
+none-listed (one t then fs) = none-listed fs
+none-listed (many ts then fs) = none-listed fs
+none-listed (statements ts then fs) = ap (λ b. b || any_listed no_ending.constructs fs) (none-among ts) ∙ none-listed fs
+
 module _ (p : Profile) (a : Moment) where
   pub entered-list-none : (keeps : Bool) → keeps ≡ false → (ts : Trees) → EnteredList p keeps a ts a ts
   entered-list-none true e ts = absurd (true≢false e)
@@ -53,17 +68,25 @@ module _ (p : Profile) (a : Moment) where
   exited-body-none true e t = absurd (true≢false e)
   exited-body-none false e t = record { closed = λ k. absurd (true≢false (sym k)); same = λ k. (refl, refl); none = λ test own h. h; hooks = omega arith }
 
-  pub exited-program-none : (keeps : Bool) → keeps ≡ false → (t : Tree) → ExitedProgram p keeps a t a t
+  pub exited-program-none : (keeps : Bool) → keeps ≡ false → (t : Tree) → ExitedProgram p no_ending keeps a t a t
   exited-program-none true e t = absurd (true≢false e)
-  exited-program-none false e t = record { stepped = λ k. absurd (true≢false (sym k)); finished = λ k. absurd (true≢false (sym k)); same = λ k. (refl, refl); directives = refl; none = λ test own h. h }
+  exited-program-none false e t = record {
+    stepped = λ v. stays;
+    stays = λ v. v;
+    cleared = λ v. none-listed (body_field t);
+    finished = λ k. absurd (true≢false (sym k));
+    directives = refl;
+    none = λ test own h. h;
+    none_listed = λ test own h. h;
+  }
 
   -- NODES
 
   -- a hook that isn't the one where it acts
-  pub entered-elsewhere : (at : Hook) → OnlyAt at p → (h : Hook) → (h ≡ at → ⊥) → (h ≡ Expression → PassesOn p) → (c : Site) (t : Tree) → EnteredAs p h c a t a t
+  pub entered-elsewhere : (at : Hook) → OnlyAt at p → (h : Hook) → (h ≡ at → ⊥) → ((at ≡ Expression → ⊥) → PassesOn p) → (c : CodeSite) (t : Tree) → EnteredAs p h c a t a t
   entered-elsewhere at only Expression other passes c t = record {
     stepped = λ n l f k. stays;
-    left = λ n l f k. passes refl n t k;
+    left = λ n l f k. passes (λ e. other (sym e)) n t k;
     cleared = λ n l f k. only Expression other (kind_of t) (label_of t) (fields_of t);
     sort = λ g e. inl e;
     body = refl;
@@ -83,32 +106,6 @@ module _ (p : Profile) (a : Moment) where
     cleared = λ n l f k. only h other (kind_of t) (label_of t) (fields_of t);
     body = refl;
     order = inl refl;
-  }
-
-  pub entered-none : OnlyOnEntry p → (h : Hook) → (h ≡ Expression → ⊥) → (c : Site) (t : Tree) → EnteredAs p h c a t a t
-  entered-none only h other c t = entered-elsewhere Expression only h other (λ e. absurd (other e)) c t
-
-  -- what holds wherever a node stands holds where the code knows of its place
-  pub entered-anywhere : {b : Moment} (h : Hook) → h ≡ Expression → (c : Site) (t u : Tree) → Entered p (Known p.counts) (Known p.leaves) Expression anywhere a t b u → EnteredAs p h c a t b u
-  entered-anywhere Expression e c t u x = record {
-    stepped = λ n l f k. x.stepped n tt f k;
-    left = λ n l f k. x.left n tt f k;
-    cleared = λ n l f k. x.cleared n tt f k;
-    sort = x.sort;
-    body = x.body;
-    order = x.order;
-  }
-  entered-anywhere _ e c t u x = absurd (cc e)
-
-  pub settled-anywhere : {b : Moment} (h : Hook) → is_of_kind h ≡ true → (c : Site) (t u : Tree) → Settled p h anywhere a t b u → EnteredAs p h c a t b u
-  settled-anywhere Expression e c t u x = absurd (true≢false (sym e))
-  settled-anywhere Statement e c t u x = absurd (true≢false (sym e))
-  settled-anywhere h e c t u x = record {
-    stepped = λ n l f k. x.stepped n tt f k;
-    left = λ n l f k. x.left n tt f k;
-    cleared = λ n l f k. x.cleared n tt f k;
-    body = x.body;
-    order = x.order;
   }
 
 -- CALLS are not counted

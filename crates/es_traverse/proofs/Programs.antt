@@ -1,5 +1,5 @@
 -- A program, from the visit of its statements.
-use Rattle.std.proofs.Common.{◌≡◌, ◌∙◌, ◌||◌, ◌∷◌, refl, sym, ap, subst, ℕ, Bool, true, false, [], List}
+use Rattle.std.proofs.Common.{◌≡◌, ◌∙◌, ◌||◌, ◌∷◌, refl, sym, ap, subst, ℕ, Bool, true, false, [], List, inl}
 use Rattle.std.specs.Prelude.{cond, ◌&&◌, not, None}
 use Rattle.es_tree.specs.Tree.{Tree, node, Label, done, ◌then◌, Field, statements, Trees, empty, ◌before◌}
 use Rattle.es_tree.specs.Walks.{any_in_fields, any_in_trees}
@@ -9,7 +9,6 @@ use Rattle.es_tree.specs.declared.options.EnvOptions.{EnvOptions}
 use Rattle.es_scope.specs.declared.ancestor.Ancestor.{Ancestor}
 use Rattle.es_steps.specs.Open.{is_body, list, no_additions, nothing_pending, opened_fields, opened_trees}
 use Rattle.es_steps.specs.Steps.{FieldStep, Site, Step, Steps, site_in, the_program}
-use Rattle.es_steps.specs.Steps.Steps.{stays}
 use Rattle.es_visit.specs.declared.hook.Hook.{Hook}
 use Rattle.es_changes.specs.Changes.{Each, Kept, open_program}
 use Rattle.es_changes.specs.Conditions.{AreSound, holds_after, holds_before}
@@ -20,9 +19,11 @@ use Rattle.es_changes.proofs.ProgramLaws.{program-laws}
 use Rattle.es_changes.proofs.StepRows.{steps-trans}
 use Rattle.es_changes.proofs.StillFits.{still-fits}
 use Rattle.es_changes.proofs.TreeLaws.{trees-laws}
+use Rattle.es_traverse.proofs.Endings.{visited-program}
 use Rattle.es_traverse.proofs.Kept.{kept-then}
-use Rattle.es_traverse.specs.Laws.{EnteredList, ExitedList, ExitedProgram, IsLawful, IsQuiet, Profile, is_outermost, opens_list}
-use Rattle.es_traverse.specs.Visits.{VisitedProgram, VisitedTrees}
+use Rattle.es_traverse.proofs.StepInto.{rows-into, step-into}
+use Rattle.es_traverse.specs.Laws.{Ending, EnteredList, ExitedList, ExitedProgram, IsLawful, IsQuiet, Profile, is_outermost, opens_list}
+use Rattle.es_traverse.specs.Visits.{VisitedProgram, VisitedStatements, VisitedTrees}
 
 -- the place of a program's statements
 abbrev pub program_place : NodeId → Ancestor
@@ -87,36 +88,31 @@ module _ (p : Profile) (keeps : Bool) (sound : AreSound p.conditions) (law : IsL
 
 pub visited-statements : (p : Profile) (keeps : Bool) → AreSound p.conditions → IsLawful p → (x : Ancestor) → x.kind ≡ Program → x.field ≡ 1 → (a b c d f : Moment) (l : Label) (ds : Field) (ts us vs ws : Trees) → SamePlace (inside_of x a) b → SamePlace b c → SamePlace c d → d ≡ inside_of x f → SamePlace a f →
     EnteredList p keeps (inside_of x a) ts b us → VisitedTrees p b us c vs → ExitedList p keeps c vs d ws → opens_list keeps (inside_of x a) ≡ inside_of x a → opens_list keeps d ≡ d →
-    VisitedProgram p a (node Program l (ds then statements ts then done)) f (node Program l (ds then statements ws then done))
+    VisitedStatements p a (node Program l (ds then statements ts then done)) f (node Program l (ds then statements ws then done))
 visited-statements p keeps sound law x place field a b c d f l ds ts us vs ws first second third left whole e v h unopened shut = record {
   stepped = λ none fits after. whole-steps p keeps sound law x place field a l ds ts none fits after b c d f us vs ws first second third e v h unopened shut left whole;
   directives = refl;
   free = λ none fits after. whole-free p keeps sound law x place field a l ds ts none fits after b c d f us vs ws first second third e v h unopened shut;
+  visited = λ none fits after. visited-program p.rule law.rule.form a f l l ds ds ts ws none fits (whole-steps p keeps sound law x place field a l ds ts none fits after b c d f us vs ws first second third e v h unopened shut left whole);
 }
 
 -- THE WHOLE, with the hooks of the program
 
--- after its exit hook, of a type that keeps the pairs or of another
-last-steps : (p : Profile) (keeps : Bool) (b c : Moment) (u w : Tree) → ExitedProgram p keeps b u c w → Steps (Step p.rule the_program) (ledger_with nothing_pending b) (open_program (top b.lists) u) (ledger_with nothing_pending c) (open_program (top c.lists) w)
-last-steps p true b c u w x = x.stepped refl
-last-steps p false b c u w x =
-    let same = x.same refl in
-    subst (λ (m : Moment). Steps (Step p.rule the_program) (ledger_with nothing_pending b) (open_program (top b.lists) u) (ledger_with nothing_pending m) (open_program (top m.lists) w)) (sym same.1)
-    (subst (λ (t : Tree). Steps (Step p.rule the_program) (ledger_with nothing_pending b) (open_program (top b.lists) u) (ledger_with nothing_pending b) (open_program (top b.lists) t)) (sym same.0) stays)
-
-pub left-empty : (p : Profile) (keeps : Bool) {b c : Moment} {u w : Tree} → IsQuiet keeps c.lists → ExitedProgram p keeps b u c w → top c.lists ≡ nothing_pending
-left-empty p true quiet x = x.finished refl
-left-empty p false quiet x = ap top (quiet refl)
-
-pub visited-whole : (P : EnvOptions → Profile) (keeps : Bool) → ((o : EnvOptions) → IsLawful (P o)) → (a m b c : Moment) (t u w : Tree) → m ≡ a → b.options ≡ m.options → VisitedProgram (P m.options) m t b u → ExitedProgram (P b.options) keeps b u c w → VisitedProgram (P a.options) a t c w
-visited-whole P keeps law a m b c t u w e options v' x' =
-    let v : VisitedProgram (P a.options) a t b u = subst (λ q. VisitedProgram (P q.options) q t b u) e v' in
-    let x : ExitedProgram (P a.options) keeps b u c w = subst (λ o. ExitedProgram (P o) keeps b u c w) (options ∙ ap (λ (q : Moment). q.options) e) x' in
+pub visited-whole : (P : EnvOptions → Profile) (E : EnvOptions → Ending) (keeps : Bool) → ((o : EnvOptions) → IsLawful (P o)) → (a m b c : Moment) (t u w : Tree) → m ≡ a → b.options ≡ m.options → VisitedStatements (P m.options) m t b u → ExitedProgram (P b.options) (E b.options) keeps b u c w → VisitedProgram (P a.options) (E a.options) a t c w
+visited-whole P E keeps law a m b c t u w e options v' x' =
+    let p = P a.options in
+    let v : VisitedStatements p a t b u = subst (λ q. VisitedStatements (P q.options) q t b u) e v' in
+    let x : ExitedProgram p (E a.options) keeps b u c w = subst (λ o. ExitedProgram (P o) (E o) keeps b u c w) (options ∙ ap (λ (q : Moment). q.options) e) x' in
     record {
-      stepped = λ none fits after. steps-trans (v.stepped none fits after) (last-steps (P a.options) keeps b c u w x);
+      stepped = λ none fits after. steps-trans (rows-into (λ s s' x y. step-into (λ n s s' x y h. inl h)) (v.stepped none fits after)) (x.stepped (v.visited none fits after));
       directives = x.directives ∙ v.directives;
-      free = λ none fits after h. x.none ((P a.options).constructs h) (λ t w. (law a.options).own h t w) (v.free none fits after h);
+      free = λ none fits after h. x.none (p.constructs h) (λ t w. (law a.options).own h t w) (v.free none fits after h);
+      cleared = λ none fits after. x.cleared (v.visited none fits after);
     }
+
+pub left-empty : (p : Profile) (e : Ending) (keeps : Bool) {b c : Moment} {u w : Tree} → IsQuiet keeps c.lists → ExitedProgram p e keeps b u c w → top c.lists ≡ nothing_pending
+left-empty p e true quiet x = x.finished refl
+left-empty p e false quiet x = ap top (quiet refl)
 
 -- WHAT STAYS
 

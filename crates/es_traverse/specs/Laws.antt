@@ -1,15 +1,18 @@
 -- What a lawful type states of itself, and what its hooks promise.
-use Rattle.std.specs.Prelude.{◌≡◌, ◌⊎◌, ℕ, ◌+◌, ◌<◌, ◌≤◌, ◌||◌, ◌&&◌, Bool, true, false, not, cond, Option, Some, List, [], ◌∷◌, length}
+use Rattle.std.specs.Prelude.{◌≡◌, refl, ◌⊎◌, ℕ, ◌+◌, ◌<◌, ◌≤◌, ◌||◌, ◌&&◌, Bool, true, false, not, cond, Option, Some, List, [], ◌∷◌, length}
+use Rattle.es_tree.specs.HasForm.{has_form}
 use Rattle.es_tree.specs.Tree.{Tree, node, Label, Fields, done, ◌then◌, one, Trees, kind_of, label_of, fields_of, tree_size, trees_size}
 use Rattle.es_tree.specs.Walks.{any_node, any_in_fields, any_in_trees}
 use Rattle.es_tree.specs.Words.{Text}
 use Rattle.es_tree.specs.declared.ast_type.AstType.{AstType}
 use Rattle.es_tree.specs.declared.options.EnvOptions.{EnvOptions}
+use Rattle.es_tree.specs.declared.table.Sort.TheVariants.{Program as s-Program}
 use Rattle.es_scope.specs.declared.ancestor.Ancestor.{Ancestor}
 use Rattle.es_resolution.specs.Seen.{seen, seen_among}
 use Rattle.es_runs.specs.Weights.{weight, trees_weight}
 use Rattle.es_steps.specs.Open.{Pending, nothing_pending, OpenFields, body, finished_fields, is_body, is_statement_body, opened, opened_field}
 use Rattle.es_steps.specs.Rules.{either_rule}
+use Rattle.es_steps.proofs.FormLists.{IsPlain}
 use Rattle.es_steps.specs.Steps.{Ledger, Site, Spot, FieldsStep, FieldStep, Step, Steps, site_in, the_program}
 use Rattle.es_visit.specs.declared.hook.Hook.{Hook}
 use Rattle.es_visit.specs.declared.hook.Hook.TheVariants.{Expression, Statement}
@@ -17,6 +20,7 @@ use Rattle.es_visit.specs.Hooks.{hook_of_sort, sort_of, IsHooked}
 use Rattle.es_visit.specs.Counts.{hooks_in, hooks_in_trees}
 use Rattle.es_changes.specs.Changes.{Each, HasRoom, Kept, ListStepped, open_program, Stepped, TreesStepped}
 use Rattle.es_traverse.specs.Bodies.{BodiesStandIn}
+use Rattle.es_traverse.specs.Listed.{any_listed}
 use Rattle.es_traverse.specs.Loads.{load, trees_load}
 use Rattle.es_traverse.specs.Sites.{Tells}
 use Rattle.es_traverse.specs.declared.site.Site.{Site as CodeSite}
@@ -125,11 +129,15 @@ pub record Settled (profile : Profile) (hook : Hook) (tells : Site → Type 0) (
   pub body : KeepsBody t u
   pub order : (u ≡ t) ⊎ profile.writes u
 
--- By this hook, at a place of which the code knows so much. Of a statement the second condition is known before it.
+-- By this hook, at a place of which so much is told. Of a statement the second condition is known before it.
+abbrev pub EnteredWhere : Profile → Hook → (Site → Type 0) → Moment → Tree → Moment → Tree → Type 0
+EnteredWhere p Expression tells a t b u = Entered p (Known p.counts) (Known p.leaves) Expression tells a t b u
+EnteredWhere p Statement tells a t b u = Entered p (holds_after p.conditions) (holds_after p.conditions) Statement tells a t b u
+EnteredWhere p h tells a t b u = Settled p h tells a t b u
+
+-- at a place of which the code knows so much
 abbrev pub EnteredAs : Profile → Hook → CodeSite → Moment → Tree → Moment → Tree → Type 0
-EnteredAs p Expression c a t b u = Entered p (Known p.counts) (Known p.leaves) Expression (Tells c) a t b u
-EnteredAs p Statement c a t b u = Entered p (holds_after p.conditions) (holds_after p.conditions) Statement (Tells c) a t b u
-EnteredAs p h c a t b u = Settled p h (Tells c) a t b u
+EnteredAs p h c a t b u = EnteredWhere p h (Tells c) a t b u
 
 -- whatever the site
 abbrev pub anywhere : Site → Type 0
@@ -139,12 +147,13 @@ anywhere n = Unit {0}
 abbrev pub OnlyAt : Hook → Profile → Type 0
 OnlyAt hook p = (h : Hook) → (h ≡ hook → ⊥) → (k : AstType) (l : Label) (fs : Fields) → p.constructs h k l fs ≡ false
 
-abbrev pub OnlyOnEntry : Profile → Type 0
-OnlyOnEntry p = OnlyAt Expression p
-
 -- A type that does nothing before expressions leaves as much as it counts on.
 abbrev pub PassesOn : Profile → Type 0
 PassesOn p = (n : Site) (t : Tree) → p.counts n t ≡ true → p.leaves n t ≡ true
+
+-- one that acts before expressions owes nothing of it
+pub acts_there : (p : Profile) → (Expression ≡ Expression → ⊥) → PassesOn p
+acts_there p other = absurd (other refl)
 
 -- MOMENTS OF BODIES AND LISTS
 
@@ -233,13 +242,37 @@ abbrev pub body_field : Tree → Fields
 body_field (node k l (f then fs)) = fs
 body_field (node k l done) = done
 
--- After the program: a type that keeps the pairs writes what is pending, and leaves nothing. With another nothing changes.
-pub record ExitedProgram (profile : Profile) (keeps : Bool) (a : Moment) (t : Tree) (b : Moment) (u : Tree) : Type 0 where
-  pub stepped : keeps ≡ true → Steps (Step profile.rule the_program) (ledger_with nothing_pending a) (open_program (top a.lists) t) (ledger_with nothing_pending b) (open_program (top b.lists) u)
+-- What a type does after the program besides: by a rule that need be lawful at this place alone, since it puts statements beside
+-- others; and which statements of the program's list it takes away so.
+pub record Ending : Type 1 where
+  pub rule : Site → Ledger → Spot → Ledger → Spot → Type 0
+  pub constructs : AstType → Label → Fields → Bool
+
+abbrev pub no_ending : Ending
+no_ending = record { rule = λ n s x s' y. ⊥; constructs = λ k l fs. false }
+
+-- the rule of a type over a whole program
+abbrev pub whole_rule : Profile → Ending → Site → Ledger → Spot → Ledger → Spot → Type 0
+whole_rule p e = either_rule p.rule e.rule
+
+-- a program after the visit of its statements: it has form, and temporaries alone are pending for its list
+pub record IsVisited (a : Moment) (t : Tree) : Type 0 where
+  pub formed : has_form s-Program t ≡ true
+  pub plain : IsPlain (top a.lists)
+
+-- the same of the statements of a list, and not of what stands in them
+abbrev pub MakesNoneListed : (Tree → Type 0) → Fields → Fields → Type 0
+MakesNoneListed writes fs gs = (test : AstType → Label → Fields → Bool) → ((v : Tree) → writes v → is_construct test v ≡ false) → any_listed test fs ≡ false → any_listed test gs ≡ false
+
+-- After the program: a type that keeps the pairs writes what is pending, and leaves nothing.
+pub record ExitedProgram (profile : Profile) (ending : Ending) (keeps : Bool) (a : Moment) (t : Tree) (b : Moment) (u : Tree) : Type 0 where
+  pub stepped : IsVisited a t → Steps (Step (whole_rule profile ending) the_program) (ledger_with nothing_pending a) (open_program (top a.lists) t) (ledger_with nothing_pending b) (open_program (top b.lists) u)
+  pub stays : IsVisited a t → IsVisited b u
+  pub cleared : IsVisited a t → any_listed ending.constructs (body_field u) ≡ false
   pub finished : keeps ≡ true → top b.lists ≡ nothing_pending
-  pub same : keeps ≡ false → (u ≡ t) × (b ≡ a)
   pub directives : first_field u ≡ first_field t
   pub none : MakesNoneIn profile.writes (body_field t) (body_field u)
+  pub none_listed : MakesNoneListed profile.writes (body_field t) (body_field u)
 
 -- TWO TYPES TOGETHER
 
@@ -254,6 +287,13 @@ both_profile p q = record {
   makes = λ t. p.makes t ⊎ q.makes t;
   writes = λ t. p.writes t ⊎ q.writes t;
 }
+
+abbrev pub both_endings : Ending → Ending → Ending
+both_endings e f = record { rule = either_rule e.rule f.rule; constructs = λ k l fs. e.constructs k l fs || f.constructs k l fs }
+
+-- The first type, which acts last after the program, writes nothing that the second takes away there.
+abbrev pub EndsApart : Profile → Ending → Type 0
+EndsApart p e = (t : Tree) → p.writes t → is_construct e.constructs t ≡ false
 
 -- The second type makes no construct of the first, neither writes one of the other, and the steps of neither make a node
 -- above them one. They have the same conditions, and the second counts on no more than the first leaves.

@@ -1,4 +1,5 @@
 pub mod Bodies
+pub mod Listed
 pub mod Laws
 pub mod ContextMoments
 pub mod Sites

@@ -51,11 +51,11 @@ pub neither : (a b : Bool) → a ≡ false → b ≡ false → (a || b) ≡ fals
 neither true b h k = absurd (true≢false h)
 neither false b h k = k
 
-left-false : (a b : Bool) → (a || b) ≡ false → a ≡ false
+pub left-false : (a b : Bool) → (a || b) ≡ false → a ≡ false
 left-false true b h = absurd (true≢false h)
 left-false false b h = refl
 
-right-false : (a b : Bool) → (a || b) ≡ false → b ≡ false
+pub right-false : (a b : Bool) → (a || b) ≡ false → b ≡ false
 right-false true b h = absurd (true≢false h)
 right-false false b h = h
 

@@ -15,7 +15,8 @@ use Rattle.es_changes.specs.Fits.{Fits, FitsBy, FitAll, FitInList}
 use Rattle.es_changes.specs.Laws.{SamePlace}
 use Rattle.es_changes.specs.Conditions.{holds_after, holds_before}
 use Rattle.es_changes.specs.Moments.{Moment, ledger_at, ledger_with, top, with_pair}
-use Rattle.es_traverse.specs.Laws.{Profile, is_construct, anything, first_field, body_field, opens_body, ExitedBody, KeepsBody, MakesNone}
+use Rattle.es_traverse.specs.Laws.{Ending, Profile, is_construct, anything, first_field, body_field, opens_body, ExitedBody, IsVisited, KeepsBody, MakesNone, whole_rule}
+use Rattle.es_traverse.specs.Listed.{any_listed}
 use Rattle.es_traverse.specs.Sites.{Tells, is_arrow_body}
 use Rattle.es_traverse.specs.declared.site.Site.{Site as CodeSite}
 use Rattle.es_traverse.specs.declared.site.Site.TheVariants.{ArrowBody}
@@ -78,11 +79,19 @@ pub record VisitedList (p : Profile) (a : Moment) (ts : Trees) (b : Moment) (us 
   pub stepped : (n : Site) → FitInList (with_pair a) n ts → Each (holds_before p.conditions) n ts → Steps (FieldStep p.rule n) (ledger_at a) (list nothing_pending None no_additions (opened_trees ts)) (ledger_at b) (list nothing_pending None no_additions (opened_trees us))
   pub free : (n : Site) → FitInList (with_pair a) n ts → Each (holds_before p.conditions) n ts → (h : Hook) → any_in_trees (p.constructs h) us ≡ false
 
--- a program, whose own list has its pair from the start, with nothing pending
-pub record VisitedProgram (p : Profile) (a : Moment) (t : Tree) (b : Moment) (u : Tree) : Type 0 where
+-- a program, whose own list has its pair from the start, with nothing pending: its statements with the hooks of their list
+pub record VisitedStatements (p : Profile) (a : Moment) (t : Tree) (b : Moment) (u : Tree) : Type 0 where
   pub stepped : top a.lists ≡ nothing_pending → Fits a the_program t → (holds_after p.conditions) the_program t → Steps (Step p.rule the_program) (ledger_with nothing_pending a) (open_program (top a.lists) t) (ledger_with nothing_pending b) (open_program (top b.lists) u)
   pub directives : first_field u ≡ first_field t
   pub free : top a.lists ≡ nothing_pending → Fits a the_program t → (holds_after p.conditions) the_program t → (h : Hook) → any_in_fields (p.constructs h) (body_field u) ≡ false
+  pub visited : top a.lists ≡ nothing_pending → Fits a the_program t → (holds_after p.conditions) the_program t → IsVisited b u
+
+-- and with its own hooks: no statement of the list is left that the type takes away after the program
+pub record VisitedProgram (p : Profile) (e : Ending) (a : Moment) (t : Tree) (b : Moment) (u : Tree) : Type 0 where
+  pub stepped : top a.lists ≡ nothing_pending → Fits a the_program t → (holds_after p.conditions) the_program t → Steps (Step (whole_rule p e) the_program) (ledger_with nothing_pending a) (open_program (top a.lists) t) (ledger_with nothing_pending b) (open_program (top b.lists) u)
+  pub directives : first_field u ≡ first_field t
+  pub free : top a.lists ≡ nothing_pending → Fits a the_program t → (holds_after p.conditions) the_program t → (h : Hook) → any_in_fields (p.constructs h) (body_field u) ≡ false
+  pub cleared : top a.lists ≡ nothing_pending → Fits a the_program t → (holds_after p.conditions) the_program t → any_listed e.constructs (body_field u) ≡ false
 
 -- AT A PLACE THAT MAY BE THE BODY OF AN ARROW
 

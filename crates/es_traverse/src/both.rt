@@ -2,7 +2,7 @@
 ghost use Rattle.std.specs.Prelude.{◌≡◌, false};
 ghost use Rattle.es_tree.specs.declared.options.EnvOptions.{EnvOptions as Options};
 ghost use Rattle.es_visit.specs.Calls.{most};
-ghost use Rattle.es_traverse.specs.Laws.{AreApart, both_profile};
+ghost use Rattle.es_traverse.specs.Laws.{AreApart, EndsApart, both_endings, both_profile};
 ghost use Rattle.es_traverse.specs.Together.{both_lawful};
 
 use crate::lowering::{Additions, Lowering};
@@ -21,14 +21,17 @@ pub struct Both<A: Lowering, B: Lowering> {
     pub first: A,
     pub second: B,
     ghost apart: { (o : Options) → AreApart (A.profile o) (B.profile o) },
+    ghost ends: { (o : Options) → EndsApart (A.profile o) (B.ending o) },
     ghost alone: { B.keeps ≡ false },
 }
 
 impl<A: Lowering, B: Lowering> Both<A, B> {
     /// The two as one. They have the same conditions, the second counts on what the first leaves, makes and writes no
-    /// construct of the first, and keeps no pairs; and the first writes no construct of the second.
+    /// construct of the first, and keeps no pairs; and the first writes no construct of the second, neither one that it
+    /// takes away after the program.
     pub fn new(first: A, second: B) -> Self
         requires apart { (o : Options) → AreApart (A.profile o) (B.profile o) }
+        requires ends { (o : Options) → EndsApart (A.profile o) (B.ending o) }
         requires alone { B.keeps ≡ false }
         ensures first { result.first ≡ first }
         ensures second { result.second ≡ second }
@@ -39,6 +42,8 @@ impl<A: Lowering, B: Lowering> Both<A, B> {
 
 impl<A: Lowering, B: Lowering> Lowering for Both<A, B> {
     ghost profile = { λ o. both_profile (A.profile o) (B.profile o) };
+
+    ghost ending = { λ o. both_endings (A.ending o) (B.ending o) };
 
     ghost keeps = { A.keeps };
 

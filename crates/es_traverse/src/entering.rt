@@ -1,10 +1,10 @@
-//! Types that act at one hook alone, before the children of an expression: their nine other hooks do nothing.
+//! Types that act at one hook alone, before the children of a node: their nine other hooks do nothing.
 ghost use Rattle.std.specs.Prelude.{◌≡◌, OnOk, false};
-ghost use Rattle.es_tree.specs.Tree.{Label, Fields};
 ghost use Rattle.es_tree.specs.declared.options.EnvOptions.{EnvOptions as Options};
 ghost use Rattle.es_traverse.specs.ContextMoments.{moment};
-ghost use Rattle.es_traverse.specs.Laws.{Entered, IsLawful, IsReady, Known, KeptLoad, OnlyOnEntry, Seen, anywhere};
+ghost use Rattle.es_traverse.specs.Laws.{EnteredWhere, IsLawful, IsReady, KeptLoad, OnlyAt, PassesOn, Seen, anywhere, no_ending};
 ghost use Rattle.es_traverse.specs.Loads.{load};
+ghost use Rattle.es_visit.specs.declared.hook.Hook.{Hook as AnyHook};
 ghost use Rattle.es_visit.specs.declared.hook.Hook.TheVariants.{Expression};
 
 use crate::lowering::{Additions, Lowering};
@@ -13,30 +13,38 @@ use crate::traverse::Traverse;
 use es_scope::context::TraverseCtx;
 use es_statements::program::Program;
 use es_tree::node::Node;
-use es_tree::sorts::{ArrowFunctionBody, BindingPattern, Expression, Statement};
+use es_tree::sorts::{ArrowFunctionBody, BindingPattern, Statement};
 use es_visit::hook::Hook;
 use std::alloc::AllocError;
 
-/// A lowering that acts before the children of an expression, and nowhere else. It keeps no pairs, has no constructs but
-/// expressions, and counts no hooks.
+/// A lowering that acts before the children of the nodes that get one hook, and nowhere else. It keeps no pairs, has no
+/// constructs but such nodes, and counts no hooks.
 pub trait Enters<S: Additions>: Lowering {
-    /// Before the children of an expression. Fails only for want of memory, and leaves the node in no stated shape then.
-    fn enter(&self, expression: &mut Expression, ctx: &mut TraverseCtx<S>) -> Result<(), AllocError>
-        requires ready { IsReady Self.suits self.now (moment S.pending ctx.old) (load expression.old) }
-        ensures kept { OnOk result (KeptLoad 0 (moment S.pending ctx.old) expression.old (moment S.pending ctx.new) expression.new) }
-        ensures entered { OnOk result (Seen (λ t u. Entered (Self.profile ctx.old.options) (Known (Self.profile ctx.old.options).counts) (Known (Self.profile ctx.old.options).leaves) Expression anywhere (moment S.pending ctx.old) t (moment S.pending ctx.new) u) expression.old expression.new) };
+    /// The hook.
+    const HOOK: Hook;
+
+    ghost HOOK: { AnyHook };
+
+    /// Before the children of such a node. Fails only for want of memory, and leaves the node in no stated shape then.
+    fn enter(&self, node: &mut Node, ctx: &mut TraverseCtx<S>) -> Result<(), AllocError>
+        requires ready { IsReady Self.suits self.now (moment S.pending ctx.old) (load node.old) }
+        ensures kept { OnOk result (KeptLoad 0 (moment S.pending ctx.old) node.old (moment S.pending ctx.new) node.new) }
+        ensures entered { OnOk result (Seen (λ t u. EnteredWhere (Self.profile ctx.old.options) Self.HOOK anywhere (moment S.pending ctx.old) t (moment S.pending ctx.new) u) node.old node.new) };
 
     /// It keeps no pairs.
     ghost alone: { Self.keeps ≡ false };
 
     /// It removes nothing at other hooks.
-    ghost only: { (o : Options) → OnlyOnEntry (Self.profile o) };
+    ghost only: { (o : Options) → OnlyAt Self.HOOK (Self.profile o) };
+
+    /// At another hook than that of expressions it leaves expressions as it finds them.
+    ghost passes: { (o : Options) → (Self.HOOK ≡ Expression → ⊥) → PassesOn (Self.profile o) };
 
     /// The laws of the type itself.
     ghost lawful: { (x : Self) (o : Options) → IsLawful (Self.profile o) };
 }
 
-/// A type that acts on the entry of expressions, as one that takes part in a visit.
+/// A type that acts on the entry of the nodes of a hook, as one that takes part in a visit.
 #[derive(Drop)]
 pub struct OnEntry<T> {
     pub lowering: T,
@@ -44,6 +52,8 @@ pub struct OnEntry<T> {
 
 impl<T: Lowering> Lowering for OnEntry<T> {
     ghost profile = { T.profile };
+
+    ghost ending = { λ o. no_ending };
 
     ghost keeps = { T.keeps };
 
@@ -126,9 +136,8 @@ impl<S: Additions, T: Enters<S>> Traverse<S> for OnEntry<T> {
         node: &mut Node,
         ctx: &mut TraverseCtx<S>,
     ) -> Result<(), AllocError> {
-        match hook {
-            Hook::Expression => self.lowering.enter(node, ctx)?,
-            _ => {}
+        if hook == T::HOOK {
+            self.lowering.enter(node, ctx)?;
         }
         Ok(())
     }

@@ -3,7 +3,6 @@
 
 pub mod both;
 pub mod entering;
-pub mod entering_kinds;
 pub mod lowering;
 pub mod site;
 pub mod traverse;

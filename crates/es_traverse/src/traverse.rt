@@ -39,7 +39,8 @@ pub trait Traverse<S: Additions>: Lowering {
         ensures same { OnOk result (moment S.pending ctx.new ≡ moment S.pending ctx.old) }
         ensures goes { OnOk result (Goes Self.suits Self.tally Self.entries ctx.old.options WholeProgram self.old self.new) };
 
-    /// After the program. A type that keeps pairs writes what is pending, and leaves nothing.
+    /// After the program. A type that keeps pairs writes what is pending, and leaves nothing. What a type takes away
+    /// of the program's statements here, no statement of the list is any more.
     fn exit_program(
         &mut self,
         program: &mut Program,
@@ -47,7 +48,7 @@ pub trait Traverse<S: Additions>: Lowering {
     ) -> Result<(), AllocError>
         requires ready { IsReady Self.suits self.old (moment S.pending ctx.old) (weight (plain_program program.old)) }
         ensures kept { OnOk result (KeptTree (moment S.pending ctx.old) (plain_program program.old) (moment S.pending ctx.new) (plain_program program.new)) }
-        ensures exited { OnOk result (Seen (λ t u. ExitedProgram (Self.profile ctx.old.options) Self.keeps (moment S.pending ctx.old) t (moment S.pending ctx.new) u) (plain_program program.old) (plain_program program.new)) }
+        ensures exited { OnOk result (Seen (λ t u. ExitedProgram (Self.profile ctx.old.options) (Self.ending ctx.old.options) Self.keeps (moment S.pending ctx.old) t (moment S.pending ctx.new) u) (plain_program program.old) (plain_program program.new)) }
         ensures ids { OnOk result (KeepsIds (plain_program program.old) (plain_program program.new)) }
         ensures goes { OnOk result (GoesOut Self.suits Self.tally Self.entries ctx.old.options WholeProgram program.old.id.0 self.old self.new) };
 

@@ -17,7 +17,7 @@ ghost use Rattle.es_traverse.specs.ContextMoments.{moment};
 ghost use Rattle.es_traverse.specs.Laws.{CanVisit, Exited, IsReady, KeptLoad, KeptTree, KeptVisited, KeptVisitedTrees, MakesNone, Seen, SeenAmong};
 ghost use Rattle.es_traverse.specs.Loads.{allowance, field_load, fields_load, load, own_allowance, trees_load, wrapping, writing};
 ghost use Rattle.es_traverse.specs.Sites.{hook_of_role, is_arrow_body, parameters_in, role_at};
-ghost use Rattle.es_traverse.specs.Visits.{EnteredKind, EnteredNode, EnteredSort, ExitedAt, ExitedNode, VisitedAt, VisitedField, VisitedFields, VisitedList, VisitedProgram, VisitedTrees, opens_at};
+ghost use Rattle.es_traverse.specs.Visits.{EnteredKind, EnteredNode, EnteredSort, ExitedAt, ExitedNode, VisitedAt, VisitedField, VisitedFields, VisitedList, VisitedProgram, VisitedStatements, VisitedTrees, opens_at};
 
 use crate::lowering::Additions;
 use crate::site::{Parent, Role, Site, parent_of, role_at, scope_inside, site_at};
@@ -46,7 +46,7 @@ pub fn traverse<T: Traverse<S>, S: Additions, L: Ledger>(
     requires ready { IsReady T.suits t.old (moment S.pending ctx.old) (load (plain_program program.old)) }
     requires top { around_of ctx.old ≡ [] }
     ensures kept { OnOk result (KeptVisited 0 (moment S.pending ctx.old) (plain_program program.old) (moment S.pending ctx.new) (plain_program program.new)) }
-    ensures visited { OnOk result (Seen (λ p q. VisitedProgram (T.profile ctx.old.options) (moment S.pending ctx.old) p (moment S.pending ctx.new) q) (plain_program program.old) (plain_program program.new)) }
+    ensures visited { OnOk result (Seen (λ p q. VisitedProgram (T.profile ctx.old.options) (T.ending ctx.old.options) (moment S.pending ctx.old) p (moment S.pending ctx.new) q) (plain_program program.old) (plain_program program.new)) }
     ensures finished { OnOk result (first_pending (moment S.pending ctx.new).lists ≡ nothing_pending) }
     ensures calls { OnOk result (Counted T.suits T.tally T.entries ctx.old.options t.old t.new (λ m. total m (plain_program program.new))) }
     ensures cost { OnOk result (steps.new ≤ steps.old + hooks_in (plain_program program.new)) }
@@ -71,7 +71,7 @@ fn visit_program<T: Traverse<S>, S: Additions, L: Ledger>(
     requires ready { IsReady T.suits t.old (moment S.pending ctx.old) (load (plain_program program.old)) }
     requires top { around_of ctx.old ≡ [] }
     ensures kept { OnOk result (KeptVisited 0 (moment S.pending ctx.old) (plain_program program.old) (moment S.pending ctx.new) (plain_program program.new)) }
-    ensures visited { OnOk result (Seen (λ p q. VisitedProgram (T.profile ctx.old.options) (moment S.pending ctx.old) p (moment S.pending ctx.new) q) (plain_program program.old) (plain_program program.new)) }
+    ensures visited { OnOk result (Seen (λ p q. VisitedStatements (T.profile ctx.old.options) (moment S.pending ctx.old) p (moment S.pending ctx.new) q) (plain_program program.old) (plain_program program.new)) }
     ensures calls { OnOk result (Counted T.suits T.tally T.entries ctx.old.options t.old t.new (λ m. m.list + total_among m (trees program.new.body.items))) }
     ensures cost { OnOk result (steps.new ≤ steps.old + 2 + hooks_in_trees (trees program.new.body.items)) }
 {

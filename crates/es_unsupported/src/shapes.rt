@@ -1,8 +1,6 @@
 //! The shapes that a run doesn't take, each told at a node and the scope that the node stands in.
-ghost use Rattle.std.specs.Prelude.{◌≡◌, ℕ, ◌<◌, ◌||◌, List, bytes_eq, codes, is_some};
-ghost use Rattle.es_tree.specs.Constructs.{is_big_int, is_child, is_exponentiation};
+ghost use Rattle.std.specs.Prelude.{◌≡◌, ℕ, ◌<◌, ◌||◌, List, codes, is_some};
 ghost use Rattle.es_tree.specs.Tree.{fields_of, kind_of, label_of};
-ghost use Rattle.es_tree.specs.Words.{assignment_operator_text, binary_operator_text};
 ghost use Rattle.es_tree.specs.declared.options.EnvOptions.{EnvOptions as PlainOptions};
 ghost use Rattle.es_nodes.specs.MaybeFields.{maybe_field};
 ghost use Rattle.es_scope.specs.Tables.{scope_count};
@@ -14,13 +12,13 @@ ghost use Rattle.es_unsupported.specs.Shapes.{has_chain_tag, is_chain_below, is_
 ghost use Rattle.es_unsupported.specs.Wanted.{IsWanted};
 
 use crate::names::may_bind;
+use es_nodes::construct::is_exponentiation;
 use es_nodes::fields::field_at;
 use es_scope::scoping::Scoping;
 use es_tree::error::UnsupportedKind;
 use es_tree::ids::ScopeId;
 use es_tree::kind::Kind;
 use es_tree::node::{Field, Node};
-use es_tree::operators::{AssignmentOperator, BinaryOperator};
 use es_tree::options::EnvOptions;
 use es_tree::parens::strip_parens;
 
@@ -75,43 +73,6 @@ fn binds_math(scoping: &Scoping, scope: ScopeId) -> bool
     ensures { (ds : List Declared) (up : List ℕ) → scope.0 ≡ first up → FindsFrom scoping.now ds up → result ≡ is_some (find ds up (codes "Math")) }
 {
     scoping.find_binding(scope, "Math").is_some()
-}
-
-/// Whether the node is `**` with no BigInt literal directly at either side, or `**=` with none directly at its right.
-fn is_exponentiation(node: &Node) -> bool
-    ensures { result ≡ is_exponentiation (kind_of node.now) (label_of node.now) (fields_of node.now) }
-{
-    match &node.kind {
-        Kind::BinaryExpression { operator } => {
-            is_power(*operator) && !is_big_int(field_at(node, 0)) && !is_big_int(field_at(node, 1))
-        }
-        Kind::AssignmentExpression { operator } => {
-            is_power_assignment(*operator) && !is_big_int(field_at(node, 1))
-        }
-        _ => false,
-    }
-}
-
-fn is_power(operator: BinaryOperator) -> bool
-    ensures { result ≡ bytes_eq (binary_operator_text operator) (codes "**") }
-{
-    matches!(operator, BinaryOperator::Exponential)
-}
-
-fn is_power_assignment(operator: AssignmentOperator) -> bool
-    ensures { result ≡ bytes_eq (assignment_operator_text operator) (codes "**=") }
-{
-    matches!(operator, AssignmentOperator::Exponential)
-}
-
-/// Whether the field is a BigInt literal.
-fn is_big_int(field: Option<&Field>) -> bool
-    ensures { result ≡ is_child is_big_int (maybe_field field.entry) }
-{
-    match field {
-        Some(Field::One(node)) => matches!(node.kind, Kind::BigIntLiteral { .. }),
-        _ => false,
-    }
 }
 
 /// Whether the node is a tagged template whose tag is an optional chain, maybe in parentheses.

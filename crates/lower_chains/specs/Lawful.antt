@@ -4,7 +4,7 @@ use Rattle.std.specs.Prelude.{true}
 use Rattle.es_conditions.specs.CoreConditions.{is_free, is_wrapped}
 use Rattle.es_row_laws.proofs.Lawful.{optional-chaining-lawful}
 use Rattle.es_row_laws.proofs.Stable.{law_stable_rows_proof}
-use Rattle.es_traverse.specs.Laws.{IsLawful, OnlyOnEntry}
+use Rattle.es_traverse.specs.Laws.{IsLawful, OnlyAt}
 use Rattle.es_tree.specs.Constructs.{is_chain}
 use Rattle.es_tree.specs.Tree.{Label, Fields, kind_of}
 use Rattle.es_tree.specs.declared.ast_type.AstType.{AstType}
@@ -24,5 +24,5 @@ chain_lawful o =
     row-lawful is_chain o (is_wrapped o) (is_free o) (chain_rule o) o.es2020.optional_chaining (λ t. is_left (kind_of t) ≡ true) (optional-chaining-lawful o) (law_stable_rows_proof o).optional_chaining.optional_chaining chain_hooked
 
 -- it removes nothing at other hooks
-pub chain_only : (o : EnvOptions) → OnlyOnEntry (chain_profile o)
+pub chain_only : (o : EnvOptions) → OnlyAt Expression (chain_profile o)
 chain_only o = only-where is_chain o.es2020.optional_chaining

@@ -29,6 +29,8 @@ ghost use Rattle.lower_chains.specs.Lawful.{chain_lawful, chain_only};
 ghost use Rattle.lower_chains.specs.Profiles.{Suits, chain_profile};
 ghost use Rattle.lower_chains.specs.Spines.{calls_chain};
 ghost use Rattle.lower_chains.specs.Ways.{Names};
+ghost use Rattle.es_visit.specs.declared.hook.Hook.TheVariants.{Expression};
+ghost use Rattle.es_traverse.specs.Laws.{acts_there, no_ending};
 
 use crate::chains::{lower_chain, lower_delete, lower_inside};
 use crate::parts::{calls_chain, deletes_chain, is_marked_chain};
@@ -38,6 +40,7 @@ use es_traverse::entering::Enters;
 use es_traverse::lowering::Lowering;
 use es_tree::node::Node;
 use es_tree::sorts::Expression;
+use es_visit::hook::Hook;
 use lower_temporaries::made_nodes::new_placeholder;
 use lower_temporaries::state::TransformState;
 use std::alloc::AllocError;
@@ -68,6 +71,8 @@ impl OptionalChaining {
 impl Lowering for OptionalChaining {
     ghost profile = { chain_profile };
 
+    ghost ending = { λ o. no_ending };
+
     ghost keeps = { false };
 
     ghost suits = { Suits };
@@ -78,6 +83,10 @@ impl Lowering for OptionalChaining {
 }
 
 impl Enters<TransformState> for OptionalChaining {
+    const HOOK: Hook = Hook::Expression;
+
+    ghost HOOK = { Expression };
+
     /// Lowers a chain, and one that is called or deleted before it is entered itself; what stands in it is visited
     /// afterwards. Answers an error only for want of memory.
     fn enter(
@@ -96,6 +105,8 @@ impl Enters<TransformState> for OptionalChaining {
     ghost alone = { refl };
 
     ghost only = { λ o. chain_only o };
+
+    ghost passes = { λ o. acts_there (chain_profile o) };
 
     ghost lawful = { λ x o. chain_lawful o };
 }

@@ -8,7 +8,7 @@ use Rattle.es_tree.specs.declared.options.EnvOptions.{EnvOptions}
 use Rattle.es_visit.specs.Hooks.{IsHooked}
 use Rattle.es_visit.specs.declared.hook.Hook.TheVariants.{Expression}
 use Rattle.es_conditions.specs.CoreConditions.{is_free}
-use Rattle.es_traverse.specs.Laws.{IsLawful, OnlyOnEntry}
+use Rattle.es_traverse.specs.Laws.{IsLawful, OnlyAt}
 use Rattle.es_row_laws.specs.Laws.{exponentiation_under, is_lowered_power}
 use Rattle.es_row_laws.proofs.Lawful.{exponentiation-lawful}
 use Rattle.es_row_laws.proofs.Stable.{law_stable_rows_proof}
@@ -25,5 +25,5 @@ pub exponentiation_lawful : (o : EnvOptions) → IsLawful (exponentiation_profil
 exponentiation_lawful o =
     row-lawful is_lowered_power o (is_free o) (is_free o) (exponentiation_under o) o.es2016.exponentiation_operator IsCallOrAssignment (exponentiation-lawful o) (law_stable_rows_proof o).exponentiation.exponentiation exponentiation_hooked
 
-pub exponentiation_only : (o : EnvOptions) → OnlyOnEntry (exponentiation_profile o)
+pub exponentiation_only : (o : EnvOptions) → OnlyAt Expression (exponentiation_profile o)
 exponentiation_only o = only-where is_lowered_power o.es2016.exponentiation_operator

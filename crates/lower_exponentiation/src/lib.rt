@@ -33,6 +33,8 @@ ghost use Rattle.es_tree.specs.Tree.{fields_of, kind_of, label_of};
 ghost use Rattle.lower_exponentiation.specs.Exponentiations.{is_lowerable_exponentiation};
 ghost use Rattle.lower_exponentiation.specs.Lawful.{exponentiation_lawful, exponentiation_only};
 ghost use Rattle.lower_exponentiation.specs.Profile.{exponentiation_profile};
+ghost use Rattle.es_visit.specs.declared.hook.Hook.TheVariants.{Expression};
+ghost use Rattle.es_traverse.specs.Laws.{acts_there, no_ending};
 
 mod constructs;
 mod exponentiation;
@@ -45,6 +47,7 @@ use es_traverse::entering::Enters;
 use es_traverse::lowering::Lowering;
 use es_tree::options::EnvOptions;
 use es_tree::sorts::Expression;
+use es_visit::hook::Hook;
 use lower_temporaries::made_nodes::new_placeholder;
 use lower_temporaries::state::TransformState;
 use std::alloc::AllocError;
@@ -77,6 +80,8 @@ impl ExponentiationOperator {
 impl Lowering for ExponentiationOperator {
     ghost profile = { exponentiation_profile };
 
+    ghost ending = { λ o. no_ending };
+
     ghost keeps = { false };
 
     ghost suits = { λ x o. x.is_on ≡ o.es2016.exponentiation_operator };
@@ -87,6 +92,10 @@ impl Lowering for ExponentiationOperator {
 }
 
 impl Enters<TransformState> for ExponentiationOperator {
+    const HOOK: Hook = Hook::Expression;
+
+    ghost HOOK = { Expression };
+
     /// Lowers a `**` or `**=`; its operands are visited afterwards, in the call.
     fn enter(
         &self,
@@ -104,6 +113,8 @@ impl Enters<TransformState> for ExponentiationOperator {
     ghost alone = { refl };
 
     ghost only = { exponentiation_only };
+
+    ghost passes = { λ o. acts_there (exponentiation_profile o) };
 
     ghost lawful = { λ x o. exponentiation_lawful o };
 }

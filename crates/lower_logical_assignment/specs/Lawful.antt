@@ -10,7 +10,7 @@ use Rattle.es_visit.specs.Hooks.{IsHooked}
 use Rattle.es_visit.specs.declared.hook.Hook.{Hook}
 use Rattle.es_visit.specs.declared.hook.Hook.TheVariants.{Expression}
 use Rattle.es_conditions.specs.CoreConditions.{is_wrapped}
-use Rattle.es_traverse.specs.Laws.{IsLawful, IsStable, OnlyOnEntry}
+use Rattle.es_traverse.specs.Laws.{IsLawful, IsStable, OnlyAt}
 use Rattle.es_row_laws.specs.Laws.{is_lowered_assignment, logical_assignment_under}
 use Rattle.es_row_laws.proofs.Lawful.{logical-assignment-lawful}
 use Rattle.es_row_laws.proofs.Stable.{law_stable_rows_proof}
@@ -30,5 +30,5 @@ logical_assignment_lawful o =
     row-lawful is_lowered_assignment o (is_wrapped o) (is_wrapped o) (logical_assignment_under o) o.es2021.logical_assignment_operators (λ t. kind_of t ≡ LogicalExpression) (logical-assignment-lawful o)
     (law_stable_rows_proof o).logical_assignment.logical_assignment assignment_hooked
 
-pub logical_assignment_only : (o : EnvOptions) → OnlyOnEntry (logical_assignment_profile o)
+pub logical_assignment_only : (o : EnvOptions) → OnlyAt Expression (logical_assignment_profile o)
 logical_assignment_only o = only-where is_lowered_assignment o.es2021.logical_assignment_operators

@@ -20,6 +20,8 @@ ghost use Rattle.es_tree.specs.Tree.{fields_of, kind_of, label_of};
 ghost use Rattle.lower_logical_assignment.specs.Assignments.{is_lowerable_assignment};
 ghost use Rattle.lower_logical_assignment.specs.Lawful.{logical_assignment_lawful, logical_assignment_only};
 ghost use Rattle.lower_logical_assignment.specs.Profile.{logical_assignment_profile};
+ghost use Rattle.es_visit.specs.declared.hook.Hook.TheVariants.{Expression};
+ghost use Rattle.es_traverse.specs.Laws.{acts_there, no_ending};
 
 mod assignments;
 mod targets;
@@ -31,6 +33,7 @@ use es_traverse::lowering::Lowering;
 use es_tree::node::Node;
 use es_tree::options::EnvOptions;
 use es_tree::sorts::Expression;
+use es_visit::hook::Hook;
 use lower_temporaries::made_nodes::new_placeholder;
 use lower_temporaries::state::TransformState;
 use std::alloc::AllocError;
@@ -63,6 +66,8 @@ impl LogicalAssignmentOperators {
 impl Lowering for LogicalAssignmentOperators {
     ghost profile = { logical_assignment_profile };
 
+    ghost ending = { λ o. no_ending };
+
     ghost keeps = { false };
 
     ghost suits = { λ x o. x.is_on ≡ o.es2021.logical_assignment_operators };
@@ -73,6 +78,10 @@ impl Lowering for LogicalAssignmentOperators {
 }
 
 impl Enters<TransformState> for LogicalAssignmentOperators {
+    const HOOK: Hook = Hook::Expression;
+
+    ghost HOOK = { Expression };
+
     /// Lowers a logical assignment; what stands in it is visited afterwards, in the logical expression.
     fn enter(
         &self,
@@ -90,6 +99,8 @@ impl Enters<TransformState> for LogicalAssignmentOperators {
     ghost alone = { refl };
 
     ghost only = { logical_assignment_only };
+
+    ghost passes = { λ o. acts_there (logical_assignment_profile o) };
 
     ghost lawful = { λ x o. logical_assignment_lawful o };
 }

@@ -11,7 +11,7 @@ use Rattle.es_visit.specs.Hooks.{IsHooked}
 use Rattle.es_visit.specs.declared.hook.Hook.{Hook}
 use Rattle.es_visit.specs.declared.hook.Hook.TheVariants.{Expression}
 use Rattle.es_conditions.specs.CoreConditions.{is_wrapped}
-use Rattle.es_traverse.specs.Laws.{IsLawful, IsStable, OnlyOnEntry}
+use Rattle.es_traverse.specs.Laws.{IsLawful, IsStable, OnlyAt}
 use Rattle.es_row_laws.specs.Laws.{nullish_coalescing_under}
 use Rattle.es_row_laws.proofs.Lawful.{nullish-coalescing-lawful}
 use Rattle.es_row_laws.proofs.Stable.{law_stable_rows_proof}
@@ -31,5 +31,5 @@ nullish_coalescing_lawful o =
     row-lawful is_nullish_coalescing o (is_wrapped o) (is_wrapped o) (nullish_coalescing_under o) o.es2020.nullish_coalescing_operator (λ t. kind_of t ≡ ConditionalExpression) (nullish-coalescing-lawful o)
     (law_stable_rows_proof o).nullish_coalescing.nullish_coalescing coalescing_hooked
 
-pub nullish_coalescing_only : (o : EnvOptions) → OnlyOnEntry (nullish_coalescing_profile o)
+pub nullish_coalescing_only : (o : EnvOptions) → OnlyAt Expression (nullish_coalescing_profile o)
 nullish_coalescing_only o = only-where is_nullish_coalescing o.es2020.nullish_coalescing_operator

@@ -21,6 +21,8 @@ ghost use Rattle.es_tree.specs.Tree.{fields_of, kind_of, label_of};
 ghost use Rattle.lower_nullish_coalescing.specs.Coalescings.{is_lowerable_coalescing};
 ghost use Rattle.lower_nullish_coalescing.specs.Lawful.{nullish_coalescing_lawful, nullish_coalescing_only};
 ghost use Rattle.lower_nullish_coalescing.specs.Profile.{nullish_coalescing_profile};
+ghost use Rattle.es_visit.specs.declared.hook.Hook.TheVariants.{Expression};
+ghost use Rattle.es_traverse.specs.Laws.{acts_there, no_ending};
 
 mod coalescing;
 
@@ -31,6 +33,7 @@ use es_traverse::lowering::Lowering;
 use es_tree::node::Node;
 use es_tree::options::EnvOptions;
 use es_tree::sorts::Expression;
+use es_visit::hook::Hook;
 use lower_temporaries::made_nodes::new_placeholder;
 use lower_temporaries::state::TransformState;
 use std::alloc::AllocError;
@@ -63,6 +66,8 @@ impl NullishCoalescingOperator {
 impl Lowering for NullishCoalescingOperator {
     ghost profile = { nullish_coalescing_profile };
 
+    ghost ending = { λ o. no_ending };
+
     ghost keeps = { false };
 
     ghost suits = { λ x o. x.is_on ≡ o.es2020.nullish_coalescing_operator };
@@ -73,6 +78,10 @@ impl Lowering for NullishCoalescingOperator {
 }
 
 impl Enters<TransformState> for NullishCoalescingOperator {
+    const HOOK: Hook = Hook::Expression;
+
+    ghost HOOK = { Expression };
+
     /// Lowers a `??`; its sides are visited afterwards, in the conditional.
     fn enter(
         &self,
@@ -90,6 +99,8 @@ impl Enters<TransformState> for NullishCoalescingOperator {
     ghost alone = { refl };
 
     ghost only = { nullish_coalescing_only };
+
+    ghost passes = { λ o. acts_there (nullish_coalescing_profile o) };
 
     ghost lawful = { λ x o. nullish_coalescing_lawful o };
 }

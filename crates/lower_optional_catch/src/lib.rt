@@ -18,20 +18,21 @@ ghost use Rattle.es_visit.specs.declared.hook.Hook.TheVariants.{CatchClause};
 ghost use Rattle.lower_optional_catch.specs.Catches.{is_lowerable_catch};
 ghost use Rattle.lower_optional_catch.specs.Lawful.{optional_catch_lawful, optional_catch_only};
 ghost use Rattle.lower_optional_catch.specs.Profile.{optional_catch_profile};
+ghost use Rattle.es_traverse.specs.Laws.{no_ending};
 
 mod clauses;
 
 use crate::clauses::{CATCH_PARAMETER, is_lowerable, set_parameter};
 use es_scope::context::TraverseCtx;
 use es_scope::outer_scopes::scope_of;
-use es_traverse::entering_kinds::EntersKind;
+use es_traverse::entering::Enters;
 use es_traverse::lowering::Lowering;
 use es_traverse::site::scope_inside;
 use es_tree::node::Node;
 use es_tree::options::EnvOptions;
 use es_visit::hook::Hook;
 use lower_temporaries::state::TransformState;
-use lower_temporaries::temporaries::new_parameter;
+use lower_temporaries::temporaries::new_bound_name;
 use std::alloc::AllocError;
 
 /// The lowering of optional catch bindings.
@@ -62,6 +63,8 @@ impl OptionalCatchBinding {
 impl Lowering for OptionalCatchBinding {
     ghost profile = { optional_catch_profile };
 
+    ghost ending = { λ o. no_ending };
+
     ghost keeps = { false };
 
     ghost suits = { λ x o. x.is_on ≡ o.es2019.optional_catch_binding };
@@ -71,7 +74,7 @@ impl Lowering for OptionalCatchBinding {
     ghost entries = { λ x h. 0 };
 }
 
-impl EntersKind<TransformState> for OptionalCatchBinding {
+impl Enters<TransformState> for OptionalCatchBinding {
     const HOOK: Hook = Hook::CatchClause;
 
     ghost HOOK = { CatchClause };
@@ -87,18 +90,16 @@ impl EntersKind<TransformState> for OptionalCatchBinding {
             return Ok(());
         }
         let scope = scope_inside(ctx, scope_of(&node.kind));
-        let parameter = new_parameter("unused", scope, CATCH_PARAMETER, ctx)?;
+        let parameter = new_bound_name("unused", scope, CATCH_PARAMETER, ctx)?;
         set_parameter(node, parameter);
         Ok(())
     }
-
-    ghost of_kind = { refl };
 
     ghost alone = { refl };
 
     ghost only = { optional_catch_only };
 
-    ghost passes = { λ o n t known. known };
+    ghost passes = { λ o no n t known. known };
 
     ghost lawful = { λ x o. optional_catch_lawful o };
 }

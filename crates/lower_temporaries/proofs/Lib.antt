@@ -12,3 +12,4 @@ pub mod RowProfiles
 pub mod Loads
 pub mod Later
 pub mod ParensForm
+pub mod BoundNames

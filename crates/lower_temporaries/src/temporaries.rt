@@ -11,7 +11,7 @@ ghost use Rattle.es_steps.specs.Duplication.{is_among_symbols};
 ghost use Rattle.es_steps.specs.Nodes.{identifier};
 ghost use Rattle.lower_temporaries.specs.SeenTrees.{IsSeenAs, named};
 ghost use Rattle.lower_temporaries.specs.Takings.{ReadsMore};
-ghost use Rattle.lower_temporaries.specs.Temporaries.{TakesParameter, TakesTemporary};
+ghost use Rattle.lower_temporaries.specs.Temporaries.{TakesBoundName, TakesTemporary};
 
 use crate::declarations::{MADE, VarDeclarationsStore};
 use crate::readings::{READS, WRITES, new_name};
@@ -55,9 +55,9 @@ pub fn new_temporary(
     })
 }
 
-/// A fresh name of the base that this text gives, as a parameter: it is bound in this scope, where its node is to stand
-/// as a binding. What stands there gives it its value, so it counts as written.
-pub fn new_parameter(
+/// A fresh name of the base that this text gives, bound in this scope with these flags, as the node that is to stand
+/// there as its binding. What stands there gives it its value, so it counts as written.
+pub fn new_bound_name(
     base: &str,
     scope: ScopeId,
     flags: SymbolFlags,
@@ -65,9 +65,25 @@ pub fn new_parameter(
 ) -> Result<Node, AllocError>
     requires scope { scope.0 < scope_count (table_of ctx.old) }
     requires room { ctx.old.ast.next < 2 ^ 32 - 1 }
-    ensures taken { IfOk result (λ node. TakesParameter (text_base base.now) ctx.old ctx.new node) }
+    ensures taken { IfOk result (λ node. TakesBoundName (text_base base.now) scope.0 flags ctx.old ctx.new node) }
 {
     let BoundIdentifier { name, symbol_id } = ctx.generate_uid(base, scope, flags)?;
+    let node = ctx.create_bound_ident_expr(MADE, name.as_str(), symbol_id, WRITES)?;
+    Ok(node)
+}
+
+/// The same, where a node gives the base.
+pub fn new_bound_name_based_on_node(
+    base: &Node,
+    scope: ScopeId,
+    flags: SymbolFlags,
+    ctx: &mut TraverseCtx<TransformState>,
+) -> Result<Node, AllocError>
+    requires scope { scope.0 < scope_count (table_of ctx.old) }
+    requires room { ctx.old.ast.next < 2 ^ 32 - 1 }
+    ensures taken { IfOk result (λ node. TakesBoundName (node_base base.now) scope.0 flags ctx.old ctx.new node) }
+{
+    let BoundIdentifier { name, symbol_id } = ctx.generate_uid_based_on_node(base, scope, flags)?;
     let node = ctx.create_bound_ident_expr(MADE, name.as_str(), symbol_id, WRITES)?;
     Ok(node)
 }

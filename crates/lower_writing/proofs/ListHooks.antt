@@ -1,12 +1,16 @@
 -- The hooks of lists, parameters, bodies of arrows and the program.
 use Rattle.std.proofs.Common.{◌≡◌, ◌∙◌, ◌+◌, ◌<◌, ◌≤◌, ℕ, refl, sym, ap, subst, arith, List, length, inl, Option, None, true≢false, [], ◌∷◌}
 use Rattle.std.specs.Prelude.{Bool, true, false, not, ◌&&◌, ◌||◌, if◌then◌else◌}
+use Rattle.std.proofs.lemmas.Bool.{and_parts, and_from}
+use Rattle.es_tree.specs.HasForm.{has_form}
 use Rattle.es_tree.specs.Tree.{Tree, node, Label, Fields, done, ◌then◌, many, statements, one, Trees, empty, ◌before◌, tree_size, trees_size}
 use Rattle.es_tree.specs.Walks.{any_in_trees, any_node}
 use Rattle.es_tree.specs.Words.{Text}
 use Rattle.es_tree.specs.declared.ast_type.AstType.{AstType}
 use Rattle.es_tree.specs.declared.ast_type.AstType.TheVariants.{Program}
 use Rattle.es_tree.specs.declared.options.EnvOptions.{EnvOptions}
+use Rattle.es_tree.specs.declared.table.Sort.TheVariants.{Program as s-Program, Statement as s-Statement}
+use Rattle.es_tree.proofs.NodeForm.{node_form, has_form-node}
 use Rattle.es_resolution.specs.Seen.{seen, seen_among}
 use Rattle.es_runs.specs.Weights.{trees_weight, weight}
 use Rattle.es_steps.specs.Nodes.{body_node, return_node}
@@ -19,12 +23,15 @@ use Rattle.es_steps.specs.Steps.FieldsStep.{in_first, in_later}
 use Rattle.es_steps.specs.Steps.Step.{inside}
 use Rattle.es_steps.specs.Steps.Steps.{goes, stays}
 use Rattle.es_steps.specs.WrapRule.{WrapRule}
+use Rattle.es_steps.proofs.FormLists.{IsPlain, plain-none, whole-formed}
 use Rattle.es_visit.specs.Counts.{all_hooks, hooks_in, hooks_in_trees}
 use Rattle.es_visit.specs.Calls.{KeepsAllIds, KeepsIds}
 use Rattle.es_changes.specs.Changes.{Each, Kept, ListStepped, pending_size, pending_weight}
 use Rattle.es_changes.specs.Moments.{Moment, ledger_with, top, with_pair}
-use Rattle.es_traverse.specs.Laws.{EnteredList, EnteredParameters, Exited, ExitedBody, ExitedList, ExitedParameters, ExitedProgram, KeptTree, KeptTrees, Seen, SeenAmong, anything, is_construct, is_outermost, opens_body, opens_list}
+use Rattle.es_traverse.specs.Laws.{EnteredList, EnteredParameters, Exited, ExitedBody, ExitedList, ExitedParameters, ExitedProgram, KeptTree, KeptTrees, Seen, SeenAmong, anything, is_construct, is_outermost, no_ending, opens_body, opens_list}
+use Rattle.es_traverse.specs.Listed.{any_among}
 use Rattle.es_traverse.proofs.Kept.{hooks-seen, hooks-seen-among}
+use Rattle.es_traverse.proofs.NoHooks.{none-listed}
 use Rattle.lower_temporaries.specs.Declarators.{declarations_written}
 use Rattle.lower_temporaries.specs.Store.{is_inert_pending}
 use Rattle.lower_writing.specs.Writing.{MayBeWritten, after_writing, common_profile, ids_for, ids_for_body}
@@ -32,7 +39,7 @@ use Rattle.lower_writing.proofs.InertTrees.{none-written, written-size, written-
 use Rattle.lower_writing.proofs.Pairs.{body-pair, kept-emptied, no-pair, one-pair}
 use Rattle.lower_temporaries.proofs.SeenLaws.{size-seen}
 use Rattle.lower_writing.proofs.SeenWeights.{trees-size-seen, trees-weight-seen, weight-seen}
-use Rattle.lower_writing.proofs.WrittenLists.{after-none, after-sum}
+use Rattle.lower_writing.proofs.WrittenLists.{after-among, after-none, after-sum, among-less}
 
 or-false : (a b : Bool) → a ≡ false → b ≡ false → (a || b) ≡ false
 or-false a b e d = rw (e, d) refl
@@ -82,23 +89,43 @@ module _ (o : EnvOptions) where
       subst (λ m. ExitedList (common_profile o) true a ts m us) (sym h)
       (subst (λ vs. ExitedList (common_profile o) true a ts (after_writing 0 a) vs) (sym g) (exited-whole a ts e inert (subst (λ vs. hooks_in_trees ts ≤ hooks_in_trees vs) g more)))
 
+  -- the same of the statements themselves
+  none-among-whole : (p : Pending) (ts : Trees) (test : AstType → Label → Fields → Bool) → is_inert_pending p ≡ true → ((v : Tree) → MayBeWritten v → is_construct test v ≡ false) → any_among test ts ≡ false → any_among test (whole_list p None no_additions ts) ≡ false
+  none-among-whole p ts test inert f h = after-among test (written p empty) ts (among-less test (written p empty) (none-written test f p empty inert refl)) h
+
   -- THE PROGRAM, with its pair opened again
 
+  program-formed : (l : Label) (ds ts : Trees) (p : Pending) → IsPlain p → has_form s-Program (node Program l (many ds then statements ts then done)) ≡ true → has_form s-Program (node Program l (many ds then statements (whole_list p None no_additions ts) then done)) ≡ true
+  program-formed l ds ts p plain h =
+      let was = node_form s-Program Program l (many ds then statements ts then done) h in
+      let parts = and_parts _ _ was.children in
+      has_form-node s-Program Program l (many ds then statements (whole_list p None no_additions ts) then done) (record {
+        sort = was.sort;
+        texts = was.texts;
+        flags = was.flags;
+        start = was.start;
+        stop = was.stop;
+        agree = refl;
+        children = and_from _ _ parts.0 (and_from _ true (whole-formed s-Statement p None no_additions ts refl (record { vars = plain; this = refl; top = refl }) (and_parts _ true parts.1).0) refl);
+      })
+
   program-written : (a : Moment) (l : Label) (ds ts : Trees) → is_inert_pending (top a.lists) ≡ true →
-      ExitedProgram (common_profile o) true a (node Program l (many ds then statements ts then done)) (with_pair (after_writing 0 a)) (node Program l (many ds then statements (whole_list (top a.lists) None no_additions ts) then done))
+      ExitedProgram (common_profile o) no_ending true a (node Program l (many ds then statements ts then done)) (with_pair (after_writing 0 a)) (node Program l (many ds then statements (whole_list (top a.lists) None no_additions ts) then done))
   program-written a l ds ts inert = record {
-    stepped = λ k. goes (inside (in_later (in_first (acts_on_list ts (whole_list (top a.lists) None no_additions ts) (inl declarators))))) stays;
+    stepped = λ k. goes (inside (in_later (in_first (acts_on_list ts (whole_list (top a.lists) None no_additions ts) (inl (inl declarators)))))) stays;
+    stays = λ k. record { formed = program-formed l ds ts (top a.lists) k.plain k.formed; plain = plain-none };
+    cleared = λ k. none-listed (statements (whole_list (top a.lists) None no_additions ts) then done);
     finished = λ k. refl;
-    same = λ k. absurd (true≢false k);
     directives = refl;
     none = λ test f h. or-false _ _ (none-whole (top a.lists) ts test inert f (left-false (any_in_trees test ts) false h)) refl;
+    none_listed = λ test f h. or-false _ _ (none-among-whole (top a.lists) ts test inert f (left-false (any_among test ts) false h)) refl;
   }
 
   pub exited-program : (a b : Moment) (l : Label) (ds ts us : Trees) → is_inert_pending (top a.lists) ≡ true → b ≡ with_pair (after_writing 0 a) → us ≡ whole_list (top a.lists) None no_additions ts →
-      ExitedProgram (common_profile o) true a (node Program l (many ds then statements ts then done)) b (node Program l (many ds then statements us then done))
+      ExitedProgram (common_profile o) no_ending true a (node Program l (many ds then statements ts then done)) b (node Program l (many ds then statements us then done))
   exited-program a b l ds ts us inert h g =
-      subst (λ m. ExitedProgram (common_profile o) true a (node Program l (many ds then statements ts then done)) m (node Program l (many ds then statements us then done))) (sym h)
-      (subst (λ vs. ExitedProgram (common_profile o) true a (node Program l (many ds then statements ts then done)) (with_pair (after_writing 0 a)) (node Program l (many ds then statements vs then done))) (sym g) (program-written a l ds ts inert))
+      subst (λ m. ExitedProgram (common_profile o) no_ending true a (node Program l (many ds then statements ts then done)) m (node Program l (many ds then statements us then done))) (sym h)
+      (subst (λ vs. ExitedProgram (common_profile o) no_ending true a (node Program l (many ds then statements ts then done)) (with_pair (after_writing 0 a)) (node Program l (many ds then statements vs then done))) (sym g) (program-written a l ds ts inert))
 
   -- BODIES OF ARROWS
 

@@ -2,13 +2,15 @@
 use Rattle.std.proofs.Common.{◌≡◌, ◌∙◌, ℕ, zero, suc, ◌+◌, ◌≤◌, refl, sym, ap, List, [], ◌∷◌, ◌++◌, length, take, drop, append-nil, arith, Option, Some, None}
 use Rattle.std.specs.Prelude.{Bool, true, false, ◌||◌, if◌then◌else◌, insert, codes}
 use Rattle.es_tree.specs.Tree.{Tree, node, Label, Fields, Trees, empty, ◌before◌, trees}
-use Rattle.es_tree.specs.Walks.{any_node, any_in_trees}
+use Rattle.es_tree.specs.Walks.{any_node, any_in_fields, any_in_trees}
 use Rattle.es_tree.specs.Words.{Text}
 use Rattle.es_tree.specs.declared.ast_type.AstType.{AstType}
 use Rattle.es_resolution.specs.Seen.{seen, seen_among}
 use Rattle.es_steps.specs.Nodes.{joined_trees}
 use Rattle.es_steps.specs.Open.{Pending, after_imports, declaration, is_import, no_additions, whole_list, written}
 use Rattle.es_visit.specs.Counts.{Measure, total, total_among}
+use Rattle.es_traverse.specs.Laws.{is_construct}
+use Rattle.es_traverse.specs.Listed.{any_among}
 use Rattle.lower_temporaries.specs.Declarators.{declaration_of}
 use Rattle.lower_temporaries.specs.SeenTrees.{IsSeenAsOption}
 use Rattle.lower_writing.specs.Lists.{imports_before, listed, with_statement}
@@ -150,16 +152,34 @@ right-false : (a b : Bool) → (a || b) ≡ false → b ≡ false
 right-false false b h = h
 right-false true b h = cc
 
+-- a test of lists that passes where one of their trees does
+module _ (f : Trees → Bool) (g : Tree → Bool) (step : (t : Tree) (ts : Trees) → f (t before ts) ≡ (g t || f ts)) where
+  pub joined-free : (bs ts : Trees) → f bs ≡ false → f ts ≡ false → f (joined_trees bs ts) ≡ false
+  joined-free empty ts h k = k
+  joined-free (b before bs) ts h k =
+      let first = sym (step b bs) ∙ h in
+      step b (joined_trees bs ts) ∙ or-false _ _ (left-false (g b) (f bs) first) (joined-free bs ts (right-false (g b) (f bs) first) k)
+
+  after-free-by : (b : Bool) (bs : Trees) (t : Tree) (ts : Trees) → f bs ≡ false → f (t before ts) ≡ false → (f ts ≡ false → f (after_imports bs ts) ≡ false) → f (if b then t before after_imports bs ts else joined_trees bs (t before ts)) ≡ false
+  after-free-by true bs t ts h k rest =
+      let parts = sym (step t ts) ∙ k in
+      step t (after_imports bs ts) ∙ or-false _ _ (left-false (g t) (f ts) parts) (rest (right-false (g t) (f ts) parts))
+  after-free-by false bs t ts h k rest = joined-free bs (t before ts) h k
+
+  pub after-free : (bs ts : Trees) → f bs ≡ false → f ts ≡ false → f (after_imports bs ts) ≡ false
+  after-free bs empty h k = h
+  after-free bs (t before ts) h k = after-free-by (is_import t) bs t ts h k (λ d. after-free bs ts h d)
+
 module _ (test : AstType → Label → Fields → Bool) where
-  pub joined-none-of : (bs ts : Trees) → any_in_trees test bs ≡ false → any_in_trees test ts ≡ false → any_in_trees test (joined_trees bs ts) ≡ false
-  joined-none-of empty ts h k = k
-  joined-none-of (b before bs) ts h k = or-false _ _ (left-false (any_node test b) (any_in_trees test bs) h) (joined-none-of bs ts (right-false (any_node test b) (any_in_trees test bs) h) k)
-
-  after-none-by : (b : Bool) (bs : Trees) (t : Tree) (ts : Trees) → any_in_trees test bs ≡ false → any_in_trees test (t before ts) ≡ false → (any_in_trees test ts ≡ false → any_in_trees test (after_imports bs ts) ≡ false) →
-      any_in_trees test (if b then t before after_imports bs ts else joined_trees bs (t before ts)) ≡ false
-  after-none-by true bs t ts h k rest = or-false _ _ (left-false (any_node test t) (any_in_trees test ts) k) (rest (right-false (any_node test t) (any_in_trees test ts) k))
-  after-none-by false bs t ts h k rest = joined-none-of bs (t before ts) h k
-
   pub after-none : (bs ts : Trees) → any_in_trees test bs ≡ false → any_in_trees test ts ≡ false → any_in_trees test (after_imports bs ts) ≡ false
-  after-none bs empty h k = h
-  after-none bs (t before ts) h k = after-none-by (is_import t) bs t ts h k (λ d. after-none bs ts h d)
+  after-none = after-free (any_in_trees test) (any_node test) (λ t ts. refl)
+
+  -- the same of the trees themselves
+  pub after-among : (bs ts : Trees) → any_among test bs ≡ false → any_among test ts ≡ false → any_among test (after_imports bs ts) ≡ false
+  after-among = after-free (any_among test) (is_construct test) (λ t ts. refl)
+
+  -- where no node is a construct, none of the trees is
+  pub among-less : (ts : Trees) → any_in_trees test ts ≡ false → any_among test ts ≡ false
+  among-less empty h = refl
+  among-less (node k l fs before ts) h =
+      or-false _ _ (left-false (test k l fs) (any_in_fields test fs) (left-false (any_node test (node k l fs)) (any_in_trees test ts) h)) (among-less ts (right-false (any_node test (node k l fs)) (any_in_trees test ts) h))

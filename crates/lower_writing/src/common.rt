@@ -31,7 +31,7 @@ ghost use Rattle.es_scope.specs.Contexts.{around_of};
 ghost use Rattle.es_steps.specs.Open.{is_statement_body, no_additions, whole_list, written_body};
 ghost use Rattle.es_visit.specs.Calls.{KeepsAllIds, KeepsIds};
 ghost use Rattle.es_changes.specs.Moments.{top};
-ghost use Rattle.es_traverse.specs.Laws.{Seen, SeenAmong, is_outermost};
+ghost use Rattle.es_traverse.specs.Laws.{Seen, SeenAmong, is_outermost, no_ending};
 ghost use Rattle.lower_temporaries.specs.Declarators.{declarations_written};
 ghost use Rattle.lower_temporaries.specs.Store.{is_inert_pending};
 ghost use Rattle.lower_temporaries.specs.Takings.{moment_of};
@@ -74,6 +74,8 @@ impl Common {
 
 impl Lowering for Common {
     ghost profile = { common_profile };
+
+    ghost ending = { λ o. no_ending };
 
     ghost keeps = { true };
 

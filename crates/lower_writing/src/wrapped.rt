@@ -8,10 +8,8 @@ ghost use Rattle.es_tree.specs.Views.{plain_field};
 ghost use Rattle.es_steps.specs.Slots.{closes, holds, holds_field};
 ghost use Rattle.es_steps.specs.WrapRule.{is_wrapped_for, takes_for_target};
 
-use crate::constructs::{
-    assigns_nullish, assigns_power, assigns_rest, is_chain, is_logical_assignment,
-    is_member_target, is_nullish_coalescing,
-};
+use crate::constructs::{assigns_nullish, assigns_power, assigns_rest, is_member_target};
+use es_nodes::construct::{is_chain, is_logical_assignment, is_nullish_coalescing};
 use es_nodes::fields::field_at;
 use es_tree::kind::Kind;
 use es_tree::node::{Field, Node};

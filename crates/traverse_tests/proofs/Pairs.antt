@@ -11,10 +11,11 @@ use Rattle.es_steps.specs.Steps.Steps.{stays}
 use Rattle.es_visit.specs.declared.hook.Hook.{Hook}
 use Rattle.es_visit.specs.declared.hook.Hook.TheVariants.{Expression, Statement}
 use Rattle.es_changes.specs.Moments.{Moment, below, ledger_with, top, with_lists, with_pair}
-use Rattle.es_traverse.specs.Laws.{BodyStepped, EnteredAs, EnteredList, EnteredParameters, Exited, ExitedBody, ExitedList, ExitedParameters, ExitedProgram, Seen, is_outermost, opens_body, opens_list}
+use Rattle.es_traverse.specs.Laws.{BodyStepped, EnteredAs, EnteredList, EnteredParameters, Exited, ExitedBody, ExitedList, ExitedParameters, ExitedProgram, Seen, body_field, is_outermost, no_ending, opens_body, opens_list}
 use Rattle.es_traverse.specs.declared.site.Site.{Site as CodeSite}
 use Rattle.es_traverse.specs.declared.site.Site.TheVariants.{ArrowBody}
 use Rattle.es_traverse.proofs.Kept.{opens-seen}
+use Rattle.es_traverse.proofs.NoHooks.{none-listed}
 use Rattle.traverse_tests.specs.Quiet.{never, quiet}
 
 -- COUNTS OF PAIRS
@@ -45,8 +46,8 @@ entered_parameters a ts = record { stepped = λ n f k. stays; leaves = λ n f k.
 pub exited_parameters : (a : Moment) (ts : Trees) → ExitedParameters quiet a ts a ts
 exited_parameters a ts = record { stepped = λ n f k. stays; none = λ test w h. h; hooks = omega arith }
 
-pub exited_program : (a : Moment) (t : Tree) → top a.lists ≡ nothing_pending → ExitedProgram quiet true a t a t
-exited_program a t h = record { stepped = λ k. stays; finished = λ k. h; same = λ k. (refl, refl); directives = refl; none = λ test w k. k }
+pub exited_program : (a : Moment) (t : Tree) → top a.lists ≡ nothing_pending → ExitedProgram quiet no_ending true a t a t
+exited_program a t h = record { stepped = λ k. stays; stays = λ k. k; cleared = λ k. none-listed (body_field t); finished = λ k. h; directives = refl; none = λ test w k. k; none_listed = λ test w k. k }
 
 -- LISTS
 

@@ -2,6 +2,7 @@
 ghost use Rattle.std.specs.Prelude.{◌≡◌, ◌+◌, ◌-◌, ◌<◌, OnOk, replicate, true};
 ghost use Rattle.es_steps.specs.Open.{is_statement_body, nothing_pending};
 ghost use Rattle.traverse_tests.specs.Quiet.{quiet, quiet_lawful};
+ghost use Rattle.es_traverse.specs.Laws.{no_ending};
 
 use es_scope::context::TraverseCtx;
 use es_statements::program::Program;
@@ -97,6 +98,8 @@ fn is_statement_body(body: &Node) -> bool
 
 impl Lowering for HookCounts {
     ghost profile = { λ o. quiet };
+
+    ghost ending = { λ o. no_ending };
 
     ghost keeps = { true };
 

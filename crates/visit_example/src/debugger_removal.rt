@@ -3,6 +3,7 @@
 ghost use Rattle.std.specs.Prelude.{◌≡◌, false};
 ghost use Rattle.visit_example.specs.Lawful.{removal_lawful};
 ghost use Rattle.visit_example.specs.Removals.{removal, without_debugger};
+ghost use Rattle.es_traverse.specs.Laws.{no_ending};
 
 use es_scope::context::TraverseCtx;
 use es_statements::program::Program;
@@ -31,6 +32,8 @@ pub struct DebuggerRemoval {}
 
 impl Lowering for DebuggerRemoval {
     ghost profile = { λ o. removal };
+
+    ghost ending = { λ o. no_ending };
 
     ghost keeps = { false };
 

@@ -7,7 +7,7 @@ ghost use Rattle.es_scope.specs.Contexts.{around_of};
 ghost use Rattle.es_statements.specs.ProgramPlain.{plain_program};
 ghost use Rattle.es_steps.specs.Open.{nothing_pending};
 ghost use Rattle.es_steps.specs.Steps.{the_program};
-ghost use Rattle.es_traverse.specs.Laws.{Seen};
+ghost use Rattle.es_traverse.specs.Laws.{Seen, no_ending};
 ghost use Rattle.es_traverse.specs.Loads.{load};
 ghost use Rattle.es_traverse.specs.Visits.{VisitedProgram};
 ghost use Rattle.es_tree.specs.Tree.{trees};
@@ -44,7 +44,7 @@ pub fn remove_debuggers<L: Ledger>(
 ) -> Result<(), AllocError>
     requires top { around_of ctx.old ≡ [] }
     requires room { HasRoom (moment_of ctx.old) (load (plain_program program.old)) }
-    ensures visited { OnOk result (Seen (λ p q. VisitedProgram removal (moment_of ctx.old) p (moment_of ctx.new) q) (plain_program program.old) (plain_program program.new)) }
+    ensures visited { OnOk result (Seen (λ p q. VisitedProgram removal no_ending (moment_of ctx.old) p (moment_of ctx.new) q) (plain_program program.old) (plain_program program.new)) }
     ensures none { OnOk result ((names : ℕ → Text → Option ℕ) → Fits (moment_of ctx.old) the_program (seen names (plain_program program.old)) → any_in_trees is_debugger (trees program.new.body.items) ≡ false) }
 {
     traverse(&mut DebuggerRemoval {}, program, ctx, steps)?;

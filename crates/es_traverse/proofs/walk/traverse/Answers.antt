@@ -35,10 +35,10 @@ returns-clause-kept g c =
 
 pub returns-clause-visited : goal.returns-clause-visited
 returns-clause-visited g c = λ names.
-    visited-whole g.T.Lowering.profile g.T.Lowering.keeps (λ o. g.met.T.Traverse.lawful c.args.t.now o) _ _ _ _ _ _ _ c.in_ok-enter_program.ensures.same c.in_ok-visit_program.ensures.kept.options (c.in_ok-visit_program.ensures.visited names) (c.in_ok-exit_program.ensures.exited names)
+    visited-whole g.T.Lowering.profile g.T.Lowering.ending g.T.Lowering.keeps (λ o. g.met.T.Traverse.lawful c.args.t.now o) _ _ _ _ _ _ _ c.in_ok-enter_program.ensures.same c.in_ok-visit_program.ensures.kept.options (c.in_ok-visit_program.ensures.visited names) (c.in_ok-exit_program.ensures.exited names)
 
 pub returns-clause-finished : goal.returns-clause-finished
-returns-clause-finished g c = left-empty _ g.T.Lowering.keeps (c.requires.can.pairs c.exit_program.new.ctx.state) (c.in_ok-exit_program.ensures.exited (λ s x. None))
+returns-clause-finished g c = left-empty _ _ g.T.Lowering.keeps (c.requires.can.pairs c.exit_program.new.ctx.state) (c.in_ok-exit_program.ensures.exited (λ s x. None))
 
 pub returns-clause-calls : goal.returns-clause-calls
 returns-clause-calls g c =

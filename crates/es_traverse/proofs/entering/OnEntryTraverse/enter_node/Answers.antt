@@ -1,8 +1,9 @@
-use Rattle.es_traverse.proofs.NoHooks.{entered-anywhere, entered-none}
+use denote.Enum.Bare.{same_false}
+use Rattle.std.proofs.Common.{◌∙◌, sym}
+use Rattle.es_visit.specs.contracts.hook.Hook.{the_type}
+use Rattle.es_traverse.proofs.NoHooks.{entered-elsewhere}
 use Rattle.es_traverse.proofs.entering.OnEntryTraverse.enter_node.Goals as goal
 
-pub returns-in_default-clause-entered : goal.returns-in_default-clause-entered
-returns-in_default-clause-entered g c names = entered-none _ _ (g.met.T.Enters.only c.args.ctx.now.options) c.args.hook c.in_default.not-Expression c.args._site _
-
-pub returns-in_ok-enter-in-Expression-clause-entered : goal.returns-in_ok-enter-in-Expression-clause-entered
-returns-in_ok-enter-in-Expression-clause-entered g c names = entered-anywhere _ _ c.args.hook c.in-Expression.is c.args._site _ _ (c.in_ok-enter-in-Expression.ensures.entered names)
+pub returns-else-eq-clause-entered : goal.returns-else-eq-clause-entered
+returns-else-eq-clause-entered g c names =
+    entered-elsewhere _ _ _ (g.met.T.Enters.only c.args.ctx.now.options) c.args.hook (λ e. same_false the_type c.args.hook c.HOOK.result (sym c.eq.ensures ∙ c.if-eq.false) (e ∙ sym c.HOOK.ensures)) (g.met.T.Enters.passes c.args.ctx.now.options) c.args._site _
