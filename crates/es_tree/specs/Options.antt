@@ -35,9 +35,9 @@ abbrev pub uses_built_ins : Option ObjectRestSpreadOptions → Bool
 uses_built_ins (Some o) = o.use_built_ins
 uses_built_ins None = false
 
--- whether the options ask for a lowering or a warning that isn't built yet
+-- whether the options ask for a lowering that isn't built yet
 abbrev pub asks_for_unbuilt : EnvOptions → Bool
-asks_for_unbuilt o = is_some o.es2015.arrow_function || is_some o.es2018.object_rest_spread || o.es2020.export_namespace_from || o.es2026.explicit_resource_management
+asks_for_unbuilt o = is_some o.es2015.arrow_function || is_some o.es2018.object_rest_spread || o.es2026.explicit_resource_management
 
 -- whether the options ask for this
 abbrev pub asks_for : OptionName → EnvOptions → Bool

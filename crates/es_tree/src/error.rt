@@ -22,7 +22,7 @@ pub enum OptionName {
     PureGetters,
     ObjectRestNoSymbols,
     IgnoreFunctionLength,
-    /// A lowering or a warning that isn't built yet.
+    /// A lowering that isn't built yet.
     NotBuilt,
 }
 

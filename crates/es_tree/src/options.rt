@@ -174,13 +174,12 @@ pub fn options_fault(options: &EnvOptions) -> Option<OptionName>
     None
 }
 
-/// Whether the options ask for a lowering or a warning that isn't built yet.
+/// Whether the options ask for a lowering that isn't built yet.
 fn asks_for_unbuilt(options: &EnvOptions) -> bool
     ensures { result ≡ asks_for_unbuilt options.now }
 {
     options.es2015.arrow_function.is_some()
         || options.es2018.object_rest_spread.is_some()
-        || options.es2020.export_namespace_from
         || options.es2026.explicit_resource_management
 }
 

@@ -11,6 +11,7 @@ use Rattle.es_semantic.specs.Places.{Visit, visits_of}
 use Rattle.es_semantic.specs.SymbolsOf.{Declared, symbols_of}
 use Rattle.es_steps.specs.CoreBridge.{Reached}
 use Rattle.es_steps.specs.CoreRules.{rows_under, rule_under, where_on}
+use Rattle.es_steps.specs.NamespaceExports.{NamespaceRule}
 use Rattle.es_steps.specs.OptionalCatch.{CatchRule}
 use Rattle.es_steps.specs.Slots.{holds}
 use Rattle.es_steps.specs.Steps.{Ledger, Site, Spot, Whole}
@@ -61,7 +62,8 @@ module _ (o c : EnvOptions) (copy : IsCopy o c) where
 
   copied-built : (n : Site) (s : Ledger) (x : Spot) (s' : Ledger) (y : Spot) → built_rules c n s x s' y → built_rules o n s x s' y
   copied-built n s x s' y (inl r) = inl (copied-rule n s x s' y r)
-  copied-built n s x s' y (inr h) = inr (subst (λ (z : Type 0). z) (λ i. where_on (copy.es2019 i).optional_catch_binding CatchRule n s x s' y) h)
+  copied-built n s x s' y (inr (inl h)) = inr (inl (subst (λ (z : Type 0). z) (λ i. where_on (copy.es2019 i).optional_catch_binding CatchRule n s x s' y) h))
+  copied-built n s x s' y (inr (inr h)) = inr (inr (subst (λ (z : Type 0). z) (λ i. where_on (copy.es2020 i).export_namespace_from NamespaceRule n s x s' y) h))
 
   pub copied-reached : (p q : Tree) (w : Whole) (names : List _) → Reached (built_rules c) p w names q → Reached (built_rules o) p w names q
   copied-reached p q w names h = record { whole = h.whole; steps = all_under (built_rules c) (built_rules o) copied-built h.steps; made = h.made }

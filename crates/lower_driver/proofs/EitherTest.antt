@@ -8,7 +8,7 @@ use Rattle.es_runs.proofs.Named.{or_both, or_first, or_second}
 
 module _ (p q r : AstType → Label → Fields → Bool) (either : (k : AstType) (l : Label) (fs : Fields) → r k l fs ≡ (p k l fs || q k l fs)) where
   mutual
-    none-of-tree : (t : Tree) → any_node p t ≡ false → any_node q t ≡ false → any_node r t ≡ false
+    pub none-of-tree : (t : Tree) → any_node p t ≡ false → any_node q t ≡ false → any_node r t ≡ false
     none-of-tree (node k l fs) a b =
         or_both (r k l fs) (any_in_fields r fs) (either k l fs ∙ or_both (p k l fs) (q k l fs) (or_first (p k l fs) (any_in_fields p fs) a) (or_first (q k l fs) (any_in_fields q fs) b))
         (none-of-fields fs (or_second (p k l fs) (any_in_fields p fs) a) (or_second (q k l fs) (any_in_fields q fs) b))

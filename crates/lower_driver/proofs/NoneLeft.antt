@@ -1,39 +1,43 @@
--- Where a visit leaves no construct among the statements of a program, none is left: its directives have none.
-use Rattle.std.proofs.Common.{◌≡◌, ◌∙◌, ap, arith, refl}
+-- Where a visit leaves no construct among the statements of a program, none is left: its directives have none, and exports stand in its
+-- own list.
+use Rattle.std.proofs.Common.{◌≡◌, ◌∙◌, [], ap, arith, refl}
 use Rattle.std.specs.Prelude.{Bool, true, false, ◌&&◌, ◌||◌, is_some}
 use Rattle.es_tree.specs.Attributes.{child_entries}
 use Rattle.es_tree.specs.Constructs.{has_enabled_construct, is_arrow, is_chain, is_enabled_construct, is_exponentiation, is_logical_assignment, is_namespace_export, is_nullish_coalescing, is_optional_catch, is_rest_or_spread, is_using}
 use Rattle.es_tree.specs.HasForm.{is_of_sort, elements_of, match_option, has_form, elements_form, fields_form, trees_form}
 use Rattle.es_tree.specs.Options.{asks_for_unbuilt}
-use Rattle.es_tree.specs.Tree.{Tree, node, Label, Fields, done, ◌then◌, many, one, statements, Trees, empty, ◌before◌}
+use Rattle.es_tree.specs.Tree.{Tree, node, Label, Fields, done, ◌then◌, Field, many, statements, Trees, empty, ◌before◌}
 use Rattle.es_tree.specs.Walks.{any_node, any_in_trees}
 use Rattle.es_tree.specs.declared.ast_type.AstType.{AstType}
 use Rattle.es_tree.specs.declared.ast_type.AstType.TheVariants.{Directive, Program as k-Program}
 use Rattle.es_tree.specs.declared.options.EnvOptions.{EnvOptions}
 use Rattle.es_tree.specs.declared.table.Sort.TheVariants.{Program as s-Program, Directive as s-Directive, Statement as s-Statement}
 use Rattle.es_tree.proofs.NodeForm.{node_form}
-use Rattle.lower_driver.specs.Constructs.{is_built_construct, is_lowered_construct}
+use Rattle.es_valid_steps.specs.Laws.{any_statement}
+use Rattle.es_valid_steps.specs.PlaceRules.{place_breaks}
+use Rattle.es_valid_steps.proofs.NamespacePlaces.{law_namespace_places_proof}
+use Rattle.es_traverse.specs.Laws.{is_construct}
+use Rattle.es_traverse.specs.Listed.{any_among, any_listed}
+use Rattle.lower_driver.specs.Constructs.{is_built_construct, is_lowered_construct, is_lowered_export}
+use Rattle.lower_driver.proofs.EitherTest.{none-of-tree}
 use Rattle.es_runs.proofs.Named.{and_left, and_right, or_both, or_first, or_second}
 
 -- BUILT CONSTRUCTS
 
--- the five rows in another order, beside settings that are off
-regrouped : (a b c d e : Bool) → (a || b || c || d || false || false || (e || false || false)) ≡ (d || b || c || e || a)
-regrouped a b c d e = grind arith
+-- the five rows in another order, and exports, beside settings that are off
+regrouped : (a b c d e x : Bool) → (a || b || c || d || false || false || (e || x || false)) ≡ ((d || b || c || e || a) || x)
+regrouped a b c d e x = grind arith
 
 module _ (o : EnvOptions) (off : asks_for_unbuilt o ≡ false) where
-  built_alone : (k : AstType) (l : Label) (fs : Fields) → is_enabled_construct o k l fs ≡ is_built_construct o k l fs
-  built_alone k l fs =
+  built-or-export : (k : AstType) (l : Label) (fs : Fields) → is_enabled_construct o k l fs ≡ (is_built_construct o k l fs || is_lowered_export o k l fs)
+  built-or-export k l fs =
       let arrows = is_some o.es2015.arrow_function in
       let rests = is_some o.es2018.object_rest_spread in
-      let exports = o.es2020.export_namespace_from in
       let using = o.es2026.explicit_resource_management in
-      let three = or_first (arrows || rests || exports) using off in
-      let two = or_first (arrows || rests) exports three in
+      let two = or_first (arrows || rests) using off in
       let no_arrows = or_first arrows rests two in
       let no_rests = or_second arrows rests two in
-      let no_exports = or_second (arrows || rests) exports three in
-      let no_using = or_second (arrows || rests || exports) using off in
+      let no_using = or_second (arrows || rests) using off in
       (λ i.
       (o.es2016.exponentiation_operator && is_exponentiation k l fs)
       || (o.es2020.nullish_coalescing_operator && is_nullish_coalescing k l fs)
@@ -41,13 +45,27 @@ module _ (o : EnvOptions) (off : asks_for_unbuilt o ≡ false) where
       || (o.es2021.logical_assignment_operators && is_logical_assignment k l fs)
       || (no_rests i && is_rest_or_spread k l fs)
       || (no_arrows i && is_arrow k l fs)
-      || ((o.es2019.optional_catch_binding && is_optional_catch k l fs) || (no_exports i && is_namespace_export k l fs) || (no_using i && is_using k l fs)))
+      || ((o.es2019.optional_catch_binding && is_optional_catch k l fs) || (o.es2020.export_namespace_from && is_namespace_export k l fs) || (no_using i && is_using k l fs)))
       ∙ regrouped (o.es2016.exponentiation_operator && is_exponentiation k l fs) (o.es2020.nullish_coalescing_operator && is_nullish_coalescing k l fs) (o.es2020.optional_chaining && is_chain k l fs)
-      (o.es2021.logical_assignment_operators && is_logical_assignment k l fs) (o.es2019.optional_catch_binding && is_optional_catch k l fs)
+      (o.es2021.logical_assignment_operators && is_logical_assignment k l fs) (o.es2019.optional_catch_binding && is_optional_catch k l fs) (o.es2020.export_namespace_from && is_namespace_export k l fs)
 
-  -- what they ask for is a construct of these
-  pub enabled-built : (t : Tree) → has_enabled_construct o t ≡ any_node (is_built_construct o) t
-  enabled-built t = λ i. any_node (λ k l fs. built_alone k l fs i) t
+  -- where neither is left, none is that the options ask for
+  pub none-enabled : (t : Tree) → any_node (is_built_construct o) t ≡ false → any_node (is_lowered_export o) t ≡ false → has_enabled_construct o t ≡ false
+  none-enabled t built exports = none-of-tree (is_built_construct o) (is_lowered_export o) (is_enabled_construct o) built-or-export t built exports
+
+-- EXPORTS stand in the list of the program alone
+
+-- whether a statement of a list is such a construct
+among-statements : (test : AstType → Label → Fields → Bool) (ts : Trees) → any_statement test ts ≡ any_among test ts
+among-statements test empty = refl
+among-statements test (t before ts) = ap (λ b. is_construct test t || b) (among-statements test ts)
+
+-- a program that has form and keeps the rules of places, after whose visit no statement is one
+pub no-exports : (o : EnvOptions) (l : Label) (d : Field) (ts : Trees) → has_form s-Program (node k-Program l (d then (statements ts then done))) ≡ true → place_breaks (node k-Program l (d then (statements ts then done))) ≡ [] →
+    any_listed (is_lowered_export o) (statements ts then done) ≡ false → any_node (is_lowered_export o) (node k-Program l (d then (statements ts then done))) ≡ false
+no-exports o l d ts form kept cleared =
+    let test = is_lowered_export o in
+    (law_namespace_places_proof o.es2020.export_namespace_from (node k-Program l (d then (statements ts then done))) form kept).none (among-statements test ts ∙ or_first (any_among test ts) false cleared)
 
 -- DIRECTIVES HAVE NO PARTS
 

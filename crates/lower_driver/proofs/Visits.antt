@@ -5,13 +5,13 @@ use Rattle.es_tree.specs.Bare.{bare}
 use Rattle.es_tree.specs.Constructs.{has_enabled_construct, is_chain, is_nullish_coalescing, is_optional_catch}
 use Rattle.es_row_laws.specs.Laws.{is_lowered_assignment, is_lowered_power}
 use Rattle.es_valid_steps.specs.PlaceRules.{place_breaks}
-use Rattle.es_valid_steps.proofs.Visits.{law_places_proof}
+use Rattle.es_valid_steps.proofs.Visits.{law_among_proof, law_places_proof}
 use Rattle.es_tree.specs.HasForm.{has_form}
 use Rattle.es_tree.specs.Fresh.{is_among}
 use Rattle.es_tree.specs.Names.{names_of}
 use Rattle.es_tree.specs.Options.{asks_for_unbuilt}
 use Rattle.es_tree.specs.StaticRules.{breaks}
-use Rattle.es_tree.specs.Tree.{Tree, Label, Fields, done, ◌then◌, statements, label_of, tree_size, trees}
+use Rattle.es_tree.specs.Tree.{Tree, Label, Fields, done, ◌then◌, many, statements, label_of, tree_size, trees}
 use Rattle.es_tree.specs.Walks.{any_in_fields, any_in_trees}
 use Rattle.es_tree.specs.Words.{Text}
 use Rattle.es_tree.specs.declared.ast_type.AstType.{AstType}
@@ -42,7 +42,8 @@ use Rattle.es_changes.specs.Fits.{Fits}
 use Rattle.es_changes.specs.Moments.{top, whole_at}
 use Rattle.es_conditions.specs.CoreConditions.{core_conditions}
 use Rattle.es_traverse.specs.ContextMoments.{bound_names}
-use Rattle.es_traverse.specs.Laws.{KeptVisited}
+use Rattle.es_traverse.specs.Laws.{KeptVisited, whole_rule}
+use Rattle.es_traverse.specs.Listed.{any_listed}
 use Rattle.es_traverse.specs.Loads.{load}
 use Rattle.es_traverse.specs.Visits.{VisitedProgram}
 use Rattle.es_traverse.proofs.LoadParts.{load-size}
@@ -63,12 +64,12 @@ use Rattle.lower_temporaries.specs.Takings.{moment_of, pending_of}
 use Rattle.lower_temporaries.specs.declared.state.TransformState.{TransformState}
 use Rattle.lower_driver.specs.Copies.{IsCopy}
 use Rattle.lower_driver.specs.Lowers.{Lowers}
-use Rattle.lower_driver.specs.Visits.{visit_profile}
+use Rattle.lower_driver.specs.Visits.{visit_ending, visit_profile}
 use Rattle.lower_driver.proofs.BareConstructs.{same-constructs}
 use Rattle.lower_driver.proofs.CopiedOptions.{copied-enabled, copied-reached, copied-unbuilt}
-use Rattle.lower_driver.specs.Constructs.{is_lowered_construct}
+use Rattle.lower_driver.specs.Constructs.{is_lowered_construct, is_lowered_export}
 use Rattle.lower_driver.proofs.EitherTest.{none-of-trees}
-use Rattle.lower_driver.proofs.NoneLeft.{enabled-built, none-written}
+use Rattle.lower_driver.proofs.NoneLeft.{no-exports, none-enabled, none-written}
 use Rattle.lower_driver.proofs.Settled.{tree-settled}
 
 -- THE FIRST MOMENT
@@ -132,12 +133,33 @@ by-options : (o : EnvOptions) (n : Site) (s : Ledger) (x : Spot) (s' : Ledger) (
 by-options o n s x s' y (inl (inl w)) = inl (inl w)
 by-options o n s x s' y (inl (inr w)) = inl (inr (inl w))
 by-options o n s x s' y (inr (inl a)) = inl (inr (inr (inl a)))
-by-options o n s x s' y (inr (inr (inl b))) = inl (inr (inr (inr (inl b))))
-by-options o n s x s' y (inr (inr (inr (inl c)))) = inr c
+by-options o n s x s' y (inr (inr (inl (inl b)))) = inl (inr (inr (inr (inl b))))
+by-options o n s x s' y (inr (inr (inl (inr never)))) = absurd never
+by-options o n s x s' y (inr (inr (inr (inl c)))) = inr (inl c)
 by-options o n s x s' y (inr (inr (inr (inr p)))) = inl (inr (inr (inr (inr p))))
 
+-- and after the program
+whole-options : (o : EnvOptions) (n : Site) (s : Ledger) (x : Spot) (s' : Ledger) (y : Spot) → whole_rule (visit_profile o) (visit_ending o) n s x s' y → built_rules o n s x s' y
+whole-options o n s x s' y (inl r) = by-options o n s x s' y r
+whole-options o n s x s' y (inr (inl never)) = absurd never
+whole-options o n s x s' y (inr (inr (inl never))) = absurd never
+whole-options o n s x s' y (inr (inr (inr (inl (inl (inl never)))))) = absurd never
+whole-options o n s x s' y (inr (inr (inr (inl (inl (inr never)))))) = absurd never
+whole-options o n s x s' y (inr (inr (inr (inl (inr (inl e)))))) = inr (inr e)
+whole-options o n s x s' y (inr (inr (inr (inl (inr (inr w)))))) = inl (inl w)
+whole-options o n s x s' y (inr (inr (inr (inr (inl never))))) = absurd never
+whole-options o n s x s' y (inr (inr (inr (inr (inr never))))) = absurd never
+
+-- what is taken away there
+alone : (b : Bool) → (b || false) ≡ b
+alone true = refl
+alone false = refl
+
+exports-alone : (o : EnvOptions) → (visit_ending o).constructs ≡ is_lowered_export o
+exports-alone o = λ i k l fs. alone (is_lowered_export o k l fs) i
+
 -- the constructs that the hooks of expressions and of catch clauses remove, together
-grouped : (a b c d e : Bool) → (a || b || c || e || d) ≡ ((false || (a || ((b || c) || (false || d)))) || (false || (false || ((false || false) || (e || false)))))
+grouped : (a b c d e : Bool) → (a || b || c || e || d) ≡ ((false || (a || (((b || c) || false) || (false || d)))) || (false || (false || (((false || false) || false) || (e || false)))))
 grouped true b c d e = refl
 grouped false true c d e = refl
 grouped false false true d e = refl
@@ -170,11 +192,11 @@ module _ (c : EnvOptions) (p : Tree) (ctx ctx' : TraverseCtx TransformState) (x 
   known : holds_after (core_conditions c) the_program (seen names (plain_program x))
   known = subst (λ (t : Tree). holds_after (core_conditions c) the_program t) (sym there) (law_first_conditions_proof c p form right taken)
 
-  visited-reached : VisitedProgram (visit_profile c) (moment_of ctx) (seen names (plain_program x)) (moment_of ctx') result → top (moment_of ctx').lists ≡ nothing_pending → Reached (built_rules c) p (first_whole p) (made_of ctx') result
+  visited-reached : VisitedProgram (visit_profile c) (visit_ending c) (moment_of ctx) (seen names (plain_program x)) (moment_of ctx') result → top (moment_of ctx').lists ≡ nothing_pending → Reached (built_rules c) p (first_whole p) (made_of ctx') result
   visited-reached visited finished =
       let a = moment_of ctx in
       let b = moment_of ctx' in
-      let R = (visit_profile c).rule in
+      let R = whole_rule (visit_profile c) (visit_ending c) in
       let start : top a.lists ≡ nothing_pending = ap top begun.lists in
       let steps = visited.stepped start fits known in
       let before : open_program (top a.lists) (seen names (plain_program x)) ≡ opened (source p) = opened-there names x (top a.lists) start ∙ ap opened there in
@@ -182,7 +204,7 @@ module _ (c : EnvOptions) (p : Tree) (ctx ctx' : TraverseCtx TransformState) (x 
       let whole = whole-first p ctx new in
       record {
         whole = whole_at b;
-        steps = all_under R (built_rules c) (by-options c) (subst (λ (z : Type 0). z) (λ i. Steps (Step R the_program) (ledger (whole i) nothing_pending None no_additions) (before i) (ledger (whole_at b) nothing_pending None no_additions) (after i)) steps);
+        steps = all_under R (built_rules c) (whole-options c) (subst (λ (z : Type 0). z) (λ i. Steps (Step R the_program) (ledger (whole i) nothing_pending None no_additions) (before i) (ledger (whole_at b) nothing_pending None no_additions) (after i)) steps);
         made = names-bound (whole_at b).free_symbol (made_of ctx');
       }
 
@@ -194,7 +216,7 @@ module _ (c : EnvOptions) (p : Tree) (ctx ctx' : TraverseCtx TransformState) (x 
   formed : has_form s-Program (seen names (plain_program x)) ≡ true
   formed = sym (has_form-bare s-Program (seen names (plain_program x))) ∙ ap (has_form s-Program) (ap bare there ∙ law_bare_source_proof p) ∙ has_form-bare s-Program p ∙ form
 
-  free-there : VisitedProgram (visit_profile c) (moment_of ctx) (seen names (plain_program x)) (moment_of ctx') result → any_in_trees (is_lowered_construct c) (seen_among names (trees y.body.items)) ≡ false
+  free-there : VisitedProgram (visit_profile c) (visit_ending c) (moment_of ctx) (seen names (plain_program x)) (moment_of ctx') result → any_in_trees (is_lowered_construct c) (seen_among names (trees y.body.items)) ≡ false
   free-there visited =
       let ts = seen_among names (trees y.body.items) in
       let start : top (moment_of ctx).lists ≡ nothing_pending = ap top begun.lists in
@@ -204,13 +226,17 @@ module _ (c : EnvOptions) (p : Tree) (ctx ctx' : TraverseCtx TransformState) (x 
       (λ k l fs. grouped (c.es2021.logical_assignment_operators && is_lowered_assignment k l fs) (c.es2020.nullish_coalescing_operator && is_nullish_coalescing k l fs) (c.es2020.optional_chaining && is_chain k l fs) (c.es2016.exponentiation_operator && is_lowered_power k l fs)
       (c.es2019.optional_catch_binding && is_optional_catch k l fs)) ts (free Expression) (free CatchClause)
 
-  -- what is written has form and keeps the rules of places, so that no target is left that the lowerings don't take
-  none-left : asks_for_unbuilt c ≡ false → has_form s-Program (plain_program y) ≡ true → place_breaks (plain_program y) ≡ [] → VisitedProgram (visit_profile c) (moment_of ctx) (seen names (plain_program x)) (moment_of ctx') result → has_enabled_construct c (plain_program y) ≡ false
+  -- what is written has form and keeps the rules of places, so that no target is left that the lowerings don't take, and no export below the
+  -- program's own list
+  none-left : asks_for_unbuilt c ≡ false → has_form s-Program (plain_program y) ≡ true → place_breaks (plain_program y) ≡ [] → VisitedProgram (visit_profile c) (visit_ending c) (moment_of ctx) (seen names (plain_program x)) (moment_of ctx') result → has_enabled_construct c (plain_program y) ≡ false
   none-left unbuilt form' kept visited =
       let lowered = none-written c (label_of (seen names (plain_program x))) (label_of result) (seen_among names (trees x.directives.items)) (seen_among names (trees y.directives.items)) (seen_among names (trees x.body.items)) (seen_among names (trees y.body.items)) formed visited.directives (free-there visited) in
       let form'' = sym (has_form-bare s-Program result) ∙ ap (has_form s-Program) written ∙ has_form-bare s-Program (plain_program y) ∙ form' in
-      let keeps = (law_places_proof result).to_places (law_bare_places_proof (plain_program y) result (sym written) kept) in
-      same-constructs c result (plain_program y) (sym written) ∙ enabled-built c unbuilt result ∙ tree-settled c s-Program [] result form'' keeps lowered
+      let kept' = law_bare_places_proof (plain_program y) result (sym written) kept in
+      let keeps = (law_places_proof result).to_places kept' in
+      let start : top (moment_of ctx).lists ≡ nothing_pending = ap top begun.lists in
+      let exports = no-exports c (label_of result) (many (seen_among names (trees y.directives.items))) (seen_among names (trees y.body.items)) form'' kept' (ap (λ test. any_listed test (statements (seen_among names (trees y.body.items)) then done)) (sym (exports-alone c)) ∙ visited.cleared start fits known) in
+      same-constructs c result (plain_program y) (sym written) ∙ none-enabled c unbuilt result (tree-settled c s-Program [] result form'' keeps lowered) exports
 
   size-left : ctx.ast.next ≡ tree_size p → KeptVisited 0 (moment_of ctx) (plain_program x) (moment_of ctx') (plain_program y) → tree_size (plain_program y) ≤ 64 * tree_size p + 64
   size-left next kept =
@@ -223,13 +249,13 @@ module _ (c : EnvOptions) (p : Tree) (ctx ctx' : TraverseCtx TransformState) (x 
 
   -- by the context's own options, which are those of the run
   pub lowers : (o : EnvOptions) → IsCopy o c → asks_for_unbuilt o ≡ false → has_enabled_construct o p ≡ true → ctx.ast.next ≡ tree_size p → KeptVisited 0 (moment_of ctx) (plain_program x) (moment_of ctx') (plain_program y) →
-      VisitedProgram (visit_profile c) (moment_of ctx) (seen names (plain_program x)) (moment_of ctx') result → top (moment_of ctx').lists ≡ nothing_pending → Lowers o p (plain_program y) (made_of ctx')
+      VisitedProgram (visit_profile c) (visit_ending c) (moment_of ctx) (seen names (plain_program x)) (moment_of ctx') result → top (moment_of ctx').lists ≡ nothing_pending → Lowers o p (plain_program y) (made_of ctx')
   lowers o copy unbuilt some next kept visited finished =
       let reached = copied-reached o c copy p result (first_whole p) (made_of ctx') (visited-reached visited finished) in
       let becomes = law_result_proof o p (plain_program y) result (made_of ctx') form right reached written in
       record {
         result = becomes;
-        none = sym (copied-enabled o c copy (plain_program y)) ∙ none-left (copied-unbuilt o c copy ∙ unbuilt) becomes.form becomes.kept visited;
+        none = sym (copied-enabled o c copy (plain_program y)) ∙ none-left (copied-unbuilt o c copy ∙ unbuilt) becomes.form (law_among_proof (plain_program y) becomes.kept) visited;
         core = λ core. law_core_result_proof o p (plain_program y) (made_of ctx') core right becomes;
         unchanged = λ none. absurd (true≢false (sym some ∙ none));
         size = size-left next kept;

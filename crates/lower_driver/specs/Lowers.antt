@@ -15,13 +15,12 @@ pub record IsAsBefore (source written : Tree) (names : List Text) : Type 0 where
 
 -- What a source of any kind becomes under these options: this program, with these fresh names.
 pub record Lowers (o : EnvOptions) (source written : Tree) (names : List Text) : Type 0 where
-  -- By steps of the rules that the options ask for, with nothing pending at the end: each name keeps its binding, and what is written has
-  -- form and keeps the static rules of places.
+  -- By steps of the rules that the options ask for, with nothing pending at the end: each name keeps its binding, what is written
+  -- has form and keeps all static rules, and it asks for the same modules and exports the same names.
   pub result : IsResult o source written names
   -- and no construct is left that the options ask to lower
   pub none : has_enabled_construct o written ≡ false
-  -- A core program and what it becomes run alike, where the options assume that no value is `document.all` in every run in which none is;
-  -- and what is written keeps all static rules.
+  -- A core program and what it becomes run alike, where the options assume that no value is `document.all` in every run in which none is.
   pub core : IsCoreProgram source → IsCoreResult o source written names
   -- where the options ask for no construct of the source, nothing is changed
   pub unchanged : has_enabled_construct o source ≡ false → IsAsBefore source written names

@@ -64,10 +64,10 @@ pub struct Lowered {
 }
 
 /// Lowers the program that the value is the form of, as the options ask: its logical assignments, `??`,
-/// optional chains, catch clauses without a parameter and exponentiations, in programs of every kind. A program
-/// in which no construct stands that they ask to lower comes back as it is. Where they ask for warnings, of
-/// BigInt literals (ECMA-262, 12.9.3) or of strings that name imports and exports (16.2), it answers one for each
-/// of the source.
+/// optional chains, catch clauses without a parameter, exports of namespaces and exponentiations, in programs of
+/// every kind. A program in which no construct stands that they ask to lower comes back as it is. Where they ask
+/// for warnings, of BigInt literals (ECMA-262, 12.9.3) or of strings that name imports and exports (16.2), it
+/// answers one for each of the source.
 ///
 /// Fails for the first of these causes that holds: `Option` where the options ask for what isn't done, with
 /// the name `NotBuilt` where that is a lowering that isn't built; `TooLarge`, `TooDeep` and `Shape` as

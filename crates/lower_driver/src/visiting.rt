@@ -10,7 +10,7 @@ ghost use Rattle.es_traverse.specs.Laws.{CanVisit, IsReady, KeptVisited, Seen};
 ghost use Rattle.es_traverse.specs.Loads.{load};
 ghost use Rattle.es_traverse.specs.Visits.{VisitedProgram};
 ghost use Rattle.lower_temporaries.specs.Takings.{moment_of};
-ghost use Rattle.lower_driver.specs.Visits.{visit_profile};
+ghost use Rattle.lower_driver.specs.Visits.{visit_ending, visit_profile};
 
 use es_scope::context::TraverseCtx;
 use es_statements::program::Program;
@@ -36,7 +36,7 @@ pub fn visit(program: &mut Program, ctx: &mut TraverseCtx<TransformState>) -> Re
     requires pair { 0 < length (moment_of ctx.old).lists }
     requires room { HasRoom (moment_of ctx.old) (load (plain_program program.old)) }
     ensures kept { OnOk result (KeptVisited 0 (moment_of ctx.old) (plain_program program.old) (moment_of ctx.new) (plain_program program.new)) }
-    ensures visited { OnOk result (Seen (λ p q. VisitedProgram (visit_profile ctx.old.options) (moment_of ctx.old) p (moment_of ctx.new) q) (plain_program program.old) (plain_program program.new)) }
+    ensures visited { OnOk result (Seen (λ p q. VisitedProgram (visit_profile ctx.old.options) (visit_ending ctx.old.options) (moment_of ctx.old) p (moment_of ctx.new) q) (plain_program program.old) (plain_program program.new)) }
     ensures finished { OnOk result (first_pending (moment_of ctx.new).lists ≡ nothing_pending) }
 {
     let es2021 = ES2021::lowerings(&ctx.options);
@@ -64,7 +64,7 @@ fn visit_by<T: Traverse<S>, S: Additions, L: Ledger>(
     requires ready { IsReady T.suits lowering.old (moment S.pending ctx.old) (load (plain_program program.old)) }
     requires top { around_of ctx.old ≡ [] }
     ensures kept { OnOk result (KeptVisited 0 (moment S.pending ctx.old) (plain_program program.old) (moment S.pending ctx.new) (plain_program program.new)) }
-    ensures visited { OnOk result (Seen (λ p q. VisitedProgram (T.profile ctx.old.options) (moment S.pending ctx.old) p (moment S.pending ctx.new) q) (plain_program program.old) (plain_program program.new)) }
+    ensures visited { OnOk result (Seen (λ p q. VisitedProgram (T.profile ctx.old.options) (T.ending ctx.old.options) (moment S.pending ctx.old) p (moment S.pending ctx.new) q) (plain_program program.old) (plain_program program.new)) }
     ensures finished { OnOk result (first_pending (moment S.pending ctx.new).lists ≡ nothing_pending) }
 {
     let mut steps: Steps<L> = Steps::new(blank);

@@ -1,10 +1,10 @@
 -- No lowering makes, writes or brings about a construct that one before it takes away, and each counts on what those before it leave.
-use Rattle.std.proofs.Common.{◌≡◌, Bool, ap, refl, sym, true≢false}
+use Rattle.std.proofs.Common.{◌≡◌, Bool, ap, inl, inr, refl, sym, true≢false}
 use Rattle.std.specs.Prelude.{true, false, ◌&&◌}
 use Rattle.es_tree.specs.Constructs.{is_chain, is_nullish_coalescing, is_optional_catch}
 use Rattle.es_tree.specs.Tree.{Tree, node, Label, Fields, fields_of, kind_of, label_of}
 use Rattle.es_tree.specs.declared.ast_type.AstType.{AstType}
-use Rattle.es_tree.specs.declared.ast_type.AstType.TheVariants.{AssignmentExpression, BinaryExpression, CallExpression, CatchClause, ChainExpression, ConditionalExpression, LogicalExpression, SequenceExpression}
+use Rattle.es_tree.specs.declared.ast_type.AstType.TheVariants.{AssignmentExpression, BinaryExpression, CallExpression, CatchClause, ChainExpression, ConditionalExpression, ExportAllDeclaration, LogicalExpression, SequenceExpression}
 use Rattle.es_tree.specs.declared.options.EnvOptions.{EnvOptions}
 use Rattle.es_visit.specs.declared.hook.Hook.{Hook}
 use Rattle.es_visit.specs.declared.hook.Hook.TheVariants.{CatchClause as h-CatchClause, Expression}
@@ -14,19 +14,22 @@ use Rattle.es_changes.specs.Conditions.{Conditions}
 use Rattle.es_conditions.specs.CoreConditions.{core_conditions}
 use Rattle.es_steps.specs.Open.{finished_fields}
 use Rattle.es_steps.specs.Steps.{Ledger, Site, Spot}
-use Rattle.es_traverse.specs.Laws.{AreApart, IsStable, Profile, both_profile, is_construct}
+use Rattle.es_traverse.specs.Laws.{AreApart, Ending, EndsApart, IsStable, Profile, both_endings, both_profile, is_construct, no_ending}
+use Rattle.es_traverse.specs.Together.{neither}
 use Rattle.lower_chains.specs.Profiles.{chain_constructs, chain_profile, is_left}
 use Rattle.lower_exponentiation.specs.Exponentiations.{IsCallOrAssignment}
 use Rattle.lower_exponentiation.specs.Profile.{exponentiation_constructs, exponentiation_profile}
 use Rattle.lower_logical_assignment.specs.Lawful.{assignment_stable}
 use Rattle.lower_logical_assignment.specs.Profile.{logical_assignment_constructs, logical_assignment_profile}
+use Rattle.lower_namespace_exports.specs.Apart.{ends_apart_from, is_export_all, module_plain, never_stable}
+use Rattle.lower_namespace_exports.specs.Profile.{IsModuleNode, namespace_ending, namespace_profile}
 use Rattle.lower_nullish_coalescing.specs.Lawful.{coalescing_stable}
 use Rattle.lower_nullish_coalescing.specs.Profile.{nullish_coalescing_constructs, nullish_coalescing_profile}
 use Rattle.lower_optional_catch.specs.Lawful.{catch_stable}
 use Rattle.lower_optional_catch.specs.Profile.{IsWholeCatch, optional_catch_constructs, optional_catch_profile}
 use Rattle.lower_writing.specs.Writing.{MayBeWritten, common_profile}
 use Rattle.lower_editions.specs.ApartTogether.{AreSeparate, apart, both_separate_from, separate_from_both}
-use Rattle.lower_editions.specs.Editions.{es2016_profile, es2019_profile, es2020_profile, es2021_profile}
+use Rattle.lower_editions.specs.Editions.{editions_ending, es2016_profile, es2019_profile, es2020_ending, es2020_profile, es2021_profile, expressions_profile, last_ending}
 
 -- WHAT IS MADE is none of these constructs, where they are on or not
 
@@ -107,6 +110,15 @@ raised_no_clause (node _ l fs) e = refl
 written_no_clause : (t : Tree) → MayBeWritten t → is_clause (kind_of t) ≡ false
 written_no_clause (node CatchClause l fs) w = absurd (true≢false (sym w))
 written_no_clause (node _ l fs) w = refl
+
+-- what is written for exports of namespaces
+module_no_clause : (t : Tree) → IsModuleNode t → is_clause (kind_of t) ≡ false
+module_no_clause (node CatchClause l fs) w = absurd (true≢false (sym w))
+module_no_clause (node _ l fs) w = refl
+
+written_no_export : (t : Tree) → MayBeWritten t → is_export_all (kind_of t) ≡ false
+written_no_export (node ExportAllDeclaration l fs) w = absurd (true≢false (sym w))
+written_no_export (node _ l fs) w = refl
 
 -- steps that make no node an exponentiation make none one that is to be lowered
 power_stable : (R : Site → Ledger → Spot → Ledger → Spot → Type 0) → IsStable R is_lowered_power → (on : Bool) (h : Hook) → IsStable R (exponentiation_constructs on h)
@@ -240,6 +252,48 @@ module _ (o : EnvOptions) where
     after = λ n t. refl;
   }
 
+  -- EXPORTS OF NAMESPACES, which are lowered after the program: what is written for them is no construct of another type
+
+  before_exports : (p : Profile) → p.conditions ≡ core_conditions o → ((h : Hook) (t : Tree) → IsModuleNode t → is_construct (p.constructs h) t ≡ false) → AreSeparate p (namespace_profile o)
+  before_exports p same plain = record {
+    makes = λ h t m. absurd m;
+    first_writes = λ h t w. refl;
+    second_writes = plain;
+    first_stable = λ h. never_stable (p.constructs h);
+    second_stable = λ h n s s' k l first fs gs stand r e. refl;
+    before = λ n t. ap (λ (c : Conditions). c.before n t) (sym same);
+    after = λ n t. ap (λ (c : Conditions). c.after n t) (sym same);
+  }
+
+  exports_before : (p : Profile) → p.conditions ≡ core_conditions o → ((h : Hook) (t : Tree) → IsModuleNode t → is_construct (p.constructs h) t ≡ false) → AreSeparate (namespace_profile o) p
+  exports_before p same plain = record {
+    makes = λ h t m. refl;
+    first_writes = plain;
+    second_writes = λ h t w. refl;
+    first_stable = λ h n s s' k l first fs gs stand r e. refl;
+    second_stable = λ h. never_stable (p.constructs h);
+    before = λ n t. ap (λ (c : Conditions). c.before n t) same;
+    after = λ n t. ap (λ (c : Conditions). c.after n t) same;
+  }
+
+  coalescing_exports : AreSeparate (nullish_coalescing_profile o) (namespace_profile o)
+  coalescing_exports = before_exports (nullish_coalescing_profile o) refl (λ h t w. no_coalescing on_nullish h t (module_plain t w).0)
+
+  chains_exports : AreSeparate (chain_profile o) (namespace_profile o)
+  chains_exports = before_exports (chain_profile o) refl (λ h t w. no_chain o h t (module_plain t w).1)
+
+  assignments_exports : AreSeparate (logical_assignment_profile o) (namespace_profile o)
+  assignments_exports = before_exports (logical_assignment_profile o) refl (λ h t w. no_assignment on_logical h t (module_plain t w).2)
+
+  exports_catches : AreSeparate (namespace_profile o) (optional_catch_profile o)
+  exports_catches = exports_before (optional_catch_profile o) refl (λ h t w. no_catch on_catch h t (module_no_clause t w))
+
+  exports_powers : AreSeparate (namespace_profile o) (exponentiation_profile o)
+  exports_powers = exports_before (exponentiation_profile o) refl (λ h t w. no_power on_power h t (module_plain t w).3)
+
+  common_exports : AreSeparate (common_profile o) (namespace_profile o)
+  common_exports = before_exports (common_profile o) refl (λ h t w. refl)
+
   -- WHAT IS WRITTEN for lists and bodies is none of them
 
   common_from : (q : Profile) → q.conditions ≡ core_conditions o → ((h : Hook) (t : Tree) → MayBeWritten t → is_construct (q.constructs h) t ≡ false) → ((h : Hook) → IsStable (common_profile o).rule (q.constructs h)) → AreSeparate (common_profile o) q
@@ -270,8 +324,15 @@ module _ (o : EnvOptions) where
 
   -- TOGETHER
 
-  pub es2020_apart : AreApart (nullish_coalescing_profile o) (chain_profile o)
-  es2020_apart = apart (nullish_coalescing_profile o) (chain_profile o) coalescing_chains (λ n t e. e)
+  pub expressions_apart : AreApart (nullish_coalescing_profile o) (chain_profile o)
+  expressions_apart = apart (nullish_coalescing_profile o) (chain_profile o) coalescing_chains (λ n t e. e)
+
+  pub es2020_apart : AreApart (expressions_profile o) (namespace_profile o)
+  es2020_apart = apart (expressions_profile o) (namespace_profile o) (both_separate_from (nullish_coalescing_profile o) (chain_profile o) (namespace_profile o) coalescing_exports chains_exports) (λ n t e. e)
+
+  -- one type before those of ECMAScript 2020
+  before_es2020 : (p : Profile) → AreSeparate p (nullish_coalescing_profile o) → AreSeparate p (chain_profile o) → AreSeparate p (namespace_profile o) → AreSeparate p (es2020_profile o)
+  before_es2020 p coalescing chains exports = separate_from_both p (expressions_profile o) (namespace_profile o) (separate_from_both p (nullish_coalescing_profile o) (chain_profile o) coalescing chains) exports
 
   -- catch clauses and then exponentiations
   abbrev last_profile : Profile
@@ -280,8 +341,15 @@ module _ (o : EnvOptions) where
   pub last_apart : AreApart (es2019_profile o) (es2016_profile o)
   last_apart = apart (es2019_profile o) (es2016_profile o) catches_powers (λ n t e. e)
 
+  -- one type before these
+  before_last : (p : Profile) → AreSeparate p (optional_catch_profile o) → AreSeparate p (exponentiation_profile o) → AreSeparate p last_profile
+  before_last p catches powers = separate_from_both p (es2019_profile o) (es2016_profile o) catches powers
+
   later_separate : AreSeparate (es2020_profile o) last_profile
-  later_separate = both_separate_from (nullish_coalescing_profile o) (chain_profile o) last_profile (separate_from_both (nullish_coalescing_profile o) (es2019_profile o) (es2016_profile o) coalescing_catches coalescing_powers) (separate_from_both (chain_profile o) (es2019_profile o) (es2016_profile o) chains_catches chains_powers)
+  later_separate =
+      both_separate_from (expressions_profile o) (namespace_profile o) last_profile
+      (both_separate_from (nullish_coalescing_profile o) (chain_profile o) last_profile (before_last (nullish_coalescing_profile o) coalescing_catches coalescing_powers) (before_last (chain_profile o) chains_catches chains_powers))
+      (before_last (namespace_profile o) exports_catches exports_powers)
 
   pub later_apart : AreApart (es2020_profile o) last_profile
   later_apart = apart (es2020_profile o) last_profile later_separate (λ n t e. e)
@@ -289,13 +357,40 @@ module _ (o : EnvOptions) where
   pub editions_apart : AreApart (es2021_profile o) (both_profile (es2020_profile o) last_profile)
   editions_apart =
       apart (es2021_profile o) (both_profile (es2020_profile o) last_profile)
-      (separate_from_both (es2021_profile o) (es2020_profile o) last_profile (separate_from_both (es2021_profile o) (nullish_coalescing_profile o) (chain_profile o) assignments_coalescing assignments_chains)
-      (separate_from_both (es2021_profile o) (es2019_profile o) (es2016_profile o) assignments_catches assignments_powers)) (λ n t e. e)
+      (separate_from_both (es2021_profile o) (es2020_profile o) last_profile (before_es2020 (es2021_profile o) assignments_coalescing assignments_chains assignments_exports) (before_last (es2021_profile o) assignments_catches assignments_powers)) (λ n t e. e)
 
   -- the type that writes comes before all
   pub all_apart : AreApart (common_profile o) (both_profile (es2021_profile o) (both_profile (es2020_profile o) last_profile))
   all_apart =
       apart (common_profile o) (both_profile (es2021_profile o) (both_profile (es2020_profile o) last_profile))
       (separate_from_both (common_profile o) (es2021_profile o) (both_profile (es2020_profile o) last_profile) common_assignments
-      (separate_from_both (common_profile o) (es2020_profile o) last_profile (separate_from_both (common_profile o) (nullish_coalescing_profile o) (chain_profile o) common_coalescing common_chains)
-      (separate_from_both (common_profile o) (es2019_profile o) (es2016_profile o) common_catches common_powers))) (λ n t e. e)
+      (separate_from_both (common_profile o) (es2020_profile o) last_profile (before_es2020 (common_profile o) common_coalescing common_chains common_exports) (before_last (common_profile o) common_catches common_powers))) (λ n t e. e)
+
+  -- AFTER THE PROGRAM: what a type writes, one that acted there before it doesn't take away
+
+  ends_none : (p : Profile) → EndsApart p no_ending
+  ends_none p t w = refl
+
+  ends_both : (p : Profile) (e f : Ending) → EndsApart p e → EndsApart p f → EndsApart p (both_endings e f)
+  ends_both p e f x y t w = neither (is_construct e.constructs t) (is_construct f.constructs t) (x t w) (y t w)
+
+  pub expressions_end : EndsApart (nullish_coalescing_profile o) no_ending
+  expressions_end = ends_none (nullish_coalescing_profile o)
+
+  pub es2020_end : EndsApart (expressions_profile o) (namespace_ending o)
+  es2020_end t w = elim w [ inl i ↦ absurd i | inr j ↦ absurd j ]
+
+  pub last_end : EndsApart (es2019_profile o) no_ending
+  last_end = ends_none (es2019_profile o)
+
+  pub later_end : EndsApart (es2020_profile o) last_ending
+  later_end = ends_both (es2020_profile o) no_ending no_ending (ends_none (es2020_profile o)) (ends_none (es2020_profile o))
+
+  pub editions_end : EndsApart (es2021_profile o) (both_endings (es2020_ending o) last_ending)
+  editions_end t w = absurd w
+
+  pub all_end : EndsApart (common_profile o) (editions_ending o)
+  all_end =
+      ends_both (common_profile o) no_ending (both_endings (es2020_ending o) last_ending) (ends_none (common_profile o))
+      (ends_both (common_profile o) (es2020_ending o) last_ending
+      (ends_both (common_profile o) (both_endings no_ending no_ending) (namespace_ending o) (λ t w. refl) (ends_apart_from o (common_profile o) written_no_export)) (λ t w. refl))

@@ -1,7 +1,7 @@
 //! The lowerings of ECMAScript 2019.
 ghost use Rattle.std.specs.Prelude.{◌≡◌};
 
-use es_traverse::entering_kinds::OnKindEntry;
+use es_traverse::entering::OnEntry;
 use es_tree::options::EnvOptions;
 use lower_optional_catch::OptionalCatchBinding;
 
@@ -10,10 +10,10 @@ pub struct ES2019;
 
 impl ES2019 {
     /// Those that the options ask for: of optional catch bindings. It takes no memory.
-    pub fn lowerings(options: &EnvOptions) -> OnKindEntry<OptionalCatchBinding>
+    pub fn lowerings(options: &EnvOptions) -> OnEntry<OptionalCatchBinding>
         ensures { result.lowering.is_on ≡ options.now.es2019.optional_catch_binding }
     {
-        OnKindEntry {
+        OnEntry {
             lowering: OptionalCatchBinding::new(options),
         }
     }

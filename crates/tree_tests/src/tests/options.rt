@@ -41,7 +41,7 @@ pub fn ask(options: &mut EnvOptions, word: &str) {
     }
 }
 
-/// The words of `ask`.
+/// The words of `ask`, those first whose lowerings are built.
 pub static LOWERINGS: [&str; 9] = [
     "exponentiation",
     "nullish",
@@ -72,7 +72,7 @@ fn ask_for_fault(options: &mut EnvOptions, number: usize) {
         6 => options.assumptions.pure_getters = true,
         7 => options.assumptions.object_rest_no_symbols = true,
         8 => options.assumptions.ignore_function_length = true,
-        _ => options.es2020.export_namespace_from = true,
+        _ => options.es2026.explicit_resource_management = true,
     }
 }
 
@@ -100,13 +100,14 @@ fn the_first_fault_of_options_is_told(rt: HostRuntime) -> Result<(), Fail> {
     for (number, word) in LOWERINGS.iter().enumerate() {
         let mut options = no_options(alloc)?;
         ask(&mut options, word);
-        let fault = if number < 5 {
+        let is_built = number < 6;
+        let fault = if is_built {
             None
         } else {
             Some(OptionName::NotBuilt)
         };
         assert_eq!(rt; options_fault(&options), fault, "{word}");
-        if number < 5 {
+        if is_built {
             ask(&mut together, word);
         }
     }
