@@ -1,10 +1,10 @@
-// acorn, extended by what it doesn't read: `using`, import attributes where it has none, and, for programs that show them,
-// early errors. It is extended as its plugins do it, by methods of its parser.
+// acorn, extended by what it doesn't read: `using`, import attributes where it has none, functions at the top of static blocks
+// beside others of their name, and, for programs that show them, early errors. It is extended as its plugins do it, by methods of its parser.
 
 /** The parser class of this acorn; with `mayBeInvalid` one that goes on at early errors. */
 export function extendedParser(acorn, { mayBeInvalid = false } = {}) {
   const { Parser, tokTypes } = acorn;
-  const parser = Parser.extend(parent => withUsing(parent, tokTypes), parent => withAttributes(parent, tokTypes));
+  const parser = Parser.extend(parent => withUsing(parent, tokTypes), parent => withAttributes(parent, tokTypes), withFunctionsInStaticBlocks);
   return mayBeInvalid ? parser.extend(parent => goingOn(parent, tokTypes)) : parser;
 }
 
@@ -78,6 +78,15 @@ function withAttributes(parent, tokTypes) {
       if (this.type !== tokTypes.string) this.unexpected();
       node.value = this.parseExprAtom();
       return this.finishNode(node, 'ImportAttribute');
+    }
+  };
+}
+
+/** A function at the top of a static block is declared as by `var` (ECMA-262, 15.7.1), and not as in a block. */
+function withFunctionsInStaticBlocks(parent) {
+  return class extends parent {
+    treatFunctionsAsVarInScope(scope) {
+      return super.treatFunctionsAsVarInScope(scope) || (this.inClassStaticBlock && scope === this.currentVarScope());
     }
   };
 }

@@ -77,7 +77,8 @@ function isNeeded(node, tree) {
   return parentheses(withNeededParentheses(without)).length === parentheses(tree).length;
 }
 
-function withoutParentheses(node, isDropped, kind = 'Program') {
+/** A tree without the parentheses that are dropped. */
+export function withoutParentheses(node, isDropped, kind = 'Program') {
   if (kind === 'ParenthesizedExpression' && isDropped(node)) return withoutParentheses(node.expression, isDropped, node.expression.type);
   return mapChildren(node, kind, (child, childKind) => withoutParentheses(child, isDropped, childKind));
 }

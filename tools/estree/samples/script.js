@@ -9,6 +9,7 @@ class A extends B {
   constructor() { super(); super.method(); this.#private = #private in this; }
   get accessor() { return this; } static set accessor(value) {} method() {} #hidden() {} [`computed`]() {} get get() {} static async() {}
   static { var local; local; }
+  static { function twice() {} function twice() {} var twice; }
 }
 if (a) b; else if (c) { d; } else ;
 if (a) if (b) c; else d;

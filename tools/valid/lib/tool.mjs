@@ -1,0 +1,60 @@
+// The tool over a list of trees: the built program, one process a tree, or unproved in one batch of `rt try`.
+import { spawnSync } from 'node:child_process';
+import fs from 'node:fs';
+import os from 'node:os';
+import path from 'node:path';
+import { fileURLToPath } from 'node:url';
+
+const TOP = fileURLToPath(new URL('../../../', import.meta.url));
+const TOOL = path.join(TOP, 'crates/lower_tool/out/lower_tool');
+const LOWERINGS = ['--nullish', '--chaining', '--logical', '--exponentiation', '--catch', '--namespace'];
+
+/** Of each tree's text the tool's status, its standard output and its line of errors; `tool` is another program to take for it. */
+export function lowerAll(trees, { isUnproved, tool }) {
+  if (tool !== undefined) return trees.map(tree => lowerBy(tool, tree));
+  if (isUnproved) return lowerUnproved(trees);
+  const { status } = spawnSync(path.join(TOP, 'lower'), LOWERINGS, { input: trees[0], stdio: ['pipe', 'ignore', 'inherit'] });
+  if (status === 70) throw new Error('the tool is not built');
+  return trees.map(tree => lowerBy(TOOL, tree));
+}
+
+function lowerBy(tool, input) {
+  const { status, signal, error, stdout, stderr } = spawnSync(tool, LOWERINGS, { input, encoding: 'utf8', maxBuffer: Infinity });
+  if (error && error.code !== 'EPIPE') throw new Error(`the tool ${tool} can't be started: ${error.message}`);
+  return { status: status ?? signal, stdout: stdout.trim(), stderr: stderr.trim() };
+}
+
+/** `rt try --cases` builds the program once, and runs it once for each file of a folder. */
+function lowerUnproved(trees) {
+  const folder = fs.mkdtempSync(path.join(os.tmpdir(), 'valid-'));
+  try {
+    trees.forEach((tree, index) => fs.writeFileSync(path.join(folder, `case${index}`), tree));
+    const words = ['-c', 'exec rt try --cases "$@" 2>&1', 'rt', folder, '--', ...LOWERINGS];
+    const { stdout } = spawnSync('bash', words, { cwd: path.join(TOP, 'crates/lower_tool'), encoding: 'utf8', maxBuffer: Infinity });
+    const runs = casesOf(stdout);
+    if (runs.size !== trees.length) throw new Error(`rt try ran ${runs.size} of ${trees.length} trees:\n${stdout.slice(-2000)}`);
+    return trees.map((_, index) => runs.get(index));
+  } finally {
+    fs.rmSync(folder, { recursive: true });
+  }
+}
+
+/** What was run, by the number of the case: its lines stand behind `== NAME`, up to the line that begins with `case=NAME`. */
+function casesOf(text) {
+  const runs = new Map();
+  let lines = [];
+  for (const line of text.split('\n')) {
+    const [, ended, run, status] = line.match(/^case=case(\d+) run=(\S+)(?: .*?status=(\d+))?/) ?? [];
+    if (/^== case\d+$/.test(line)) lines = [];
+    else if (ended === undefined) lines.push(line);
+    else {
+      runs.set(Number(ended), {
+        status: run === 'ended' ? Number(status) : line,
+        stdout: lines.filter(said => said.startsWith('{')).join('\n'),
+        stderr: lines.filter(said => !said.startsWith('{')).join('\n').trim(),
+      });
+      lines = [];
+    }
+  }
+  return runs;
+}
