@@ -1,10 +1,11 @@
 //! Whether a program has a construct that the options ask to lower.
-ghost use Rattle.std.specs.Prelude.{◌≡◌, ◌||◌, bytes_eq, codes};
-ghost use Rattle.es_tree.specs.Constructs.{any_kind, field_at, has_enabled_construct, has_member, is_arrow, is_big_int, is_chain, is_child, is_enabled_construct, is_enabled_expression, is_enabled_statement, is_exponentiation, is_logical_assignment, is_namespace_export, is_nullish_coalescing, is_optional_catch, is_private_member, is_private_name, is_private_target, is_rest, is_rest_or_spread, is_spread, is_using, stands};
-ghost use Rattle.es_tree.specs.Tree.{fields_of, kind_of, label_of, trees};
+ghost use Rattle.std.specs.Prelude.{◌≡◌, ◌||◌, Bool, bytes_eq, codes};
+ghost use Rattle.es_tree.specs.Constructs.{any_kind, field_at, has_enabled_construct, has_member, has_unbuilt_construct, is_arrow, is_big_int, is_chain, is_child, is_enabled_construct, is_enabled_expression, is_enabled_statement, is_exponentiation, is_logical_assignment, is_namespace_export, is_nullish_coalescing, is_object_rest, is_object_spread, is_optional_catch, is_private_member, is_private_name, is_private_target, is_rest, is_spread, is_using, stands};
+ghost use Rattle.es_tree.specs.Tree.{Fields, Label, fields_of, kind_of, label_of, trees};
 ghost use Rattle.es_tree.specs.Views.{plain_field};
 ghost use Rattle.es_tree.specs.Walks.{any_in_field, any_node};
 ghost use Rattle.es_tree.specs.Words.{assignment_operator_text, binary_operator_text, logical_operator_text, variable_declaration_kind_text};
+ghost use Rattle.es_tree.specs.declared.ast_type.AstType.{AstType};
 ghost use Rattle.es_nodes.specs.MaybeFields.{maybe_field};
 
 use crate::fields::{field_at, stands};
@@ -20,18 +21,55 @@ use es_tree::parens::strip_parens;
 pub fn has_enabled_construct(program: &Node, options: &EnvOptions) -> bool
     ensures { result ≡ has_enabled_construct options.now program.now }
 {
-    has_construct(program, options)
+    any_node(program, options)
+}
+
+/// Whether some node of the program is a construct that the options ask to lower and no lowering takes away that is built,
+/// though others of the same option are: an object pattern with a rest. Takes no memory.
+pub fn has_unbuilt_construct(program: &Node, options: &EnvOptions) -> bool
+    ensures { result ≡ has_unbuilt_construct options.now program.now }
+{
+    options.es2018.object_rest_spread.is_some() && any_node(program, &ObjectRest)
+}
+
+/// A test of single nodes.
+trait NodeTest {
+    /// What it says of a node.
+    ghost says: { Self → AstType → Label → Fields → Bool };
+
+    fn passes(&self, node: &Node) -> bool
+        ensures { result ≡ Self.says self.now (kind_of node.now) (label_of node.now) (fields_of node.now) };
+}
+
+/// Whether the options ask to lower the node.
+impl NodeTest for EnvOptions {
+    ghost says = { λ options. is_enabled_construct options };
+
+    fn passes(&self, node: &Node) -> bool {
+        is_enabled_construct(node, self)
+    }
+}
+
+/// Whether the node is an object pattern with a rest.
+struct ObjectRest;
+
+impl NodeTest for ObjectRest {
+    ghost says = { λ _. is_object_rest };
+
+    fn passes(&self, node: &Node) -> bool {
+        is_object_rest(node)
+    }
 }
 
 #[cycle(construct)]
-fn has_construct(node: &Node, options: &EnvOptions) -> bool
-    ensures { result ≡ any_node (is_enabled_construct options.now) node.now }
+fn any_node<T: NodeTest>(node: &Node, test: &T) -> bool
+    ensures { result ≡ any_node (T.says test.now) node.now }
 {
-    if is_enabled_construct(node, options) {
+    if test.passes(node) {
         return true;
     }
     for field in &node.fields {
-        if has_construct_in(field, options) {
+        if any_in_field(field, test) {
             return true;
         }
     }
@@ -39,15 +77,15 @@ fn has_construct(node: &Node, options: &EnvOptions) -> bool
 }
 
 #[cycle(construct)]
-fn has_construct_in(field: &Field, options: &EnvOptions) -> bool
-    ensures { result ≡ any_in_field (is_enabled_construct options.now) (plain_field field.now) }
+fn any_in_field<T: NodeTest>(field: &Field, test: &T) -> bool
+    ensures { result ≡ any_in_field (T.says test.now) (plain_field field.now) }
 {
     match field {
         Field::Missing => false,
-        Field::One(node) => has_construct(node, options),
+        Field::One(node) => any_node(node, test),
         Field::Many(nodes) | Field::Statements(nodes) => {
             for node in nodes {
-                if has_construct(node, options) {
+                if any_node(node, test) {
                     return true;
                 }
             }
@@ -70,7 +108,8 @@ fn is_enabled_expression(node: &Node, options: &EnvOptions) -> bool
         || (options.es2020.nullish_coalescing_operator && is_nullish_coalescing(node))
         || (options.es2020.optional_chaining && is_chain(node))
         || (options.es2021.logical_assignment_operators && is_logical_assignment(node))
-        || (options.es2018.object_rest_spread.is_some() && is_rest_or_spread(node))
+        || (options.es2018.object_rest_spread.is_some()
+            && (is_object_spread(node) || is_object_rest(node)))
         || (options.es2015.arrow_function.is_some() && is_arrow(node))
 }
 
@@ -147,12 +186,21 @@ pub fn is_namespace_export(node: &Node) -> bool
     }
 }
 
-/// Whether the node is an object literal with a spread, or an object pattern with a rest.
-pub fn is_rest_or_spread(node: &Node) -> bool
-    ensures { result ≡ is_rest_or_spread (kind_of node.now) (label_of node.now) (fields_of node.now) }
+/// Whether the node is an object literal with a spread.
+pub fn is_object_spread(node: &Node) -> bool
+    ensures { result ≡ is_object_spread (kind_of node.now) (label_of node.now) (fields_of node.now) }
 {
     match &node.kind {
         Kind::ObjectExpression => has_spread(field_at(node, 0)),
+        _ => false,
+    }
+}
+
+/// Whether the node is an object pattern with a rest.
+pub fn is_object_rest(node: &Node) -> bool
+    ensures { result ≡ is_object_rest (kind_of node.now) (label_of node.now) (fields_of node.now) }
+{
+    match &node.kind {
         Kind::ObjectPattern | Kind::ObjectTarget => has_rest(field_at(node, 0)),
         _ => false,
     }

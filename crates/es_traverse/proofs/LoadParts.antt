@@ -2,7 +2,7 @@
 use Rattle.std.proofs.Common.{◌≡◌, ◌≤◌, ◌<◌, ◌+◌, ◌*◌, refl, sym, ap, arith, ℕ, zero, suc, length, List, [], ◌∷◌, get_or, set, Bool, true, false, true≢false}
 use Rattle.es_tree.specs.Tree.{Tree, node, Label, Fields, done, ◌then◌, Field, missing, one, many, statements, Trees, empty, ◌before◌, field_size, fields_size, tree_size, trees_size}
 use Rattle.es_tree.specs.declared.ast_type.AstType.{AstType}
-use Rattle.es_tree.specs.declared.ast_type.AstType.TheVariants.{ArrowFunctionExpression, AssignmentExpression, AssignmentPattern, BinaryExpression, CatchClause, LogicalExpression, PatternProperty, PropertyDefinition}
+use Rattle.es_tree.specs.declared.ast_type.AstType.TheVariants.{ArrowFunctionExpression, AssignmentExpression, AssignmentPattern, BinaryExpression, CatchClause, LogicalExpression, PatternProperty, PropertyDefinition, SpreadElement}
 use Rattle.es_runs.specs.Weights.{own_weight, field_weight, fields_weight, trees_weight, weight}
 use Rattle.es_runs.proofs.Weights.{weight-size}
 use Rattle.es_steps.specs.Open.{is_body}
@@ -53,6 +53,7 @@ own-loaded PropertyDefinition l fs = omega arith
 own-loaded AssignmentPattern l fs = omega arith
 own-loaded PatternProperty l fs = omega arith
 own-loaded ArrowFunctionExpression l fs = omega arith
+own-loaded SpreadElement l fs = omega arith
 own-loaded CatchClause l fs = omega (arith, parameter-loaded fs)
 own-loaded k l fs = omega (arith, weight-size (node k l done), own-same k l fs done)
 

@@ -1,22 +1,24 @@
 -- What a visit may still make of a part: its weight, and what may be made beside the rows. A slot may be wrapped: a call and an arrow, each
 -- with an id, and what may be made of that arrow; the body of an arrow that is an expression may become one of statements: a body and a
--- `return`, each with an id; and a `catch` without a parameter may get one, a node with an id.
+-- `return`, each with an id; a `catch` without a parameter may get one, a node with an id; and a spread may be copied, and what follows it
+-- too: twice a call of a member with its two names, and two literals, each with an id.
 use Rattle.std.specs.Prelude.{ℕ, ◌+◌, suc, Bool, true, false}
 use Rattle.es_tree.specs.Tree.{Tree, node, Fields, done, ◌then◌, Field, missing, one, many, statements, Trees, empty, ◌before◌}
 use Rattle.es_tree.specs.declared.ast_type.AstType.{AstType}
-use Rattle.es_tree.specs.declared.ast_type.AstType.TheVariants.{ArrowFunctionExpression, AssignmentPattern, CatchClause, PatternProperty, PropertyDefinition}
+use Rattle.es_tree.specs.declared.ast_type.AstType.TheVariants.{ArrowFunctionExpression, AssignmentPattern, CatchClause, PatternProperty, PropertyDefinition, SpreadElement}
 use Rattle.es_runs.specs.Weights.{own_weight}
 use Rattle.es_visit.specs.declared.hook.Hook.{Hook}
 use Rattle.es_visit.specs.declared.hook.Hook.TheVariants.{Expression}
 use Rattle.es_traverse.specs.declared.site.Site.{Site}
 use Rattle.es_traverse.specs.declared.site.Site.TheVariants.{ArrowBody, Slot}
 
--- of a node of this kind: it may have a slot, or an arrow's body
+-- of a node of this kind: it may have a slot or an arrow's body, or be a spread
 abbrev pub own_allowance : AstType → ℕ
 own_allowance PropertyDefinition = 8
 own_allowance AssignmentPattern = 8
 own_allowance PatternProperty = 8
 own_allowance ArrowFunctionExpression = 4
+own_allowance SpreadElement = 24
 own_allowance _ = 0
 
 -- of a node of this kind with these fields: it may get the parameter that it lacks

@@ -115,13 +115,16 @@ abbrev pub is_namespace_export : AstType → Label → Fields → Bool
 is_namespace_export ExportAllDeclaration l fs = stands (field_at 0 fs)
 is_namespace_export _ l fs = false
 
--- an object literal with a spread (13.2.5), and an object pattern with a rest, of bindings (14.3.3) or of
--- assignment targets (13.15.5)
-abbrev pub is_rest_or_spread : AstType → Label → Fields → Bool
-is_rest_or_spread ObjectExpression l fs = has_member is_spread (field_at 0 fs)
-is_rest_or_spread ObjectPattern l fs = has_member is_rest (field_at 0 fs)
-is_rest_or_spread ObjectTarget l fs = has_member is_rest (field_at 0 fs)
-is_rest_or_spread _ l fs = false
+-- an object literal with a spread (13.2.5)
+abbrev pub is_object_spread : AstType → Label → Fields → Bool
+is_object_spread ObjectExpression l fs = has_member is_spread (field_at 0 fs)
+is_object_spread _ l fs = false
+
+-- an object pattern with a rest, of bindings (14.3.3) or of assignment targets (13.15.5)
+abbrev pub is_object_rest : AstType → Label → Fields → Bool
+is_object_rest ObjectPattern l fs = has_member is_rest (field_at 0 fs)
+is_object_rest ObjectTarget l fs = has_member is_rest (field_at 0 fs)
+is_object_rest _ l fs = false
 
 -- `using x = v` (14.3, with Explicit Resource Management)
 abbrev pub is_using : AstType → Label → Fields → Bool
@@ -140,7 +143,7 @@ is_enabled_expression o k l fs =
     || (o.es2020.nullish_coalescing_operator && is_nullish_coalescing k l fs)
     || (o.es2020.optional_chaining && is_chain k l fs)
     || (o.es2021.logical_assignment_operators && is_logical_assignment k l fs)
-    || (is_some o.es2018.object_rest_spread && is_rest_or_spread k l fs)
+    || (is_some o.es2018.object_rest_spread && (is_object_spread k l fs || is_object_rest k l fs))
     || (is_some o.es2015.arrow_function && is_arrow k l fs)
 
 -- the rows of statements
@@ -157,6 +160,11 @@ is_enabled_construct o k l fs = is_enabled_expression o k l fs || is_enabled_sta
 -- whether such a node stands anywhere in the tree
 abbrev pub has_enabled_construct : EnvOptions → Tree → Bool
 has_enabled_construct o t = any_node (is_enabled_construct o) t
+
+-- whether a construct stands anywhere in the tree that the options ask to lower and no lowering that is built takes away, though
+-- others of its options are
+abbrev pub has_unbuilt_construct : EnvOptions → Tree → Bool
+has_unbuilt_construct o t = is_some o.es2018.object_rest_spread && any_node is_object_rest t
 
 -- whether a `??` stands anywhere in the tree
 abbrev pub has_nullish_coalescing : Tree → Bool

@@ -1,5 +1,5 @@
 -- What options ask for that no lowering does.
-use Rattle.std.specs.Prelude.{◌≡◌, List, [], ◌∷◌, Bool, true, false, ◌||◌, Option, Some, None, find, is_some}
+use Rattle.std.specs.Prelude.{◌≡◌, List, [], ◌∷◌, Bool, true, false, ◌&&◌, ◌||◌, not, Option, Some, None, find, is_some}
 use Rattle.es_tree.specs.declared.error.OptionName.{OptionName}
 use Rattle.es_tree.specs.declared.error.OptionName.TheVariants.{
   InlineHelpers,
@@ -16,12 +16,16 @@ use Rattle.es_tree.specs.declared.error.OptionName.TheVariants.{
 use Rattle.es_tree.specs.declared.options.ArrowFunctionsOptions.{ArrowFunctionsOptions}
 use Rattle.es_tree.specs.declared.options.EnvOptions.{EnvOptions}
 use Rattle.es_tree.specs.declared.options.HelperLoaderMode.{HelperLoaderMode}
-use Rattle.es_tree.specs.declared.options.HelperLoaderMode.TheVariants.{Inline}
+use Rattle.es_tree.specs.declared.options.HelperLoaderMode.TheVariants.{External, Inline}
 use Rattle.es_tree.specs.declared.options.ObjectRestSpreadOptions.{ObjectRestSpreadOptions}
 
 abbrev pub is_inline : HelperLoaderMode → Bool
 is_inline Inline = true
 is_inline _ = false
+
+abbrev pub is_external : HelperLoaderMode → Bool
+is_external External = true
+is_external _ = false
 
 abbrev pub is_spec : Option ArrowFunctionsOptions → Bool
 is_spec (Some a) = a.spec
@@ -35,9 +39,13 @@ abbrev pub uses_built_ins : Option ObjectRestSpreadOptions → Bool
 uses_built_ins (Some o) = o.use_built_ins
 uses_built_ins None = false
 
+-- whether the options ask for copies by helpers that the program has to import
+abbrev pub asks_for_imported_helpers : EnvOptions → Bool
+asks_for_imported_helpers o = is_some o.es2018.object_rest_spread && not (is_external o.helper_loader.mode)
+
 -- whether the options ask for a lowering that isn't built yet
 abbrev pub asks_for_unbuilt : EnvOptions → Bool
-asks_for_unbuilt o = is_some o.es2015.arrow_function || is_some o.es2018.object_rest_spread || o.es2026.explicit_resource_management
+asks_for_unbuilt o = is_some o.es2015.arrow_function || asks_for_imported_helpers o || o.es2026.explicit_resource_management
 
 -- whether the options ask for this
 abbrev pub asks_for : OptionName → EnvOptions → Bool

@@ -111,7 +111,10 @@ fn the_first_fault_of_options_is_told(rt: HostRuntime) -> Result<(), Fail> {
             ask(&mut together, word);
         }
     }
+    ask(&mut together, "spread");
     assert_eq!(rt; options_fault(&together), None);
+    together.helper_loader.mode = HelperLoaderMode::Runtime;
+    assert_eq!(rt; options_fault(&together), Some(OptionName::NotBuilt));
     for (number, name) in FAULTS.iter().enumerate().rev() {
         let mut alone = no_options(alloc)?;
         ask_for_fault(&mut alone, number);
