@@ -35,8 +35,8 @@ use Rattle.es_conditions.specs.Laws.{Keeps}
 use Rattle.es_conditions.proofs.Inward.{Known}
 use Rattle.es_conditions.proofs.Marks.{first-of, second-of}
 use Rattle.es_conditions.proofs.Parts.{Made, Part, made-assignment, made-identifier, made-logical, made-member, made-name, made-stored, part-bare, part-member, part-of}
-use Rattle.es_conditions.proofs.Rows.{is-wrapped, known-made, math_at, outside-slots, parts-of-assignment, wrapped-of}
-use Rattle.es_conditions.proofs.Unwrapped.{either-way, logical-holds, no-nullish, two-hold-none, unwrapped}
+use Rattle.es_conditions.proofs.Rows.{is-wrapped, known-made, scope_at, outside-slots, parts-of-assignment, wrapped-of}
+use Rattle.es_conditions.proofs.Unwrapped.{either-way, logical-holds, name-holds, no-nullish, two-hold-none, unwrapped}
 
 -- TESTS
 
@@ -72,29 +72,29 @@ expression-name (node k l fs) h = refl
 module _ (o : EnvOptions) where
   -- DUPLICATION
 
-  duplicate-parts : (s : Option ℕ) (w : Whole) (bs : List Bound) (e e1 e2 : Tree) → IsDuplicated w bs e e1 e2 → Part o s e → Part o s e1 × Part o s e2
+  duplicate-parts : (s : Text → Option ℕ) (w : Whole) (bs : List Bound) (e e1 e2 : Tree) → IsDuplicated w bs e e1 e2 → Part o s e → Part o s e1 × Part o s e2
   duplicate-parts s w bs e e1 e2 (read_again h) k = (k, k)
   duplicate-parts s w bs e e1 e2 (by_temporary {x = x} h i) k = (part-of o s (assign_node (identifier x) e) (made-stored o s x e k), part-of o s (identifier x) (made-identifier o s x))
 
   -- `begin op (again = r)`
-  made-where : (s : Option ℕ) (m : Label) (op : Text) (begin again r : Tree) → Made o s begin → Made o s again → Part o s r → Made o s (assigned_where m op begin again r)
+  made-where : (s : Text → Option ℕ) (m : Label) (op : Text) (begin again r : Tree) → Made o s begin → Made o s again → Part o s r → Made o s (assigned_where m op begin again r)
   made-where s m op begin again r hb ha hr = made-logical o s (record (in_place_of m) { texts = Some (without_last op) ∷ [] }) begin (assign_node again r) (part-of o s begin hb) (part-of o s (assign_node again r) (made-assignment o s (made (Some (codes "=") ∷ []) []) again r refl ha hr))
 
-  row-made : (n : Site) (w : Whole) (bs : List Bound) (t u : Tree) → LogicalAssignmentRule n w bs t u → Known o n t → Made o (math_at n) u
+  row-made : (n : Site) (w : Whole) (bs : List Bound) (t u : Tree) → LogicalAssignmentRule n w bs t u → Known o n t → Made o (scope_at n) u
   row-made n w bs t u (to_name {m = m} {l = l} {t = left} {r = r} {op = op} texts logical alone target) h =
-      made-where (math_at n) m op (node Identifier l done) (node Identifier l done) r (made-name o (math_at n) l) (made-name o (math_at n) l) (parts-of-assignment o n m left r h).1
+      made-where (scope_at n) m op (node Identifier l done) (node Identifier l done) r (made-name o (scope_at n) l) (made-name o (scope_at n) l) (parts-of-assignment o n m left r h).1
   row-made n w bs t u (to_static_member {m = m} {l = l} {k = k} {t = left} {r = r} {o = object} {o1 = o1} {o2 = o2} {op = op} {xs = xs} texts logical alone target flags twice) h =
       let parts = parts-of-assignment o n m left r h in
-      let member = part-member o (math_at n) l object (node Identifier k done) (subst (Part o (math_at n)) target (part-bare o (math_at n) left parts.0)) in
-      let d = duplicate-parts (math_at n) w xs object o1 o2 twice member.0 in
-      let key = part-of o (math_at n) (node Identifier k done) (made-name o (math_at n) k) in
-      made-where (math_at n) m op (member_node false o1 (node Identifier k done)) (member_node false o2 (node Identifier k done)) r (made-member o (math_at n) (made [] []) false o1 (node Identifier k done) d.0 key) (made-member o (math_at n) (made [] []) false o2 (node Identifier k done) d.1 key) parts.1
+      let member = part-member o (scope_at n) l object (node Identifier k done) (subst (Part o (scope_at n)) target (part-bare o (scope_at n) left parts.0)) in
+      let d = duplicate-parts (scope_at n) w xs object o1 o2 twice member.0 in
+      let key = part-of o (scope_at n) (node Identifier k done) (made-name o (scope_at n) k) in
+      made-where (scope_at n) m op (member_node false o1 (node Identifier k done)) (member_node false o2 (node Identifier k done)) r (made-member o (scope_at n) (made [] []) false o1 (node Identifier k done) d.0 key) (made-member o (scope_at n) (made [] []) false o2 (node Identifier k done) d.1 key) parts.1
   row-made n w bs t u (to_computed_member {m = m} {l = l} {t = left} {r = r} {o = object} {o1 = o1} {o2 = o2} {k = k} {k1 = k1} {k2 = k2} {op = op} {xs = xs} {ys = ys} texts logical alone target flags twice key) h =
       let parts = parts-of-assignment o n m left r h in
-      let member = part-member o (math_at n) l object k (subst (Part o (math_at n)) target (part-bare o (math_at n) left parts.0)) in
-      let d = duplicate-parts (math_at n) w xs object o1 o2 twice member.0 in
-      let e = duplicate-parts (math_at n) _ ys k k1 k2 key member.1 in
-      made-where (math_at n) m op (member_node true o1 k1) (member_node true o2 k2) r (made-member o (math_at n) (made [] []) true o1 k1 d.0 e.0) (made-member o (math_at n) (made [] []) true o2 k2 d.1 e.1) parts.1
+      let member = part-member o (scope_at n) l object k (subst (Part o (scope_at n)) target (part-bare o (scope_at n) left parts.0)) in
+      let d = duplicate-parts (scope_at n) w xs object o1 o2 twice member.0 in
+      let e = duplicate-parts (scope_at n) _ ys k k1 k2 key member.1 in
+      made-where (scope_at n) m op (member_node true o1 k1) (member_node true o2 k2) r (made-member o (scope_at n) (made [] []) true o1 k1 d.0 e.0) (made-member o (scope_at n) (made [] []) true o2 k2 d.1 e.1) parts.1
 
   -- SLOTS: what may take a temporary is wrapped for
 
@@ -120,17 +120,14 @@ module _ (o : EnvOptions) where
     right-none : (m : Label) (t r : Tree) → holds (is_wrapped_for o) (node AssignmentExpression m (one t then one r then done)) ≡ false → holds (is_wrapped_for o) r ≡ false
     right-none m t r none = first-of (holds (is_wrapped_for o) r) false (second-of (holds (is_wrapped_for o) t) _ (second-of (is_wrapped_for o AssignmentExpression m (one t then one r then done)) _ none))
 
-    name-holds : (l : Label) → holds (is_wrapped_for o) (node Identifier l done) ≡ false
-    name-holds l = rw (unwrapped o Identifier l done (no-nullish o) refl refl refl refl) refl
-
     -- `x op (x = r)` holds what r does
     where-holds : (m l : Label) (op : Text) (r : Tree) → (o.es2020.nullish_coalescing_operator && bytes_eq (without_last op) (codes "??")) ≡ false → holds (is_wrapped_for o) r ≡ false → holds (is_wrapped_for o) (assigned_where m op (node Identifier l done) (node Identifier l done) r) ≡ false
     where-holds m l op r nullish none =
         let x = node Identifier l done in
         let at = record (in_place_of m) { texts = Some (without_last op) ∷ [] } in
         let equals = made (Some (codes "=") ∷ []) [] in
-        let assign = two-hold-none (is_wrapped_for o AssignmentExpression equals (one x then one r then done)) (holds (is_wrapped_for o) x) (holds (is_wrapped_for o) r) (unwrapped o AssignmentExpression equals (one x then one r then done) (no-nullish o) refl refl refl refl) (name-holds l) none in
-        two-hold-none (is_wrapped_for o LogicalExpression at (one x then one (assign_node x r) then done)) (holds (is_wrapped_for o) x) (holds (is_wrapped_for o) (assign_node x r)) (unwrapped o LogicalExpression at (one x then one (assign_node x r) then done) nullish refl refl refl refl) (name-holds l) assign
+        let assign = two-hold-none (is_wrapped_for o AssignmentExpression equals (one x then one r then done)) (holds (is_wrapped_for o) x) (holds (is_wrapped_for o) r) (unwrapped o AssignmentExpression equals (one x then one r then done) (no-nullish o) refl refl refl refl) (name-holds o l) none in
+        two-hold-none (is_wrapped_for o LogicalExpression at (one x then one (assign_node x r) then done)) (holds (is_wrapped_for o) x) (holds (is_wrapped_for o) (assign_node x r)) (unwrapped o LogicalExpression at (one x then one (assign_node x r) then done) nullish refl refl refl refl) (name-holds o l) assign
 
     no-private : (k : Tree) (l : Label) (object : Tree) (t : Tree) → without_parens t ≡ node MemberExpression l (one object then one k then done) → is_private_name (kind_of k) ≡ false → is_private_member (kind_of (without_parens t)) (fields_of (without_parens t)) ≡ false
     no-private k l object t e d = ap (λ z. is_private_member (kind_of z) (fields_of z)) e ∙ d

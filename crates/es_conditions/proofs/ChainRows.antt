@@ -9,6 +9,7 @@ use Rattle.es_tree.specs.Names.{flag_at}
 use Rattle.es_tree.specs.Parens.{without_parens}
 use Rattle.es_tree.specs.Tree.{Tree, node, Label, done, ◌then◌, one, many, Trees, kind_of}
 use Rattle.es_tree.specs.Walks.{any_in_fields, any_in_trees, any_node}
+use Rattle.es_tree.specs.Words.{Text}
 use Rattle.es_tree.specs.declared.ast_type.AstType.TheVariants.{CallExpression, ChainExpression, ParenthesizedExpression, UnaryExpression}
 use Rattle.es_tree.specs.declared.options.EnvOptions.{EnvOptions}
 use Rattle.es_tree.specs.declared.table.Sort.{Sort}
@@ -33,7 +34,7 @@ use Rattle.es_conditions.specs.Laws.{Keeps, LawChains, LawChainsOff, called_by, 
 use Rattle.es_conditions.proofs.Inward.{Known, unmarked}
 use Rattle.es_conditions.proofs.Marks.{first-of, none-where}
 use Rattle.es_conditions.proofs.Parts.{AreParts, Made, Part, PartsAmong, among-at, made-called, made-delete, made-parens, part-at, part-bare, part-of, two-none, two-of}
-use Rattle.es_conditions.proofs.Rows.{free-of, math_at, outside-slots, wrapped-made, wrapped-of}
+use Rattle.es_conditions.proofs.Rows.{free-of, scope_at, outside-slots, wrapped-made, wrapped-of}
 use Rattle.es_conditions.proofs.Spines.{callee-part, content-in, content-on, short-made, true-part, void-part, walked-parts}
 use Rattle.es_conditions.proofs.Unwrapped.{chain-holds, either-way}
 
@@ -58,32 +59,32 @@ module _ (o : EnvOptions) where
   -- ROWS
 
   -- what a row of chains makes
-  record ChainMade (s : Option ℕ) (u : Tree) : Type 0 where
+  record ChainMade (s : Text → Option ℕ) (u : Tree) : Type 0 where
     made : Made o s u
     no_chain : is_chain_inside u ≡ false
     settled : is_settled o u ≡ true
 
-  chain-made : (s : Option ℕ) (m : Label) (w : Way) (short long : Tree) → has_tests w.tests ≡ true → AreParts o s w.tests → Part o s short → Part o s long → ChainMade s (where_short m w.tests short long)
+  chain-made : (s : Text → Option ℕ) (m : Label) (w : Way) (short long : Tree) → has_tests w.tests ≡ true → AreParts o s w.tests → Part o s short → Part o s long → ChainMade s (where_short m w.tests short long)
   chain-made s m w short long tests h k l = record { made = short-made o s m w.tests short long tests h k l; no_chain = short-plain m w.tests short long tests; settled = short-settled m w.tests short long tests }
 
   module _ (on : o.es2020.optional_chaining ≡ true) where
     -- the operand of `delete`
-    operand-part : (n : Site) (m : Label) (t : Tree) → Known o n (node UnaryExpression m (one t then done)) → Part o (math_at n) t
+    operand-part : (n : Site) (m : Label) (t : Tree) → Known o n (node UnaryExpression m (one t then done)) → Part o (scope_at n) t
     operand-part n m t h =
         let passes = and_parts (is_placed o n UnaryExpression m (one t then done)) (each_passes (is_placed o) (site_in n UnaryExpression m (opened_fields (is_body UnaryExpression) (one t then done)) 0) t && true) h.placed in
-        part-at o (math_at n) (site_in n UnaryExpression m (opened_fields (is_body UnaryExpression) (one t then done)) 0) t (record { scope = refl; parameters = refl })
+        part-at o (scope_at n) (site_in n UnaryExpression m (opened_fields (is_body UnaryExpression) (one t then done)) 0) t (record { scope = λ y u. refl; parameters = λ y u. refl })
         (and_parts (each_passes (is_placed o) (site_in n UnaryExpression m (opened_fields (is_body UnaryExpression) (one t then done)) 0) t) true passes.1).0
         (record { tidy = λ d. first-of (strays false t) false (h.marked.tidy d); full = λ d. first-of (any_node is_unmarked_chain t) false (h.marked.full d) })
 
-    row-made : (no_all : Bool) (n : Site) (known : Whole) (bs : List Bound) (t u : Tree) → OptionalChainingRule no_all n known bs t u → Known o n t → ChainMade (math_at n) u
+    row-made : (no_all : Bool) (n : Site) (known : Whole) (bs : List Bound) (t u : Tree) → OptionalChainingRule no_all n known bs t u → Known o n t → ChainMade (scope_at n) u
     row-made no_all n known bs t u (by_tests {m = m} {e = e} {w = w} takes walked tests) h =
-        let it = walked-parts o (math_at n) no_all known (site_in n ChainExpression m (opened_fields (is_body ChainExpression) (one e then done)) 0) e w walked (content-in o (math_at n) n m e refl h.placed h.marked) in
-        chain-made (math_at n) m w void_zero_node w.current tests it.tests (void-part o (math_at n)) (part-of o (math_at n) w.current (it.steps tests))
+        let it = walked-parts o (scope_at n) no_all known (site_in n ChainExpression m (opened_fields (is_body ChainExpression) (one e then done)) 0) e w walked (content-in o (scope_at n) n m e (λ y u. refl) h.placed h.marked) in
+        chain-made (scope_at n) m w void_zero_node w.current tests it.tests (void-part o (scope_at n)) (part-of o (scope_at n) w.current (it.steps tests))
     row-made no_all n known bs t u (as_callee {m = m} {e = e} {d = d} {w = w} {xs = xs} callee walked tests bound) h = absurd (true≢false (sym (h.value on refl) ∙ ap (λ x. takes_value x) callee))
     row-made no_all n known bs t u (in_delete {m = m} {l = l} {t = operand} {e = e} {w = w} texts alone chain walked tests) h =
-        let content = content-on o (math_at n) l e (subst (Part o (math_at n)) chain (part-bare o (math_at n) operand (operand-part n m operand h))) in
-        let it = walked-parts o (math_at n) no_all known _ e w walked content in
-        chain-made (math_at n) m w true_node (delete_node w.current) tests it.tests (true-part o (math_at n)) (part-of o (math_at n) (delete_node w.current) (made-delete o (math_at n) w.current (it.steps tests)))
+        let content = content-on o (scope_at n) l e (subst (Part o (scope_at n)) chain (part-bare o (scope_at n) operand (operand-part n m operand h))) in
+        let it = walked-parts o (scope_at n) no_all known _ e w walked content in
+        chain-made (scope_at n) m w true_node (delete_node w.current) tests it.tests (true-part o (scope_at n)) (part-of o (scope_at n) (delete_node w.current) (made-delete o (scope_at n) w.current (it.steps tests)))
 
     row-slot : (no_all : Bool) (n : Site) (known : Whole) (bs : List Bound) (t u : Tree) → OptionalChainingRule no_all n known bs t u → is_wrapped o n t ≡ true → in_open_slot n.above ≡ false
     row-slot no_all n known bs t u (by_tests {m = m} {e = e} {w = w} takes walked tests) h = outside-slots o n (node ChainExpression m (one e then done)) h (chain-holds o ChainExpression m (one e then done) (rw on refl))
@@ -113,13 +114,13 @@ module _ (o : EnvOptions) where
     put-chain (node ParenthesizedExpression l (one t then fs)) d = put-chain t d
     put-chain f d = refl
 
-    put-made : (s : Option ℕ) (f d : Tree) → has_form s-Expression f ≡ true → Made o s d → Made o s (put_inside f d)
+    put-made : (s : Text → Option ℕ) (f d : Tree) → has_form s-Expression f ≡ true → Made o s d → Made o s (put_inside f d)
     put-made s (node ParenthesizedExpression l (one t then done)) d form h = made-parens o s l (put_inside t d) (put-made s t d (and_parts (has_form s-Expression t) true (node_form s-Expression ParenthesizedExpression l (one t then done) form).children).0 h)
     put-made s (node ParenthesizedExpression l (one t then (f then fs))) d form h = absurd (true≢false (sym (and-right (has_form s-Expression t) false (node_form s-Expression ParenthesizedExpression l (one t then (f then fs)) form).children)))
     put-made s f d form h = h
 
     -- what a chain becomes as a callee
-    called-made : (s : Option ℕ) (no_all : Bool) (n : Site) (known : Whole) (bs : List Bound) (t d : Tree) → OptionalChainingRule no_all n known bs t d → n.need.level ≡ Level.a_callee → is_chain_kind (kind_of t) ≡ true → Part o s t → ChainMade s d
+    called-made : (s : Text → Option ℕ) (no_all : Bool) (n : Site) (known : Whole) (bs : List Bound) (t d : Tree) → OptionalChainingRule no_all n known bs t d → n.need.level ≡ Level.a_callee → is_chain_kind (kind_of t) ≡ true → Part o s t → ChainMade s d
     called-made s no_all n known bs t u (by_tests {m = m} {e = e} {w = w} takes walked tests) level chain h = absurd (true≢false (sym takes ∙ ap (λ x. takes_value x) level))
     called-made s no_all n known bs t u (as_callee {m = m} {e = e} {d = d} {w = w} {xs = xs} callee walked tests bound) level chain h =
         let it = walked-parts o s no_all known _ e w walked (content-on o s m e h) in
@@ -130,8 +131,8 @@ module _ (o : EnvOptions) where
     record CallKnown (n : Site) (l : Label) (f : Tree) (arguments : Trees) : Type 0 where
       unmarked : flag l.flags ≡ false
       slot : in_open_slot n.above ≡ false
-      callee : Part o (math_at n) f
-      among : PartsAmong o (math_at n) arguments
+      callee : Part o (scope_at n) f
+      among : PartsAmong o (scope_at n) arguments
 
     call-known : (n : Site) (l : Label) (f : Tree) (arguments : Trees) → is_wrapped o n (called_by l f arguments) ≡ true → is_chain_inside f ≡ true → CallKnown n l f arguments
     call-known n l f arguments e c =
@@ -142,8 +143,8 @@ module _ (o : EnvOptions) where
         record {
           unmarked = unmarked o (flag l.flags) (strays_fields false fs) (h.marked.tidy on);
           slot = outside-slots o n (called_by l f arguments) e (or_right (is_wrapped_for o CallExpression l fs) _ (either-way (holds (is_wrapped_for o) f) _ (inside-holds on f c)));
-          callee = part-at o (math_at n) (sites 0) f (record { scope = refl; parameters = refl }) passes.0 (record { tidy = λ d. (two-none (flag l.flags && true) (strays false f) (strays_nodes false arguments) (h.marked.tidy d)).0; full = λ d. (two-none false (any_node is_unmarked_chain f) (any_in_trees is_unmarked_chain arguments) (h.marked.full d)).0 });
-          among = among-at o (math_at n) (sites 1) arguments (record { scope = refl; parameters = refl }) passes.1 (λ d. (two-none (flag l.flags && true) (strays false f) (strays_nodes false arguments) (h.marked.tidy d)).1) (λ d. (two-none false (any_node is_unmarked_chain f) (any_in_trees is_unmarked_chain arguments) (h.marked.full d)).1);
+          callee = part-at o (scope_at n) (sites 0) f (record { scope = λ y u. refl; parameters = λ y u. refl }) passes.0 (record { tidy = λ d. (two-none (flag l.flags && true) (strays false f) (strays_nodes false arguments) (h.marked.tidy d)).0; full = λ d. (two-none false (any_node is_unmarked_chain f) (any_in_trees is_unmarked_chain arguments) (h.marked.full d)).0 });
+          among = among-at o (scope_at n) (sites 1) arguments (record { scope = λ y u. refl; parameters = λ y u. refl }) passes.1 (λ d. (two-none (flag l.flags && true) (strays false f) (strays_nodes false arguments) (h.marked.tidy d)).1) (λ d. (two-none false (any_node is_unmarked_chain f) (any_in_trees is_unmarked_chain arguments) (h.marked.full d)).1);
         }
 
     level-of : (marked : Bool) → marked ≡ false → (the_callee marked).level ≡ Level.a_callee
@@ -156,9 +157,9 @@ module _ (o : EnvOptions) where
     call-lowered : (n : Site) (w : Whole) (bs : List Bound) (sort : Sort) (l : Label) (f d : Tree) (arguments : Trees) → has_form sort (called_by l f arguments) ≡ true → is_wrapped o n (called_by l f arguments) ≡ true → is_chain_inside f ≡ true → OptionalChainingRule o.assumptions.no_document_all (callee_site n l f arguments) w bs (without_parens f) d → is_free o n (called_by l (put_inside f d) arguments) ≡ true
     call-lowered n w bs sort l f d arguments form e c r =
         let call = call-known n l f arguments e c in
-        let it = called-made (math_at n) o.assumptions.no_document_all (callee_site n l f arguments) w bs (without_parens f) d r (callee-level n l f arguments call.unmarked) c (part-bare o (math_at n) f call.callee) in
+        let it = called-made (scope_at n) o.assumptions.no_document_all (callee_site n l f arguments) w bs (without_parens f) d r (callee-level n l f arguments call.unmarked) c (part-bare o (scope_at n) f call.callee) in
         let formed = (two-parts (has_form s-Expression f) (trees_form s-Argument s-Argument arguments) (node_form sort CallExpression l (one f then many arguments then done) form).children).0 in
-        let made = made-called o (math_at n) l (put_inside f d) arguments call.unmarked (put-made (math_at n) f d formed it.made) call.among in
+        let made = made-called o (scope_at n) l (put_inside f d) arguments call.unmarked (put-made (scope_at n) f d formed it.made) call.among in
         free-of o n (called_by l (put_inside f d) arguments) (wrapped-made o n (called_by l (put_inside f d) arguments) call.slot made refl)
         (none-where o.es2020.optional_chaining _ (λ d'. and_right (not (flag_at 0 l.flags)) (is_chain_inside (put_inside f d)) (put-chain f d ∙ it.no_chain)))
 

@@ -20,7 +20,7 @@ use Rattle.es_steps.specs.Steps.{Site, outline, site_in, site_in_body}
 use Rattle.es_steps.specs.WrapRule.{is_wrapped_for}
 use Rattle.es_changes.specs.Changes.{AsBody, Each, EachBy, EachIn}
 use Rattle.es_changes.specs.Conditions.{holds_before, may_bring}
-use Rattle.es_conditions.specs.CoreConditions.{accepts_chain, are_marked, body_site, core_conditions, each_passes, each_passes_among, each_passes_by, each_passes_in, holds_none_where, is_chain_inside, is_delete, is_known, is_no_stray, is_placed, is_power_free, is_settled, is_taken_over, is_unmarked_chain, is_within_slot, is_wrapped}
+use Rattle.es_conditions.specs.CoreConditions.{accepts_chain, are_marked, body_site, core_conditions, each_passes, each_passes_among, each_passes_by, each_passes_in, holds_none_where, is_chain_inside, is_copy_free, is_delete, is_known, is_no_stray, is_placed, is_power_free, is_settled, is_taken_over, is_unmarked_chain, is_within_slot, is_wrapped}
 use Rattle.es_conditions.specs.Laws.{LawConditions}
 use Rattle.es_conditions.proofs.Marks.{Marked, first-flag, first-of, marked-of, marks-of, no-stray-of, none-where, of-no-stray, or-second, second-flag, second-of, where-asked, where-none}
 
@@ -54,7 +54,7 @@ module _ (o : EnvOptions) where
   pub inside-accepted : (n : Site) (t : Tree) → Lowers → each_passes (is_placed o) n t ≡ true → is_chain_inside t ≡ true → accepts_chain n ≡ true
   inside-accepted n (node ChainExpression l fs) on e c =
       let placed = (and_parts (is_placed o n ChainExpression l fs) (each_passes_in (is_placed o) (site_in n ChainExpression l (opened_fields (is_body ChainExpression) fs)) (is_body ChainExpression) fs) e).0 in
-      where-asked o.es2020.optional_chaining true (accepts_chain n) (and_parts (is_power_free o n ChainExpression l fs) (not (o.es2020.optional_chaining && true) || accepts_chain n) placed).1 on refl
+      where-asked o.es2020.optional_chaining true (accepts_chain n) (and_parts (is_power_free o n ChainExpression l fs && is_copy_free o n ChainExpression l fs) (not (o.es2020.optional_chaining && true) || accepts_chain n) placed).1 on refl
   inside-accepted n (node ParenthesizedExpression l (one t then fs)) on e c =
       let inside = (and_parts (is_placed o n ParenthesizedExpression l (one t then fs)) (each_passes_in (is_placed o) (site_in n ParenthesizedExpression l (opened_fields (is_body ParenthesizedExpression) (one t then fs))) (is_body ParenthesizedExpression) (one t then fs)) e).1 in
       inside-accepted (site_in n ParenthesizedExpression l (opened_fields (is_body ParenthesizedExpression) (one t then fs)) 0) t on (and_parts _ _ inside).0 c

@@ -8,6 +8,7 @@ pub mod Rows
 pub mod Coalescing
 pub mod Assigning
 pub mod Powers
+pub mod Copies
 pub mod Spines
 pub mod ChainRows
 pub mod Catches

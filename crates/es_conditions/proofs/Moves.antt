@@ -1,11 +1,11 @@
--- A part of a program moves: where each of its nodes passed the test of placed nodes, each does at its new site, if `Math` finds the same
--- from there, and a chain that the part is can be lowered there too.
+-- A part of a program moves: where each of its nodes passed the test of placed nodes, each does at its new site, if the names that are
+-- asked for find the same from there, and a chain that the part is can be lowered there too.
 use Rattle.std.proofs.Common.{◌≡◌, ◌&&◌, ◌||◌, ℕ, zero, suc, Bool, true, false, List, refl, sym, ap, subst, ◌∙◌, true≢false}
-use Rattle.std.specs.Prelude.{Option, bytes_eq, codes, is_some, not, if◌then◌else◌}
+use Rattle.std.specs.Prelude.{Option, codes, is_some, not, if◌then◌else◌}
 use Rattle.std.proofs.lemmas.Bool.{and_parts, and_from}
 use Rattle.es_tree.specs.Words.{Text}
 use Rattle.es_tree.specs.Ancestors.{ancestor, leads_by}
-use Rattle.es_tree.specs.Constructs.{is_exponentiation}
+use Rattle.es_tree.specs.Constructs.{is_exponentiation, is_object_spread}
 use Rattle.es_tree.specs.Names.{first_text}
 use Rattle.es_tree.specs.Tree.{Tree, node, Label, Fields, done, ◌then◌, Field, missing, one, many, statements, Trees, empty, ◌before◌}
 use Rattle.es_tree.specs.declared.ast_type.AstType.{AstType}
@@ -21,13 +21,11 @@ use Rattle.es_resolution.specs.Declarations.{declared_in, sought}
 use Rattle.es_resolution.specs.Resolved.{Place, place_in, within}
 use Rattle.es_steps.specs.Open.{OpenFields, finished_fields, is_body, is_statement_body, opened_fields}
 use Rattle.es_steps.specs.Steps.{Site, outline, site_in}
-use Rattle.es_steps.proofs.Sites.{PlacesAlike, place-inwards}
-use Rattle.es_conditions.specs.CoreConditions.{accepts_chain, body_site, each_passes, each_passes_among, each_passes_by, each_passes_in, is_chain_placed, is_placed, is_power_free, is_taken_over, takes_over}
+use Rattle.es_steps.proofs.Sites.{AgreeOnUsed, PlacesAlike, place-inwards}
+use Rattle.es_changes.specs.Rules.{is_asked_for}
+use Rattle.es_conditions.specs.CoreConditions.{accepts_chain, body_site, each_passes, each_passes_among, each_passes_by, each_passes_in, is_chain_placed, is_copy_free, is_placed, is_power_free, is_taken_over, is_unbound_if, takes_over}
 
--- NAMES: what `Math` finds in a field doesn't depend on the node's role
-
-abbrev pub is_math : Text → Bool
-is_math x = bytes_eq x (codes "Math")
+-- NAMES: what those that are asked for find in a field doesn't depend on the node's role
 
 -- whether the roles of a node's fields are the same whatever its own role
 abbrev has_fixed_roles : AstType → Bool
@@ -88,7 +86,7 @@ module _ (r r' : Role) (l : Label) (fs : Fields) where
     in_field roles k = place_in p k l roles fs i
 
     abbrev AlikeIn : AstType → Type 0
-    AlikeIn k = PlacesAlike is_math (in_field (role_at r k l fs) k) (in_field (role_at r' k l fs) k)
+    AlikeIn k = PlacesAlike is_asked_for (in_field (role_at r k l fs) k) (in_field (role_at r' k l fs) k)
 
     same : (k : AstType) → in_field (role_at r' k l fs) k ≡ in_field (role_at r k l fs) k → AlikeIn k
     same k e = record { scope = λ y u. ap (λ q. q.scope y) e; parameters = λ y u. ap (λ q. q.parameters y) e }
@@ -123,11 +121,11 @@ module _ (r r' : Role) (l : Label) (fs : Fields) where
     other-role : (k : AstType) → AlikeIn k
     other-role k = by-roles k (has_fixed_roles k) refl
 
-both-alike : (p q o : Place) → PlacesAlike is_math p q → PlacesAlike is_math q o → PlacesAlike is_math p o
+both-alike : (p q o : Place) → PlacesAlike is_asked_for p q → PlacesAlike is_asked_for q o → PlacesAlike is_asked_for p o
 both-alike p q o a b = record { scope = λ y u. b.scope y u ∙ a.scope y u; parameters = λ y u. b.parameters y u ∙ a.parameters y u }
 
-names-in : (p q : Place) (r r' : Role) (k : AstType) (l : Label) (fs : Fields) (i : ℕ) → PlacesAlike is_math p q → PlacesAlike is_math (place_in p k l (role_at r k l fs) fs i) (place_in q k l (role_at r' k l fs) fs i)
-names-in p q r r' k l fs i a = both-alike (place_in p k l (role_at r k l fs) fs i) (place_in q k l (role_at r k l fs) fs i) (place_in q k l (role_at r' k l fs) fs i) (place-inwards is_math p q a k l r fs i) (other-role r r' l fs q i k)
+names-in : (p q : Place) (r r' : Role) (k : AstType) (l : Label) (fs : Fields) (i : ℕ) → PlacesAlike is_asked_for p q → PlacesAlike is_asked_for (place_in p k l (role_at r k l fs) fs i) (place_in q k l (role_at r' k l fs) fs i)
+names-in p q r r' k l fs i a = both-alike (place_in p k l (role_at r k l fs) fs i) (place_in q k l (role_at r k l fs) fs i) (place_in q k l (role_at r' k l fs) fs i) (place-inwards is_asked_for p q a k l r fs i) (other-role r r' l fs q i k)
 
 -- LEVELS: what a place takes inside parentheses and chains is what it takes around them
 
@@ -160,7 +158,7 @@ levels-in a b k ts fs i h = record { value = λ e. e; content = λ e. e }
 -- MOVES
 
 pub record Moves (n m : Site) : Type 0 where
-  pub names : PlacesAlike is_math n.names m.names
+  pub names : PlacesAlike is_asked_for n.names m.names
   pub levels : Levels n.need.level m.need.level
   pub accepted : accepts_chain n ≡ true → accepts_chain m ≡ true
 
@@ -193,12 +191,18 @@ or-more : (a b c : Bool) → (b ≡ true → c ≡ true) → (a || b) ≡ true �
 or-more true b c f e = refl
 or-more false b c f e = f e
 
+unbound-still : (asked : Bool) (x : Text) (n m : Site) → m.names.scope x ≡ n.names.scope x → is_unbound_if asked x n ≡ true → is_unbound_if asked x m ≡ true
+unbound-still asked x n m scope e = subst (λ (s : Option ℕ). (not asked || not (is_some s)) ≡ true) (sym scope) e
+
 module _ (o : EnvOptions) where
-  pub placed-still : (n m : Site) (k : AstType) (l : Label) (fs : Fields) → m.names.scope (codes "Math") ≡ n.names.scope (codes "Math") → (accepts_chain n ≡ true → accepts_chain m ≡ true) → is_placed o n k l fs ≡ true → is_placed o m k l fs ≡ true
+  placed-still : (n m : Site) (k : AstType) (l : Label) (fs : Fields) → AgreeOnUsed is_asked_for n.names.scope m.names.scope → (accepts_chain n ≡ true → accepts_chain m ≡ true) → is_placed o n k l fs ≡ true → is_placed o m k l fs ≡ true
   placed-still n m k l fs scope accepted e =
-      let parts = and_parts (is_power_free o n k l fs) (is_chain_placed o n k) e in
-      and_from (is_power_free o m k l fs) (is_chain_placed o m k)
-      (subst (λ (s : Option ℕ). (not (o.es2016.exponentiation_operator && is_exponentiation k l fs) || not (is_some s)) ≡ true) (sym scope) parts.0)
+      let parts = and_parts (is_power_free o n k l fs && is_copy_free o n k l fs) (is_chain_placed o n k) e in
+      let names = and_parts (is_power_free o n k l fs) (is_copy_free o n k l fs) parts.0 in
+      and_from (is_power_free o m k l fs && is_copy_free o m k l fs) (is_chain_placed o m k)
+      (and_from (is_power_free o m k l fs) (is_copy_free o m k l fs)
+      (unbound-still (o.es2016.exponentiation_operator && is_exponentiation k l fs) (codes "Math") n m (scope (codes "Math") refl) names.0)
+      (unbound-still (is_some o.es2018.object_rest_spread && is_object_spread k l fs) (codes "babelHelpers") n m (scope (codes "babelHelpers") refl) names.1))
       (or-more (not (o.es2020.optional_chaining && is_chain_kind k)) (accepts_chain n) (accepts_chain m) accepted parts.1)
 
   mutual
@@ -206,7 +210,7 @@ module _ (o : EnvOptions) where
     moved n m (node k l fs) h e =
         let parts = and_parts (is_placed o n k l fs) (each_passes_in (is_placed o) (site_in n k l (opened_fields (is_body k) fs)) (is_body k) fs) e in
         and_from (is_placed o m k l fs) (each_passes_in (is_placed o) (site_in m k l (opened_fields (is_body k) fs)) (is_body k) fs)
-        (placed-still n m k l fs (h.names.scope (codes "Math") refl) h.accepted parts.0)
+        (placed-still n m k l fs h.names.scope h.accepted parts.0)
         (moved-in (site_in n k l (opened_fields (is_body k) fs)) (site_in m k l (opened_fields (is_body k) fs)) (is_body k) fs (λ i. moves-in n m k l (opened_fields (is_body k) fs) i h) parts.1)
 
     pub moved-in : (c d : ℕ → Site) (bodies : ℕ → Bool) (fs : Fields) → ((i : ℕ) → Moves (c i) (d i)) → each_passes_in (is_placed o) c bodies fs ≡ true → each_passes_in (is_placed o) d bodies fs ≡ true

@@ -1,13 +1,13 @@
 -- The rows of exponentiation keep the conditions.
 use Rattle.std.proofs.Common.{◌≡◌, ◌&&◌, ◌||◌, Bool, true, false, List, [], ◌∷◌, ◌++◌, refl, sym, ◌∙◌, true≢false}
-use Rattle.std.specs.Prelude.{ℕ, Option, None, Some, codes}
+use Rattle.std.specs.Prelude.{ℕ, Option, Some, codes}
 use Rattle.std.proofs.lemmas.Bool.{and_right}
 use Rattle.es_tree.specs.Constructs.{is_big_int}
 use Rattle.es_tree.specs.Names.{first_text}
 use Rattle.es_tree.specs.Parens.{without_parens}
 use Rattle.es_tree.specs.Tree.{Tree, node, Label, done, ◌then◌, one, many, empty, ◌before◌, kind_of, trees}
 use Rattle.es_tree.specs.Words.{Text}
-use Rattle.es_tree.specs.declared.ast_type.AstType.TheVariants.{AssignmentExpression, BinaryExpression, CallExpression, Identifier, MemberExpression, PrivateIdentifier, StringLiteral}
+use Rattle.es_tree.specs.declared.ast_type.AstType.TheVariants.{AssignmentExpression, BinaryExpression, CallExpression, Identifier, PrivateIdentifier, StringLiteral}
 use Rattle.es_tree.specs.declared.options.EnvOptions.{EnvOptions}
 use Rattle.es_runs.specs.Exponentiation.{string_node}
 use Rattle.es_runs.specs.Rules.{assign_node, in_place_of, member_node}
@@ -24,24 +24,19 @@ use Rattle.es_conditions.specs.CoreConditions.{is_chain_inside, is_free, is_sett
 use Rattle.es_conditions.specs.Laws.{Keeps}
 use Rattle.es_conditions.proofs.Inward.{Known}
 use Rattle.es_conditions.proofs.Marks.{first-of, none-where, second-of}
-use Rattle.es_conditions.proofs.Parts.{AreParts, Made, Part, among-first, among-list, among-none, both-parts, made-assignment, made-call, made-identifier, made-leaf, made-member, made-name, made-sequence, made-stored, part-bare, part-member, part-of}
-use Rattle.es_conditions.proofs.Rows.{free-of, is-wrapped, known-made, math_at, outside-slots, parts-of-assignment, parts-of-binary, wrapped-free, wrapped-of}
-use Rattle.es_conditions.proofs.Unwrapped.{no-nullish, power-holds, two-hold-none, unwrapped}
+use Rattle.es_conditions.proofs.Parts.{AreParts, Made, Part, among-first, among-list, among-none, both-parts, made-assignment, made-call, made-identifier, made-leaf, made-member, made-name, made-sequence, made-static, made-stored, part-bare, part-member, part-of}
+use Rattle.es_conditions.proofs.Rows.{free-of, is-wrapped, known-made, scope_at, outside-slots, parts-of-assignment, parts-of-binary, wrapped-free, wrapped-of}
+use Rattle.es_conditions.proofs.Unwrapped.{no-nullish, power-holds, static-holds, unwrapped}
 
 call-holds-none : (x a b c : Bool) → x ≡ false → a ≡ false → b ≡ false → c ≡ false → (x || (a || ((b || (c || false)) || false))) ≡ false
 call-holds-none x a b c h ha hb hc = rw (h, ha, hb, hc) refl
 
 module _ (o : EnvOptions) where
-  module _ (s : Option ℕ) where
-    made-word : (x : Text) → Made o s (word x)
-    made-word x = made-identifier o s (record { name = x; symbol = None })
-
+  module _ (s : Text → Option ℕ) where
     -- `Math.pow(l, r)`
     made-power : (m : Label) (l r : Tree) → Part o s l → Part o s r → Made o s (power_at m l r)
     made-power m l r hl hr =
-        let math = part-of o s (word (codes "Math")) (made-word (codes "Math")) in
-        let pow = part-of o s (word (codes "pow")) (made-word (codes "pow")) in
-        made-call o s (in_place_of m) (member_node false (word (codes "Math")) (word (codes "pow"))) (l before r before empty) (made-member o s (made [] []) false (word (codes "Math")) (word (codes "pow")) math pow) (among-first o s l (r before empty) hl (among-first o s r empty hr (among-none o s)))
+        made-call o s (in_place_of m) (member_node false (word (codes "Math")) (word (codes "pow"))) (l before r before empty) (made-static o s (codes "Math") (codes "pow")) (among-first o s l (r before empty) hl (among-first o s r empty hr (among-none o s)))
 
     record HeldParts (fs : List Tree) (o' : Tree) : Type 0 where
       object : Part o s o'
@@ -99,7 +94,7 @@ module _ (o : EnvOptions) where
   -- WHAT THE ROWS LEAVE
 
   record RowMade (n : Site) (u : Tree) : Type 0 where
-    made : Made o (math_at n) u
+    made : Made o (scope_at n) u
     no_chain : is_chain_inside u ≡ false
     settled : is_settled o u ≡ true
 
@@ -114,15 +109,12 @@ module _ (o : EnvOptions) where
   row-made : (n : Site) (w : Whole) (bs : List Bound) (t u : Tree) → ExponentiationRule n w bs t u → Known o n t → RowMade n u
   row-made n w bs t u (power {m = m} {l = l} {r = r} free texts a b) h =
       let parts = parts-of-binary o n m l r h in
-      record { made = made-power (math_at n) m l r parts.0 parts.1; no_chain = refl; settled = none-where o.es2020.optional_chaining false (λ on. refl) }
+      record { made = made-power (scope_at n) m l r parts.0 parts.1; no_chain = refl; settled = none-where o.es2020.optional_chaining false (λ on. refl) }
   row-made n w bs t u (power_assignment {m = m} {t = left} {r = r} {target = target} {read = read} {xs = xs} {fs = fs} free texts b alone twice) h =
       let parts = parts-of-assignment o n m left r h in
-      record { made = made-assigned (math_at n) m fs target read r (target-parts (math_at n) w xs fs (without_parens left) target read twice (part-bare o (math_at n) left parts.0)) parts.1; no_chain = no-chain m fs target read r; settled = settled m fs target read r }
+      record { made = made-assigned (scope_at n) m fs target read r (target-parts (scope_at n) w xs fs (without_parens left) target read twice (part-bare o (scope_at n) left parts.0)) parts.1; no_chain = no-chain m fs target read r; settled = settled m fs target read r }
 
   -- SLOTS
-
-  name-holds : (x : Text) → holds (is_wrapped_for o) (word x) ≡ false
-  name-holds x = rw (unwrapped o Identifier (made (Some x ∷ []) []) done (no-nullish o) refl refl refl refl) refl
 
   -- `Math.pow(l, r)` holds what l and r do
   call-holds : (m : Label) (l r : Tree) → holds (is_wrapped_for o) l ≡ false → holds (is_wrapped_for o) r ≡ false → holds (is_wrapped_for o) (power_at m l r) ≡ false
@@ -130,8 +122,7 @@ module _ (o : EnvOptions) where
       let pow = member_node false (word (codes "Math")) (word (codes "pow")) in
       let at = record (in_place_of m) { flags = false ∷ [] } in
       let fs = one pow then many (l before r before empty) then done in
-      let member = two-hold-none (is_wrapped_for o MemberExpression (made [] (false ∷ false ∷ [])) (one (word (codes "Math")) then one (word (codes "pow")) then done)) (holds (is_wrapped_for o) (word (codes "Math"))) (holds (is_wrapped_for o) (word (codes "pow"))) (unwrapped o MemberExpression (made [] (false ∷ false ∷ [])) (one (word (codes "Math")) then one (word (codes "pow")) then done) (no-nullish o) refl refl refl refl) (name-holds (codes "Math")) (name-holds (codes "pow")) in
-      call-holds-none (is_wrapped_for o CallExpression at fs) (holds (is_wrapped_for o) pow) (holds (is_wrapped_for o) l) (holds (is_wrapped_for o) r) (unwrapped o CallExpression at fs (no-nullish o) refl refl refl refl) member hl hr
+      call-holds-none (is_wrapped_for o CallExpression at fs) (holds (is_wrapped_for o) pow) (holds (is_wrapped_for o) l) (holds (is_wrapped_for o) r) (unwrapped o CallExpression at fs (no-nullish o) refl refl refl refl) (static-holds o (codes "Math") (codes "pow")) hl hr
 
   module _ (on : o.es2016.exponentiation_operator ≡ true) where
     assignment-holds : (m : Label) (t r : Tree) → m.texts ≡ Some (codes "**=") ∷ [] → is_big_int (kind_of r) ≡ false → holds (is_wrapped_for o) (node AssignmentExpression m (one t then one r then done)) ≡ true

@@ -1,8 +1,9 @@
 -- What rows share: their nodes as parts, and what is known of what they make.
 use Rattle.std.proofs.Common.{◌≡◌, ◌&&◌, Bool, true, false, refl, sym, ◌∙◌, true≢false}
-use Rattle.std.specs.Prelude.{ℕ, Option, codes, not}
+use Rattle.std.specs.Prelude.{ℕ, Option, not}
 use Rattle.std.proofs.lemmas.Bool.{and_parts, and_from}
 use Rattle.es_tree.specs.Tree.{Tree, node, Label, done, ◌then◌, one}
+use Rattle.es_tree.specs.Words.{Text}
 use Rattle.es_tree.specs.declared.ast_type.AstType.TheVariants.{AssignmentExpression, BinaryExpression, LogicalExpression}
 use Rattle.es_tree.specs.declared.options.EnvOptions.{EnvOptions}
 use Rattle.es_steps.specs.Open.{is_body, opened_fields}
@@ -14,9 +15,9 @@ use Rattle.es_conditions.proofs.Inward.{Known, is-known, known-of}
 use Rattle.es_conditions.proofs.Marks.{none-where, where-none}
 use Rattle.es_conditions.proofs.Parts.{Made, Part, two-parts}
 
--- what `Math` finds from a site
-abbrev pub math_at : Site → Option ℕ
-math_at n = n.names.scope (codes "Math")
+-- what names find from a site
+abbrev pub scope_at : Site → Text → Option ℕ
+scope_at n = n.names.scope
 
 closed : (b h : Bool) → not (b && h) ≡ true → h ≡ true → b ≡ false
 closed true true e d = absurd (true≢false (sym e))
@@ -42,21 +43,21 @@ module _ (o : EnvOptions) where
   pub outside-slots : (n : Site) (t : Tree) → is_wrapped o n t ≡ true → holds (is_wrapped_for o) t ≡ true → in_open_slot n.above ≡ false
   outside-slots n t e h = closed (in_open_slot n.above) (holds (is_wrapped_for o) t) (and_parts (holds_none_where (in_open_slot n.above) o t) (is_known o n t) e).0 h
 
-  pub parts-of-assignment : (n : Site) (l : Label) (a b : Tree) → Known o n (node AssignmentExpression l (one a then one b then done)) → Part o (math_at n) a × Part o (math_at n) b
-  parts-of-assignment n l a b h = two-parts o (math_at n) (site_in n AssignmentExpression l (opened_fields (is_body AssignmentExpression) (one a then one b then done))) a b (is_placed o n AssignmentExpression l (one a then one b then done)) false false (record { scope = refl; parameters = refl }) (record { scope = refl; parameters = refl }) h.placed h.marked.tidy h.marked.full
+  pub parts-of-assignment : (n : Site) (l : Label) (a b : Tree) → Known o n (node AssignmentExpression l (one a then one b then done)) → Part o (scope_at n) a × Part o (scope_at n) b
+  parts-of-assignment n l a b h = two-parts o (scope_at n) (site_in n AssignmentExpression l (opened_fields (is_body AssignmentExpression) (one a then one b then done))) a b (is_placed o n AssignmentExpression l (one a then one b then done)) false false (record { scope = λ y u. refl; parameters = λ y u. refl }) (record { scope = λ y u. refl; parameters = λ y u. refl }) h.placed h.marked.tidy h.marked.full
 
-  pub parts-of-logical : (n : Site) (l : Label) (a b : Tree) → Known o n (node LogicalExpression l (one a then one b then done)) → Part o (math_at n) a × Part o (math_at n) b
-  parts-of-logical n l a b h = two-parts o (math_at n) (site_in n LogicalExpression l (opened_fields (is_body LogicalExpression) (one a then one b then done))) a b (is_placed o n LogicalExpression l (one a then one b then done)) false false (record { scope = refl; parameters = refl }) (record { scope = refl; parameters = refl }) h.placed h.marked.tidy h.marked.full
+  pub parts-of-logical : (n : Site) (l : Label) (a b : Tree) → Known o n (node LogicalExpression l (one a then one b then done)) → Part o (scope_at n) a × Part o (scope_at n) b
+  parts-of-logical n l a b h = two-parts o (scope_at n) (site_in n LogicalExpression l (opened_fields (is_body LogicalExpression) (one a then one b then done))) a b (is_placed o n LogicalExpression l (one a then one b then done)) false false (record { scope = λ y u. refl; parameters = λ y u. refl }) (record { scope = λ y u. refl; parameters = λ y u. refl }) h.placed h.marked.tidy h.marked.full
 
-  pub parts-of-binary : (n : Site) (l : Label) (a b : Tree) → Known o n (node BinaryExpression l (one a then one b then done)) → Part o (math_at n) a × Part o (math_at n) b
-  parts-of-binary n l a b h = two-parts o (math_at n) (site_in n BinaryExpression l (opened_fields (is_body BinaryExpression) (one a then one b then done))) a b (is_placed o n BinaryExpression l (one a then one b then done)) false false (record { scope = refl; parameters = refl }) (record { scope = refl; parameters = refl }) h.placed h.marked.tidy h.marked.full
+  pub parts-of-binary : (n : Site) (l : Label) (a b : Tree) → Known o n (node BinaryExpression l (one a then one b then done)) → Part o (scope_at n) a × Part o (scope_at n) b
+  parts-of-binary n l a b h = two-parts o (scope_at n) (site_in n BinaryExpression l (opened_fields (is_body BinaryExpression) (one a then one b then done))) a b (is_placed o n BinaryExpression l (one a then one b then done)) false false (record { scope = λ y u. refl; parameters = λ y u. refl }) (record { scope = λ y u. refl; parameters = λ y u. refl }) h.placed h.marked.tidy h.marked.full
 
   -- WHAT IT LEAVES
 
-  pub known-made : (n : Site) (u : Tree) → Made o (math_at n) u → is_chain_inside u ≡ false → Known o n u
-  known-made n u h e = record { placed = h.anywhere n refl; marked = h.marked; value = λ on c. absurd (true≢false (sym c ∙ e)) }
+  pub known-made : (n : Site) (u : Tree) → Made o (scope_at n) u → is_chain_inside u ≡ false → Known o n u
+  known-made n u h e = record { placed = h.anywhere n (λ y u. refl); marked = h.marked; value = λ on c. absurd (true≢false (sym c ∙ e)) }
 
-  pub wrapped-made : (n : Site) (u : Tree) → in_open_slot n.above ≡ false → Made o (math_at n) u → is_chain_inside u ≡ false → is_wrapped o n u ≡ true
+  pub wrapped-made : (n : Site) (u : Tree) → in_open_slot n.above ≡ false → Made o (scope_at n) u → is_chain_inside u ≡ false → is_wrapped o n u ≡ true
   wrapped-made n u slot h e = is-wrapped n u (record { slot = λ d. absurd (true≢false (sym d ∙ slot)); known = known-made n u h e })
 
   pub free-of : (n : Site) (u : Tree) → is_wrapped o n u ≡ true → is_settled o u ≡ true → is_free o n u ≡ true

@@ -5,6 +5,7 @@ use Rattle.std.proofs.lemmas.Bool.{and_parts}
 use Rattle.es_tree.specs.Parens.{without_parens}
 use Rattle.es_tree.specs.Tree.{Tree, node, Label, done, ◌then◌, one, many, Trees, empty, ◌before◌}
 use Rattle.es_tree.specs.Walks.{any_in_trees, any_node}
+use Rattle.es_tree.specs.Words.{Text}
 use Rattle.es_tree.specs.declared.ast_type.AstType.TheVariants.{BooleanLiteral, CallExpression, ChainExpression, Identifier, MemberExpression, ThisExpression}
 use Rattle.es_tree.specs.declared.options.EnvOptions.{EnvOptions}
 use Rattle.es_runs.specs.Alike.{content_level, the_callee}
@@ -24,7 +25,7 @@ use Rattle.es_steps.specs.Steps.{Site, Whole, site_in}
 use Rattle.es_conditions.specs.CoreConditions.{each_passes, each_passes_among, is_placed, is_unmarked_chain}
 use Rattle.es_conditions.proofs.Marks.{Marked, first-of, second-of}
 use Rattle.es_conditions.proofs.Moves.{Moves, moved}
-use Rattle.es_conditions.proofs.Parts.{AreParts, Here, Made, Part, PartsAmong, Passes, among-at, among-first, among-none, both-parts, callee_of, made-binary, made-call, made-call-by, made-conditional, made-identifier, made-leaf, made-logical, made-member, made-name, made-null, made-stored, made-void, moves-over, moves-to-value, part-at, part-bare, part-member, part-of, some_site, two-none, two-of}
+use Rattle.es_conditions.proofs.Parts.{AreParts, Finds, Here, Made, Part, PartsAmong, Passes, among-at, among-first, among-none, both-parts, callee_of, made-binary, made-call, made-call-by, made-conditional, made-identifier, made-leaf, made-logical, made-member, made-name, made-null, made-stored, made-void, moves-over, moves-to-value, part-at, part-bare, part-member, part-of, some_site, two-none, two-of}
 
 -- LEVELS of callees
 
@@ -43,7 +44,7 @@ base-strays (node MemberExpression l fs) link e = absurd (true≢false link)
 base-strays (node CallExpression l fs) link e = absurd (true≢false link)
 base-strays (node k l fs) link e = e
 
-module _ (o : EnvOptions) (s : Option ℕ) where
+module _ (o : EnvOptions) (s : Text → Option ℕ) where
   abbrev Lowers : Type 0
   Lowers = o.es2020.optional_chaining ≡ true
 
@@ -170,30 +171,30 @@ module _ (o : EnvOptions) (s : Option ℕ) where
   object-on : (n : Site) (l : Label) (e p : Tree) → OnSpine n (node MemberExpression l (one e then one p then done)) → OnSpine (object_site n l e p 0) e × Part o s p
   object-on n l e p h =
       let passes = two-of (is_placed o n MemberExpression l (one e then one p then done)) (each_passes (is_placed o) (object_site n l e p 0) e) (each_passes (is_placed o) (object_site n l e p 1) p) h.passes in (
-        record { here = record { scope = h.here.scope; parameters = refl }; passes = passes.0; tidy = λ on. (two-none (flag_after l.flags && false) (strays true e) (strays false p) (h.tidy on)).0; full = λ on. (two-none false (any_node is_unmarked_chain e) (any_node is_unmarked_chain p) (h.full on)).0 },
-        part-at o s (object_site n l e p 1) p (record { scope = h.here.scope; parameters = refl }) passes.1 (record { tidy = λ on. (two-none (flag_after l.flags && false) (strays true e) (strays false p) (h.tidy on)).1; full = λ on. (two-none false (any_node is_unmarked_chain e) (any_node is_unmarked_chain p) (h.full on)).1 }),
+        record { here = record { scope = h.here.scope; parameters = λ y u. refl }; passes = passes.0; tidy = λ on. (two-none (flag_after l.flags && false) (strays true e) (strays false p) (h.tidy on)).0; full = λ on. (two-none false (any_node is_unmarked_chain e) (any_node is_unmarked_chain p) (h.full on)).0 },
+        part-at o s (object_site n l e p 1) p (record { scope = h.here.scope; parameters = λ y u. refl }) passes.1 (record { tidy = λ on. (two-none (flag_after l.flags && false) (strays true e) (strays false p) (h.tidy on)).1; full = λ on. (two-none false (any_node is_unmarked_chain e) (any_node is_unmarked_chain p) (h.full on)).1 }),
       )
 
   callee-on : (n : Site) (l : Label) (f : Tree) (arguments : Trees) → OnSpine n (node CallExpression l (one f then many arguments then done)) → OnSpine (call_site n l f arguments 0) f × PartsAmong o s arguments
   callee-on n l f arguments h =
       let passes = two-of (is_placed o n CallExpression l (one f then many arguments then done)) (each_passes (is_placed o) (call_site n l f arguments 0) f) (each_passes_among (is_placed o) (call_site n l f arguments 1) arguments) h.passes in (
-        record { here = record { scope = h.here.scope; parameters = refl }; passes = passes.0; tidy = λ on. (two-none (flag l.flags && false) (strays true f) (strays_nodes false arguments) (h.tidy on)).0; full = λ on. (two-none false (any_node is_unmarked_chain f) (any_in_trees is_unmarked_chain arguments) (h.full on)).0 },
-        among-at o s (call_site n l f arguments 1) arguments (record { scope = h.here.scope; parameters = refl }) passes.1 (λ on. (two-none (flag l.flags && false) (strays true f) (strays_nodes false arguments) (h.tidy on)).1) (λ on. (two-none false (any_node is_unmarked_chain f) (any_in_trees is_unmarked_chain arguments) (h.full on)).1),
+        record { here = record { scope = h.here.scope; parameters = λ y u. refl }; passes = passes.0; tidy = λ on. (two-none (flag l.flags && false) (strays true f) (strays_nodes false arguments) (h.tidy on)).0; full = λ on. (two-none false (any_node is_unmarked_chain f) (any_in_trees is_unmarked_chain arguments) (h.full on)).0 },
+        among-at o s (call_site n l f arguments 1) arguments (record { scope = h.here.scope; parameters = λ y u. refl }) passes.1 (λ on. (two-none (flag l.flags && false) (strays true f) (strays_nodes false arguments) (h.tidy on)).1) (λ on. (two-none false (any_node is_unmarked_chain f) (any_in_trees is_unmarked_chain arguments) (h.full on)).1),
       )
 
   -- what a chain holds
-  pub content-in : (n : Site) (m : Label) (c : Tree) → n.names.scope (codes "Math") ≡ s → Passes o s n (node ChainExpression m (one c then done)) → Marked o (node ChainExpression m (one c then done)) → OnSpine (site_in n ChainExpression m (opened_fields (is_body ChainExpression) (one c then done)) 0) c
+  pub content-in : (n : Site) (m : Label) (c : Tree) → Finds s n → Passes o s n (node ChainExpression m (one c then done)) → Marked o (node ChainExpression m (one c then done)) → OnSpine (site_in n ChainExpression m (opened_fields (is_body ChainExpression) (one c then done)) 0) c
   content-in n m c here p marked =
       let passes = and_parts (is_placed o n ChainExpression m (one c then done)) (each_passes (is_placed o) (site_in n ChainExpression m (opened_fields (is_body ChainExpression) (one c then done)) 0) c && true) p in
       record {
-        here = record { scope = here; parameters = refl };
+        here = record { scope = here; parameters = λ y u. refl };
         passes = (and_parts (each_passes (is_placed o) (site_in n ChainExpression m (opened_fields (is_body ChainExpression) (one c then done)) 0) c) true passes.1).0;
         tidy = λ on. first-of (strays true c) false (marked.tidy on);
         full = λ on. first-of (any_node is_unmarked_chain c) false (second-of (is_unmarked_chain ChainExpression m (one c then done)) (any_node is_unmarked_chain c || false) (marked.full on));
       }
 
   pub content-on : (m : Label) (c : Tree) → Part o s (node ChainExpression m (one c then done)) → OnSpine (site_in (some_site s) ChainExpression m (opened_fields (is_body ChainExpression) (one c then done)) 0) c
-  content-on m c h = content-in (some_site s) m c refl (h.valued (some_site s) (record { scope = refl; parameters = refl }) refl) h.marked
+  content-on m c h = content-in (some_site s) m c (λ y u. refl) (h.valued (some_site s) (record { scope = λ y u. refl; parameters = λ y u. refl }) refl) h.marked
 
   mutual
     pub walked-parts : (no_all : Bool) (known : Whole) (n : Site) (e : Tree) (w : Way) → Walked no_all known e w → OnSpine n e → WayParts n w
@@ -210,7 +211,7 @@ module _ (o : EnvOptions) (s : Option ℕ) where
     walked-parts no_all known n e w (plain_call {l = l} {f = f} {arguments = arguments} {w = v} flags inner) h =
         let on = callee-on n l f arguments h in
         let it = walked-parts no_all known (call_site n l f arguments 0) f v inner on.0 in
-        let callee = λ (m : Site) (k : m.names.scope (codes "Math") ≡ s). it.current (callee_of o s m l v.current arguments) (record { scope = k; parameters = refl }) (moves-over s (call_site n l f arguments 0) (callee_of o s m l v.current arguments) on.0.here (record { scope = k; parameters = refl }) (callee-takes (flag l.flags)) (callee-content (flag l.flags)) refl) in
+        let callee = λ (m : Site) (k : Finds s m). it.current (callee_of o s m l v.current arguments) (record { scope = k; parameters = λ y u. refl }) (moves-over s (call_site n l f arguments 0) (callee_of o s m l v.current arguments) on.0.here (record { scope = k; parameters = λ y u. refl }) (callee-takes (flag l.flags)) (callee-content (flag l.flags)) refl) in
         way-made n w (record { tests = it.tests; current = made-call-by o s l v.current arguments callee it.marked on.1 })
     walked-parts no_all known n e w (marked_member {l = l} {computed = computed} {o = object} {p = p} {w = v} {u = u} flags inner tested) h =
         let on = object-on n l object p h in

@@ -1,13 +1,16 @@
 -- What slots are wrapped for, and what not.
-use Rattle.std.proofs.Common.{◌≡◌, ◌&&◌, ◌||◌, Bool, true, false, refl, sym, true≢false}
+use Rattle.std.proofs.Common.{◌≡◌, ◌&&◌, ◌||◌, Bool, true, false, [], ◌∷◌, refl, sym, true≢false}
 use Rattle.std.specs.Prelude.{is_some}
 use Rattle.std.proofs.lemmas.Bool.{and_left, and_right, or_from}
 use Rattle.es_tree.specs.Constructs.{field_at, is_chain, is_exponentiation, is_logical_assignment, is_nullish_coalescing}
 use Rattle.es_tree.specs.HasForm.{same_type}
-use Rattle.es_tree.specs.Tree.{node, Label, Fields}
+use Rattle.es_tree.specs.Tree.{node, Label, Fields, done, ◌then◌, one, label_of}
+use Rattle.es_tree.specs.Words.{Text}
 use Rattle.es_tree.specs.declared.ast_type.AstType.{AstType}
-use Rattle.es_tree.specs.declared.ast_type.AstType.TheVariants.{AssignmentExpression}
+use Rattle.es_tree.specs.declared.ast_type.AstType.TheVariants.{AssignmentExpression, Identifier, MemberExpression}
 use Rattle.es_tree.specs.declared.options.EnvOptions.{EnvOptions}
+use Rattle.es_runs.specs.Rules.{member_node}
+use Rattle.es_steps.specs.Nodes.{made, word}
 use Rattle.es_steps.specs.Slots.{closes, holds, holds_fields}
 use Rattle.es_steps.specs.WrapRule.{is_rest_target, is_wrapped_for, takes_for_target}
 
@@ -61,6 +64,18 @@ either-way false b e = absurd (true≢false (sym e))
 
 pub two-hold-none : (x a b : Bool) → x ≡ false → a ≡ false → b ≡ false → (x || (a || (b || false))) ≡ false
 two-hold-none x a b e d h = rw (e, d, h) refl
+
+module _ (o : EnvOptions) where
+  -- a name
+  pub name-holds : (l : Label) → holds (is_wrapped_for o) (node Identifier l done) ≡ false
+  name-holds l = rw (unwrapped o Identifier l done (no-nullish o) refl refl refl refl) refl
+
+  -- `x.y`, of words
+  pub static-holds : (x y : Text) → holds (is_wrapped_for o) (member_node false (word x) (word y)) ≡ false
+  static-holds x y =
+      let l = made [] (false ∷ false ∷ []) in
+      let fs = one (word x) then one (word y) then done in
+      two-hold-none (is_wrapped_for o MemberExpression l fs) (holds (is_wrapped_for o) (word x)) (holds (is_wrapped_for o) (word y)) (unwrapped o MemberExpression l fs (no-nullish o) refl refl refl refl) (name-holds (label_of (word x))) (name-holds (label_of (word y)))
 
 module _ (o : EnvOptions) (k : AstType) (l : Label) (fs : Fields) where
   abbrev pub wraps_nullish : Bool

@@ -1,6 +1,6 @@
 -- Slots are wrapped where they hold what they are wrapped for.
 use Rattle.std.proofs.Common.{◌≡◌, ◌&&◌, ℕ, Bool, true, false, List, [], ◌∷◌, ◌++◌, refl, sym, ap, subst, ◌∙◌, true≢false}
-use Rattle.std.specs.Prelude.{Option, None, if◌then◌else◌}
+use Rattle.std.specs.Prelude.{Option, if◌then◌else◌}
 use Rattle.std.proofs.lemmas.Bool.{and_parts, and_from}
 use Rattle.es_tree.specs.HasForm.{has_form}
 use Rattle.es_tree.specs.Tree.{Tree, node, Label, Fields, done, ◌then◌, one, many, empty, label_of}
@@ -23,12 +23,13 @@ use Rattle.es_steps.specs.Steps.{Site, site_in, site_in_body}
 use Rattle.es_steps.specs.WrapRule.{called_arrow, is_wrapped_for}
 use Rattle.es_steps.proofs.Opened.{finished-fields}
 use Rattle.es_steps.proofs.Sites.{PlacesAlike}
+use Rattle.es_changes.specs.Rules.{is_asked_for}
 use Rattle.es_changes.proofs.Expressions.{law_expression_proof}
 use Rattle.es_conditions.specs.CoreConditions.{body_site, each_passes, each_passes_in, holds_none_where, is_known, is_placed, is_within_slot}
 use Rattle.es_conditions.specs.Laws.{LawSlots}
 use Rattle.es_conditions.proofs.Inward.{Known, is-known, known-of, same-there}
 use Rattle.es_conditions.proofs.Marks.{none-where}
-use Rattle.es_conditions.proofs.Moves.{Moves, is_math, moved, moved-in}
+use Rattle.es_conditions.proofs.Moves.{Moves, moved, moved-in}
 use Rattle.es_conditions.proofs.Parts.{plain}
 use Rattle.es_conditions.proofs.Unwrapped.{no-nullish, unwrapped}
 
@@ -46,7 +47,7 @@ module _ (p : Place) (k : AstType) (l : Label) (fs : Fields) (i : ℕ) (bare : i
   abbrev in_scope : (Text → Option ℕ) → (ℕ → Role) → Text → Option ℕ
   in_scope vs roles = if has_scope k && is_inside k i then within (frame k l roles fs) vs else around p k roles fs
 
-  free-of-parameters : (roles : ℕ → Role) → PlacesAlike is_math (place_in p k l roles fs i) (place_in (record p { parameters = no_name }) k l roles fs i)
+  free-of-parameters : (roles : ℕ → Role) → PlacesAlike is_asked_for (place_in p k l roles fs i) (place_in (record p { parameters = no_name }) k l roles fs i)
   free-of-parameters roles = record {
     scope = λ y u. ap (λ vs. in_scope vs roles y) (var-free (is_var_scope k) _ (around p k roles fs) bare ∙ sym (var-free (is_var_scope k) _ (around p k roles fs) bare));
     parameters = λ y u. refl;
@@ -102,9 +103,9 @@ module _ (o : EnvOptions) where
       let m = site_in n CallExpression l (opened_fields (is_body CallExpression) call) 0 in
       let passes = moved o (without_parameters n) (site_in_body (arrow_site n t) nothing_pending t) t (moves-to-arrow n t h) (free-passes n t h known.placed) in
       let inside : each_passes (is_placed o) (body_site (arrow_site n t) (is_statement_body t) t) t ≡ true = in-body (arrow_site n t) (is_statement_body t) t (expression-body t h) passes in
-      let in_arrow : each_passes (is_placed o) m (arrow_node t) ≡ true = and_from (is_placed o m ArrowFunctionExpression a arrow) _ (plain o None m ArrowFunctionExpression a arrow refl refl) (rw inside refl) in
+      let in_arrow : each_passes (is_placed o) m (arrow_node t) ≡ true = and_from (is_placed o m ArrowFunctionExpression a arrow) _ (plain o m ArrowFunctionExpression a arrow refl refl refl) (rw inside refl) in
       record {
-        placed = and_from (is_placed o n CallExpression l call) _ (plain o None n CallExpression l call refl refl) (rw in_arrow refl);
+        placed = and_from (is_placed o n CallExpression l call) _ (plain o n CallExpression l call refl refl refl) (rw in_arrow refl);
         marked = record { tidy = λ on. rw (known.marked.tidy on) refl; full = λ on. rw (known.marked.full on) refl };
         value = λ on c. absurd (true≢false (sym c));
       }

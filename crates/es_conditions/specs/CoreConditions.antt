@@ -4,12 +4,13 @@
 -- calls none and deletes none.
 use Rattle.std.specs.Prelude.{ℕ, zero, suc, ◌&&◌, ◌||◌, not, Bool, true, false, List, [], ◌∷◌, bytes_eq, codes, is_some}
 use Rattle.es_tree.specs.Ancestors.{Ancestor, leads_by}
-use Rattle.es_tree.specs.Constructs.{field_at, is_exponentiation}
+use Rattle.es_tree.specs.Constructs.{field_at, is_exponentiation, is_object_spread}
 use Rattle.es_tree.specs.CoreStaticRules.{has_optional_in, is_optional}
 use Rattle.es_tree.specs.Names.{first_text}
 use Rattle.es_tree.specs.Parens.{without_parens}
 use Rattle.es_tree.specs.Tree.{Tree, node, Label, Fields, done, ◌then◌, Field, missing, one, many, statements, Trees, empty, ◌before◌, kind_of}
 use Rattle.es_tree.specs.Walks.{any_node}
+use Rattle.es_tree.specs.Words.{Text}
 use Rattle.es_tree.specs.declared.ast_type.AstType.{AstType}
 use Rattle.es_tree.specs.declared.ast_type.AstType.TheVariants.{CallExpression, ChainExpression, MemberExpression, ParenthesizedExpression, UnaryExpression}
 use Rattle.es_tree.specs.declared.options.EnvOptions.{EnvOptions}
@@ -48,11 +49,19 @@ abbrev mutual
   each_passes_among test n empty = true
   each_passes_among test n (t before ts) = each_passes test n t && each_passes_among test n ts
 
--- POWERS (ECMA-262, 13.6)
+-- NAMES THAT ARE ASKED FOR
 
--- the node is no exponentiation that is to be lowered, or `Math` is unbound here
+-- if a name is asked for, it is unbound here
+abbrev pub is_unbound_if : Bool → Text → Site → Bool
+is_unbound_if asked x n = not asked || not (is_some (n.names.scope x))
+
+-- the node is no exponentiation that is to be lowered (ECMA-262, 13.6), or `Math` is unbound here
 abbrev pub is_power_free : EnvOptions → Site → AstType → Label → Fields → Bool
-is_power_free o n k l fs = not (o.es2016.exponentiation_operator && is_exponentiation k l fs) || not (is_some (n.names.scope (codes "Math")))
+is_power_free o n k l fs = is_unbound_if (o.es2016.exponentiation_operator && is_exponentiation k l fs) (codes "Math") n
+
+-- the node is no object literal with a spread that is to be lowered (13.2.5), or `babelHelpers` is unbound here
+abbrev pub is_copy_free : EnvOptions → Site → AstType → Label → Fields → Bool
+is_copy_free o n k l fs = is_unbound_if (is_some o.es2018.object_rest_spread && is_object_spread k l fs) (codes "babelHelpers") n
 
 -- CHAINS (13.3.9)
 
@@ -125,9 +134,9 @@ holds_none_where b o t = not (b && holds (is_wrapped_for o) t)
 
 -- THE CONDITIONS
 
--- of each node: `Math` is unbound where it is asked for, and chains are placed
+-- of each node: names are unbound where they are asked for, and chains are placed
 abbrev pub is_placed : EnvOptions → Site → AstType → Label → Fields → Bool
-is_placed o n k l fs = is_power_free o n k l fs && is_chain_placed o n k
+is_placed o n k l fs = is_power_free o n k l fs && is_copy_free o n k l fs && is_chain_placed o n k
 
 -- what is known at every stage
 abbrev pub is_known : EnvOptions → Site → Tree → Bool

@@ -1,5 +1,5 @@
 -- The laws of the conditions of a visit by the core lowerings: they go inward, and each lowering brings them about, or keeps them.
-use Rattle.std.specs.Prelude.{◌≡◌, ◌&&◌, List, Bool, true, false, bytes_eq, codes}
+use Rattle.std.specs.Prelude.{◌≡◌, ◌&&◌, List, Bool, true, false, is_some}
 use Rattle.es_tree.specs.CoreStaticRules.{has_optional}
 use Rattle.es_tree.specs.HasForm.{has_form}
 use Rattle.es_tree.specs.Parens.{without_parens}
@@ -16,12 +16,14 @@ use Rattle.es_steps.specs.Exponentiation.{ExponentiationRule}
 use Rattle.es_steps.specs.LogicalAssignment.{LogicalAssignmentRule}
 use Rattle.es_steps.specs.Nodes.{identifier}
 use Rattle.es_steps.specs.NullishCoalescing.{NullishCoalescingRule}
+use Rattle.es_steps.specs.ObjectSpread.{SpreadRule}
 use Rattle.es_steps.specs.Open.{is_body, opened_fields}
 use Rattle.es_steps.specs.OptionalChaining.{OptionalChainingRule}
 use Rattle.es_steps.specs.Slots.{holds, in_open_slot, is_slot}
 use Rattle.es_steps.specs.Steps.{Site, Whole, site_in}
 use Rattle.es_steps.specs.WrapRule.{called_arrow, is_wrapped_for, takes_one}
 use Rattle.es_changes.specs.Conditions.{AreSound}
+use Rattle.es_changes.specs.Rules.{is_asked_for}
 use Rattle.es_conditions.specs.CoreConditions.{core_conditions, inside_site, is_chain_inside, is_fit, is_free, is_settled, is_wrapped, put_inside}
 
 -- The second condition is the stronger one, differs in slots and at chains alone, and goes inward.
@@ -52,6 +54,7 @@ pub record RowsKeep (o : EnvOptions) : Type 0 where
   pub nullish_coalescing : o.es2020.nullish_coalescing_operator ≡ true → Keeps (is_wrapped o) (is_wrapped o) NullishCoalescingRule
   pub optional_chaining : o.es2020.optional_chaining ≡ true → Keeps (is_wrapped o) (is_free o) (OptionalChainingRule o.assumptions.no_document_all)
   pub exponentiation : o.es2016.exponentiation_operator ≡ true → Keeps (is_free o) (is_free o) ExponentiationRule
+  pub object_spread : is_some o.es2018.object_rest_spread ≡ true → Keeps (is_free o) (is_free o) SpreadRule
 
 abbrev pub LawRows : Type 0
 LawRows = (o : EnvOptions) → RowsKeep o
@@ -92,6 +95,6 @@ LawChainsOff = (o : EnvOptions) (n : Site) (t : Tree) → o.es2020.optional_chai
 abbrev pub catching : Label → Field → Tree → Tree
 catching m parameter body = node CatchClause m (parameter then one body then done)
 
--- A `catch` without a parameter that takes one stays free: its body finds `Math` as before, since the name is another.
+-- A `catch` without a parameter that takes one stays free: its body finds what is asked for as before, since the name is another.
 abbrev pub LawCatch : Type 0
-LawCatch = (o : EnvOptions) (n : Site) (m : Label) (body : Tree) (b : Bound) → bytes_eq b.name (codes "Math") ≡ false → is_free o n (catching m missing body) ≡ true → is_free o n (catching m (one (identifier b)) body) ≡ true
+LawCatch = (o : EnvOptions) (n : Site) (m : Label) (body : Tree) (b : Bound) → is_asked_for b.name ≡ false → is_free o n (catching m missing body) ≡ true → is_free o n (catching m (one (identifier b)) body) ≡ true

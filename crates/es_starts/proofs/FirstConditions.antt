@@ -1,16 +1,18 @@
 -- The source of a program meets the conditions of a visit by the core lowerings. At each exponentiation that is to be lowered `Math` finds
--- nothing, side by side over the program at its places and the source at its sites; chains stand as the static rules have them.
+-- nothing, and `babelHelpers` at each object literal with a spread, side by side over the program at its places and the source at its sites; chains stand as the static rules have them.
 use Rattle.std.proofs.Common.{◌≡◌, ℕ, zero, suc, ◌+◌, refl, sym, ap, subst, ◌∙◌, List, [], ◌∷◌, ◌++◌}
 use Rattle.std.specs.Prelude.{Bool, true, false, not, ◌&&◌, ◌||◌, Option, Some, None, bytes_eq, is_some, codes, if◌then◌else◌}
 use Rattle.std.specs.Option.{option_or}
 use Rattle.std.proofs.lemmas.Bool.{and_from, and_parts, true≢false}
-use Rattle.es_tree.specs.Constructs.{field_at, is_big_int, is_child, is_exponentiation}
+use Rattle.es_tree.specs.Constructs.{any_kind, field_at, has_member, is_big_int, is_child, is_exponentiation, is_object_spread, is_spread}
 use Rattle.es_tree.specs.HasForm.{has_form}
 use Rattle.es_tree.specs.Names.{first_text}
+use Rattle.es_tree.specs.Options.{asks_for_imported_helpers, is_external}
 use Rattle.es_tree.specs.Tree.{Tree, node, Label, Fields, done, ◌then◌, Field, missing, one, many, statements, Trees, empty, ◌before◌, kind_of}
 use Rattle.es_tree.specs.Walks.{any_node}
+use Rattle.es_tree.specs.Words.{Text}
 use Rattle.es_tree.specs.declared.ast_type.AstType.{AstType}
-use Rattle.es_tree.specs.declared.ast_type.AstType.TheVariants.{ArrowFunctionExpression, AssignmentExpression, BinaryExpression, FunctionBody, Program, StaticBlock}
+use Rattle.es_tree.specs.declared.ast_type.AstType.TheVariants.{ArrowFunctionExpression, AssignmentExpression, BinaryExpression, FunctionBody, ObjectExpression, Program, StaticBlock}
 use Rattle.es_tree.specs.declared.options.EnvOptions.{EnvOptions}
 use Rattle.es_tree.specs.declared.table.Sort.TheVariants.{Program as s-Program}
 use Rattle.es_tree.proofs.NodeForm.{node_form}
@@ -33,11 +35,11 @@ use Rattle.es_steps.specs.SourceSites.{FindsAlike, InProgram, SideBySide, SideBy
 use Rattle.es_steps.specs.Steps.{Site, site_in, the_program}
 use Rattle.es_steps.proofs.SourceSites.{law_source_sites_proof}
 use Rattle.es_valid_steps.proofs.Visits.{law_among_proof, law_places_proof}
-use Rattle.es_conditions.specs.CoreConditions.{body_site, each_passes, each_passes_among, each_passes_by, each_passes_in, holds_none_where, is_chain_inside, is_known, is_power_free, is_settled, is_unmarked_chain, is_wrapped}
+use Rattle.es_conditions.specs.CoreConditions.{body_site, each_passes, each_passes_among, each_passes_by, each_passes_in, holds_none_where, is_chain_inside, is_copy_free, is_known, is_power_free, is_settled, is_unmarked_chain, is_wrapped}
 use Rattle.es_conditions.proofs.Inward.{is-known}
 use Rattle.es_conditions.proofs.Marks.{none-where}
 use Rattle.es_unsupported.specs.FirstUnsupported.{first_among, first_unsupported, found_at}
-use Rattle.es_unsupported.specs.Shapes.{is_math_bound, shape_at}
+use Rattle.es_unsupported.specs.Shapes.{is_helper_bound, is_math_bound, shape_at}
 use Rattle.es_starts.specs.Starts.{LawFirstConditions}
 use Rattle.es_starts.proofs.ChainMarks.{full-bare, full-tree, tidy-tree}
 use Rattle.es_starts.proofs.ChainPlaces.{alike-self, chain_test, passes-bare, placed-tree}
@@ -91,7 +93,7 @@ body-kind last StaticBlock l fs h e = absurd (cc h)
 body-kind last FunctionBody l fs h e = absurd (cc e)
 body-kind last _ l fs h e = refl
 
--- EXPONENTIATIONS, which symbols don't change
+-- EXPONENTIATIONS AND SPREADS, which symbols don't change
 
 module _ (F : List Declared) where
   big-field : (p : Place) (n : ℕ) (f : Field) → is_child is_big_int (resolved_by F p n f) ≡ is_child is_big_int f
@@ -109,6 +111,24 @@ module _ (F : List Declared) where
   power-kept ps n BinaryExpression l m fs = λ i. bytes_eq (first_text l.texts) (codes "**") && not (big-at 0 ps n fs i) && not (big-at 1 ps n fs i)
   power-kept ps n AssignmentExpression l m fs = λ i. bytes_eq (first_text l.texts) (codes "**=") && not (big-at 1 ps n fs i)
   power-kept ps n _ l m fs = refl
+
+  kind-kept : (p : Place) (n : ℕ) (t : Tree) → kind_of (resolved_tree F p n t) ≡ kind_of t
+  kind-kept p n (node k l fs) = refl
+
+  spreads-kept : (p : Place) (n : ℕ) (ts : Trees) → any_kind is_spread (resolved_among F p n ts) ≡ any_kind is_spread ts
+  spreads-kept p n empty = refl
+  spreads-kept p n (t before ts) = λ i. is_spread (kind-kept p n t i) || spreads-kept p (n + scope_count_in t) ts i
+
+  members-kept : (ps : ℕ → Place) (n : ℕ) (fs : Fields) → has_member is_spread (field_at 0 (resolved_in F ps n fs)) ≡ has_member is_spread (field_at 0 fs)
+  members-kept ps n done = refl
+  members-kept ps n (missing then fs) = refl
+  members-kept ps n (one t then fs) = refl
+  members-kept ps n (many ts then fs) = spreads-kept (ps zero) n ts
+  members-kept ps n (statements ts then fs) = refl
+
+  spread-kept : (ps : ℕ → Place) (n : ℕ) (k : AstType) (l : Label) (m : List (Option ℕ)) (fs : Fields) → is_object_spread k (marked l m) (resolved_in F ps n fs) ≡ is_object_spread k l fs
+  spread-kept ps n ObjectExpression l m fs = members-kept ps n fs
+  spread-kept ps n _ l m fs = refl
 
 -- WHAT IS FOUND AMONG NODES
 
@@ -139,14 +159,22 @@ both-none o F (v ∷ vs) ws h =
     let rest = both-none o F vs ws (right-none here (first_among o F (vs ++ ws)) h) in
     (ap (λ s. option_or s (first_among o F vs)) (left-none here (first_among o F (vs ++ ws)) h) ∙ rest.0, rest.1)
 
-unbound : (o : EnvOptions) (F : List Declared) (up : List ℕ) (k : AstType) (l : Label) (fs : Fields) → shape_at o F up k l fs ≡ None → is_math_bound o F up k l fs ≡ false
-unbound o F up k l fs h = at (is_math_bound o F up k l fs) _ _ h
-  where
-    at : {X : Type 0} (b : Bool) (x : X) (y : Option X) → (if b then Some x else y) ≡ None → b ≡ false
-    at true x y e = absurd (cc e)
-    at false x y e = refl
+-- no row holds where none is found
+no-row : {X : Type 0} (b : Bool) (x : X) (y : Option X) → (if b then Some x else y) ≡ None → b ≡ false
+no-row true x y e = absurd (cc e)
+no-row false x y e = refl
 
--- POWERS
+no-later-row : {X : Type 0} (b : Bool) (x : X) (y : Option X) → (if b then Some x else y) ≡ None → y ≡ None
+no-later-row true x y e = absurd (cc e)
+no-later-row false x y e = e
+
+first-unbound : (o : EnvOptions) (F : List Declared) (up : List ℕ) (k : AstType) (l : Label) (fs : Fields) → shape_at o F up k l fs ≡ None → is_math_bound o F up k l fs ≡ false
+first-unbound o F up k l fs h = no-row (is_math_bound o F up k l fs) _ _ h
+
+second-unbound : (o : EnvOptions) (F : List Declared) (up : List ℕ) (k : AstType) (l : Label) (fs : Fields) → shape_at o F up k l fs ≡ None → is_helper_bound o F up k l fs ≡ false
+second-unbound o F up k l fs h = no-row (is_helper_bound o F up k l fs) _ _ (no-later-row (is_math_bound o F up k l fs) _ _ h)
+
+-- NAMES THAT ARE ASKED FOR
 
 not-bound : (asked power bound : Bool) → (asked && power && bound) ≡ false → (not (asked && power) || not bound) ≡ true
 not-bound false power bound e = refl
@@ -154,18 +182,36 @@ not-bound true false bound e = refl
 not-bound true true false e = refl
 not-bound true true true e = absurd (true≢false e)
 
-no-power : (asked bound : Bool) → (not (asked && false) || bound) ≡ true
-no-power true bound = refl
-no-power false bound = refl
+none-asked : (asked bound : Bool) → (not (asked && false) || bound) ≡ true
+none-asked true bound = refl
+none-asked false bound = refl
 
-module _ (o : EnvOptions) (F : List Declared) where
+-- where copies are asked for, their helper is a property of `babelHelpers`
+asked-by-name : (asked external is bound : Bool) → (asked && not external) ≡ false → (asked && external && is && bound) ≡ false → (asked && is && bound) ≡ false
+asked-by-name false external is bound named e = refl
+asked-by-name true true is bound named e = e
+asked-by-name true false is bound named e = absurd (cc named)
+
+abbrev is_unbound_where : Bool → Option ℕ → Bool
+is_unbound_where asked found = not asked || not (is_some found)
+
+-- both names are unbound where they are asked for
+abbrev names_free : EnvOptions → Site → AstType → Label → Fields → Bool
+names_free o n k l fs = is_power_free o n k l fs && is_copy_free o n k l fs
+
+module _ (o : EnvOptions) (named : asks_for_imported_helpers o ≡ false) (F : List Declared) where
   own-free : (p : Place) (n : ℕ) (s m : Site) (k : AstType) (l : Label) (fs : Fields) → FindsAlike F p s → m.names.scope ≡ s.names.scope → shape_at o F p.around k l fs ≡ None →
-      is_power_free o m k (marked l (own_symbols F p n k l fs)) (resolved_in F (place_in p n k l fs) (n + own_scope_count k fs) fs) ≡ true
+      names_free o m k (marked l (own_symbols F p n k l fs)) (resolved_in F (place_in p n k l fs) (n + own_scope_count k fs) fs) ≡ true
   own-free p n s m k l fs found same none =
-      let kept = power-kept F (place_in p n k l fs) (n + own_scope_count k fs) k l (own_symbols F p n k l fs) fs in
-      let look : m.names.scope (codes "Math") ≡ find F p.around (codes "Math") = (λ i. same i (codes "Math")) ∙ found.scope (codes "Math") in
-      (λ i. not (o.es2016.exponentiation_operator && kept i) || not (is_some (look i)))
-      ∙ not-bound o.es2016.exponentiation_operator (is_exponentiation k l fs) (is_some (find F p.around (codes "Math"))) (unbound o F p.around k l fs none)
+      let ps = place_in p n k l fs in
+      let next = n + own_scope_count k fs in
+      let marks = own_symbols F p n k l fs in
+      let look : (x : Text) → m.names.scope x ≡ find F p.around x = λ x. (λ i. same i x) ∙ found.scope x in
+      let power = (λ i. is_unbound_where (o.es2016.exponentiation_operator && power-kept F ps next k l marks fs i) (look (codes "Math") i)) ∙
+      not-bound o.es2016.exponentiation_operator (is_exponentiation k l fs) (is_some (find F p.around (codes "Math"))) (first-unbound o F p.around k l fs none) in
+      let copy = (λ i. is_unbound_where (is_some o.es2018.object_rest_spread && spread-kept F ps next k l marks fs i) (look (codes "babelHelpers") i)) ∙
+      not-bound (is_some o.es2018.object_rest_spread) (is_object_spread k l fs) (is_some (find F p.around (codes "babelHelpers"))) (asked-by-name (is_some o.es2018.object_rest_spread) (is_external o.helper_loader.mode) (is_object_spread k l fs) (is_some (find F p.around (codes "babelHelpers"))) named (second-unbound o F p.around k l fs none)) in
+      and_from (is_power_free o m k (marked l marks) (resolved_in F ps next fs)) (is_copy_free o m k (marked l marks) (resolved_in F ps next fs)) power copy
 
   -- the site of the body of an arrow is near that of its field
   near-body : (last : Bool) (p : Place) (n : ℕ) (s m : Site) (t : Tree) → Placed ArrowFunctionExpression last t → s.role ≡ reads → Near true s m → (b : Bool) → is_statement_body (resolved_tree F p n t) ≡ b →
@@ -179,28 +225,28 @@ module _ (o : EnvOptions) (F : List Declared) where
 
   mutual
     free-tree : (above : AstType) (last : Bool) (p : Place) (n : ℕ) (s m : Site) (t : Tree) → Placed above last t → SideBySide (FindsAlike F) p n s t (resolved_tree F p n t) → Near (is_var_scope (kind_of t)) s m → FindsNone o F (visits p n t) →
-        each_passes (is_power_free o) m (resolved_tree F p n t) ≡ true
+        each_passes (names_free o) m (resolved_tree F p n t) ≡ true
     free-tree above last p n s m (node k l fs) placed beside near none =
         let gs = resolved_in F (place_in p n k l fs) (n + own_scope_count k fs) fs in
         let lbl = marked l (own_symbols F p n k l fs) in
         let both = found-none o F (record { place = p; next = n; kind = k; label = l; fields = fs }) (visits_in_fields (place_in p n k l fs) (n + own_scope_count k fs) fs) none in
-        and_from (is_power_free o m k lbl gs) (each_passes_in (is_power_free o) (site_in m k lbl (opened_fields (is_body k) gs)) (is_body k) gs)
+        and_from (names_free o m k lbl gs) (each_passes_in (names_free o) (site_in m k lbl (opened_fields (is_body k) gs)) (is_body k) gs)
         (own-free p n s m k l fs beside.0 near.scope both.0)
         (free-in k (place_in p n k l fs) (n + own_scope_count k fs) (site_in s k lbl (opened_fields (is_body k) gs)) (site_in m k lbl (opened_fields (is_body k) gs)) (is_body k) fs placed.2 beside.1
         (near-in k s m lbl (opened_fields (is_body k) gs) near) (λ i e. (arrow-body k i e, body-role s.role k lbl (finished_fields (opened_fields (is_body k) gs)) i e)) both.1)
 
     free-in : (k : AstType) (ps : ℕ → Place) (n : ℕ) (ss ms : ℕ → Site) (bodies : ℕ → Bool) (fs : Fields) → PlacedIn k fs → SideBySideIn (FindsAlike F) ps n ss fs (resolved_in F ps n fs) → ((i : ℕ) → Near true (ss i) (ms i)) →
-        ((i : ℕ) → bodies i ≡ true → (k ≡ ArrowFunctionExpression) × ((ss i).role ≡ reads)) → FindsNone o F (visits_in_fields ps n fs) → each_passes_in (is_power_free o) ms bodies (resolved_in F ps n fs) ≡ true
+        ((i : ℕ) → bodies i ≡ true → (k ≡ ArrowFunctionExpression) × ((ss i).role ≡ reads)) → FindsNone o F (visits_in_fields ps n fs) → each_passes_in (names_free o) ms bodies (resolved_in F ps n fs) ≡ true
     free-in k ps n ss ms bodies done placed beside near body none = refl
     free-in k ps n ss ms bodies (f then fs) placed beside near body none =
         let both = both-none o F (visits_in_field (ps zero) n f) (visits_in_fields (λ i. ps (suc i)) (n + scope_count_in_field f) fs) none in
         let gs = resolved_in F (λ i. ps (suc i)) (n + scope_count_in_field f) fs in
-        and_from (each_passes_by (is_power_free o) (ms zero) (bodies zero) (resolved_by F (ps zero) n f)) (each_passes_in (is_power_free o) (λ i. ms (suc i)) (λ i. bodies (suc i)) gs)
+        and_from (each_passes_by (names_free o) (ms zero) (bodies zero) (resolved_by F (ps zero) n f)) (each_passes_in (names_free o) (λ i. ms (suc i)) (λ i. bodies (suc i)) gs)
         (free-by k (is_last fs) (ps zero) n (ss zero) (ms zero) (bodies zero) f placed.0 beside.0 (near zero) (body zero) both.0)
         (free-in k (λ i. ps (suc i)) (n + scope_count_in_field f) (λ i. ss (suc i)) (λ i. ms (suc i)) (λ i. bodies (suc i)) fs placed.1 beside.1 (λ i. near (suc i)) (λ i. body (suc i)) both.1)
 
     free-by : (k : AstType) (last : Bool) (p : Place) (n : ℕ) (s m : Site) (b : Bool) (f : Field) → PlacedBy k last f → SideBySideBy (FindsAlike F) p n s f (resolved_by F p n f) → Near true s m →
-        (b ≡ true → (k ≡ ArrowFunctionExpression) × (s.role ≡ reads)) → FindsNone o F (visits_in_field p n f) → each_passes_by (is_power_free o) m b (resolved_by F p n f) ≡ true
+        (b ≡ true → (k ≡ ArrowFunctionExpression) × (s.role ≡ reads)) → FindsNone o F (visits_in_field p n f) → each_passes_by (names_free o) m b (resolved_by F p n f) ≡ true
     free-by k last p n s m true missing placed beside near body none = refl
     free-by k last p n s m false missing placed beside near body none = refl
     free-by k last p n s m true (one t) placed beside near body none =
@@ -215,19 +261,19 @@ module _ (o : EnvOptions) (F : List Declared) where
     free-by k last p n s m false (statements ts) placed beside near body none = free-all k p n s m ts placed beside near none
 
     free-all : (k : AstType) (p : Place) (n : ℕ) (s m : Site) (ts : Trees) → PlacedAll k ts → SideBySideAll (FindsAlike F) p n s ts (resolved_among F p n ts) → Near true s m → FindsNone o F (visits_in_trees p n ts) →
-        each_passes_among (is_power_free o) m (resolved_among F p n ts) ≡ true
+        each_passes_among (names_free o) m (resolved_among F p n ts) ≡ true
     free-all k p n s m empty placed beside near none = refl
     free-all k p n s m (t before ts) placed beside near none =
         let both = both-none o F (visits p n t) (visits_in_trees p (n + scope_count_in t) ts) none in
-        and_from (each_passes (is_power_free o) m (resolved_tree F p n t)) (each_passes_among (is_power_free o) m (resolved_among F p (n + scope_count_in t) ts))
+        and_from (each_passes (names_free o) m (resolved_tree F p n t)) (each_passes_among (names_free o) m (resolved_among F p (n + scope_count_in t) ts))
         (free-tree k false p n s m t placed.0 beside.0 (near-any (is_var_scope (kind_of t)) s m near) both.0)
         (free-all k p (n + scope_count_in t) s m ts placed.1 beside.1 near both.1)
 
 -- THE PROGRAM
 
-program-free : (o : EnvOptions) (l : Label) (fs : Fields) → PlacedIn Program fs → InProgram (FindsAlike (symbols_of (node Program l fs))) (node Program l fs) (resolved (node Program l fs)) → FindsNone o (symbols_of (node Program l fs)) (visits (outermost (node Program l fs)) 1 (node Program l fs)) →
-    each_passes (is_power_free o) the_program (resolved (node Program l fs)) ≡ true
-program-free o l fs placed beside none =
+program-free : (o : EnvOptions) → asks_for_imported_helpers o ≡ false → (l : Label) (fs : Fields) → PlacedIn Program fs → InProgram (FindsAlike (symbols_of (node Program l fs))) (node Program l fs) (resolved (node Program l fs)) → FindsNone o (symbols_of (node Program l fs)) (visits (outermost (node Program l fs)) 1 (node Program l fs)) →
+    each_passes (names_free o) the_program (resolved (node Program l fs)) ≡ true
+program-free o named l fs placed beside none =
     let p = node Program l fs in
     let F = symbols_of p in
     let ps = place_in (outermost p) 1 Program l fs in
@@ -235,19 +281,19 @@ program-free o l fs placed beside none =
     let lbl = marked l [] in
     let sites = site_in the_program Program lbl (opened_fields (is_body Program) gs) in
     let both = found-none o F (record { place = outermost p; next = 1; kind = Program; label = l; fields = fs }) (visits_in_fields ps 1 fs) none in
-    and_from (is_power_free o the_program Program lbl gs) (each_passes_in (is_power_free o) sites (is_body Program) gs)
-    (no-power o.es2016.exponentiation_operator _)
-    (free-in o F Program ps 1 sites sites (is_body Program) fs placed beside (λ i. near-self (sites i)) (λ i e. absurd (cc e)) both.1)
+    and_from (names_free o the_program Program lbl gs) (each_passes_in (names_free o) sites (is_body Program) gs)
+    (and_from (is_power_free o the_program Program lbl gs) (is_copy_free o the_program Program lbl gs) (none-asked o.es2016.exponentiation_operator _) (none-asked (is_some o.es2018.object_rest_spread) _))
+    (free-in o named F Program ps 1 sites sites (is_body Program) fs placed beside (λ i. near-self (sites i)) (λ i e. absurd (cc e)) both.1)
 
-resolved-free : (o : EnvOptions) (p : Tree) → IsWellPlaced p → InProgram (FindsAlike (symbols_of p)) p (resolved p) → FindsNone o (symbols_of p) (visits (outermost p) 1 p) → each_passes (is_power_free o) the_program (resolved p) ≡ true
-resolved-free o (node Program l fs) placed beside none = program-free o l fs placed.1 beside none
-resolved-free o (node k l fs) placed beside none = absurd (cc (placed.0))
+resolved-free : (o : EnvOptions) → asks_for_imported_helpers o ≡ false → (p : Tree) → IsWellPlaced p → InProgram (FindsAlike (symbols_of p)) p (resolved p) → FindsNone o (symbols_of p) (visits (outermost p) 1 p) → each_passes (names_free o) the_program (resolved p) ≡ true
+resolved-free o named (node Program l fs) placed beside none = program-free o named l fs placed.1 beside none
+resolved-free o named (node k l fs) placed beside none = absurd (cc (placed.0))
 
-power-free : (o : EnvOptions) (p : Tree) → has_form s-Program p ≡ true → first_unsupported o p ≡ None → each_passes (is_power_free o) the_program (source p) ≡ true
-power-free o p form none =
+names-free : (o : EnvOptions) → asks_for_imported_helpers o ≡ false → (p : Tree) → has_form s-Program p ≡ true → first_unsupported o p ≡ None → each_passes (names_free o) the_program (source p) ≡ true
+names-free o named p form none =
     let same = source-resolved p in
     let beside = subst (λ (u : Tree). InProgram (FindsAlike (symbols_of p)) p u) same (law_source_sites_proof p form) in
-    subst (λ (u : Tree). each_passes (is_power_free o) the_program u ≡ true) (sym same) (resolved-free o p (form-placed p form) beside none)
+    subst (λ (u : Tree). each_passes (names_free o) the_program u ≡ true) (sym same) (resolved-free o named p (form-placed p form) beside none)
 
 -- BOTH TESTS at each node
 
@@ -304,12 +350,12 @@ settled : (o : EnvOptions) (t : Tree) → has_form s-Program t ≡ true → is_s
 settled o (node k l fs) h = subst (λ (k : AstType). is_settled o (node k l fs) ≡ true) (sym (program-kind k l fs h)) (none-where o.es2020.optional_chaining false (λ on. refl))
 
 pub law_first_conditions_proof : LawFirstConditions
-law_first_conditions_proof o p form right none =
+law_first_conditions_proof o p named form right none =
     let u = source p in
     let keeps = (law_places_proof p).to_places (law_among_proof p right) in
     let same = source-bare p in
     let chains = sym (passes-bare o the_program the_program u (alike-self o the_program)) ∙ (ap (each_passes (chain_test o) the_program) same ∙ (passes-bare o the_program the_program p (alike-self o the_program) ∙ placed-tree o s-Program [] the_program p form keeps (λ c. absurd (true≢false (sym c ∙ no-chain p form))))) in
-    let placed = both-pass (is_power_free o) (chain_test o) the_program u (power-free o p form none) chains in
+    let placed = both-pass (names_free o) (chain_test o) the_program u (names-free o named p form none) chains in
     let tidy = sym (strays-bare false u) ∙ (ap (strays false) same ∙ (strays-bare false p ∙ tidy-tree [] p keeps)) in
     let full = sym (full-bare u) ∙ (ap (any_node is_unmarked_chain) same ∙ (full-bare p ∙ full-tree [] p keeps)) in
     let known = is-known o the_program u (record { placed = placed; marked = record { tidy = λ on. tidy; full = λ on. full }; value = λ on c. absurd (true≢false (sym c ∙ no-chain u (source-form p form))) }) in

@@ -1,3 +1,4 @@
+pub mod BareSpreads
 pub mod Firsts
 pub mod Parts
 pub mod Unbound

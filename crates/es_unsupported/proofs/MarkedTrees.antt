@@ -11,7 +11,7 @@ use Rattle.es_tree.specs.Tree.{Tree, node, Label, Fields, done, ◌then◌, Fiel
 use Rattle.es_tree.specs.Walks.{all_in_field, all_in_fields, all_in_trees, all_nodes}
 use Rattle.es_tree.specs.declared.ast_type.AstType.{AstType}
 use Rattle.es_tree.specs.declared.ast_type.AstType.TheVariants.{AssignmentExpression, BinaryExpression, FunctionExpression, Identifier, ParenthesizedExpression, TaggedTemplateExpression}
-use Rattle.es_tree.specs.declared.error.UnsupportedKind.TheVariants.{MathBound, TagChain}
+use Rattle.es_tree.specs.declared.error.UnsupportedKind.TheVariants.{HelperName, MathBound, SpreadLiteral, TagChain}
 use Rattle.es_tree.specs.declared.options.EnvOptions.{EnvOptions}
 use Rattle.es_scope.specs.declared.scoping.Scoping.{Scoping}
 use Rattle.es_semantic.specs.Places.{Place, Visit, around_in, has_name_scope, is_inside, makes_scope, own_scope, own_scope_count, place_in, scope_count_in, scope_count_in_field, scope_count_in_fields, scope_count_in_trees, visits, visits_in_field, visits_in_fields, visits_in_trees}
@@ -20,7 +20,8 @@ use Rattle.es_semantic.specs.SymbolsOf.{Declared, find}
 use Rattle.es_semantic.proofs.VisitCounts.{named_makes}
 use Rattle.es_unsupported.specs.FirstUnsupported.{first_among, found_at}
 use Rattle.es_unsupported.specs.MarkedWalk.{FindsFrom, LooksUp, LooksUpInField, LooksUpInFields, LooksUpInTrees, around_marked, first_at, first_in_field, first_in_fields, first_in_trees, has_known_scope, scope_mark}
-use Rattle.es_unsupported.specs.Shapes.{Row, first_row, has_chain_tag, is_chain_below, is_chain_kind, is_math_bound, is_tag_chain, rows, shape_at}
+use Rattle.es_unsupported.specs.Shapes.{Row, copies_by_name, first_row, has_chain_tag, is_chain_below, is_chain_kind, is_helper_bound, is_math_bound, is_spread_literal, is_tag_chain, rows, shape_at}
+use Rattle.es_unsupported.proofs.BareSpreads.{literal-bare, object-spread-bare}
 
 -- MARKS CHANGE NOTHING BUT MARKS
 
@@ -84,6 +85,12 @@ LooksAtNoMark r = (o : EnvOptions) (ds : List Declared) (up : List ℕ) (k : Ast
 math_bound-bare : LooksAtNoMark (record { shape = MathBound; holds = is_math_bound })
 math_bound-bare o ds up k l fs = ap (λ b. o.es2016.exponentiation_operator && b && is_some (find ds up (codes "Math"))) (exponentiation-bare k l fs)
 
+helper_bound-bare : LooksAtNoMark (record { shape = HelperName; holds = is_helper_bound })
+helper_bound-bare o ds up k l fs = ap (λ b. copies_by_name o && b && is_some (find ds up (codes "babelHelpers"))) (object-spread-bare k l fs)
+
+spread_literal-bare : LooksAtNoMark (record { shape = SpreadLiteral; holds = is_spread_literal })
+spread_literal-bare o ds up k l fs = ap (λ b. is_some o.es2018.object_rest_spread && b) (literal-bare k l fs)
+
 tag_chain-bare : LooksAtNoMark (record { shape = TagChain; holds = is_tag_chain })
 tag_chain-bare o ds up k l fs = ap (λ b. o.es2020.optional_chaining && b) (chain_tag-bare k l fs)
 
@@ -93,7 +100,7 @@ LookAtNoMark (r ∷ rs) = LooksAtNoMark r × LookAtNoMark rs
 
 -- so it is for each row of the table
 rows-bare : LookAtNoMark rows
-rows-bare = (math_bound-bare, (tag_chain-bare, tt))
+rows-bare = (math_bound-bare, (helper_bound-bare, (spread_literal-bare, (tag_chain-bare, tt))))
 
 first_row-bare : (rs : List Row) → LookAtNoMark rs → (o : EnvOptions) (ds : List Declared) (up : List ℕ) (k : AstType) (l : Label) (fs : Fields) → first_row rs o ds up k (bare_label l) (bare_fields fs) ≡ first_row rs o ds up k l fs
 first_row-bare [] all o ds up k l fs = refl

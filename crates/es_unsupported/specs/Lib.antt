@@ -1,3 +1,4 @@
+pub mod SpreadLiterals
 pub mod Shapes
 pub mod FirstUnsupported
 pub mod MarkedWalk

@@ -1,21 +1,35 @@
 -- The shapes that a run doesn't take: one row of a table for each, asked in order at each node.
 use Rattle.std.specs.Prelude.{ℕ, List, [], ◌∷◌, Bool, false, true, ◌&&◌, Option, Some, None, is_some, codes, if◌then◌else◌}
-use Rattle.es_tree.specs.Constructs.{field_at, is_exponentiation}
+use Rattle.es_tree.specs.Constructs.{field_at, is_exponentiation, is_object_spread}
+use Rattle.es_tree.specs.Options.{is_external}
 use Rattle.es_tree.specs.Parens.{without_parens}
 use Rattle.es_tree.specs.Tree.{Label, Fields, Field, one, kind_of}
 use Rattle.es_tree.specs.declared.ast_type.AstType.{AstType}
 use Rattle.es_tree.specs.declared.ast_type.AstType.TheVariants.{ChainExpression, TaggedTemplateExpression}
 use Rattle.es_tree.specs.declared.error.UnsupportedKind.{UnsupportedKind}
-use Rattle.es_tree.specs.declared.error.UnsupportedKind.TheVariants.{MathBound, TagChain}
+use Rattle.es_tree.specs.declared.error.UnsupportedKind.TheVariants.{HelperName, MathBound, SpreadLiteral, TagChain}
 use Rattle.es_tree.specs.declared.ids.NodeId.{NodeId}
 use Rattle.es_tree.specs.declared.options.EnvOptions.{EnvOptions}
 use Rattle.es_semantic.specs.SymbolsOf.{Declared, find}
+use Rattle.es_unsupported.specs.SpreadLiterals.{is_uncopied}
 
 -- THE SHAPES, each told by the options, the symbols of the program, the scopes around a node, the innermost first, and the node
 
 -- an exponentiation that is lowered where `Math`, whose `pow` is to be called, finds a binding (ECMA-262, 13.6, 13.15)
 abbrev pub is_math_bound : EnvOptions → List Declared → List ℕ → AstType → Label → Fields → Bool
 is_math_bound o ds up k l fs = o.es2016.exponentiation_operator && is_exponentiation k l fs && is_some (find ds up (codes "Math"))
+
+-- whether objects are copied by helpers that are properties of `babelHelpers`
+abbrev pub copies_by_name : EnvOptions → Bool
+copies_by_name o = is_some o.es2018.object_rest_spread && is_external o.helper_loader.mode
+
+-- an object literal with a spread where `babelHelpers`, of which the helper is a property, finds a binding (13.2.5)
+abbrev pub is_helper_bound : EnvOptions → List Declared → List ℕ → AstType → Label → Fields → Bool
+is_helper_bound o ds up k l fs = copies_by_name o && is_object_spread k l fs && is_some (find ds up (codes "babelHelpers"))
+
+-- one whose properties can't be defined apart and copied
+abbrev pub is_spread_literal : EnvOptions → List Declared → List ℕ → AstType → Label → Fields → Bool
+is_spread_literal o ds up k l fs = is_some o.es2018.object_rest_spread && is_uncopied k l fs
 
 abbrev pub is_chain_kind : AstType → Bool
 is_chain_kind ChainExpression = true
@@ -42,7 +56,9 @@ pub record Row : Type 0 where
   pub holds : EnvOptions → List Declared → List ℕ → AstType → Label → Fields → Bool
 
 abbrev pub rows : List Row
-rows = record { shape = MathBound; holds = is_math_bound } ∷ record { shape = TagChain; holds = is_tag_chain } ∷ []
+rows =
+    record { shape = MathBound; holds = is_math_bound } ∷ record { shape = HelperName; holds = is_helper_bound } ∷
+    record { shape = SpreadLiteral; holds = is_spread_literal } ∷ record { shape = TagChain; holds = is_tag_chain } ∷ []
 
 -- the shape of the first of these rows that holds
 abbrev pub first_row : List Row → EnvOptions → List Declared → List ℕ → AstType → Label → Fields → Option UnsupportedKind

@@ -5,3 +5,4 @@ pub mod finding;
 mod names;
 mod scopes;
 mod shapes;
+mod spread_literals;

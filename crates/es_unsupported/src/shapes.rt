@@ -8,44 +8,65 @@ ghost use Rattle.es_semantic.specs.Places.{first};
 ghost use Rattle.es_semantic.specs.SymbolsOf.{Declared, find};
 ghost use Rattle.es_semantic.specs.Walks.{Binds};
 ghost use Rattle.es_unsupported.specs.MarkedWalk.{FindsFrom};
-ghost use Rattle.es_unsupported.specs.Shapes.{has_chain_tag, is_chain_below, is_chain_kind, shape_at};
-ghost use Rattle.es_unsupported.specs.Wanted.{IsWanted};
+ghost use Rattle.es_unsupported.specs.Shapes.{copies_by_name, has_chain_tag, is_chain_below, is_chain_kind, is_helper_bound, is_math_bound, shape_at};
+ghost use Rattle.es_unsupported.specs.Wanted.{IsWanted, WhereBound};
 
 use crate::names::may_bind;
-use es_nodes::construct::is_exponentiation;
+use crate::spread_literals::is_uncopied;
+use es_nodes::construct::{is_exponentiation, is_object_spread};
 use es_nodes::fields::field_at;
 use es_scope::scoping::Scoping;
 use es_tree::error::UnsupportedKind;
 use es_tree::ids::ScopeId;
 use es_tree::kind::Kind;
 use es_tree::node::{Field, Node};
-use es_tree::options::EnvOptions;
+use es_tree::options::{EnvOptions, HelperLoaderMode};
 use es_tree::parens::strip_parens;
 
 /// The shapes that a run doesn't take and the program may have.
 #[derive(Clone, Copy)]
 pub(crate) struct Wanted {
     pub(crate) math_bound: bool,
+    pub(crate) helper_name: bool,
+    pub(crate) spread_literal: bool,
     pub(crate) tag_chain: bool,
 }
 
 impl Wanted {
-    /// Those that these options ask for, without `MathBound` where no scope binds `Math`.
+    /// Those that these options ask for, without `MathBound` where no scope binds `Math`, and without `HelperName` where none binds
+    /// `babelHelpers`.
     pub(crate) fn of_program(scoping: &Scoping, options: &EnvOptions) -> Wanted
         ensures { (ds : List Declared) → Binds ds scoping.now → IsWanted result options.now ds }
     {
         Wanted {
-            math_bound: options.es2016.exponentiation_operator && may_bind(scoping, "Math"),
+            math_bound: where_bound(options.es2016.exponentiation_operator, "Math", scoping),
+            helper_name: where_bound(copies_by_name(options), "babelHelpers", scoping),
+            spread_literal: options.es2018.object_rest_spread.is_some(),
             tag_chain: options.es2020.optional_chaining,
         }
     }
 
     /// Whether there is one.
     pub(crate) fn any(self) -> bool
-        ensures { result ≡ (self.math_bound || self.tag_chain) }
+        ensures { result ≡ (self.math_bound || self.helper_name || self.spread_literal || self.tag_chain) }
     {
-        self.math_bound || self.tag_chain
+        self.math_bound || self.helper_name || self.spread_literal || self.tag_chain
     }
+}
+
+/// What is asked of nodes where a name is bound, unless no scope binds it.
+fn where_bound(asked: bool, name: &str, scoping: &Scoping) -> bool
+    ensures { (ds : List Declared) → Binds ds scoping.now → WhereBound ds name.now result asked }
+{
+    asked && may_bind(scoping, name)
+}
+
+/// Whether objects are copied by helpers that are properties of `babelHelpers`.
+fn copies_by_name(options: &EnvOptions) -> bool
+    ensures { result ≡ copies_by_name options.now }
+{
+    options.es2018.object_rest_spread.is_some()
+        && matches!(options.helper_loader.mode, HelperLoaderMode::External)
 }
 
 /// The first shape of the table that a node in this scope has, of those that are looked for.
@@ -58,8 +79,14 @@ pub(crate) fn shape_at(
     requires { scope.0 < scope_count scoping.now }
     ensures { (o : PlainOptions) (ds : List Declared) (up : List ℕ) → IsWanted wanted o ds → scope.0 ≡ first up → FindsFrom scoping.now ds up → result ≡ shape_at o ds up (kind_of node.now) (label_of node.now) (fields_of node.now) }
 {
-    if wanted.math_bound && is_exponentiation(node) && binds_math(scoping, scope) {
+    if is_math_bound(node, scope, scoping, wanted) {
         return Some(UnsupportedKind::MathBound);
+    }
+    if is_helper_bound(node, scope, scoping, wanted) {
+        return Some(UnsupportedKind::HelperName);
+    }
+    if wanted.spread_literal && is_uncopied(node) {
+        return Some(UnsupportedKind::SpreadLiteral);
     }
     if wanted.tag_chain && has_chain_tag(node) {
         return Some(UnsupportedKind::TagChain);
@@ -67,12 +94,28 @@ pub(crate) fn shape_at(
     None
 }
 
-/// Whether `Math` finds a binding from this scope outwards.
-fn binds_math(scoping: &Scoping, scope: ScopeId) -> bool
+/// Whether an exponentiation stands where `Math` is bound.
+fn is_math_bound(node: &Node, scope: ScopeId, scoping: &Scoping, wanted: Wanted) -> bool
     requires { scope.0 < scope_count scoping.now }
-    ensures { (ds : List Declared) (up : List ℕ) → scope.0 ≡ first up → FindsFrom scoping.now ds up → result ≡ is_some (find ds up (codes "Math")) }
+    ensures { (o : PlainOptions) (ds : List Declared) (up : List ℕ) → IsWanted wanted o ds → scope.0 ≡ first up → FindsFrom scoping.now ds up → result ≡ is_math_bound o ds up (kind_of node.now) (label_of node.now) (fields_of node.now) }
 {
-    scoping.find_binding(scope, "Math").is_some()
+    wanted.math_bound && is_exponentiation(node) && binds(scoping, scope, "Math")
+}
+
+/// Whether an object literal with a spread stands where `babelHelpers` is bound.
+fn is_helper_bound(node: &Node, scope: ScopeId, scoping: &Scoping, wanted: Wanted) -> bool
+    requires { scope.0 < scope_count scoping.now }
+    ensures { (o : PlainOptions) (ds : List Declared) (up : List ℕ) → IsWanted wanted o ds → scope.0 ≡ first up → FindsFrom scoping.now ds up → result ≡ is_helper_bound o ds up (kind_of node.now) (label_of node.now) (fields_of node.now) }
+{
+    wanted.helper_name && is_object_spread(node) && binds(scoping, scope, "babelHelpers")
+}
+
+/// Whether the name finds a binding from this scope outwards.
+fn binds(scoping: &Scoping, scope: ScopeId, name: &str) -> bool
+    requires { scope.0 < scope_count scoping.now }
+    ensures { (ds : List Declared) (up : List ℕ) → scope.0 ≡ first up → FindsFrom scoping.now ds up → result ≡ is_some (find ds up name.now) }
+{
+    scoping.find_binding(scope, name).is_some()
 }
 
 /// Whether the node is a tagged template whose tag is an optional chain, maybe in parentheses.
