@@ -4,3 +4,6 @@ pub mod BareAncestors
 pub mod BarePlaces
 pub mod StepsByName
 pub mod Results
+pub mod RestFree
+pub mod RestRows
+pub mod RestSteps

@@ -1,6 +1,6 @@
 -- What steps reach from a program is what it becomes.
 use Rattle.std.proofs.Common.{arith, ◌≡◌, refl, sym, subst, ap, ◌∙◌, inl, inr, List, []}
-use Rattle.std.specs.Prelude.{true}
+use Rattle.std.specs.Prelude.{Bool, true, false, is_some}
 use Rattle.es_tree.specs.Bare.{bare}
 use Rattle.es_tree.specs.HasForm.{has_form}
 use Rattle.es_tree.specs.StaticRules.{breaks}
@@ -18,17 +18,19 @@ use Rattle.es_runs.proofs.OpenLaws.{law_reached_bindings_proof, law_reached_proo
 use Rattle.es_runs.proofs.StaticMarks.{tidy_source}
 use Rattle.es_resolution.specs.Laws.{source}
 use Rattle.es_resolution.proofs.Forms.{form-placed}
-use Rattle.es_steps.specs.AllRules.{AllRules}
+use Rattle.es_steps.specs.AllRules.{AllRules, RestRule}
 use Rattle.es_steps.specs.CoreBridge.{Reached, first_whole}
+use Rattle.es_steps.specs.CoreRules.{where_on}
 use Rattle.es_steps.specs.Laws.{IsWellBound}
+use Rattle.es_steps.specs.ObjectSpread.{SpreadRule}
 use Rattle.es_steps.specs.Open.{opened}
+use Rattle.es_steps.specs.Rules.{Replacing, either_rule}
 use Rattle.es_steps.specs.Steps.{Ledger, Site, Spot}
 use Rattle.es_steps.proofs.BridgeInclusion.{all_under}
 use Rattle.es_steps.proofs.BridgeStart.{law_first_whole_proof, law_reached_by_name_proof}
 use Rattle.es_steps.proofs.Opened.{finished-opened}
 use Rattle.es_steps.proofs.Reached.{law_bindings_proof}
 use Rattle.es_steps.proofs.Start.{law_start_proof}
-use Rattle.es_valid_steps.specs.Laws.{with_further_rules}
 use Rattle.es_valid_steps.proofs.FurtherSteps.{law_further_form_proof}
 use Rattle.es_valid_steps.proofs.Visits.{law_among_proof}
 use Rattle.es_module_names.specs.Laws.{SameOutside}
@@ -55,17 +57,17 @@ source-form p h = form-same p (source p) (sym (law_bare_source_proof p)) h
 source-well-bound : (p : Tree) → has_form s-Program p ≡ true → breaks p ≡ [] → IsWellBound (first_whole p) (source p)
 source-well-bound p form right = law_start_proof p (first_whole p) form right (λ x e. rw e refl) (omega arith) (λ s. refl)
 
--- THE BUILT LOWERINGS are among all, and among those of which form and rules of places are known
+-- THE BUILT LOWERINGS are among all
+
+on-spread : (b : Bool) (n : Site) (s : Ledger) (x : Spot) (s' : Ledger) (y : Spot) → where_on b (Replacing SpreadRule) n s x s' y → where_on b (either_rule (Replacing SpreadRule) RestRule) n s x s' y
+on-spread true n s x s' y r = inl r
+on-spread false n s x s' y r = absurd r
 
 built-all : (o : EnvOptions) (n : Site) (s : Ledger) (x : Spot) (s' : Ledger) (y : Spot) → built_rules o n s x s' y → AllRules o n s x s' y
 built-all o n s x s' y (inl r) = inl r
 built-all o n s x s' y (inr (inl r)) = inr (inl r)
-built-all o n s x s' y (inr (inr r)) = inr (inr (inl r))
-
-built-further : (o : EnvOptions) (n : Site) (s : Ledger) (x : Spot) (s' : Ledger) (y : Spot) → built_rules o n s x s' y → with_further_rules o n s x s' y
-built-further o n s x s' y (inl r) = inl r
-built-further o n s x s' y (inr (inl r)) = inr (inl r)
-built-further o n s x s' y (inr (inr r)) = inr (inr (inl r))
+built-all o n s x s' y (inr (inr (inl r))) = inr (inr (inl r))
+built-all o n s x s' y (inr (inr (inr r))) = inr (inr (inr (inl (on-spread (is_some o.es2018.object_rest_spread) n s x s' y r))))
 
 -- no static rule asks for ids or marks
 rules-bare : (t u : Tree) → bare t ≡ bare u → breaks t ≡ [] → breaks u ≡ []
@@ -84,9 +86,8 @@ law_result_proof o p q r names form right h written =
     let right_there = rules-bare p (source p) (sym (law_bare_source_proof p)) right in
     let bound = source-well-bound p form right in
     let by_all = all_under (built_rules o) (AllRules o) (built-all o) h.steps in
-    let by_further = all_under (built_rules o) (with_further_rules o) (built-further o) h.steps in
-    let formed = law_further_form_proof o (source p) w h.whole (opened r) form_there by_further in
-    let kept = law_further_rules_reached_proof o (source p) r w h.whole form_there right_there bound by_further in
+    let formed = law_further_form_proof o (source p) w h.whole (opened r) form_there h.steps in
+    let kept = law_further_rules_reached_proof o (source p) r w h.whole form_there right_there bound h.steps in
     record {
       resolved = r;
       written = written;
@@ -94,7 +95,7 @@ law_result_proof o p q r names form right h written =
       bindings = law_bindings_proof o (source p) r w h.whole (program-kind (source p) form_there) bound by_all;
       form = form-same r q written (subst (λ (t : Tree). has_form s-Program t ≡ true) (finished-opened r) formed);
       kept = rules-bare r q written kept;
-      outside = outside-then (law_outside_bare_proof p (source p) (sym (law_bare_source_proof p))) (outside-then (law_outside_reached_proof o (source p) r w h.whole form_there by_further) (law_outside_bare_proof r q written));
+      outside = outside-then (law_outside_bare_proof p (source p) (sym (law_bare_source_proof p))) (outside-then (law_outside_reached_proof o (source p) r w h.whole form_there h.steps) (law_outside_bare_proof r q written));
     }
 
 -- CORE PROGRAMS

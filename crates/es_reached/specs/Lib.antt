@@ -1,2 +1,3 @@
 pub mod BareTrees
+pub mod NoRests
 pub mod Reached

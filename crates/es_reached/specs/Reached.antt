@@ -19,16 +19,13 @@ use Rattle.es_resolution.specs.Called.{name_at}
 use Rattle.es_resolution.specs.Laws.{source}
 use Rattle.es_steps.specs.Bindings.{Bindings}
 use Rattle.es_steps.specs.CoreBridge.{Reached, first_whole, is_steady_symbol}
-use Rattle.es_steps.specs.CoreRules.{rule_under, where_on}
-use Rattle.es_steps.specs.NamespaceExports.{NamespaceRule}
-use Rattle.es_steps.specs.OptionalCatch.{CatchRule}
-use Rattle.es_steps.specs.Rules.{either_rule}
 use Rattle.es_steps.specs.Steps.{Ledger, Site, Spot, Whole}
+use Rattle.es_valid_steps.specs.Laws.{with_further_rules}
 use Rattle.es_module_names.specs.Laws.{SameOutside}
 
 -- the rules of the lowerings that are built, as far as options ask for them
 abbrev pub built_rules : EnvOptions → Site → Ledger → Spot → Ledger → Spot → Type 0
-built_rules o = either_rule (rule_under o) (either_rule (where_on o.es2019.optional_catch_binding CatchRule) (where_on o.es2020.export_namespace_from NamespaceRule))
+built_rules = with_further_rules
 
 -- What a program p becomes under these options: q, with these made names.
 pub record IsResult (o : EnvOptions) (p q : Tree) (names : List Text) : Type 0 where

@@ -3,6 +3,7 @@
 #![tactic(auto)]
 
 ghost use Rattle.es_reached.specs.BareTrees.{LawBarePlaces, LawBareSeen, LawBareSource};
+ghost use Rattle.es_reached.specs.NoRests.{LawNoRests};
 ghost use Rattle.es_reached.specs.Reached.{LawCoreResult, LawFirst, LawResult};
 
 /// What steps of the built lowerings that options ask for reach from a program that has form and breaks no static rule, with nothing
@@ -35,4 +36,9 @@ pub fn law_bare_source()
 /// No rule of places asks for ids or marks.
 pub fn law_bare_places()
     ensures { LawBarePlaces }
+{}
+
+/// No step of the built lowerings makes an object pattern with a rest, of bindings or of targets.
+pub fn law_no_rests()
+    ensures { LawNoRests }
 {}

@@ -36,7 +36,7 @@ module _ {Q R : Site → Ledger → Spot → Ledger → Spot → Type 0} (under 
     names_in_lists = λ q n s s' p p' x y a b ts us c d h k. r.names_in_lists q n s s' p p' x y a b ts us c d (under n s (at_list p x a ts) s' (at_list p' y b us) h) k;
   }
 
-  fewer-formed : FormLawful R → FormLawful Q
+  pub fewer-formed : FormLawful R → FormLawful Q
   fewer-formed r = record {
     at_nodes = λ n s s' t u a slot h f. r.at_nodes n s s' t u a slot (under n s (at_node t) s' (at_node u) h) f;
     no_flanks = λ n s s' t u bs cs h. r.no_flanks n s s' t u bs cs (under n s (at_node t) s' (at_beside bs u cs) h);

@@ -1,6 +1,6 @@
 -- Each rule of a lowering is lawful alone: the core rules that options ask for are together, and what a row asks of its site it asks alone.
 use Rattle.std.proofs.Common.{◌∙◌, refl, ap, inl, inr}
-use Rattle.std.specs.Prelude.{Bool, true, false, ◌&&◌, List, codes}
+use Rattle.std.specs.Prelude.{Bool, true, false, ◌&&◌, List, codes, is_some}
 use Rattle.es_tree.specs.Tree.{Tree}
 use Rattle.es_tree.specs.declared.options.EnvOptions.{EnvOptions}
 use Rattle.es_runs.specs.OptionalChaining.{takes_value}
@@ -12,28 +12,34 @@ use Rattle.es_steps.specs.LogicalAssignment.{LogicalAssignmentRule}
 use Rattle.es_steps.specs.LogicalAssignment.LogicalAssignmentRule.{to_name, to_static_member, to_computed_member}
 use Rattle.es_steps.specs.NullishCoalescing.{NullishCoalescingRule}
 use Rattle.es_steps.specs.NullishCoalescing.NullishCoalescingRule.{with_temporary, reading_again}
+use Rattle.es_steps.specs.ObjectSpread.{SpreadRule}
+use Rattle.es_steps.specs.ObjectSpread.SpreadRule.{spreads}
 use Rattle.es_steps.specs.OptionalCatch.{CatchRule}
 use Rattle.es_steps.specs.OptionalCatch.CatchRule.{catches}
 use Rattle.es_steps.specs.OptionalChaining.{OptionalChainingRule}
 use Rattle.es_steps.specs.OptionalChaining.OptionalChainingRule.{by_tests, as_callee, in_delete}
-use Rattle.es_steps.specs.Rules.{Writing}
+use Rattle.es_steps.specs.Rules.{Replacing, Writing}
 use Rattle.es_steps.specs.Rules.Replacing.{replaces}
 use Rattle.es_steps.specs.Rules.Writing.{all_pending, body_declarators, declarators, insertions}
 use Rattle.es_steps.specs.Sites.{AreAlike, IsLocal}
 use Rattle.es_steps.specs.Slots.{in_open_slot, is_slot}
 use Rattle.es_steps.specs.Steps.{Ledger, Site, Spot, Whole}
-use Rattle.es_steps.specs.WrapRule.{WrapRule, takes_one}
+use Rattle.es_steps.specs.WrapRule.{OutsideSlots, WrapRule, takes_one}
 use Rattle.es_steps.specs.WrapRule.WrapRule.{wraps}
 use Rattle.es_steps.proofs.Catching.{catch-lawful}
-use Rattle.es_steps.proofs.CoreLaws.{on-lawful, on-writes}
+use Rattle.es_steps.proofs.CoreLaws.{made-writes, on-lawful, on-writes}
 use Rattle.es_steps.proofs.FormRules.{on-form}
 use Rattle.es_steps.proofs.LocalRules.{both-local}
-use Rattle.es_steps.proofs.RulesWrite.{catch-writes}
-use Rattle.es_valid_steps.proofs.FurtherForms.{catch-form}
+use Rattle.es_steps.proofs.Made.{Makes, made-law}
+use Rattle.es_steps.proofs.RuleLaws.{node-lawful}
+use Rattle.es_steps.proofs.RulesWrite.{catch-writes, row-writes}
+use Rattle.es_steps.proofs.Spreads.{spread-makes}
+use Rattle.es_valid_steps.specs.Laws.{with_further_rules}
+use Rattle.es_valid_steps.proofs.FurtherForms.{catch-form, spread-form}
 use Rattle.es_changes.specs.Rules.{IsLawfulRule, is_asked_for}
 use Rattle.es_changes.proofs.Lawful.{law_lawful_proof}
-use Rattle.es_row_laws.specs.Laws.{LawLawfulRows, exponentiation_under, logical_assignment_under, nullish_coalescing_under, optional_catch_under, optional_chaining_under, writing_under}
-use Rattle.es_row_laws.proofs.Fewer.{fewer-lawful}
+use Rattle.es_row_laws.specs.Laws.{LawLawfulRows, exponentiation_under, logical_assignment_under, nullish_coalescing_under, object_spread_under, optional_catch_under, optional_chaining_under, writing_under}
+use Rattle.es_row_laws.proofs.Fewer.{fewer-formed, fewer-lawful}
 
 -- WHERE EACH STANDS among those that options ask for
 
@@ -52,6 +58,17 @@ optional-chaining-under o n s x s' y h = inr (inr (inr (inl (inr h))))
 
 pub exponentiation-under : (o : EnvOptions) (n : Site) (s : Ledger) (x : Spot) (s' : Ledger) (y : Spot) → exponentiation_under o n s x s' y → rule_under o n s x s' y
 exponentiation-under o n s x s' y h = inr (inr (inr (inr h)))
+
+-- Object spread stands among the further rules, which ask nothing of slots: it takes no temporary.
+spread-anywhere : (n : Site) (s : Ledger) (x : Spot) (s' : Ledger) (y : Spot) → RowRule SpreadRule n s x s' y → Replacing SpreadRule n s x s' y
+spread-anywhere n s x s' y (replaces bs h) = replaces bs h.rule
+
+on-anywhere : (b : Bool) (n : Site) (s : Ledger) (x : Spot) (s' : Ledger) (y : Spot) → where_on b (RowRule SpreadRule) n s x s' y → where_on b (Replacing SpreadRule) n s x s' y
+on-anywhere true n s x s' y h = spread-anywhere n s x s' y h
+on-anywhere false n s x s' y h = h
+
+pub object-spread-under : (o : EnvOptions) (n : Site) (s : Ledger) (x : Spot) (s' : Ledger) (y : Spot) → object_spread_under o n s x s' y → with_further_rules o n s x s' y
+object-spread-under o n s x s' y h = inr (inr (inr (on-anywhere (is_some o.es2018.object_rest_spread) n s x s' y h)))
 
 -- WHAT A ROW ASKS OF ITS SITE
 
@@ -98,6 +115,9 @@ wrap-local o n m s s' x y a (wraps r e slot h) = wraps (a.role ∙ r) e (ap is_s
 catch-local : IsLocal (λ s. is_asked_for) CatchRule
 catch-local n m s s' x y a (catches fresh) = catches fresh
 
+spreading-local : RowIsLocal SpreadRule
+spreading-local n m w bs t u a (spreads unbound used some quiet h) = spreads (a.scope (codes "babelHelpers") refl ∙ unbound) used some quiet h
+
 -- THE LAWS
 
 pub writing-lawful : (o : EnvOptions) → IsLawfulRule (writing_under o)
@@ -122,6 +142,21 @@ optional-catch-lawful o =
     let on = o.es2019.optional_catch_binding in
     record { names = on-lawful on CatchRule catch-lawful; writes = on-writes on CatchRule catch-writes; form = on-form on CatchRule catch-form; local = on-local on CatchRule catch-local }
 
+-- it makes the same outside slots as anywhere
+spread-outside : (n : Site) (w : Whole) (bs : List Bound) (t u : Tree) → OutsideSlots SpreadRule n w bs t u → Makes n w bs t u
+spread-outside n w bs t u h = spread-makes n w bs t u h.rule
+
+pub object-spread-lawful : (o : EnvOptions) → IsLawfulRule (object_spread_under o)
+object-spread-lawful o =
+    let on = is_some o.es2018.object_rest_spread in
+    let R = RowRule SpreadRule in
+    record {
+      names = on-lawful on R (node-lawful (OutsideSlots SpreadRule) (λ n w bs t u h used. made-law n w bs t u (spread-outside n w bs t u h) used));
+      writes = on-writes on R (row-writes {R = OutsideSlots SpreadRule} (made-writes (OutsideSlots SpreadRule) spread-outside));
+      form = on-form on R (fewer-formed spread-anywhere spread-form);
+      local = on-local on R (row-local SpreadRule spreading-local);
+    }
+
 pub law_lawful_rows_proof : LawLawfulRows
 law_lawful_rows_proof o = record {
   writing = writing-lawful o;
@@ -130,4 +165,5 @@ law_lawful_rows_proof o = record {
   optional_chaining = optional-chaining-lawful o;
   exponentiation = exponentiation-lawful o;
   optional_catch = optional-catch-lawful o;
+  object_spread = object-spread-lawful o;
 }

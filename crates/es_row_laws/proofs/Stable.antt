@@ -1,14 +1,14 @@
 -- Steps among the fields of a node make it no construct of a lowering: rules act on no private member, on no parentheses and on no BigInt
 -- literal, but for the wrap rule, which acts on slots, and no operand of an assignment or an operator is one.
--- A field that holds something holds something after a step, and one that holds nothing has none.
+-- A field that holds something holds something after a step, and one that holds nothing has none. Nothing that rules make is a spread.
 use Rattle.std.proofs.Common.{◌≡◌, ◌∙◌, ℕ, zero, Bool, true, false, refl, sym, ap, subst, inl, inr, true≢false}
-use Rattle.std.specs.Prelude.{◌&&◌, ◌||◌, not, List, [], ◌∷◌, bytes_eq, codes}
-use Rattle.es_tree.specs.Constructs.{field_at, is_big_int, is_chain, is_child, is_exponentiation, is_logical_assignment, is_nullish_coalescing, is_optional_catch, is_private_member, is_private_name, is_private_target, stands}
+use Rattle.std.specs.Prelude.{◌&&◌, ◌||◌, not, List, [], ◌∷◌, Option, None, Some, bytes_eq, codes, is_some}
+use Rattle.es_tree.specs.Constructs.{any_kind, field_at, has_member, is_big_int, is_chain, is_child, is_exponentiation, is_logical_assignment, is_nullish_coalescing, is_object_spread, is_optional_catch, is_private_member, is_private_name, is_private_target, is_spread, stands}
 use Rattle.es_tree.specs.Names.{first_text}
 use Rattle.es_tree.specs.Parens.{without_parens}
-use Rattle.es_tree.specs.Tree.{Tree, node, Label, fields_of, kind_of}
+use Rattle.es_tree.specs.Tree.{Tree, node, Label, Trees, ◌before◌, fields_of, kind_of, trees}
 use Rattle.es_tree.specs.declared.ast_type.AstType.{AstType}
-use Rattle.es_tree.specs.declared.ast_type.AstType.TheVariants.{AssignmentExpression, BigIntLiteral, BinaryExpression, CatchClause, ChainExpression, Identifier, LogicalExpression, MemberExpression, ParenthesizedExpression, PrivateIdentifier, UnaryExpression}
+use Rattle.es_tree.specs.declared.ast_type.AstType.TheVariants.{AssignmentExpression, BigIntLiteral, BinaryExpression, CatchClause, ChainExpression, Identifier, LogicalExpression, MemberExpression, ObjectExpression, ParenthesizedExpression, PrivateIdentifier, SpreadElement, UnaryExpression}
 use Rattle.es_tree.specs.declared.options.EnvOptions.{EnvOptions}
 use Rattle.es_runs.specs.OptionalChaining.{has_tests, where_short}
 use Rattle.es_resolution.specs.Declarations.{Bound}
@@ -17,27 +17,35 @@ use Rattle.es_steps.specs.Exponentiation.{ExponentiationRule}
 use Rattle.es_steps.specs.Exponentiation.ExponentiationRule.{power, power_assignment}
 use Rattle.es_steps.specs.LogicalAssignment.{LogicalAssignmentRule}
 use Rattle.es_steps.specs.LogicalAssignment.LogicalAssignmentRule.{to_name, to_static_member, to_computed_member}
+use Rattle.es_steps.specs.Nodes.{joined_trees, placed}
 use Rattle.es_steps.specs.NullishCoalescing.{NullishCoalescingRule}
 use Rattle.es_steps.specs.NullishCoalescing.NullishCoalescingRule.{with_temporary, reading_again}
-use Rattle.es_steps.specs.Open.{Open, OpenFields, OpenField, body, child, children, finished, finished_field, finished_fields, gap, list}
+use Rattle.es_steps.specs.ObjectSpread.{Copies, SpreadRule, copied, last_copied}
+use Rattle.es_steps.specs.ObjectSpread.Copies.{no_more, copies, keeps}
+use Rattle.es_steps.specs.ObjectSpread.SpreadRule.{spreads}
+use Rattle.es_steps.specs.Open.{Open, OpenFields, OpenField, OpenTrees, body, child, children, finished, finished_field, finished_fields, finished_trees, flanks_with, followed_by, gap, list, opened, opened_trees}
 use Rattle.es_steps.specs.OptionalCatch.{CatchRule}
 use Rattle.es_steps.specs.OptionalCatch.CatchRule.{catches}
 use Rattle.es_steps.specs.OptionalChaining.{OptionalChainingRule}
 use Rattle.es_steps.specs.OptionalChaining.OptionalChainingRule.{by_tests, as_callee, in_delete}
 use Rattle.es_steps.specs.Rules.Replacing.{replaces}
 use Rattle.es_steps.specs.Slots.{is_slot}
-use Rattle.es_steps.specs.Steps.{FieldStep, FieldsStep, Ledger, Site, Spot, Step, Whole, at_node, site_in}
+use Rattle.es_steps.specs.Steps.{FieldStep, FieldsStep, Ledger, Site, Spot, Step, TreesStep, Whole, at_node, site_in}
 use Rattle.es_steps.specs.Steps.Step.{acts, inside}
 use Rattle.es_steps.specs.Steps.FieldsStep.{in_first, in_later}
 use Rattle.es_steps.specs.Steps.FieldStep.{in_child, in_children, in_body, in_list, in_target, in_program, acts_on_list, acts_on_body}
+use Rattle.es_steps.specs.Steps.TreesStep.{in_head, in_tail, in_flanked, after_flanked, flanks, acts_on_flanked}
 use Rattle.es_steps.specs.WrapRule.WrapRule.{wraps}
-use Rattle.es_steps.proofs.Opened.{finished-opened}
+use Rattle.es_steps.proofs.Opened.{finished-followed, finished-opened}
 use Rattle.es_steps.proofs.RuleLaws.{writes-lists}
+use Rattle.es_steps.proofs.Taken.{flanks-rest}
+use Rattle.es_changes.specs.Rules.{IsLawfulRule}
+use Rattle.es_changes.proofs.Lawful.{law_lawful_proof}
 use Rattle.es_traverse.specs.Bodies.{BodiesStand, BodiesStandBy, BodiesStandIn}
 use Rattle.es_traverse.specs.Laws.{IsStable}
-use Rattle.es_row_laws.specs.Laws.{KeepsConstructs, LawStable, LawStableRows, is_lowered_assignment, is_lowered_power, is_simple, is_simple_target, optional_catch_under}
+use Rattle.es_row_laws.specs.Laws.{KeepsConstructs, LawStable, LawStableRows, is_lowered_assignment, is_lowered_power, is_simple, is_simple_target, object_spread_under, optional_catch_under}
 use Rattle.es_row_laws.proofs.Fewer.{fewer-stable}
-use Rattle.es_row_laws.proofs.Lawful.{exponentiation-under, logical-assignment-under, nullish-coalescing-under, optional-chaining-under, writing-under}
+use Rattle.es_row_laws.proofs.Lawful.{exponentiation-under, logical-assignment-under, nullish-coalescing-under, object-spread-lawful, optional-catch-lawful, optional-chaining-under, writing-under}
 
 -- WHERE RULES ACT
 
@@ -48,19 +56,21 @@ is_acted_on BinaryExpression = true
 is_acted_on CatchClause = true
 is_acted_on ChainExpression = true
 is_acted_on LogicalExpression = true
+is_acted_on ObjectExpression = true
 is_acted_on UnaryExpression = true
 is_acted_on _ = false
 
--- what is made of them is no target
-abbrev is_no_target : AstType → Bool
-is_no_target Identifier = false
-is_no_target MemberExpression = false
-is_no_target ParenthesizedExpression = false
-is_no_target _ = true
+-- what is made of them is no target and no spread
+abbrev is_no_part : AstType → Bool
+is_no_part Identifier = false
+is_no_part MemberExpression = false
+is_no_part ParenthesizedExpression = false
+is_no_part SpreadElement = false
+is_no_part _ = true
 
 record Acts (t u : Tree) : Type 0 where
   on : is_acted_on (kind_of t) ≡ true
-  made : is_no_target (kind_of u) ≡ true
+  made : is_no_part (kind_of u) ≡ true
 
 abbrev RowActs : (Site → Whole → List Bound → Tree → Tree → Type 0) → Type 0
 RowActs R = (n : Site) (w : Whole) (bs : List Bound) (t u : Tree) → R n w bs t u → Acts t u
@@ -78,7 +88,7 @@ coalescing-acts : RowActs NullishCoalescingRule
 coalescing-acts n w bs t u (with_temporary e1 e2 d) = record { on = refl; made = refl }
 coalescing-acts n w bs t u (reading_again e1 e2) = record { on = refl; made = refl }
 
-short-made : (m : Label) (ts : List Tree) (a b : Tree) → has_tests ts ≡ true → is_no_target (kind_of (where_short m ts a b)) ≡ true
+short-made : (m : Label) (ts : List Tree) (a b : Tree) → has_tests ts ≡ true → is_no_part (kind_of (where_short m ts a b)) ≡ true
 short-made m [] a b h = absurd (true≢false (sym h))
 short-made m (t ∷ ts) a b h = refl
 
@@ -111,6 +121,32 @@ core-acts o n s s' t u slot (inr (inr (inr (inr h)))) = on-acts o.es2016.exponen
 catch-acts : ActsOn CatchRule
 catch-acts n s s' t u slot (catches fresh) = record { on = refl; made = refl }
 
+-- a copy so far is a call or an object
+abbrev IsCopy : Option Tree → Type 0
+IsCopy None = Unit {0}
+IsCopy (Some c) = is_no_part (kind_of c) ≡ true
+
+copied-made : (f : Tree) (c : Option Tree) (ps : List Tree) (e : Tree) → is_no_part (kind_of (copied f c ps e)) ≡ true
+copied-made f None ps e = refl
+copied-made f (Some c) [] e = refl
+copied-made f (Some c) (p ∷ ps) e = refl
+
+last-made : (f : Tree) (c : Option Tree) (ps : List Tree) → IsCopy c → is_no_part (kind_of (last_copied f c ps)) ≡ true
+last-made f None ps h = refl
+last-made f (Some c) [] h = h
+last-made f (Some c) (p ∷ ps) h = refl
+
+copies-made : {f : Tree} {c : Option Tree} {ps : List Tree} {ts : Trees} {u : Tree} → Copies f c ps ts u → IsCopy c → is_no_part (kind_of u) ≡ true
+copies-made (no_more {c = c} {ps = ps}) h = last-made _ c ps h
+copies-made (copies {c = c} {ps = ps} {e = e} g) h = copies-made g (copied-made _ c ps e)
+copies-made (keeps other g) h = copies-made g h
+
+placed-made : (m : Label) (u : Tree) → is_no_part (kind_of u) ≡ true → is_no_part (kind_of (placed m u)) ≡ true
+placed-made m (node k l fs) e = e
+
+spreading-acts : RowActs SpreadRule
+spreading-acts n w bs t u (spreads {m = m} {u = v} unbound used some quiet h) = record { on = refl; made = placed-made m v (copies-made h tt) }
+
 -- TESTS OF NODES
 
 -- a test of kinds that is false of those on which rules act
@@ -134,11 +170,26 @@ private-acts (node MemberExpression l fs) e = absurd (true≢false (sym e))
 private-acts (node ParenthesizedExpression l fs) e = absurd (true≢false (sym e))
 private-acts (node _ l fs) e = refl
 
-no-target : (t : Tree) → is_no_target (kind_of t) ≡ true → is_simple t ≡ false
+no-target : (t : Tree) → is_no_part (kind_of t) ≡ true → is_simple t ≡ false
 no-target (node Identifier l fs) e = absurd (true≢false (sym e))
 no-target (node MemberExpression l fs) e = absurd (true≢false (sym e))
 no-target (node ParenthesizedExpression l fs) e = absurd (true≢false (sym e))
 no-target (node _ l fs) e = refl
+
+no-spread : (k : AstType) → is_no_part k ≡ true → is_spread k ≡ false
+no-spread SpreadElement e = absurd (true≢false (sym e))
+no-spread _ e = refl
+
+-- two tests neither of which was true stay so
+neither-true : (a b c d : Bool) → (a ≡ false → c ≡ false) → (b ≡ false → d ≡ false) → (a || b) ≡ false → (c || d) ≡ false
+neither-true true b c d f g e = absurd (true≢false e)
+neither-true false b true d f g e = absurd (true≢false (f refl))
+neither-true false b false d f g e = g e
+
+-- and so of a list with these before it
+joined-kept : (test : AstType → Bool) (bs : List Tree) (ts us : Trees) → (any_kind test ts ≡ false → any_kind test us ≡ false) → any_kind test (joined_trees (trees bs) ts) ≡ false → any_kind test (joined_trees (trees bs) us) ≡ false
+joined-kept test [] ts us f = f
+joined-kept test (b ∷ bs) ts us f = neither-true (test (kind_of b)) (any_kind test (joined_trees (trees bs) ts)) (test (kind_of b)) (any_kind test (joined_trees (trees bs) us)) (λ e. e) (joined-kept test bs ts us f)
 
 -- of two tests one of which was false, that one stays so
 either-false : (a b c d : Bool) → (a ≡ false → c ≡ false) → (b ≡ false → d ≡ false) → (a && b) ≡ false → (c && d) ≡ false
@@ -166,7 +217,7 @@ second-less : (a b p q : Bool) → (p ≡ true → q ≡ true) → (a && b && no
 second-less false b p q f e = refl
 second-less true b p q f e = last-less b p q f e
 
-module _ (R : Site → Ledger → Spot → Ledger → Spot → Type 0) (acts-on : ActsOn R) where
+module _ (R : Site → Ledger → Spot → Ledger → Spot → Type 0) (lawful : IsLawfulRule R) (acts-on : ActsOn R) where
   -- STEPS OF A NODE
 
   module _ (test : AstType → Bool) (quiet : IsQuiet test) where
@@ -326,13 +377,64 @@ module _ (R : Site → Ledger → Spot → Ledger → Spot → Type 0) (acts-on 
   catch-stable n s s' CatchClause l first fs gs h r e = parameter-kept r e
   catch-stable n s s' k l first fs gs h r e = refl
 
+  -- OBJECT LITERALS: no property becomes a spread
+
+  property-kept : {n : Site} {s s' : Ledger} {t u : Open} → Step R n s t s' u → is_slot n.above ≡ false → is_spread (kind_of (finished t)) ≡ false → is_spread (kind_of (finished u)) ≡ false
+  property-kept (acts {n = n} {s = s} {s' = s'} t u r) slot e = subst (λ (x : Tree). is_spread (kind_of x) ≡ false) (sym (finished-opened u)) (no-spread (kind_of u) (acts-on n s s' t u slot r).made)
+  property-kept (inside r) slot e = e
+
+  properties-kept : {n : Site} {s s' : Ledger} {ts us : OpenTrees} → TreesStep R n s ts s' us → is_slot n.above ≡ false → any_kind is_spread (finished_trees ts) ≡ false → any_kind is_spread (finished_trees us) ≡ false
+  properties-kept (in_head {t = t} {u = u} {ts = ts} r) slot =
+      let rest = any_kind is_spread (finished_trees ts) in
+      neither-true (is_spread (kind_of (finished t))) rest (is_spread (kind_of (finished u))) rest (property-kept r slot) (λ e. e)
+  properties-kept (in_tail {t = t} {ts = ts} {us = us} r) slot =
+      let first = is_spread (kind_of (finished t)) in
+      neither-true first (any_kind is_spread (finished_trees ts)) first (any_kind is_spread (finished_trees us)) (λ e. e) (properties-kept r slot)
+  properties-kept (in_flanked {bs = bs} {cs = cs} {t = t} {u = u} {ts = ts} r) slot =
+      let rest = joined_trees (trees cs) (finished_trees ts) in
+      joined-kept is_spread bs (finished t before rest) (finished u before rest) (neither-true (is_spread (kind_of (finished t))) (any_kind is_spread rest) (is_spread (kind_of (finished u))) (any_kind is_spread rest) (property-kept r slot) (λ e. e))
+  properties-kept (after_flanked {bs = bs} {cs = cs} {t = t} {ts = ts} {us = us} r) slot =
+      joined-kept is_spread bs (finished t before joined_trees (trees cs) (finished_trees ts)) (finished t before joined_trees (trees cs) (finished_trees us))
+      (joined-kept is_spread (finished t ∷ cs) (finished_trees ts) (finished_trees us) (properties-kept r slot))
+  properties-kept (flanks {n = n} {s = s} {s' = s'} {bs = bs} {cs = cs} t u r) slot = absurd (lawful.form.no_flanks n s s' t u bs cs r)
+  properties-kept (acts_on_flanked {n = n} {s = s} {s' = s'} {bs = bs} {cs = cs} {ts = ts} t us r) slot =
+      let found = lawful.names.unflanking n s s' t bs cs us r in
+      let rest = finished_trees ts in
+      let same : flanks_with bs (finished (opened t)) cs rest ≡ finished_trees (followed_by (opened_trees us) ts) = (λ i. flanks_with bs (finished-opened t i) cs rest) ∙ sym (flanks-rest bs cs t rest) ∙ (λ i. joined_trees (found.1 i) rest) ∙ sym (finished-followed us ts) in
+      subst (λ (z : Trees). any_kind is_spread z ≡ false) same
+
+  members-kept : {n : Site} {s s' : Ledger} {f g : OpenField} → FieldStep R n s f s' g → is_slot n.above ≡ false → has_member is_spread (finished_field f) ≡ false → has_member is_spread (finished_field g) ≡ false
+  members-kept (in_child r) slot e = refl
+  members-kept (in_children r) slot e = properties-kept r slot e
+  members-kept (in_body x y z r) slot e = refl
+  members-kept (in_list x y r) slot e = refl
+  members-kept (in_target x r) slot e = refl
+  members-kept (in_program x r) slot e = refl
+  members-kept (acts_on_list ts us r) slot e = refl
+  members-kept (acts_on_body t u r) slot e = refl
+
+  object-kept : (n : Site) (l : Label) (first : OpenFields) {s s' : Ledger} {fs gs : OpenFields} → FieldsStep R (site_in n ObjectExpression l first) s fs s' gs → has_member is_spread (field_at 0 (finished_fields fs)) ≡ false → has_member is_spread (field_at 0 (finished_fields gs)) ≡ false
+  object-kept n l first (in_first r) e = members-kept r refl e
+  object-kept n l first (in_later r) e = e
+
+  spread-stable : IsStable R is_object_spread
+  spread-stable n s s' ObjectExpression l first fs gs h r e = object-kept n l first r e
+  spread-stable n s s' k l first fs gs h r e = refl
+
   all-stable : KeepsConstructs R
-  all-stable = record { logical_assignment = assignment-stable; nullish_coalescing = coalescing-stable; optional_chaining = chain-stable; exponentiation = exponentiation-stable; optional_catch = catch-stable }
+  all-stable = record {
+    logical_assignment = assignment-stable;
+    nullish_coalescing = coalescing-stable;
+    optional_chaining = chain-stable;
+    exponentiation = exponentiation-stable;
+    optional_catch = catch-stable;
+    object_spread = spread-stable;
+  }
 
 -- THE LAWS
 
 pub law_stable_proof : LawStable
-law_stable_proof o = all-stable (rule_under o) (core-acts o)
+law_stable_proof o = all-stable (rule_under o) (law_lawful_proof o) (core-acts o)
 
 -- of a rule that holds only where the core rules do that options ask for
 pub fewer-constructs : (o : EnvOptions) {Q : Site → Ledger → Spot → Ledger → Spot → Type 0} → ((n : Site) (s : Ledger) (x : Spot) (s' : Ledger) (y : Spot) → Q n s x s' y → rule_under o n s x s' y) → KeepsConstructs Q
@@ -344,6 +446,7 @@ fewer-constructs o under =
       optional_chaining = fewer-stable under is_chain all.optional_chaining;
       exponentiation = fewer-stable under is_lowered_power all.exponentiation;
       optional_catch = fewer-stable under is_optional_catch all.optional_catch;
+      object_spread = fewer-stable under is_object_spread all.object_spread;
     }
 
 pub law_stable_rows_proof : LawStableRows
@@ -353,5 +456,6 @@ law_stable_rows_proof o = record {
   nullish_coalescing = fewer-constructs o (nullish-coalescing-under o);
   optional_chaining = fewer-constructs o (optional-chaining-under o);
   exponentiation = fewer-constructs o (exponentiation-under o);
-  optional_catch = all-stable (optional_catch_under o) (on-acts o.es2019.optional_catch_binding CatchRule catch-acts);
+  optional_catch = all-stable (optional_catch_under o) (optional-catch-lawful o) (on-acts o.es2019.optional_catch_binding CatchRule catch-acts);
+  object_spread = all-stable (object_spread_under o) (object-spread-lawful o) (on-acts (is_some o.es2018.object_rest_spread) (RowRule SpreadRule) (row-acts SpreadRule spreading-acts));
 }

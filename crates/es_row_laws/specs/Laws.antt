@@ -1,6 +1,6 @@
 -- The rules of lowerings one by one: each is lawful alone, and the constructs of a lowering stay what they are under steps of all.
-use Rattle.std.specs.Prelude.{◌&&◌, not, Bool, true, false}
-use Rattle.es_tree.specs.Constructs.{field_at, is_chain, is_exponentiation, is_logical_assignment, is_nullish_coalescing, is_optional_catch}
+use Rattle.std.specs.Prelude.{◌&&◌, is_some, not, Bool, true, false}
+use Rattle.es_tree.specs.Constructs.{field_at, is_chain, is_exponentiation, is_logical_assignment, is_nullish_coalescing, is_object_spread, is_optional_catch}
 use Rattle.es_tree.specs.Parens.{without_parens}
 use Rattle.es_tree.specs.Tree.{Tree, node, Label, Fields, Field, one}
 use Rattle.es_tree.specs.declared.ast_type.AstType.{AstType}
@@ -11,6 +11,7 @@ use Rattle.es_steps.specs.CoreRules.{RowRule, rule_under, where_on}
 use Rattle.es_steps.specs.Exponentiation.{ExponentiationRule}
 use Rattle.es_steps.specs.LogicalAssignment.{LogicalAssignmentRule}
 use Rattle.es_steps.specs.NullishCoalescing.{NullishCoalescingRule}
+use Rattle.es_steps.specs.ObjectSpread.{SpreadRule}
 use Rattle.es_steps.specs.OptionalCatch.{CatchRule}
 use Rattle.es_steps.specs.OptionalChaining.{OptionalChainingRule}
 use Rattle.es_steps.specs.Rules.{Writing, either_rule}
@@ -36,6 +37,9 @@ exponentiation_under o = where_on o.es2016.exponentiation_operator (RowRule Expo
 abbrev pub optional_catch_under : EnvOptions → Site → Ledger → Spot → Ledger → Spot → Type 0
 optional_catch_under o = where_on o.es2019.optional_catch_binding CatchRule
 
+abbrev pub object_spread_under : EnvOptions → Site → Ledger → Spot → Ledger → Spot → Type 0
+object_spread_under o = where_on (is_some o.es2018.object_rest_spread) (RowRule SpreadRule)
+
 -- that of the type that keeps what is pending
 abbrev pub writing_under : EnvOptions → Site → Ledger → Spot → Ledger → Spot → Type 0
 writing_under o = either_rule Writing (WrapRule o)
@@ -48,6 +52,7 @@ pub record OfEachRule (P : (Site → Ledger → Spot → Ledger → Spot → Typ
   pub optional_chaining : P (optional_chaining_under o)
   pub exponentiation : P (exponentiation_under o)
   pub optional_catch : P (optional_catch_under o)
+  pub object_spread : P (object_spread_under o)
 
 -- WHAT THEY LOWER: of assignments those to a name or a member without an optional mark, maybe in parentheses. No other target is valid beside these operators
 -- (ECMA-262, 13.15.1).
@@ -84,6 +89,7 @@ pub record KeepsConstructs (R : Site → Ledger → Spot → Ledger → Spot →
   pub optional_chaining : IsStable R is_chain
   pub exponentiation : IsStable R is_lowered_power
   pub optional_catch : IsStable R is_optional_catch
+  pub object_spread : IsStable R is_object_spread
 
 -- the core rules together, and each rule
 abbrev pub LawStable : Type 0
