@@ -24,11 +24,13 @@ module _ (words : List (String Global)) (o q : EnvOptions) (a : Asks words o) (b
   same_asked PureGetters = a.pure_getters ∙ sym b.pure_getters
   same_asked ObjectRestNoSymbols = a.object_rest_no_symbols ∙ sym b.object_rest_no_symbols
   same_asked IgnoreFunctionLength = a.ignore_function_length ∙ sym b.ignore_function_length
-  same_asked NotBuilt = rw (a.arrows, a.rest_spread, a.resources, b.arrows, b.rest_spread, b.resources) refl
+  same_asked NotBuilt = rw (a.arrows, a.rest_spread, a.resources, a.mode, b.arrows, b.rest_spread, b.resources, b.mode) refl
 
   pub same_refusals : SameRefusals o q
   same_refusals = record {
     fault = same_find (λ name. asks_for name o) (λ name. asks_for name q) option_names same_asked;
     power = a.exponentiation ∙ sym b.exponentiation;
+    copies = a.rest_spread ∙ sym b.rest_spread;
+    mode = a.mode ∙ sym b.mode;
     chaining = a.chaining ∙ sym b.chaining;
   }

@@ -2,7 +2,7 @@
 use Rattle.std.proofs.Common.{◌≡◌, ℕ, zero, suc, refl, sym, ap, ◌∙◌}
 use Rattle.std.specs.Prelude.{Bool, ◌&&◌, ◌||◌, not, bytes_eq, codes, is_some}
 use Rattle.es_tree.specs.Bare.{bare, bare_field, bare_fields, bare_label, bare_trees}
-use Rattle.es_tree.specs.Constructs.{any_kind, field_at, has_enabled_construct, has_member, is_arrow, is_big_int, is_chain, is_child, is_enabled_construct, is_exponentiation, is_logical_assignment, is_namespace_export, is_nullish_coalescing, is_optional_catch, is_private_member, is_private_name, is_private_target, is_rest, is_rest_or_spread, is_spread, is_using, stands}
+use Rattle.es_tree.specs.Constructs.{any_kind, field_at, has_enabled_construct, has_unbuilt_construct, has_member, is_arrow, is_big_int, is_chain, is_child, is_enabled_construct, is_exponentiation, is_logical_assignment, is_namespace_export, is_nullish_coalescing, is_optional_catch, is_private_member, is_private_name, is_object_rest, is_object_spread, is_private_target, is_rest, is_spread, is_using, stands}
 use Rattle.es_tree.specs.Names.{first_text}
 use Rattle.es_tree.specs.Parens.{without_parens}
 use Rattle.es_tree.specs.Tree.{Tree, node, Label, Fields, done, ◌then◌, Field, missing, one, many, statements, Trees, empty, ◌before◌, fields_of, kind_of}
@@ -89,8 +89,11 @@ coalescing-bare : (k : AstType) (l : Label) (fs : Fields) → is_nullish_coalesc
 coalescing-bare LogicalExpression l fs = refl
 coalescing-bare _ l fs = refl
 
-rest-bare : (k : AstType) (l : Label) (fs : Fields) → is_rest_or_spread k (bare_label l) (bare_fields fs) ≡ is_rest_or_spread k l fs
-rest-bare ObjectExpression l fs = member_at-bare is_spread fs
+spread-bare : (k : AstType) (l : Label) (fs : Fields) → is_object_spread k (bare_label l) (bare_fields fs) ≡ is_object_spread k l fs
+spread-bare ObjectExpression l fs = member_at-bare is_spread fs
+spread-bare _ l fs = refl
+
+rest-bare : (k : AstType) (l : Label) (fs : Fields) → is_object_rest k (bare_label l) (bare_fields fs) ≡ is_object_rest k l fs
 rest-bare ObjectPattern l fs = member_at-bare is_rest fs
 rest-bare ObjectTarget l fs = member_at-bare is_rest fs
 rest-bare _ l fs = refl
@@ -121,7 +124,7 @@ enabled-bare o k l fs = λ i.
     || (o.es2020.nullish_coalescing_operator && coalescing-bare k l fs i)
     || (o.es2020.optional_chaining && chain-bare k l fs i)
     || (o.es2021.logical_assignment_operators && assignment-bare k l fs i)
-    || (is_some o.es2018.object_rest_spread && rest-bare k l fs i)
+    || (is_some o.es2018.object_rest_spread && (spread-bare k l fs i || rest-bare k l fs i))
     || (is_some o.es2015.arrow_function && arrow-bare k l fs i))
     || ((o.es2019.optional_catch_binding && catch-bare k l fs i)
     || (o.es2020.export_namespace_from && export-bare k l fs i)
@@ -151,3 +154,6 @@ module _ (test : AstType → Label → Fields → Bool) (same : (k : AstType) (l
 -- trees that are equal but for ids and marks have the same constructs
 pub same-constructs : (o : EnvOptions) (t u : Tree) → bare u ≡ bare t → has_enabled_construct o u ≡ has_enabled_construct o t
 same-constructs o t u e = sym (any-bare (is_enabled_construct o) (enabled-bare o) u) ∙ ap (any_node (is_enabled_construct o)) e ∙ any-bare (is_enabled_construct o) (enabled-bare o) t
+
+pub same-left : (o : EnvOptions) (t u : Tree) → bare u ≡ bare t → has_unbuilt_construct o u ≡ has_unbuilt_construct o t
+same-left o t u e = ap (λ b. is_some o.es2018.object_rest_spread && b) (sym (any-bare is_object_rest rest-bare u) ∙ ap (any_node is_object_rest) e ∙ any-bare is_object_rest rest-bare t)

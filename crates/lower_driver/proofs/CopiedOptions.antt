@@ -1,8 +1,8 @@
 -- Options that are the same ask for the same.
 use Rattle.std.proofs.Common.{◌≡◌, ℕ, refl, sym, ap, ◌∙◌, subst, List, [], ◌∷◌, inl, inr}
-use Rattle.std.specs.Prelude.{Bool}
+use Rattle.std.specs.Prelude.{Bool, is_some}
 use Rattle.std.specs.Option.{option_or}
-use Rattle.es_tree.specs.Constructs.{has_enabled_construct}
+use Rattle.es_tree.specs.Constructs.{has_enabled_construct, has_unbuilt_construct}
 use Rattle.es_tree.specs.Options.{asks_for_unbuilt}
 use Rattle.es_tree.specs.Tree.{Tree, Label, Fields}
 use Rattle.es_tree.specs.declared.ast_type.AstType.{AstType}
@@ -12,7 +12,9 @@ use Rattle.es_semantic.specs.SymbolsOf.{Declared, symbols_of}
 use Rattle.es_steps.specs.CoreBridge.{Reached}
 use Rattle.es_steps.specs.CoreRules.{rows_under, rule_under, where_on}
 use Rattle.es_steps.specs.NamespaceExports.{NamespaceRule}
+use Rattle.es_steps.specs.ObjectSpread.{SpreadRule}
 use Rattle.es_steps.specs.OptionalCatch.{CatchRule}
+use Rattle.es_steps.specs.Rules.{Replacing}
 use Rattle.es_steps.specs.Slots.{holds}
 use Rattle.es_steps.specs.Steps.{Ledger, Site, Spot, Whole}
 use Rattle.es_steps.specs.WrapRule.{WrapRule, is_wrapped_for}
@@ -25,17 +27,20 @@ use Rattle.lower_driver.specs.Copies.{IsCopy}
 
 module _ (o c : EnvOptions) (copy : IsCopy o c) where
   pub copied-unbuilt : asks_for_unbuilt c ≡ asks_for_unbuilt o
-  copied-unbuilt = λ i. asks_for_unbuilt (record c { es2015 = copy.es2015 i; es2018 = copy.es2018 i; es2019 = copy.es2019 i; es2020 = copy.es2020 i; es2026 = copy.es2026 i })
+  copied-unbuilt = λ i. asks_for_unbuilt (record c { es2015 = copy.es2015 i; es2018 = copy.es2018 i; es2026 = copy.es2026 i; helper_loader = record c.helper_loader { mode = copy.mode i } })
 
   pub copied-enabled : (t : Tree) → has_enabled_construct c t ≡ has_enabled_construct o t
   copied-enabled t = λ i.
       has_enabled_construct
       (record c { es2015 = copy.es2015 i; es2016 = copy.es2016 i; es2018 = copy.es2018 i; es2019 = copy.es2019 i; es2020 = copy.es2020 i; es2021 = copy.es2021 i; es2026 = copy.es2026 i }) t
 
+  pub copied-left : (t : Tree) → has_unbuilt_construct c t ≡ has_unbuilt_construct o t
+  copied-left t = λ i. has_unbuilt_construct (record c { es2018 = copy.es2018 i }) t
+
   -- SHAPES
 
   copied-shape : (ds : List Declared) (up : List ℕ) (k : AstType) (l : Label) (fs : Fields) → shape_at c ds up k l fs ≡ shape_at o ds up k l fs
-  copied-shape ds up k l fs = λ i. shape_at (record c { es2016 = copy.es2016 i; es2020 = copy.es2020 i }) ds up k l fs
+  copied-shape ds up k l fs = λ i. shape_at (record c { es2016 = copy.es2016 i; es2018 = copy.es2018 i; es2020 = copy.es2020 i; helper_loader = record c.helper_loader { mode = copy.mode i } }) ds up k l fs
 
   copied-among : (ds : List Declared) (vs : List Visit) → first_among c ds vs ≡ first_among o ds vs
   copied-among ds [] = refl
@@ -63,7 +68,8 @@ module _ (o c : EnvOptions) (copy : IsCopy o c) where
   copied-built : (n : Site) (s : Ledger) (x : Spot) (s' : Ledger) (y : Spot) → built_rules c n s x s' y → built_rules o n s x s' y
   copied-built n s x s' y (inl r) = inl (copied-rule n s x s' y r)
   copied-built n s x s' y (inr (inl h)) = inr (inl (subst (λ (z : Type 0). z) (λ i. where_on (copy.es2019 i).optional_catch_binding CatchRule n s x s' y) h))
-  copied-built n s x s' y (inr (inr h)) = inr (inr (subst (λ (z : Type 0). z) (λ i. where_on (copy.es2020 i).export_namespace_from NamespaceRule n s x s' y) h))
+  copied-built n s x s' y (inr (inr (inl h))) = inr (inr (inl (subst (λ (z : Type 0). z) (λ i. where_on (copy.es2020 i).export_namespace_from NamespaceRule n s x s' y) h)))
+  copied-built n s x s' y (inr (inr (inr h))) = inr (inr (inr (subst (λ (z : Type 0). z) (λ i. where_on (is_some (copy.es2018 i).object_rest_spread) (Replacing SpreadRule) n s x s' y) h)))
 
   pub copied-reached : (p q : Tree) (w : Whole) (names : List _) → Reached (built_rules c) p w names q → Reached (built_rules o) p w names q
   copied-reached p q w names h = record { whole = h.whole; steps = all_under (built_rules c) (built_rules o) copied-built h.steps; made = h.made }

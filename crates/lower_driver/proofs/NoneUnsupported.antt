@@ -2,22 +2,24 @@
 use Rattle.std.proofs.Common.{◌≡◌, ℕ, suc, ◌+◌, None, Option, Some, refl, ◌∙◌, List, [], ◌∷◌, ◌++◌}
 use Rattle.std.specs.Prelude.{Bool, true, false, ◌&&◌, ◌||◌, is_some, codes, if◌then◌else◌}
 use Rattle.std.specs.Option.{option_or}
-use Rattle.es_tree.specs.Constructs.{field_at, has_enabled_construct, is_arrow, is_chain, is_enabled_construct, is_enabled_statement, is_exponentiation, is_logical_assignment, is_nullish_coalescing, is_rest_or_spread}
+use Rattle.es_tree.specs.Constructs.{field_at, has_enabled_construct, is_arrow, is_chain, is_enabled_construct, is_enabled_statement, is_exponentiation, is_logical_assignment, is_nullish_coalescing, is_object_rest, is_object_spread}
+use Rattle.es_tree.specs.Options.{is_external}
 use Rattle.es_tree.specs.Parens.{without_parens}
 use Rattle.es_tree.specs.Tree.{Tree, node, Label, Fields, done, ◌then◌, Field, missing, one, many, statements, Trees, empty, ◌before◌, kind_of}
 use Rattle.es_tree.specs.Walks.{any_node, any_in_fields, any_in_field, any_in_trees}
 use Rattle.es_tree.specs.declared.ast_type.AstType.{AstType}
 use Rattle.es_tree.specs.declared.ast_type.AstType.TheVariants.{ChainExpression, ParenthesizedExpression, TaggedTemplateExpression}
 use Rattle.es_tree.specs.declared.error.UnsupportedKind.{UnsupportedKind}
-use Rattle.es_tree.specs.declared.error.UnsupportedKind.TheVariants.{MathBound, TagChain}
 use Rattle.es_tree.specs.declared.options.EnvOptions.{EnvOptions}
 use Rattle.es_runs.proofs.Named.{or_first, or_second}
 use Rattle.es_semantic.specs.Places.{Place, Visit, outermost, own_scope_count, place_in, scope_count_in, scope_count_in_field, visits, visits_in_field, visits_in_fields, visits_in_trees}
 use Rattle.es_semantic.specs.SymbolsOf.{Declared, find, symbols_of}
 use Rattle.es_unsupported.specs.FirstUnsupported.{first_among, first_unsupported, found_at}
 use Rattle.es_unsupported.specs.Shapes.{has_chain_tag, is_chain_below, is_chain_kind, shape_at}
+use Rattle.es_unsupported.specs.SpreadLiterals.{has_uncopied}
+use Rattle.lower_driver.proofs.NoneLeft.{copy-off, first-off}
 
--- THE TWO SHAPES
+-- THE SHAPES
 
 first_of : (a b c d e f g : Bool) → (a || b || c || d || e || f || g) ≡ false → a ≡ false
 first_of true b c d e f g h = h
@@ -29,12 +31,21 @@ third_of false true c d e f g h = absurd (cc h)
 third_of false false true d e f g h = h
 third_of false false false d e f g h = refl
 
-neither : (a e m b : Bool) (x y : UnsupportedKind) → (a && e) ≡ false → b ≡ false → (if a && e && m then Some x else (if b then Some y else None)) ≡ None
-neither true true m b x y h g = absurd (cc h)
-neither true false m true x y h g = absurd (cc g)
-neither true false m false x y h g = refl
-neither false e m true x y h g = absurd (cc g)
-neither false e m false x y h g = refl
+-- what is asked with something more holds no more
+with-more : (asked is more : Bool) → (asked && is) ≡ false → (asked && is && more) ≡ false
+with-more true true more h = absurd (cc h)
+with-more true false more h = refl
+with-more false is more h = refl
+
+with-less : (asked also is more : Bool) → (asked && is) ≡ false → (asked && also && is && more) ≡ false
+with-less true true is more h = with-more true is more h
+with-less true false is more h = refl
+with-less false also is more h = refl
+
+in-both : (asked is more : Bool) → (asked && is) ≡ false → (asked && (is && more)) ≡ false
+in-both true true more h = absurd (cc h)
+in-both true false more h = refl
+in-both false is more h = refl
 
 none-then : (here later : Option (UnsupportedKind × ℕ)) → here ≡ None → later ≡ None → option_or here later ≡ None
 none-then here later h g = rw (h, g) refl
@@ -54,11 +65,11 @@ off false = refl
 module _ (o : EnvOptions) where
   no-power : (k : AstType) (l : Label) (fs : Fields) → is_enabled_construct o k l fs ≡ false → (o.es2016.exponentiation_operator && is_exponentiation k l fs) ≡ false
   no-power k l fs h = first_of (o.es2016.exponentiation_operator && is_exponentiation k l fs) (o.es2020.nullish_coalescing_operator && is_nullish_coalescing k l fs) (o.es2020.optional_chaining && is_chain k l fs)
-      (o.es2021.logical_assignment_operators && is_logical_assignment k l fs) (is_some o.es2018.object_rest_spread && is_rest_or_spread k l fs) (is_some o.es2015.arrow_function && is_arrow k l fs) (is_enabled_statement o k l fs) h
+      (o.es2021.logical_assignment_operators && is_logical_assignment k l fs) (is_some o.es2018.object_rest_spread && (is_object_spread k l fs || is_object_rest k l fs)) (is_some o.es2015.arrow_function && is_arrow k l fs) (is_enabled_statement o k l fs) h
 
   no-chain : (k : AstType) (l : Label) (fs : Fields) → is_enabled_construct o k l fs ≡ false → (o.es2020.optional_chaining && is_chain k l fs) ≡ false
   no-chain k l fs h = third_of (o.es2016.exponentiation_operator && is_exponentiation k l fs) (o.es2020.nullish_coalescing_operator && is_nullish_coalescing k l fs) (o.es2020.optional_chaining && is_chain k l fs)
-      (o.es2021.logical_assignment_operators && is_logical_assignment k l fs) (is_some o.es2018.object_rest_spread && is_rest_or_spread k l fs) (is_some o.es2015.arrow_function && is_arrow k l fs) (is_enabled_statement o k l fs) h
+      (o.es2021.logical_assignment_operators && is_logical_assignment k l fs) (is_some o.es2018.object_rest_spread && (is_object_spread k l fs || is_object_rest k l fs)) (is_some o.es2015.arrow_function && is_arrow k l fs) (is_enabled_statement o k l fs) h
 
   -- neither is the expression inside its parentheses a chain
   no-chain-inside : (t : Tree) → any_node (is_enabled_construct o) t ≡ false → (o.es2020.optional_chaining && is_chain_kind (kind_of (without_parens t))) ≡ false
@@ -83,7 +94,14 @@ module _ (o : EnvOptions) where
     no-shape up k l fs h =
         let power = no-power k l fs (or_first (is_enabled_construct o k l fs) (any_in_fields (is_enabled_construct o) fs) h) in
         let tag = no-tag k l fs (or_second (is_enabled_construct o k l fs) (any_in_fields (is_enabled_construct o) fs) h) in
-        neither o.es2016.exponentiation_operator (is_exponentiation k l fs) (is_some (find ds up (codes "Math"))) (o.es2020.optional_chaining && has_chain_tag k l fs) MathBound TagChain power tag
+        let copies = is_some o.es2018.object_rest_spread in
+        let copy = first-off copies (is_object_spread k l fs) (is_object_rest k l fs) (copy-off o k l fs (or_first (is_enabled_construct o k l fs) (any_in_fields (is_enabled_construct o) fs) h)) in
+        rw (
+          with-more o.es2016.exponentiation_operator (is_exponentiation k l fs) (is_some (find ds up (codes "Math"))) power,
+          with-less copies (is_external o.helper_loader.mode) (is_object_spread k l fs) (is_some (find ds up (codes "babelHelpers"))) copy,
+          in-both copies (is_object_spread k l fs) (has_uncopied (field_at 0 fs)) copy,
+          tag,
+        ) refl
 
     -- WALKS
 

@@ -1,7 +1,7 @@
 -- In a program that has form and breaks no rule of places each assignment by an operator is to a name or a member (ECMA-262, 13.15.1): where
 -- no construct is left that the lowerings take away, none of the built rows is left.
 use Rattle.std.proofs.Common.{◌≡◌, ◌&&◌, ◌||◌, ℕ, suc, Bool, true, false, List, [], ◌∷◌, refl, sym, ap, subst, ◌∙◌, true≢false}
-use Rattle.std.specs.Prelude.{Option, Some, None, bytes_eq, codes, not, if◌then◌else◌}
+use Rattle.std.specs.Prelude.{Option, Some, None, bytes_eq, codes, is_some, not, if◌then◌else◌}
 use Rattle.std.specs.List.{list_any}
 use Rattle.std.proofs.lemmas.Bool.{and_parts}
 use Rattle.es_tree.specs.Ancestors.{Ancestor, ancestor, place_of}
@@ -107,7 +107,7 @@ module _ (o : EnvOptions) where
       let simple : bytes_eq op (codes "=") ≡ false → is_simple t ≡ true = λ h. simple-kept (ancestor AssignmentExpression l (one t then fs) 0 0 ∷ up) t keeps.0 refl (kept-simple (bytes_eq op (codes "=")) (kind_of t) kind kept h) in
       let logical = same-and (is_logical_assignment AssignmentExpression l (one t then fs)) (is_simple t) (λ h. simple (one-of-three op _ h)) in
       let power = same-and (is_exponentiation AssignmentExpression l (one t then fs)) (is_simple t) (λ h. simple (raised op _ h)) in
-      λ i. (o.es2021.logical_assignment_operators && logical i) || (o.es2020.nullish_coalescing_operator && false) || (o.es2020.optional_chaining && false) || (o.es2019.optional_catch_binding && false) || (o.es2016.exponentiation_operator && power i)
+      λ i. (o.es2021.logical_assignment_operators && logical i) || (o.es2020.nullish_coalescing_operator && false) || (o.es2020.optional_chaining && false) || (o.es2019.optional_catch_binding && false) || (is_some o.es2018.object_rest_spread && false) || (o.es2016.exponentiation_operator && power i)
   assignment-same up l done form keeps = absurd (true≢false (sym form))
   assignment-same up l (missing then fs) form keeps = absurd (true≢false (sym form))
   assignment-same up l (many ts then fs) form keeps = absurd (true≢false (sym form))

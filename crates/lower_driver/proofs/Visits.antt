@@ -1,18 +1,19 @@
 -- From the one visit of a run to what the source becomes.
 use Rattle.std.proofs.Common.{◌≡◌, ◌+◌, ◌*◌, ◌≤◌, ◌<◌, ◌^◌, ℕ, refl, sym, ap, ◌∙◌, subst, List, [], ◌∷◌, Option, None, inl, inr, arith, true≢false}
-use Rattle.std.specs.Prelude.{Bool, true, false, ◌&&◌, ◌||◌}
+use Rattle.std.specs.Prelude.{Bool, true, false, ◌&&◌, ◌||◌, is_some}
 use Rattle.es_tree.specs.Bare.{bare}
-use Rattle.es_tree.specs.Constructs.{has_enabled_construct, is_chain, is_nullish_coalescing, is_optional_catch}
+use Rattle.es_tree.specs.Constructs.{has_enabled_construct, has_unbuilt_construct, is_chain, is_nullish_coalescing, is_object_rest, is_object_spread, is_optional_catch}
+use Rattle.es_row_laws.proofs.Lawful.{object-spread-under}
 use Rattle.es_row_laws.specs.Laws.{is_lowered_assignment, is_lowered_power}
 use Rattle.es_valid_steps.specs.PlaceRules.{place_breaks}
 use Rattle.es_valid_steps.proofs.Visits.{law_among_proof, law_places_proof}
 use Rattle.es_tree.specs.HasForm.{has_form}
 use Rattle.es_tree.specs.Fresh.{is_among}
 use Rattle.es_tree.specs.Names.{names_of}
-use Rattle.es_tree.specs.Options.{asks_for_unbuilt}
+use Rattle.es_tree.specs.Options.{asks_for_imported_helpers, asks_for_unbuilt}
 use Rattle.es_tree.specs.StaticRules.{breaks}
 use Rattle.es_tree.specs.Tree.{Tree, Label, Fields, done, ◌then◌, many, statements, label_of, tree_size, trees}
-use Rattle.es_tree.specs.Walks.{any_in_fields, any_in_trees}
+use Rattle.es_tree.specs.Walks.{any_in_trees, any_node}
 use Rattle.es_tree.specs.Words.{Text}
 use Rattle.es_tree.specs.declared.ast_type.AstType.{AstType}
 use Rattle.es_tree.specs.declared.options.EnvOptions.{EnvOptions}
@@ -59,17 +60,18 @@ use Rattle.es_starts.proofs.FirstTable.{law_first_of_table_proof}
 use Rattle.es_reached.specs.Reached.{built_rules}
 use Rattle.es_reached.proofs.Results.{law_core_result_proof, law_first_proof, law_result_proof}
 use Rattle.es_reached.proofs.BarePlaces.{law_bare_places_proof}
+use Rattle.es_reached.proofs.RestSteps.{law_no_rests_proof}
 use Rattle.es_reached.proofs.Sources.{law_bare_seen_proof, law_bare_source_proof}
 use Rattle.lower_temporaries.specs.Takings.{moment_of, pending_of}
 use Rattle.lower_temporaries.specs.declared.state.TransformState.{TransformState}
 use Rattle.lower_driver.specs.Copies.{IsCopy}
 use Rattle.lower_driver.specs.Lowers.{Lowers}
 use Rattle.lower_driver.specs.Visits.{visit_ending, visit_profile}
-use Rattle.lower_driver.proofs.BareConstructs.{same-constructs}
-use Rattle.lower_driver.proofs.CopiedOptions.{copied-enabled, copied-reached, copied-unbuilt}
+use Rattle.lower_driver.proofs.BareConstructs.{same-constructs, same-left}
+use Rattle.lower_driver.proofs.CopiedOptions.{copied-enabled, copied-left, copied-reached, copied-unbuilt}
 use Rattle.lower_driver.specs.Constructs.{is_lowered_construct, is_lowered_export}
 use Rattle.lower_driver.proofs.EitherTest.{none-of-trees}
-use Rattle.lower_driver.proofs.NoneLeft.{no-exports, none-enabled, none-written}
+use Rattle.lower_driver.proofs.NoneLeft.{no-exports, none-came, none-enabled, none-written}
 use Rattle.lower_driver.proofs.Settled.{tree-settled}
 
 -- THE FIRST MOMENT
@@ -136,7 +138,8 @@ by-options o n s x s' y (inr (inl a)) = inl (inr (inr (inl a)))
 by-options o n s x s' y (inr (inr (inl (inl b)))) = inl (inr (inr (inr (inl b))))
 by-options o n s x s' y (inr (inr (inl (inr never)))) = absurd never
 by-options o n s x s' y (inr (inr (inr (inl c)))) = inr (inl c)
-by-options o n s x s' y (inr (inr (inr (inr p)))) = inl (inr (inr (inr (inr p))))
+by-options o n s x s' y (inr (inr (inr (inr (inl r))))) = object-spread-under o n s x s' y r
+by-options o n s x s' y (inr (inr (inr (inr (inr p))))) = inl (inr (inr (inr (inr p))))
 
 -- and after the program
 whole-options : (o : EnvOptions) (n : Site) (s : Ledger) (x : Spot) (s' : Ledger) (y : Spot) → whole_rule (visit_profile o) (visit_ending o) n s x s' y → built_rules o n s x s' y
@@ -145,10 +148,11 @@ whole-options o n s x s' y (inr (inl never)) = absurd never
 whole-options o n s x s' y (inr (inr (inl never))) = absurd never
 whole-options o n s x s' y (inr (inr (inr (inl (inl (inl never)))))) = absurd never
 whole-options o n s x s' y (inr (inr (inr (inl (inl (inr never)))))) = absurd never
-whole-options o n s x s' y (inr (inr (inr (inl (inr (inl e)))))) = inr (inr e)
+whole-options o n s x s' y (inr (inr (inr (inl (inr (inl e)))))) = inr (inr (inl e))
 whole-options o n s x s' y (inr (inr (inr (inl (inr (inr w)))))) = inl (inl w)
 whole-options o n s x s' y (inr (inr (inr (inr (inl never))))) = absurd never
-whole-options o n s x s' y (inr (inr (inr (inr (inr never))))) = absurd never
+whole-options o n s x s' y (inr (inr (inr (inr (inr (inl never)))))) = absurd never
+whole-options o n s x s' y (inr (inr (inr (inr (inr (inr never)))))) = absurd never
 
 -- what is taken away there
 alone : (b : Bool) → (b || false) ≡ b
@@ -159,13 +163,16 @@ exports-alone : (o : EnvOptions) → (visit_ending o).constructs ≡ is_lowered_
 exports-alone o = λ i k l fs. alone (is_lowered_export o k l fs) i
 
 -- the constructs that the hooks of expressions and of catch clauses remove, together
-grouped : (a b c d e : Bool) → (a || b || c || e || d) ≡ ((false || (a || (((b || c) || false) || (false || d)))) || (false || (false || (((false || false) || false) || (e || false)))))
-grouped true b c d e = refl
-grouped false true c d e = refl
-grouped false false true d e = refl
-grouped false false false false e = refl
-grouped false false false true true = refl
-grouped false false false true false = refl
+grouped : (a b c s d e : Bool) → (a || b || c || e || s || d) ≡ ((false || (a || (((b || c) || false) || (false || (s || d))))) || (false || (false || (((false || false) || false) || (e || (false || false))))))
+grouped true b c s d e = refl
+grouped false true c s d e = refl
+grouped false false true s d e = refl
+grouped false false false true d true = refl
+grouped false false false true d false = refl
+grouped false false false false true true = refl
+grouped false false false false true false = refl
+grouped false false false false false true = refl
+grouped false false false false false false = refl
 
 -- STEPS
 
@@ -173,7 +180,7 @@ module _ (names : ℕ → Text → Option ℕ) where
   opened-there : (x : Program) (q : Pending) → q ≡ nothing_pending → open_program q (seen names (plain_program x)) ≡ opened (seen names (plain_program x))
   opened-there x q e = ap (λ (r : Pending). open_program r (seen names (plain_program x))) e
 
-module _ (c : EnvOptions) (p : Tree) (ctx ctx' : TraverseCtx TransformState) (x y : Program) (new : IsNew p pending_of ctx) (form : has_form s-Program p ≡ true) (right : breaks p ≡ []) (taken : first_unsupported c p ≡ None) (marked : plain_program x ≡ marked_program p) where
+module _ (c : EnvOptions) (p : Tree) (ctx ctx' : TraverseCtx TransformState) (x y : Program) (new : IsNew p pending_of ctx) (form : has_form s-Program p ≡ true) (right : breaks p ≡ []) (named : asks_for_imported_helpers c ≡ false) (taken : first_unsupported c p ≡ None) (marked : plain_program x ≡ marked_program p) where
   abbrev pub names : ℕ → Text → Option ℕ
   names = symbol_in (symbols_of p)
 
@@ -190,7 +197,7 @@ module _ (c : EnvOptions) (p : Tree) (ctx ctx' : TraverseCtx TransformState) (x 
   fits = subst (λ (t : Tree). Fits (moment_of ctx) the_program t) (sym there) (law_fits_proof p (moment_of ctx) form right begun)
 
   known : holds_after (core_conditions c) the_program (seen names (plain_program x))
-  known = subst (λ (t : Tree). holds_after (core_conditions c) the_program t) (sym there) (law_first_conditions_proof c p form right taken)
+  known = subst (λ (t : Tree). holds_after (core_conditions c) the_program t) (sym there) (law_first_conditions_proof c p named form right taken)
 
   visited-reached : VisitedProgram (visit_profile c) (visit_ending c) (moment_of ctx) (seen names (plain_program x)) (moment_of ctx') result → top (moment_of ctx').lists ≡ nothing_pending → Reached (built_rules c) p (first_whole p) (made_of ctx') result
   visited-reached visited finished =
@@ -223,12 +230,13 @@ module _ (c : EnvOptions) (p : Tree) (ctx ctx' : TraverseCtx TransformState) (x 
       let test : Hook → AstType → Label → Fields → Bool = (visit_profile c).constructs in
       let free : (h : Hook) → any_in_trees (test h) ts ≡ false = λ h. or_first (any_in_trees (test h) ts) false (visited.free start fits known h) in
       none-of-trees (test Expression) (test CatchClause) (is_lowered_construct c)
-      (λ k l fs. grouped (c.es2021.logical_assignment_operators && is_lowered_assignment k l fs) (c.es2020.nullish_coalescing_operator && is_nullish_coalescing k l fs) (c.es2020.optional_chaining && is_chain k l fs) (c.es2016.exponentiation_operator && is_lowered_power k l fs)
+      (λ k l fs. grouped (c.es2021.logical_assignment_operators && is_lowered_assignment k l fs) (c.es2020.nullish_coalescing_operator && is_nullish_coalescing k l fs) (c.es2020.optional_chaining && is_chain k l fs)
+      (is_some c.es2018.object_rest_spread && is_object_spread k l fs) (c.es2016.exponentiation_operator && is_lowered_power k l fs)
       (c.es2019.optional_catch_binding && is_optional_catch k l fs)) ts (free Expression) (free CatchClause)
 
   -- what is written has form and keeps the rules of places, so that no target is left that the lowerings don't take, and no export below the
   -- program's own list
-  none-left : asks_for_unbuilt c ≡ false → has_form s-Program (plain_program y) ≡ true → place_breaks (plain_program y) ≡ [] → VisitedProgram (visit_profile c) (visit_ending c) (moment_of ctx) (seen names (plain_program x)) (moment_of ctx') result → has_enabled_construct c (plain_program y) ≡ false
+  none-left : asks_for_unbuilt c ≡ false → has_form s-Program (plain_program y) ≡ true → place_breaks (plain_program y) ≡ [] → VisitedProgram (visit_profile c) (visit_ending c) (moment_of ctx) (seen names (plain_program x)) (moment_of ctx') result → has_enabled_construct c (plain_program y) ≡ has_unbuilt_construct c (plain_program y)
   none-left unbuilt form' kept visited =
       let lowered = none-written c (label_of (seen names (plain_program x))) (label_of result) (seen_among names (trees x.directives.items)) (seen_among names (trees y.directives.items)) (seen_among names (trees x.body.items)) (seen_among names (trees y.body.items)) formed visited.directives (free-there visited) in
       let form'' = sym (has_form-bare s-Program result) ∙ ap (has_form s-Program) written ∙ has_form-bare s-Program (plain_program y) ∙ form' in
@@ -236,7 +244,7 @@ module _ (c : EnvOptions) (p : Tree) (ctx ctx' : TraverseCtx TransformState) (x 
       let keeps = (law_places_proof result).to_places kept' in
       let start : top (moment_of ctx).lists ≡ nothing_pending = ap top begun.lists in
       let exports = no-exports c (label_of result) (many (seen_among names (trees y.directives.items))) (seen_among names (trees y.body.items)) form'' kept' (ap (λ test. any_listed test (statements (seen_among names (trees y.body.items)) then done)) (sym (exports-alone c)) ∙ visited.cleared start fits known) in
-      same-constructs c result (plain_program y) (sym written) ∙ none-enabled c unbuilt result (tree-settled c s-Program [] result form'' keeps lowered) exports
+      same-constructs c result (plain_program y) (sym written) ∙ none-enabled c unbuilt result (tree-settled c s-Program [] result form'' keeps lowered) exports ∙ same-left c (plain_program y) result written
 
   size-left : ctx.ast.next ≡ tree_size p → KeptVisited 0 (moment_of ctx) (plain_program x) (moment_of ctx') (plain_program y) → tree_size (plain_program y) ≤ 64 * tree_size p + 64
   size-left next kept =
@@ -248,14 +256,15 @@ module _ (c : EnvOptions) (p : Tree) (ctx ctx' : TraverseCtx TransformState) (x 
       omega (arith, h, l, w, s, m)
 
   -- by the context's own options, which are those of the run
-  pub lowers : (o : EnvOptions) → IsCopy o c → asks_for_unbuilt o ≡ false → has_enabled_construct o p ≡ true → ctx.ast.next ≡ tree_size p → KeptVisited 0 (moment_of ctx) (plain_program x) (moment_of ctx') (plain_program y) →
+  pub lowers : (o : EnvOptions) → IsCopy o c → asks_for_unbuilt o ≡ false → has_unbuilt_construct o p ≡ false → has_enabled_construct o p ≡ true → ctx.ast.next ≡ tree_size p → KeptVisited 0 (moment_of ctx) (plain_program x) (moment_of ctx') (plain_program y) →
       VisitedProgram (visit_profile c) (visit_ending c) (moment_of ctx) (seen names (plain_program x)) (moment_of ctx') result → top (moment_of ctx').lists ≡ nothing_pending → Lowers o p (plain_program y) (made_of ctx')
-  lowers o copy unbuilt some next kept visited finished =
+  lowers o copy unbuilt built some next kept visited finished =
       let reached = copied-reached o c copy p result (first_whole p) (made_of ctx') (visited-reached visited finished) in
       let becomes = law_result_proof o p (plain_program y) result (made_of ctx') form right reached written in
+      let rests = none-came (is_some o.es2018.object_rest_spread) (any_node is_object_rest p) (any_node is_object_rest result) (law_no_rests_proof o p result (made_of ctx') reached) built in
       record {
         result = becomes;
-        none = sym (copied-enabled o c copy (plain_program y)) ∙ none-left (copied-unbuilt o c copy ∙ unbuilt) becomes.form (law_among_proof (plain_program y) becomes.kept) visited;
+        none = sym (copied-enabled o c copy (plain_program y)) ∙ none-left (copied-unbuilt o c copy ∙ unbuilt) becomes.form (law_among_proof (plain_program y) becomes.kept) visited ∙ copied-left o c copy (plain_program y) ∙ sym (same-left o (plain_program y) result written) ∙ rests;
         core = λ core. law_core_result_proof o p (plain_program y) (made_of ctx') core right becomes;
         unchanged = λ none. absurd (true≢false (sym some ∙ none));
         size = size-left next kept;

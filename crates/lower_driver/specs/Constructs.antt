@@ -1,7 +1,7 @@
 -- The constructs that the built lowerings take away, where the options ask for them: of assignments those to a name or a member, maybe in
 -- parentheses.
-use Rattle.std.specs.Prelude.{Bool, ◌&&◌, ◌||◌}
-use Rattle.es_tree.specs.Constructs.{is_chain, is_exponentiation, is_logical_assignment, is_namespace_export, is_nullish_coalescing, is_optional_catch}
+use Rattle.std.specs.Prelude.{Bool, ◌&&◌, ◌||◌, is_some}
+use Rattle.es_tree.specs.Constructs.{is_chain, is_exponentiation, is_logical_assignment, is_namespace_export, is_nullish_coalescing, is_object_spread, is_optional_catch}
 use Rattle.es_tree.specs.Tree.{Label, Fields}
 use Rattle.es_tree.specs.declared.ast_type.AstType.{AstType}
 use Rattle.es_tree.specs.declared.options.EnvOptions.{EnvOptions}
@@ -13,6 +13,7 @@ is_lowered_construct o k l fs =
     || (o.es2020.nullish_coalescing_operator && is_nullish_coalescing k l fs)
     || (o.es2020.optional_chaining && is_chain k l fs)
     || (o.es2019.optional_catch_binding && is_optional_catch k l fs)
+    || (is_some o.es2018.object_rest_spread && is_object_spread k l fs)
     || (o.es2016.exponentiation_operator && is_lowered_power k l fs)
 
 -- the rows of the lowerings that are built, which the visit takes away
@@ -22,6 +23,7 @@ is_built_construct o k l fs =
     || (o.es2020.nullish_coalescing_operator && is_nullish_coalescing k l fs)
     || (o.es2020.optional_chaining && is_chain k l fs)
     || (o.es2019.optional_catch_binding && is_optional_catch k l fs)
+    || (is_some o.es2018.object_rest_spread && is_object_spread k l fs)
     || (o.es2016.exponentiation_operator && is_exponentiation k l fs)
 
 -- exports of a module's namespace, which are taken away after the visit

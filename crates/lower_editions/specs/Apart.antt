@@ -1,10 +1,10 @@
 -- No lowering makes, writes or brings about a construct that one before it takes away, and each counts on what those before it leave.
 use Rattle.std.proofs.Common.{◌≡◌, Bool, ap, inl, inr, refl, sym, true≢false}
-use Rattle.std.specs.Prelude.{true, false, ◌&&◌}
-use Rattle.es_tree.specs.Constructs.{is_chain, is_nullish_coalescing, is_optional_catch}
+use Rattle.std.specs.Prelude.{true, false, ◌&&◌, is_some}
+use Rattle.es_tree.specs.Constructs.{is_chain, is_nullish_coalescing, is_object_spread, is_optional_catch}
 use Rattle.es_tree.specs.Tree.{Tree, node, Label, Fields, fields_of, kind_of, label_of}
 use Rattle.es_tree.specs.declared.ast_type.AstType.{AstType}
-use Rattle.es_tree.specs.declared.ast_type.AstType.TheVariants.{AssignmentExpression, BinaryExpression, CallExpression, CatchClause, ChainExpression, ConditionalExpression, ExportAllDeclaration, LogicalExpression, SequenceExpression}
+use Rattle.es_tree.specs.declared.ast_type.AstType.TheVariants.{AssignmentExpression, BinaryExpression, CallExpression, CatchClause, ChainExpression, ConditionalExpression, ExportAllDeclaration, LogicalExpression, ObjectExpression, SequenceExpression}
 use Rattle.es_tree.specs.declared.options.EnvOptions.{EnvOptions}
 use Rattle.es_visit.specs.declared.hook.Hook.{Hook}
 use Rattle.es_visit.specs.declared.hook.Hook.TheVariants.{CatchClause as h-CatchClause, Expression}
@@ -25,11 +25,13 @@ use Rattle.lower_namespace_exports.specs.Apart.{ends_apart_from, is_export_all, 
 use Rattle.lower_namespace_exports.specs.Profile.{IsModuleNode, namespace_ending, namespace_profile}
 use Rattle.lower_nullish_coalescing.specs.Lawful.{coalescing_stable}
 use Rattle.lower_nullish_coalescing.specs.Profile.{nullish_coalescing_constructs, nullish_coalescing_profile}
+use Rattle.lower_object_spread.specs.Profile.{object_spread_profile}
 use Rattle.lower_optional_catch.specs.Lawful.{catch_stable}
 use Rattle.lower_optional_catch.specs.Profile.{IsWholeCatch, optional_catch_constructs, optional_catch_profile}
+use Rattle.lower_temporaries.specs.RowProfiles.{constructs_where}
 use Rattle.lower_writing.specs.Writing.{MayBeWritten, common_profile}
 use Rattle.lower_editions.specs.ApartTogether.{AreSeparate, apart, both_separate_from, separate_from_both}
-use Rattle.lower_editions.specs.Editions.{editions_ending, es2016_profile, es2019_profile, es2020_ending, es2020_profile, es2021_profile, expressions_profile, last_ending}
+use Rattle.lower_editions.specs.Editions.{editions_ending, es2016_profile, es2018_profile, es2019_profile, es2020_ending, es2020_profile, es2021_profile, expressions_profile, last_ending}
 
 -- WHAT IS MADE is none of these constructs, where they are on or not
 
@@ -79,9 +81,15 @@ written_power (node BinaryExpression l fs) w = absurd (true≢false (sym w))
 written_power (node AssignmentExpression l fs) w = absurd (true≢false (sym w))
 written_power (node _ l fs) w = refl
 
+none_where : (is : AstType → Label → Fields → Bool) (on : Bool) (h : Hook) (t : Tree) → is (kind_of t) (label_of t) (fields_of t) ≡ false → is_construct (constructs_where is on h) t ≡ false
+none_where is on Expression t e = rw e (off on)
+none_where is on _ t e = refl
+
 no_power : (on : Bool) (h : Hook) (t : Tree) → is_lowered_power (kind_of t) (label_of t) (fields_of t) ≡ false → is_construct (exponentiation_constructs on h) t ≡ false
-no_power on Expression t e = rw e (off on)
-no_power on _ t e = refl
+no_power = none_where is_lowered_power
+
+no_spread : (on : Bool) (h : Hook) (t : Tree) → is_object_spread (kind_of t) (label_of t) (fields_of t) ≡ false → is_construct (constructs_where is_object_spread on h) t ≡ false
+no_spread = none_where is_object_spread
 
 -- a clause with its parameter
 abbrev is_clause : AstType → Bool
@@ -121,10 +129,13 @@ written_no_export (node ExportAllDeclaration l fs) w = absurd (true≢false (sym
 written_no_export (node _ l fs) w = refl
 
 -- steps that make no node an exponentiation make none one that is to be lowered
+where_stable : (is : AstType → Label → Fields → Bool) (R : Site → Ledger → Spot → Ledger → Spot → Type 0) → IsStable R is → (on : Bool) (h : Hook) → IsStable R (constructs_where is on h)
+where_stable is R stable true Expression = stable
+where_stable is R stable false Expression = λ n s s' k l first fs gs stand r e. refl
+where_stable is R stable on _ = λ n s s' k l first fs gs stand r e. refl
+
 power_stable : (R : Site → Ledger → Spot → Ledger → Spot → Type 0) → IsStable R is_lowered_power → (on : Bool) (h : Hook) → IsStable R (exponentiation_constructs on h)
-power_stable R stable true Expression = stable
-power_stable R stable false Expression = λ n s s' k l first fs gs stand r e. refl
-power_stable R stable on _ = λ n s s' k l first fs gs stand r e. refl
+power_stable = where_stable is_lowered_power
 
 -- a chain is told by its kind alone
 chain_stable : (R : Site → Ledger → Spot → Ledger → Spot → Type 0) (o : EnvOptions) (h : Hook) → IsStable R (chain_constructs o h)
@@ -134,6 +145,38 @@ chain_stable R o Expression = λ n s s' k l first fs gs stand r e. kind_alone k 
     kind_alone ChainExpression l fs gs e = e
     kind_alone _ l fs gs e = e
 chain_stable R o _ = λ n s s' k l first fs gs stand r e. refl
+
+-- WHAT IS NO LITERAL: a literal is told by its kind first
+
+abbrev is_literal : AstType → Bool
+is_literal ObjectExpression = true
+is_literal _ = false
+
+no_literal : (t : Tree) → is_literal (kind_of t) ≡ false → is_object_spread (kind_of t) (label_of t) (fields_of t) ≡ false
+no_literal (node ObjectExpression l fs) e = absurd (cc e)
+no_literal (node _ l fs) e = refl
+
+raised_no_literal : (t : Tree) → IsCallOrAssignment t → is_literal (kind_of t) ≡ false
+raised_no_literal (node ObjectExpression l fs) e = absurd e
+raised_no_literal (node _ l fs) e = refl
+
+written_no_literal : (t : Tree) → MayBeWritten t → is_literal (kind_of t) ≡ false
+written_no_literal (node ObjectExpression l fs) w = absurd (true≢false (sym w))
+written_no_literal (node _ l fs) w = refl
+
+clause_no_literal : (t : Tree) → is_clause (kind_of t) ≡ true → is_literal (kind_of t) ≡ false
+clause_no_literal (node ObjectExpression l fs) e = absurd (true≢false (sym e))
+clause_no_literal (node _ l fs) e = refl
+
+module_no_literal : (t : Tree) → IsModuleNode t → is_literal (kind_of t) ≡ false
+module_no_literal (node ObjectExpression l fs) e = absurd (cc e)
+module_no_literal (node _ l fs) e = refl
+
+-- what stands in the place of one is a call
+called_plain : (t : Tree) → kind_of t ≡ CallExpression →
+    (is_nullish_coalescing (kind_of t) (label_of t) (fields_of t) ≡ false) × (is_chain (kind_of t) (label_of t) (fields_of t) ≡ false) × (is_lowered_assignment (kind_of t) (label_of t) (fields_of t) ≡ false) × (is_clause (kind_of t) ≡ false)
+called_plain (node CallExpression l fs) e = (refl, refl, refl, refl)
+called_plain (node _ l fs) e = absurd (cc e)
 
 -- THE PAIRS
 
@@ -149,6 +192,9 @@ module _ (o : EnvOptions) where
 
   abbrev on_power : Bool
   on_power = o.es2016.exponentiation_operator
+
+  abbrev on_spread : Bool
+  on_spread = is_some o.es2018.object_rest_spread
 
   abbrev on_catch : Bool
   on_catch = o.es2019.optional_catch_binding
@@ -294,6 +340,46 @@ module _ (o : EnvOptions) where
   common_exports : AreSeparate (common_profile o) (namespace_profile o)
   common_exports = before_exports (common_profile o) refl (λ h t w. refl)
 
+  -- OBJECT SPREAD, of which calls take the place
+
+  before_spreads : (p : Profile) → p.conditions ≡ core_conditions o → ((t : Tree) → p.writes t → is_literal (kind_of t) ≡ false) → ((h : Hook) (t : Tree) → kind_of t ≡ CallExpression → is_construct (p.constructs h) t ≡ false) → IsStable p.rule is_object_spread → ((h : Hook) → IsStable (object_spread_profile o).rule (p.constructs h)) →
+      AreSeparate p (object_spread_profile o)
+  before_spreads p same written plain stable own = record {
+    makes = plain;
+    first_writes = λ h t w. no_spread on_spread h t (no_literal t (written t w));
+    second_writes = λ h t w. absurd w;
+    first_stable = own;
+    second_stable = where_stable is_object_spread p.rule stable on_spread;
+    before = λ n t. ap (λ (c : Conditions). c.before n t) (sym same);
+    after = λ n t. ap (λ (c : Conditions). c.after n t) (sym same);
+  }
+
+  coalescing_spreads : AreSeparate (nullish_coalescing_profile o) (object_spread_profile o)
+  coalescing_spreads = before_spreads (nullish_coalescing_profile o) refl (λ t w. absurd w) (λ h t c. no_coalescing on_nullish h t (called_plain t c).0) rows.nullish_coalescing.object_spread (coalescing_stable (object_spread_profile o).rule rows.object_spread.nullish_coalescing on_nullish)
+
+  chains_spreads : AreSeparate (chain_profile o) (object_spread_profile o)
+  chains_spreads = before_spreads (chain_profile o) refl (λ t w. absurd w) (λ h t c. no_chain o h t (called_plain t c).1) rows.optional_chaining.object_spread (chain_stable (object_spread_profile o).rule o)
+
+  assignments_spreads : AreSeparate (logical_assignment_profile o) (object_spread_profile o)
+  assignments_spreads = before_spreads (logical_assignment_profile o) refl (λ t w. absurd w) (λ h t c. no_assignment on_logical h t (called_plain t c).2) rows.logical_assignment.object_spread (assignment_stable (object_spread_profile o).rule rows.object_spread.logical_assignment on_logical)
+
+  catches_spreads : AreSeparate (optional_catch_profile o) (object_spread_profile o)
+  catches_spreads = before_spreads (optional_catch_profile o) refl (λ t w. clause_no_literal t (clause_written t w)) (λ h t c. no_catch on_catch h t (called_plain t c).3) rows.optional_catch.object_spread (catch_stable (object_spread_profile o).rule rows.object_spread.optional_catch on_catch)
+
+  spreads_powers : AreSeparate (object_spread_profile o) (exponentiation_profile o)
+  spreads_powers = record {
+    makes = λ h t m. no_spread on_spread h t (no_literal t (raised_no_literal t m));
+    first_writes = λ h t w. absurd w;
+    second_writes = λ h t w. absurd w;
+    first_stable = where_stable is_object_spread (exponentiation_profile o).rule rows.exponentiation.object_spread on_spread;
+    second_stable = power_stable (object_spread_profile o).rule rows.object_spread.exponentiation on_power;
+    before = λ n t. refl;
+    after = λ n t. refl;
+  }
+
+  exports_spreads : AreSeparate (namespace_profile o) (object_spread_profile o)
+  exports_spreads = exports_before (object_spread_profile o) refl (λ h t w. no_spread on_spread h t (no_literal t (module_no_literal t w)))
+
   -- WHAT IS WRITTEN for lists and bodies is none of them
 
   common_from : (q : Profile) → q.conditions ≡ core_conditions o → ((h : Hook) (t : Tree) → MayBeWritten t → is_construct (q.constructs h) t ≡ false) → ((h : Hook) → IsStable (common_profile o).rule (q.constructs h)) → AreSeparate (common_profile o) q
@@ -322,6 +408,9 @@ module _ (o : EnvOptions) where
   common_catches : AreSeparate (common_profile o) (optional_catch_profile o)
   common_catches = common_from (optional_catch_profile o) refl (λ h t w. no_catch on_catch h t (written_no_clause t w)) (catch_stable (common_profile o).rule rows.writing.optional_catch on_catch)
 
+  common_spreads : AreSeparate (common_profile o) (object_spread_profile o)
+  common_spreads = common_from (object_spread_profile o) refl (λ h t w. no_spread on_spread h t (no_literal t (written_no_literal t w))) (where_stable is_object_spread (common_profile o).rule rows.writing.object_spread on_spread)
+
   -- TOGETHER
 
   pub expressions_apart : AreApart (nullish_coalescing_profile o) (chain_profile o)
@@ -334,22 +423,28 @@ module _ (o : EnvOptions) where
   before_es2020 : (p : Profile) → AreSeparate p (nullish_coalescing_profile o) → AreSeparate p (chain_profile o) → AreSeparate p (namespace_profile o) → AreSeparate p (es2020_profile o)
   before_es2020 p coalescing chains exports = separate_from_both p (expressions_profile o) (namespace_profile o) (separate_from_both p (nullish_coalescing_profile o) (chain_profile o) coalescing chains) exports
 
-  -- catch clauses and then exponentiations
-  abbrev last_profile : Profile
-  last_profile = both_profile (es2019_profile o) (es2016_profile o)
+  -- catch clauses, then object spread and then exponentiations
+  abbrev values_profile : Profile
+  values_profile = both_profile (es2018_profile o) (es2016_profile o)
 
-  pub last_apart : AreApart (es2019_profile o) (es2016_profile o)
-  last_apart = apart (es2019_profile o) (es2016_profile o) catches_powers (λ n t e. e)
+  pub values_apart : AreApart (es2018_profile o) (es2016_profile o)
+  values_apart = apart (es2018_profile o) (es2016_profile o) spreads_powers (λ n t e. e)
+
+  abbrev last_profile : Profile
+  last_profile = both_profile (es2019_profile o) values_profile
+
+  pub last_apart : AreApart (es2019_profile o) values_profile
+  last_apart = apart (es2019_profile o) values_profile (separate_from_both (es2019_profile o) (es2018_profile o) (es2016_profile o) catches_spreads catches_powers) (λ n t e. e)
 
   -- one type before these
-  before_last : (p : Profile) → AreSeparate p (optional_catch_profile o) → AreSeparate p (exponentiation_profile o) → AreSeparate p last_profile
-  before_last p catches powers = separate_from_both p (es2019_profile o) (es2016_profile o) catches powers
+  before_last : (p : Profile) → AreSeparate p (optional_catch_profile o) → AreSeparate p (object_spread_profile o) → AreSeparate p (exponentiation_profile o) → AreSeparate p last_profile
+  before_last p catches spreads powers = separate_from_both p (es2019_profile o) values_profile catches (separate_from_both p (es2018_profile o) (es2016_profile o) spreads powers)
 
   later_separate : AreSeparate (es2020_profile o) last_profile
   later_separate =
       both_separate_from (expressions_profile o) (namespace_profile o) last_profile
-      (both_separate_from (nullish_coalescing_profile o) (chain_profile o) last_profile (before_last (nullish_coalescing_profile o) coalescing_catches coalescing_powers) (before_last (chain_profile o) chains_catches chains_powers))
-      (before_last (namespace_profile o) exports_catches exports_powers)
+      (both_separate_from (nullish_coalescing_profile o) (chain_profile o) last_profile (before_last (nullish_coalescing_profile o) coalescing_catches coalescing_spreads coalescing_powers) (before_last (chain_profile o) chains_catches chains_spreads chains_powers))
+      (before_last (namespace_profile o) exports_catches exports_spreads exports_powers)
 
   pub later_apart : AreApart (es2020_profile o) last_profile
   later_apart = apart (es2020_profile o) last_profile later_separate (λ n t e. e)
@@ -357,14 +452,14 @@ module _ (o : EnvOptions) where
   pub editions_apart : AreApart (es2021_profile o) (both_profile (es2020_profile o) last_profile)
   editions_apart =
       apart (es2021_profile o) (both_profile (es2020_profile o) last_profile)
-      (separate_from_both (es2021_profile o) (es2020_profile o) last_profile (before_es2020 (es2021_profile o) assignments_coalescing assignments_chains assignments_exports) (before_last (es2021_profile o) assignments_catches assignments_powers)) (λ n t e. e)
+      (separate_from_both (es2021_profile o) (es2020_profile o) last_profile (before_es2020 (es2021_profile o) assignments_coalescing assignments_chains assignments_exports) (before_last (es2021_profile o) assignments_catches assignments_spreads assignments_powers)) (λ n t e. e)
 
   -- the type that writes comes before all
   pub all_apart : AreApart (common_profile o) (both_profile (es2021_profile o) (both_profile (es2020_profile o) last_profile))
   all_apart =
       apart (common_profile o) (both_profile (es2021_profile o) (both_profile (es2020_profile o) last_profile))
       (separate_from_both (common_profile o) (es2021_profile o) (both_profile (es2020_profile o) last_profile) common_assignments
-      (separate_from_both (common_profile o) (es2020_profile o) last_profile (before_es2020 (common_profile o) common_coalescing common_chains common_exports) (before_last (common_profile o) common_catches common_powers))) (λ n t e. e)
+      (separate_from_both (common_profile o) (es2020_profile o) last_profile (before_es2020 (common_profile o) common_coalescing common_chains common_exports) (before_last (common_profile o) common_catches common_spreads common_powers))) (λ n t e. e)
 
   -- AFTER THE PROGRAM: what a type writes, one that acted there before it doesn't take away
 
@@ -380,11 +475,14 @@ module _ (o : EnvOptions) where
   pub es2020_end : EndsApart (expressions_profile o) (namespace_ending o)
   es2020_end t w = elim w [ inl i ↦ absurd i | inr j ↦ absurd j ]
 
-  pub last_end : EndsApart (es2019_profile o) no_ending
-  last_end = ends_none (es2019_profile o)
+  pub values_end : EndsApart (es2018_profile o) no_ending
+  values_end = ends_none (es2018_profile o)
+
+  pub last_end : EndsApart (es2019_profile o) (both_endings no_ending no_ending)
+  last_end t w = refl
 
   pub later_end : EndsApart (es2020_profile o) last_ending
-  later_end = ends_both (es2020_profile o) no_ending no_ending (ends_none (es2020_profile o)) (ends_none (es2020_profile o))
+  later_end t w = refl
 
   pub editions_end : EndsApart (es2021_profile o) (both_endings (es2020_ending o) last_ending)
   editions_end t w = absurd w

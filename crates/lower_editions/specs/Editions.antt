@@ -6,6 +6,7 @@ use Rattle.lower_exponentiation.specs.Profile.{exponentiation_profile}
 use Rattle.lower_logical_assignment.specs.Profile.{logical_assignment_profile}
 use Rattle.lower_namespace_exports.specs.Profile.{namespace_ending, namespace_profile}
 use Rattle.lower_nullish_coalescing.specs.Profile.{nullish_coalescing_profile}
+use Rattle.lower_object_spread.specs.Profile.{object_spread_profile}
 use Rattle.lower_optional_catch.specs.Profile.{optional_catch_profile}
 
 -- nullish coalescing and then optional chaining
@@ -22,6 +23,9 @@ es2021_profile o = logical_assignment_profile o
 abbrev pub es2016_profile : EnvOptions → Profile
 es2016_profile o = exponentiation_profile o
 
+abbrev pub es2018_profile : EnvOptions → Profile
+es2018_profile o = object_spread_profile o
+
 abbrev pub es2019_profile : EnvOptions → Profile
 es2019_profile o = optional_catch_profile o
 
@@ -30,9 +34,9 @@ es2019_profile o = optional_catch_profile o
 abbrev pub es2020_ending : EnvOptions → Ending
 es2020_ending o = both_endings (both_endings no_ending no_ending) (namespace_ending o)
 
--- of the others, which do nothing there, catch clauses and then exponentiation
+-- of the others, which do nothing there: catch clauses, then object spread and then exponentiation
 abbrev pub last_ending : Ending
-last_ending = both_endings no_ending no_ending
+last_ending = both_endings no_ending (both_endings no_ending no_ending)
 
 -- of all
 abbrev pub editions_ending : EnvOptions → Ending

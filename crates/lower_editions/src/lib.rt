@@ -2,6 +2,7 @@
 #![tactic(auto)]
 
 pub mod es2016;
+pub mod es2018;
 pub mod es2019;
 pub mod es2020;
 pub mod es2021;

@@ -7,7 +7,7 @@ use Rattle.es_tree.specs.Constructs.{field_at, is_logical_assignment, is_private
 use Rattle.es_tree.specs.HasForm.{fields_form, flag_of, has_form, is_computed, sort_at}
 use Rattle.es_tree.specs.Names.{first_text}
 use Rattle.es_tree.specs.Parens.{without_parens}
-use Rattle.es_tree.specs.Tree.{Tree, node, Label, Fields, ◌then◌, one, fields_of, kind_of}
+use Rattle.es_tree.specs.Tree.{Tree, node, Label, Fields, ◌then◌, fields_of, kind_of}
 use Rattle.es_tree.specs.Words.{Text}
 use Rattle.es_tree.specs.declared.ast_type.AstType.TheVariants.{AssignmentExpression, Identifier, MemberExpression, PrivateIdentifier}
 use Rattle.es_tree.specs.declared.table.FieldName.TheVariants.{Computed as f-Computed}

@@ -1,6 +1,6 @@
 -- What the hook leaves: a `catch` that got a parameter, or a node that lacks none.
 use Rattle.std.proofs.Common.{◌≡◌, ◌∙◌, ℕ, zero, suc, Bool, true, false, refl, sym, ap, subst, length, arith, [], ◌∷◌, inl, inr, Option, None, codes}
-use Rattle.std.specs.Prelude.{◌&&◌, bytes_eq}
+use Rattle.std.specs.Prelude.{◌&&◌}
 use Rattle.es_tree.specs.Fresh.{IsFreshName, candidate}
 use Rattle.es_tree.specs.HasForm.{has_form}
 use Rattle.es_tree.specs.Tree.{Tree, Label, missing, one, fields_of, kind_of, label_of, tree_size}
@@ -20,6 +20,7 @@ use Rattle.es_steps.specs.Steps.Step.{acts}
 use Rattle.es_steps.specs.Steps.Steps.{goes, stays}
 use Rattle.es_visit.specs.declared.hook.Hook.TheVariants.{CatchClause}
 use Rattle.es_changes.specs.Changes.{lists_size, lists_weight}
+use Rattle.es_changes.specs.Rules.{is_asked_for}
 use Rattle.es_changes.specs.Moments.{Moment, below, ledger_at, top, whole_at}
 use Rattle.es_conditions.specs.Laws.{catching}
 use Rattle.es_conditions.proofs.Catches.{law_catch_proof}
@@ -42,10 +43,10 @@ IsLowerable t = is_lowerable_catch (kind_of t) (label_of t) (fields_of t) ≡ tr
 -- A PARAMETER WAS SET
 
 -- a fresh name begins with an underscore
-not-math : (in_use : Text → Bool) (x : Text) → IsFreshName in_use (codes "unused") x → bytes_eq x (codes "Math") ≡ false
-not-math in_use x f = ap (λ y. bytes_eq y (codes "Math")) f.name ∙ at f.number
+not-asked-for : (in_use : Text → Bool) (x : Text) → IsFreshName in_use (codes "unused") x → is_asked_for x ≡ false
+not-asked-for in_use x f = ap is_asked_for f.name ∙ at f.number
   where
-    at : (n : ℕ) → bytes_eq (candidate (codes "unused") n) (codes "Math") ≡ false
+    at : (n : ℕ) → is_asked_for (candidate (codes "unused") n) ≡ false
     at zero = refl
     at (suc n) = refl
 
@@ -66,7 +67,7 @@ module _ (o : EnvOptions) (on : o.es2019.optional_catch_binding ≡ true) (a b :
       let u = catching m (one (identifier x)) body in
       record {
         stepped = λ n w f known. goes (step m body x n next k) stays;
-        left = λ n w f known. law_catch_proof o n m body x (not-math a.in_use x.name next.fresh) known;
+        left = λ n w f known. law_catch_proof o n m body x (not-asked-for a.in_use x.name next.fresh) known;
         cleared = λ n w f known. ap (λ v. v && false) on;
         body = refl;
         order = inr (record { kind = refl; whole = refl });

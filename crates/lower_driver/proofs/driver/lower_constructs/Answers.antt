@@ -15,7 +15,8 @@ use Rattle.es_starts.proofs.BoundNames.{law_binds_names_proof}
 use Rattle.es_unsupported.specs.FirstUnsupported.{first_unsupported}
 use Rattle.lower_temporaries.specs.Takings.{pending_of}
 use Rattle.lower_driver.specs.Lowers.{Lowers}
-use Rattle.lower_driver.proofs.CopiedOptions.{copied-unsupported}
+use Rattle.lower_driver.proofs.CopiedOptions.{copied-unbuilt, copied-unsupported}
+use Rattle.lower_driver.proofs.NoneLeft.{helpers-named}
 use Rattle.lower_driver.proofs.OpenedProgram.{program_opens}
 use Rattle.lower_driver.proofs.Visits.{first-room, lowers, marked-form, new-context}
 use Rattle.lower_driver.proofs.driver.lower_constructs.Goals as goal
@@ -55,6 +56,8 @@ returns-clause-lowers c =
     let v = c.in_ok-visit.ensures in
     let new : IsNew p pending_of ctx = new-context p c.build_scoping.new.program c.in_ok-scoping.scoping ctx c.in_ok-scoping.ensures.marks c.in_ok-scoping.ensures.table e.place e.in_use e.none_made e.pending e.table in
     let taken : first_unsupported ctx.options p ≡ None = copied-unsupported o ctx.options e.options p ∙ sym (c.in_default.ensures.first p (record { marks = c.in_ok-scoping.ensures.marks; table = c.in_ok-scoping.ensures.table })) in
+    let unbuilt = no_fault o c.requires.carried NotBuilt in
+    let named = helpers-named ctx.options (copied-unbuilt o ctx.options e.options ∙ unbuilt) in
     let made : Lowers o p (plain_program y) (made_of after) =
-    lowers ctx.options p ctx after c.open-program.result y new c.requires.form c.requires.kept taken (c.open-program.ensures ∙ c.in_ok-scoping.ensures.marks) o e.options (no_fault o c.requires.carried NotBuilt) c.requires.some (ap (λ (a : AstBuilder). a.next) e.ast ∙ c.requires.next) v.kept (v.visited (symbol_in (symbols_of p))) v.finished in
+    lowers ctx.options p ctx after c.open-program.result y new c.requires.form c.requires.kept named taken (c.open-program.ensures ∙ c.in_ok-scoping.ensures.marks) o e.options unbuilt c.requires.built c.requires.some (ap (λ (a : AstBuilder). a.next) e.ast ∙ c.requires.next) v.kept (v.visited (symbol_in (symbols_of p))) v.finished in
     subst (λ (names : List Text). Lowers o p c.in_ok-program.program names) (sym c.into_uids.ensures) (subst (λ (t : Tree). Lowers o p t (made_of after)) (sym c.in_ok-program.ensures) made)

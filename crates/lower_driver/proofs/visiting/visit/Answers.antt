@@ -1,7 +1,13 @@
 use Rattle.std.proofs.Common.{refl, true≢false}
 use Rattle.es_conditions.proofs.Inward.{law_conditions_proof}
-use Rattle.lower_editions.specs.Apart.{all_apart, all_end, editions_apart, editions_end, last_apart, last_end, later_apart, later_end}
+use Rattle.lower_editions.specs.Apart.{all_apart, all_end, editions_apart, editions_end, last_apart, last_end, later_apart, later_end, values_apart, values_end}
 use Rattle.lower_driver.proofs.visiting.visit.Goals as goal
+
+pub new-values-requires-clause-apart : goal.new-values-requires-clause-apart
+new-values-requires-clause-apart c = values_apart
+
+pub new-values-requires-clause-ends : goal.new-values-requires-clause-ends
+new-values-requires-clause-ends c = values_end
 
 pub new-last-requires-clause-apart : goal.new-last-requires-clause-apart
 new-last-requires-clause-apart c = last_apart

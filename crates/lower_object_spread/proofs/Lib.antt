@@ -1,0 +1,4 @@
+pub mod Literals
+pub mod Copying
+pub mod Rows
+pub mod Hook

@@ -1,0 +1,4 @@
+pub mod Literals
+pub mod Copying
+pub mod Profile
+pub mod Lawful
