@@ -8,6 +8,16 @@ import { fileURLToPath } from 'node:url';
 const TOP = fileURLToPath(new URL('../../../', import.meta.url));
 const TOOL = path.join(TOP, 'crates/lower_tool/out/lower_tool');
 const LOWERINGS = ['--nullish', '--chaining', '--logical', '--exponentiation', '--catch', '--namespace'];
+const SPREAD = ['--rest-spread', '--helpers=external'];
+
+/** All lowerings that are built, but for that of spreads where a pattern with a rest stands, which isn't taken with it. */
+function wordsFor(tree) { return hasObjectRest(JSON.parse(tree)) ? LOWERINGS : [...LOWERINGS, ...SPREAD]; }
+
+function hasObjectRest(value) {
+  if (typeof value !== 'object' || value === null) return false;
+  const isRest = value.type === 'ObjectPattern' && value.properties.some(({ type }) => type === 'RestElement');
+  return isRest || Object.values(value).some(hasObjectRest);
+}
 
 /** Of each tree's text the tool's status, its standard output and its line of errors; `tool` is another program to take for it. */
 export function lowerAll(trees, { isUnproved, tool }) {
@@ -19,17 +29,29 @@ export function lowerAll(trees, { isUnproved, tool }) {
 }
 
 function lowerBy(tool, input) {
-  const { status, signal, error, stdout, stderr } = spawnSync(tool, LOWERINGS, { input, encoding: 'utf8', maxBuffer: Infinity });
+  const { status, signal, error, stdout, stderr } = spawnSync(tool, wordsFor(input), { input, encoding: 'utf8', maxBuffer: Infinity });
   if (error && error.code !== 'EPIPE') throw new Error(`the tool ${tool} can't be started: ${error.message}`);
   return { status: status ?? signal, stdout: stdout.trim(), stderr: stderr.trim() };
 }
 
-/** `rt try --cases` builds the program once, and runs it once for each file of a folder. */
+/** The trees in a batch for each list of words. */
 function lowerUnproved(trees) {
+  const words = trees.map(wordsFor);
+  const ran = new Array(trees.length);
+  for (const key of new Set(words.map(String))) {
+    const indices = trees.flatMap((_, index) => (String(words[index]) === key ? [index] : []));
+    const batch = lowerBatch(indices.map(index => trees[index]), words[indices[0]]);
+    batch.forEach((run, number) => { ran[indices[number]] = run; });
+  }
+  return ran;
+}
+
+/** `rt try --cases` builds the program once, and runs it once for each file of a folder. */
+function lowerBatch(trees, lowerings) {
   const folder = fs.mkdtempSync(path.join(os.tmpdir(), 'valid-'));
   try {
     trees.forEach((tree, index) => fs.writeFileSync(path.join(folder, `case${index}`), tree));
-    const words = ['-c', 'exec rt try --cases "$@" 2>&1', 'rt', folder, '--', ...LOWERINGS];
+    const words = ['-c', 'exec rt try --cases "$@" 2>&1', 'rt', folder, '--', ...lowerings];
     const { stdout } = spawnSync('bash', words, { cwd: path.join(TOP, 'crates/lower_tool'), encoding: 'utf8', maxBuffer: Infinity });
     const runs = casesOf(stdout);
     if (runs.size !== trees.length) throw new Error(`rt try ran ${runs.size} of ${trees.length} trees:\n${stdout.slice(-2000)}`);
