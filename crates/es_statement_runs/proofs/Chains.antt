@@ -139,7 +139,7 @@ module _ (xs : List Text) (body after : Trees) (tops : top_in after ≡ top_in b
       (λ y e. set_here (bytes_eq y turns_cell) n (holds undefined) (cells_of (top_in (vars_before xs after)) y) (vars_cells xs after y ∙ (rw e refl)))
       (λ y e. cc)
 
-temporaries_apart : (xs : List Text) → are_program_names xs ≡ true → (y : Text) → is_own_cell y ≡ true → among_names xs y ≡ false
+pub temporaries_apart : (xs : List Text) → are_program_names xs ≡ true → (y : Text) → is_own_cell y ≡ true → among_names xs y ≡ false
 temporaries_apart [] h y e = refl
 temporaries_apart (x ∷ xs) h y e = let k = first_apart (is_own_cell x) (are_program_names xs) h in (rw (own_apart x y k.0 e) (temporaries_apart xs k.1 y e))
 

@@ -3,7 +3,7 @@ use Rattle.std.proofs.Common.{◌≡◌, refl, List, [], ◌∷◌}
 use Rattle.std.specs.Prelude.{ℕ, zero, suc, Bool, true, false, not, ◌&&◌, ◌||◌, Option, if◌then◌else◌}
 use Rattle.es_tree.specs.Words.{Text}
 use Rattle.es_tree.specs.Scopes.{Declared}
-use Rattle.es_tree.specs.Tree.{Tree, node, Fields, done, ◌then◌, Field, missing, one, many, statements, Trees, empty, ◌before◌}
+use Rattle.es_tree.specs.Tree.{Tree, node, Label, Fields, done, ◌then◌, Field, missing, one, many, statements, Trees, empty, ◌before◌}
 use Rattle.es_tree.specs.declared.ast_type.AstType.{AstType}
 use Rattle.es_tree.specs.declared.ast_type.AstType.TheVariants.{BlockStatement, ForStatement, ForInStatement, ForOfStatement, CatchClause, SwitchStatement, LabeledStatement, VariableDeclaration}
 use Rattle.es_runs.specs.Core.{World}
@@ -45,7 +45,7 @@ module _ (F : Frame) (quiet : Quiet F) (stack : StackSeen F) (bad : Level → Te
   pub data PlaceLike : Place → Place → Type 0 where
     place_like : {w v : World} {ls : List Text} {x : Text} → SameWorld F.hidden w v → Known w v → PlaceLike (placed_at o w ls x) (placed_at o v ls x)
 
-  inside_like : (w v : World) (ls : List Text) (x : Text) → SameWorld F.hidden w v → Known w v → (k : AstType) (ts : List (Option Text)) (ds : List Declared) (vs : List Text) (i : ℕ) → all_good bad (names_of_all ds) ≡ true → PlaceLike (inside (placed_at o w ls x) k ts ds vs i) (inside (placed_at o v ls x) k ts ds vs i)
+  pub inside_like : (w v : World) (ls : List Text) (x : Text) → SameWorld F.hidden w v → Known w v → (k : AstType) (ts : List (Option Text)) (ds : List Declared) (vs : List Text) (i : ℕ) → all_good bad (names_of_all ds) ≡ true → PlaceLike (inside (placed_at o w ls x) k ts ds vs i) (inside (placed_at o v ls x) k ts ds vs i)
   inside_like w v ls x same e BlockStatement ts ds vs i vis = place_like (inner_same F quiet ds w v same) (kept ds vis w v e)
   inside_like w v ls x same e ForStatement ts ds vs i vis = place_like (inner_same F quiet ds w v same) (kept ds vis w v e)
   inside_like w v ls x same e ForInStatement ts ds vs i vis = place_like (inner_same F quiet ds w v same) (kept ds vis w v e)
@@ -64,14 +64,23 @@ module _ (F : Frame) (quiet : Quiet F) (stack : StackSeen F) (bad : Level → Te
         SenseLike F w v t (from_portions (placed_at o w ls x) k ts fs ds b vs xs) (from_portions (placed_at o v ls x) k us gs es d ws (ys us es ws))
     said_alike t w v same ls x k ts us fs gs ds es b d vs ws xs ys h1 h2 h3 h4 h5 h = rw (h1, h2, h3, h4, h5) h
 
+    -- a node is alike where its fields are
+    pub within_like : (t : Take) (k : AstType) (l m : Label) (fs gs : Fields) (w v : World) → SameWorld F.hidden w v → (ls : List Text) (x : Text) → is_bad bad t.need.level k l.texts ≡ false → m.texts ≡ l.texts → m.flags ≡ l.flags →
+        own_names k gs ≡ own_names k fs → own_use k gs ≡ own_use k fs → label_in k gs ≡ label_in k fs → all_good bad (names_of_all (own_names k fs)) ≡ true →
+        PortionsLike F (λ i. (inside (placed_at o w ls x) k l.texts (own_names k fs) (label_in k fs) i).world) (λ i. (inside (placed_at o v ls x) k l.texts (own_names k fs) (label_in k fs) i).world) (takes_of t k l.texts l.flags)
+        (portions (inside (placed_at o w ls x) k l.texts (own_names k fs) (label_in k fs)) fs) (portions (inside (placed_at o v ls x) k l.texts (own_names k fs) (label_in k fs)) gs) →
+        SenseLike F w v t (sense (placed_at o w ls x) (node k l fs)) (sense (placed_at o v ls x) (node k m gs))
+    within_like t k l m fs gs w v same ls x st e1 e2 e3 e4 e5 vis h =
+        said_alike t w v same ls x k l.texts m.texts l.flags m.flags (own_names k fs) (own_names k gs) (own_use k fs) (own_use k gs) (label_in k fs) (label_in k gs)
+        (portions (inside (placed_at o w ls x) k l.texts (own_names k fs) (label_in k fs)) fs) (λ us es ws. portions (inside (placed_at o v ls x) k us es ws) gs) e1 e2 e3 e4 e5
+        (kind_close F quiet bad below o told t w v same ls x k l.texts l.flags (own_names k fs) (own_use k fs) (label_in k fs) (λ _. stack) (λ _. stack) st (visible_good F bad below (names_of_all (own_names k fs)) vis) h)
+
     mutual
       pub close_like : {t : Take} {a b : Tree} → Close bad R t a b → {p q : Place} → PlaceLike p q → SenseLike F p.world q.world t (sense p a) (sense q b)
       close_like (placed {t = t} {a = a} {b = b} r) (place_like {w = w} {v = v} {ls = ls} {x = x} same e) = base t a b r w v same e ls x
       close_like (within {t = t} {k = k} {l = l} {m = m} {fs = fs} {gs = gs} st e1 e2 e3 e4 e5 vis h) (place_like {w = w} {v = v} {ls = ls} {x = x} same e) =
-          said_alike t w v same ls x k l.texts m.texts l.flags m.flags (own_names k fs) (own_names k gs) (own_use k fs) (own_use k gs) (label_in k fs) (label_in k gs)
-          (portions (inside (placed_at o w ls x) k l.texts (own_names k fs) (label_in k fs)) fs) (λ us es ws. portions (inside (placed_at o v ls x) k us es ws) gs) e1 e2 e3 e4 e5
-          (kind_close F quiet bad below o told t w v same ls x k l.texts l.flags (own_names k fs) (own_use k fs) (label_in k fs) (λ _. stack) (λ _. stack) st (visible_good F bad below (names_of_all (own_names k fs)) vis)
-          (close_portions h (λ i. inside (placed_at o w ls x) k l.texts (own_names k fs) (label_in k fs) i) (λ i. inside (placed_at o v ls x) k l.texts (own_names k fs) (label_in k fs) i) (λ i. inside_like w v ls x same e k l.texts (own_names k fs) (label_in k fs) i vis)))
+          within_like t k l m fs gs w v same ls x st e1 e2 e3 e4 e5 vis
+          (close_portions h (λ i. inside (placed_at o w ls x) k l.texts (own_names k fs) (label_in k fs) i) (λ i. inside (placed_at o v ls x) k l.texts (own_names k fs) (label_in k fs) i) (λ i. inside_like w v ls x same e k l.texts (own_names k fs) (label_in k fs) i vis))
 
       pub close_portions : {g : ℕ → Take} {fs gs : Fields} → CloseFields bad R g fs gs → (at bt : ℕ → Place) → ((i : ℕ) → PlaceLike (at i) (bt i)) → PortionsLike F (λ i. (at i).world) (λ i. (bt i).world) g (portions at fs) (portions bt gs)
       close_portions close_done at bt h = no_portion
@@ -89,15 +98,15 @@ module _ (F : Frame) (quiet : Quiet F) (stack : StackSeen F) (bad : Level → Te
 
 -- A TREE THAT AVOIDS WHAT IS BAD IS CLOSE TO ITSELF
 
-both_left : (a b : Bool) → a && b ≡ true → a ≡ true
+pub both_left : (a b : Bool) → a && b ≡ true → a ≡ true
 both_left true b h = refl
 both_left false b h = absurd (cc h)
 
-both_right : (a b : Bool) → a && b ≡ true → b ≡ true
+pub both_right : (a b : Bool) → a && b ≡ true → b ≡ true
 both_right true b h = h
 both_right false b h = absurd (cc h)
 
-not_so : (a : Bool) → not a ≡ true → a ≡ false
+pub not_so : (a : Bool) → not a ≡ true → a ≡ false
 not_so true h = absurd (cc h)
 not_so false h = refl
 

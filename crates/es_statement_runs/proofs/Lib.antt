@@ -34,6 +34,10 @@ pub mod CatchPatterns
 pub mod Heads
 pub mod Later
 pub mod ScopedRows
+pub mod BareVars
+pub mod Temporaries
+pub mod NamespaceExports
+pub mod VarInstances
 pub mod ObjectRests
 pub mod RestInstances
 pub mod ValidRules

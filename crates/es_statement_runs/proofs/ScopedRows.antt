@@ -11,13 +11,13 @@ use Rattle.es_runs.specs.Core.{World}
 use Rattle.es_runs.specs.Alike.{Frame, SameWorld, Level, bad_names}
 use Rattle.es_statement_runs.specs.Alike.{Told, Quiet, StackSeen, SenseLike}
 use Rattle.es_statement_runs.specs.Helpers.{Supply}
-use Rattle.es_statement_runs.specs.Names.{own_names, own_use, names_of_all}
-use Rattle.es_statement_runs.specs.Kinds.{sense, portions, inside, label_in}
+use Rattle.es_statement_runs.specs.Names.{own_names, names_of_all}
+use Rattle.es_statement_runs.specs.Kinds.{sense, inside, label_in}
 use Rattle.es_statement_runs.specs.Places.{InScope, Take, all_good, owns_scope, placed_at}
 use Rattle.es_statement_runs.specs.Places.InScope.{at_once, below_scope}
-use Rattle.es_statement_runs.proofs.Everywhere.{PlaceLike, close_portions, said_alike, visible_good}
+use Rattle.es_statement_runs.proofs.Everywhere.{PlaceLike, close_portions, within_like}
 use Rattle.es_statement_runs.proofs.Everywhere.PlaceLike.{place_like}
-use Rattle.es_statement_runs.proofs.KindsAlike.{kind_close, inner_same, inner}
+use Rattle.es_statement_runs.proofs.KindsAlike.{inner_same, inner}
 
 module _ (F : Frame) (quiet : Quiet F) (stack : StackSeen F) (bad : Level → Text → Bool) (below : (n : Level) (x : Text) → bad n x ≡ false → bad_names F.hidden F.frozen n x ≡ false) (o : Supply) (told : Told F bad o)
     (Known : List Declared → World → World → Type 0) (kept : (es ds : List Declared) → all_good bad (names_of_all ds) ≡ true → (w v : World) → Known es w v → Known es (inner w ds) (inner v ds))
@@ -36,8 +36,6 @@ module _ (F : Frame) (quiet : Quiet F) (stack : StackSeen F) (bad : Level → Te
   scoped_like R base ds t a b (at_once h) w v same k ls x = base ds t a b h w v same k ls x
   scoped_like R base ds t _ _ (below_scope {k = k} {l = l} {m = m} {fs = fs} {gs = gs} owns st e1 e2 e3 e4 e5 good h) w v same known ls x =
       let es = own_names k fs in
-      said_alike F quiet stack bad below o told (Known (es ++ ds)) (kept (es ++ ds)) (R (es ++ ds)) (base (es ++ ds)) t w v same ls x k l.texts m.texts l.flags m.flags es (own_names k gs) (own_use k fs) (own_use k gs) (label_in k fs) (label_in k gs)
-      (portions (inside (placed_at o w ls x) k l.texts es (label_in k fs)) fs) (λ us ns ws. portions (inside (placed_at o v ls x) k us ns ws) gs) e1 e2 e3 e4 e5
-      (kind_close F quiet bad below o told t w v same ls x k l.texts l.flags es (own_use k fs) (label_in k fs) (λ _. stack) (λ _. stack) st (visible_good F bad below (names_of_all es) good)
+      within_like F quiet stack bad below o told (Known (es ++ ds)) (kept (es ++ ds)) (R (es ++ ds)) (base (es ++ ds)) t k l m fs gs w v same ls x st e1 e2 e3 e4 e5 good
       (close_portions F quiet stack bad below o told (Known (es ++ ds)) (kept (es ++ ds)) (R (es ++ ds)) (base (es ++ ds)) h (inside (placed_at o w ls x) k l.texts es (label_in k fs)) (inside (placed_at o v ls x) k l.texts es (label_in k fs))
-      (λ i. inside_scope ds w v ls x same known k owns l.texts es (label_in k fs) i good)))
+      (λ i. inside_scope ds w v ls x same known k owns l.texts es (label_in k fs) i good))

@@ -5,7 +5,7 @@ use Rattle.es_tree.specs.Words.{Text}
 use Rattle.es_tree.specs.Core.{is_core}
 use Rattle.es_tree.specs.Scopes.{declared_of, Declared}
 use Rattle.es_tree.specs.Tree.{Tree, node, Trees, Label, done, ◌then◌, one, ◌before◌, Fields, Field, statements, many, empty, missing, kind_of}
-use Rattle.es_tree.specs.declared.ast_type.AstType.TheVariants.{LogicalExpression, AssignmentExpression, BinaryExpression, Identifier, CatchClause, ObjectExpression, SpreadElement, CallExpression, ObjectPattern, ExpressionStatement, BlockStatement, VariableDeclaration, VariableDeclarator, TryStatement, ForInStatement, ForOfStatement, StringLiteral, NumericLiteral, BigIntLiteral, PatternProperty, RestElement, ArrayExpression, SequenceExpression}
+use Rattle.es_tree.specs.declared.ast_type.AstType.TheVariants.{LogicalExpression, AssignmentExpression, BinaryExpression, Identifier, CatchClause, ObjectExpression, SpreadElement, CallExpression, ObjectPattern, ExpressionStatement, BlockStatement, VariableDeclaration, VariableDeclarator, TryStatement, ForInStatement, ForOfStatement, StringLiteral, NumericLiteral, BigIntLiteral, PatternProperty, RestElement, ArrayExpression, SequenceExpression, ImportDeclaration, ImportNamespaceSpecifier, ExportNamedDeclaration, ExportSpecifier, ExportAllDeclaration}
 use Rattle.es_tree.specs.declared.ast_type.AstType.{AstType}
 use Rattle.es_tree.specs.Fresh.{is_among}
 use Rattle.es_tree.specs.Names.{first_text, flag_at}
@@ -26,14 +26,15 @@ use Rattle.es_statement_runs.specs.Programs.{IsStatementProgram, is_without_func
 use Rattle.es_statement_runs.specs.Helpers.{helper_names, entry, silent_names, Supply}
 use Rattle.es_statement_runs.specs.Helpers.Supply.{no_helpers, by_global}
 use Rattle.es_statement_runs.specs.Scopes.{are_program_names, is_own_cell, turns_cell, stack_cell}
-use Rattle.es_statement_runs.specs.Places.{InScope, placed_at, HelpersSeen, all_good, target_taken, bad_anywhere, SupplySeen, Take, take, value_taken, quiet_at, Close, CloseTrees, avoids, avoids_trees}
+use Rattle.es_statement_runs.specs.Places.{InScope, placed_at, HelpersSeen, all_good, label_taken, target_taken, bad_anywhere, SupplySeen, Take, take, value_taken, quiet_at, Close, CloseTrees, avoids, avoids_trees}
 use Rattle.es_statement_runs.specs.Names.{own_use, own_names, lexical_names, lexical_in, names_of_all, is_word, declared_at_top, top_in, using_in}
 use Rattle.es_runs.specs.Machine.Value.{text}
 use Rattle.es_statement_runs.specs.Patterns.{collected, Member, members_of, Putter, property_of}
 use Rattle.es_statement_runs.specs.Patterns.Member.{keyed}
 use Rattle.es_statement_runs.specs.Senses.{Place}
 use Rattle.es_statement_runs.specs.Senses.More.{nothing_more}
-use Rattle.es_statement_runs.specs.Kinds.{sense}
+use Rattle.es_statement_runs.specs.Kinds.{kind_in, sense}
+use Rattle.es_statement_runs.specs.BareVars.{BesideList, PutList}
 use Rattle.es_statement_runs.specs.Calls.{is_spread}
 use Rattle.es_statement_runs.specs.Runs.{RunAlike, run, outcome}
 use Rattle.es_statement_runs.specs.Runs.Outcome.{meaningless}
@@ -482,6 +483,55 @@ pub data ByVar (xs : List Text) : List Declared → List Declared → Type 0 whe
 abbrev pub LawLater : Type 0
 LawLater = (xs : List Text) (l : Label) (ds body after : Trees) → CloseTrees nothing_bad LetRow body_needs body after → ByVar xs (top_in body) (top_in after) → using_in after ≡ using_in body →
     are_program_names xs ≡ true → RunAlike no_helpers false (program l ds body) (program l ds after)
+
+-- TEMPORARIES BY `var` IN ANY LISTS: `var` statements without values do nothing but declare, wherever they stand. Lists of statements, of the program, of
+-- blocks and of cases, may have them, have them no longer or have others, where the top then binds as before but for names xs, which the source doesn't
+-- declare and which stand nowhere else. So temporaries may be declared, `var a;` may become `var a, b;`, and a `var a;` may move to another list.
+
+-- a name that stands nowhere is bad where it is evaluated, and, where names may stand for helpers, as a key or a label too
+abbrev pub bad_by : Supply → (Text → Bool) → Level → Text → Bool
+bad_by no_helpers hidden = bad_names hidden none_hidden
+bad_by _ hidden = bad_anywhere (any_cells hidden)
+
+-- no place but those of such statements differs
+abbrev pub no_row : Take → Tree → Tree → Type 0
+no_row t a b = ⊥
+
+abbrev pub LawVars : Type 0
+LawVars = (u : Supply) (xs : List Text) (l : Label) (ds body after : Trees) → BesideList (bad_by u (among_names xs)) no_row true body after →
+    ((y : Text) → among_names xs y ≡ false → kind_in (top_in after) y ≡ kind_in (top_in body) y) → ((y : Text) → is_declared (top_in body) y ≡ true → among_names xs y ≡ false) →
+    silent_names u (program l ds after) ≡ silent_names u (program l ds body) →
+    among_names xs (codes "Math") ≡ false → are_program_names xs ≡ true → SupplySeen (any_cells (among_names xs)) u →
+    RunAlike u false (program l ds body) (program l ds after)
+
+-- So temporaries that stand nowhere in a program, nor are declared by it, may be put into its lists, at any depth.
+abbrev pub LawTemporaries : Type 0
+LawTemporaries = (u : Supply) (xs : List Text) (l : Label) (ds body after : Trees) → PutList (among_names xs) body after → avoids_trees (bad_by u (among_names xs)) body_needs body ≡ true →
+    ((y : Text) → is_declared (top_in body) y ≡ true → among_names xs y ≡ false) → silent_names u (program l ds after) ≡ silent_names u (program l ds body) →
+    among_names xs (codes "Math") ≡ false → are_program_names xs ≡ true → SupplySeen (any_cells (among_names xs)) u →
+    RunAlike u false (program l ds body) (program l ds after)
+
+-- EXPORTS OF NAMESPACES: in the program's list `export * as n from "m";` becomes `import * as x from "m"; export { x as n };`, for one or more such
+-- exports, with names xs that stand nowhere. Both ask for the module's names at the same place among the imports. What a module exports no run tells.
+
+abbrev pub namespace_import : Label → Label → Text → Tree → Trees → Tree
+namespace_import m k x s attributes = node ImportDeclaration m (many (node ImportNamespaceSpecifier k (one (identifier x) then done) before empty) then one s then many attributes then done)
+
+abbrev pub export_of : Label → Label → Text → Tree → Tree
+export_of o k x e = node ExportNamedDeclaration o (missing then many (node ExportSpecifier k (one (identifier x) then one e then done) before empty) then missing then many empty then done)
+
+pub data SplitExports (bad : Level → Text → Bool) (xs : List Text) : Trees → Trees → Type 0 where
+  none_split : SplitExports bad xs empty empty
+  as_it_is : {a : Tree} {ts us : Trees} → avoids bad body_needs a ≡ true → SplitExports bad xs ts us → SplitExports bad xs (a before ts) (a before us)
+  one_split : {l m k o j : Label} {x : Text} {e s : Tree} {attributes ts us : Trees} → among_names xs x ≡ true → avoids bad label_taken s ≡ true → SplitExports bad xs ts us →
+      SplitExports bad xs (node ExportAllDeclaration l (one e then one s then many attributes then done) before ts) (namespace_import m k x s attributes before export_of o j x e before us)
+
+abbrev pub LawNamespaceExports : Type 0
+LawNamespaceExports = (u : Supply) (xs : List Text) (l : Label) (ds body after : Trees) → SplitExports (bad_by u (among_names xs)) xs body after →
+    ((y : Text) → among_names xs y ≡ false → kind_in (top_in after) y ≡ kind_in (top_in body) y) → ((y : Text) → is_declared (top_in body) y ≡ true → among_names xs y ≡ false) →
+    silent_names u (program l ds after) ≡ silent_names u (program l ds body) → ((y : Text) → among_names xs y ≡ true → is_silent (silent_names u (program l ds body)) y ≡ false) →
+    among_names xs (codes "Math") ≡ false → are_program_names xs ≡ true → SupplySeen (any_cells (among_names xs)) u →
+    RunAlike u false (program l ds body) (program l ds after)
 
 -- KERNELS, on computations
 

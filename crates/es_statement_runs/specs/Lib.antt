@@ -13,4 +13,5 @@ pub mod Runs
 pub mod Places
 pub mod Alike
 pub mod Meant
+pub mod BareVars
 pub mod Laws

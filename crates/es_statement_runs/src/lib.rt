@@ -2,7 +2,7 @@
 //! definitions.
 #![tactic(auto)]
 
-ghost use Rattle.es_statement_runs.specs.Laws.{LawAssign, LawCatch, LawCatchPattern, LawChain, LawCollected, LawCoreClass, LawCoreMeaning, LawCoreRun, LawFresh, LawGroups, LawHead, LawLater, LawMeant, LawNoHelper, LawNullish, LawParted, LawPlace, LawPower, LawRest, LawSpread, LawThen, LawUsing, LawValidIsMeant, LawValidMeaning};
+ghost use Rattle.es_statement_runs.specs.Laws.{LawAssign, LawCatch, LawCatchPattern, LawChain, LawCollected, LawCoreClass, LawCoreMeaning, LawCoreRun, LawFresh, LawGroups, LawHead, LawLater, LawMeant, LawNamespaceExports, LawNoHelper, LawNullish, LawParted, LawPlace, LawPower, LawRest, LawSpread, LawTemporaries, LawThen, LawUsing, LawValidIsMeant, LawValidMeaning, LawVars};
 
 /// A tree of core kinds means what it means in the core.
 pub fn law_core_meaning()
@@ -125,4 +125,21 @@ pub fn law_valid_meaning()
 /// The properties of an object pattern with static keys may be put first, as a pattern of their own; what stands after excludes their texts.
 pub fn law_parted()
     ensures { LawParted }
+{}
+
+/// `var` statements without values may be put into lists of statements, at any depth, or moved and changed, where the top binds as before but for names that
+/// the source doesn't declare and that stand nowhere else.
+pub fn law_statement_vars()
+    ensures { LawVars }
+{}
+
+/// `var` statements of temporaries that stand nowhere may be put into lists of statements, at any depth, or such temporaries into the `var` statements
+/// without values that stand there.
+pub fn law_statement_temporaries()
+    ensures { LawTemporaries }
+{}
+
+/// An export of a namespace, in the program's list, becomes an import of it and an export of the import's name, with whatever helpers.
+pub fn law_statement_namespace_exports()
+    ensures { LawNamespaceExports }
 {}
