@@ -1,5 +1,5 @@
 -- Ids and marks mean nothing: a bare tree has the meaning, the declared names, the names and the written names of the tree.
-use Rattle.std.proofs.Common.{◌≡◌, ℕ, zero, suc, refl, ap, ◌∙◌, List, [], ◌∷◌, ◌++◌}
+use Rattle.std.proofs.Common.{◌≡◌, ℕ, zero, suc, refl, ap, sym, ◌∙◌, List, [], ◌∷◌, ◌++◌}
 use Rattle.std.specs.Prelude.{Bool, true, false, ◌&&◌, ◌||◌, if◌then◌else◌}
 use Rattle.es_tree.specs.Words.{Text}
 use Rattle.es_tree.specs.Bare.{bare, bare_label, bare_fields, bare_field, bare_trees}
@@ -10,27 +10,29 @@ use Rattle.es_tree.specs.Walks.{all_nodes, all_in_fields, all_in_field, all_in_t
 use Rattle.es_tree.specs.declared.ast_type.AstType.{AstType}
 use Rattle.es_tree.specs.declared.ast_type.AstType.TheVariants.{AssignmentExpression, VariableDeclaration, ExportNamedDeclaration, Identifier, MemberExpression, ParenthesizedExpression, UpdateExpression}
 use Rattle.es_runs.specs.Machine.{Value, Move}
-use Rattle.es_runs.specs.Core.{World, meaning, meanings, part, parts, meaning_of, single, several}
+use Rattle.es_runs.specs.Core.{World, value, meaning, meanings, part, parts, meaning_of, single, several}
 use Rattle.es_tree.specs.Scopes.{Declared, declared_of, program_names, declared_in_body, declared_by, declared_in, declared_names, declarator_name, is_written, name_in, target_names, writes, written_by}
-use Rattle.es_runs.specs.Runs.{run_where}
+use Rattle.es_runs.specs.Runs.{run_where, world_of, cells_of}
+use Rattle.es_runs.specs.Machine.State.{state}
+use Rattle.es_runs.proofs.CoreWorlds.{core_world, IsCoreWorld, core_means}
 
 mutual
-  pub meaning-bare : (w : World) (t : Tree) → meaning w (bare t) ≡ meaning w t
-  meaning-bare w (node k l fs) = ap (meaning_of w k l.texts l.flags) (parts-bare w fs)
+  pub meaning-bare : (w : World) → IsCoreWorld w → (t : Tree) → meaning w (bare t) ≡ meaning w t
+  meaning-bare w core (node k l fs) = core_means w core k (bare_label l) (bare_fields fs) ∙ (ap (meaning_of w k l.texts l.flags) (parts-bare w core fs) ∙ sym (core_means w core k l fs))
 
-  parts-bare : (w : World) (fs : Fields) → parts w (bare_fields fs) ≡ parts w fs
-  parts-bare w done = refl
-  parts-bare w (f then fs) = λ i. part-bare w f i ∷ parts-bare w fs i
+  parts-bare : (w : World) → IsCoreWorld w → (fs : Fields) → parts w (bare_fields fs) ≡ parts w fs
+  parts-bare w core done = refl
+  parts-bare w core (f then fs) = λ i. part-bare w core f i ∷ parts-bare w core fs i
 
-  part-bare : (w : World) (f : Field) → part w (bare_field f) ≡ part w f
-  part-bare w missing = refl
-  part-bare w (one t) = ap single (meaning-bare w t)
-  part-bare w (many ts) = ap several (meanings-bare w ts)
-  part-bare w (statements ts) = ap several (meanings-bare w ts)
+  part-bare : (w : World) → IsCoreWorld w → (f : Field) → part w (bare_field f) ≡ part w f
+  part-bare w core missing = refl
+  part-bare w core (one t) = ap single (meaning-bare w core t)
+  part-bare w core (many ts) = ap several (meanings-bare w core ts)
+  part-bare w core (statements ts) = ap several (meanings-bare w core ts)
 
-  meanings-bare : (w : World) (ts : Trees) → meanings w (bare_trees ts) ≡ meanings w ts
-  meanings-bare w empty = refl
-  meanings-bare w (t before ts) = λ i. meaning-bare w t i ∷ meanings-bare w ts i
+  meanings-bare : (w : World) → IsCoreWorld w → (ts : Trees) → meanings w (bare_trees ts) ≡ meanings w ts
+  meanings-bare w core empty = refl
+  meanings-bare w core (t before ts) = λ i. meaning-bare w core t i ∷ meanings-bare w core ts i
 
 name_in-bare : (fs : Fields) → name_in (bare_fields fs) ≡ name_in fs
 name_in-bare done = refl
@@ -73,7 +75,7 @@ pub declared_of-bare : (t : Tree) → declared_of (bare t) ≡ declared_of t
 declared_of-bare (node k l fs) = program_names-bare fs
 
 pub run_where-bare : (loose : Bool) (ds : List Declared) (t : Tree) (this : Value) (moves : List Move) → run_where loose ds (bare t) this moves ≡ run_where loose ds t this moves
-run_where-bare loose ds t this moves = rw meaning-bare
+run_where-bare loose ds t this moves = ap (λ m. value (world_of loose this ds) m (state (cells_of ds) moves [])) (meaning-bare (world_of loose this ds) (core_world _ _ _) t)
 
 pub run-bare : (loose : Bool) (t : Tree) (this : Value) (moves : List Move) → run_where loose (declared_of (bare t)) (bare t) this moves ≡ run_where loose (declared_of t) t this moves
 run-bare loose t this moves = ap (λ ds. run_where loose ds (bare t) this moves) (declared_of-bare t) ∙ run_where-bare loose (declared_of t) t this moves

@@ -13,24 +13,13 @@ use Rattle.es_tree.specs.Scopes.{Declared}
 use Rattle.es_runs.specs.Runs.{cells_of, world_of, run_where, outcome, SameRun, none_hidden}
 use Rattle.es_runs.specs.Runs.Outcome.{called_uncallable}
 use Rattle.es_runs.specs.Rules.{OnePlace}
+use Rattle.es_runs.proofs.CoreWorlds.{core_world}
 use Rattle.es_runs.proofs.Basic.{value_alike}
-use Rattle.es_runs.proofs.Everywhere.{near_like, near_words}
-use Rattle.es_runs.proofs.MathWords.{NoMathIn, NoMathWord}
-use Rattle.es_runs.proofs.Fresh.{near_self}
+use Rattle.es_runs.proofs.Everywhere.{near_like}
+use Rattle.es_runs.proofs.MathWords.{NoMathWord}
 use Rattle.es_runs.proofs.OnePlace.{Unnamed, near_place}
 use Rattle.es_runs.proofs.Laws.{same_run}
 use Rattle.es_runs.proofs.Written.{all_pending, one_of, scope_of-all_pending, cells_of-all_pending}
-
-abbrev Nothing : Need → Tree → Tree → Type 0
-Nothing n a b = ⊥
-
--- a tree in which no hidden name stands means the same in both worlds
-pub unnamed_like : (hidden : Text → Bool) (w v : World) → SameWorld hidden w v → (n : Need) (a : Tree) → touches (bad_names hidden none_hidden) n a ≡ false → Like (set_cells hidden) w v n (meaning w a) (meaning v a)
-unnamed_like hidden w v same n a h = near_like (set_cells hidden) w v same Nothing (λ m b c e. absurd e) (λ m b c e. absurd e) (near_self (bad_names hidden none_hidden) Nothing a n h)
-
--- and has no hidden word `Math` as its form, where it is evaluated
-pub unnamed_words : (hidden : Text → Bool) (w v : World) → SameWorld hidden w v → (n : Need) (a : Tree) → touches (bad_names hidden none_hidden) n a ≡ false → NoMathIn hidden n (meaning w a)
-unnamed_words hidden w v same n a h = near_words (set_cells hidden) w v same Nothing (λ m b c e. absurd e) (λ m b c e. absurd e) (near_self (bad_names hidden none_hidden) Nothing a n h)
 
 -- MORE CELLS
 
@@ -54,7 +43,7 @@ module _ (loose : Bool) (xs : List Text) (ds : List Declared) (this : Value) whe
     place_alike : (p q : Tree) → touches (bad_names (one_of xs) none_hidden) all_of_it p ≡ false → OnePlace R all_of_it p q → Alike (set_cells (one_of xs)) Equal (value before (meaning before p)) (value after (meaning after q))
     place_alike p q h r =
         value_alike (set_cells (one_of xs)) before after names_more (meaning before p) (meaning after q)
-        (near_like (set_cells (one_of xs)) before after names_more (Unnamed (bad_names (one_of xs) none_hidden) R) (λ n a b k. base n a b k.0 k.1) (λ n a b k. words n a b k.0) (near_place (bad_names (one_of xs) none_hidden) R r h)).evaluation
+        (near_like (set_cells (one_of xs)) before after names_more (core_world _ _ _) (core_world _ _ _) (Unnamed (bad_names (one_of xs) none_hidden) R) (λ n a b k. base n a b k.0 k.1) (λ n a b k. words n a b k.0) (near_place (bad_names (one_of xs) none_hidden) R r h)).evaluation
 
     -- from a program in which none of the names stands
     pub place_run : (counts : Text → Bool) → ((y : Text) → counts y ≡ true → one_of xs y ≡ false) → (p q : Tree) → touches (bad_names (one_of xs) none_hidden) all_of_it p ≡ false → OnePlace R all_of_it p q → (moves : List Move) → (outcome (run_where loose ds p this moves) ≡ called_uncallable → ⊥) →

@@ -11,22 +11,25 @@ use Rattle.es_runs.specs.Machine.State.{state}
 use Rattle.es_runs.specs.Machine.Cell.{unset, holds}
 use Rattle.es_runs.specs.Machine.Stop.{uncallable}
 use Rattle.es_runs.specs.Machine.Result.{gives, stops}
-use Rattle.es_runs.specs.Core.{World, Meaning, Form, value, put_value, name, literal, is_free, meaning, flag, second, number_form}
+use Rattle.es_runs.specs.Core.{World, Meaning, Form, value, gives_value, put_value, name, literal, is_free, meaning, flag, second, number_form}
 use Rattle.es_runs.specs.Core.Form.{other, null_form}
 use Rattle.es_runs.specs.Machine.Value.{null, boolean, number, bigint, text}
 use Rattle.es_runs.specs.Duplication.{IsDuplicated, has_no_fields, is_read_again}
 use Rattle.es_runs.specs.Duplication.IsDuplicated.{read_again, by_temporary}
 use Rattle.es_runs.specs.Core.Binding.{changeable}
 use Rattle.es_runs.specs.Core.Reference.{named}
-use Rattle.es_runs.specs.Alike.{set_cells, kept_cells, Agree, Same, Equal, SameWorld, Need, needs, Like, value_and_form, touches, touches_fields, bad_names}
+use Rattle.es_runs.specs.Alike.{set_cells, kept_cells, Agree, Same, Alike, Equal, SameWorld, Level, Need, needs, Like, value_and_form, touches, touches_fields, bad_names}
+use Rattle.es_runs.specs.Alike.Level.{no_evaluation, value_alone, an_operand_of_typeof, whole_reference, a_callee, a_target}
 use Rattle.es_runs.specs.Alike.Agree.{agree}
 use Rattle.es_runs.specs.Alike.Same.{both_give, both_stop, outside, at_fault}
 use Rattle.es_runs.specs.Alike.Equal.{equal}
 use Rattle.es_runs.specs.Runs.{cells, only, none_hidden}
 use Rattle.es_runs.specs.NullishCoalescing.{also_all}
 use Rattle.es_runs.proofs.NullishCoalescingValues.{cell_gives}
-use Rattle.es_runs.proofs.Everywhere.{near_like}
-use Rattle.es_runs.proofs.Fresh.{near_self, or_left}
+use Rattle.es_runs.proofs.Fresh.{or_left}
+use Rattle.es_runs.proofs.MathWords.{NoMathIn}
+use Rattle.es_runs.proofs.SameOthers.{AlwaysAlike, SameOthers, same_like, same_words}
+use Rattle.es_runs.proofs.SameOthers.AlwaysAlike.{always_give, always_stop}
 use Rattle.es_runs.proofs.Named.{and_left, or_both, or_first, or_second}
 use Rattle.es_runs.proofs.Written.{one_of}
 use Rattle.es_runs.proofs.Temporary.{plain_again, put_temporary, stored_here, stored_elsewhere, bytes_eq-equal, bytes_eq-self}
@@ -101,15 +104,20 @@ module _ (hidden frozen : Text → Bool) where
 
 -- WHAT IS DOUBLED
 
-abbrev pub NoPlace : Need → Tree → Tree → Type 0
-NoPlace n a b = ⊥
+pub none_frozen : (hidden frozen : Text → Bool) (level : Level) (x : Text) → bad_names hidden frozen level x ≡ false → bad_names hidden none_hidden level x ≡ false
+none_frozen hidden frozen no_evaluation x h = refl
+none_frozen hidden frozen value_alone x h = h
+none_frozen hidden frozen an_operand_of_typeof x h = h
+none_frozen hidden frozen whole_reference x h = h
+none_frozen hidden frozen a_callee x h = h
+none_frozen hidden frozen a_target x h = or_both (hidden x) false (or_left (hidden x) (frozen x) h) refl
 
 -- the names whose cells a further reading depends on
 abbrev pub read_names : Tree → Text → Bool
 read_names (node Identifier l fs) = only (first_text l.texts)
 read_names _ = none_hidden
 
-module _ (hidden frozen : Text → Bool) (w v : World) (same : SameWorld hidden w v) where
+module _ (hidden frozen : Text → Bool) (w v : World) (same : SameWorld hidden w v) (others : SameOthers hidden frozen w v) where
   -- a bound name
   bound_gives : (y : Text) → is_free (w.scope y) ≡ false → v.scope y ≡ w.scope y → (u : Value) (d : Text → Cell) → d y ≡ holds u → Gives v (name y) (only y) u d
   bound_gives y bound e u d h (state c ms qs) k = cell_gives hidden w v same y v (w.scope y) bound e c ms qs (holds u) (k y (bytes_eq-self y) ∙ h)
@@ -125,12 +133,28 @@ module _ (hidden frozen : Text → Bool) (w v : World) (same : SameWorld hidden 
   pub constant_twice : (own : Text → Bool) (u : Value) (f : Form) (d0 : Text → Cell) → AllSet hidden d0 → (s t : State) → Agree (kept_cells hidden frozen d0) s t → Twice hidden frozen v own d0 (literal u f) none_hidden (gives u s) (gives u t)
   constant_twice own u f d0 set s t a = both_read u d0 set (λ y e. refl) (λ z h. refl) a
 
+  -- and so does what isn't core, or it stops
+  always_twice : (own : Text → Bool) {m k : M Value} → AlwaysAlike m k → (d0 : Text → Cell) → AllSet hidden d0 → (s t : State) → Agree (kept_cells hidden frozen d0) s t → Twice hidden frozen v own d0 (gives_value k) none_hidden (value w (gives_value m) s) (value v (gives_value k) t)
+  always_twice own (always_give {u = u} e f) d0 set s t a = rw (e, f) (constant_twice own u other d0 set s t a)
+  always_twice own (always_stop e f) d0 set s t a = rw (e, f) (neither_read (kept_agree hidden frozen d0 set s t a))
+
   this_twice : (own : Text → Bool) (i j : Value) → j ≡ i → (d0 : Text → Cell) → AllSet hidden d0 → (s t : State) → Agree (kept_cells hidden frozen d0) s t → Twice hidden frozen v own d0 (literal j other) none_hidden (gives i s) (gives j t)
   this_twice own i j e d0 set s t a = rw e (constant_twice own i other d0 set s t a)
 
   -- a node in which no hidden name is evaluated and no frozen one written, in cells that are kept
   pub kept_like : (d : Text → Cell) (n : Need) (e : Tree) → touches (bad_names hidden frozen) n e ≡ false → Like (kept_cells hidden frozen d) w v n (meaning w e) (meaning v e)
-  kept_like d n e h = near_like (kept_cells hidden frozen d) w v same NoPlace (λ m a b r. absurd r) (λ m a b r. absurd r) (near_self (bad_names hidden frozen) NoPlace e n h)
+  kept_like d n e h = same_like (kept_cells hidden frozen d) w v same (bad_names hidden frozen) (λ m x k. k) (others.alike d) others.spreads e n h
+
+  others_seen : (n : Need) (t : Tree) → touches (bad_names hidden frozen) n t ≡ false → Alike (set_cells hidden) Equal (w.other t) (v.other t)
+  others_seen n t h s z a = kept_same hidden frozen (cells z) (now_set hidden frozen s z a) (others.alike (cells z) n t h s z (now_kept hidden frozen s z a))
+
+  -- or in cells that are set
+  pub seen_like : (n : Need) (e : Tree) → touches (bad_names hidden frozen) n e ≡ false → Like (set_cells hidden) w v n (meaning w e) (meaning v e)
+  seen_like n e h = same_like (set_cells hidden) w v same (bad_names hidden frozen) (none_frozen hidden frozen) others_seen others.spreads e n h
+
+  -- and no hidden word `Math` is its form, where it is evaluated
+  pub seen_words : (n : Need) (e : Tree) → touches (bad_names hidden frozen) n e ≡ false → NoMathIn hidden n (meaning w e)
+  seen_words n e h = same_words (set_cells hidden) w v same (bad_names hidden frozen) (none_frozen hidden frozen) others_seen others.spreads e n h
 
   module _ (frozen_bound : (y : Text) → frozen y ≡ true → is_free (w.scope y) ≡ false) where
     -- what is written down again
@@ -147,7 +171,7 @@ module _ (hidden frozen : Text → Bool) (w v : World) (same : SameWorld hidden 
     again_twice own b (node NumericLiteral l fs) h n d0 set s t a = constant_twice own (number (second l.texts)) (number_form (second l.texts)) d0 set s t a
     again_twice own b (node BigIntLiteral l fs) h n d0 set s t a = constant_twice own (bigint (second l.texts)) other d0 set s t a
     again_twice own b (node StringLiteral l fs) h n d0 set s t a = constant_twice own (text (first_text l.texts)) other d0 set s t a
-    again_twice own b (node TemplateLiteral l fs) h n d0 set s t a = neither_read (kept_agree hidden frozen d0 set s t a)
+    again_twice own b (node TemplateLiteral l fs) h n d0 set s t a = always_twice own (others.again l fs h) d0 set s t a
     again_twice own b (node _ l fs) h n d0 set s t a = absurd (cc h)
 
     -- an expression that is duplicated

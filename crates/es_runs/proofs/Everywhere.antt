@@ -23,6 +23,7 @@ use Rattle.es_runs.specs.Alike.NearFields.{near_done, near_then}
 use Rattle.es_runs.specs.Alike.NearField.{near_missing, near_one, near_many, near_statements}
 use Rattle.es_runs.specs.Alike.NearNodes.{near_empty, near_before}
 use Rattle.es_runs.specs.Core.Reference.{named}
+use Rattle.es_runs.proofs.CoreWorlds.{IsCoreWorld, core_means}
 use Rattle.es_runs.proofs.MathWords.{DeclaredWordless, KindWordless, NoMathIn, NoMathWord, evaluated_word, node_wordless, object_evaluates, takes_it}
 use Rattle.es_runs.proofs.Congruence.{typeof_alike, like, plain_like, nothing_like, literal_like, unary_like, update_like, binary_like, logical_like, conditional_like, assignment_like}
 use Rattle.es_runs.proofs.Lists.{AllLike, sequence_like, new_like, call_like, member_like, chain_like, parenthesized_like, declarator_like, declared_alike, in_order_alike}
@@ -117,12 +118,12 @@ module _ (F : Frame) (w v : World) (same : SameWorld F.hidden w v) where
   kind_like n Program ts fs st h = program_parts n h
   kind_like n _ ts fs st h = nothing_like F w v same n
 
-  module _ (R : Need → Tree → Tree → Type 0) (base : (n : Need) (a b : Tree) → R n a b → Like F w v n (meaning w a) (meaning v b)) (words : (n : Need) (a b : Tree) → R n a b → NoMathWord F.hidden (meaning w a).form) where
-    kind_words : (n : Need) (k : AstType) (l : Label) (fs : Fields) → is_bad bad n.level k l.texts ≡ false → (takes_it (needs n k l.texts l.flags zero).level ≡ true → DeclaredWordless w F.hidden fs) → takes_it n.level ≡ true → KindWordless w F.hidden k l fs
-    kind_words n Identifier l fs st h e = evaluated_word F.hidden F.frozen n.level (first l.texts) e st
-    kind_words n VariableDeclarator l fs st h e = h refl
-    kind_words n _ l fs st h e = tt
+  pub kind_words : (n : Need) (k : AstType) (l : Label) (fs : Fields) → is_bad bad n.level k l.texts ≡ false → (takes_it (needs n k l.texts l.flags zero).level ≡ true → DeclaredWordless w F.hidden fs) → takes_it n.level ≡ true → KindWordless w F.hidden k l fs
+  kind_words n Identifier l fs st h e = evaluated_word F.hidden F.frozen n.level (first l.texts) e st
+  kind_words n VariableDeclarator l fs st h e = h refl
+  kind_words n _ l fs st h e = tt
 
+  module _ (core_w : IsCoreWorld w) (core_v : IsCoreWorld v) (R : Need → Tree → Tree → Type 0) (base : (n : Need) (a b : Tree) → R n a b → Like F w v n (meaning w a) (meaning v b)) (words : (n : Need) (a b : Tree) → R n a b → NoMathWord F.hidden (meaning w a).form) where
     -- no hidden name `Math` is evaluated
     mutual
       pub near_words : {n : Need} {a b : Tree} → Near bad R n a b → NoMathIn F.hidden n (meaning w a)
@@ -142,7 +143,7 @@ module _ (F : Frame) (w v : World) (same : SameWorld F.hidden w v) where
       declared_words (near_then (near_statements f) g) e = tt
 
     node_like : (n : Need) (k : AstType) (l m : Label) (fs gs : Fields) → is_bad bad n.level k l.texts ≡ false → m.texts ≡ l.texts → m.flags ≡ l.flags → PartsLike F w v (needs n k l.texts l.flags) (parts w fs) (parts v gs) → Like F w v n (meaning w (node k l fs)) (meaning v (node k m gs))
-    node_like n k l m fs gs st e d h = rw (e, d) (kind_like n k l.texts l.flags st h)
+    node_like n k l m fs gs st e d h = rw (core_means w core_w k l fs, core_means v core_v k m gs, e, d) (kind_like n k l.texts l.flags st h)
 
     mutual
       pub near_like : {n : Need} {a b : Tree} → Near bad R n a b → Like F w v n (meaning w a) (meaning v b)

@@ -1,11 +1,9 @@
 -- A target that is read and then written: source and result arrive at the same reference, with the same value.
 use Rattle.std.proofs.Common.{◌≡◌, refl, List, [], ◌∷◌, ◌++◌, ap, ◌∙◌, sym}
-use Rattle.std.specs.Prelude.{Bool, true, false, bytes_eq, ◌||◌}
+use Rattle.std.specs.Prelude.{Bool, true, false, bytes_eq, ◌||◌, not}
 use Rattle.es_tree.specs.Words.{Text}
-use Rattle.es_tree.specs.Core.{is_core_node}
 use Rattle.es_tree.specs.Names.{first_text}
-use Rattle.es_tree.specs.Tree.{Tree, node, Label, done, trees}
-use Rattle.es_tree.specs.Walks.{all_nodes}
+use Rattle.es_tree.specs.Tree.{Tree, node, kind_of, Label, done, trees}
 use Rattle.es_tree.specs.declared.ast_type.AstType.TheVariants.{BigIntLiteral, BooleanLiteral, Identifier, NullLiteral, NumericLiteral, StringLiteral, Super}
 use Rattle.es_runs.specs.Machine.{Value, M, ◌>>=◌, onward, return, ask, State, Result, Cell}
 use Rattle.es_runs.specs.Machine.Value.{undefined, null, boolean, number, bigint, text}
@@ -15,7 +13,7 @@ use Rattle.es_runs.specs.Machine.Question.{get}
 use Rattle.es_runs.specs.Machine.Result.{gives, stops}
 use Rattle.es_runs.specs.Runs.{cells, identifier, only}
 use Rattle.es_runs.specs.Rules.{assign_node}
-use Rattle.es_runs.specs.Core.{World, Reference, Meaning, Form, value, get_value, put_value, key, member, name, literal, number_form, second, last_value, meaning, meanings, is_free, flag, flag_after}
+use Rattle.es_runs.specs.Core.{World, Reference, Meaning, Form, value, get_value, put_value, key, member, name, literal, number_form, second, last_value, meaning, meanings, is_free, is_pattern, flag, flag_after, is_spread_kind}
 use Rattle.es_runs.specs.Core.Binding.{changeable}
 use Rattle.es_runs.specs.Core.Reference.{named, property}
 use Rattle.es_runs.specs.Core.Form.{other, null_form}
@@ -26,14 +24,15 @@ use Rattle.es_runs.specs.Alike.Level.{a_target}
 use Rattle.es_runs.specs.Alike.Same.{both_give, both_stop}
 use Rattle.es_runs.specs.Alike.SameReference.{same_name}
 use Rattle.es_runs.specs.Alike.SameTarget.{target_name, target_property}
-use Rattle.es_runs.specs.Exponentiation.{TargetTwice, Holds, is_literal_key}
+use Rattle.es_runs.specs.Exponentiation.{TargetTwice, Holds, is_literal_key, is_classless, is_super_kind}
 use Rattle.es_runs.specs.Exponentiation.Holds.{where_it_is, in_temporary}
 use Rattle.es_runs.specs.Exponentiation.TargetTwice.{bound_name, other_name, static_member, private_member, literal_key, other_key}
 use Rattle.es_runs.proofs.Basic.{onward_same, ask_alike, get_alike}
 use Rattle.es_runs.proofs.Duplicated.{AllSet, Gives, Twice, kept_agree, kept_like, kept_same, now_kept, now_set, onward_twice, stored_twice}
 use Rattle.es_runs.proofs.Fresh.{or_left, or_right}
 use Rattle.es_runs.proofs.AgreeingCells.{agree_fits}
-use Rattle.es_runs.proofs.Named.{and_left, and_right}
+use Rattle.es_runs.proofs.Named.{and_left}
+use Rattle.es_runs.proofs.SameOthers.{SameOthers}
 use Rattle.es_runs.proofs.NullishCoalescingValues.{cell_gives}
 use Rattle.es_runs.proofs.Temporary.{bytes_eq-equal, bytes_eq-self, onward_onward, plain_again}
 use Rattle.es_runs.proofs.OptionalChainingNeeds.{object_free}
@@ -115,6 +114,10 @@ literal_means (node _ l fs) h = absurd (cc h)
 
 -- NAMES
 
+not_true : (b : Bool) → not b ≡ true → b ≡ false
+not_true true h = absurd (cc h)
+not_true false h = refl
+
 first_one : (x : Text) (xs : List Text) → one_of (x ∷ xs) x ≡ true
 first_one x xs = rw (bytes_eq-self x) refl
 
@@ -127,7 +130,7 @@ second_one x y = rw (bytes_eq-self y) (or_true (bytes_eq y x))
 
 -- FRAMES
 
-module _ (hidden steady : Text → Bool) (w v : World) (same : SameWorld hidden w v) where
+module _ (hidden steady : Text → Bool) (w v : World) (same : SameWorld hidden w v) (others : SameOthers hidden steady w v) where
   abbrev F : Frame
   F = set_cells hidden
 
@@ -140,7 +143,7 @@ module _ (hidden steady : Text → Bool) (w v : World) (same : SameWorld hidden 
 
   -- what stands in the source, from here on
   from_here : (form : Bool) (a : Tree) → touches bad (value_and_form form) a ≡ false → (s t : State) → Agree F s t → Same (K (cells t)) Equal (value w (meaning w a) s) (value v (meaning v a) t)
-  from_here form a h s t g = (kept_like hidden steady w v same (cells t) (value_and_form form) a h).evaluation s t (now_kept hidden steady s t g)
+  from_here form a h s t g = (kept_like hidden steady w v same others (cells t) (value_and_form form) a h).evaluation s t (now_kept hidden steady s t g)
 
   pub value_like : (a : Tree) → touches bad the_value a ≡ false → Alike F Equal (value w (meaning w a)) (value v (meaning v a))
   value_like a h s t g = kept_same hidden steady (cells t) (now_set hidden steady s t g) (from_here false a h s t g)
@@ -191,7 +194,7 @@ module _ (hidden steady : Text → Bool) (w v : World) (same : SameWorld hidden 
         Same F (SameArrived F) (onward (value w (meaning w k) s) (got u)) (onward (value v (meaning v (assign_node (identifier y) k)) t) (λ _. both_read))
     object_stored k h u d set object s t g =
         rw (stores v y k t)
-        (onward_twice hidden steady (stored y y_hidden y_var d set ((kept_like hidden steady w v same d the_value k h).evaluation s t g)) (λ i later set rest key s t g. key_stored u d object i later set (rest x differ) key s t g))
+        (onward_twice hidden steady (stored y y_hidden y_var d set ((kept_like hidden steady w v same others d the_value k h).evaluation s t g)) (λ i later set rest key s t g. key_stored u d object i later set (rest x differ) key s t g))
 
     stored_member_arrives : (form : Bool) (o k : Tree) → touches bad (value_and_form form) o ≡ false → touches bad the_value k ≡ false →
         Alike F (SameArrived F) (reaches w (member w true false (meaning w o) (meaning w k))) (in_front v ((assign_node (identifier x) o ∷ []) ++ assign_node (identifier y) k ∷ []) >>= λ _. both_read)
@@ -223,7 +226,7 @@ module _ (hidden steady : Text → Bool) (w v : World) (same : SameWorld hidden 
           )
               (got_alike u k (state c ms qs) (state d ms qs) (agree h g f))
 
-      object_arrives : {xs : List Text} {fs : List Tree} {o o' : Tree} → Holds bound in_use xs fs o o' → Temporaries xs → (form : Bool) → touches bad (value_and_form form) o ≡ false → all_nodes is_core_node o ≡ true →
+      object_arrives : {xs : List Text} {fs : List Tree} {o o' : Tree} → Holds bound in_use xs fs o o' → Temporaries xs → (form : Bool) → touches bad (value_and_form form) o ≡ false → is_super_kind (kind_of o) ≡ false →
           Alike F (SameArrived F) (reaches w (member w computed false (meaning w o) p)) (in_front v fs >>= λ _. reaches_by v (member v true false (meaning v o') p') (member v true false (meaning v o') p'))
       object_arrives (where_it_is {o = node Identifier l gs} e) temporary form h c = name_member_arrives (first_text l.texts) (or_left (hidden (first_text l.texts)) _ h) (and_left (bound (first_text l.texts)) _ e)
       object_arrives (where_it_is {o = node Super l gs} e) temporary form h c = absurd (cc c)
@@ -236,18 +239,27 @@ module _ (hidden steady : Text → Bool) (w v : World) (same : SameWorld hidden 
 
     -- TARGETS
 
-    pub target_arrives : {xs : List Text} {fs : List Tree} {t target read : Tree} → TargetTwice bound in_use xs fs t target read → Temporaries xs → (form : Bool) → touches bad (record { level = a_target; form = form }) t ≡ false → all_nodes is_core_node t ≡ true →
+    -- neither the target nor what is written is a pattern, and what is read is no spread
+    pub twice_pattern : {xs : List Text} {fs : List Tree} {t target read : Tree} → TargetTwice bound in_use xs fs t target read → (is_pattern (kind_of t) ≡ false) × (is_pattern (kind_of target) ≡ false) × (is_spread_kind (kind_of read) ≡ false)
+    twice_pattern (bound_name e) = (refl, refl, refl)
+    twice_pattern (other_name e f) = (refl, refl, refl)
+    twice_pattern (static_member e h) = (refl, refl, refl)
+    twice_pattern (private_member e h) = (refl, refl, refl)
+    twice_pattern (literal_key e k h) = (refl, refl, refl)
+    twice_pattern (other_key e k h f) = (refl, refl, refl)
+
+    pub target_arrives : {xs : List Text} {fs : List Tree} {t target read : Tree} → TargetTwice bound in_use xs fs t target read → Temporaries xs → (form : Bool) → touches bad (record { level = a_target; form = form }) t ≡ false → is_classless t ≡ true →
         Alike F (SameArrived F) (reaches w (meaning w t)) (in_front v fs >>= λ _. reaches_by v (meaning v target) (meaning v read))
     target_arrives (bound_name {l = l} e) temporary form h c = name_arrives (first_text l.texts) (or_left (hidden (first_text l.texts)) _ (or_left (hidden (first_text l.texts) || steady (first_text l.texts)) false h))
     target_arrives (other_name {l = l} {x = x} unbound fresh) temporary form h c = stored_name_arrives x (temporary x (first_one x [])).0 (temporary x (first_one x [])).1 l (or_left (hidden (first_text l.texts)) _ (or_left (hidden (first_text l.texts) || steady (first_text l.texts)) false h))
     target_arrives (static_member {l = l} {k = k} {o = o} flags holds_object) temporary form h c =
         rw (ap flag flags, ap flag_after flags)
-        (object_arrives false (name (first_text k.texts)) (literal (text (first_text k.texts)) other) (text (first_text k.texts)) (λ s. refl) (λ t. refl) holds_object temporary form (object_free hidden steady form (flag_after l.flags) o (or_left (touches bad (object_need form (flag_after l.flags)) o) _ h)) (and_left (all_nodes is_core_node o) _ c))
-    target_arrives (private_member {l = l} {k = k} {o = o} flags holds_object) temporary form h c = absurd (cc (and_right (all_nodes is_core_node o) false c))
+        (object_arrives false (name (first_text k.texts)) (literal (text (first_text k.texts)) other) (text (first_text k.texts)) (λ s. refl) (λ t. refl) holds_object temporary form (object_free hidden steady form (flag_after l.flags) o (or_left (touches bad (object_need form (flag_after l.flags)) o) _ h)) (or_left (is_super_kind (kind_of o)) _ (not_true _ c)))
+    target_arrives (private_member {l = l} {k = k} {o = o} flags holds_object) temporary form h c = absurd (cc (or_right (is_super_kind (kind_of o)) true (not_true _ c)))
     target_arrives (literal_key {l = l} {o = o} {k = k} flags is_literal holds_object) temporary form h c =
         let m = literal_means k is_literal in
         rw (ap flag flags, ap flag_after flags, m.means w, m.means v)
-        (object_arrives true (literal m.value m.form) (literal m.value m.form) m.value (λ s. refl) (λ t. refl) holds_object temporary form (object_free hidden steady form (flag_after l.flags) o (or_left (touches bad (object_need form (flag_after l.flags)) o) _ h)) (and_left (all_nodes is_core_node o) _ c))
+        (object_arrives true (literal m.value m.form) (literal m.value m.form) m.value (λ s. refl) (λ t. refl) holds_object temporary form (object_free hidden steady form (flag_after l.flags) o (or_left (touches bad (object_need form (flag_after l.flags)) o) _ h)) (or_left (is_super_kind (kind_of o)) _ (not_true _ c)))
     target_arrives (other_key {l = l} {o = o} {k = k} {y = y} flags no_literal (in_temporary {x = x} goes fresh_object) fresh) temporary form h c =
         let below = or_right (touches bad (object_need form (flag_after l.flags)) o) (touches bad the_value k || false) (rw (ap flag flags) at h) in
         rw (ap flag flags, ap flag_after flags)

@@ -19,6 +19,8 @@ use Rattle.es_runs.specs.Rules.{OnePlace, strays}
 use Rattle.es_runs.specs.Runs.{SameRun, is_declared, none_hidden, outcome, run_where, scope_of}
 use Rattle.es_runs.specs.Runs.Outcome.{called_uncallable}
 use Rattle.es_runs.specs.Standing.{undeclaring}
+use Rattle.es_runs.proofs.CoreWorlds.{core_world}
+use Rattle.es_runs.proofs.SameOthers.{core_others}
 use Rattle.es_runs.proofs.BareTrees.{declared_of-bare, names-bare, written-bare}
 use Rattle.es_runs.proofs.CoreAlike.{core_alike}
 use Rattle.es_runs.proofs.CoreRows.{core_rule, FreshInTurn}
@@ -146,14 +148,14 @@ module _ (no_all : Bool) (w : Whole) (xs : List Text) where
       base : (n : Need) (a b : Tree) → Placed (one_of xs) w.steady TidyRow tidy_kinds n a b → touches (bad_names (one_of xs) none_hidden) n a ≡ false → Like (set_cells (one_of xs)) (before (not no_all) xs ds this) (after (not no_all) xs ds this) n (meaning (before (not no_all) xs ds this) a) (meaning (after (not no_all) xs ds this) b)
       base n a b (row, known) free = core_alike no_all w xs (before (not no_all) xs ds this) (after (not no_all) xs ds this) (λ e. negated (is_free (scope_of ds (codes "Math"))) (is_bound_in w (codes "Math")) (h.bound (codes "Math")) ∙ ap not e) n a b refl (record {
         same = names_more (not no_all) xs ds this;
+        others = core_others (one_of xs) w.steady (before (not no_all) xs ds this) (after (not no_all) xs ds this) (core_world _ _ _) (core_world _ _ _);
         math = math;
         cells = are_vars (not no_all) xs ds this;
         binds = λ y e. negated (is_free (scope_of ds y)) (is_bound_in w y) (h.bound y) ∙ ap not e;
         steady_bound = h.steady;
-        core = known.core_nodes;
         placed = known.placed_nodes;
         untouched = untouched (one_of xs) w.steady n a (row_kind no_all w row.0).acted known.core_nodes known.placed_nodes known.unnamed known.unwritten;
-      }) row
+      }) known.core_nodes row
 
       -- `Math` is none of the names
       words : (n : Need) (a b : Tree) → Placed (one_of xs) w.steady TidyRow tidy_kinds n a b → NoMathWord (one_of xs) (meaning (before (not no_all) xs ds this) a).form

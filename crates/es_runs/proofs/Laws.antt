@@ -22,6 +22,7 @@ use Rattle.es_tree.specs.Scopes.{Declared, declared_by, declared_in_body, declar
 use Rattle.es_runs.specs.Runs.{binding_of, first_cell, scope_of, cells_of, world_of, outcome, SameRun, is_declared, stands, only, var_statement, program, LawFresh, IsWorldOf, EvaluateAlike, Swaps, none_hidden, Swapped, LawPlace}
 use Rattle.es_runs.specs.Runs.Outcome.{called_uncallable}
 use Rattle.es_runs.specs.Runs.Swaps.{swaps}
+use Rattle.es_runs.proofs.CoreWorlds.{core_world}
 use Rattle.es_runs.proofs.WithoutAll.{run_assumed}
 use Rattle.es_runs.proofs.Basic.{value_alike}
 use Rattle.es_runs.proofs.Everywhere.{near_like, near_meanings}
@@ -103,7 +104,7 @@ module _ (no_all : Bool) (ds : List Declared) (need : Need) (e d : Tree) (alike 
   swaps_like w is n a b swaps = record { evaluation = evaluation_agrees no_all ds need.level e d alike w is; form = form w is }
 
   swapped_alike : (w : World) → IsWorldOf no_all ds w → (p q : Tree) → Swapped need e d p q → Alike no_frame Equal (value w (meaning w p)) (value w (meaning w q))
-  swapped_alike w is p q h = value_alike no_frame w w (same_world w) (meaning w p) (meaning w q) (near_like no_frame w w (same_world w) (Swaps need e d) (swaps_like w is) (λ n a b k. unhidden_word none_hidden (meaning w a).form refl) h).evaluation
+  swapped_alike w is p q h = value_alike no_frame w w (same_world w) (meaning w p) (meaning w q) (near_like no_frame w w (same_world w) (record { other = is.other; spreads = is.spreads }) (record { other = is.other; spreads = is.spreads }) (Swaps need e d) (swaps_like w is) (λ n a b k. unhidden_word none_hidden (meaning w a).form refl) h).evaluation
 
 agree_self : (s : State) → Agree no_frame s s
 agree_self (state c ms qs) = agree (λ x e. refl) (λ x e. cc) (λ x e. cc)
@@ -113,7 +114,7 @@ law_place_proof no_all need e d p q h alike form names this moves assumed callab
     let ds : List Declared = declared_of p in
     let source = run_assumed no_all ds p this moves assumed in
     let target = run_assumed no_all ds q this moves assumed in
-    rw (names, source, target) (same_run no_frame refl (is_declared ds) (λ x k. refl) (λ k. callable (ap outcome source ∙ k)) (swapped_alike no_all ds need e d alike form (world_of (not no_all) this ds) (record { scope = λ x. refl; counts = refl }) p q h _ _ (agree_self (state (cells_of ds) moves []))))
+    rw (names, source, target) (same_run no_frame refl (is_declared ds) (λ x k. refl) (λ k. callable (ap outcome source ∙ k)) (swapped_alike no_all ds need e d alike form (world_of (not no_all) this ds) (record { scope = λ x. refl; counts = refl; other = λ t. refl; spreads = refl }) p q h _ _ (agree_self (state (cells_of ds) moves []))))
 
 -- FRESH NAMES
 
@@ -194,7 +195,7 @@ module _ (x : Text) (l : Label) (ds : Trees) (front back : List Tree) (nowhere :
   body_alike : Alike (set_cells (only x)) Equal (in_order old_world (meanings old_world body)) (in_order new_world (meanings new_world body))
   body_alike =
       in_order_alike (set_cells (only x)) old_world new_world fresh_world
-      (near_meanings (set_cells (only x)) old_world new_world fresh_world (λ n a b. ⊥) (λ n a b e. absurd e) (λ n a b e. absurd e) (near_all bad_here (λ n a b. ⊥) body the_value not_in_body))
+      (near_meanings (set_cells (only x)) old_world new_world fresh_world (core_world _ _ _) (core_world _ _ _) (λ n a b. ⊥) (λ n a b e. absurd e) (λ n a b e. absurd e) (near_all bad_here (λ n a b. ⊥) body the_value not_in_body))
 
   more_alike : Alike (set_cells (only x)) Equal (in_order old_world (meanings old_world body)) (in_order new_world (meanings new_world more))
   more_alike = subst (Alike (set_cells (only x)) Equal (in_order old_world (meanings old_world body))) (sym (silent_between new_world x front back)) body_alike

@@ -3,11 +3,13 @@ pub mod Basic
 pub mod Congruence
 pub mod MathWords
 pub mod Lists
+pub mod CoreWorlds
 pub mod Everywhere
 pub mod Temporary
 pub mod NullishCoalescingValues
 pub mod Uncut
 pub mod AgreeingCells
+pub mod SameOthers
 pub mod NoStray
 pub mod OnePlace
 pub mod Laws

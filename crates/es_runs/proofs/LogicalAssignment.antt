@@ -5,13 +5,13 @@ use Rattle.std.specs.Prelude.{Bool, true, false, bytes_eq, codes, if◌then◌el
 use Rattle.es_tree.specs.Words.{Text}
 use Rattle.es_tree.specs.Names.{first_text}
 use Rattle.es_tree.specs.Parens.{without_parens}
-use Rattle.es_tree.specs.Tree.{Tree, node, Label, done, ◌then◌, one}
+use Rattle.es_tree.specs.Tree.{Tree, node, kind_of, Label, done, ◌then◌, one}
 use Rattle.es_tree.specs.Walks.{all_nodes}
 use Rattle.es_tree.specs.declared.ast_type.AstType.TheVariants.{AssignmentExpression, Identifier, MemberExpression}
 use Rattle.es_runs.specs.Machine.{Value, M, ◌>>=◌, onward, return, State, Result, Cell, is_nullish}
 use Rattle.es_runs.specs.Machine.Value.{text}
 use Rattle.es_runs.specs.Machine.Result.{gives}
-use Rattle.es_runs.specs.Core.{World, Reference, Meaning, value, get_value, put_value, cut_where, key, literal, name, member, assignment, assign_logical, assign_class, goes_right, without_last, is_free, meaning, flag, flag_after}
+use Rattle.es_runs.specs.Core.{World, Reference, Meaning, value, get_value, put_value, cut_where, key, literal, name, member, assignment, assign_logical, assign_class, goes_right, without_last, is_free, is_pattern, meaning, flag, flag_after}
 use Rattle.es_runs.specs.Core.AssignClass.{logically}
 use Rattle.es_runs.specs.Core.Reference.{named, property}
 use Rattle.es_runs.specs.Alike.{set_cells, kept_cells, Agree, Same, Alike, Equal, SameTarget, SameWorld, Need, Like, the_value, Level, the_target, touches, bad_names, value_and_form, key_need, object_need}
@@ -27,7 +27,7 @@ use Rattle.es_runs.proofs.Congruence.{choice_alike, plain_like}
 use Rattle.es_runs.proofs.Fresh.{or_left, or_right}
 use Rattle.es_runs.proofs.Named.{and_left, and_right}
 use Rattle.es_runs.proofs.RowPlaces.{RowPlace, IsRuleAlike}
-use Rattle.es_runs.proofs.Stripped.{StrippedFree, stripped_free, stripped_reference}
+use Rattle.es_runs.proofs.Stripped.{StrippedFree, stripped_free, stripped_pattern, stripped_reference}
 use Rattle.es_runs.proofs.OptionalChainingNeeds.{object_free}
 use Rattle.es_runs.proofs.Written.{one_of}
 use Rattle.es_runs.proofs.Duplicated.{AllSet, Gives, Twice, kept_same, kept_like, now_kept, now_set, constant_twice, duplicated, read_names, read_from, read_kept, read_apart}
@@ -124,8 +124,8 @@ module _ (bound steady in_use : Text → Bool) where
       let y : Text = first_text l.texts in
       let free : touches (bad_names (one_of []) steady) (record { level = Level.a_target; form = q.target.form }) (node Identifier l done) ≡ false = rw e at q.target.free in
       let unwritten : steady y ≡ false = or_left (steady y) false free in
-      rw (ap first_text texts, is_logically op assigns) (plain_like (set_cells none_hidden) w v p.same n _ _
-      (λ s z a. rw (q.reference, e) (tested_put none_hidden steady w v p.same (without_last op) (meaning w r) (meaning v r) (λ d. kept_like none_hidden steady w v p.same d the_value r q.right)
+      rw (stripped_pattern t (ap (λ u. is_pattern (kind_of u)) e), ap first_text texts, is_logically op assigns) (plain_like (set_cells none_hidden) w v p.same n _ _
+      (λ s z a. rw (q.reference, e) (tested_put none_hidden steady w v p.same (without_last op) (meaning w r) (meaning v r) (λ d. kept_like none_hidden steady w v p.same p.others d the_value r q.right)
       (named y) (name y) (cells z) (now_set none_hidden steady s z a) (target_name refl unwritten) (λ s2 z2 b. refl) s z (now_kept none_hidden steady s z a))))
   logical_assignment_like xs w v n _ _ p (to_static_member {m = m} {l = l} {k = k} {t = t} {r = r} {o = o} {o1 = o1} {o2 = o2} {op = op} texts assigns e flags object) =
       let q : Parts w v xs t r = parts_of w v xs n m t r p in
@@ -134,13 +134,13 @@ module _ (bound steady in_use : Text → Bool) where
       let kt : Text = first_text k.texts in
       let free : touches bad (record { level = Level.a_target; form = q.target.form }) (node MemberExpression l (one o then one (node Identifier k done) then done)) ≡ false = rw e at q.target.free in
       let free_o : touches bad (value_and_form q.target.form) o ≡ false = object_free hidden steady q.target.form (flag_after l.flags) o (or_left (touches bad (object_need q.target.form (flag_after l.flags)) o) (touches bad (key_need (flag l.flags)) (node Identifier k done) || false) free) in
-      rw (ap first_text texts, is_logically op assigns) (plain_like (set_cells hidden) w v p.same n _ _
+      rw (stripped_pattern t (ap (λ u. is_pattern (kind_of u)) e), ap first_text texts, is_logically op assigns) (plain_like (set_cells hidden) w v p.same n _ _
       (λ s z a. rw (q.reference, e, ap flag flags, ap flag_after flags)
-      (from_object hidden steady w v p.same (without_last op) (meaning w r) (meaning v r) (λ d. kept_like hidden steady w v p.same d the_value r q.right)
+      (from_object hidden steady w v p.same (without_last op) (meaning w r) (meaning v r) (λ d. kept_like hidden steady w v p.same p.others d the_value r q.right)
       false (meaning v o2) (name kt) (literal (text kt) other) (λ u. refl) (read_names o2) none_hidden
       (λ y i. read_kept hidden steady xs (λ c j. j) y (read_from hidden steady q.target.form object free_o y i)) (λ y i. absurd (cc i))
-      (one_of xs) none_hidden (λ y i. refl) (name kt) (name kt) (λ d set s2 z2 b. constant_twice hidden steady w v p.same none_hidden (text kt) other d set s2 z2 b)
-      (cells z) (duplicated hidden steady w v p.same q.frozen_bound q.target.form object (λ c j. j) p.cells free_o (cells z) (now_set hidden steady s z a) s z (now_kept hidden steady s z a)))))
+      (one_of xs) none_hidden (λ y i. refl) (name kt) (name kt) (λ d set s2 z2 b. constant_twice hidden steady w v p.same p.others none_hidden (text kt) other d set s2 z2 b)
+      (cells z) (duplicated hidden steady w v p.same p.others q.frozen_bound q.target.form object (λ c j. j) p.cells free_o (cells z) (now_set hidden steady s z a) s z (now_kept hidden steady s z a)))))
   logical_assignment_like _ w v n _ _ p (to_computed_member {m = m} {l = l} {t = t} {r = r} {o = o} {o1 = o1} {o2 = o2} {k = k} {k1 = k1} {k2 = k2} {op = op} {xs = xs} {ys = ys} texts assigns e flags object index) =
       let q : Parts w v (xs ++ ys) t r = parts_of w v (xs ++ ys) n m t r p in
       let hidden : Text → Bool = one_of (xs ++ ys) in
@@ -152,11 +152,11 @@ module _ (bound steady in_use : Text → Bool) where
       let free_key : touches bad (value_and_form false) k ≡ false = rw (ap flag flags) at free_k in
       let cover_o : (y : Text) → one_of xs y ≡ true → hidden y ≡ true = first_of xs ys in
       let cover_k : (y : Text) → one_of ys y ≡ true → hidden y ≡ true = later_of xs ys in
-      rw (ap first_text texts, is_logically op assigns) (plain_like (set_cells hidden) w v p.same n _ _
+      rw (stripped_pattern t (ap (λ u. is_pattern (kind_of u)) e), ap first_text texts, is_logically op assigns) (plain_like (set_cells hidden) w v p.same n _ _
       (λ s z a. rw (q.reference, e, ap flag flags, ap flag_after flags)
-      (from_object hidden steady w v p.same (without_last op) (meaning w r) (meaning v r) (λ d. kept_like hidden steady w v p.same d the_value r q.right)
+      (from_object hidden steady w v p.same (without_last op) (meaning w r) (meaning v r) (λ d. kept_like hidden steady w v p.same p.others d the_value r q.right)
       true (meaning v o2) (meaning v k2) (meaning v k2) (λ u. refl) (read_names o2) (read_names k2)
       (λ y i. read_kept hidden steady xs cover_o y (read_from hidden steady form object free_o y i)) (λ y i. read_kept hidden steady ys cover_k y (read_from hidden steady false index free_key y i))
       (one_of xs) (one_of ys) (λ y i. read_apart hidden steady xs in_use index cover_k y (read_from hidden steady form object free_o y i))
-      (meaning w k) (meaning v k1) (λ d set s2 z2 b. duplicated hidden steady w v p.same q.frozen_bound false index cover_k (λ y i. p.cells y (cover_k y i)) free_key d set s2 z2 b)
-      (cells z) (duplicated hidden steady w v p.same q.frozen_bound form object cover_o (λ y i. p.cells y (cover_o y i)) free_o (cells z) (now_set hidden steady s z a) s z (now_kept hidden steady s z a)))))
+      (meaning w k) (meaning v k1) (λ d set s2 z2 b. duplicated hidden steady w v p.same p.others q.frozen_bound false index cover_k (λ y i. p.cells y (cover_k y i)) free_key d set s2 z2 b)
+      (cells z) (duplicated hidden steady w v p.same p.others q.frozen_bound form object cover_o (λ y i. p.cells y (cover_o y i)) free_o (cells z) (now_set hidden steady s z a) s z (now_kept hidden steady s z a)))))

@@ -8,7 +8,7 @@ use Rattle.es_tree.specs.declared.ast_type.AstType.{AstType}
 use Rattle.es_tree.specs.declared.ast_type.AstType.TheVariants.{Program, ExpressionStatement, VariableDeclaration, VariableDeclarator, Identifier, NumericLiteral, UnaryExpression, UpdateExpression, BinaryExpression, LogicalExpression, ConditionalExpression, AssignmentExpression, SequenceExpression, MemberExpression, CallExpression, NewExpression, ChainExpression, ParenthesizedExpression}
 use Rattle.es_runs.specs.Alike.{Level, Need, bad_names, object_level}
 use Rattle.es_runs.specs.Alike.Level.{no_evaluation, value_alone, an_operand_of_typeof, whole_reference, a_callee, a_target}
-use Rattle.es_runs.specs.Core.{World, Form, Meaning, Part, UnaryClass, unary_by, unary_class, void_form, meaning, parts, second, is_math, pow_form, static_form, member_form, of_one, of_two, of_three, of_many, of_one_many, of_declarator, of_program}
+use Rattle.es_runs.specs.Core.{World, Form, Meaning, Part, UnaryClass, unary_by, unary_class, void_form, gives_value, is_other, meaning, meaning_of, own_parts, parts, second, is_math, pow_form, static_form, member_form, of_one, of_two, of_three, of_many, of_one_many, of_declarator, of_program}
 use Rattle.es_runs.specs.Core.Form.{word, zero_form, math_pow, member_call, member_bind, other}
 use Rattle.es_runs.specs.Core.Part.{single, several}
 use Rattle.es_runs.specs.Core.UnaryClass.{typeof_class, delete_class, void_class, not_class, asked_class}
@@ -127,23 +127,31 @@ module _ (w : World) (hidden : Text → Bool) where
   KindWordless VariableDeclarator l fs = DeclaredWordless fs
   KindWordless _ l fs = Unit {0}
 
+  kind_wordless : (k : AstType) (l : Label) (fs : Fields) → KindWordless k l fs → Wordless (meaning_of w k l.texts l.flags (own_parts w k fs (parts w fs))).form
+  kind_wordless Identifier l fs h = h
+  kind_wordless VariableDeclarator l fs h = declared_wordless fs h
+  kind_wordless NumericLiteral l fs h = either_wordless (bytes_eq (second l.texts) (codes "0")) zero_form other tt tt
+  kind_wordless UnaryExpression l fs h = one_wordless _ (λ a. unary_wordless (unary_class (first l.texts)) (first l.texts) a) (parts w fs)
+  kind_wordless UpdateExpression l fs h = one_wordless _ (λ a. tt) (parts w fs)
+  kind_wordless BinaryExpression l fs h = two_wordless _ (λ a b. tt) (parts w fs)
+  kind_wordless LogicalExpression l fs h = two_wordless _ (λ a b. tt) (parts w fs)
+  kind_wordless ConditionalExpression l fs h = three_wordless _ (λ a b c. tt) (parts w fs)
+  kind_wordless AssignmentExpression l fs h = two_wordless _ (λ a b. tt) (parts w fs)
+  kind_wordless SequenceExpression l fs h = many_wordless _ (λ es. tt) (parts w fs)
+  kind_wordless MemberExpression l fs h = two_wordless _ (λ a b. member_wordless _ _ a.form b.form) (parts w fs)
+  kind_wordless CallExpression l fs h = one_many_wordless _ (λ a es. tt) (own_parts w CallExpression fs (parts w fs))
+  kind_wordless NewExpression l fs h = one_many_wordless _ (λ a es. tt) (parts w fs)
+  kind_wordless ChainExpression l fs h = one_wordless _ (λ a. tt) (parts w fs)
+  kind_wordless ParenthesizedExpression l fs h = one_wordless _ (λ a. tt) (parts w fs)
+  kind_wordless ExpressionStatement l fs h = one_wordless _ (λ a. tt) (parts w fs)
+  kind_wordless VariableDeclaration l fs h = many_wordless _ (λ ds. tt) (parts w fs)
+  kind_wordless Program l fs h = program_wordless (parts w fs)
+  kind_wordless _ l fs h = tt
+
+  -- what isn't core has no form
   pub node_wordless : (k : AstType) (l : Label) (fs : Fields) → KindWordless k l fs → Wordless (meaning w (node k l fs)).form
-  node_wordless Identifier l fs h = h
-  node_wordless VariableDeclarator l fs h = declared_wordless fs h
-  node_wordless NumericLiteral l fs h = either_wordless (bytes_eq (second l.texts) (codes "0")) zero_form other tt tt
-  node_wordless UnaryExpression l fs h = one_wordless _ (λ a. unary_wordless (unary_class (first l.texts)) (first l.texts) a) (parts w fs)
-  node_wordless UpdateExpression l fs h = one_wordless _ (λ a. tt) (parts w fs)
-  node_wordless BinaryExpression l fs h = two_wordless _ (λ a b. tt) (parts w fs)
-  node_wordless LogicalExpression l fs h = two_wordless _ (λ a b. tt) (parts w fs)
-  node_wordless ConditionalExpression l fs h = three_wordless _ (λ a b c. tt) (parts w fs)
-  node_wordless AssignmentExpression l fs h = two_wordless _ (λ a b. tt) (parts w fs)
-  node_wordless SequenceExpression l fs h = many_wordless _ (λ es. tt) (parts w fs)
-  node_wordless MemberExpression l fs h = two_wordless _ (λ a b. member_wordless _ _ a.form b.form) (parts w fs)
-  node_wordless CallExpression l fs h = one_many_wordless _ (λ a es. tt) (parts w fs)
-  node_wordless NewExpression l fs h = one_many_wordless _ (λ a es. tt) (parts w fs)
-  node_wordless ChainExpression l fs h = one_wordless _ (λ a. tt) (parts w fs)
-  node_wordless ParenthesizedExpression l fs h = one_wordless _ (λ a. tt) (parts w fs)
-  node_wordless ExpressionStatement l fs h = one_wordless _ (λ a. tt) (parts w fs)
-  node_wordless VariableDeclaration l fs h = many_wordless _ (λ ds. tt) (parts w fs)
-  node_wordless Program l fs h = program_wordless (parts w fs)
-  node_wordless _ l fs h = tt
+  node_wordless k l fs h = at (is_other k fs)
+    where
+      at : (b : Bool) → Wordless (if b then gives_value (w.other (node k l fs)) else meaning_of w k l.texts l.flags (own_parts w k fs (parts w fs))).form
+      at true = tt
+      at false = kind_wordless k l fs h

@@ -18,7 +18,7 @@ use Rattle.es_runs.specs.Machine.Stop.{cut, uncallable, throws, waits, unknown, 
 use Rattle.es_runs.specs.Machine.Cell.{unset, holds}
 use Rattle.es_runs.specs.Machine.Result.{gives, stops}
 use Rattle.es_tree.specs.Names.{first_text as first}
-use Rattle.es_runs.specs.Core.{World, Binding, Reference, Meaning, Form, value, values, get_value, put_value, read_cell, write_name, change_cell, keep_cell, gives_value, nothing, key, member, receiver, run_call, plain_call, apply_call, apply_bind, method_call, unmarked_call, call_value, call_of, closed_result, chain, typeof_name, typeof_value, delete_value, UnaryClass, unary_by, unary_class, is_equality, asked_binary, equality, goes_right, logical, conditional, last_value, AssignClass, assigned, assign_class, without_last, update_at, in_order, initialise, settle, declared, Part, of_one, of_two, of_three, of_many, of_one_many, of_declarator, of_program, meaning_of, meaning, parts, part, meanings, second, flag, flag_after}
+use Rattle.es_runs.specs.Core.{World, Binding, Reference, Meaning, Form, value, values, get_value, put_value, read_cell, write_name, change_cell, keep_cell, gives_value, nothing, key, member, receiver, run_call, plain_call, apply_call, apply_bind, method_call, unmarked_call, call_value, call_of, closed_result, chain, typeof_name, typeof_value, delete_value, UnaryClass, unary_by, unary_class, is_equality, asked_binary, equality, goes_right, logical, conditional, last_value, AssignClass, assigned, assign_class, without_last, update_at, in_order, initialise, settle, declared, Part, of_one, of_two, of_three, of_many, of_one_many, of_declarator, of_program, begins_with_spread, has_spread, first_formed, form_beside, own_parts, is_other, meaning_of, meaning, parts, part, meanings, second, flag, flag_after}
 use Rattle.es_runs.specs.Core.UnaryClass.{typeof_class, delete_class, void_class, not_class, asked_class}
 use Rattle.es_runs.specs.Core.AssignClass.{plainly, logically, compound}
 use Rattle.es_runs.specs.Core.Binding.{free, changeable, constant, silent}
@@ -348,38 +348,64 @@ module _ (w : World) where
   kind_sound Program ts fs ps m h = program_parts ps h
   kind_sound _ ts fs ps m h = nothing_sound
 
+  formed_sound : (f : Form → Form) (on : Bool) (ps : List Part) → SoundParts on ps → SoundParts on (first_formed f ps)
+  formed_sound f on [] h = h
+  formed_sound f true (single e ∷ ps) h = h
+  formed_sound f false (single e ∷ ps) h = h
+  formed_sound f on (absent ∷ ps) h = h
+  formed_sound f on (several es ∷ ps) h = h
+
+  called_sound : (on : Bool) (fs : Fields) (ps : List Part) → SoundParts on ps → SoundParts on (own_parts w CallExpression fs ps)
+  called_sound on (f then (many ts then fs)) ps h = formed_sound (form_beside (w.spreads && begins_with_spread ts) (w.spreads && has_spread ts)) on ps h
+  called_sound on done ps h = h
+  called_sound on (f then done) ps h = h
+  called_sound on (f then (missing then fs)) ps h = h
+  called_sound on (f then (one t then fs)) ps h = h
+  called_sound on (f then (statements ts then fs)) ps h = h
+
+  own_sound : (on : Bool) (k : AstType) (fs : Fields) (ps : List Part) → SoundParts on ps → SoundParts on (own_parts w k fs ps)
+  own_sound on CallExpression fs ps h = called_sound on fs ps h
+  own_sound on _ fs ps h = h
+
   abbrev SoundAt : Bool → Meaning → Type 0
   SoundAt true e = Unit {0}
   SoundAt false e = Sound e
 
-  mutual
-    node_sound : (a : Tree) (on : Bool) → strays on a ≡ false → SoundAt on (meaning w a)
-    node_sound (node k l fs) true h = tt
-    node_sound (node k l fs) false h = kind_sound k l.texts l.flags (parts w fs) (or_left (is_marked k l.flags && true) (strays_fields (on_spine k false) fs) h) (fields_sound fs (on_spine k false) (or_right (is_marked k l.flags && true) (strays_fields (on_spine k false) fs) h))
+  -- where what isn't core is never cut short
+  module _ (others : (t : Tree) → strays false t ≡ false → NeverCut (w.other t)) where
+    mutual
+      node_sound : (a : Tree) (on : Bool) → strays on a ≡ false → SoundAt on (meaning w a)
+      node_sound (node k l fs) true h = tt
+      node_sound (node k l fs) false h = at (is_other k fs) (fields_sound fs (on_spine k false) (or_right (is_marked k l.flags && true) (strays_fields (on_spine k false) fs) h))
+        where
+          at : (b : Bool) → SoundParts (on_spine k false) (parts w fs) → Sound (if b then gives_value (w.other (node k l fs)) else meaning_of w k l.texts l.flags (own_parts w k fs (parts w fs)))
+          at true g = plainly_sound _ (λ s. whole (w.other (node k l fs) s) (others (node k l fs) h s))
+          at false g = kind_sound k l.texts l.flags (own_parts w k fs (parts w fs)) (or_left (is_marked k l.flags && true) (strays_fields (on_spine k false) fs) h) (own_sound (on_spine k false) k fs (parts w fs) g)
 
-    fields_sound : (fs : Fields) (on : Bool) → strays_fields on fs ≡ false → SoundParts on (parts w fs)
-    fields_sound done on h = tt
-    fields_sound (f then fs) on h = (field_sound f on (or_left (strays_field on f) (strays_fields false fs) h), fields_sound fs false (or_right (strays_field on f) (strays_fields false fs) h))
+      fields_sound : (fs : Fields) (on : Bool) → strays_fields on fs ≡ false → SoundParts on (parts w fs)
+      fields_sound done on h = tt
+      fields_sound (f then fs) on h = (field_sound f on (or_left (strays_field on f) (strays_fields false fs) h), fields_sound fs false (or_right (strays_field on f) (strays_fields false fs) h))
 
-    field_sound : (f : Field) (on : Bool) → strays_field on f ≡ false → SoundPart on (part w f)
-    field_sound f true h = tt
-    field_sound missing false h = tt
-    field_sound (one n) false h = node_sound n false h
-    field_sound (many ns) false h = nodes_sound ns h
-    field_sound (statements ns) false h = nodes_sound ns h
+      field_sound : (f : Field) (on : Bool) → strays_field on f ≡ false → SoundPart on (part w f)
+      field_sound f true h = tt
+      field_sound missing false h = tt
+      field_sound (one n) false h = node_sound n false h
+      field_sound (many ns) false h = nodes_sound ns h
+      field_sound (statements ns) false h = nodes_sound ns h
 
-    nodes_sound : (ns : Trees) → strays_nodes false ns ≡ false → AllSound (meanings w ns)
-    nodes_sound empty h = tt
-    nodes_sound (n before ns) h = (node_sound n false (or_left (strays false n) (strays_nodes false ns) h), nodes_sound ns (or_right (strays false n) (strays_nodes false ns) h))
+      nodes_sound : (ns : Trees) → strays_nodes false ns ≡ false → AllSound (meanings w ns)
+      nodes_sound empty h = tt
+      nodes_sound (n before ns) h = (node_sound n false (or_left (strays false n) (strays_nodes false ns) h), nodes_sound ns (or_right (strays false n) (strays_nodes false ns) h))
 
-  -- the value of a node without stray marks is never cut short
-  pub value_uncut : (a : Tree) → strays false a ≡ false → NeverCut (value w (meaning w a))
-  value_uncut a h s = back (value w (meaning w a) s) (has_value (meaning w a) (node_sound a false h) s)
+    -- the value of a node without stray marks is never cut short
+    pub value_uncut : (a : Tree) → strays false a ≡ false → NeverCut (value w (meaning w a))
+    value_uncut a h s = back (value w (meaning w a) s) (has_value (meaning w a) (node_sound a false h) s)
 
-  -- nor is its reference, nor what is done with one
-  pub reference_uncut : (a : Tree) → strays false a ≡ false → NeverCut (meaning w a).reference
-  reference_uncut a h s = back ((meaning w a).reference s) (node_sound a false h s)
+    -- nor is its reference
+    pub reference_uncut : (a : Tree) → strays false a ≡ false → NeverCut (meaning w a).reference
+    reference_uncut a h s = back ((meaning w a).reference s) (node_sound a false h s)
 
+  -- nor is what is done with a reference
   pub typeof_uncut : (r : Reference) → NeverCut (typeof_value w r)
   typeof_uncut r s = back (typeof_value w r s) (typeof_steady r s)
 

@@ -6,7 +6,7 @@ use Rattle.es_tree.specs.Words.{Text}
 use Rattle.es_tree.specs.Fresh.{is_among}
 use Rattle.es_tree.specs.Names.{first_text}
 use Rattle.es_tree.specs.Parens.{without_parens}
-use Rattle.es_tree.specs.Tree.{Tree, node, Label, done, ◌then◌, one}
+use Rattle.es_tree.specs.Tree.{Tree, node, Label, done, ◌then◌, one, kind_of}
 use Rattle.es_tree.specs.Walks.{all_nodes}
 use Rattle.es_tree.specs.declared.ast_type.AstType.TheVariants.{ChainExpression, Super, UnaryExpression}
 use Rattle.es_runs.specs.Alike.{Frame, set_cells, kept_cells, Agree, Same, Alike, Equal, Level, Like, LikeAt, Need, SameCalled, SameReference, SameWorld, all_of_it, bad_names, content_level, key_need, the_reference, touches, unary_need}
@@ -17,7 +17,7 @@ use Rattle.es_runs.specs.Alike.LikeCallee.{by_call}
 use Rattle.es_runs.specs.Alike.Same.{both_give, both_stop, outside, at_fault}
 use Rattle.es_runs.specs.Alike.SameCalled.{same_called, bound_called}
 use Rattle.es_runs.specs.Alike.SameReference.{same_name, same_property, same_plain}
-use Rattle.es_runs.specs.Core.{World, Called, Meaning, Reference, value, get_value, gives_value, apply_bind, callee_from, chain, delete_value, key, method_call, receiver, tested_callee, typeof_value, unary_class, is_free, meaning, flag, flag_after}
+use Rattle.es_runs.specs.Core.{World, Called, Meaning, Reference, value, get_value, gives_value, apply_bind, callee_from, chain, delete_value, key, method_call, receiver, tested_callee, typeof_value, unary_class, is_free, meaning, flag, flag_after, is_spread_kind}
 use Rattle.es_runs.specs.Core.Binding.{changeable}
 use Rattle.es_runs.specs.Core.Form.{other}
 use Rattle.es_runs.specs.Core.Reference.{named, property, plain}
@@ -32,6 +32,7 @@ use Rattle.es_runs.specs.OptionalChaining.OptionalChainingRule.{by_tests, as_cal
 use Rattle.es_runs.specs.Rules.{member_node, strays, void_zero_node}
 use Rattle.es_runs.specs.Runs.{cells, identifier}
 use Rattle.es_runs.specs.Standing.{undeclaring}
+use Rattle.es_runs.proofs.CoreWorlds.{never}
 use Rattle.es_runs.proofs.Basic.{ask_alike, get_alike, onward_same, then_alike}
 use Rattle.es_runs.proofs.Congruence.{delete_alike, plain_like, typeof_alike}
 use Rattle.es_runs.proofs.Duplicated.{AllSet, kept_agree, now_kept, now_set, read_names}
@@ -44,6 +45,7 @@ use Rattle.es_runs.proofs.Stripped.{StrippedFree, stripped_free, stripped_refere
 use Rattle.es_runs.proofs.Temporary.{bytes_eq-flip, onward_onward, plain_again}
 use Rattle.es_runs.proofs.Uncut.{NeverCut, bind_uncut, get_uncut}
 use Rattle.es_runs.proofs.Written.{one_of}
+use Rattle.es_runs.proofs.SameOthers.{SameOthers}
 use Rattle.es_runs.proofs.OptionalChainingCalls.{NoProperty, passes_twice}
 use Rattle.es_runs.proofs.OptionalChainingEnds.{ended, short_then, short_value}
 use Rattle.es_runs.proofs.OptionalChainingKinds.{Unnamed, chain_content, first_part, link_gives, link_unnamed}
@@ -107,12 +109,12 @@ module _ (F : Frame) (w v : World) (same : SameWorld F.hidden w v) where
   callee_alike _ _ (same_property {o = o} {k = k}) = then_alike F (ask_alike F (get o k)) (λ f. tested_alike (is_callable f) f o)
   callee_alike _ _ (same_plain {v = u}) = tested_alike (is_callable u) u undefined
 
-module _ (no_all : Bool) (hidden steady bound in_use : Text → Bool) (w v : World) (counts : v.counts_all ≡ not no_all) (same : SameWorld hidden w v) (vars : (y : Text) → hidden y ≡ true → v.scope y ≡ changeable) (steady_bound : (y : Text) → steady y ≡ true → is_free (w.scope y) ≡ false) (binds : (y : Text) → bound y ≡ true → is_free (w.scope y) ≡ false) where
+module _ (no_all : Bool) (hidden steady bound in_use : Text → Bool) (w v : World) (counts : v.counts_all ≡ not no_all) (same : SameWorld hidden w v) (others : SameOthers hidden steady w v) (vars : (y : Text) → hidden y ≡ true → v.scope y ≡ changeable) (steady_bound : (y : Text) → steady y ≡ true → is_free (w.scope y) ≡ false) (binds : (y : Text) → bound y ≡ true → is_free (w.scope y) ≡ false) where
   abbrev H : Frame
   H = set_cells hidden
 
   abbrev FollowsHere : Meaning → Way → Type 0
-  FollowsHere = Follows hidden steady w v same steady_bound
+  FollowsHere = Follows hidden steady w v same others steady_bound
 
   -- A CHAIN
 
@@ -126,17 +128,17 @@ module _ (no_all : Bool) (hidden steady bound in_use : Text → Bool) (w v : Wor
     chain_value : Alike H Equal (value w (chain source)) (value v (after way.current))
     chain_value =
         subst (Alike H Equal (value w (chain source))) (sym (short_value v m way.tests void_zero_node way.current))
-        (ended H Equal w v source way.tests follows.tests_tidy (get_value w) (get_uncut w) (value v (meaning v void_zero_node)) (value v (meaning v way.current)) (value_uncut v way.current follows.tidy)
+        (ended H Equal w v others.uncut source way.tests follows.tests_tidy (get_value w) (get_uncut w) (value v (meaning v void_zero_node)) (value v (meaning v way.current)) (value_uncut v others.uncut way.current follows.tidy)
         (λ s t g. both_give equal g) (content_alike Equal (get_value w) (get_value v) (λ r q e. get_alike H w v same e)))
 
     current_then : {A : Type 0} (k : Value → M A) → ((u : Value) → NeverCut (k u)) → NeverCut (value v (meaning v way.current) >>= k)
-    current_then k h = bind_uncut (value v (meaning v way.current)) k (value_uncut v way.current follows.tidy) h
+    current_then k h = bind_uncut (value v (meaning v way.current)) k (value_uncut v others.uncut way.current follows.tidy) h
 
     chain_typeof : Alike H Equal ((chain source).reference >>= typeof_value w) ((after way.current).reference >>= typeof_value v)
     chain_typeof =
         let read_first : (value v (meaning v way.current) >>= λ u. typeof_value v (plain u)) ≡ ((meaning v way.current).reference >>= typeof_value v) = λ i s. typeof_unnamed v ((meaning v way.current).reference s) (link_unnamed v way.current link s) i in
         subst (Alike H Equal ((chain source).reference >>= typeof_value w)) (sym (short_then v m way.tests void_zero_node way.current (typeof_value v) tested))
-        (ended H Equal w v source way.tests follows.tests_tidy (typeof_value w) (typeof_uncut w) (value v (meaning v void_zero_node) >>= λ u. typeof_value v (plain u)) (value v (meaning v way.current) >>= λ u. typeof_value v (plain u))
+        (ended H Equal w v others.uncut source way.tests follows.tests_tidy (typeof_value w) (typeof_uncut w) (value v (meaning v void_zero_node) >>= λ u. typeof_value v (plain u)) (value v (meaning v way.current) >>= λ u. typeof_value v (plain u))
         (current_then (λ u. typeof_value v (plain u)) (λ u. typeof_uncut v (plain u)))
         (ask_alike H (operator (codes "typeof") (undefined and none)))
         (subst (λ n. Alike H Equal (source.reference >>= typeof_value w) (passes v way.tests n)) (sym read_first) (content_alike Equal (typeof_value w) (typeof_value v) (typeof_alike H w v same))))
@@ -146,7 +148,7 @@ module _ (no_all : Bool) (hidden steady bound in_use : Text → Bool) (w v : Wor
     chain_callee unbound =
         let read_first : (value v (meaning v way.current) >>= λ u. callee_from v (plain u)) ≡ ((meaning v way.current).reference >>= callee_from v) = λ i s. callee_plain v ((meaning v way.current).reference s) (link_unnamed v way.current link s) (link_gives v way.current link unbound s) i in
         subst (Alike H SameCalled ((chain source).reference >>= callee_from w)) (sym (short_then v m way.tests void_zero_node way.current (callee_from v) tested))
-        (ended H SameCalled w v source way.tests follows.tests_tidy (callee_from w) (callee_uncut w) (value v (meaning v void_zero_node) >>= λ u. callee_from v (plain u)) (value v (meaning v way.current) >>= λ u. callee_from v (plain u))
+        (ended H SameCalled w v others.uncut source way.tests follows.tests_tidy (callee_from w) (callee_uncut w) (value v (meaning v void_zero_node) >>= λ u. callee_from v (plain u)) (value v (meaning v way.current) >>= λ u. callee_from v (plain u))
         (current_then (λ u. callee_from v (plain u)) (λ u. callee_uncut v (plain u)))
         (λ s t g. outside)
         (subst (λ n. Alike H SameCalled (source.reference >>= callee_from w) (passes v way.tests n)) (sym read_first) (content_alike SameCalled (callee_from w) (callee_from v) (callee_alike H w v same))))
@@ -157,10 +159,10 @@ module _ (no_all : Bool) (hidden steady bound in_use : Text → Bool) (w v : Wor
     abbrev bound_rest : Tree → Value → M Called
     bound_rest r f = method_call v apply_bind (meaning v r ∷ []) (property f (text (codes "bind"))) >>= λ u. callee_from v (plain u)
 
-    bind_then : (n r : Tree) → (value v (meaning v (bind_node n r)) >>= λ u. callee_from v (plain u)) ≡ (value v (meaning v n) >>= bound_rest r)
-    bind_then n r = λ i s.
+    bind_then : (n r : Tree) → is_spread_kind (kind_of r) ≡ false → (value v (meaning v (bind_node n r)) >>= λ u. callee_from v (plain u)) ≡ (value v (meaning v n) >>= bound_rest r)
+    bind_then n r h = rw (h, never v.spreads) (λ i s.
         (ap (λ q. onward q (λ u. callee_from v (plain u))) (plain_again v (onward (onward (value v (meaning v n) s) (λ o. return (property o (text (codes "bind"))))) (method_call v apply_bind (meaning v r ∷ []))) ∙ onward_onward (value v (meaning v n) s) (λ o. return (property o (text (codes "bind")))) (method_call v apply_bind (meaning v r ∷ [])))
-        ∙ onward_onward (value v (meaning v n) s) (λ f. method_call v apply_bind (meaning v r ∷ []) (property f (text (codes "bind")))) (λ u. callee_from v (plain u))) i
+        ∙ onward_onward (value v (meaning v n) s) (λ f. method_call v apply_bind (meaning v r ∷ []) (property f (text (codes "bind")))) (λ u. callee_from v (plain u))) i)
 
     bound_now : (r : Tree) (f u : Value) (s t : State) → Agree H s t → value v (meaning v r) t ≡ gives u t → Same H SameCalled (tested_callee (is_callable f) f u s) (bound_rest r f t)
     bound_now r f u s t g e = at (is_callable f) refl
@@ -194,7 +196,7 @@ module _ (no_all : Bool) (hidden steady bound in_use : Text → Bool) (w v : Wor
     from_held computed p r keys kept (neither g) = both_stop g
     from_held computed p r keys kept not_called = outside
 
-    chain_bound : (k : Label) (computed : Bool) (o o1 p r : Tree) → Received hidden steady w v same vars steady_bound o o1 r → ObjectParts hidden steady w v same steady_bound source.reference way computed o p →
+    chain_bound : (k : Label) (computed : Bool) (o o1 p r : Tree) → Received hidden steady w v same vars steady_bound o o1 r → ObjectParts hidden steady w v same others steady_bound source.reference way computed o p →
         Alike H SameCalled ((chain source).reference >>= callee_from w) ((after (bind_node (member_at k computed o1 p) r)).reference >>= callee_from v)
     chain_bound k computed o o1 p r receives parts =
         let d : Tree = bind_node (member_at k computed o1 p) r in
@@ -203,15 +205,15 @@ module _ (no_all : Bool) (hidden steady bound in_use : Text → Bool) (w v : Wor
         let last : (((passes v way.tests (value v (meaning v o1)) >>= with_key) >>= get_value v) >>= bound_rest r) ≡ passes v way.tests (value v (meaning v d) >>= λ u. callee_from v (plain u)) =
         ap (λ n. n >>= bound_rest r) (passes_twice v way.tests (value v (meaning v o1)) with_key (get_value v))
         ∙ (passes_then v way.tests (value v (meaning v (member_at k computed o1 p))) (bound_rest r)
-        ∙ ap (passes v way.tests) (sym (bind_then (member_at k computed o1 p) r))) in
+        ∙ ap (passes v way.tests) (sym (bind_then (member_at k computed o1 p) r receives.unspread))) in
         subst (Alike H SameCalled ((chain source).reference >>= callee_from w)) (sym (short_then v m way.tests void_zero_node d (callee_from v) tested))
-        (ended H SameCalled w v source way.tests follows.tests_tidy (callee_from w) (callee_uncut w) (value v (meaning v void_zero_node) >>= λ u. callee_from v (plain u)) (value v (meaning v d) >>= λ u. callee_from v (plain u))
-        (bind_uncut (value v (meaning v d)) (λ u. callee_from v (plain u)) (value_uncut v d tidy) (λ u. callee_uncut v (plain u)))
+        (ended H SameCalled w v others.uncut source way.tests follows.tests_tidy (callee_from w) (callee_uncut w) (value v (meaning v void_zero_node) >>= λ u. callee_from v (plain u)) (value v (meaning v d) >>= λ u. callee_from v (plain u))
+        (bind_uncut (value v (meaning v d)) (λ u. callee_from v (plain u)) (value_uncut v others.uncut d tidy) (λ u. callee_uncut v (plain u)))
         (λ s t g. outside)
         (λ s t g.
         subst (λ q. Same H SameCalled (onward q (callee_from w)) (passes v way.tests (value v (meaning v d) >>= λ u. callee_from v (plain u)) t)) (sym (parts.splits s))
         (subst (λ n. Same H SameCalled (onward (onward (parts.object s) (λ u. key w computed (meaning w p) >>= λ i. return (property u i))) (callee_from w)) (n t)) last
-        (from_held computed p r (key_like hidden steady w v same steady_bound computed p parts.keys) receives.kept (receives.held way.tests parts.object parts.alike s t g)))))
+        (from_held computed p r (key_like hidden steady w v same others steady_bound computed p parts.keys) receives.kept (receives.held way.tests parts.object parts.alike s t g)))))
 
     -- whether it is a member or not
     chain_called : {in_use' : Text → Bool} {ys : List Text} {d : Tree} (c : Tree) → way.current ≡ c → BoundCallee steady in_use' way.holder ys c d → Covers hidden way.taken → Covers hidden ys →
@@ -219,8 +221,8 @@ module _ (no_all : Bool) (hidden steady bound in_use : Text → Bool) (w v : Wor
     chain_called c here (no_member unbound) cover own =
         subst (λ e. Alike H SameCalled ((chain source).reference >>= callee_from w) ((after e).reference >>= callee_from v)) here (chain_callee (subst (λ e. is_member e ≡ false) (sym here) unbound))
     chain_called _ here (to_object {k = k} {computed = computed} {o = o} {o1 = o1} {p = p} {r = r} member_flags receives) cover own =
-        let found : flag_after k.flags ≡ false → ObjectParts hidden steady w v same steady_bound source.reference way (flag k.flags) o p = subst (λ e. ObjectOf hidden steady w v same steady_bound source.reference way (without_parens e)) here follows.object in
-        let parts : ObjectParts hidden steady w v same steady_bound source.reference way computed o p = subst (λ b. ObjectParts hidden steady w v same steady_bound source.reference way b o p) (ap flag member_flags) (found (ap flag_after member_flags)) in
+        let found : flag_after k.flags ≡ false → ObjectParts hidden steady w v same others steady_bound source.reference way (flag k.flags) o p = subst (λ e. ObjectOf hidden steady w v same others steady_bound source.reference way (without_parens e)) here follows.object in
+        let parts : ObjectParts hidden steady w v same others steady_bound source.reference way computed o p = subst (λ b. ObjectParts hidden steady w v same others steady_bound source.reference way b o p) (ap flag member_flags) (found (ap flag_after member_flags)) in
         chain_bound k computed o o1 p r (received hidden steady w v same vars steady_bound super_receives receives (λ y held. cover y (follows.holder y held)) own parts.tidy) parts
 
     -- A MEMBER THAT IS DELETED
@@ -230,8 +232,8 @@ module _ (no_all : Bool) (hidden steady bound in_use : Text → Bool) (w v : Wor
         let read_first : value v (meaning v (delete_node way.current)) ≡ ((meaning v way.current).reference >>= delete_value v) = λ i s. plain_again v (onward ((meaning v way.current).reference s) (delete_value v)) i in
         subst (λ n. Alike H Equal (n >>= delete_value w) (value v (meaning v (where_short m way.tests true_node (delete_node way.current))))) (sym same_reference)
         (subst (Alike H Equal ((chain source).reference >>= delete_value w)) (sym (short_value v m way.tests true_node (delete_node way.current)))
-        (ended H Equal w v source way.tests follows.tests_tidy (delete_value w) (delete_uncut w) (value v (meaning v true_node)) (value v (meaning v (delete_node way.current)))
-        (value_uncut v (delete_node way.current) (or_both (strays false way.current) false follows.tidy refl))
+        (ended H Equal w v others.uncut source way.tests follows.tests_tidy (delete_value w) (delete_uncut w) (value v (meaning v true_node)) (value v (meaning v (delete_node way.current)))
+        (value_uncut v others.uncut (delete_node way.current) (or_both (strays false way.current) false follows.tidy refl))
         (λ s t g. both_give equal g)
         (subst (λ n. Alike H Equal (source.reference >>= delete_value w) (passes v way.tests n)) (sym read_first) (content_alike Equal (delete_value w) (delete_value v) (delete_alike H w v same)))))
 
@@ -267,7 +269,7 @@ module _ (no_all : Bool) (bound steady in_use : Text → Bool) where
     bound_here y h = place.binds y h
 
     abbrev SeenHere : Tree → Type 0
-    SeenHere = Seen (one_of xs) steady w v place.same steady_here
+    SeenHere = Seen (one_of xs) steady w v place.same place.others steady_here
 
     -- the content of a chain
     seen_chain : (m : Label) (e : Tree) (level : Level) → evaluates level ≡ true → touches (bad_names (one_of xs) steady) (record { level = level; form = false }) e || false ≡ false → strays false (node ChainExpression m (one e then done)) ≡ false → all_nodes undeclaring (node ChainExpression m (one e then done)) ≡ true → SeenHere e
@@ -288,9 +290,9 @@ module _ (no_all : Bool) (bound steady in_use : Text → Bool) where
 
       evaluated : (k : Level) → n.level ≡ k → evaluates (content_level k) ≡ true → takes_value k ≡ true → LikeAt (set_cells (one_of xs)) w v k (chain (meaning w e)) (meaning v (where_short m way.tests void_zero_node way.current))
       evaluated k here is takes =
-          let seen : Seen (one_of xs) steady w v place.same (steady_here xs w v n whole place) e = seen_chain xs w v n whole place m e (content_level n.level) (rw here is) place.untouched tidy place.placed in
-          let follows : Follows (one_of xs) steady w v place.same (steady_here xs w v n whole place) (meaning w e) way = walks no_all (one_of xs) steady bound in_use w v (place.same.counts ∙ counts) place.same place.cells (steady_here xs w v n whole place) (bound_here xs w v n whole place) seen (covers_all xs) walked in
-          by_level no_all (one_of xs) steady bound in_use w v (place.same.counts ∙ counts) place.same place.cells (steady_here xs w v n whole place) (bound_here xs w v n whole place) (meaning w e) way follows m tested (tested_link walked tested) k takes
+          let seen : Seen (one_of xs) steady w v place.same place.others (steady_here xs w v n whole place) e = seen_chain xs w v n whole place m e (content_level n.level) (rw here is) place.untouched tidy place.placed in
+          let follows : Follows (one_of xs) steady w v place.same place.others (steady_here xs w v n whole place) (meaning w e) way = walks no_all (one_of xs) steady bound in_use w v (place.same.counts ∙ counts) place.same place.others place.cells (steady_here xs w v n whole place) (bound_here xs w v n whole place) seen (covers_all xs) walked in
+          by_level no_all (one_of xs) steady bound in_use w v (place.same.counts ∙ counts) place.same place.others place.cells (steady_here xs w v n whole place) (bound_here xs w v n whole place) (meaning w e) way follows m tested (tested_link walked tested) k takes
 
       at : (k : Level) → n.level ≡ k → takes_value k ≡ true → LikeAt (set_cells (one_of xs)) w v k (chain (meaning w e)) (meaning v (where_short m way.tests void_zero_node way.current))
       at no_evaluation here takes = tt
@@ -301,12 +303,12 @@ module _ (no_all : Bool) (bound steady in_use : Text → Bool) where
       let xs : List Text = way.taken ++ ys in
       let whole : Tree = node ChainExpression m (one e then done) in
       let evaluated : evaluates (content_level n.level) ≡ true = rw level refl in
-      let seen : Seen (one_of xs) steady w v place.same (steady_here xs w v n whole place) e = seen_chain xs w v n whole place m e (content_level n.level) evaluated place.untouched tidy place.placed in
+      let seen : Seen (one_of xs) steady w v place.same place.others (steady_here xs w v n whole place) e = seen_chain xs w v n whole place m e (content_level n.level) evaluated place.untouched tidy place.placed in
       let cover : Covers (one_of xs) way.taken = covers_first (one_of xs) way.taken ys (covers_all xs) in
-      let follows : Follows (one_of xs) steady w v place.same (steady_here xs w v n whole place) (meaning w e) way = walks no_all (one_of xs) steady bound in_use w v (place.same.counts ∙ counts) place.same place.cells (steady_here xs w v n whole place) (bound_here xs w v n whole place) seen cover walked in
+      let follows : Follows (one_of xs) steady w v place.same place.others (steady_here xs w v n whole place) (meaning w e) way = walks no_all (one_of xs) steady bound in_use w v (place.same.counts ∙ counts) place.same place.others place.cells (steady_here xs w v n whole place) (bound_here xs w v n whole place) seen cover walked in
       record {
         evaluation = subst (λ k. LikeAt (set_cells (one_of xs)) w v k (chain (meaning w e)) (meaning v (where_short m way.tests void_zero_node d))) (sym level)
-            (by_call refl (chain_called no_all (one_of xs) steady bound in_use w v (place.same.counts ∙ counts) place.same place.cells (steady_here xs w v n whole place) (bound_here xs w v n whole place) (meaning w e) way follows m tested (tested_link walked tested) way.current refl callee cover (covers_second (one_of xs) way.taken ys (covers_all xs))));
+            (by_call refl (chain_called no_all (one_of xs) steady bound in_use w v (place.same.counts ∙ counts) place.same place.others place.cells (steady_here xs w v n whole place) (bound_here xs w v n whole place) (meaning w e) way follows m tested (tested_link walked tested) way.current refl callee cover (covers_second (one_of xs) way.taken ys (covers_all xs))));
         form = λ k. short_form v m way.tests void_zero_node d tested;
       }
   optional_chaining_like xs w v n _ _ counts place (in_delete {m = m} {l = l} {t = t} {e = e} {w = way} texts inner walked tested, tidy) =
@@ -318,9 +320,9 @@ module _ (no_all : Bool) (bound steady in_use : Text → Bool) where
       let free_chain : touches bad (record { level = Level.whole_reference; form = below.form }) (node ChainExpression l (one e then done)) ≡ false = rw inner at below.free in
       let tidy_chain : strays false (node ChainExpression l (one e then done)) ≡ false = rw inner at (tidy_stripped t (or_left (strays false t) false tidy)) in
       let formed_chain : all_nodes undeclaring (node ChainExpression l (one e then done)) ≡ true = rw inner at (formed_stripped t (first_part UnaryExpression m t done refl place.placed).1) in
-      let seen : Seen (one_of xs) steady w v place.same (steady_here xs w v n whole place) e = seen_chain xs w v n whole place l e Level.whole_reference refl free_chain tidy_chain formed_chain in
-      let follows : Follows (one_of xs) steady w v place.same (steady_here xs w v n whole place) (meaning w e) way = walks no_all (one_of xs) steady bound in_use w v (place.same.counts ∙ counts) place.same place.cells (steady_here xs w v n whole place) (bound_here xs w v n whole place) seen (covers_all xs) walked in
+      let seen : Seen (one_of xs) steady w v place.same place.others (steady_here xs w v n whole place) e = seen_chain xs w v n whole place l e Level.whole_reference refl free_chain tidy_chain formed_chain in
+      let follows : Follows (one_of xs) steady w v place.same place.others (steady_here xs w v n whole place) (meaning w e) way = walks no_all (one_of xs) steady bound in_use w v (place.same.counts ∙ counts) place.same place.others place.cells (steady_here xs w v n whole place) (bound_here xs w v n whole place) seen (covers_all xs) walked in
       let same_reference : (meaning w t).reference ≡ (chain (meaning w e)).reference = stripped_reference w t (first_part UnaryExpression m t done refl place.placed).1 ∙ ap (λ c. (meaning w c).reference) inner in
       rw (ap first_text texts)
-      (short_like no_all (one_of xs) steady bound in_use w v (place.same.counts ∙ counts) place.same place.cells (steady_here xs w v n whole place) (bound_here xs w v n whole place) (meaning w e) way follows m tested (tested_link walked tested) n ((meaning w t).reference >>= delete_value w) way.tests true_node (delete_node way.current) tested
-      (chain_deleted no_all (one_of xs) steady bound in_use w v (place.same.counts ∙ counts) place.same place.cells (steady_here xs w v n whole place) (bound_here xs w v n whole place) (meaning w e) way follows m tested (tested_link walked tested) (meaning w t) same_reference))
+      (short_like no_all (one_of xs) steady bound in_use w v (place.same.counts ∙ counts) place.same place.others place.cells (steady_here xs w v n whole place) (bound_here xs w v n whole place) (meaning w e) way follows m tested (tested_link walked tested) n ((meaning w t).reference >>= delete_value w) way.tests true_node (delete_node way.current) tested
+      (chain_deleted no_all (one_of xs) steady bound in_use w v (place.same.counts ∙ counts) place.same place.others place.cells (steady_here xs w v n whole place) (bound_here xs w v n whole place) (meaning w e) way follows m tested (tested_link walked tested) (meaning w t) same_reference))

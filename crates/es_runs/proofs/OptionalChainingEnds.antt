@@ -11,6 +11,7 @@ use Rattle.es_runs.specs.Machine.Value.{undefined}
 use Rattle.es_runs.specs.Machine.Stop.{throws, waits, uncallable, cut, unknown, breaks, continues, out_of_turns, faults}
 use Rattle.es_runs.specs.Machine.Result.{gives, stops}
 use Rattle.es_runs.specs.OptionalChaining.{has_tests, joined_by_or, where_short}
+use Rattle.es_runs.specs.Rules.{strays}
 use Rattle.es_runs.proofs.NoStray.{value_uncut}
 use Rattle.es_runs.proofs.Temporary.{onward_onward, plain_again}
 use Rattle.es_runs.proofs.Uncut.{Goes, NeverCut}
@@ -62,7 +63,7 @@ module _ (F : Frame) {A B : Type 0} (R : A → B → Type 0) where
   gone after h outside = outside
   gone after h (at_fault h0) = at_fault h0
 
-  module _ (v : World) (after : State → Result A) (short long : M B) (long_goes : NeverCut long) (short_same : Alike F R after short) where
+  module _ (v : World) (others : (t : Tree) → strays false t ≡ false → NeverCut (v.other t)) (after : State → Result A) (short long : M B) (long_goes : NeverCut long) (short_same : Alike F R after short) where
     cut_here : (t : State) {r : Result A} → Same F R r (stops cut t) → Same F R (instead after r) (short t)
     cut_here t (both_stop {s = s} g) = short_same s t g
     cut_here t outside = outside
@@ -71,7 +72,7 @@ module _ (F : Frame) {A B : Type 0} (R : A → B → Type 0) where
     -- tests that cut short choose the short side instead
     settled : (ts : List Tree) → AllTidy ts → (r : Result A) (t : State) → Same F R r (passes v ts long t) → Same F R (instead after r) (tries v ts short long t)
     settled [] tidy r t h = gone after (long_goes t) h
-    settled (t1 ∷ ts) tidy r t h = at (value v (meaning v t1) t) (value_uncut v t1 tidy.0 t) h (λ z k. settled ts tidy.1 r z k)
+    settled (t1 ∷ ts) tidy r t h = at (value v (meaning v t1) t) (value_uncut v others t1 tidy.0 t) h (λ z k. settled ts tidy.1 r z k)
       where
         by_test : (b : Bool) (z : State) → Same F R r ((if b then stop cut else passes v ts long) z) → ((z : State) → Same F R r (passes v ts long z) → Same F R (instead after r) (tries v ts short long z)) → Same F R (instead after r) ((if b then short else tries v ts short long) z)
         by_test true z k rest = cut_here z k
@@ -83,11 +84,11 @@ module _ (F : Frame) {A B : Type 0} (R : A → B → Type 0) where
         at (stops n z) e k rest = gone after e k
 
 -- What is done with a chain, and with what its content becomes, by tests: from what is done with the content.
-pub ended : (F : Frame) {A B : Type 0} (R : A → B → Type 0) (w v : World) (source : Meaning) (ts : List Tree) → AllTidy ts → (k : Reference → M A) → ((r : Reference) → NeverCut (k r)) → (short long : M B) → NeverCut long →
+pub ended : (F : Frame) {A B : Type 0} (R : A → B → Type 0) (w v : World) → ((t : Tree) → strays false t ≡ false → NeverCut (v.other t)) → (source : Meaning) (ts : List Tree) → AllTidy ts → (k : Reference → M A) → ((r : Reference) → NeverCut (k r)) → (short long : M B) → NeverCut long →
     Alike F R (k (plain undefined)) short → Alike F R (source.reference >>= k) (passes v ts long) → Alike F R ((chain source).reference >>= k) (tries v ts short long)
-ended F R w v source ts tidy k k_goes short long long_goes h g s t a =
+ended F R w v others source ts tidy k k_goes short long long_goes h g s t a =
     subst (λ q. Same F R q (tries v ts short long t)) (sym (chain_then k k_goes (source.reference s)))
-    (settled F R v (k (plain undefined)) short long long_goes h ts tidy (onward (source.reference s) k) t (g s t a))
+    (settled F R v others (k (plain undefined)) short long long_goes h ts tidy (onward (source.reference s) k) t (g s t a))
 
 -- `tests ? short : long`, by its tests one after the other
 pub short_value : (v : World) (m : Label) (ts : List Tree) (short long : Tree) → value v (meaning v (where_short m ts short long)) ≡ tries v ts (value v (meaning v short)) (value v (meaning v long))

@@ -3,7 +3,7 @@ use Rattle.std.proofs.Common.{◌≡◌, refl, List, [], ◌∷◌}
 use Rattle.std.specs.Prelude.{Bool, true, false, ◌&&◌, bytes_eq, codes, if◌then◌else◌}
 use Rattle.es_tree.specs.Words.{Text}
 use Rattle.es_tree.specs.Tree.{Tree}
-use Rattle.es_runs.specs.Core.{World, Form, Meaning, Reference, as_plain, member_form, pow_form, is_math, call_of, plain_call, method_call, apply_call, apply_bind, unmarked_call, is_free}
+use Rattle.es_runs.specs.Core.{World, Form, Meaning, Reference, as_plain, member_form, pow_form, is_math, call_of, plain_call, method_call, apply_call, apply_bind, unmarked_call, is_free, form_beside}
 use Rattle.es_runs.specs.Core.Form.{word, math_pow, member_call, member_bind, other}
 use Rattle.es_runs.specs.Machine.{M, ◌>>=◌}
 use Rattle.es_runs.specs.OptionalChaining.{has_tests}
@@ -40,6 +40,14 @@ pub member_no_math : (v : World) (computed : Bool) (f g : Form) → NoMath v f �
 member_no_math v true f g h = tt
 member_no_math v false f (word p) h = static_no_math v (bytes_eq p (codes "call")) (bytes_eq p (codes "bind")) (bytes_eq p (codes "pow")) (pow_form v false f) (pow_no_math v f h)
 member_no_math v false f _ h = tt
+
+pub formed_no_math : (v : World) (in_front some : Bool) (f : Form) → NoMath v f → NoMath v (form_beside in_front some f)
+formed_no_math v in_front some math_pow h = absurd h
+formed_no_math v true some member_call h = tt
+formed_no_math v false some member_call h = tt
+formed_no_math v true some member_bind h = tt
+formed_no_math v false some member_bind h = tt
+formed_no_math v in_front some _ h = h
 
 -- a member of a name that is bound has the form of the marked member
 pub marked_form : (w v : World) (computed : Bool) (f : Form) (y : Text) (g g' : Form) → is_math v y ≡ false → (computed ≡ false → g' ≡ g) → member_form v computed false (word y) g' ≡ member_form w computed true f g

@@ -1,6 +1,6 @@
 -- What a node gives by its kind: a member or not, a name or not.
 use Rattle.std.proofs.Common.{◌≡◌, refl, List, [], ◌∷◌, Option}
-use Rattle.std.specs.Prelude.{Bool, true, false, ◌&&◌}
+use Rattle.std.specs.Prelude.{Bool, true, false, ◌&&◌, if◌then◌else◌}
 use Rattle.es_tree.specs.Words.{Text}
 use Rattle.es_tree.specs.Names.{first_text as first}
 use Rattle.es_tree.specs.Parens.{without_parens}
@@ -8,7 +8,7 @@ use Rattle.es_tree.specs.Tree.{Tree, node, Label, Fields, done, ◌then◌, miss
 use Rattle.es_tree.specs.Walks.{all_nodes, all_in_fields}
 use Rattle.es_tree.specs.declared.ast_type.AstType.{AstType}
 use Rattle.es_tree.specs.declared.ast_type.AstType.TheVariants.{Program, ExpressionStatement, VariableDeclaration, VariableDeclarator, UnaryExpression, UpdateExpression, BinaryExpression, LogicalExpression, ConditionalExpression, AssignmentExpression, SequenceExpression, MemberExpression, CallExpression, NewExpression, ChainExpression, ParenthesizedExpression}
-use Rattle.es_runs.specs.Core.{World, Meaning, Reference, Part, UnaryClass, unary_by, unary_class, gives_value, as_plain, cut_where, meaning, meaning_of, member, parts, of_one, of_two, of_three, of_many, of_one_many, of_program, value, key, flag, flag_after}
+use Rattle.es_runs.specs.Core.{World, Meaning, Reference, Part, UnaryClass, unary_by, unary_class, gives_value, as_plain, cut_where, is_other, meaning, meaning_of, member, own_parts, parts, of_one, of_two, of_three, of_many, of_one_many, of_program, value, key, flag, flag_after}
 use Rattle.es_runs.specs.Core.Part.{single, several}
 use Rattle.es_runs.specs.Core.Reference.{named}
 use Rattle.es_runs.specs.Core.UnaryClass.{typeof_class, delete_class, void_class, not_class, asked_class}
@@ -53,7 +53,7 @@ module _ (w : World) where
 
   pub link_unnamed : (t : Tree) → is_link t ≡ true → (s : State) → Unnamed ((meaning w t).reference s)
   link_unnamed (node MemberExpression l fs) e s = member_unnamed (flag l.flags) (flag_after l.flags) (parts w fs) s
-  link_unnamed (node CallExpression l fs) e s = call_unnamed _ (parts w fs) s
+  link_unnamed (node CallExpression l fs) e s = call_unnamed _ (own_parts w CallExpression fs (parts w fs)) s
   link_unnamed (node k l fs) e s = absurd (cc e)
 
   -- NO MEMBER
@@ -122,13 +122,21 @@ module _ (w : World) where
   kind_plain VariableDeclarator ts fs ps h s = absurd (cc h)
   kind_plain _ ts fs ps h s = tt
 
+-- a node, by its kind; what isn't core gives a value
+node_plain : (w : World) (k : AstType) (l : Label) (fs : Fields) → gives_member w k ≡ false → (s : State) → NoProperty ((meaning w (node k l fs)).reference s)
+node_plain w k l fs h s = at (is_other k fs)
+  where
+    at : (b : Bool) → NoProperty ((if b then gives_value (w.other (node k l fs)) else meaning_of w k l.texts l.flags (own_parts w k fs (parts w fs))).reference s)
+    at true = no_property_onward (w.other (node k l fs) s) as_plain (λ a z. tt)
+    at false = kind_plain w k l.texts l.flags (own_parts w k fs (parts w fs)) h s
+
 -- a call
 pub call_plain : (w : World) (l : Label) (f : Tree) (ts : Trees) (s : State) → NoProperty ((meaning w (call_at l f ts)).reference s)
-call_plain w l f ts s = kind_plain w CallExpression l.texts (false ∷ []) (parts w (one f then many ts then done)) refl s
+call_plain w l f ts s = kind_plain w CallExpression l.texts (false ∷ []) (own_parts w CallExpression (one f then many ts then done) (parts w (one f then many ts then done))) refl s
 
 pub link_gives : (w : World) (t : Tree) → is_link t ≡ true → is_member t ≡ false → (s : State) → NoProperty ((meaning w t).reference s)
 link_gives w (node MemberExpression l fs) e m s = absurd (cc m)
-link_gives w (node CallExpression l fs) e m s = kind_plain w CallExpression l.texts l.flags (parts w fs) refl s
+link_gives w (node CallExpression l fs) e m s = kind_plain w CallExpression l.texts l.flags (own_parts w CallExpression fs (parts w fs)) refl s
 link_gives w (node k l fs) e m s = absurd (cc e)
 
 -- BELOW PARENTHESES
@@ -161,7 +169,7 @@ unreceived w (node ParenthesizedExpression l done) m c d u s = tt
 unreceived w (node MemberExpression l fs) m c d u s = absurd (cc m)
 unreceived w (node ChainExpression l fs) m c d u s = absurd (cc c)
 unreceived w (node VariableDeclarator l fs) m c d u s = absurd (cc d)
-unreceived w (node k l fs) m c d u s = kind_plain w k l.texts l.flags (parts w fs) refl s
+unreceived w (node k l fs) m c d u s = node_plain w k l fs refl s
 
 -- what a chain holds is a step of a spine
 pub chain_content : (l : Label) (c : Tree) → all_nodes undeclaring (node ChainExpression l (one c then done)) ≡ true → (is_link c ≡ true) × (all_nodes undeclaring c ≡ true)

@@ -22,11 +22,13 @@ use Rattle.es_runs.specs.OptionalChaining.Receives.{by_this, by_name as receives
 use Rattle.es_runs.specs.Rules.{assign_node, strays, strays_nodes}
 use Rattle.es_runs.specs.Runs.{identifier, made}
 use Rattle.es_runs.specs.NullishCoalescing.{also_all}
+use Rattle.es_runs.proofs.CoreWorlds.{never}
 use Rattle.es_runs.proofs.Duplicated.{earlier_free, fresh_after, read_names}
 use Rattle.es_runs.proofs.Lists.{AllLike}
 use Rattle.es_runs.proofs.Named.{or_both, or_second}
 use Rattle.es_runs.proofs.Temporary.{bytes_eq-equal, bytes_eq-flip}
 use Rattle.es_runs.proofs.Written.{one_of}
+use Rattle.es_runs.proofs.SameOthers.{SameOthers}
 use Rattle.es_runs.proofs.OptionalChainingCalls.{NoProperty, finish_after, from_object, name_called, passes_no_property, passes_twice}
 use Rattle.es_runs.proofs.OptionalChainingReceivers.{Covers, Received, apart, hidden_bound, received}
 use Rattle.es_runs.proofs.OptionalChainingStores.{name_alike, stored_alike}
@@ -44,18 +46,18 @@ unreceived_source F w es (both_stop g) h = refl
 unreceived_source F w es outside h = refl
 unreceived_source F w es (at_fault h0) h = refl
 
-module _ (no_all : Bool) (hidden steady bound in_use : Text → Bool) (w v : World) (counts : v.counts_all ≡ not no_all) (same : SameWorld hidden w v) (vars : (y : Text) → hidden y ≡ true → v.scope y ≡ changeable) (steady_bound : (y : Text) → steady y ≡ true → is_free (w.scope y) ≡ false) (binds : (y : Text) → bound y ≡ true → is_free (w.scope y) ≡ false) where
+module _ (no_all : Bool) (hidden steady bound in_use : Text → Bool) (w v : World) (counts : v.counts_all ≡ not no_all) (same : SameWorld hidden w v) (others : SameOthers hidden steady w v) (vars : (y : Text) → hidden y ≡ true → v.scope y ≡ changeable) (steady_bound : (y : Text) → steady y ≡ true → is_free (w.scope y) ≡ false) (binds : (y : Text) → bound y ≡ true → is_free (w.scope y) ≡ false) where
   abbrev F : Frame
   F = set_cells hidden
 
   abbrev FollowsHere : Meaning → Way → Type 0
-  FollowsHere = Follows hidden steady w v same steady_bound
+  FollowsHere = Follows hidden steady w v same others steady_bound
 
   abbrev SeenHere : Tree → Type 0
-  SeenHere = Seen hidden steady w v same steady_bound
+  SeenHere = Seen hidden steady w v same others steady_bound
 
   abbrev ContinuesHere : Tree → Way → Type 0
-  ContinuesHere = Continues no_all hidden steady bound in_use w v counts same vars steady_bound binds
+  ContinuesHere = Continues no_all hidden steady bound in_use w v counts same others vars steady_bound binds
 
   pub called_covers : {l : Label} {ts : Trees} {way next : Way} → Called no_all bound steady in_use l ts way next → Covers hidden next.taken → Covers hidden way.taken
   called_covers (by_name none named_one) cover = cover
@@ -70,11 +72,11 @@ module _ (no_all : Bool) (hidden steady bound in_use : Text → Bool) (w v : Wor
     abbrev es' : List Meaning
     es' = meanings v ts
 
-    args : SeenAll hidden steady w v same steady_bound ts
-    args = seen_arguments hidden steady w v same steady_bound l f ts seen
+    args : SeenAll hidden steady w v same others steady_bound ts
+    args = seen_arguments hidden steady w v same others steady_bound l f ts seen
 
     arguments : AllLike F w v the_value es es'
-    arguments = all_seen hidden steady w v same steady_bound ts args.untouched
+    arguments = all_seen hidden steady w v same others steady_bound ts args.untouched
 
     abbrev finishes : Value → Value → M Reference
     finishes r u = run_call w (is_callable u) es u r >>= as_plain
@@ -95,11 +97,11 @@ module _ (no_all : Bool) (hidden steady bound in_use : Text → Bool) (w v : Wor
     called_name : way.tests ≡ [] → (t : Tree) → without_parens way.current ≡ t → is_name_among bound t ≡ true →
         FollowsHere (meaning w (node CallExpression l (one f then many ts then done))) (record way { tests = null_checks no_all t t; current = call_at l t ts })
     called_name none (node Identifier i fs) here named_one =
-        let known_name : BoundName no_all hidden steady bound in_use w v counts same vars steady_bound binds (first_text i.texts) = bound_name_of no_all hidden steady bound in_use w v counts same vars steady_bound binds from.follows none i fs here named_one in
+        let known_name : BoundName no_all hidden steady bound in_use w v counts same others vars steady_bound binds (first_text i.texts) = bound_name_of no_all hidden steady bound in_use w v counts same others vars steady_bound binds from.follows none i fs here named_one in
         let tidy : strays false (node Identifier i fs) ≡ false = rw here at (tidy_stripped way.current from.follows.tidy) in
         record {
           reference = plain_alike _ (rw here refl) (name_alike hidden steady w v same vars i fs known_name.bound_name no_all counts (finishes undefined) (value w from.source) (call_of v false (name (first_text i.texts)) es').reference
-              (name_value no_all hidden steady bound in_use w v counts same vars steady_bound binds from.follows none i fs here)
+              (name_value no_all hidden steady bound in_use w v counts same others vars steady_bound binds from.follows none i fs here)
               (λ u s t g e. name_called hidden steady w v same vars steady_bound es es' arguments i fs known_name.bound_name u s t g e));
           form = refl;
           object = tt;
@@ -123,7 +125,7 @@ module _ (no_all : Bool) (hidden steady bound in_use : Text → Bool) (w v : Wor
         let c_hidden : hidden c ≡ true = cover c mine in
         record {
           reference = plain_alike _ no_member (stored_alike hidden steady w v same vars no_all c c_hidden counts way.tests e (finishes undefined) (value w from.source) (call_of v false (name c) es').reference
-              (stored_follows no_all hidden steady bound in_use w v counts same vars steady_bound binds from.follows)
+              (stored_follows no_all hidden steady bound in_use w v counts same others vars steady_bound binds from.follows)
               (λ u s t g k. name_called hidden steady w v same vars steady_bound es es' arguments (made (Some c ∷ []) []) done (hidden_bound hidden steady w v same vars steady_bound c c_hidden) u s t g k));
           form = refl;
           object = tt;
@@ -138,7 +140,7 @@ module _ (no_all : Bool) (hidden steady bound in_use : Text → Bool) (w v : Wor
 
     -- BY A MEMBER
 
-    member_source : {computed : Bool} {o p : Tree} → (parts : ObjectParts hidden steady w v same steady_bound from.source.reference way computed o p) → (s : State) →
+    member_source : {computed : Bool} {o p : Tree} → (parts : ObjectParts hidden steady w v same others steady_bound from.source.reference way computed o p) → (s : State) →
         (meaning w (node CallExpression l (one f then many ts then done))).reference s ≡ onward (onward (onward (parts.object s) (λ u. key w computed (meaning w p) >>= λ k. return (property u k))) (plain_call w true es)) as_plain
     member_source parts s = rw (ap flag flags) (ap (λ q. onward q as_plain) (from.as_callee es s ∙ ap (λ q. onward q (plain_call w true es)) (parts.splits s)))
 
@@ -152,15 +154,15 @@ module _ (no_all : Bool) (hidden steady bound in_use : Text → Bool) (w v : Wor
     called_member : (c : Text) (names : List Text) (k : Label) (computed : Bool) (o o1 p r : Tree) → hidden c ≡ true → is_among (way.taken ++ names) c ≡ true →
         without_parens way.current ≡ node MemberExpression k (one o then one p then done) → k.flags ≡ computed ∷ false ∷ [] →
         Received hidden steady w v same vars steady_bound o o1 r → ((z : Text) → read_names r z ≡ true → bytes_eq z c ≡ false) →
-        ObjectParts hidden steady w v same steady_bound from.source.reference way computed o p →
+        ObjectParts hidden steady w v same others steady_bound from.source.reference way computed o p →
         FollowsHere (meaning w (node CallExpression l (one f then many ts then done))) (stored_call no_all l ts way names c (member_at k computed o1 p) r)
-    called_member c names k computed o o1 p r c_hidden mine here member_flags receives others parts = record {
+    called_member c names k computed o o1 p r c_hidden mine here member_flags receives apart_names parts = record {
       reference = λ s t g.
-          let m : M Reference = (call_of v false (member v false false (name c) (name (codes "call"))) (meaning v r ∷ es')).reference in
+          rw (receives.unspread, never v.spreads) (let m : M Reference = (call_of v false (member v false false (name c) (name (codes "call"))) (meaning v r ∷ es')).reference in
           subst (λ q. Same F (SameReference F) q (passes v (way.tests ++ null_checks no_all (assign_node (identifier c) (member_at k computed o1 p)) (identifier c)) m t)) (sym (member_source parts s))
           (subst (λ n. Same F (SameReference F) (onward (onward (onward (parts.object s) (λ u. key w computed (meaning w p) >>= λ i. return (property u i))) (plain_call w true es)) as_plain) (n t)) (sym (member_target c k computed o1 p m))
-          (from_object hidden steady w v same vars steady_bound es es' arguments no_all c c_hidden (meaning v r) (read_names r) receives.kept others computed (meaning w p) (meaning v p) (key_like hidden steady w v same steady_bound computed p parts.keys)
-          (receives.held way.tests parts.object parts.alike s t g)));
+          (from_object hidden steady w v same vars steady_bound es es' arguments no_all c c_hidden (meaning v r) (read_names r) receives.kept apart_names computed (meaning w p) (meaning v p) (key_like hidden steady w v same others steady_bound computed p parts.keys)
+          (receives.held way.tests parts.object parts.alike s t g))));
       form = refl;
       object = tt;
       known = tt;
@@ -191,10 +193,10 @@ module _ (no_all : Bool) (hidden steady bound in_use : Text → Bool) (w v : Wor
         let i : x ≡ y = bytes_eq-equal x y (one_alone (bytes_eq x y) e) in
         rw (← i, bytes_eq-flip x c) (or_second (used x) (bytes_eq c x) fresh.free)
 
-    parts_of : {k : Label} {computed : Bool} {o p : Tree} → without_parens way.current ≡ node MemberExpression k (one o then one p then done) → k.flags ≡ computed ∷ false ∷ [] → ObjectParts hidden steady w v same steady_bound from.source.reference way computed o p
+    parts_of : {k : Label} {computed : Bool} {o p : Tree} → without_parens way.current ≡ node MemberExpression k (one o then one p then done) → k.flags ≡ computed ∷ false ∷ [] → ObjectParts hidden steady w v same others steady_bound from.source.reference way computed o p
     parts_of {k} {computed} {o} {p} here member_flags =
-        let parts : flag_after k.flags ≡ false → ObjectParts hidden steady w v same steady_bound from.source.reference way (flag k.flags) o p = subst (ObjectOf hidden steady w v same steady_bound from.source.reference way) here from.follows.object in
-        subst (λ b. ObjectParts hidden steady w v same steady_bound from.source.reference way b o p) (ap flag member_flags) (parts (ap flag_after member_flags))
+        let parts : flag_after k.flags ≡ false → ObjectParts hidden steady w v same others steady_bound from.source.reference way (flag k.flags) o p = subst (ObjectOf hidden steady w v same others steady_bound from.source.reference way) here from.follows.object in
+        subst (λ b. ObjectParts hidden steady w v same others steady_bound from.source.reference way b o p) (ap flag member_flags) (parts (ap flag_after member_flags))
 
     held_hidden : Covers hidden way.taken → (y : Text) → way.holder ≡ Some y → hidden y ≡ true
     held_hidden cover y held = cover y (from.follows.holder y held)
@@ -204,14 +206,14 @@ module _ (no_all : Bool) (hidden steady bound in_use : Text → Bool) (w v : Wor
     follows_called (by_value {c = c} none member fresh) cover = called_value c cover member
     follows_called (by_first_member {k = k} {computed = computed} {o = o} {o1 = o1} {p = p} {r = r} {c = c} {xs = xs} none here member_flags fresh receives) cover =
         let mine : is_among (way.taken ++ c ∷ xs) c ≡ true = among_later way.taken (c ∷ xs) c (among_self c xs) in
-        let parts : ObjectParts hidden steady w v same steady_bound from.source.reference way computed o p = parts_of here member_flags in
+        let parts : ObjectParts hidden steady w v same others steady_bound from.source.reference way computed o p = parts_of here member_flags in
         called_member c (c ∷ xs) k computed o o1 p r (cover c mine) mine here member_flags
         (received hidden steady w v same vars steady_bound (λ e h. h) receives (held_hidden (covers_first hidden way.taken (c ∷ xs) cover)) (covers_second hidden (c ∷ []) xs (covers_second hidden way.taken (c ∷ xs) cover)) parts.tidy)
         (apart hidden steady w v same vars steady_bound way.taken c (cover c mine) receives parts.known (λ y e. fresh_after way.taken in_use y c fresh.free (rw (← among_one way.taken y) e)) (made_after (also_all way.taken in_use) c receives))
         parts
     follows_called (by_later_member {k = k} {computed = computed} {o = o} {o1 = o1} {p = p} {r = r} {c = c} {xs = xs} some here member_flags receives fresh) cover =
         let mine : is_among (way.taken ++ (xs ++ c ∷ [])) c ≡ true = among_later way.taken (xs ++ c ∷ []) c (among_later xs (c ∷ []) c (among_self c [])) in
-        let parts : ObjectParts hidden steady w v same steady_bound from.source.reference way computed o p = parts_of here member_flags in
+        let parts : ObjectParts hidden steady w v same others steady_bound from.source.reference way computed o p = parts_of here member_flags in
         called_member c (xs ++ c ∷ []) k computed o o1 p r (cover c mine) mine here member_flags
         (received hidden steady w v same vars steady_bound (λ e h. h) receives (held_hidden (covers_first hidden way.taken (xs ++ c ∷ []) cover)) (covers_first hidden xs (c ∷ []) (covers_second hidden way.taken (xs ++ c ∷ []) cover)) parts.tidy)
         (apart hidden steady w v same vars steady_bound way.taken c (cover c mine) receives parts.known (λ y e. fresh_after way.taken in_use y c (earlier_free xs (also_all way.taken in_use) c fresh.free) (rw (← among_one way.taken y) e)) (λ y e. fresh_after xs (also_all way.taken in_use) y c fresh.free (rw (← among_one xs y) e)))

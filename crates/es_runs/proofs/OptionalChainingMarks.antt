@@ -30,6 +30,7 @@ use Rattle.es_runs.proofs.Fresh.{or_left}
 use Rattle.es_runs.proofs.Named.{among-append, and_left, and_right}
 use Rattle.es_runs.proofs.Stripped.{StrippedFree, single_parens, single_reference, stripped_free, stripped_reference}
 use Rattle.es_runs.proofs.Temporary.{bytes_eq-self}
+use Rattle.es_runs.proofs.SameOthers.{SameOthers}
 use Rattle.es_runs.proofs.OptionalChainingCalls.{NoProperty}
 use Rattle.es_runs.proofs.OptionalChainingForms.{NoMath, bound_no_math, marked_form, member_no_math}
 use Rattle.es_runs.proofs.OptionalChainingKinds.{call_plain, chain_content, first_part, is_declarator, unreceived}
@@ -38,7 +39,7 @@ use Rattle.es_runs.proofs.OptionalChainingReceivers.{Covers, Known, hidden_bound
 use Rattle.es_runs.proofs.OptionalChainingStores.{name_alike, name_gives, stored_alike}
 use Rattle.es_runs.proofs.OptionalChainingNullChecks.{passes}
 use Rattle.es_runs.proofs.OptionalChainingUncut.{AllTidy, tidy_base, tidy_member, tidy_more, tidy_store, tidy_stripped, tidy_tests}
-use Rattle.es_runs.proofs.OptionalChainingWalks.{Follows, ObjectParts, Seen, SeenKey, value_follows, from_parts, seen_key, seen_like}
+use Rattle.es_runs.proofs.OptionalChainingWalks.{Follows, ObjectParts, Seen, SeenKey, value_follows, from_parts, seen_key, seen_here}
 
 -- NAMES THAT ARE TAKEN
 
@@ -135,7 +136,7 @@ spine_receives v (marked_call {l = l} {arguments = ts} flags below (by_value {c 
 spine_receives v (marked_call {l = l} {arguments = ts} flags below (by_first_member {r = r} {c = c} none member k fresh receives)) h d u m s = call_plain v l (call_method (identifier c)) (r before ts) s
 spine_receives v (marked_call {l = l} {arguments = ts} flags below (by_later_member {r = r} {c = c} some member k receives fresh)) h d u m s = call_plain v l (call_method (identifier c)) (r before ts) s
 
-module _ (no_all : Bool) (hidden steady bound in_use : Text → Bool) (w v : World) (counts : v.counts_all ≡ not no_all) (same : SameWorld hidden w v) (vars : (y : Text) → hidden y ≡ true → v.scope y ≡ changeable) (steady_bound : (y : Text) → steady y ≡ true → is_free (w.scope y) ≡ false) (binds : (y : Text) → bound y ≡ true → is_free (w.scope y) ≡ false) where
+module _ (no_all : Bool) (hidden steady bound in_use : Text → Bool) (w v : World) (counts : v.counts_all ≡ not no_all) (same : SameWorld hidden w v) (others : SameOthers hidden steady w v) (vars : (y : Text) → hidden y ≡ true → v.scope y ≡ changeable) (steady_bound : (y : Text) → steady y ≡ true → is_free (w.scope y) ≡ false) (binds : (y : Text) → bound y ≡ true → is_free (w.scope y) ≡ false) where
   abbrev F : Frame
   F = set_cells hidden
 
@@ -143,10 +144,10 @@ module _ (no_all : Bool) (hidden steady bound in_use : Text → Bool) (w v : Wor
   bad = bad_names hidden steady
 
   abbrev FollowsHere : Meaning → Way → Type 0
-  FollowsHere = Follows hidden steady w v same steady_bound
+  FollowsHere = Follows hidden steady w v same others steady_bound
 
   abbrev SeenHere : Tree → Type 0
-  SeenHere = Seen hidden steady w v same steady_bound
+  SeenHere = Seen hidden steady w v same others steady_bound
 
   -- BEFORE A MARKED STEP
 
@@ -239,7 +240,7 @@ module _ (no_all : Bool) (hidden steady bound in_use : Text → Bool) (w v : Wor
   pub name_value : {source : Meaning} {way : Way} → FollowsHere source way → way.tests ≡ [] → (l : Label) (fs : Fields) → without_parens way.current ≡ node Identifier l fs → Alike F Equal (value w source) (value v (name (first_text l.texts)))
   name_value {source} {way} follows none l fs here =
       let same_value : value v (meaning v way.current) ≡ value v (name (first_text l.texts)) = sym (stripped_value v way.current follows.single) ∙ ap (λ t. value v (meaning v t)) here in
-      subst (Alike F Equal (value w source)) (ap (λ ts. passes v ts (value v (meaning v way.current))) none ∙ same_value) (value_follows hidden steady w v same steady_bound follows)
+      subst (Alike F Equal (value w source)) (ap (λ ts. passes v ts (value v (meaning v way.current))) none ∙ same_value) (value_follows hidden steady w v same others steady_bound follows)
 
   after_name : {source : Meaning} {way : Way} → FollowsHere source way → way.tests ≡ [] → (t : Tree) → without_parens way.current ≡ t → is_name_among bound t ≡ true → AfterTest source (record way { tests = null_checks no_all t t; current = t })
   after_name {source} {way} follows none (node Identifier l fs) here named_one =
@@ -261,7 +262,7 @@ module _ (no_all : Bool) (hidden steady bound in_use : Text → Bool) (w v : Wor
 
   -- what is stored, in the source
   pub stored_follows : {source : Meaning} {way : Way} → FollowsHere source way → Alike F Equal (value w source) (passes v way.tests (value v (meaning v (without_parens way.current))))
-  stored_follows {source} {way} follows = subst (λ m. Alike F Equal (value w source) (passes v way.tests m)) (sym (stripped_value v way.current follows.single)) (value_follows hidden steady w v same steady_bound follows)
+  stored_follows {source} {way} follows = subst (λ m. Alike F Equal (value w source) (passes v way.tests m)) (sym (stripped_value v way.current follows.single)) (value_follows hidden steady w v same others steady_bound follows)
 
   after_store : {source : Meaning} {way : Way} (x : Text) (taken : List Text) (held : Option Text) → hidden x ≡ true → is_among taken x ≡ true → ((y : Text) → held ≡ Some y → is_among taken y ≡ true) → FollowsHere source way →
       AfterTest source (record { tests = way.tests ++ null_checks no_all (assign_node (identifier x) (without_parens way.current)) (identifier x); current = identifier x; holder = held; taken = taken })
@@ -299,9 +300,9 @@ module _ (no_all : Bool) (hidden steady bound in_use : Text → Bool) (w v : Wor
       FollowsHere (meaning w (node MemberExpression l (one o then one p then done))) (record next { current = member_at l computed next.current p })
   follows_marked l computed o p way next flags seen from test cover =
       let after : AfterTest from.source next = after_test test cover from.follows in
-      let keys : SeenKey hidden steady w v same steady_bound computed p = rw (ap flag flags) at (seen_key hidden steady w v same steady_bound l o p seen) in
+      let keys : SeenKey hidden steady w v same others steady_bound computed p = rw (ap flag flags) at (seen_key hidden steady w v same others steady_bound l o p seen) in
       let whole : Way = record next { current = member_at l computed next.current p } in
-      let parts : ObjectParts hidden steady w v same steady_bound (meaning w (node MemberExpression l (one o then one p then done))).reference whole computed next.current p = record {
+      let parts : ObjectParts hidden steady w v same others steady_bound (meaning w (node MemberExpression l (one o then one p then done))).reference whole computed next.current p = record {
         object = value w from.source >>= λ u. cut_where (is_nullish u) (return u);
         splits = λ s. rw (ap flag flags, ap flag_after flags) (from.as_value (λ u. key w computed (meaning w p) >>= λ k. return (property u k)) s ∙ cut_return (λ u. key w computed (meaning w p) >>= λ k. return (property u k)) (value w from.source s));
         alike = after.alike;
@@ -311,8 +312,8 @@ module _ (no_all : Bool) (hidden steady bound in_use : Text → Bool) (w v : Wor
       } in
       let no_math : NoMath v (word after.name) = bound_no_math v after.name after.bound_name in
       record {
-        reference = from_parts hidden steady w v same steady_bound parts;
-        form = rw (ap flag flags, ap flag_after flags, after.form) (marked_form w v computed (meaning w o).form after.name (meaning w p).form (meaning v p).form no_math (λ e. (seen_like hidden steady w v same steady_bound (key_need computed) p keys.untouched).form (rw e refl)));
+        reference = from_parts hidden steady w v same others steady_bound parts;
+        form = rw (ap flag flags, ap flag_after flags, after.form) (marked_form w v computed (meaning w o).form after.name (meaning w p).form (meaning v p).form no_math (λ e. (seen_here hidden steady w v same others steady_bound (key_need computed) p keys.untouched).form (rw e refl)));
         object = λ _. parts;
         known = tt;
         no_math = λ k. member_no_math v computed (meaning v next.current).form (meaning v p).form (subst (NoMath v) (sym after.form) no_math);

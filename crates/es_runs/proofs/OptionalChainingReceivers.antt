@@ -4,13 +4,13 @@ use Rattle.std.specs.Prelude.{Bool, true, false, bytes_eq, if◌then◌else◌, 
 use Rattle.es_tree.specs.Words.{Text}
 use Rattle.es_tree.specs.Fresh.{is_among}
 use Rattle.es_tree.specs.Names.{first_text}
-use Rattle.es_tree.specs.Tree.{Tree, node}
+use Rattle.es_tree.specs.Tree.{Tree, node, kind_of}
 use Rattle.es_tree.specs.declared.ast_type.AstType.TheVariants.{Identifier, Super, ThisExpression}
 use Rattle.es_runs.specs.Alike.{Frame, set_cells, Agree, Same, Alike, Equal, SameWorld}
 use Rattle.es_runs.specs.Alike.Agree.{agree}
 use Rattle.es_runs.specs.Alike.Equal.{equal}
 use Rattle.es_runs.specs.Alike.Same.{both_give, both_stop, outside, at_fault}
-use Rattle.es_runs.specs.Core.{World, Meaning, Form, value, put_value, name, literal, nothing, is_free, meaning, read_cell}
+use Rattle.es_runs.specs.Core.{World, Meaning, Form, value, put_value, name, literal, nothing, is_free, meaning, read_cell, is_spread_kind}
 use Rattle.es_runs.specs.Core.Binding.{changeable}
 use Rattle.es_runs.specs.Core.Form.{other}
 use Rattle.es_runs.specs.Core.Reference.{named}
@@ -149,6 +149,7 @@ module _ (hidden steady : Text → Bool) (w v : World) (same : SameWorld hidden 
     pub held : (ts : List Tree) (m : M Value) → Alike F Equal m (passes v ts (value v (meaning v o))) → (s t : State) → Agree F s t → Held hidden v (meaning v r) (read_names r) (m s) (passes v ts (value v (meaning v o1)) t)
     pub tidy_object : strays false o1 ≡ false
     pub tidy_receiver : strays false r ≡ false
+    pub unspread : is_spread_kind (kind_of r) ≡ false
 
   pub received : {to_this : Tree → Bool} {in_use : Text → Bool} {holder : Option Text} {xs : List Text} {o o1 r : Tree} → ((e : Tree) → to_this e ≡ true → is_this_or_super e ≡ true) → Receives to_this steady in_use holder xs o o1 r → ((y : Text) → holder ≡ Some y → hidden y ≡ true) → Covers hidden xs → strays false o ≡ false → Received o o1 r
   received thises (by_this {o = node ThisExpression l fs} h) stored own tidy = record {
@@ -156,12 +157,14 @@ module _ (hidden steady : Text → Bool) (w v : World) (same : SameWorld hidden 
     held = λ ts m a s t g. held_this other ts t _ refl (a s t g);
     tidy_object = tidy;
     tidy_receiver = refl;
+    unspread = refl;
   }
   received thises (by_this {o = node Super l fs} h) stored own tidy = record {
     kept = λ z e. absurd (cc e);
     held = λ ts m a s t g. held_nothing (meaning v this_node) ts t _ refl (a s t g);
     tidy_object = tidy;
     tidy_receiver = refl;
+    unspread = refl;
   }
   received thises (by_this {o = node k l fs} h) stored own tidy = absurd (cc (thises (node k l fs) h))
   received {holder = holder} thises (by_name {o = node Identifier l fs} h e) stored own tidy =
@@ -172,6 +175,7 @@ module _ (hidden steady : Text → Bool) (w v : World) (same : SameWorld hidden 
         held = λ ts m a s t g. held_name y (kept_bound y stays) ts t _ refl (a s t g);
         tidy_object = tidy;
         tidy_receiver = tidy;
+        unspread = refl;
       }
   received thises (by_name {o = node k l fs} h e) stored own tidy = absurd (cc e)
   received thises (by_temporary {o = o} {r = x} h e fresh) stored own tidy =
@@ -181,6 +185,7 @@ module _ (hidden steady : Text → Bool) (w v : World) (same : SameWorld hidden 
         held = λ ts m a s t g. subst (λ k. Held hidden v (name x) (only x) (m s) (k t)) (sym (ap (passes v ts) (stores_value v x o) ∙ sym (passes_then v ts (value v (meaning v o)) (put_value v (named x))))) (held_temporary x mine (a s t g));
         tidy_object = tidy_store x o tidy;
         tidy_receiver = refl;
+        unspread = refl;
       }
 
   -- a name that is read again isn't the one that holds the callee

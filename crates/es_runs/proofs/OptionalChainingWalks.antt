@@ -14,31 +14,28 @@ use Rattle.es_runs.specs.Alike.Equal.{equal}
 use Rattle.es_runs.specs.Alike.Same.{both_give}
 use Rattle.es_runs.specs.Alike.SameReference.{same_property}
 use Rattle.es_runs.specs.Alike.LikeCallee.{by_reference}
-use Rattle.es_runs.specs.Core.{World, Meaning, Reference, value, get_value, key, member, call_of, is_free, meaning, meanings, flag, flag_after}
+use Rattle.es_runs.specs.Core.{World, Meaning, Reference, value, get_value, key, member, call_of, is_free, meaning, meanings, flag, flag_after, Form, begins_with_spread, form_beside, has_spread, with_form}
 use Rattle.es_runs.specs.Core.Reference.{property}
 use Rattle.es_runs.specs.Machine.{Value, M, ◌>>=◌, onward, return, State, Cell}
 use Rattle.es_runs.specs.OptionalChaining.{Way, start, is_link, has_tests, member_at, call_at}
 use Rattle.es_runs.specs.Rules.{strays, strays_nodes}
-use Rattle.es_runs.specs.Runs.{none_hidden}
 use Rattle.es_runs.specs.Standing.{undeclaring}
 use Rattle.es_runs.proofs.Basic.{get_alike, onward_same}
-use Rattle.es_runs.proofs.NullishCoalescing.{less_touched, none_frozen}
-use Rattle.es_runs.proofs.CoreRules.{unnamed_like, unnamed_words}
-use Rattle.es_runs.proofs.Duplicated.{kept_like}
+use Rattle.es_runs.proofs.Duplicated.{kept_like, seen_like, seen_words}
+use Rattle.es_runs.proofs.SameOthers.{SameOthers}
 use Rattle.es_runs.proofs.Fresh.{or_left, or_right}
 use Rattle.es_runs.proofs.Lists.{AllLike, call_like, key_alike, member_form_like}
 use Rattle.es_runs.proofs.Lists.AllLike.{no_more, one_more}
-use Rattle.es_runs.proofs.MathWords.{NoMathWord}
 use Rattle.es_runs.proofs.Named.{or_both}
 use Rattle.es_runs.proofs.Stripped.{StrippedFree, single_parens, stripped_free, stripped_reference, undeclaring_single}
-use Rattle.es_runs.proofs.OptionalChainingForms.{NoMath, behind, call_behind, member_no_math}
+use Rattle.es_runs.proofs.OptionalChainingForms.{NoMath, behind, call_behind, member_no_math, formed_no_math}
 use Rattle.es_runs.proofs.OptionalChainingKinds.{first_part}
 use Rattle.es_runs.proofs.OptionalChainingNeeds.{evaluates, object_free, read_as}
 use Rattle.es_runs.proofs.OptionalChainingReceivers.{Known}
 use Rattle.es_runs.proofs.OptionalChainingNullChecks.{passes, passes_then}
 use Rattle.es_runs.proofs.OptionalChainingUncut.{AllTidy, tidy_arguments, tidy_base, tidy_call, tidy_callee, tidy_key, tidy_member, tidy_object, tidy_stripped}
 
-module _ (hidden steady : Text → Bool) (w v : World) (same : SameWorld hidden w v) (steady_bound : (y : Text) → steady y ≡ true → is_free (w.scope y) ≡ false) where
+module _ (hidden steady : Text → Bool) (w v : World) (same : SameWorld hidden w v) (others : SameOthers hidden steady w v) (steady_bound : (y : Text) → steady y ≡ true → is_free (w.scope y) ≡ false) where
   abbrev pub F : Frame
   F = set_cells hidden
 
@@ -50,16 +47,12 @@ module _ (hidden steady : Text → Bool) (w v : World) (same : SameWorld hidden 
 
   -- PARTS OF THE SOURCE
 
-  pub seen_like : (n : Need) (e : Tree) → touches bad n e ≡ false → Like F w v n (meaning w e) (meaning v e)
-  seen_like n e h = unnamed_like hidden w v same n e (less_touched bad (bad_names hidden none_hidden) (none_frozen hidden steady) n e h)
-
-  -- no hidden word `Math` is its form
-  seen_words : (e : Tree) → touches bad all_of_it e ≡ false → NoMathWord hidden (meaning w e).form
-  seen_words e h = unnamed_words hidden w v same all_of_it e (less_touched bad (bad_names hidden none_hidden) (none_frozen hidden steady) all_of_it e h) refl
+  pub seen_here : (n : Need) (e : Tree) → touches bad n e ≡ false → Like F w v n (meaning w e) (meaning v e)
+  seen_here = seen_like hidden steady w v same others
 
   pub all_seen : (ts : Trees) → touches_nodes bad the_value ts ≡ false → AllLike F w v the_value (meanings w ts) (meanings v ts)
   all_seen empty h = no_more
-  all_seen (t before ts) h = one_more (seen_like the_value t (or_left (touches bad the_value t) (touches_nodes bad the_value ts) h)) (all_seen ts (or_right (touches bad the_value t) (touches_nodes bad the_value ts) h))
+  all_seen (t before ts) h = one_more (seen_here the_value t (or_left (touches bad the_value t) (touches_nodes bad the_value ts) h)) (all_seen ts (or_right (touches bad the_value t) (touches_nodes bad the_value ts) h))
 
   -- what is known of a node on a spine
   pub record Seen (e : Tree) : Type 0 where
@@ -117,10 +110,10 @@ module _ (hidden steady : Text → Bool) (w v : World) (same : SameWorld hidden 
       or_both (touches bad (the_callee false) f) (touches_nodes bad the_value ts || false) (read_as hidden steady all_of_it (the_callee false) refl refl f h) (or_both (touches_nodes bad the_value ts) false g.untouched refl)
 
   pub key_like : (computed : Bool) (p : Tree) → SeenKey computed p → (d : Text → Cell) → Like (K d) w v (key_need computed) (meaning w p) (meaning v p)
-  key_like computed p h d = kept_like hidden steady w v same d (key_need computed) p h.untouched
+  key_like computed p h d = kept_like hidden steady w v same others d (key_need computed) p h.untouched
 
   pub key_seen : (computed : Bool) (p : Tree) → SeenKey computed p → Alike F Equal (key w computed (meaning w p)) (key v computed (meaning v p))
-  key_seen computed p h = key_alike F w v same computed (meaning w p) (meaning v p) (seen_like (key_need computed) p h.untouched)
+  key_seen computed p h = key_alike F w v same computed (meaning w p) (meaning v p) (seen_here (key_need computed) p h.untouched)
 
   -- THE INVARIANT
 
@@ -188,7 +181,7 @@ module _ (hidden steady : Text → Bool) (w v : World) (same : SameWorld hidden 
       record {
         object = value w (meaning w o);
         splits = λ s. ap (λ m. m s) same_reference ∙ member_splits k o p unmarked s;
-        alike = (seen_like (value_and_form form) o free_o).evaluation;
+        alike = (seen_here (value_and_form form) o free_o).evaluation;
         keys = record { untouched = free_p; tidy = or_left (strays false p) false (or_right (strays false o) (strays false p || false) tidy_both) };
         known = known_seen [] form o free_o;
         tidy = or_left (strays false o) (strays false p || false) tidy_both;
@@ -197,7 +190,7 @@ module _ (hidden steady : Text → Bool) (w v : World) (same : SameWorld hidden 
 
   pub follows_base : (e : Tree) → is_link e ≡ false → Seen e → Follows (meaning w e) (start e)
   follows_base e link h =
-      let like : Like F w v all_of_it (meaning w e) (meaning v e) = seen_like all_of_it e h.untouched in
+      let like : Like F w v all_of_it (meaning w e) (meaning v e) = seen_here all_of_it e h.untouched in
       let below : StrippedFree bad Level.whole_reference e = stripped_free bad Level.whole_reference true e h.untouched in
       let tidy_here : strays false e ≡ false = tidy_base e link h.tidy in
       record {
@@ -229,7 +222,7 @@ module _ (hidden steady : Text → Bool) (w v : World) (same : SameWorld hidden 
       } in
       record {
         reference = from_parts parts;
-        form = rw (ap flag flags, ap flag_after flags) (member_form_like F w v same computed false (meaning w o) (meaning v way.current) (meaning w p) (meaning v p) (seen_words o (seen_object l o p h).untouched) below.form (seen_like (key_need computed) p keys.untouched));
+        form = rw (ap flag flags, ap flag_after flags) (member_form_like F w v same computed false (meaning w o) (meaning v way.current) (meaning w p) (meaning v p) (seen_words hidden steady w v same others all_of_it o (seen_object l o p h).untouched refl) below.form (seen_here (key_need computed) p keys.untouched));
         object = λ _. parts;
         known = tt;
         no_math = λ k. member_no_math v computed (meaning v way.current).form (meaning v p).form (below.no_math k);
@@ -246,10 +239,13 @@ module _ (hidden steady : Text → Bool) (w v : World) (same : SameWorld hidden 
       Follows (meaning w (node CallExpression l (one f then many ts then done))) (record way { current = call_at l way.current ts })
   follows_call l f ts way flags h below =
       let args : SeenAll ts = seen_arguments l f ts h in
-      let calls : Like F w v all_of_it (call_of w false (meaning w f) (meanings w ts)) (call_of v false (behind v way.tests (meaning v way.current)) (meanings v ts)) =
-      call_like F w v same all_of_it false (meaning w f) (behind v way.tests (meaning v way.current)) (meanings w ts) (meanings v ts) (record { evaluation = by_reference below.reference; form = λ _. below.form }) (all_seen ts args.untouched) in
+      let formed : World → Form → Form = λ u. form_beside (u.spreads && begins_with_spread ts) (u.spreads && has_spread ts) in
+      let same_form : formed v (meaning v way.current).form ≡ formed w (meaning w f).form = ap (λ (b : Bool). form_beside (b && begins_with_spread ts) (b && has_spread ts) (meaning v way.current).form) others.spreads ∙ ap (formed w) below.form in
+      let calls : Like F w v all_of_it (call_of w false (with_form (formed w) (meaning w f)) (meanings w ts)) (call_of v false (behind v way.tests (with_form (formed v) (meaning v way.current))) (meanings v ts)) =
+      call_like F w v same all_of_it false (with_form (formed w) (meaning w f)) (behind v way.tests (with_form (formed v) (meaning v way.current))) (meanings w ts) (meanings v ts) (record { evaluation = by_reference below.reference; form = λ _. same_form }) (all_seen ts args.untouched) in
       record {
-        reference = rw (ap flag flags) (subst (Alike F (SameReference F) (call_of w false (meaning w f) (meanings w ts)).reference) (call_behind v way.tests (meaning v way.current) (meanings v ts) below.no_math) calls.evaluation);
+        reference = rw (ap flag flags) (subst (Alike F (SameReference F) (call_of w false (with_form (formed w) (meaning w f)) (meanings w ts)).reference)
+            (call_behind v way.tests (with_form (formed v) (meaning v way.current)) (meanings v ts) (λ k. formed_no_math v (v.spreads && begins_with_spread ts) (v.spreads && has_spread ts) (meaning v way.current).form (below.no_math k))) calls.evaluation);
         form = refl;
         object = tt;
         known = tt;

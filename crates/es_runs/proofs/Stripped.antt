@@ -2,13 +2,12 @@
 use Rattle.std.proofs.Common.{◌≡◌, refl}
 use Rattle.std.specs.Prelude.{Bool, true, false, ◌&&◌}
 use Rattle.es_tree.specs.Words.{Text}
-use Rattle.es_tree.specs.Core.{is_core_node}
 use Rattle.es_tree.specs.Parens.{without_parens}
-use Rattle.es_tree.specs.Tree.{Tree, node, done, ◌then◌, missing, one, many, statements}
+use Rattle.es_tree.specs.Tree.{Tree, node, kind_of, done, ◌then◌, missing, one, many, statements}
 use Rattle.es_tree.specs.Walks.{all_nodes, all_in_fields}
 use Rattle.es_tree.specs.declared.ast_type.AstType.TheVariants.{ParenthesizedExpression}
 use Rattle.es_runs.specs.Alike.{Level, touches, touches_fields}
-use Rattle.es_runs.specs.Core.{World, meaning}
+use Rattle.es_runs.specs.Core.{World, is_pattern, meaning}
 use Rattle.es_runs.specs.Standing.{fields_stand, undeclaring}
 use Rattle.es_runs.proofs.Fresh.{or_left}
 use Rattle.es_runs.proofs.Named.{and_left, and_right}
@@ -58,11 +57,7 @@ stripped_free bad level form (node ParenthesizedExpression l (statements ts then
 stripped_free bad level form (node ParenthesizedExpression l done) h = record { form = form; free = h }
 stripped_free bad level form (node _ l fs) h = record { form = form; free = h }
 
--- and it is core
-pub stripped_core : (t : Tree) → all_nodes is_core_node t ≡ true → all_nodes is_core_node (without_parens t) ≡ true
-stripped_core (node ParenthesizedExpression l (one t then fs)) h = stripped_core t (and_left (all_nodes is_core_node t) (all_in_fields is_core_node fs) h)
-stripped_core (node ParenthesizedExpression l (missing then fs)) h = h
-stripped_core (node ParenthesizedExpression l (many ts then fs)) h = h
-stripped_core (node ParenthesizedExpression l (statements ts then fs)) h = h
-stripped_core (node ParenthesizedExpression l done) h = h
-stripped_core (node _ l fs) h = h
+-- and where it is no pattern, neither is what the parentheses stand around
+pub stripped_pattern : (t : Tree) → is_pattern (kind_of (without_parens t)) ≡ false → is_pattern (kind_of t) ≡ false
+stripped_pattern (node ParenthesizedExpression l fs) h = refl
+stripped_pattern (node _ l fs) h = h

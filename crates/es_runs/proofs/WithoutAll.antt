@@ -24,6 +24,7 @@ use Rattle.es_runs.specs.Core.Reference.{named, property, plain}
 use Rattle.es_runs.specs.Core.Form.{word, null_form, void_zero, math_pow, member_call, member_bind, other}
 use Rattle.es_runs.specs.Core.Part.{absent, single, several}
 use Rattle.es_runs.specs.Runs.{world_of, run_where, cells_of, lacks_all, moves_lack, IsAssumed}
+use Rattle.es_runs.proofs.CoreWorlds.{core_world, core_means}
 use Rattle.es_runs.proofs.Lacking.{NotAll, Anything, ReferenceNotAll, Matches, same_result, not_all, bind, loosen, returns, stopped, choice, asks, reads_name, writes, calls, applies_call, applies_bind, types_name, closed_matched, initialises, settles, first_cells}
 
 -- the two meanings of a node: the same form, and evaluations that match
@@ -272,7 +273,7 @@ module _ (ds : List Declared) (this : Value) (lacks : NotAll this) where
 
   mutual
     node_matching : (a : Tree) → Matching (meaning w a) (meaning v a)
-    node_matching (node k l fs) = kind_matching k l.texts l.flags (fields_matching fs)
+    node_matching (node k l fs) = rw (core_means w (core_world _ _ _) k l fs, core_means v (core_world _ _ _) k l fs) (kind_matching k l.texts l.flags (fields_matching fs))
 
     fields_matching : (fs : Fields) → PartsMatching (parts w fs) (parts v fs)
     fields_matching done = no_part

@@ -5,7 +5,8 @@ use Rattle.std.specs.List.{list_any}
 use Rattle.es_tree.specs.Words.{Text}
 use Rattle.es_tree.specs.Tree.{Tree, node, Label, done, ◌then◌, many, statements, Trees, trees}
 use Rattle.es_tree.specs.declared.ast_type.AstType.TheVariants.{Program, VariableDeclaration}
-use Rattle.es_runs.specs.Machine.{Value, Move, State, Cell, Result}
+use Rattle.es_runs.specs.Machine.Stop.{unknown}
+use Rattle.es_runs.specs.Machine.{stop, Value, Move, State, Cell, Result}
 use Rattle.es_runs.specs.Machine.Value.{undefined}
 use Rattle.es_runs.specs.Machine.State.{state}
 use Rattle.es_runs.specs.Machine.Cell.{holds}
@@ -64,7 +65,7 @@ cells_of-vars (x ∷ xs) ds y = ap (λ (b : Cell). if bytes_eq y x then holds un
 -- a run depends on the declared names by their bindings and cells alone
 same_names : (loose : Bool) (ds es : List Declared) (p : Tree) (this : Value) (moves : List Move) → ((y : Text) → scope_of es y ≡ scope_of ds y) → ((y : Text) → cells_of es y ≡ cells_of ds y) → run_where loose es p this moves ≡ run_where loose ds p this moves
 same_names loose ds es p this moves h g =
-    let after : (Text → Binding) → (Text → Cell) → Result Value = λ scope cells. let w : World = record { scope = scope; this = this; counts_all = loose } in value w (meaning w p) (state cells moves []) in
+    let after : (Text → Binding) → (Text → Cell) → Result Value = λ scope cells. let w : World = record { scope = scope; this = this; counts_all = loose; other = λ t. stop unknown; spreads = false } in value w (meaning w p) (state cells moves []) in
     λ i. after (λ y. h y i) (λ y. g y i)
 
 pub pending_vars : (loose : Bool) (xs : List Text) (ds : List Declared) (p : Tree) (this : Value) (moves : List Move) → run_where loose (vars xs ++ ds) p this moves ≡ run_where loose (all_pending xs ds) p this moves

@@ -1,10 +1,11 @@
 -- What each kind of core expression means: the evaluation of ECMA-262, clause 13, as a computation that gives a reference.
 use Rattle.std.specs.Prelude.{Bool, true, false, Option, List, [], ◌∷◌, bytes_eq, if◌then◌else◌, codes, ◌&&◌, ◌||◌, not}
 use Rattle.es_tree.specs.Words.{Text}
+use Rattle.es_tree.specs.Core.{is_core_kind}
 use Rattle.es_tree.specs.Names.{first_text as first}
 use Rattle.es_tree.specs.declared.ast_type.AstType.{AstType}
-use Rattle.es_tree.specs.Tree.{Tree, Fields, Field, Trees}
-use Rattle.es_tree.specs.declared.ast_type.AstType.TheVariants.{Program, ExpressionStatement, VariableDeclaration, VariableDeclarator, Identifier, ThisExpression, NullLiteral, BooleanLiteral, NumericLiteral, BigIntLiteral, StringLiteral, UnaryExpression, UpdateExpression, BinaryExpression, LogicalExpression, ConditionalExpression, AssignmentExpression, SequenceExpression, MemberExpression, CallExpression, NewExpression, ChainExpression, ParenthesizedExpression}
+use Rattle.es_tree.specs.Tree.{Tree, Fields, Field, Trees, kind_of}
+use Rattle.es_tree.specs.declared.ast_type.AstType.TheVariants.{Program, ExpressionStatement, VariableDeclaration, VariableDeclarator, Identifier, ThisExpression, NullLiteral, BooleanLiteral, NumericLiteral, BigIntLiteral, StringLiteral, UnaryExpression, UpdateExpression, BinaryExpression, LogicalExpression, ConditionalExpression, AssignmentExpression, SequenceExpression, MemberExpression, CallExpression, NewExpression, ChainExpression, ParenthesizedExpression, ObjectTarget, ArrayTarget, TargetWithDefault, ObjectPattern, ArrayPattern, AssignmentPattern, Super, PrivateIdentifier, SpreadElement}
 use Rattle.es_tree.specs.Tree.{node}
 use Rattle.es_tree.specs.Tree.{done, ◌then◌}
 use Rattle.es_tree.specs.Tree.{missing, one, many, statements}
@@ -27,12 +28,15 @@ pub data Binding : Type 0 where
   free changeable constant : Binding
   silent : Silent → Binding
 
--- What doesn't change in a run: how each name is bound, the value of `this`, and whether `document.all` counts as null for
--- `==`. It does (ECMA-262, B.3.6.2); where no value is `document.all`, both machines do the same.
+-- What doesn't change in a run: how each name is bound, the value of `this`, whether `document.all` counts as null for `==`,
+-- what a node gives that isn't core, and whether spreads stand among arguments. `document.all` counts (ECMA-262, B.3.6.2);
+-- where no value is `document.all`, both machines do the same. In the runs of core programs what isn't core means nothing.
 pub record World : Type 0 where
   pub scope : Text → Binding
   pub this : Value
   pub counts_all : Bool
+  pub other : Tree → M Value
+  pub spreads : Bool
 
 -- A reference is a name, or an object with a key; anything else is a plain value (ECMA-262, 6.2.5).
 pub data Reference : Type 0 where
@@ -442,9 +446,58 @@ meaning_of w VariableDeclaration ts fs ps = of_many (λ ds. gives_value (declare
 meaning_of w Program ts fs ps = of_program w ps
 meaning_of w _ ts fs ps = nothing
 
+-- a pattern as a target, or a target with a default (ECMA-262, 13.15.5 and 14.3.3)
+abbrev pub is_pattern : AstType → Bool
+is_pattern ObjectTarget = true
+is_pattern ArrayTarget = true
+is_pattern TargetWithDefault = true
+is_pattern ObjectPattern = true
+is_pattern ArrayPattern = true
+is_pattern AssignmentPattern = true
+is_pattern _ = false
+
+-- a node that isn't core by its kind, or as it assigns to a pattern; but `super` and private names, which stand in classes
+-- alone, mean nothing
+abbrev pub is_other : AstType → Fields → Bool
+is_other AssignmentExpression (one t then fs) = is_pattern (kind_of t)
+is_other Super fs = false
+is_other PrivateIdentifier fs = false
+is_other k fs = not (is_core_kind k)
+
+abbrev pub is_spread_kind : AstType → Bool
+is_spread_kind SpreadElement = true
+is_spread_kind _ = false
+
+abbrev pub begins_with_spread : Trees → Bool
+begins_with_spread empty = false
+begins_with_spread (t before ts) = is_spread_kind (kind_of t)
+
+abbrev pub has_spread : Trees → Bool
+has_spread empty = false
+has_spread (t before ts) = is_spread_kind (kind_of t) || has_spread ts
+
+-- with a spread there are not two arguments for `**`, and with a spread in front none is the receiver
+abbrev pub form_beside : Bool → Bool → Form → Form
+form_beside in_front some math_pow = if some then other else math_pow
+form_beside in_front some member_call = if in_front then other else member_call
+form_beside in_front some member_bind = if in_front then other else member_bind
+form_beside in_front some f = f
+
+abbrev pub with_form : (Form → Form) → Meaning → Meaning
+with_form f e = record { reference = e.reference; form = f e.form }
+
+abbrev pub first_formed : (Form → Form) → List Part → List Part
+first_formed f (single e ∷ ps) = single (with_form f e) ∷ ps
+first_formed f ps = ps
+
+-- what the parts of a node are: those of its fields, but a callee has its form beside its arguments
+abbrev pub own_parts : World → AstType → Fields → List Part → List Part
+own_parts w CallExpression (f then (many ts then fs)) ps = first_formed (form_beside (w.spreads && begins_with_spread ts) (w.spreads && has_spread ts)) ps
+own_parts w k fs ps = ps
+
 abbrev mutual
   pub meaning : World → Tree → Meaning
-  meaning w (node k l fs) = meaning_of w k l.texts l.flags (parts w fs)
+  meaning w (node k l fs) = if is_other k fs then gives_value (w.other (node k l fs)) else meaning_of w k l.texts l.flags (own_parts w k fs (parts w fs))
 
   pub parts : World → Fields → List Part
   parts w done = []

@@ -1,7 +1,9 @@
 -- Exponentiation (ECMA-262, 13.6 and 13.15): `l ** r` becomes `Math.pow(l, r)`, and `t **= r` becomes `t = Math.pow(t, r)`,
 -- with what stands in `t` evaluated once, in front. Where a BigInt literal stands directly at a side, nothing is done,
 -- since `Math.pow` takes none.
-use Rattle.std.specs.Prelude.{◌≡◌, List, [], ◌∷◌, ◌++◌, ◌&&◌, Bool, true, false, Some, codes}
+use Rattle.std.specs.Prelude.{◌≡◌, List, [], ◌∷◌, ◌++◌, ◌&&◌, Bool, true, false, Some, codes, not, ◌||◌}
+use Rattle.es_runs.specs.Core.{is_spread_kind}
+use Rattle.es_tree.specs.declared.ast_type.AstType.{AstType}
 use Rattle.es_tree.specs.Words.{Text}
 use Rattle.es_tree.specs.Constructs.{is_big_int}
 use Rattle.es_tree.specs.Fresh.{IsFreshName, node_base}
@@ -86,3 +88,24 @@ pub data ExponentiationRule (bound in_use : Text → Bool) : List Text → Need 
   power_assignment : {n : Need} {m : Label} {t r target read : Tree} {xs : List Text} {fs : List Tree} → m.texts ≡ Some (codes "**=") ∷ [] → is_big_int (kind_of r) ≡ false →
       TargetTwice bound in_use xs fs (without_parens t) target read →
       ExponentiationRule bound in_use xs n (node AssignmentExpression m (one t then one r then done)) (assigned_power m fs target read r)
+
+-- WHERE A ROW STANDS in programs without classes
+
+abbrev pub is_super_kind : AstType → Bool
+is_super_kind Super = true
+is_super_kind _ = false
+
+abbrev pub is_private_kind : AstType → Bool
+is_private_kind PrivateIdentifier = true
+is_private_kind _ = false
+
+-- a target other than a member of `super` or by a private name, which stand in classes alone
+abbrev pub is_classless : Tree → Bool
+is_classless (node MemberExpression l (one o then (one k then done))) = not (is_super_kind (kind_of o) || is_private_kind (kind_of k))
+is_classless _ = true
+
+-- a node that assigns to no member of `super` and none by a private name, and whose sides are no spreads
+abbrev pub is_raisable : Tree → Bool
+is_raisable (node AssignmentExpression l (one t then (one r then fs))) = is_classless (without_parens t) && not (is_spread_kind (kind_of r))
+is_raisable (node BinaryExpression m (one l then (one r then fs))) = not (is_spread_kind (kind_of l) || is_spread_kind (kind_of r))
+is_raisable _ = true

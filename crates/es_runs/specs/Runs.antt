@@ -3,14 +3,14 @@ use Rattle.std.specs.Prelude.{◌≡◌, ◌&&◌, Bool, true, false, List, [], 
 use Rattle.es_tree.specs.Words.{Text}
 use Rattle.es_tree.specs.declared.ast_type.AstType.TheVariants.{Program, Identifier, VariableDeclaration, VariableDeclarator}
 use Rattle.es_tree.specs.Tree.{Tree, node, Label, done, ◌then◌, missing, one, many, statements, Trees, empty, ◌before◌, trees}
-use Rattle.es_runs.specs.Machine.{Value, OwnValue, Values, ◌>>=◌, Question, Move, Cell, State, Result}
+use Rattle.es_runs.specs.Machine.{Value, OwnValue, Values, ◌>>=◌, stop, Question, Move, Cell, State, Result}
 use Rattle.es_runs.specs.Machine.Value.{undefined, host, bound, own}
 use Rattle.es_runs.specs.Machine.OwnValue.{suppressed, list, contents}
 use Rattle.es_runs.specs.Machine.Values.{none, ◌and◌}
 use Rattle.es_runs.specs.Machine.Move.{answer, throw}
 use Rattle.es_runs.specs.Machine.Cell.{unset, holds}
 use Rattle.es_runs.specs.Machine.State.{state}
-use Rattle.es_runs.specs.Machine.Stop.{throws, faults, waits, uncallable}
+use Rattle.es_runs.specs.Machine.Stop.{throws, faults, waits, uncallable, unknown}
 use Rattle.es_runs.specs.Machine.Result.{gives, stops}
 use Rattle.es_tree.specs.Scopes.{Declared, declared_of}
 use Rattle.es_runs.specs.Core.{World, Binding, value, meaning, is_free, typeof_value}
@@ -37,7 +37,7 @@ cells_of (d ∷ ds) x = if bytes_eq x d.name then first_cell d.kind else cells_o
 -- RUNS (ECMA-262, 16.1.6 and 16.1.7)
 
 abbrev pub world_of : Bool → Value → List Declared → World
-world_of counts this ds = record { scope = scope_of ds; this = this; counts_all = counts }
+world_of counts this ds = record { scope = scope_of ds; this = this; counts_all = counts; other = λ t. stop unknown; spreads = false }
 
 -- the run of a program with these declared names, where `document.all` counts as null for `==`, or not
 abbrev pub run_where : Bool → List Declared → Tree → Value → List Move → Result Value
@@ -157,6 +157,8 @@ LawFresh = (x : Text) (l : Label) (ds : Trees) (front back : List Tree) → stan
 pub record IsWorldOf (no_all : Bool) (ds : List Declared) (w : World) : Type 0 where
   pub scope : (x : Text) → w.scope x ≡ scope_of ds x
   pub counts : w.counts_all ≡ not no_all
+  pub other : (t : Tree) → w.other t ≡ stop unknown
+  pub spreads : w.spreads ≡ false
 
 -- e and d evaluate alike in such worlds, at what a place takes
 abbrev pub EvaluateAlike : Bool → List Declared → Level → Tree → Tree → Type 0
