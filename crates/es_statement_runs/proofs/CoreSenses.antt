@@ -1,18 +1,19 @@
 -- A core program means what it means in the core.
-use Rattle.std.proofs.Common.{◌≡◌, refl, List, [], ◌∷◌, ap, ◌∙◌}
+use Rattle.std.proofs.Common.{◌≡◌, refl, List, [], ◌∷◌, ap, ◌∙◌, sym}
 use Rattle.std.specs.Prelude.{ℕ, Bool, true, false, not, ◌&&◌, Option, None, codes, if◌then◌else◌}
+use Rattle.es_runs.proofs.CoreWorlds.{assigns, formed_alone, never}
 use Rattle.es_tree.specs.Words.{Text}
 use Rattle.es_tree.specs.Names.{first_text}
 use Rattle.es_tree.specs.Core.{is_core_kind, is_core_node}
 use Rattle.es_tree.specs.Scopes.{Declared}
 use Rattle.es_tree.specs.Walks.{all_nodes, all_in_fields, all_in_field, all_in_trees}
-use Rattle.es_tree.specs.Tree.{Tree, node, Label, Fields, done, ◌then◌, Field, missing, one, many, statements, Trees, empty, ◌before◌}
+use Rattle.es_tree.specs.Tree.{Tree, node, Label, Fields, done, ◌then◌, Field, missing, one, many, statements, Trees, empty, ◌before◌, kind_of}
 use Rattle.es_tree.specs.declared.ast_type.AstType.{AstType}
-use Rattle.es_tree.specs.declared.ast_type.AstType.TheVariants.{BlockStatement, ForStatement, ForOfStatement, SwitchStatement, Program, Directive, ExpressionStatement, VariableDeclaration, VariableDeclarator, Identifier, ThisExpression, NullLiteral, BooleanLiteral, NumericLiteral, BigIntLiteral, StringLiteral, UnaryExpression, UpdateExpression, BinaryExpression, LogicalExpression, ConditionalExpression, AssignmentExpression, SequenceExpression, MemberExpression, CallExpression, NewExpression, ChainExpression, ParenthesizedExpression}
+use Rattle.es_tree.specs.declared.ast_type.AstType.TheVariants.{BlockStatement, ForStatement, ForOfStatement, SwitchStatement, Program, Directive, ExpressionStatement, VariableDeclaration, VariableDeclarator, Identifier, ThisExpression, NullLiteral, BooleanLiteral, NumericLiteral, BigIntLiteral, StringLiteral, UnaryExpression, UpdateExpression, BinaryExpression, LogicalExpression, ConditionalExpression, AssignmentExpression, SequenceExpression, MemberExpression, CallExpression, NewExpression, ChainExpression, ParenthesizedExpression, SpreadElement, ObjectTarget, ArrayTarget, TargetWithDefault, ObjectPattern, ArrayPattern, AssignmentPattern}
 use Rattle.es_runs.specs.Machine.{Value, M}
 use Rattle.es_runs.specs.Machine.OwnValue.{helper}
 use Rattle.es_runs.specs.Machine.Value.{own}
-use Rattle.es_runs.specs.Core.{literal, World, Meaning, Form, Part, meaning, meanings, part, parts, meaning_of, gives_value, call_of, in_order, flag, flag_after}
+use Rattle.es_runs.specs.Core.{literal, World, Meaning, Form, Part, meaning, meanings, part, parts, meaning_of, gives_value, call_of, in_order, flag, flag_after, begins_with_spread, has_spread, is_pattern, is_spread_kind, first_formed, form_beside}
 use Rattle.es_runs.specs.Core.Part.{single, several}
 use Rattle.es_runs.specs.Core.Form.{word, math_pow, member_call, member_bind, other, null_form, zero_form, void_zero}
 use Rattle.es_statement_runs.specs.Calls.{static_member, call_sense, call_by, core_call, called_form, is_spread, some_spread, first_spread, assignment_by, member_sense, member_by, is_require, required_or}
@@ -279,6 +280,62 @@ no_use ForOfStatement fs h g = absurd (cc h)
 no_use SwitchStatement fs h g = absurd (cc h)
 no_use _ fs h g = refl
 
+-- a node over core nodes means what its kind does
+unspread : (t : Tree) → all_nodes is_core_node t ≡ true → is_spread_kind (kind_of t) ≡ false
+unspread (node SpreadElement l fs) h = absurd (cc h)
+unspread (node _ l fs) h = refl
+
+unpatterned : (t : Tree) → all_nodes is_core_node t ≡ true → is_pattern (kind_of t) ≡ false
+unpatterned (node ObjectTarget l fs) h = absurd (cc h)
+unpatterned (node ArrayTarget l fs) h = absurd (cc h)
+unpatterned (node TargetWithDefault l fs) h = absurd (cc h)
+unpatterned (node ObjectPattern l fs) h = absurd (cc h)
+unpatterned (node ArrayPattern l fs) h = absurd (cc h)
+unpatterned (node AssignmentPattern l fs) h = absurd (cc h)
+unpatterned (node _ l fs) h = refl
+
+begins_plainly : (ts : Trees) → all_in_trees is_core_node ts ≡ true → begins_with_spread ts ≡ false
+begins_plainly empty h = refl
+begins_plainly (t before ts) h = unspread t (and_left (all_nodes is_core_node t) (all_in_trees is_core_node ts) h)
+
+has_none : (ts : Trees) → all_in_trees is_core_node ts ≡ true → has_spread ts ≡ false
+has_none empty h = refl
+has_none (t before ts) h = rw (unspread t (and_left (all_nodes is_core_node t) (all_in_trees is_core_node ts) h)) (has_none ts (and_right (all_nodes is_core_node t) (all_in_trees is_core_node ts) h))
+
+alone_beside : (s a b : Bool) → a ≡ false → b ≡ false → (ps : List Part) → first_formed (form_beside (s && a) (s && b)) ps ≡ ps
+alone_beside s a b e d ps = rw (e, d, never s) (formed_alone ps)
+
+core_means : (w : World) (k : AstType) (l : Label) (fs : Fields) → is_core_kind k ≡ true → all_in_fields is_core_node fs ≡ true → meaning w (node k l fs) ≡ meaning_of w k l.texts l.flags (parts w fs)
+core_means w AssignmentExpression l (one t then fs) h g = assigns w l t fs (unpatterned t (and_left (all_nodes is_core_node t) (all_in_fields is_core_node fs) g))
+core_means w CallExpression l (f then (many ts then fs)) h g =
+    let below = and_left (all_in_trees is_core_node ts) (all_in_fields is_core_node fs) (and_right (all_in_field is_core_node f) (all_in_trees is_core_node ts && all_in_fields is_core_node fs) g) in
+    ap (λ (ps : List Part). meaning_of w CallExpression l.texts l.flags ps) (alone_beside w.spreads (begins_with_spread ts) (has_spread ts) (begins_plainly ts below) (has_none ts below) (parts w (f then (many ts then fs))))
+core_means w AssignmentExpression l _ h g = refl
+core_means w CallExpression l _ h g = refl
+core_means w Program l fs h g = refl
+core_means w Directive l fs h g = refl
+core_means w ExpressionStatement l fs h g = refl
+core_means w VariableDeclaration l fs h g = refl
+core_means w VariableDeclarator l fs h g = refl
+core_means w Identifier l fs h g = refl
+core_means w ThisExpression l fs h g = refl
+core_means w NullLiteral l fs h g = refl
+core_means w BooleanLiteral l fs h g = refl
+core_means w NumericLiteral l fs h g = refl
+core_means w BigIntLiteral l fs h g = refl
+core_means w StringLiteral l fs h g = refl
+core_means w UnaryExpression l fs h g = refl
+core_means w UpdateExpression l fs h g = refl
+core_means w BinaryExpression l fs h g = refl
+core_means w LogicalExpression l fs h g = refl
+core_means w ConditionalExpression l fs h g = refl
+core_means w SequenceExpression l fs h g = refl
+core_means w MemberExpression l fs h g = refl
+core_means w NewExpression l fs h g = refl
+core_means w ChainExpression l fs h g = refl
+core_means w ParenthesizedExpression l fs h g = refl
+core_means w _ l fs h g = absurd (cc h)
+
 mutual
   pub tree_kept : (w : World) (ls : List Text) (x : Text) (t : Tree) → is_word (codes "using") x ≡ false → all_nodes is_core_node t ≡ true → Kept (meaning w t) (sense (at_place w ls x) t)
   tree_kept w ls x (node k l fs) u h =
@@ -289,7 +346,7 @@ mutual
       let g : KeptParts (parts w fs) (portions (λ i. at_place w [] (word_below k (first_text l.texts))) fs) = fields_kept w [] (word_below k (first_text l.texts)) fs (not_using k l fs here) below_here in
       let all : plain_portions (portions (inside (at_place w ls x) k l.texts (own_names k fs) (label_in k fs)) fs) ≡ true = ap (λ (at : ℕ → Place). plain_portions (portions at fs)) e ∙ g.plain in
       let found : Kept (meaning_of w k l.texts l.flags (core_parts (portions (inside (at_place w ls x) k l.texts (own_names k fs) (label_in k fs)) fs))) (sense (at_place w ls x) (node k l fs)) = kind_kept w ls x k l.texts l.flags (scope_by (own_names k fs) (own_use k fs)) (inside (at_place w ls x) k l.texts (own_names k fs) (label_in k fs) 1).world (portions (inside (at_place w ls x) k l.texts (own_names k fs) (label_in k fs)) fs) kind u (no_use k fs kind below_here) all in
-      record { meaning = found.meaning ∙ (ap (λ (at : ℕ → Place). meaning_of w k l.texts l.flags (core_parts (portions at fs))) e ∙ ap (λ (ps : List Part). meaning_of w k l.texts l.flags ps) g.parts); plain = found.plain }
+      record { meaning = found.meaning ∙ (ap (λ (at : ℕ → Place). meaning_of w k l.texts l.flags (core_parts (portions at fs))) e ∙ ap (λ (ps : List Part). meaning_of w k l.texts l.flags ps) g.parts) ∙ sym (core_means w k l fs kind below_here); plain = found.plain }
 
   fields_kept : (w : World) (ls : List Text) (x : Text) (fs : Fields) → is_word (codes "using") x ≡ false → all_in_fields is_core_node fs ≡ true → KeptParts (parts w fs) (portions (λ i. at_place w ls x) fs)
   fields_kept w ls x done u h = record { parts = refl; plain = refl }

@@ -5,7 +5,7 @@ use Rattle.es_tree.specs.Words.{Text}
 use Rattle.es_tree.specs.Names.{flag_at, first_text as first}
 use Rattle.es_tree.specs.Scopes.{Declared}
 use Rattle.es_tree.specs.declared.ast_type.AstType.{AstType}
-use Rattle.es_tree.specs.declared.ast_type.AstType.TheVariants.{Program, BlockStatement, EmptyStatement, DebuggerStatement, VariableDeclaration, VariableDeclarator, ThrowStatement, IfStatement, ForStatement, ForInStatement, ForOfStatement, WhileStatement, DoWhileStatement, BreakStatement, ContinueStatement, LabeledStatement, SwitchStatement, SwitchCase, TryStatement, CatchClause, ImportDeclaration, ImportSpecifier, ImportDefaultSpecifier, ImportNamespaceSpecifier, ExportNamedDeclaration, ExportDefaultDeclaration, ExportAllDeclaration, Identifier, NullLiteral, BooleanLiteral, NumericLiteral, BigIntLiteral, StringLiteral, RegExpLiteral, TemplateLiteral, TemplateElement, TaggedTemplateExpression, ArrayExpression, SpreadElement, ObjectExpression, ObjectProperty, AssignmentExpression, MemberExpression, CallExpression, MetaProperty, ObjectPattern, PatternProperty, ArrayPattern, AssignmentPattern, RestElement, ObjectTarget, TargetProperty, ArrayTarget, TargetWithDefault, TargetRest}
+use Rattle.es_tree.specs.declared.ast_type.AstType.TheVariants.{Program, BlockStatement, EmptyStatement, DebuggerStatement, VariableDeclaration, VariableDeclarator, ThrowStatement, IfStatement, ForStatement, ForInStatement, ForOfStatement, WhileStatement, DoWhileStatement, BreakStatement, ContinueStatement, LabeledStatement, SwitchStatement, SwitchCase, TryStatement, CatchClause, ImportDeclaration, ImportSpecifier, ImportDefaultSpecifier, ImportNamespaceSpecifier, ExportNamedDeclaration, ExportSpecifier, ExportDefaultDeclaration, ExportAllDeclaration, Identifier, NullLiteral, BooleanLiteral, NumericLiteral, BigIntLiteral, StringLiteral, RegExpLiteral, TemplateLiteral, TemplateElement, TaggedTemplateExpression, ArrayExpression, SpreadElement, ObjectExpression, ObjectProperty, AssignmentExpression, MemberExpression, CallExpression, MetaProperty, ObjectPattern, PatternProperty, ArrayPattern, AssignmentPattern, RestElement, ObjectTarget, TargetProperty, ArrayTarget, TargetWithDefault, TargetRest}
 use Rattle.es_runs.specs.Core.{World, Binding, gives_value, nothing, flag, flag_after}
 use Rattle.es_runs.specs.Machine.{Value, Stop, M, return, stop, is_true}
 use Rattle.es_runs.specs.Machine.Value.{undefined}
@@ -183,6 +183,7 @@ module _ (F : Frame) (quiet : Quiet F) where
     kind_close t w v same ls x ImportNamespaceSpecifier ts fs ds uses vs q r st vis h = only_like F quiet w v same t (imported_like ds (codes "*") vis)
     kind_close t w v same ls x ExportNamedDeclaration ts fs ds uses vs q r st vis (one_portion h g) = ends_like F quiet w v same t (value_or_like F quiet w v same h undefined)
     kind_close t w v same ls x ExportNamedDeclaration ts fs ds uses vs q r st vis _ = nothing_sense t w v same
+    kind_close t w v same ls x ExportSpecifier ts fs ds uses vs q r st vis h = nothing_sense t w v same
     kind_close t w v same ls x ExportDefaultDeclaration ts fs ds uses vs q r st vis (one_portion (alone_like h) no_portion) = ends_like F quiet w v same t (then_alike F h.core.evaluation (done_alike F))
     kind_close t w v same ls x ExportDefaultDeclaration ts fs ds uses vs q r st vis _ = nothing_sense t w v same
     kind_close t w v same ls x ExportAllDeclaration ts fs ds uses vs q r st vis (one_portion h (one_portion (alone_like g) f)) = export_like t w v same h g

@@ -21,7 +21,12 @@ pub mod MeantProof
 pub mod ScopeExamples
 pub mod Programs
 pub mod MoreRows
-pub mod Chains
+pub mod UnusedStacks
+pub mod Through
+pub mod OperandSays
+pub mod OperandMeanings
+pub mod OperandWorlds
+pub mod TopVars
 pub mod Catches
 pub mod CoreClass
 pub mod NoHelpers
@@ -34,7 +39,10 @@ pub mod CatchPatterns
 pub mod Heads
 pub mod Later
 pub mod ScopedRows
+pub mod RowsStand
+pub mod OperandRows
 pub mod BareVars
+pub mod Moved
 pub mod Temporaries
 pub mod NamespaceExports
 pub mod VarInstances
@@ -49,3 +57,4 @@ pub mod ValidFields
 pub mod ValidNodes
 pub mod ValidProof
 pub mod ValidInstances
+pub mod OperandInstances

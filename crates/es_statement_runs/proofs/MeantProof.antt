@@ -197,14 +197,14 @@ binding_not kind t e = at (bytes_eq kind (codes "const")) e
     at true e = absurd (cc e)
     at false e = absurd (cc e)
 
-entered_free : (S : Supply) (ds : List Declared) (w : World) (ls : List Text) (x : Text) → HelperFree w → HelperFree (entered ds (placed_at S w ls x)).world
+pub entered_free : (S : Supply) (ds : List Declared) (w : World) (ls : List Text) (x : Text) → HelperFree w → HelperFree (entered ds (placed_at S w ls x)).world
 entered_free S ds w ls x h = record { none_named = λ y t e. at (kind_in ds y) y t e }
   where
     at : (o : Option Text) (y t : Text) → found o y w.scope y ≡ silent (helper_name t) → ⊥
     at None y t e = h.none_named y t e
     at (Some kind) y t e = binding_not kind t e
 
-data Spotted (S : Supply) : Place → List Text → Text → Type 0 where
+pub data Spotted (S : Supply) : Place → List Text → Text → Type 0 where
   spotted : {w : World} {ls : List Text} {x : Text} → HelperFree w → Spotted S (placed_at S w ls x) ls x
 
 inside_spotted : (S : Supply) (k : AstType) (l : Label) (fs : Fields) (w : World) (ls : List Text) (x : Text) → HelperFree w → (i : ℕ) → Spotted S (inside (placed_at S w ls x) k l.texts (own_names k fs) (label_in k fs) i) (labels_in k (named_label k fs) ls) (word_in k l.texts)
@@ -223,7 +223,7 @@ inside_spotted S _ l fs w ls x h i = spotted h
 
 module _ (S : Supply) where
   mutual
-    tree_sound : (t : Tree) (c : Spot) (ls : List Text) (x : Text) → is_meant_at S c ls x t ≡ true → {p : Place} → Spotted S p ls x → Sound S c (sense p t)
+    pub tree_sound : (t : Tree) (c : Spot) (ls : List Text) (x : Text) → is_meant_at S c ls x t ≡ true → {p : Place} → Spotted S p ls x → Sound S c (sense p t)
     tree_sound (node k l fs) c ls x h (spotted {w = w} f) =
         let b1 : Bool = serves (nature k) c.role in
         let b2 : Bool = is_said S c k l.texts l.flags (has_value k fs) (names_of_all (own_names k fs)) (named_label k fs) x in
@@ -320,7 +320,7 @@ entry_not (keys_and {x = y} {vs = vs} {es = es} h) b x t g e = at (bytes_eq y x)
     at true k i = absurd (cc i)
     at false k i = k i
 
-top_free : (u : Supply) (p : Tree) (this : Value) → helper_names u p ≡ [] → HelperFree (program_world u this p)
+pub top_free : (u : Supply) (p : Tree) (this : Value) → helper_names u p ≡ [] → HelperFree (program_world u this p)
 top_free u p this h = record { none_named = λ x t e. entry_not (silent_keys u p h) (scope_of (declared_at_top p) x) x t (λ i. scope_not (declared_at_top p) x t i) e }
 
 -- THE LAW

@@ -11,12 +11,6 @@ use Rattle.es_runs.specs.Alike.{bad_names, value_and_form, Level, set_cells, tou
 use Rattle.es_runs.specs.Runs.{made, none_hidden, only, identifier, program}
 use Rattle.es_runs.specs.LogicalAssignment.{assigned_where}
 use Rattle.es_runs.specs.Exponentiation.{power_at}
-use Rattle.es_runs.specs.OptionalChaining.{where_short, null_checks, member_at}
-use Rattle.es_runs.specs.OptionalChaining.OptionalChainingRule.{by_tests}
-use Rattle.es_runs.specs.OptionalChaining.Walked.{base, marked_member}
-use Rattle.es_runs.specs.OptionalChaining.Continued.{same_spine}
-use Rattle.es_runs.specs.OptionalChaining.Tested.{as_name}
-use Rattle.es_runs.specs.Rules.{void_zero_node}
 use Rattle.es_statement_runs.specs.Calls.{is_spread}
 use Rattle.es_statement_runs.specs.Senses.{said_of}
 use Rattle.es_statement_runs.specs.Helpers.Supply.{no_helpers, by_global}
@@ -25,7 +19,7 @@ use Rattle.es_statement_runs.specs.Places.Close.{placed, within}
 use Rattle.es_statement_runs.specs.Places.CloseFields.{close_done, close_then}
 use Rattle.es_statement_runs.specs.Places.CloseField.{close_missing, close_one, close_many, close_statements}
 use Rattle.es_statement_runs.specs.Places.CloseTrees.{close_empty, close_before}
-use Rattle.es_statement_runs.specs.Laws.{bad_using, bad_with, UsingRow, wrap, block_of, context_call_node, declarator_at, CatchRow, CatchPatternRow, HeadRow, HeadMoves, object_pattern_at, declare_statement, let_statement, head_of, ChainRow, among_names, later, LetRow, body_needs, nothing_bad, SpreadRow, object_at, spread_at, spread_call, AssignRow, PowerRow}
+use Rattle.es_statement_runs.specs.Laws.{bad_using, bad_with, UsingRow, wrap, block_of, context_call_node, declarator_at, CatchRow, CatchPatternRow, HeadRow, HeadMoves, object_pattern_at, declare_statement, let_statement, head_of, later, LetRow, body_needs, nothing_bad, SpreadRow, object_at, spread_at, spread_call, AssignRow, PowerRow}
 use Rattle.es_statement_runs.specs.Laws.UsingRow.{using_row}
 use Rattle.es_statement_runs.specs.Laws.Wrapped.{none_wrapped, use_wrapped, rest_wrapped}
 use Rattle.es_statement_runs.specs.Laws.TakenUp.{none_taken, one_taken}
@@ -33,7 +27,6 @@ use Rattle.es_statement_runs.specs.Laws.OneVar.{here_var}
 use Rattle.es_statement_runs.specs.Laws.CatchRow.{catch_row}
 use Rattle.es_statement_runs.specs.Laws.CatchPatternRow.{catch_pattern_row}
 use Rattle.es_statement_runs.specs.Laws.HeadRow.{of_const_row}
-use Rattle.es_statement_runs.specs.Laws.ChainRow.{chain_row}
 use Rattle.es_statement_runs.specs.Laws.LetRow.{let_row}
 use Rattle.es_statement_runs.specs.Laws.NamedDeclarators.{no_declarator, named_declarator}
 use Rattle.es_statement_runs.specs.Laws.ByVar.{none_declared, later_declared}
@@ -44,7 +37,6 @@ use Rattle.es_statement_runs.specs.Laws.AssignRow.{assign_row}
 use Rattle.es_statement_runs.proofs.Later.{law_later_proof}
 use Rattle.es_statement_runs.proofs.CatchPatterns.{law_catch_pattern_proof}
 use Rattle.es_statement_runs.proofs.Heads.{law_head_proof}
-use Rattle.es_statement_runs.proofs.Chains.{law_chain_proof}
 use Rattle.es_runs.specs.Machine.{Value, Move}
 use Rattle.es_statement_runs.specs.Runs.{RunAlike, run, outcome}
 use Rattle.es_statement_runs.specs.Runs.Outcome.{meaningless}
@@ -55,7 +47,7 @@ use Rattle.es_statement_runs.proofs.Everywhere.{close_self}
 use Rattle.es_statement_runs.proofs.Spreads.{law_spread_proof}
 use Rattle.es_statement_runs.proofs.MoreRows.{law_power_proof, law_assign_proof}
 use Rattle.es_statement_runs.proofs.Using.{law_using_proof}
-use Rattle.es_statement_runs.proofs.Examples.{plain, x_, statement, block, label_l, break_l, declaration, called, assign, property, object_script, array_script, head_source, for_let, switch_script, shadow_script, using_source, spread_source}
+use Rattle.es_statement_runs.proofs.Examples.{plain, x_, statement, block, label_l, break_l, called, assign, property, object_script, array_script, head_source, for_let, switch_script, shadow_script, using_source, spread_source}
 
 -- `while (t) { using x = a; l: { f(x); break l; } }` with External helpers
 abbrev c_ : Text
@@ -255,39 +247,6 @@ assign_rows = close_before (within refl refl refl refl refl refl refl (close_the
 
 assign_here : RunAlike by_global false (program no_label empty (in_while (block (statement or_source before empty)) before empty)) (program no_label empty (in_while (block (statement or_target before empty)) before empty))
 assign_here = law_assign_proof by_global no_label empty _ _ assign_rows refl refl refl
-
--- `var a; while (t) { a?.b; }`
-abbrev a_ : Tree
-a_ = identifier (codes "a")
-
-abbrev marked_at : Rattle.es_tree.specs.Tree.Label
-marked_at = made [] (false ∷ true ∷ [])
-
-abbrev chain_source : Tree
-chain_source = node ChainExpression no_label (one (node MemberExpression marked_at (one a_ then one (identifier (codes "b")) then done)) then done)
-
-abbrev chain_target : Tree
-chain_target = where_short no_label (null_checks false a_ a_) void_zero_node (member_at marked_at false a_ (identifier (codes "b")))
-
-abbrev chain_list : Tree → Trees
-chain_list e = declaration (codes "var") (codes "a") (x_ (codes "z")) before in_while (block (statement e before empty)) before empty
-
-abbrev CR : Take → Tree → Tree → Type 0
-CR = ChainRow (only (codes "a")) none_hidden none_hidden []
-
-abbrev F0 : Rattle.es_runs.specs.Alike.Frame
-F0 = set_cells (among_names [])
-
-abbrev bad0 : Level → Text → Bool
-bad0 = bad_names (among_names []) none_hidden
-
-chain_rows : CloseTrees bad0 CR body_needs (chain_list chain_source) (chain_list chain_target)
-chain_rows = close_before (close_self bad0 CR (declaration (codes "var") (codes "a") (x_ (codes "z"))) body_needs refl) (close_before (within refl refl refl refl refl refl refl (close_then (close_one (close_self bad0 CR (x_ (codes "t")) value_taken refl))
-    (close_then (close_one (within refl refl refl refl refl refl refl (close_then (close_statements (close_before (within refl refl refl refl refl refl refl (close_then (close_one (placed
-    (chain_row (by_tests refl (marked_member refl (same_spine refl (base refl)) (as_name refl refl)) refl) refl refl refl refl refl))) close_done)) close_empty)) close_done))) close_done))) close_empty)
-
-chain_here : RunAlike no_helpers false (program no_label empty (chain_list chain_source)) (program no_label empty (chain_list chain_target))
-chain_here = law_chain_proof (only (codes "a")) none_hidden none_hidden [] no_label empty _ _ chain_rows refl refl refl refl (λ y e. refl) (λ y e. rw e refl) (λ y e. absurd (cc e))
 
 -- `f(y); let y = a;` and `f(y); var y = a;`: the first is outside
 abbrev declared_by : Text → Trees

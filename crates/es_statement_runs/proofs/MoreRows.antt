@@ -37,7 +37,7 @@ use Rattle.es_statement_runs.specs.Laws.AssignRow.{assign_row}
 use Rattle.es_statement_runs.specs.Laws.PowerRow.{power_row}
 use Rattle.es_statement_runs.proofs.Combinators.{choice_alike}
 use Rattle.es_statement_runs.proofs.KindsAlike.{inner}
-use Rattle.es_statement_runs.proofs.RunLaws.{nothing_quiet, nothing_stack, values_agree, agree_self, worlds_equal}
+use Rattle.es_statement_runs.proofs.RunLaws.{nothing_quiet, nothing_stack, values_agree, agree_self, worlds_equal, SameRest}
 
 -- WITH NOTHING HIDDEN
 
@@ -72,24 +72,21 @@ plain_assignment by_global w op b e m = said_assignment w op b e m
 plain_assignment (by_import t) w op b e m = said_assignment w op b e m
 plain_assignment (by_require t) w op b e m = said_assignment w op b e m
 
-anything_known : World → World → Type 0
-anything_known w v = Unit {0}
-
 module _ (o : Supply) where
-  both : (r : Tree) (w v : World) → SameWorld none_hidden w v → Alike no_frame Equal (value w (sense (placed_at o w [] []) r).core) (value v (sense (placed_at o v [] []) r).core)
-  both r w v same = subst (λ (z : World). Alike no_frame Equal (value w (sense (placed_at o w [] []) r).core) (value z (sense (placed_at o z [] []) r).core)) (worlds_equal w v same) (alike_self (value w (sense (placed_at o w [] []) r).core))
+  both : (r : Tree) (w v : World) → SameRest w v → SameWorld none_hidden w v → Alike no_frame Equal (value w (sense (placed_at o w [] []) r).core) (value v (sense (placed_at o v [] []) r).core)
+  both r w v rest same = subst (λ (z : World). Alike no_frame Equal (value w (sense (placed_at o w [] []) r).core) (value z (sense (placed_at o z [] []) r).core)) (worlds_equal w v rest same) (alike_self (value w (sense (placed_at o w [] []) r).core))
 
-  assign_like : (t : Take) (a b : Tree) → AssignRow t a b → (w v : World) → SameWorld none_hidden w v → Unit {0} → (ls : List Text) (x : Text) → SenseLike no_frame w v t (sense (placed_at o w ls x) a) (sense (placed_at o v ls x) b)
+  assign_like : (t : Take) (a b : Tree) → AssignRow t a b → (w v : World) → SameWorld none_hidden w v → SameRest w v → (ls : List Text) (x : Text) → SenseLike no_frame w v t (sense (placed_at o w ls x) a) (sense (placed_at o v ls x) b)
   assign_like t _ _ (assign_row {m = m} {l = l} {r = r} {op = op} texts assigns) w v same k ls x = rw (ap first texts, is_logically op assigns)
       (rw (plain_assignment o w op (w.scope (first l.texts)) _ _, plain_assignment o v (codes "=") (v.scope (first l.texts)) _ _) (record {
-        core = plain_like no_frame w v same t.need _ _ (assign_alike w v same (first l.texts) (without_last op) (sense (placed_at o w [] []) r).core (sense (placed_at o v [] []) r).core (both r w v same));
+        core = plain_like no_frame w v same t.need _ _ (assign_alike w v same (first l.texts) (without_last op) (sense (placed_at o w [] []) r).core (sense (placed_at o v [] []) r).core (both r w v k same));
         more = λ _. same_nothing;
       }))
 
 -- `l ** r`
-power_like : (t : Take) (a b : Tree) → PowerRow t a b → (w v : World) → SameWorld none_hidden w v → is_free (v.scope (codes "Math")) ≡ true → (ls : List Text) (x : Text) → SenseLike no_frame w v t (sense (quiet_at w ls x) a) (sense (quiet_at v ls x) b)
-power_like t _ _ (power_row {m = m} {l = l} {r = r} texts first_plain second_plain) w v same k ls x = rw (ap first texts, k, first_plain v, second_plain v) (record {
-  core = plain_like no_frame w v same t.need _ _ (then_alike no_frame (both no_helpers l w v same) (λ a. then_alike no_frame (both no_helpers r w v same) (λ b. ask_alike no_frame (operator (codes "**") (a and b and none)))));
+power_like : (t : Take) (a b : Tree) → PowerRow t a b → (w v : World) → SameWorld none_hidden w v → (is_free (v.scope (codes "Math")) ≡ true) × SameRest w v → (ls : List Text) (x : Text) → SenseLike no_frame w v t (sense (quiet_at w ls x) a) (sense (quiet_at v ls x) b)
+power_like t _ _ (power_row {m = m} {l = l} {r = r} texts first_plain second_plain) w v same k ls x = rw (ap first texts, k.0, first_plain v, second_plain v) (record {
+  core = plain_like no_frame w v same t.need _ _ (then_alike no_frame (both no_helpers l w v k.1 same) (λ a. then_alike no_frame (both no_helpers r w v k.1 same) (λ b. ask_alike no_frame (operator (codes "**") (a and b and none)))));
   more = λ _. same_nothing;
 })
 
@@ -123,10 +120,10 @@ undeclared_free ds x h = not_not (is_free (scope_of ds x)) h
 
 pub law_power_proof : LawPower
 law_power_proof l ds body after rows tops uses undeclared =
-    rows_run no_frame nothing_quiet nothing_stack math_bad below_math no_helpers l ds body after [] tt (λ w v. is_free (v.scope (codes "Math")) ≡ true) math_kept PowerRow power_like rows uses
-    (top_world no_helpers none_hidden (program l ds body) (program l ds after) tops refl) (λ this. rw tops (undeclared_free (top_in body) (codes "Math") undeclared)) (λ n moves. rw tops (agree_self (state (start_cells n (top_in body)) moves []))) (λ x e. refl)
+    rows_run no_frame nothing_quiet nothing_stack math_bad below_math no_helpers l ds body after [] tt (λ w v. (is_free (v.scope (codes "Math")) ≡ true) × SameRest w v) (λ ds h w v k. (math_kept ds h w v k.0, record { other = k.1.other; spreads = k.1.spreads })) PowerRow power_like rows uses
+    (top_world no_helpers none_hidden (program l ds body) (program l ds after) tops refl) (λ this. (rw tops (undeclared_free (top_in body) (codes "Math") undeclared), record { other = refl; spreads = refl })) (λ n moves. rw tops (agree_self (state (start_cells n (top_in body)) moves []))) (λ x e. refl)
 
 pub law_assign_proof : LawAssign
 law_assign_proof u l ds body after rows tops uses silents =
-    rows_run no_frame nothing_quiet nothing_stack nothing_bad (λ n x h. h) u l ds body after [] (told_self nothing_bad u) (λ w v. Unit {0}) (λ es vis w v k. tt) AssignRow (assign_like u) rows uses
-    (top_world u none_hidden (program l ds body) (program l ds after) tops silents) (λ this. tt) (λ n moves. rw tops (agree_self (state (start_cells n (top_in body)) moves []))) (λ x e. refl)
+    rows_run no_frame nothing_quiet nothing_stack nothing_bad (λ n x h. h) u l ds body after [] (told_self nothing_bad u) SameRest (λ es vis w v k. record { other = k.other; spreads = k.spreads }) AssignRow (assign_like u) rows uses
+    (top_world u none_hidden (program l ds body) (program l ds after) tops silents) (λ this. record { other = refl; spreads = refl }) (λ n moves. rw tops (agree_self (state (start_cells n (top_in body)) moves []))) (λ x e. refl)

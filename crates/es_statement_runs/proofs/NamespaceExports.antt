@@ -11,24 +11,25 @@ use Rattle.es_runs.specs.Machine.StatementQuestion.{import_name}
 use Rattle.es_runs.specs.Machine.Result.{gives, stops}
 use Rattle.es_runs.specs.Core.{World, Binding, in_order, value}
 use Rattle.es_runs.specs.Core.Binding.{changeable, constant, free}
-use Rattle.es_runs.specs.Alike.{Frame, Alike, Equal, SameWorld, Level}
-use Rattle.es_runs.specs.Runs.{binding_of, is_declared, program, scope_of}
+use Rattle.es_runs.specs.Alike.{Frame, Alike, Equal, SameWorld, Level, bad_names}
+use Rattle.es_runs.specs.Runs.{binding_of, is_declared, none_hidden, program, scope_of}
 use Rattle.es_runs.proofs.Basic.{ask_alike, return_alike, then_alike}
 use Rattle.es_statement_runs.specs.Alike.{Told, Quiet, StackSeen, SenseLike}
 use Rattle.es_statement_runs.specs.Alike.SensesLike.{no_sense, sense_and}
 use Rattle.es_statement_runs.specs.Helpers.{Supply}
 use Rattle.es_statement_runs.specs.Kinds.{found, kind_in, sense, senses}
-use Rattle.es_statement_runs.specs.Laws.{LawNamespaceExports, SplitExports, among_names, any_cells, bad_by, is_silent, no_row}
+use Rattle.es_statement_runs.specs.Laws.{LawNamespaceExports, SplitExports, among_names, any_cells, is_silent, no_row}
 use Rattle.es_statement_runs.specs.Laws.SplitExports.{as_it_is, none_split, one_split}
 use Rattle.es_statement_runs.specs.Names.{top_in, using_in}
-use Rattle.es_statement_runs.specs.Places.{Take, avoids, label_taken, placed_at, value_taken}
+use Rattle.es_statement_runs.specs.Places.{SupplySeen, Take, avoids, label_taken, placed_at, value_taken}
 use Rattle.es_statement_runs.specs.Runs.{program_world}
 use Rattle.es_statement_runs.specs.Scopes.{done_with, stack_cell}
 use Rattle.es_statement_runs.specs.Senses.{cores, static_text}
 use Rattle.es_statement_runs.specs.StatementParts.{asked_by, begun}
-use Rattle.es_statement_runs.proofs.BareVars.{below_by, start_same, told_by, top_bound, top_worlds}
+use Rattle.es_statement_runs.proofs.BareVars.{Unsaid, beside_like, said_alike_from, self_beside, start_same, top_bound, top_worlds, unsaid_inside, unsaid_programs}
+use Rattle.es_statement_runs.proofs.BareVars.Places.{both_at}
 use Rattle.es_statement_runs.proofs.Catches.{hide_set}
-use Rattle.es_statement_runs.proofs.Chains.{temporaries_apart}
+use Rattle.es_statement_runs.proofs.TopVars.{temporaries_apart}
 use Rattle.es_statement_runs.proofs.Combinators.{stack_alike}
 use Rattle.es_statement_runs.proofs.Everywhere.{close_like, close_self}
 use Rattle.es_statement_runs.proofs.Everywhere.PlaceLike.{place_like}
@@ -58,16 +59,16 @@ then_ends : (x : Text) (r : Result Value) → onward (onward r (λ z. set_cell x
 then_ends x (gives a s) = refl
 then_ends x (stops a s) = refl
 
-module _ (u : Supply) (xs : List Text) (quiet : Quiet (any_cells (among_names xs))) (stack : StackSeen (any_cells (among_names xs))) (told : Told (any_cells (among_names xs)) (bad_by u (among_names xs)) u)
-    (w v : World) (same : SameWorld (among_names xs) w v) (asks : (x : Text) → among_names xs x ≡ true → Asks (v.scope x) x) where
+module _ (u : Supply) (xs : List Text) (quiet : Quiet (any_cells (among_names xs))) (stack : StackSeen (any_cells (among_names xs))) (seen : SupplySeen (any_cells (among_names xs)) u)
+    (w v : World) (same : SameWorld (among_names xs) w v) (unsaid : Unsaid (among_names xs) w v) (asks : (x : Text) → among_names xs x ≡ true → Asks (v.scope x) x) where
   abbrev F : Frame
   F = any_cells (among_names xs)
 
   abbrev bad : Level → Text → Bool
-  bad = bad_by u (among_names xs)
+  bad = bad_names (among_names xs) none_hidden
 
   part : (t : Take) (a : Tree) → avoids bad t a ≡ true → SenseLike F w v t (sense (placed_at u w [] []) a) (sense (placed_at u v [] []) a)
-  part t a h = close_like F quiet stack bad (below_by (among_names xs) u) u told (λ w v. Unit {0}) (λ es g w v k. tt) no_row (λ t a b i. absurd i) (close_self bad no_row a t h) (place_like same tt)
+  part t a h = beside_like F quiet stack bad (λ n x h. h) u seen (λ es w v. Unsaid (among_names xs) w v) (λ es w v same h. said_alike_from F u w v same h) (λ ds es vis w v h. unsaid_inside (among_names xs) es w v h) (λ es. no_row) (λ es t a b i. absurd i) (self_beside bad (λ es. no_row) a [] t h) (both_at same unsaid)
 
   import_asked : (x : Text) → among_names xs x ≡ true → (m : Text) → Alike F Equal (ask (of_statement (import_name m (codes "*"))) >>= done_with) (asked_by (v.scope x) m (codes "*") x >>= λ z. return undefined)
   import_asked x e m = λ s t i. rw (asks x e m (codes "*"), then_ends x (ask (of_statement (import_name m (codes "*"))) t)) (then_alike F (ask_alike F (of_statement (import_name m (codes "*")))) (λ z. hide_set (among_names xs) x z e (return_alike F undefined)) s t i)
@@ -97,6 +98,6 @@ law_namespace_exports_proof u xs l ds body after rows tops apart silents unsilen
     let quiet : Quiet (any_cells hidden) = record { own_seen = λ y e i. record { hidden = temporaries_apart xs program_names y e; frozen = refl; loose = refl }; math = math } in
     let stack : StackSeen (any_cells hidden) = record { hidden = temporaries_apart xs program_names stack_cell refl; frozen = refl; loose = refl } in
     same_run (any_cells hidden) (is_declared (top_in body)) apart in_sight
-    (split_program u xs quiet stack (told_by hidden u seen) (program_world u this (program l ds body)) (program_world u this (program l ds after)) (top_worlds hidden u l ds body after tops silents this)
+    (split_program u xs quiet stack seen (program_world u this (program l ds body)) (program_world u this (program l ds after)) (top_worlds hidden u l ds body after tops silents this) (unsaid_programs u xs (program l ds body) (program l ds after) silents unsilent this)
     (λ x e m k. rw (unsilent_scope u (program l ds after) x (ap (λ es. is_silent es x) silents ∙ unsilent x e)) (asks_declared (top_in after) x m k))
     l ds rows (using_split rows) _ _ (start_same hidden (top_in body) (top_in after) tops n moves))

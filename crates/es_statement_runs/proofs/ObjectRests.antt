@@ -52,7 +52,7 @@ use Rattle.es_statement_runs.proofs.PatternsAlike.{put_alike_then}
 use Rattle.es_statement_runs.proofs.Programs.{rows_run, top_scope, top_world, unsilent_scope}
 use Rattle.es_statement_runs.proofs.ScopedRows.{scoped_like}
 use Rattle.es_statement_runs.proofs.Spreads.{bad_here, below_here, calls_helper, free_kept, helpers_, not_not}
-use Rattle.es_statement_runs.proofs.RunLaws.{agree_self, nothing_quiet, nothing_stack, same_world, values_agree, worlds_equal}
+use Rattle.es_statement_runs.proofs.RunLaws.{agree_self, nothing_quiet, nothing_stack, same_world, values_agree, worlds_equal, SameRest}
 
 -- NAMES THAT ARE BOUND
 
@@ -372,13 +372,13 @@ module _ (s r : Text) (w : World) (s_bound : is_bound (w.scope s) ≡ true) (r_b
 module _ (s r : Text) (no_own : is_own_cell s ≡ false) where
   -- what is known where the row acts: the helpers' object is unbound, and each of both names is bound that is declared
   abbrev Known : List Declared → World → World → Type 0
-  Known ds w v = (is_free (v.scope helpers_) ≡ true) × (is_declared ds s ≡ true → is_bound (v.scope s) ≡ true) × (is_declared ds r ≡ true → is_bound (v.scope r) ≡ true)
+  Known ds w v = (is_free (v.scope helpers_) ≡ true) × (is_declared ds s ≡ true → is_bound (v.scope s) ≡ true) × (is_declared ds r ≡ true → is_bound (v.scope r) ≡ true) × SameRest w v
 
   known_kept : (es ds : List Declared) → all_good (bad_here helpers_) (names_of_all ds) ≡ true → (w v : World) → Known es w v → Known es (inner w ds) (inner v ds)
-  known_kept es ds good w v k = (free_kept helpers_ ds good w v k.0, λ d. found_bound (kind_in ds s) s v.scope (k.1 d), λ d. found_bound (kind_in ds r) r v.scope (k.2 d))
+  known_kept es ds good w v k = (free_kept helpers_ ds good w v k.0, λ d. found_bound (kind_in ds s) s v.scope (k.1 d), λ d. found_bound (kind_in ds r) r v.scope (k.2 d), record { other = k.3.other; spreads = k.3.spreads })
 
   known_entered : (es ds : List Declared) → all_good (bad_here helpers_) (names_of_all es) ≡ true → (w v : World) → Known ds w v → Known (es ++ ds) (inner w es) (inner v es)
-  known_entered es ds good w v k = (free_kept helpers_ es good w v k.0, entered_bound es ds s v.scope k.1, entered_bound es ds r v.scope k.2)
+  known_entered es ds good w v k = (free_kept helpers_ es good w v k.0, entered_bound es ds s v.scope k.1, entered_bound es ds r v.scope k.2, record { other = k.3.other; spreads = k.3.spreads })
 
   abbrev Bound : World → Type 0
   Bound w = (is_free (w.scope helpers_) ≡ true) × (is_bound (w.scope s) ≡ true) × (is_bound (w.scope r) ≡ true)
@@ -403,13 +403,13 @@ module _ (s r : Text) (no_own : is_own_cell s ≡ false) where
         more = λ _. both_nothing (said_first place d _ _ c valued) (said_first place e _ _ c valued);
       }
 
-  rest_like : (t : Take) (a b : Tree) → RestRow s r t a b → (w v : World) → SameWorld none_hidden w v → Bound v → (ls : List Text) (x : Text) → SenseLike no_frame w v t (sense (placed_at by_global w ls x) a) (sense (placed_at by_global v ls x) b)
-  rest_like t a b row w v same k ls x =
+  rest_like : (t : Take) (a b : Tree) → RestRow s r t a b → (w v : World) → SameWorld none_hidden w v → Bound v → SameRest w v → (ls : List Text) (x : Text) → SenseLike no_frame w v t (sense (placed_at by_global w ls x) a) (sense (placed_at by_global v ls x) b)
+  rest_like t a b row w v same k rest ls x =
       let here : Bound w = (ap is_free (sym (same.scope helpers_ refl)) ∙ k.0, ap is_bound (sym (same.scope s refl)) ∙ k.1, ap is_bound (sym (same.scope r refl)) ∙ k.2) in
-      subst (λ (z : World). SenseLike no_frame w z t (sense (placed_at by_global w ls x) a) (sense (placed_at by_global z ls x) b)) (worlds_equal w v same) (at_one w here t a b row ls x)
+      subst (λ (z : World). SenseLike no_frame w z t (sense (placed_at by_global w ls x) a) (sense (placed_at by_global z ls x) b)) (worlds_equal w v rest same) (at_one w here t a b row ls x)
 
   rests_like : (n : ℕ) (ds : List Declared) (t : Take) (a b : Tree) → Rests s r n ds t a b → (w v : World) → SameWorld none_hidden w v → Known ds w v → (ls : List Text) (x : Text) → SenseLike no_frame w v t (sense (placed_at by_global w ls x) a) (sense (placed_at by_global v ls x) b)
-  rests_like zero ds t a b row w v same k ls x = rest_like t a b row.2 w v same (k.0, k.1 row.0, k.2 row.1) ls x
+  rests_like zero ds t a b row w v same k ls x = rest_like t a b row.2 w v same (k.0, k.1 row.0, k.2 row.1) k.3 ls x
   rests_like (suc n) ds t a b row w v same k ls x =
       scoped_like no_frame nothing_quiet nothing_stack (bad_here helpers_) (below_here helpers_) by_global (told_self (bad_here helpers_) by_global) Known known_kept known_entered (Rests s r n) (rests_like n) ds t a b row w v same k ls x
 
@@ -423,5 +423,6 @@ law_rest_proof s r n l ds body after rows tops uses silents undeclared unsilent 
       ap is_free (after_scope helpers_ ∙ unsilent_scope by_global p helpers_ unsilent) ∙ not_not (is_free (scope_of (top_in body) helpers_)) undeclared,
       λ d. ap is_bound (after_scope s ∙ unsilent_scope by_global p s s_unsilent) ∙ scope_bound (top_in body) s d,
       λ d. ap is_bound (after_scope r ∙ unsilent_scope by_global p r r_unsilent) ∙ scope_bound (top_in body) r d,
+      record { other = refl; spreads = refl },
     ))
     (λ n moves. rw tops (agree_self (state (start_cells n (top_in body)) moves []))) (λ x e. refl)

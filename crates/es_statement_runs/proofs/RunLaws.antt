@@ -22,6 +22,8 @@ use Rattle.es_runs.specs.Runs.Outcome.{called_uncallable}
 use Rattle.es_runs.proofs.Basic.{value_alike}
 use Rattle.es_runs.proofs.Fresh.{near_self}
 use Rattle.es_runs.proofs.Everywhere.{near_like}
+use Rattle.es_runs.proofs.CoreWorlds.{IsCoreWorld, core_world}
+use Rattle.es_statement_runs.proofs.KindsAlike.{inner}
 use Rattle.es_statement_runs.proofs.OwnCells.{own_apart}
 use Rattle.es_statement_runs.specs.Scopes.{is_own_cell, turns_cell, stack_cell}
 use Rattle.es_statement_runs.specs.Stacks.{with_stack_where}
@@ -96,11 +98,20 @@ agree_self (state c ms qs) = agree (λ x e. refl) (λ x e. cc) (λ x e. cc)
 pub same_world : (w : World) → SameWorld none_hidden w w
 same_world w = record { scope = λ x e. refl; this = refl; counts = refl }
 
-pub worlds_equal : (w v : World) → SameWorld none_hidden w v → w ≡ v
-worlds_equal w v same = λ i. record { scope = λ x. sym (same.scope x refl) i; this = sym same.this i; counts_all = sym same.counts i }
+-- what isn't core is the same in both worlds
+pub record SameRest (w v : World) : Type 0 where
+  pub other : v.other ≡ w.other
+  pub spreads : v.spreads ≡ w.spreads
 
-abbrev Counting : World → World → Type 0
-Counting w v = w.counts_all ≡ true
+pub worlds_equal : (w v : World) → SameRest w v → SameWorld none_hidden w v → w ≡ v
+worlds_equal w v rest same = λ i. record { scope = λ x. sym (same.scope x refl) i; this = sym same.this i; counts_all = sym same.counts i; other = sym rest.other i; spreads = sym rest.spreads i }
+
+pub record Counting (w v : World) : Type 0 where
+  pub counts : w.counts_all ≡ true
+  pub rest : SameRest w v
+
+counted : (ds : List Declared) (u v : World) → Counting u v → Counting (inner u ds) (inner v ds)
+counted ds u v k = record { counts = k.counts; rest = record { other = k.rest.other; spreads = k.rest.spreads } }
 
 open_quiet : Quiet open_frame
 open_quiet = record { own_seen = λ y e i. record { hidden = refl; frozen = refl; loose = refl }; math = refl }
@@ -132,12 +143,12 @@ module _ (form more : Bool) (e d : Tree) (alike : EvaluateAlike form more e d) w
     more = λ h. rw (alike.first_says h w ls x, alike.second_says h w ls x) same_nothing;
   }
 
-  swaps_like : (t : Take) (a b : Tree) → Swaps (take (value_and_form form) more) e d t a b → (w v : World) → SameWorld none_hidden w v → w.counts_all ≡ true → (ls : List Text) (x : Text) → SenseLike open_frame w v t (sense (quiet_at w ls x) a) (sense (quiet_at v ls x) b)
-  swaps_like t a b swaps w v same c ls x = subst (λ (u : World). SenseLike open_frame w u (take (value_and_form form) more) (sense (quiet_at w ls x) e) (sense (quiet_at u ls x) d)) (worlds_equal w v same) (here_like w c ls x)
+  swaps_like : (t : Take) (a b : Tree) → Swaps (take (value_and_form form) more) e d t a b → (w v : World) → SameWorld none_hidden w v → Counting w v → (ls : List Text) (x : Text) → SenseLike open_frame w v t (sense (quiet_at w ls x) a) (sense (quiet_at v ls x) b)
+  swaps_like t a b swaps w v same c ls x = subst (λ (u : World). SenseLike open_frame w u (take (value_and_form form) more) (sense (quiet_at w ls x) e) (sense (quiet_at u ls x) d)) (worlds_equal w v c.rest same) (here_like w c.counts ls x)
 
   places_same : (p q : Tree) → Close (bad_names none_hidden none_hidden) (Swaps (take (value_and_form form) more) e d) value_taken p q → (w : World) → w.counts_all ≡ true → (s : State) →
       Same open_frame Equal (value w (sense (quiet_at w [] []) p).core s) (value w (sense (quiet_at w [] []) q).core s)
-  places_same p q h w c s = (close_like open_frame open_quiet open_stack (bad_names none_hidden none_hidden) (λ m y k. k) no_helpers tt Counting (λ ds vis u v k. k) (Swaps (take (value_and_form form) more) e d) swaps_like h (place_like (same_world w) c)).core.evaluation s s (open_agree s)
+  places_same p q h w c s = (close_like open_frame open_quiet open_stack (bad_names none_hidden none_hidden) (λ m y k. k) no_helpers tt Counting (λ ds vis u v k. counted ds u v k) (Swaps (take (value_and_form form) more) e d) swaps_like h (place_like (same_world w) (record { counts = c; rest = record { other = refl; spreads = refl } }))).core.evaluation s s (open_agree s)
 
 pub law_place_proof : LawPlace
 law_place_proof form more e d p q h alike names n this moves assumed t ms inside =
@@ -160,8 +171,8 @@ turns_frame = set_cells (only turns_cell)
 turns_world : (w : World) → SameWorld (only turns_cell) w w
 turns_world w = record { scope = λ x e. refl; this = refl; counts = refl }
 
-core_alike : (w : World) (p : Tree) → stands turns_cell p ≡ false → Alike turns_frame Equal (value w (meaning w p)) (value w (meaning w p))
-core_alike w p h = value_alike turns_frame w w (turns_world w) (meaning w p) (meaning w p) (near_like turns_frame w w (turns_world w) (λ n a b. ⊥) (λ n a b e. absurd e) (λ n a b e. absurd e) (near_self (bad_names (only turns_cell) none_hidden) (λ n a b. ⊥) p all_of_it h)).evaluation
+core_alike : (w : World) → IsCoreWorld w → (p : Tree) → stands turns_cell p ≡ false → Alike turns_frame Equal (value w (meaning w p)) (value w (meaning w p))
+core_alike w core p h = value_alike turns_frame w w (turns_world w) (meaning w p) (meaning w p) (near_like turns_frame w w (turns_world w) core core (λ n a b. ⊥) (λ n a b e. absurd e) (λ n a b e. absurd e) (near_self (bad_names (only turns_cell) none_hidden) (λ n a b. ⊥) p all_of_it h)).evaluation
 
 with_turns : (n : ℕ) (ds : List Declared) (y : Text) → only turns_cell y ≡ false → start_cells n ds y ≡ cells_of ds y
 with_turns n ds y e = rw e
@@ -186,7 +197,7 @@ law_core_run_proof n p core names apart undeclared this moves callable =
     let first : run no_helpers n p this moves ≡ run_at n this ds p moves = top_run n p this moves ∙ ap (λ (es : List Declared). run_at n this es p moves) names in
     let second : run_at n this ds p moves ≡ value w (meaning w p) (state (start_cells n ds) moves []) = ap (λ (m : Meaning). value w m (state (start_cells n ds) moves [])) (core_meaning w p core) in
     let all : run no_helpers n p this moves ≡ value w (meaning w p) (state (start_cells n ds) moves []) = first ∙ second in
-    rw all (as_in_core (only turns_cell) (is_declared ds) (declared_apart (is_declared ds) undeclared) callable (core_alike w p apart _ _ (turns_agree n ds moves)))
+    rw all (as_in_core (only turns_cell) (is_declared ds) (declared_apart (is_declared ds) undeclared) callable (core_alike w (core_world _ _ _) p apart _ _ (turns_agree n ds moves)))
 
 -- FRESH NAMES
 
@@ -215,11 +226,11 @@ module _ (x : Text) (l : Label) (ds body : Trees) (nowhere : avoids_trees (bad_n
   abbrev body_taken : Take
   body_taken = take (value_and_form false) true
 
-  no_place : (t : Take) (a b : Tree) → ⊥ → (w v : World) → SameWorld (only x) w v → w.counts_all ≡ true → (ls : List Text) (y : Text) → SenseLike (hiding x) w v t (sense (quiet_at w ls y) a) (sense (quiet_at v ls y) b)
+  no_place : (t : Take) (a b : Tree) → ⊥ → (w v : World) → SameWorld (only x) w v → Counting w v → (ls : List Text) (y : Text) → SenseLike (hiding x) w v t (sense (quiet_at w ls y) a) (sense (quiet_at v ls y) b)
   no_place t a b e = absurd e
 
   body_like : SensesLike (hiding x) old_world new_world body_taken (senses (quiet_at old_world [] []) body) (senses (quiet_at new_world [] []) body)
-  body_like = close_senses (hiding x) fresh_quiet fresh_stack (bad_names (only x) none_hidden) (λ m y k. k) no_helpers tt Counting (λ ds vis u v k. k) (λ t a b. ⊥) no_place (close_trees (bad_names (only x) none_hidden) (λ t a b. ⊥) body body_taken nowhere) (place_like fresh_world refl)
+  body_like = close_senses (hiding x) fresh_quiet fresh_stack (bad_names (only x) none_hidden) (λ m y k. k) no_helpers tt Counting (λ ds vis u v k. counted ds u v k) (λ t a b. ⊥) no_place (close_trees (bad_names (only x) none_hidden) (λ t a b. ⊥) body body_taken nowhere) (place_like fresh_world (record { counts = refl; rest = record { other = refl; spreads = refl } }))
 
   abbrev body_of : World → M Value
   body_of w = begun (senses (quiet_at w [] []) body) (with_stack_where (using_in body) (in_order w (cores (senses (quiet_at w [] []) body))))

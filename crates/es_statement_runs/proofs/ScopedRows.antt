@@ -1,12 +1,13 @@
 -- Rows that ask which names are bound are alike below the scopes that declare them.
-use Rattle.std.proofs.Common.{◌≡◌, ℕ, List, ◌++◌}
+use Rattle.std.proofs.Common.{◌≡◌, ℕ, List, ◌++◌, refl, suc, []}
 use Rattle.std.proofs.lemmas.Bool.{false≢true}
 use Rattle.std.specs.Prelude.{Bool, true, false, Option}
+use Rattle.es_statement_runs.specs.Alike.PortionsLike.{one_portion}
 use Rattle.es_tree.specs.Words.{Text}
 use Rattle.es_tree.specs.Scopes.{Declared}
-use Rattle.es_tree.specs.Tree.{Tree}
+use Rattle.es_tree.specs.Tree.{Tree, ◌then◌}
 use Rattle.es_tree.specs.declared.ast_type.AstType.{AstType}
-use Rattle.es_tree.specs.declared.ast_type.AstType.TheVariants.{BlockStatement, ForStatement, ForInStatement, ForOfStatement, CatchClause}
+use Rattle.es_tree.specs.declared.ast_type.AstType.TheVariants.{BlockStatement, ForStatement, ForInStatement, ForOfStatement, CatchClause, SwitchStatement}
 use Rattle.es_runs.specs.Core.{World}
 use Rattle.es_runs.specs.Alike.{Frame, SameWorld, Level, bad_names}
 use Rattle.es_statement_runs.specs.Alike.{Told, Quiet, StackSeen, SenseLike}
@@ -14,8 +15,8 @@ use Rattle.es_statement_runs.specs.Helpers.{Supply}
 use Rattle.es_statement_runs.specs.Names.{own_names, names_of_all}
 use Rattle.es_statement_runs.specs.Kinds.{sense, inside, label_in}
 use Rattle.es_statement_runs.specs.Places.{InScope, Take, all_good, owns_scope, placed_at}
-use Rattle.es_statement_runs.specs.Places.InScope.{at_once, below_scope}
-use Rattle.es_statement_runs.proofs.Everywhere.{PlaceLike, close_portions, within_like}
+use Rattle.es_statement_runs.specs.Places.InScope.{at_once, below_scope, below_switch}
+use Rattle.es_statement_runs.proofs.Everywhere.{PlaceLike, close_portions, within_like, close_portion}
 use Rattle.es_statement_runs.proofs.Everywhere.PlaceLike.{place_like}
 use Rattle.es_statement_runs.proofs.KindsAlike.{inner_same, inner}
 
@@ -39,3 +40,9 @@ module _ (F : Frame) (quiet : Quiet F) (stack : StackSeen F) (bad : Level → Te
       within_like F quiet stack bad below o told (Known (es ++ ds)) (kept (es ++ ds)) (R (es ++ ds)) (base (es ++ ds)) t k l m fs gs w v same ls x st e1 e2 e3 e4 e5 good
       (close_portions F quiet stack bad below o told (Known (es ++ ds)) (kept (es ++ ds)) (R (es ++ ds)) (base (es ++ ds)) h (inside (placed_at o w ls x) k l.texts es (label_in k fs)) (inside (placed_at o v ls x) k l.texts es (label_in k fs))
       (λ i. inside_scope ds w v ls x same known k owns l.texts es (label_in k fs) i good))
+  scoped_like R base ds t _ _ (below_switch {l = l} {m = m} {f = f} {g = g} {fs = fs} {gs = gs} e1 e2 e3 e4 good h hs) w v same known ls x =
+      let es = own_names SwitchStatement (f then fs) in
+      within_like F quiet stack bad below o told (Known (es ++ ds)) (kept (es ++ ds)) (R (es ++ ds)) (base (es ++ ds)) t SwitchStatement l m (f then fs) (g then gs) w v same ls x refl e1 e2 e3 e4 refl good
+      (one_portion (close_portion F quiet stack bad below o told (Known ds) (kept ds) (R ds) (base ds) h (place_like same known))
+      (close_portions F quiet stack bad below o told (Known (es ++ ds)) (kept (es ++ ds)) (R (es ++ ds)) (base (es ++ ds)) hs (λ i. inside (placed_at o w ls x) SwitchStatement l.texts es [] (suc i)) (λ i. inside (placed_at o v ls x) SwitchStatement l.texts es [] (suc i))
+      (λ i. place_like (inner_same F quiet es w v same) (enters es ds good w v known))))

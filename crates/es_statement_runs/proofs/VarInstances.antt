@@ -19,7 +19,7 @@ use Rattle.es_statement_runs.specs.BareVars.PutList.{grown_var, new_var, put_end
 use Rattle.es_statement_runs.specs.BareVars.PutTrees.{put_before, put_empty}
 use Rattle.es_statement_runs.specs.BareVars.BesideList.{list_ends, both_have, first_has, second_has}
 use Rattle.es_statement_runs.specs.Helpers.Supply.{by_global, no_helpers}
-use Rattle.es_statement_runs.specs.Laws.{NullishRow, SplitExports, among_names, bad_by, body_needs, export_of, namespace_import, no_row}
+use Rattle.es_statement_runs.specs.Laws.{NullishRow, SplitExports, among_names, body_needs, export_of, namespace_import, no_row}
 use Rattle.es_statement_runs.specs.Laws.NullishRow.{nullish_row}
 use Rattle.es_statement_runs.specs.Laws.SplitExports.{as_it_is, none_split, one_split}
 use Rattle.es_statement_runs.specs.Names.{top_in}
@@ -90,7 +90,7 @@ nested_rows = put_statement (put_self both imported) (put_statement (put_block r
     put_end)))) put_end)
 
 nested_here : RunAlike by_global false (program bare empty nested) (program bare empty nested_vars)
-nested_here = law_temporaries_proof by_global both bare empty nested nested_vars nested_rows refl (declared_apart both (top_in nested) refl) refl refl refl (record { global = refl; require = refl })
+nested_here = law_temporaries_proof by_global both bare empty nested nested_vars nested_rows refl (declared_apart both (top_in nested) refl) refl (λ y e. refl) refl refl (record { global = refl; require = refl })
 
 -- `{ var _a; f(_a = y); }` and `{ var _a, _b; f(_a = y); }`, and with `var _a, _b;` at the top
 abbrev used : Tree
@@ -103,13 +103,13 @@ grown_rows : PutList (among_names (b_ ∷ [])) (growing (var_a before used befor
 grown_rows = put_statement (put_block refl (grown_var refl refl (as_named refl (one_grown refl none_grown)) (list_self (b_ ∷ []) (used before empty)))) put_end
 
 grown_here : RunAlike no_helpers false (program bare empty (growing (var_a before used before empty))) (program bare empty (growing (var_a_b before used before empty)))
-grown_here = law_temporaries_proof no_helpers (b_ ∷ []) bare empty _ _ grown_rows refl (declared_apart (b_ ∷ []) (top_in (growing (var_a before used before empty))) refl) refl refl refl tt
+grown_here = law_temporaries_proof no_helpers (b_ ∷ []) bare empty _ _ grown_rows refl (declared_apart (b_ ∷ []) (top_in (growing (var_a before used before empty))) refl) refl (λ y e. refl) refl refl tt
 
-moved_rows : BesideList (bad_by no_helpers (among_names [])) no_row true (growing (var_a_b before used before empty)) (var_a_b before growing (used before empty))
-moved_rows = second_has bare_a_b (both_have (in_block refl refl refl (first_has bare_a_b (list_beside _ no_row false (used before empty) refl))) list_ends)
+moved_rows : BesideList (bad_names (among_names []) none_hidden) (λ es. no_row) (top_in (growing (var_a_b before used before empty))) true (growing (var_a_b before used before empty)) (var_a_b before growing (used before empty))
+moved_rows = second_has bare_a_b (both_have (in_block refl refl refl (first_has bare_a_b (list_beside _ (λ es. no_row) _ false (used before empty) refl))) list_ends)
 
 moved_here : RunAlike no_helpers false (program bare empty (growing (var_a_b before used before empty))) (program bare empty (var_a_b before growing (used before empty)))
-moved_here = law_vars_proof no_helpers [] bare empty _ _ moved_rows (λ y e. refl) (λ y e. refl) refl refl refl tt
+moved_here = law_vars_proof no_helpers [] bare empty _ _ moved_rows (λ y e. refl) (λ y e. refl) refl (λ y e. refl) refl refl tt
 
 -- `f(); export * as n from "m"; import f from "m";`
 abbrev exports_n : Tree
@@ -124,14 +124,14 @@ exported_body = call before exports_n before imported before empty
 abbrev split_body : Trees
 split_body = call before namespace_import bare bare (codes "_n") (string (codes "m")) empty before export_of bare bare (codes "_n") (x_ (codes "n")) before imported before empty
 
-split_rows : SplitExports (bad_by by_global (among_names n_)) n_ exported_body split_body
+split_rows : SplitExports (bad_names (among_names n_) none_hidden) n_ exported_body split_body
 split_rows = as_it_is refl (one_split refl refl (as_it_is refl none_split))
 
-split_tops : MoreDeclared n_ (top_in exported_body) (top_in split_body)
-split_tops = declared_more refl (as_before none_declared)
+split_tops : MoreDeclared (codes "const") n_ (top_in exported_body) (top_in split_body)
+split_tops = declared_more refl refl (as_before none_declared)
 
 split_here : RunAlike by_global false (program bare empty exported_body) (program bare empty split_body)
-split_here = law_namespace_exports_proof by_global n_ bare empty exported_body split_body split_rows (kinds_kept n_ split_tops) (declared_apart n_ (top_in exported_body) refl) refl (λ y e. refl) refl refl (record { global = refl; require = refl })
+split_here = law_namespace_exports_proof by_global n_ bare empty exported_body split_body split_rows (kinds_kept (codes "const") n_ split_tops) (declared_apart n_ (top_in exported_body) refl) refl (λ y e. refl) refl refl (record { global = refl; require = refl })
 
 -- `{ y = a ?? b; }` with its temporary in the block: the row, with a `var` at the top, and then that moves
 abbrev coalesced : Tree
@@ -151,9 +151,9 @@ coalescing_rows = close_before (within refl refl refl refl refl refl refl (close
     (within refl refl refl refl refl refl refl (close_then (close_one (close_self bad_a (NullishRow a_) (x_ (codes "y")) target_taken refl)) (close_then (close_one (placed (nullish_row refl refl refl))) close_done))))
     close_done)) close_empty)) close_done)) close_empty
 
-inward_rows : BesideList (bad_by no_helpers (among_names [])) no_row true (var_a before growing (setting tested)) (growing (var_a before setting tested))
-inward_rows = first_has (bare_var refl (one_bare none_bare)) (both_have (in_block refl refl refl (second_has (bare_var refl (one_bare none_bare)) (list_beside _ no_row false (setting tested) refl))) list_ends)
+inward_rows : BesideList (bad_names (among_names []) none_hidden) (λ es. no_row) (top_in (var_a before growing (setting tested))) true (var_a before growing (setting tested)) (growing (var_a before setting tested))
+inward_rows = first_has (bare_var refl (one_bare none_bare)) (both_have (in_block refl refl refl (second_has (bare_var refl (one_bare none_bare)) (list_beside _ (λ es. no_row) _ false (setting tested) refl))) list_ends)
 
 inward_here : RunAlike no_helpers false (program bare empty (growing (setting coalesced))) (program bare empty (growing (var_a before setting tested)))
 inward_here = law_then_proof no_helpers false (program bare empty (growing (setting coalesced))) (program bare empty (var_a before growing (setting tested))) (program bare empty (growing (var_a before setting tested))) (law_nullish_proof a_ bare empty (growing (setting coalesced)) (growing (setting tested)) coalescing_rows refl refl refl refl refl)
-    (law_vars_proof no_helpers [] bare empty (var_a before growing (setting tested)) (growing (var_a before setting tested)) inward_rows (λ y e. refl) (λ y e. refl) refl refl refl tt) (λ y e. absurd (cc e))
+    (law_vars_proof no_helpers [] bare empty (var_a before growing (setting tested)) (growing (var_a before setting tested)) inward_rows (λ y e. refl) (λ y e. refl) refl (λ y e. refl) refl refl tt) (λ y e. absurd (cc e))

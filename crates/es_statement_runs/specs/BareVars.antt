@@ -1,10 +1,11 @@
 -- `var` statements without values, and trees that are the same but for these in lists of statements, at any depth, and but for some places.
-use Rattle.std.specs.Prelude.{◌≡◌, ℕ, zero, suc, Bool, true, false, [], ◌∷◌, Some, codes}
+use Rattle.std.specs.Prelude.{◌≡◌, ℕ, zero, suc, Bool, true, false, List, [], ◌∷◌, ◌++◌, Some, codes}
 use Rattle.es_tree.specs.Words.{Text}
 use Rattle.es_tree.specs.Names.{first_text}
+use Rattle.es_tree.specs.Scopes.{Declared}
 use Rattle.es_tree.specs.Tree.{Tree, node, Label, Fields, done, ◌then◌, Field, missing, one, many, statements, Trees, empty, ◌before◌}
 use Rattle.es_tree.specs.declared.ast_type.AstType.{AstType}
-use Rattle.es_tree.specs.declared.ast_type.AstType.TheVariants.{BlockStatement, Identifier, SwitchCase, VariableDeclaration, VariableDeclarator}
+use Rattle.es_tree.specs.declared.ast_type.AstType.TheVariants.{BlockStatement, CatchClause, ForInStatement, ForOfStatement, ForStatement, Identifier, SwitchCase, SwitchStatement, VariableDeclaration, VariableDeclarator}
 use Rattle.es_runs.specs.Alike.{Level, is_bad, the_value}
 use Rattle.es_statement_runs.specs.Names.{lexical_in, names_of_all, own_names, own_use, using_in}
 use Rattle.es_statement_runs.specs.Kinds.{label_in}
@@ -19,38 +20,49 @@ pub data BareDeclarators : Trees → Type 0 where
 pub data BareVar : Tree → Type 0 where
   bare_var : {l : Label} {ds : Trees} → l.texts ≡ Some (codes "var") ∷ [] → BareDeclarators ds → BareVar (node VariableDeclaration l (many ds then done))
 
--- As `Close`, but that a list of a block or of a case may have such statements more, before any of its statements. The list of the program is one of
--- `BesideList`, whose elements are taken with what they say or without.
+-- The names that scopes around a field of a node declare, where the node's own scope declares es and those around the node declare ds, as `inside` has
+-- them.
+abbrev pub names_around : AstType → List Declared → List Declared → ℕ → List Declared
+names_around BlockStatement es ds i = es ++ ds
+names_around ForStatement es ds i = es ++ ds
+names_around ForInStatement es ds i = es ++ ds
+names_around ForOfStatement es ds i = es ++ ds
+names_around CatchClause es ds i = es ++ ds
+names_around SwitchStatement es ds (suc i) = es ++ ds
+names_around _ es ds i = ds
+
+-- As `Close`, but that a list of a block or of a case may have such statements more, before any of its statements, and that rows know which names the
+-- scopes around declare. The list of the program is one of `BesideList`, whose elements are taken with what they say or without.
 mutual
-  pub data Beside (bad : Level → Text → Bool) (R : Take → Tree → Tree → Type 0) : Take → Tree → Tree → Type 0 where
-    at_place : {t : Take} {a b : Tree} → R t a b → Beside bad R t a b
-    in_node : {t : Take} {k : AstType} {l m : Label} {fs gs : Fields} → is_bad bad t.need.level k l.texts ≡ false → m.texts ≡ l.texts → m.flags ≡ l.flags →
+  pub data Beside (bad : Level → Text → Bool) (R : List Declared → Take → Tree → Tree → Type 0) : List Declared → Take → Tree → Tree → Type 0 where
+    at_place : {ds : List Declared} {t : Take} {a b : Tree} → R ds t a b → Beside bad R ds t a b
+    in_node : {ds : List Declared} {t : Take} {k : AstType} {l m : Label} {fs gs : Fields} → is_bad bad t.need.level k l.texts ≡ false → m.texts ≡ l.texts → m.flags ≡ l.flags →
         own_names k gs ≡ own_names k fs → own_use k gs ≡ own_use k fs → label_in k gs ≡ label_in k fs → all_good bad (names_of_all (own_names k fs)) ≡ true →
-        BesideFields bad R (takes_of t k l.texts l.flags) fs gs → Beside bad R t (node k l fs) (node k m gs)
-    in_block : {t : Take} {l m : Label} {ts us : Trees} → lexical_in us ≡ lexical_in ts → using_in us ≡ using_in ts → all_good bad (names_of_all (lexical_in ts)) ≡ true →
-        BesideList bad R false ts us → Beside bad R t (node BlockStatement l (statements ts then done)) (node BlockStatement m (statements us then done))
-    in_case : {t : Take} {l m : Label} {f g : Field} {ts us : Trees} → BesideField bad R value_taken f g →
-        BesideList bad R false ts us → Beside bad R t (node SwitchCase l (f then statements ts then done)) (node SwitchCase m (g then statements us then done))
+        BesideFields bad R (names_around k (own_names k fs) ds) (takes_of t k l.texts l.flags) fs gs → Beside bad R ds t (node k l fs) (node k m gs)
+    in_block : {ds : List Declared} {t : Take} {l m : Label} {ts us : Trees} → lexical_in us ≡ lexical_in ts → using_in us ≡ using_in ts → all_good bad (names_of_all (lexical_in ts)) ≡ true →
+        BesideList bad R (lexical_in ts ++ ds) false ts us → Beside bad R ds t (node BlockStatement l (statements ts then done)) (node BlockStatement m (statements us then done))
+    in_case : {ds : List Declared} {t : Take} {l m : Label} {f g : Field} {ts us : Trees} → BesideField bad R ds value_taken f g →
+        BesideList bad R ds false ts us → Beside bad R ds t (node SwitchCase l (f then statements ts then done)) (node SwitchCase m (g then statements us then done))
 
-  pub data BesideFields (bad : Level → Text → Bool) (R : Take → Tree → Tree → Type 0) : (ℕ → Take) → Fields → Fields → Type 0 where
-    beside_done : {c : ℕ → Take} → BesideFields bad R c done done
-    beside_then : {c : ℕ → Take} {f g : Field} {fs gs : Fields} → BesideField bad R (c zero) f g → BesideFields bad R (λ i. c (suc i)) fs gs → BesideFields bad R c (f then fs) (g then gs)
+  pub data BesideFields (bad : Level → Text → Bool) (R : List Declared → Take → Tree → Tree → Type 0) : (ℕ → List Declared) → (ℕ → Take) → Fields → Fields → Type 0 where
+    beside_done : {d : ℕ → List Declared} {c : ℕ → Take} → BesideFields bad R d c done done
+    beside_then : {d : ℕ → List Declared} {c : ℕ → Take} {f g : Field} {fs gs : Fields} → BesideField bad R (d zero) (c zero) f g → BesideFields bad R (λ i. d (suc i)) (λ i. c (suc i)) fs gs → BesideFields bad R d c (f then fs) (g then gs)
 
-  pub data BesideField (bad : Level → Text → Bool) (R : Take → Tree → Tree → Type 0) : Take → Field → Field → Type 0 where
-    beside_missing : {t : Take} → BesideField bad R t missing missing
-    beside_one : {t : Take} {a b : Tree} → Beside bad R t a b → BesideField bad R t (one a) (one b)
-    beside_many : {t : Take} {xs ys : Trees} → BesideTrees bad R t xs ys → BesideField bad R t (many xs) (many ys)
-    beside_statements : {t : Take} {xs ys : Trees} → BesideTrees bad R t xs ys → BesideField bad R t (statements xs) (statements ys)
+  pub data BesideField (bad : Level → Text → Bool) (R : List Declared → Take → Tree → Tree → Type 0) : List Declared → Take → Field → Field → Type 0 where
+    beside_missing : {ds : List Declared} {t : Take} → BesideField bad R ds t missing missing
+    beside_one : {ds : List Declared} {t : Take} {a b : Tree} → Beside bad R ds t a b → BesideField bad R ds t (one a) (one b)
+    beside_many : {ds : List Declared} {t : Take} {xs ys : Trees} → BesideTrees bad R ds t xs ys → BesideField bad R ds t (many xs) (many ys)
+    beside_statements : {ds : List Declared} {t : Take} {xs ys : Trees} → BesideTrees bad R ds t xs ys → BesideField bad R ds t (statements xs) (statements ys)
 
-  pub data BesideTrees (bad : Level → Text → Bool) (R : Take → Tree → Tree → Type 0) : Take → Trees → Trees → Type 0 where
-    beside_empty : {t : Take} → BesideTrees bad R t empty empty
-    beside_before : {t : Take} {a b : Tree} {xs ys : Trees} → Beside bad R t a b → BesideTrees bad R t xs ys → BesideTrees bad R t (a before xs) (b before ys)
+  pub data BesideTrees (bad : Level → Text → Bool) (R : List Declared → Take → Tree → Tree → Type 0) : List Declared → Take → Trees → Trees → Type 0 where
+    beside_empty : {ds : List Declared} {t : Take} → BesideTrees bad R ds t empty empty
+    beside_before : {ds : List Declared} {t : Take} {a b : Tree} {xs ys : Trees} → Beside bad R ds t a b → BesideTrees bad R ds t xs ys → BesideTrees bad R ds t (a before xs) (b before ys)
 
-  pub data BesideList (bad : Level → Text → Bool) (R : Take → Tree → Tree → Type 0) : Bool → Trees → Trees → Type 0 where
-    list_ends : {more : Bool} → BesideList bad R more empty empty
-    both_have : {more : Bool} {a b : Tree} {ts us : Trees} → Beside bad R (take the_value more) a b → BesideList bad R more ts us → BesideList bad R more (a before ts) (b before us)
-    first_has : {more : Bool} {a : Tree} {ts us : Trees} → BareVar a → BesideList bad R more ts us → BesideList bad R more (a before ts) us
-    second_has : {more : Bool} {b : Tree} {ts us : Trees} → BareVar b → BesideList bad R more ts us → BesideList bad R more ts (b before us)
+  pub data BesideList (bad : Level → Text → Bool) (R : List Declared → Take → Tree → Tree → Type 0) : List Declared → Bool → Trees → Trees → Type 0 where
+    list_ends : {ds : List Declared} {more : Bool} → BesideList bad R ds more empty empty
+    both_have : {ds : List Declared} {more : Bool} {a b : Tree} {ts us : Trees} → Beside bad R ds (take the_value more) a b → BesideList bad R ds more ts us → BesideList bad R ds more (a before ts) (b before us)
+    first_has : {ds : List Declared} {more : Bool} {a : Tree} {ts us : Trees} → BareVar a → BesideList bad R ds more ts us → BesideList bad R ds more (a before ts) us
+    second_has : {ds : List Declared} {more : Bool} {b : Tree} {ts us : Trees} → BareVar b → BesideList bad R ds more ts us → BesideList bad R ds more ts (b before us)
 
 -- TEMPORARIES PUT IN: the same trees but that such statements of fresh names are put into lists of blocks and cases, or such names are put into
 -- `var` statements without values that stand there

@@ -7,9 +7,9 @@ use Rattle.es_runs.specs.Machine.Value.{undefined, own}
 use Rattle.es_runs.specs.Machine.OwnValue.{helper, stack, pattern_error}
 use Rattle.es_runs.specs.Machine.Values.{none}
 use Rattle.es_runs.specs.Machine.Stop.{throws, unknown}
-use Rattle.es_runs.specs.Core.{World, Reference, Meaning, Form, value, put_value, literal, nothing, is_free, call_of, plain_call}
+use Rattle.es_runs.specs.Core.{World, Reference, Meaning, Form, value, put_value, literal, nothing, is_free, call_of, form_beside, plain_call}
 use Rattle.es_runs.specs.Core.Reference.{property}
-use Rattle.es_runs.specs.Core.Form.{word, math_pow, member_call, member_bind, other}
+use Rattle.es_runs.specs.Core.Form.{word, other}
 use Rattle.es_statement_runs.specs.Senses.{cores, plain_sense, ends, object_by, Place, Sense, More}
 use Rattle.es_statement_runs.specs.Senses.More.{stack_member, maps, aims, literal_text, nothing_more, helper_call, spreads, keys_of, object_of}
 use Rattle.es_statement_runs.specs.Stacks.{new_stack, taken_into_use, failed_with, all_disposed}
@@ -90,12 +90,9 @@ abbrev pub first_spread : List Sense → Bool
 first_spread [] = false
 first_spread (e ∷ es) = is_spread e.more
 
--- with a spread there are not two arguments for `**`, and with a spread in front none is the receiver
+-- the form of a callee beside these arguments
 abbrev pub called_form : List Sense → Form → Form
-called_form es math_pow = if some_spread es then other else math_pow
-called_form es member_call = if first_spread es then other else member_call
-called_form es member_bind = if first_spread es then other else member_bind
-called_form es f = f
+called_form es = form_beside (first_spread es) (some_spread es)
 
 abbrev pub plain_callee : Sense → List Sense → Meaning
 plain_callee f es = record { reference = f.core.reference; form = called_form es f.core.form }

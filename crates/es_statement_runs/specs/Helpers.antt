@@ -146,15 +146,15 @@ abbrev pub is_named : Text → Option Silent → Bool
 is_named h (Some (helper_name t)) = is_word h t
 is_named h _ = false
 
--- whether this is a helper, as a callee
-abbrev pub is_helper : Supply → List (Text × Silent) → Text → Tree → Bool
-is_helper by_global hs h (node MemberExpression l (one o then (one x then fs))) = is_word (codes "babelHelpers") (own_text o) && is_word h (own_text x)
-is_helper u hs h (node Identifier l fs) = is_named h (entry hs (first_text l.texts))
-is_helper u hs h t = false
-
 abbrev pub is_this_name : Text → Tree → Bool
 is_this_name x (node Identifier l fs) = bytes_eq (first_text l.texts) x
 is_this_name x t = false
+
+-- whether this is a helper, as a callee
+abbrev pub is_helper : Supply → List (Text × Silent) → Text → Tree → Bool
+is_helper by_global hs h (node MemberExpression l (one o then (one x then fs))) = is_this_name (codes "babelHelpers") o && is_word h (own_text x)
+is_helper u hs h (node Identifier l fs) = is_named h (entry hs (first_text l.texts))
+is_helper u hs h t = false
 
 -- `objectWithoutProperties(e, x)`
 abbrev pub excludes_by : Supply → List (Text × Silent) → Text → AstType → Fields → Bool

@@ -111,7 +111,7 @@ kind_in (d ∷ ds) x = if bytes_eq x d.name then Some d.kind else kind_in ds x
 
 abbrev pub entered : List Declared → Place → Place
 entered ds p = record {
-  world = record { scope = λ x. found (kind_in ds x) x p.world.scope x; this = p.world.this; counts_all = p.world.counts_all };
+  world = record { scope = λ x. found (kind_in ds x) x p.world.scope x; this = p.world.this; counts_all = p.world.counts_all; other = p.world.other; spreads = p.world.spreads };
   labels = [];
   word = [];
   supply = p.supply;

@@ -1,6 +1,7 @@
 -- Laws of the statement machine.
 use Rattle.std.specs.Prelude.{is_some, ◌≡◌, ℕ, zero, suc, Bool, true, false, List, [], ◌∷◌, ◌++◌, Some, codes, bytes_eq, ◌||◌, ◌&&◌, not, if◌then◌else◌}
 use Rattle.std.specs.List.{list_any}
+use Rattle.es_statement_runs.specs.Operands.{is_settled, stands_over}
 use Rattle.es_tree.specs.Words.{Text}
 use Rattle.es_tree.specs.Core.{is_core}
 use Rattle.es_tree.specs.Scopes.{declared_of, Declared}
@@ -11,15 +12,15 @@ use Rattle.es_tree.specs.Fresh.{is_among}
 use Rattle.es_tree.specs.Names.{first_text, flag_at}
 use Rattle.es_tree.specs.Walks.{all_nodes}
 use Rattle.es_runs.specs.Core.{Silent, World, value, meaning, second}
-use Rattle.es_runs.specs.Alike.{Same, Equal, touches, Level, Frame, set_cells, bad_names, value_and_form}
+use Rattle.es_runs.specs.Alike.{Same, Equal, touches, Level, Frame, set_cells, bad_names, value_and_form, Need}
 use Rattle.es_runs.specs.Alike.Level.{a_target}
 use Rattle.es_runs.specs.Rules.{assign_node, member_node, strays, tested_by}
 use Rattle.es_runs.specs.Runs.{made, identifier, none_hidden, only, program, var_statement, is_declared, stands, asked, state_of, cells, outcome as core_outcome, run as core_run}
 use Rattle.es_runs.specs.Runs.Outcome.{called_uncallable}
 use Rattle.es_runs.specs.OptionalChaining.{OptionalChainingRule}
 use Rattle.es_runs.specs.Standing.{undeclaring}
-use Rattle.es_runs.specs.LogicalAssignment.{is_logical_assignment_operator, assigned_where}
-use Rattle.es_runs.specs.Exponentiation.{power_at}
+use Rattle.es_runs.specs.LogicalAssignment.{is_logical_assignment_operator, assigned_where, LogicalAssignmentRule}
+use Rattle.es_runs.specs.Exponentiation.{power_at, ExponentiationRule, is_raisable}
 use Rattle.es_runs.specs.Machine.{Value, Values, State, Move, Result, M, ◌>>=◌, return, joined}
 use Rattle.es_runs.specs.Machine.Values.{none, ◌and◌}
 use Rattle.es_statement_runs.specs.Programs.{IsStatementProgram, is_without_functions, uses_no_helper}
@@ -149,23 +150,49 @@ LawPower = (l : Label) (ds body after : Trees) → CloseTrees (bad_names none_hi
     top_in after ≡ top_in body → using_in after ≡ using_in body → is_declared (top_in body) (codes "Math") ≡ false →
     RunAlike no_helpers false (program l ds body) (program l ds after)
 
--- THE ROWS OF OPTIONAL CHAINING: those of es_runs as they are, at nodes whose operands are core, with these temporaries. The
--- names `bound` may be read again, and of them nothing in the node writes the steady ones.
 abbrev pub among_names : List Text → Text → Bool
 among_names xs y = list_any (λ x. bytes_eq y x) xs
 
-pub data ChainRow (bound steady in_use : Text → Bool) (xs : List Text) : Take → Tree → Tree → Type 0 where
-  chain_row : {t : Take} {a b : Tree} → OptionalChainingRule false bound steady in_use xs t.need a b → is_core a ≡ true → is_core b ≡ true →
-      all_nodes undeclaring a ≡ true → strays false a ≡ false → touches (bad_names (among_names xs) steady) t.need a ≡ false → ChainRow bound steady in_use xs t a b
+-- THE ROWS OF es_runs OVER WHATEVER OPERANDS: as they are, with these temporaries, at nodes of the core over operands of any kind that mean something.
+-- The names `bound` may be read again, where the top or a scope around declares them, and of them nothing in the node writes the steady ones.
+pub data RowOver (R : (bound steady in_use : Text → Bool) → List Text → Need → Tree → Tree → Type 0) (xs : List Text) (ds : List Declared) : Take → Tree → Tree → Type 0 where
+  row_over : {t : Take} {a b : Tree} (bound steady in_use : Text → Bool) → R bound steady in_use xs t.need a b →
+      ((y : Text) → bound y ≡ true → is_declared ds y ≡ true) → ((y : Text) → steady y ≡ true → bound y ≡ true) → ((y : Text) → steady y ≡ true → is_own_cell y ≡ false) →
+      stands_over (is_settled (bad_names (among_names xs) steady)) a ≡ true → all_nodes undeclaring a ≡ true → touches (bad_names (among_names xs) steady) t.need a ≡ false → RowOver R xs ds t a b
 
--- At whatever places of whatever statements, with a `var` of each temporary at the top of the list. The names that may be read
--- again are those that the top binds, or some of them.
-abbrev pub LawChain : Type 0
-LawChain = (bound steady in_use : Text → Bool) (xs : List Text) (l : Label) (ds body after : Trees) →
-    CloseTrees (bad_names (among_names xs) none_hidden) (ChainRow bound steady in_use xs) body_needs body after → top_in after ≡ top_in body → using_in after ≡ using_in body →
-    among_names xs (codes "Math") ≡ false → are_program_names xs ≡ true →
-    ((y : Text) → is_declared (top_in body) y ≡ true → among_names xs y ≡ false) → ((y : Text) → bound y ≡ true → is_declared (top_in body) y ≡ true) → ((y : Text) → steady y ≡ true → bound y ≡ true) →
+-- n scopes deep at most
+abbrev pub RowsOver : (Level → Text → Bool) → ((bound steady in_use : Text → Bool) → List Text → Need → Tree → Tree → Type 0) → List Text → ℕ → List Declared → Take → Tree → Tree → Type 0
+RowsOver bad R xs zero ds t a b = RowOver R xs ds t a b
+RowsOver bad R xs (suc n) ds t a b = InScope bad (RowsOver bad R xs n) ds t a b
+
+-- At whatever places of whatever statements, with a `var` of each temporary at the top of the list, where no scope declares these other names and nothing
+-- writes them.
+abbrev pub RowsKeepRuns : (Text → Bool) → ((bound steady in_use : Text → Bool) → List Text → Need → Tree → Tree → Type 0) → Type 0
+RowsKeepRuns others R = (xs : List Text) (n : ℕ) (l : Label) (ds body after : Trees) →
+    CloseTrees (bad_names (among_names xs) others) (RowsOver (bad_names (among_names xs) others) R xs n (top_in body)) body_needs body after → top_in after ≡ top_in body → using_in after ≡ using_in body →
+    among_names xs (codes "Math") ≡ false → are_program_names xs ≡ true → ((y : Text) → is_declared (top_in body) y ≡ true → among_names xs y ≡ false) → ((y : Text) → others y ≡ true → is_declared (top_in body) y ≡ false) →
     RunAlike no_helpers false (program l ds body) (program l ds (vars_before xs after))
+
+-- optional chaining
+abbrev pub chaining : (bound steady in_use : Text → Bool) → List Text → Need → Tree → Tree → Type 0
+chaining bound steady in_use xs n a b = OptionalChainingRule false bound steady in_use xs n a b × (strays false a ≡ false)
+
+abbrev pub LawChain : Type 0
+LawChain = RowsKeepRuns none_hidden chaining
+
+-- logical assignment, to names and members
+abbrev pub assigning : (bound steady in_use : Text → Bool) → List Text → Need → Tree → Tree → Type 0
+assigning bound steady in_use xs n a b = LogicalAssignmentRule steady in_use xs n a b
+
+abbrev pub LawLogicalAssignment : Type 0
+LawLogicalAssignment = RowsKeepRuns none_hidden assigning
+
+-- exponentiation, and its assignment, where no scope declares `Math` and nothing writes it
+abbrev pub raising : (bound steady in_use : Text → Bool) → List Text → Need → Tree → Tree → Type 0
+raising bound steady in_use xs n a b = ExponentiationRule bound in_use xs n a b × (is_raisable a ≡ true)
+
+abbrev pub LawExponentiation : Type 0
+LawExponentiation = RowsKeepRuns (only (codes "Math")) raising
 
 -- RUNS ALIKE COMPOSE, where what the first source declares is declared by the second, so that steps may be taken one after another
 abbrev pub LawThen : Type 0
@@ -486,28 +513,23 @@ LawLater = (xs : List Text) (l : Label) (ds body after : Trees) → CloseTrees n
 
 -- TEMPORARIES BY `var` IN ANY LISTS: `var` statements without values do nothing but declare, wherever they stand. Lists of statements, of the program, of
 -- blocks and of cases, may have them, have them no longer or have others, where the top then binds as before but for names xs, which the source doesn't
--- declare and which stand nowhere else. So temporaries may be declared, `var a;` may become `var a, b;`, and a `var a;` may move to another list.
-
--- a name that stands nowhere is bad where it is evaluated, and, where names may stand for helpers, as a key or a label too
-abbrev pub bad_by : Supply → (Text → Bool) → Level → Text → Bool
-bad_by no_helpers hidden = bad_names hidden none_hidden
-bad_by _ hidden = bad_anywhere (any_cells hidden)
+-- declare and which stand nowhere else but as keys and labels, and stand for no helper. So temporaries may be declared, `var a;` may become `var a, b;`, and a `var a;` may move to another list.
 
 -- no place but those of such statements differs
 abbrev pub no_row : Take → Tree → Tree → Type 0
 no_row t a b = ⊥
 
 abbrev pub LawVars : Type 0
-LawVars = (u : Supply) (xs : List Text) (l : Label) (ds body after : Trees) → BesideList (bad_by u (among_names xs)) no_row true body after →
+LawVars = (u : Supply) (xs : List Text) (l : Label) (ds body after : Trees) → BesideList (bad_names (among_names xs) none_hidden) (λ es. no_row) (top_in body) true body after →
     ((y : Text) → among_names xs y ≡ false → kind_in (top_in after) y ≡ kind_in (top_in body) y) → ((y : Text) → is_declared (top_in body) y ≡ true → among_names xs y ≡ false) →
-    silent_names u (program l ds after) ≡ silent_names u (program l ds body) →
+    silent_names u (program l ds after) ≡ silent_names u (program l ds body) → ((y : Text) → among_names xs y ≡ true → is_silent (silent_names u (program l ds body)) y ≡ false) →
     among_names xs (codes "Math") ≡ false → are_program_names xs ≡ true → SupplySeen (any_cells (among_names xs)) u →
     RunAlike u false (program l ds body) (program l ds after)
 
 -- So temporaries that stand nowhere in a program, nor are declared by it, may be put into its lists, at any depth.
 abbrev pub LawTemporaries : Type 0
-LawTemporaries = (u : Supply) (xs : List Text) (l : Label) (ds body after : Trees) → PutList (among_names xs) body after → avoids_trees (bad_by u (among_names xs)) body_needs body ≡ true →
-    ((y : Text) → is_declared (top_in body) y ≡ true → among_names xs y ≡ false) → silent_names u (program l ds after) ≡ silent_names u (program l ds body) →
+LawTemporaries = (u : Supply) (xs : List Text) (l : Label) (ds body after : Trees) → PutList (among_names xs) body after → avoids_trees (bad_names (among_names xs) none_hidden) body_needs body ≡ true →
+    ((y : Text) → is_declared (top_in body) y ≡ true → among_names xs y ≡ false) → silent_names u (program l ds after) ≡ silent_names u (program l ds body) → ((y : Text) → among_names xs y ≡ true → is_silent (silent_names u (program l ds body)) y ≡ false) →
     among_names xs (codes "Math") ≡ false → are_program_names xs ≡ true → SupplySeen (any_cells (among_names xs)) u →
     RunAlike u false (program l ds body) (program l ds after)
 
@@ -527,7 +549,7 @@ pub data SplitExports (bad : Level → Text → Bool) (xs : List Text) : Trees �
       SplitExports bad xs (node ExportAllDeclaration l (one e then one s then many attributes then done) before ts) (namespace_import m k x s attributes before export_of o j x e before us)
 
 abbrev pub LawNamespaceExports : Type 0
-LawNamespaceExports = (u : Supply) (xs : List Text) (l : Label) (ds body after : Trees) → SplitExports (bad_by u (among_names xs)) xs body after →
+LawNamespaceExports = (u : Supply) (xs : List Text) (l : Label) (ds body after : Trees) → SplitExports (bad_names (among_names xs) none_hidden) xs body after →
     ((y : Text) → among_names xs y ≡ false → kind_in (top_in after) y ≡ kind_in (top_in body) y) → ((y : Text) → is_declared (top_in body) y ≡ true → among_names xs y ≡ false) →
     silent_names u (program l ds after) ≡ silent_names u (program l ds body) → ((y : Text) → among_names xs y ≡ true → is_silent (silent_names u (program l ds body)) y ≡ false) →
     among_names xs (codes "Math") ≡ false → are_program_names xs ≡ true → SupplySeen (any_cells (among_names xs)) u →

@@ -13,5 +13,6 @@ pub mod Runs
 pub mod Places
 pub mod Alike
 pub mod Meant
+pub mod Operands
 pub mod BareVars
 pub mod Laws

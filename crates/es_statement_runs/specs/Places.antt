@@ -5,7 +5,7 @@ use Rattle.es_tree.specs.Names.{flag_at}
 use Rattle.es_tree.specs.Scopes.{Declared}
 use Rattle.es_tree.specs.Tree.{Tree, node, Label, Fields, done, ◌then◌, Field, missing, one, many, statements, Trees, empty, ◌before◌}
 use Rattle.es_tree.specs.declared.ast_type.AstType.{AstType}
-use Rattle.es_tree.specs.declared.ast_type.AstType.TheVariants.{Program, VariableDeclaration, VariableDeclarator, ForInStatement, ForOfStatement, BreakStatement, ContinueStatement, LabeledStatement, SwitchStatement, TryStatement, CatchClause, ImportDeclaration, ImportSpecifier, ImportDefaultSpecifier, ImportNamespaceSpecifier, ExportAllDeclaration, TemplateLiteral, TaggedTemplateExpression, ArrayExpression, ObjectExpression, ObjectProperty, AssignmentExpression, MemberExpression, CallExpression, ObjectPattern, PatternProperty, ArrayPattern, AssignmentPattern, RestElement, ObjectTarget, TargetProperty, ArrayTarget, TargetWithDefault, TargetRest, BlockStatement, ForStatement}
+use Rattle.es_tree.specs.declared.ast_type.AstType.TheVariants.{Program, VariableDeclaration, VariableDeclarator, ForInStatement, ForOfStatement, BreakStatement, ContinueStatement, LabeledStatement, SwitchStatement, TryStatement, CatchClause, ImportDeclaration, ImportSpecifier, ImportDefaultSpecifier, ImportNamespaceSpecifier, ExportNamedDeclaration, ExportSpecifier, ExportAllDeclaration, TemplateLiteral, TaggedTemplateExpression, ArrayExpression, ObjectExpression, ObjectProperty, AssignmentExpression, MemberExpression, CallExpression, ObjectPattern, PatternProperty, ArrayPattern, AssignmentPattern, RestElement, ObjectTarget, TargetProperty, ArrayTarget, TargetWithDefault, TargetRest, BlockStatement, ForStatement}
 use Rattle.es_runs.specs.Core.{World, flag, flag_after}
 use Rattle.es_runs.specs.Alike.{Frame, Level, Need, needs, is_bad, bad_names, the_value, the_target, the_label, the_callee, value_and_form, object_need, key_need}
 use Rattle.es_runs.specs.Alike.Level.{no_evaluation, whole_reference, a_target}
@@ -69,6 +69,8 @@ takes_of t ImportDeclaration ts fs i = first_then more_taken label_taken i
 takes_of t ImportSpecifier ts fs i = label_taken
 takes_of t ImportDefaultSpecifier ts fs i = label_taken
 takes_of t ImportNamespaceSpecifier ts fs i = label_taken
+takes_of t ExportNamedDeclaration ts fs i = first_then value_taken (take nothing_needed false) i
+takes_of t ExportSpecifier ts fs i = take nothing_needed false
 takes_of t ExportAllDeclaration ts fs i = label_taken
 takes_of t TemplateLiteral ts fs i = first_then more_taken value_taken i
 takes_of t TaggedTemplateExpression ts fs i = first_then (take (record { level = whole_reference; form = false }) false) more_taken i
@@ -152,6 +154,10 @@ pub data InScope (bad : Level → Text → Bool) (R : List Declared → Take →
   below_scope : {t : Take} {k : AstType} {l m : Label} {fs gs : Fields} → owns_scope k ≡ true → is_bad bad t.need.level k l.texts ≡ false → m.texts ≡ l.texts → m.flags ≡ l.flags →
       own_names k gs ≡ own_names k fs → own_use k gs ≡ own_use k fs → label_in k gs ≡ label_in k fs → all_good bad (names_of_all (own_names k fs)) ≡ true →
       CloseFields bad (R (own_names k fs ++ ds)) (takes_of t k l.texts l.flags) fs gs → InScope bad R ds t (node k l fs) (node k m gs)
+  -- the discriminant of a `switch` stands outside its scope
+  below_switch : {t : Take} {l m : Label} {f g : Field} {fs gs : Fields} → m.texts ≡ l.texts → m.flags ≡ l.flags →
+      own_names SwitchStatement (g then gs) ≡ own_names SwitchStatement (f then fs) → own_use SwitchStatement (g then gs) ≡ own_use SwitchStatement (f then fs) → all_good bad (names_of_all (own_names SwitchStatement (f then fs))) ≡ true →
+      CloseField bad (R ds) value_taken f g → CloseFields bad (R (own_names SwitchStatement (f then fs) ++ ds)) (λ i. more_taken) fs gs → InScope bad R ds t (node SwitchStatement l (f then fs)) (node SwitchStatement m (g then gs))
 
 -- whether in a tree no name is bad where it stands, and no scope or import declares a name that is bad as a target
 abbrev mutual

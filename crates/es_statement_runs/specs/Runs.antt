@@ -3,14 +3,14 @@ use Rattle.std.specs.Prelude.{ℕ, Bool, true, false, ◌&&◌, List, [], ◌∷
 use Rattle.es_tree.specs.Words.{Text}
 use Rattle.es_tree.specs.Scopes.{Declared}
 use Rattle.es_tree.specs.Tree.{Tree}
-use Rattle.es_runs.specs.Machine.{Value, OwnValue, Values, Cell, Move, Result, is_set}
+use Rattle.es_runs.specs.Machine.{Value, OwnValue, Values, Cell, Move, Result, is_set, stop}
 use Rattle.es_runs.specs.Machine.Value.{bound, own}
 use Rattle.es_runs.specs.Machine.OwnValue.{pattern_error, suppressed, count}
 use Rattle.es_runs.specs.Machine.Values.{none, ◌and◌}
 use Rattle.es_runs.specs.Machine.Move.{answer, throw}
 use Rattle.es_runs.specs.Machine.Cell.{holds}
 use Rattle.es_runs.specs.Machine.State.{state}
-use Rattle.es_runs.specs.Machine.Stop.{throws, faults, waits, uncallable, out_of_turns}
+use Rattle.es_runs.specs.Machine.Stop.{throws, faults, waits, uncallable, out_of_turns, unknown}
 use Rattle.es_runs.specs.Machine.Result.{gives, stops}
 use Rattle.es_runs.specs.Core.{World, Binding, Silent, value}
 use Rattle.es_runs.specs.Core.Binding.{silent}
@@ -35,7 +35,7 @@ abbrev pub program_scope : Supply → Tree → Text → Binding
 program_scope u t x = silent_or (entry (silent_names u t) x) (scope_of (declared_at_top t) x)
 
 abbrev pub program_world : Supply → Value → Tree → World
-program_world u this t = record { scope = program_scope u t; this = this; counts_all = true }
+program_world u this t = record { scope = program_scope u t; this = this; counts_all = true; other = λ e. stop unknown; spreads = false }
 
 abbrev pub place_of : Supply → Value → Tree → Place
 place_of u this t = record { world = program_world u this t; labels = []; word = []; supply = u }

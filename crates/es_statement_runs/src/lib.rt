@@ -2,7 +2,7 @@
 //! definitions.
 #![tactic(auto)]
 
-ghost use Rattle.es_statement_runs.specs.Laws.{LawAssign, LawCatch, LawCatchPattern, LawChain, LawCollected, LawCoreClass, LawCoreMeaning, LawCoreRun, LawFresh, LawGroups, LawHead, LawLater, LawMeant, LawNamespaceExports, LawNoHelper, LawNullish, LawParted, LawPlace, LawPower, LawRest, LawSpread, LawTemporaries, LawThen, LawUsing, LawValidIsMeant, LawValidMeaning, LawVars};
+ghost use Rattle.es_statement_runs.specs.Laws.{LawAssign, LawCatch, LawCatchPattern, LawChain, LawCollected, LawCoreClass, LawCoreMeaning, LawCoreRun, LawExponentiation, LawFresh, LawGroups, LawHead, LawLater, LawLogicalAssignment, LawMeant, LawNamespaceExports, LawNoHelper, LawNullish, LawParted, LawPlace, LawPower, LawRest, LawSpread, LawTemporaries, LawThen, LawUsing, LawValidIsMeant, LawValidMeaning, LawVars};
 
 /// A tree of core kinds means what it means in the core.
 pub fn law_core_meaning()
@@ -62,9 +62,22 @@ pub fn law_statement_power()
     ensures { LawPower }
 {}
 
-/// The rows of optional chaining over core operands, with their temporaries, at whatever places of whatever statements.
+/// The rows of optional chaining over whatever operands, with their temporaries, at whatever places of whatever statements,
+/// reading again names of the top and of scopes around.
 pub fn law_statement_chain()
     ensures { LawChain }
+{}
+
+/// The rows of logical assignment over whatever operands, to names and members, with their temporaries, at whatever places
+/// of whatever statements.
+pub fn law_statement_logical_assignment()
+    ensures { LawLogicalAssignment }
+{}
+
+/// The rows of exponentiation and its assignment over whatever operands, with their temporaries, where no scope declares
+/// `Math`.
+pub fn law_statement_exponentiation()
+    ensures { LawExponentiation }
 {}
 
 /// The row of optional catch, at whatever places of whatever statements, with whatever helpers.

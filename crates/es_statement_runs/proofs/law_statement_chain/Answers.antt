@@ -1,4 +1,4 @@
-use Rattle.es_statement_runs.proofs.Chains.{law_chain_proof}
+use Rattle.es_statement_runs.proofs.OperandRows.{law_chain_proof}
 use Rattle.es_statement_runs.proofs.law_statement_chain.Goals as goal
 
 pub returns : goal.returns
