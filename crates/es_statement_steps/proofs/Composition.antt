@@ -1,0 +1,195 @@
+-- Steps one after another: what is known of a program is kept by each of them, and runs alike compose.
+use Rattle.std.proofs.Common.{arith, ◌≤◌, ◌<◌, inl, inr, ◌≡◌, ℕ, refl, sym, ap, subst, ◌∙◌, []}
+use Rattle.std.proofs.lemmas.Slice.Eq.{bytes_eq-Decides}
+use Rattle.std.specs.Prelude.{Bool, true, false, is_some}
+use Rattle.es_tree.specs.HasForm.{has_form}
+use Rattle.es_tree.specs.Tree.{Tree, node, kind_of}
+use Rattle.es_tree.specs.Words.{Text}
+use Rattle.es_tree.specs.declared.options.EnvOptions.{EnvOptions}
+use Rattle.es_tree.specs.declared.table.Sort.TheVariants.{Program as s-Program}
+use Rattle.es_semantic.specs.RolesOf.{reads}
+use Rattle.es_resolution.specs.Declarations.{is_var_scope}
+use Rattle.es_resolution.specs.Named.{Named}
+use Rattle.es_resolution.specs.Resolved.{IsResolved}
+use Rattle.es_resolution.proofs.Forms.{form-placed}
+use Rattle.es_steps.specs.AllRules.{AllRules, RestRule}
+use Rattle.es_steps.specs.CoreRules.{where_on}
+use Rattle.es_steps.specs.Identifiers.{Passes, is_called}
+use Rattle.es_steps.specs.NamespaceExports.{NamespaceRule}
+use Rattle.es_steps.specs.ObjectSpread.{SpreadRule}
+use Rattle.es_steps.specs.Open.{Open, finished}
+use Rattle.es_steps.specs.Rules.{Replacing, either_rule}
+use Rattle.es_steps.specs.Steps.{Ledger, Site, Spot, Step, Steps, the_program}
+use Rattle.es_steps.specs.Steps.Steps.{goes, stays}
+use Rattle.es_steps.proofs.BridgeInclusion.{all_under, step_under}
+use Rattle.es_steps.proofs.FormOpen.{IsProper}
+use Rattle.es_steps.proofs.FormSteps.{formed-after}
+use Rattle.es_steps.proofs.Laws.{all-rules-lawful, all-rules-write}
+use Rattle.es_steps.proofs.Passed.{passed, recalled}
+use Rattle.es_steps.proofs.StepsKept.{IsClean, all-recalled, led}
+use Rattle.es_steps.proofs.Taken.{LedgerPasses, whole_in}
+use Rattle.es_valid_steps.specs.Laws.{with_further_rules}
+use Rattle.es_valid_steps.specs.PlaceRules.{Keeps}
+use Rattle.es_valid_steps.proofs.FurtherRows.{catch-lawful, spread-lawful}
+use Rattle.es_valid_steps.proofs.FurtherSteps.{alone, alone-form, alone-written}
+use Rattle.es_valid_steps.proofs.NamespaceRows.{program-left}
+use Rattle.es_valid_steps.proofs.PlaceRows.{PlaceLawful, both-lawful, on-lawful, under-lawful}
+use Rattle.es_valid_steps.proofs.PlaceSteps.{kept-after}
+use Rattle.es_valid_steps.proofs.ProgramLists.{program-exported}
+use Rattle.es_valid_steps.proofs.Spread.{finished-spread, spread}
+use Rattle.es_valid_steps.proofs.SpreadSteps.{SameBoth, Went, spread-step}
+use Rattle.es_valid_steps.proofs.SpreadSteps.Went.{moves, rests, leaves}
+use Rattle.es_statement_runs.specs.Helpers.{Supply}
+use Rattle.es_statement_runs.proofs.Composing.{law_then_proof}
+use Rattle.es_statement_steps.proofs.RowRuns.{StepAlike, unchanged}
+use Rattle.es_statement_steps.proofs.StandingPrograms.{program_stands}
+use Rattle.es_statement_steps.proofs.StepMoves.{Fine}
+use Rattle.es_statement_steps.proofs.Tamed.{Class}
+
+-- THE BUILT LOWERINGS are among all
+
+on-spread : (b : Bool) (n : Site) (s : Ledger) (x : Spot) (s' : Ledger) (y : Spot) → where_on b (Replacing SpreadRule) n s x s' y → where_on b (either_rule (Replacing SpreadRule) RestRule) n s x s' y
+on-spread true n s x s' y r = inl r
+on-spread false n s x s' y r = absurd r
+
+pub built-all : (o : EnvOptions) (n : Site) (s : Ledger) (x : Spot) (s' : Ledger) (y : Spot) → with_further_rules o n s x s' y → AllRules o n s x s' y
+built-all o n s x s' y (inl r) = inl r
+built-all o n s x s' y (inr (inl r)) = inr (inl r)
+built-all o n s x s' y (inr (inr (inl r))) = inr (inr (inl r))
+built-all o n s x s' y (inr (inr (inr r))) = inr (inr (inr (inl (on-spread (is_some o.es2018.object_rest_spread) n s x s' y r))))
+
+alone-lawful : (o : EnvOptions) → PlaceLawful (alone o)
+alone-lawful o = both-lawful (under-lawful o) (both-lawful (on-lawful o.es2019.optional_catch_binding _ catch-lawful) (on-lawful (is_some o.es2018.object_rest_spread) _ spread-lawful))
+
+told-apart : (o : EnvOptions) (n : Site) (s : Ledger) (x : Spot) (s' : Ledger) (y : Spot) → with_further_rules o n s x s' y → either_rule (alone o) (where_on o.es2020.export_namespace_from NamespaceRule) n s x s' y
+told-apart o n s x s' y (inl r) = inl (inl r)
+told-apart o n s x s' y (inr (inl r)) = inl (inr (inl r))
+told-apart o n s x s' y (inr (inr (inl r))) = inr r
+told-apart o n s x s' y (inr (inr (inr r))) = inl (inr (inr r))
+
+on-exports : (b : Bool) (n : Site) (s : Ledger) (x : Spot) (s' : Ledger) (y : Spot) → where_on b NamespaceRule n s x s' y → NamespaceRule n s x s' y
+on-exports true n s x s' y r = r
+on-exports false n s x s' y r = absurd r
+
+pub exported : (o : EnvOptions) {s s' : Ledger} {x y : Open} → Step (where_on o.es2020.export_namespace_from NamespaceRule) the_program s x s' y → Step NamespaceRule the_program s x s' y
+exported o r = step_under (where_on o.es2020.export_namespace_from NamespaceRule) NamespaceRule (on-exports o.es2020.export_namespace_from) r
+
+-- WHAT IS KNOWN of a program, with what stands beside statements in its lists: temporaries alone are pending, it has form, keeps the rules of places, is
+-- of the class, and names are resolved and in use
+
+pub record Known (s : Ledger) (x : Open) : Type 0 where
+  pub proper : IsProper x
+  pub form : has_form s-Program (finished x) ≡ true
+  pub keeps : Keeps [] (finished x)
+  pub class : Class (finished x)
+  pub resolved : IsResolved (finished x)
+  pub named : Named (whole_in s).in_use (whole_in s).free_symbol reads (finished x)
+
+pub known-fine : {s : Ledger} {x : Open} → Known s x → Fine (finished x)
+known-fine {x = x} k = program_stands (finished x) k.form k.class k.keeps
+
+-- WHAT IS ASKED OF STEPS
+
+pub record AloneRuns (o : EnvOptions) (u : Supply) (Clean : Tree → Type 0) : Type 0 where
+  -- of the class
+  pub class : {s s' : Ledger} {x y : Open} → Step (alone o) the_program s x s' y → IsProper x → IsProper y → Class (finished x) → Class (finished y)
+  -- and of runs, where Clean is kept
+  pub clean : {s s' : Ledger} {x y : Open} → Step (alone o) the_program s x s' y → Known s x → Clean (finished x) → Clean (finished y)
+  pub runs : {s s' : Ledger} {x y : Open} → Step (alone o) the_program s x s' y → Known s x → Known s' y → Clean (finished x) → Clean (finished y) → StepAlike u (finished x) (finished y)
+
+-- exports of namespaces, where they are asked for
+abbrev pub Exports : EnvOptions → Site → Ledger → Spot → Ledger → Spot → Type 0
+Exports o = where_on o.es2020.export_namespace_from NamespaceRule
+
+pub record NamespaceRuns (o : EnvOptions) (u : Supply) (Clean : Tree → Type 0) : Type 0 where
+  pub class : {s s' : Ledger} {x y : Open} → Step (Exports o) the_program s x s' y → has_form s-Program (finished x) ≡ true → Class (finished x) → Class (finished y)
+  pub clean : {s s' : Ledger} {x y : Open} → Step (Exports o) the_program s x s' y → Known s (spread x) → Clean (finished x) → Clean (finished y)
+  pub runs : {s s' : Ledger} {x y : Open} → Step (Exports o) the_program s x s' y → Known s (spread x) → Known s' (spread y) → Clean (finished x) → Clean (finished y) → StepAlike u (finished x) (finished y)
+
+module _ (o : EnvOptions) (u : Supply) (Clean : Tree → Type 0) (law : AloneRuns o u Clean) (exports : NamespaceRuns o u Clean) where
+  -- what is kept of form and places, and the class
+  pub record Shaped (x : Open) : Type 0 where
+    pub proper : IsProper x
+    pub form : has_form s-Program (finished x) ≡ true
+    pub keeps : Keeps [] (finished x)
+    pub class : Class (finished x)
+
+  abbrev Split : Ledger → Ledger → Open → Open → Type 0
+  Split s s' x y = Went (Step (alone o) the_program s (spread x) s' (spread y)) (SameBoth s (spread x) s' (spread y)) (Step (Exports o) the_program s x s' y)
+
+  split : {s s' : Ledger} {x y : Open} → Step (with_further_rules o) the_program s x s' y → Split s s' x y
+  split h = spread-step (alone o) (Exports o) (alone-form o).no_flanks (alone-written o) (step_under (with_further_rules o) (either_rule (alone o) (Exports o)) (told-apart o) h)
+
+  shaped-after : {s s' : Ledger} (x y : Open) → Split s s' x y → Shaped (spread x) → Shaped (spread y)
+  shaped-after x y (moves r) k =
+      let next = formed-after (alone o) (alone-form o) r s-Program (λ e. absurd (cc e)) k.proper k.form in
+      record {
+        proper = next.proper;
+        form = next.formed;
+        keeps = (kept-after (alone o) (alone-form o) (alone-lawful o) r s-Program [] (λ e. absurd (cc e)) (λ e. absurd (cc e)) k.proper k.form k.keeps).keeps;
+        class = law.class r k.proper next.proper k.class;
+      }
+  shaped-after x y (rests e) k = subst (λ (z : Open). Shaped z) e.1 k
+  shaped-after x y (leaves r) k =
+      let form = subst (λ (t : Tree). has_form s-Program t ≡ true) (finished-spread x) k.form in
+      let next = program-left (program-exported (exported o r) form) k.proper k.form in
+      record { proper = next.proper; form = next.formed; keeps = next.keeps k.keeps; class = subst (λ (t : Tree). Class t) (sym (finished-spread y)) (exports.class r form (subst (λ (t : Tree). Class t) (finished-spread x) k.class)) }
+
+  -- one step, where the names on both sides are known
+  alike-after : {s s' : Ledger} (x y : Open) → Split s s' x y → Known s (spread x) → Known s' (spread y) → Clean (finished x) → Clean (finished y) → StepAlike u (finished x) (finished y)
+  alike-after x y (moves r) k m c d =
+      subst (λ (t : Tree). StepAlike u t (finished y)) (finished-spread x) (subst (λ (t : Tree). StepAlike u (finished (spread x)) t) (finished-spread y)
+      (law.runs r k m (subst (λ (t : Tree). Clean t) (sym (finished-spread x)) c) (subst (λ (t : Tree). Clean t) (sym (finished-spread y)) d)))
+  alike-after x y (rests e) k m c d = unchanged u (finished x) (finished y) (sym (finished-spread x) ∙ ap finished e.1 ∙ finished-spread y)
+  alike-after x y (leaves r) k m c d = exports.runs r k m c d
+
+  clean-after : {s s' : Ledger} (x y : Open) → Split s s' x y → Known s (spread x) → Clean (finished x) → Clean (finished y)
+  clean-after x y (moves r) k c = subst (λ (t : Tree). Clean t) (finished-spread y) (law.clean r k (subst (λ (t : Tree). Clean t) (sym (finished-spread x)) c))
+  clean-after x y (rests e) k c = subst (λ (t : Tree). Clean t) (sym (finished-spread x) ∙ ap finished e.1 ∙ finished-spread y) c
+  clean-after x y (leaves r) k c = exports.clean r k c
+
+  known-of : (s : Ledger) (x : Open) → Shaped (spread x) → IsResolved (finished x) → Named (whole_in s).in_use (whole_in s).free_symbol reads (finished x) → Known s (spread x)
+  known-of s x k resolved named = record {
+    proper = k.proper;
+    form = k.form;
+    keeps = k.keeps;
+    class = k.class;
+    resolved = subst (λ (t : Tree). IsResolved t) (sym (finished-spread x)) resolved;
+    named = subst (λ (t : Tree). Named (whole_in s).in_use (whole_in s).free_symbol reads t) (sym (finished-spread x)) named;
+  }
+
+  spread-form : (x : Open) → Shaped (spread x) → has_form s-Program (finished x) ≡ true
+  spread-form x k = subst (λ (t : Tree). has_form s-Program t ≡ true) (finished-spread x) k.form
+
+  program-scope : (t : Tree) → has_form s-Program t ≡ true → is_var_scope (kind_of t) ≡ true
+  program-scope (node k l fs) h = ap is_var_scope (form-placed (node k l fs) h).0
+
+  then-alike : (x y z : Tree) → StepAlike u x y → StepAlike u y z → StepAlike u x z
+  then-alike x y z a b = record { runs = law_then_proof u false x y z a.runs b.runs a.declared; declared = λ w h. b.declared w (a.declared w h) }
+
+  -- STEPS IN A ROW, where each symbol has the name that it has in the end, and nothing is pending outside the program
+  pub composed : (ends : ℕ → Text) {s s' : Ledger} {x x' : Open} → Steps (Step (with_further_rules o) the_program) s x s' x' → ((m : ℕ) → m < (whole_in s').free_symbol → ends m ≡ (whole_in s').called m) → is_var_scope (kind_of (finished x)) ≡ true →
+      Named (whole_in s).in_use (whole_in s).free_symbol reads (finished x) → LedgerPasses (is_called ends) s → Passes (is_called ends) (finished x) → IsResolved (finished x) → IsClean s' → Shaped (spread x) → Clean (finished x) → StepAlike u (finished x) (finished x')
+  composed ends {x = x} stays end kind used beside names resolved last shaped clean = unchanged u (finished x) (finished x) refl
+  composed ends {x = x} {x' = x'} (goes {s = s} {s' = m} {s'' = s'} {u = y} one rest) end kind used beside names resolved last shaped clean =
+      let all = step_under (with_further_rules o) (AllRules o) (built-all o) one in
+      let later = all_under (with_further_rules o) (AllRules o) (built-all o) rest in
+      let lawful = all-rules-lawful o in
+      let writes = all-rules-write o in
+      let r = recalled (AllRules o) lawful writes all in
+      let rs = all-recalled (AllRules o) lawful writes later in
+      let same : (k : ℕ) → k < (whole_in m).free_symbol → ends k ≡ (whole_in m).called k = λ k e. end k (longer-free k e rs.freer) ∙ rs.same k e in
+      let first = led (AllRules o) lawful writes ends (goes all stays) same kind used beside names in
+      let k = passed (AllRules o) lawful writes (is_called ends) all (record { words = λ w. refl; new = λ n e d. (bytes_eq-Decides ((whole_in m).called n) (ends n)).1 (sym (same n d)) }) beside names in
+      let kind_after = program-scope (finished y) (spread-form y (shaped-after x y (split one) shaped)) in
+      let others = led (AllRules o) lawful writes ends later end kind_after first.named k.1 k.0 in
+      let here = others.clean last in
+      let resolved_after = first.resolved here resolved in
+      let shaped_after = shaped-after x y (split one) shaped in
+      let known = known-of s x shaped resolved used in
+      let known_after = known-of m y shaped_after resolved_after first.named in
+      let clean_after = clean-after x y (split one) known clean in
+      then-alike (finished x) (finished y) (finished x') (alike-after x y (split one) known known_after clean clean_after) (composed ends rest end kind_after first.named k.1 k.0 resolved_after last shaped_after clean_after)
+    where
+      longer-free : (k : ℕ) → k < (whole_in m).free_symbol → (whole_in m).free_symbol ≤ (whole_in s').free_symbol → k < (whole_in s').free_symbol
+      longer-free k d e = omega arith

@@ -1,0 +1,78 @@
+-- A name that is used without a question stands in the program, where a program gets its helpers by the object of all helpers or not at all: so no
+-- new name is one, nor is that of the object in a program that uses no helper itself.
+use Rattle.std.proofs.Common.{◌≡◌, ℕ, zero, suc, refl, sym, ap, ◌∙◌, List, [], ◌∷◌, ◌++◌, arith}
+use Rattle.std.proofs.lemmas.Bool.{false≢true, ne_eqb}
+use Rattle.std.specs.Prelude.{Bool, true, false, ◌||◌, ◌+◌, Option, Some, None, is_some, bytes_eq, if◌then◌else◌}
+use Rattle.es_tree.specs.Fresh.{is_among}
+use Rattle.es_tree.specs.Names.{first_text, names_of}
+use Rattle.es_tree.specs.Scopes.{own_text}
+use Rattle.es_tree.specs.Tree.{Tree, node, done, ◌then◌, one, many, Trees, empty, ◌before◌}
+use Rattle.es_tree.specs.Words.{Text}
+use Rattle.es_tree.specs.declared.ast_type.AstType.TheVariants.{ArrayExpression, VariableDeclaration, VariableDeclarator}
+use Rattle.es_runs.specs.Core.{Silent}
+use Rattle.es_runs.specs.Core.Silent.{keys_name}
+use Rattle.es_runs.specs.Machine.{Values}
+use Rattle.es_resolution.proofs.Basics.{bytes_eq-equal}
+use Rattle.es_statement_runs.specs.Helpers.{Supply, binds_constant, constant_by, constant_where, constants_by, constants_in, entry, key_places, occurrences, one_where, only_excludes, program_list, silent_names, texts_of}
+use Rattle.es_statement_runs.specs.Helpers.Supply.{by_global}
+use Rattle.es_statement_runs.specs.Laws.{is_silent}
+
+-- a name that stands nowhere in a list of names stands there no time
+none_occur : (x : Text) (ys : List Text) → is_among ys x ≡ false → occurrences x ys ≡ 0
+none_occur x [] h = refl
+none_occur x (y ∷ ys) h = at (bytes_eq y x) refl h (none_occur x ys)
+  where
+    at : (b : Bool) → bytes_eq y x ≡ b → (b || is_among ys x) ≡ false → (is_among ys x ≡ false → occurrences x ys ≡ 0) → one_where (bytes_eq y x) + occurrences x ys ≡ 0
+    at true e g rest = absurd (cc g)
+    at false e g rest = let z : one_where (bytes_eq y x) ≡ 0 = ap one_where e in let r : occurrences x ys ≡ 0 = rest g in omega arith
+
+not_excluded : (n : ℕ) → only_excludes n 0 ≡ false
+not_excluded zero = refl
+not_excluded (suc n) = ne_eqb 0 (suc (suc n)) (λ e. omega arith)
+
+module _ (x : Text) where
+  -- x is no name of these entries
+  abbrev Lacks : List (Text × Silent) → Type 0
+  Lacks es = is_silent es x ≡ false
+
+  lacks_append : (es ds : List (Text × Silent)) → Lacks es → Lacks ds → Lacks (es ++ ds)
+  lacks_append [] ds h g = g
+  lacks_append (e ∷ es) ds h g = at (bytes_eq e.0 x) h (λ k. lacks_append es ds k g)
+    where
+      at : (b : Bool) → is_some (if b then Some e.1 else entry es x) ≡ false → (Lacks es → Lacks (es ++ ds)) → is_some (if b then Some e.1 else entry (es ++ ds) x) ≡ false
+      at true k rest = k
+      at false k rest = rest k
+
+  module _ (u : Supply) (hs : List (Text × Silent)) (p : Tree) (away : is_among (names_of p) x ≡ false) where
+    lacks_where : (y : Text) (b : Bool) (o : Option Values) → only_excludes (key_places u hs y p) (occurrences y (names_of p)) ≡ b → Lacks (constant_where y b o)
+    lacks_where y true (Some vs) e = at (bytes_eq y x) refl
+      where
+        at : (c : Bool) → bytes_eq y x ≡ c → is_some (if c then Some (keys_name vs) else None) ≡ false
+        at true g =
+            let same : y ≡ x = bytes_eq-equal y x g in
+            let no : occurrences y (names_of p) ≡ 0 = ap (λ z. occurrences z (names_of p)) same ∙ none_occur x (names_of p) away in
+            absurd (false≢true (sym (not_excluded (key_places u hs y p)) ∙ sym (ap (only_excludes (key_places u hs y p)) no) ∙ e))
+        at false g = refl
+    lacks_where y true None e = refl
+    lacks_where y false (Some vs) e = refl
+    lacks_where y false None e = refl
+
+    lacks_by : (d : Tree) → Lacks (constant_by u hs p d)
+    lacks_by (node VariableDeclarator l (one y then (one (node ArrayExpression m es) then done))) = lacks_where (own_text y) (only_excludes (key_places u hs (own_text y) p) (occurrences (own_text y) (names_of p))) (texts_of es) refl
+    lacks_by _ = refl
+
+    lacks_all : (ds : Trees) → Lacks (constants_by u hs p ds)
+    lacks_all empty = refl
+    lacks_all (d before ds) = lacks_append (constant_by u hs p d) (constants_by u hs p ds) (lacks_by d) (lacks_all ds)
+
+    lacks_if : (b : Bool) (es : List (Text × Silent)) → Lacks es → Lacks (if b then es else [])
+    lacks_if true es h = h
+    lacks_if false es h = refl
+
+    lacks_list : (ts : Trees) → Lacks (constants_in u hs p ts)
+    lacks_list empty = refl
+    lacks_list (node VariableDeclaration l (many ds then fs) before ts) = lacks_append (if binds_constant (first_text l.texts) then constants_by u hs p ds else []) (constants_in u hs p ts) (lacks_if (binds_constant (first_text l.texts)) (constants_by u hs p ds) (lacks_all ds)) (lacks_list ts)
+    lacks_list (t before ts) = lacks_list ts
+
+pub away_not_silent : (x : Text) (p : Tree) → is_among (names_of p) x ≡ false → is_silent (silent_names by_global p) x ≡ false
+away_not_silent x p away = lacks_list x by_global [] p away (program_list p)
