@@ -1,0 +1,3 @@
+pub mod ArrowPlaces
+pub mod Laws
+pub mod Examples
