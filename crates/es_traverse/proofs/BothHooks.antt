@@ -19,6 +19,7 @@ use Rattle.es_traverse.specs.Listed.{any_among, any_listed}
 use Rattle.es_traverse.specs.Loads.{wrapping_by, writing_by}
 use Rattle.es_traverse.specs.Sites.{Tells}
 use Rattle.es_traverse.specs.declared.site.Site.{Site as CodeSite}
+use Rattle.es_traverse.proofs.Outward.{carried-along}
 use Rattle.es_traverse.proofs.Kept.{kept-then}
 use Rattle.es_traverse.proofs.StepInto.{field-into, rows-into, step-into, trees-into}
 use Rattle.es_traverse.specs.Together.{left-false, neither, right-false}
@@ -110,18 +111,22 @@ module _ (P Q : EnvOptions → Profile) (apart : (o : EnvOptions) → AreApart (
 
 -- ON THE WAY OUT: the second and then the first, of which that alone keeps pairs
 
-module _ (P Q : EnvOptions → Profile) (law : (o : EnvOptions) → IsLawful (Q o)) (a b c : Moment) where
-  pub exited-both : {t u v : Tree} → SamePlace a b → b.options ≡ a.options → Exited (Q a.options) a t b u → Exited (P b.options) b u c v → Exited (both_of P Q a.options) a t c v
-  exited-both {t = t} {u = u} {v = v} same options g h' =
-      let p = P a.options in let q = Q a.options in
-      let h = later (λ o. Exited (P o) b u c v) options h' in
+module _ (P Q : EnvOptions → Profile) (apart : (o : EnvOptions) → AreApart (P o) (Q o)) (law : (o : EnvOptions) → IsLawful (Q o)) (a b c : Moment) where
+  pub exited-both : (hook : Hook) {t u v : Tree} → SamePlace a b → b.options ≡ a.options → Exited (Q a.options) hook a t b u → Exited (P b.options) hook b u c v → Exited (both_of P Q a.options) hook a t c v
+  exited-both hook {t = t} {u = u} {v = v} same options g h' =
+      let p = P a.options in let q = Q a.options in let x = apart a.options in
+      let h = later (λ o. Exited (P o) hook b u c v) options h' in
       record {
-        stepped = λ n f k. steps-trans (rows-into (λ s s' x y. step-into (λ n s s' x y h. inr h)) (g.stepped n f tt)) (rows-into (λ s s' x y. step-into (λ n s s' x y h. inl h)) (h.stepped n ((still-fits q.rule (law a.options).rule).tree a b n t u same f (g.stepped n f tt)) tt));
+        stepped = λ n f k.
+            let counts : p.counts_after n u ≡ true = sym (x.counts_after n u) ∙ carried-along q (law a.options) n t u (g.stepped n f k) k in
+            steps-trans (rows-into (λ s s' x y. step-into (λ n s s' x y h. inr h)) (g.stepped n f k)) (rows-into (λ s s' x y. step-into (λ n s s' x y h. inl h)) (h.stepped n ((still-fits q.rule (law a.options).rule).tree a b n t u same f (g.stepped n f k)) counts));
+        cleared = λ e free. h.none q.late_constructs x.none_later (g.cleared e free);
         body = h.body ∙ g.body;
         none = λ test f k. h.none test (λ w m. f w (inl m)) (g.none test (λ w m. f w (inr m)) k);
         hooks = omega (arith, g.hooks, h.hooks);
       }
 
+module _ (P Q : EnvOptions → Profile) (law : (o : EnvOptions) → IsLawful (Q o)) (a b c : Moment) where
   pub exited-parameters-both : {ts us vs : Trees} → SamePlace a b → b.options ≡ a.options → ExitedParameters (Q a.options) a ts b us → ExitedParameters (P b.options) b us c vs → ExitedParameters (both_of P Q a.options) a ts c vs
   exited-parameters-both {ts = ts} {us = us} {vs = vs} same options g h' =
       let q = Q a.options in

@@ -30,7 +30,7 @@ use Rattle.es_changes.specs.Moments.{Moment, inside_of, ledger_at}
 use Rattle.es_changes.proofs.FieldLaws.{fields-laws}
 use Rattle.es_changes.proofs.FieldParts.{fields-row}
 use Rattle.es_changes.proofs.StepRows.{steps-trans}
-use Rattle.es_traverse.specs.Laws.{IsLawful, Profile}
+use Rattle.es_traverse.specs.Laws.{IsLawful, Profile, removed_by}
 use Rattle.es_traverse.specs.Sites.{Tells, is_arrow_body, is_slot_place, leads_to_slot, may_be_slot}
 use Rattle.es_traverse.specs.Visits.{VisitedField, VisitedFields, roles_in}
 use Rattle.es_traverse.specs.declared.site.Site.{Site as CodeSite}
@@ -99,7 +99,7 @@ each-at P sites bodies (x ∷ xs) (suc i) d l h = each-at P (λ j. sites (suc j)
 pub record FieldsVisited (p : Profile) (n : Site) (k : AstType) (l : Label) (a : Moment) (first : List Field) (b : Moment) (items : List Field) (i : ℕ) : Type 0 where
   pub so_far : FieldsSoFar p.rule n k l a first b items
   pub row : Steps (FieldsStep p.rule (site_in n k l (opened_fields (is_body k) (fields first)))) (ledger_at a) (opened_fields (is_body k) (fields first)) (ledger_at b) (opened_fields (is_body k) (fields items))
-  pub free : (j : ℕ) (d : Field) → j < i → (h : Hook) → any_in_field (p.constructs h) (get_or items j d) ≡ false
+  pub free : (j : ℕ) (d : Field) → j < i → (h : Option Hook) → any_in_field (removed_by p h) (get_or items j d) ≡ false
   pub own : first_declared (roles_in n k l (fields first)) (fields items) ≡ first_declared (roles_in n k l (fields first)) (fields first)
 
 -- one item more
@@ -128,14 +128,14 @@ module _ (p : Profile) (law : IsLawful p) (n : Site) (k : AstType) (l : Label) w
       let tells : Tells c (place_of i) = told n.above k l (outline (opened_fields (is_body k) (fields first))) i c (place_of i) refl slots in
       let steps : Steps (FieldStep p.rule (place_of i)) (ledger_at b) (opened_field (is_body k i) (get_or items i d)) (ledger_at m) (opened_field (is_body k i) y) =
       subst (λ w. FitsBy (inside_of x b) (place_of i) w (get_or items i d) → EachBy (holds_before p.conditions) (place_of i) w (get_or items i d) → Steps (FieldStep p.rule (place_of i)) (ledger_at b) (opened_field w (get_or items i d)) (ledger_at m) (opened_field w y)) bodies (v.stepped (place_of i) tells) fit each in
-      let none : (g : Hook) → any_in_field (p.constructs g) y ≡ false =
-      subst (λ w. FitsBy (inside_of x b) (place_of i) w (get_or items i d) → EachBy (holds_before p.conditions) (place_of i) w (get_or items i d) → (g : Hook) → any_in_field (p.constructs g) y ≡ false) bodies (v.free (place_of i) tells) fit each in
+      let none : (g : Option Hook) → any_in_field (removed_by p g) y ≡ false =
+      subst (λ w. FitsBy (inside_of x b) (place_of i) w (get_or items i d) → EachBy (holds_before p.conditions) (place_of i) w (get_or items i d) → (g : Option Hook) → any_in_field (removed_by p g) y ≡ false) bodies (v.free (place_of i) tells) fit each in
       let name : own_by (place_of i).role y ≡ own_by (place_of i).role (get_or items i d) =
       subst (λ w. FitsBy (inside_of x b) (place_of i) w (get_or items i d) → EachBy (holds_before p.conditions) (place_of i) w (get_or items i d) → own_by (place_of i).role y ≡ own_by (place_of i).role (get_or items i d)) bodies (v.own (place_of i) tells) fit each in
       record {
         so_far = laws.more n k l a b m first items x d y h.so_far kind lt place steps;
         row = steps-trans h.row (fields-row p.rule items i d y (is_body k) place_of lt steps);
-        free = each-set (λ f. (g : Hook) → any_in_field (p.constructs g) f ≡ false) items i y lt h.free none;
+        free = each-set (λ f. (g : Option Hook) → any_in_field (removed_by p g) f ≡ false) items i y lt h.free none;
         own = first-set (roles_in n k l (fields first)) items i d y lt name ∙ h.own;
       }
 
@@ -144,9 +144,9 @@ module _ (p : Profile) (law : IsLawful p) (n : Site) (k : AstType) (l : Label) w
 pub neither : (a b : Bool) → a ≡ false → b ≡ false → (a || b) ≡ false
 neither a b e d = rw (e, d)
 
-free-fields : (p : Profile) (xs : List Field) → ((j : ℕ) (d : Field) → j < length xs → (h : Hook) → any_in_field (p.constructs h) (get_or xs j d) ≡ false) → (h : Hook) → any_in_fields (p.constructs h) (fields xs) ≡ false
+free-fields : (p : Profile) (xs : List Field) → ((j : ℕ) (d : Field) → j < length xs → (h : Option Hook) → any_in_field (removed_by p h) (get_or xs j d) ≡ false) → (h : Option Hook) → any_in_fields (removed_by p h) (fields xs) ≡ false
 free-fields p [] f h = refl
-free-fields p (x ∷ xs) f h = neither (any_in_field (p.constructs h) x) (any_in_fields (p.constructs h) (fields xs)) (f 0 x (omega arith) h) (free-fields p xs (λ j d l. f (suc j) d (omega (arith, l))) h)
+free-fields p (x ∷ xs) f h = neither (any_in_field (removed_by p h) x) (any_in_fields (removed_by p h) (fields xs)) (f 0 x (omega arith) h) (free-fields p xs (λ j d l. f (suc j) d (omega (arith, l))) h)
 
 -- whatever scopes bind, and of whatever label, as far as the code knows it
 pub record FieldsSeen (p : Profile) (computed : Bool) (k : AstType) (a : Moment) (first : List NodeField) (b : Moment) (items : List NodeField) (i : ℕ) : Type 0 where

@@ -11,6 +11,7 @@ pub mod ClassNames
 pub mod NodeHooks
 pub mod Moments
 pub mod Nodes
+pub mod Outward
 pub mod Parts
 pub mod FieldVisits
 pub mod ListVisits

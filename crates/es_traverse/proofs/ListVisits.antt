@@ -16,7 +16,7 @@ use Rattle.es_changes.specs.Fits.{FitAll}
 use Rattle.es_changes.specs.Laws.{LawsOfTrees, SamePlace, TreesSoFar}
 use Rattle.es_changes.specs.Moments.{Moment}
 use Rattle.es_changes.proofs.TreeLaws.{trees-laws}
-use Rattle.es_traverse.specs.Laws.{IsLawful, Profile, SeenAmong}
+use Rattle.es_traverse.specs.Laws.{IsLawful, Profile, SeenAmong, removed_by}
 use Rattle.es_traverse.specs.Loads.{allowance}
 use Rattle.es_traverse.specs.Sites.{Tells}
 use Rattle.es_traverse.specs.Visits.{Visited, VisitedAt, VisitedTrees}
@@ -51,7 +51,7 @@ no-slot-place c e is = omega (arith, e, ap allowance is)
 -- the nodes before this one are visited
 pub record TreesVisited (p : Profile) (n : Site) (a : Moment) (first : List Tree) (b : Moment) (items : List Tree) (i : ℕ) : Type 0 where
   pub so_far : TreesSoFar p.rule n a first b items
-  pub free : (j : ℕ) (d : Tree) → j < i → (h : Hook) → any_node (p.constructs h) (get_or items j d) ≡ false
+  pub free : (j : ℕ) (d : Tree) → j < i → (h : Option Hook) → any_node (removed_by p h) (get_or items j d) ≡ false
 
 module _ (p : Profile) (law : IsLawful p) (n : Site) where
   laws : LawsOfTrees p.rule
@@ -68,14 +68,14 @@ module _ (p : Profile) (law : IsLawful p) (n : Site) where
       let tells : Tells c n = record { slot = λ e. absurd (h.so_far.fits.no_slot e); leads = λ e. absurd (no-slot-place c none e) } in
       record {
         so_far = laws.more n a b m first items i d y h.so_far lt place (v.stepped n tells fit holds);
-        free = each-set (λ t. (g : Hook) → any_node (p.constructs g) t ≡ false) items i y lt h.free (v.free n tells fit holds);
+        free = each-set (λ t. (g : Option Hook) → any_node (removed_by p g) t ≡ false) items i y lt h.free (v.free n tells fit holds);
       }
 
 -- ALL NODES
 
-free-trees : (p : Profile) (xs : List Tree) → ((j : ℕ) (d : Tree) → j < length xs → (h : Hook) → any_node (p.constructs h) (get_or xs j d) ≡ false) → (h : Hook) → any_in_trees (p.constructs h) (trees xs) ≡ false
+free-trees : (p : Profile) (xs : List Tree) → ((j : ℕ) (d : Tree) → j < length xs → (h : Option Hook) → any_node (removed_by p h) (get_or xs j d) ≡ false) → (h : Option Hook) → any_in_trees (removed_by p h) (trees xs) ≡ false
 free-trees p [] f h = refl
-free-trees p (x ∷ xs) f h = neither (any_node (p.constructs h) x) (any_in_trees (p.constructs h) (trees xs)) (f 0 x (omega arith) h) (free-trees p xs (λ j d l. f (suc j) d (omega (arith, l))) h)
+free-trees p (x ∷ xs) f h = neither (any_node (removed_by p h) x) (any_in_trees (removed_by p h) (trees xs)) (f 0 x (omega arith) h) (free-trees p xs (λ j d l. f (suc j) d (omega (arith, l))) h)
 
 -- whatever scopes bind
 pub record ListSeen (p : Profile) (a : Moment) (first : List Tree) (b : Moment) (items : List Tree) (i : ℕ) : Type 0 where

@@ -1,6 +1,6 @@
 -- Hooks that do nothing, of a type that keeps no pairs and acts at one hook alone.
 use Rattle.std.proofs.Common.{◌≡◌, ◌∙◌, ◌||◌, ◌+◌, ℕ, refl, sym, ap, subst, arith, inl, Bool, true, false, true≢false}
-use Rattle.es_tree.specs.Tree.{Tree, Fields, done, ◌then◌, missing, one, many, statements, Trees, empty, ◌before◌, kind_of, label_of, fields_of}
+use Rattle.es_tree.specs.Tree.{Tree, Fields, done, ◌then◌, missing, one, many, statements, Trees, empty, ◌before◌, kind_of, label_of, fields_of, Label}
 use Rattle.es_tree.specs.declared.options.EnvOptions.{EnvOptions}
 use Rattle.es_steps.specs.Steps.{Site}
 use Rattle.es_steps.specs.Steps.Steps.{stays}
@@ -10,12 +10,14 @@ use Rattle.es_visit.specs.Calls.{Goes, GoesOut, GoesOutOfList}
 use Rattle.es_changes.specs.Changes.{Kept}
 use Rattle.es_changes.specs.Conditions.{holds_after}
 use Rattle.es_changes.specs.Moments.{Moment}
-use Rattle.es_traverse.specs.Laws.{Entered, EnteredAs, EnteredWhere, EnteredList, EnteredParameters, ExitedBody, ExitedList, ExitedParameters, ExitedProgram, Known, OnlyAt, PassesOn, Profile, anywhere, body_field, no_ending, opens_body, opens_list}
+use Rattle.es_traverse.specs.Laws.{Entered, EnteredAs, EnteredWhere, EnteredList, EnteredParameters, ExitedBody, ExitedList, ExitedParameters, ExitedProgram, Known, OnlyAt, PassesOn, Profile, anywhere, body_field, no_ending, opens_body, opens_list, Exited}
 use Rattle.es_traverse.specs.Listed.{any_among, any_listed}
 use Rattle.es_traverse.specs.Loads.{writing_by}
 use Rattle.es_traverse.specs.Sites.{Tells}
 use Rattle.es_traverse.specs.declared.site.Site.{Site as CodeSite}
 use Rattle.es_traverse.proofs.Kept.{kept-none}
+use Rattle.es_tree.specs.declared.ast_type.AstType.{AstType}
+use Rattle.es_traverse.proofs.Outward.{none-anywhere}
 
 -- LISTS AND BODIES
 
@@ -107,6 +109,9 @@ module _ (p : Profile) (a : Moment) where
     body = refl;
     order = inl refl;
   }
+
+  pub exited-elsewhere : ((k : AstType) (l : Label) (fs : Fields) → p.late_constructs k l fs ≡ false) → (h : Hook) (t : Tree) → Exited p h a t a t
+  exited-elsewhere none h t = record { stepped = λ n f k. stays; cleared = λ e free. none-anywhere p.late_constructs none t; body = refl; none = λ test own free. free; hooks = omega arith }
 
 -- CALLS are not counted
 

@@ -1,9 +1,10 @@
 -- The hooks of a node, one after the other.
 use Rattle.std.proofs.Common.{◌≡◌, ◌∙◌, ◌≤◌, ◌||◌, ◌⊎◌, refl, sym, ap, subst, arith, ℕ, Bool, true, false, true≢false, Option, Some, None, inl, inr, List}
-use Rattle.std.specs.Prelude.{not}
+use Rattle.std.specs.Prelude.{is_some, not}
 use Rattle.std.proofs.lemmas.Option.{none-some}
 use Rattle.es_tree.specs.HasForm.{has_form, is_of_sort}
 use Rattle.es_tree.specs.Tree.{Tree, node, kind_of, label_of, fields_of}
+use Rattle.es_tree.specs.Walks.{any_in_fields}
 use Rattle.es_tree.specs.Words.{Text}
 use Rattle.es_tree.specs.declared.ast_type.AstType.{AstType}
 use Rattle.es_tree.specs.declared.ast_type.AstType.TheVariants.{CallExpression, ChainExpression, Program, UnaryExpression}
@@ -31,12 +32,14 @@ use Rattle.es_changes.proofs.StepRows.{steps-trans}
 use Rattle.es_changes.proofs.StillFits.{still-fits}
 use Rattle.es_traverse.specs.Laws.{CanVisit, EnteredAs, Exited, IsLawful, KeepsBody, KeepsSort, MakesNone, Profile, Settled, is_construct}
 use Rattle.es_traverse.specs.Sites.{Tells, hook_of_role, role_at, role_of}
-use Rattle.es_traverse.specs.Visits.{EnteredKind, EnteredNode, EnteredSort, ExitedAt, ExitedNode, opens_at}
+use Rattle.es_traverse.specs.Visits.{EnteredKind, EnteredNode, EnteredSort, ExitedAt, ExitedKind, ExitedNode, ExitedSort, opens_at}
 use Rattle.es_traverse.specs.declared.site.Role.{Role}
 use Rattle.es_traverse.specs.declared.site.Role.TheVariants.{Expression as r-Expression, Statement as r-Statement, Nothing}
 use Rattle.es_traverse.specs.declared.site.Site.{Site}
 use Rattle.es_traverse.specs.declared.site.Site.TheVariants.{Slot}
+use Rattle.es_traverse.specs.Together.{neither}
 use Rattle.es_traverse.proofs.Kept.{opened-options, opens-seen}
+use Rattle.es_traverse.proofs.Outward.{carried-along}
 
 -- BY SORT
 
@@ -231,22 +234,38 @@ module _ {X : Type 0} {suits : X → EnvOptions → Type 0} {tally : X → Hook 
 
 -- ON THE WAY OUT
 
-pub exited-none : (p : Profile) (a : Moment) (t : Tree) → Exited p a t a t
-exited-none p a t = record { stepped = λ n f k. stays; body = refl; none = λ test own h. h; hooks = omega arith }
+pub exited-kind : (p : Profile) (h : Hook) {a b : Moment} (t u : Tree) → hook_of_kind (kind_of t) ≡ Some h → Exited p h a t b u → ExitedKind p a t b u
+exited-kind p h t u e x = record { stepped = x.stepped; cleared = x.cleared e; body = x.body; none = x.none; hooks = x.hooks }
+
+pub exited-no-kind : (p : Profile) → IsLawful p → (a : Moment) (t : Tree) → hook_of_kind (kind_of t) ≡ None → ExitedKind p a t a t
+exited-no-kind p law a (node k l fs) e = record {
+  stepped = λ n f k. stays;
+  cleared = λ free. neither (p.late_constructs k l fs) (any_in_fields p.late_constructs fs) (clear-unless (p.late_constructs k l fs) (λ r. absurd (true≢false (sym (law.outward.placed k l fs r) ∙ ap is_some e)))) free;
+  body = refl;
+  none = λ test own h. h;
+  hooks = omega arith;
+}
+
+pub exited-sort : (p : Profile) (h : Hook) {a b : Moment} (t u : Tree) → Exited p h a t b u → ExitedSort p a t b u
+exited-sort p h t u x = record { stepped = x.stepped; body = x.body; none = x.none; hooks = x.hooks }
+
+pub exited-no-sort : (p : Profile) (a : Moment) (t : Tree) → ExitedSort p a t a t
+exited-no-sort p a t = record { stepped = λ n f k. stays; body = refl; none = λ test own h. h; hooks = omega arith }
 
 -- by kind, by sort, and then as the body of an arrow
 pub exited-node : (p : EnvOptions → Profile) (keeps : Bool) (c : Site) {a b d e : Moment} (t u v w : Tree) → IsLawful (p a.options) → SamePlace a b → SamePlace a d → b.options ≡ a.options → d.options ≡ a.options →
-    Exited (p a.options) a t b u → Exited (p b.options) b u d v → ExitedAt c (p d.options) keeps d v e w → MakesNone (p d.options).writes v w → hooks_in v ≤ hooks_in w → ExitedNode (p a.options) keeps c a t e w
+    ExitedKind (p a.options) a t b u → ExitedSort (p b.options) b u d v → ExitedAt c (p d.options) keeps d v e w → MakesNone (p d.options).writes v w → hooks_in v ≤ hooks_in w → ExitedNode (p a.options) keeps c a t e w
 exited-node q keeps c {a = a} {b = b} {d = d} {e = e} t u v w law place place' o o' x y' z' none' more =
     let p = q a.options in
-    let y : Exited p b u d v = subst (λ i. Exited (q i) b u d v) o y' in
+    let y : ExitedSort p b u d v = subst (λ i. ExitedSort (q i) b u d v) o y' in
     let z : ExitedAt c p keeps d v e w = subst (λ i. ExitedAt c (q i) keeps d v e w) o' z' in
     let none : MakesNone p.writes v w = subst (λ i. MakesNone (q i).writes v w) o' none' in
     record {
       moment = d;
       tree = v;
       place = place';
-      stepped = λ n f k. steps-trans (x.stepped n f tt) (y.stepped n ((still-fits p.rule law.rule).tree a b n t u place f (x.stepped n f tt)) tt);
+      stepped = λ n f k. steps-trans (x.stepped n f k) (y.stepped n ((still-fits p.rule law.rule).tree a b n t u place f (x.stepped n f k)) (carried-along p law n t u (x.stepped n f k) k));
+      cleared = λ free. none p.late_constructs (λ w own. law.outward.own w own) (y.none p.late_constructs (λ w own. law.outward.own w own) (x.cleared free));
       body = y.body ∙ x.body;
       last = z;
       none = λ test own h. none test own (y.none test own (x.none test own h));

@@ -1,6 +1,6 @@
 -- A node with its hooks and its fields, at a place that may be the body of an arrow.
 use Rattle.es_changes.specs.Conditions.{holds_before}
-use Rattle.std.proofs.Common.{◌≡◌, ◌∙◌, ◌||◌, refl, sym, ap, subst, ℕ, suc, length, [], ◌∷◌, Bool, true, false, Option}
+use Rattle.std.proofs.Common.{◌≡◌, ◌∙◌, ◌||◌, refl, sym, ap, subst, ℕ, suc, length, [], ◌∷◌, Bool, true, false, Option, Some, None}
 use Rattle.std.specs.Prelude.{not, cond, ◌&&◌, if◌then◌else◌}
 use Rattle.es_tree.specs.Tree.{Tree, node, Label, Fields, one}
 use Rattle.es_tree.specs.Walks.{any_in_fields, any_node}
@@ -25,13 +25,14 @@ use Rattle.es_changes.proofs.InField.{field-laws}
 use Rattle.es_changes.proofs.StepRows.{steps-trans}
 use Rattle.es_changes.proofs.StillFits.{still-fits}
 use Rattle.es_traverse.specs.Bodies.{BodiesStandIn}
-use Rattle.es_traverse.specs.Laws.{ExitedBody, IsLawful, IsQuiet, IsStable, Profile}
+use Rattle.es_traverse.specs.Laws.{ExitedBody, IsLawful, IsQuiet, IsStable, Profile, removed_by}
 use Rattle.es_traverse.specs.Sites.{Tells}
 use Rattle.es_traverse.specs.Visits.{EnteredNode, ExitedNode, Visited, VisitedAt, VisitedBody, VisitedFields, opens_at}
 use Rattle.es_traverse.specs.declared.site.Site.{Site}
 use Rattle.es_traverse.specs.declared.site.Site.TheVariants.{ArrowBody}
 use Rattle.es_traverse.proofs.Bodies.{fields-stand, opened-fields-stand}
 use Rattle.es_traverse.proofs.Kept.{opens-options, opens-seen, same-place}
+use Rattle.es_traverse.proofs.Outward.{carried-along}
 use Rattle.es_traverse.proofs.Pairs.{paired, paired-fits}
 
 -- NO CONSTRUCT
@@ -54,19 +55,25 @@ module _ (p : Profile) (keeps : Bool) (law : IsLawful p) (c : Site) {a b d e : M
   fits-inside : Fits b n (node k l fs)
   fits-inside = (still-fits p.rule law.rule).tree a b n t (node k l fs) place f (x.stepped n tells f known)
 
+  inside : Steps (Step p.rule n) (ledger_at b) (opened (node k l fs)) (ledger_at d) (opened (node k l gs))
+  inside = y.stepped n fits-inside (x.leaves n tells f known)
+
+  -- what the exit hooks count on is known of the node after the visit of what stands inside it
+  counted-after : p.counts_after n (node k l gs) ≡ true
+  counted-after = carried-along p law n (node k l fs) (node k l gs) inside (carried-along p law n t (node k l fs) (x.stepped n tells f known) (law.outward.known n t known))
+
   -- steps lead from the node to what its exit hooks leave
   reached : Steps (Step p.rule n) (ledger_at a) (opened t) (ledger_at z.moment) (opened z.tree)
-  reached =
-      let inside = y.stepped n fits-inside (x.leaves n tells f known) in
-      steps-trans (x.stepped n tells f known) (steps-trans inside (z.stepped n ((still-fits p.rule law.rule).tree b d n (node k l fs) (node k l gs) place' fits-inside inside) tt))
+  reached = steps-trans (x.stepped n tells f known) (steps-trans inside (z.stepped n ((still-fits p.rule law.rule).tree b d n (node k l fs) (node k l gs) place' fits-inside inside) counted-after))
 
-  left-none : (h : Hook) → any_node (p.constructs h) v ≡ false
-  left-none h =
+  left-none : (h : Option Hook) → any_node (removed_by p h) v ≡ false
+  left-none None = z.cleared (y.free n fits-inside (x.leaves n tells f known) None)
+  left-none (Some h) =
       let after = x.leaves n tells f known in
       z.none (p.constructs h) (λ w own. law.own h w own)
       (none-of (p.constructs h k l gs) (any_in_fields (p.constructs h) gs)
       (still-none (p.constructs h) (law.stable h) n k l (opened_fields (is_body k) fs) fs gs (y.row n fits-inside after) (x.cleared n tells f known h))
-      (y.free n fits-inside after h))
+      (y.free n fits-inside after (Some h)))
 
 -- AT A PLACE THAT IS NO BODY
 

@@ -21,7 +21,7 @@ use Rattle.es_changes.proofs.InField.{field-laws}
 use Rattle.es_changes.proofs.StepRows.{steps-trans}
 use Rattle.es_changes.proofs.StillFits.{still-fits}
 use Rattle.es_changes.proofs.TreeLaws.{trees-laws}
-use Rattle.es_traverse.specs.Laws.{EnteredList, EnteredParameters, ExitedList, ExitedParameters, IsLawful, IsQuiet, IsReady, LeavesEach, Profile, anything, is_outermost, opens_list}
+use Rattle.es_traverse.specs.Laws.{EnteredList, EnteredParameters, ExitedList, ExitedParameters, IsLawful, IsQuiet, IsReady, LeavesEach, Profile, anything, is_outermost, opens_list, removed_by, written_is_none}
 use Rattle.es_traverse.specs.Loads.{fields_load, load, own_allowance}
 use Rattle.es_traverse.specs.Visits.{VisitedAt, VisitedField, VisitedList, VisitedTrees, opens_at}
 use Rattle.es_traverse.specs.declared.site.Site.{Site as CodeSite}
@@ -130,7 +130,7 @@ visited-parameters P {a = a} {b = b} {c = c} {d = d} ts us vs ws law first secon
           let at_b = still.trees a b n ts us first fit (e.stepped n fit known) in
           let inside = v.stepped n at_b (e.leaves n fit known) in
           steps-trans (e.stepped n fit known) (steps-trans inside (x.stepped n (still.trees b c n us vs second at_b inside) (each-anything n vs)));
-      free = λ n fit known h. x.none (p.constructs h) (λ t own. law.own h t own) (v.free n (still.trees a b n ts us first fit (e.stepped n fit known)) (e.leaves n fit known) h);
+      free = λ n fit known h. x.none (removed_by p h) (λ t own. written_is_none p law h t own) (v.free n (still.trees a b n ts us first fit (e.stepped n fit known)) (e.leaves n fit known) h);
     }
 
 inner : (xs : List Ancestor) → 1 < length xs → is_outermost xs ≡ false
@@ -188,5 +188,5 @@ module _ (keeps : Bool) (a d : Moment) {b c : Moment} (deep : 1 < length a.aroun
         free = λ n fits known i.
             let fit = paired-list keeps a n ts fits in
             let at_b = still.list (paired keeps a) b n around ts us at_first fit (entered n fit known around) in
-            y.none (p.constructs i) (λ t own. law.own i t own) (v.free n (trees.inside_fits b n us at_b) (leaves n fit known) i);
+            y.none (removed_by p i) (λ t own. written_is_none p law i t own) (v.free n (trees.inside_fits b n us at_b) (leaves n fit known) i);
       }

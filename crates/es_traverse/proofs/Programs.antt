@@ -1,5 +1,5 @@
 -- A program, from the visit of its statements.
-use Rattle.std.proofs.Common.{◌≡◌, ◌∙◌, ◌||◌, ◌∷◌, refl, sym, ap, subst, ℕ, Bool, true, false, [], List, inl}
+use Rattle.std.proofs.Common.{◌≡◌, ◌∙◌, ◌||◌, ◌∷◌, refl, sym, ap, subst, ℕ, Bool, true, false, [], List, inl, Option}
 use Rattle.std.specs.Prelude.{cond, ◌&&◌, not, None}
 use Rattle.es_tree.specs.Tree.{Tree, node, Label, done, ◌then◌, Field, statements, Trees, empty, ◌before◌}
 use Rattle.es_tree.specs.Walks.{any_in_fields, any_in_trees}
@@ -22,7 +22,7 @@ use Rattle.es_changes.proofs.TreeLaws.{trees-laws}
 use Rattle.es_traverse.proofs.Endings.{visited-program}
 use Rattle.es_traverse.proofs.Kept.{kept-then}
 use Rattle.es_traverse.proofs.StepInto.{rows-into, step-into}
-use Rattle.es_traverse.specs.Laws.{Ending, EnteredList, ExitedList, ExitedProgram, IsLawful, IsQuiet, Profile, is_outermost, opens_list}
+use Rattle.es_traverse.specs.Laws.{Ending, EnteredList, ExitedList, ExitedProgram, IsLawful, IsQuiet, Profile, is_outermost, opens_list, removed_by, written_is_none}
 use Rattle.es_traverse.specs.Visits.{VisitedProgram, VisitedStatements, VisitedTrees}
 
 -- the place of a program's statements
@@ -83,8 +83,8 @@ module _ (p : Profile) (keeps : Bool) (sound : AreSound p.conditions) (law : IsL
         (program-laws p.rule law.rule).steps a f l ds ts ws none fits whole
         (subst (λ m. Steps (FieldStep p.rule body_site) (ledger_with nothing_pending (inside_of x a)) (list (top a.lists) None no_additions (opened_trees ts)) (ledger_with nothing_pending m) (list (top m.lists) None no_additions (opened_trees ws))) left (steps-trans entered (steps-trans visited exited)))
 
-    pub whole-free : (q : Hook) → any_in_fields (p.constructs q) (statements ws then done) ≡ false
-    whole-free q = no-more (any_in_trees (p.constructs q) ws) (h.none (p.constructs q) (λ t w. law.own q t w) (v.free body_site ((trees-laws p.rule law.rule).inside_fits b body_site us at-second) each-second q))
+    pub whole-free : (q : Option Hook) → any_in_fields (removed_by p q) (statements ws then done) ≡ false
+    whole-free q = no-more (any_in_trees (removed_by p q) ws) (h.none (removed_by p q) (λ t w. written_is_none p law q t w) (v.free body_site ((trees-laws p.rule law.rule).inside_fits b body_site us at-second) each-second q))
 
 pub visited-statements : (p : Profile) (keeps : Bool) → AreSound p.conditions → IsLawful p → (x : Ancestor) → x.kind ≡ Program → x.field ≡ 1 → (a b c d f : Moment) (l : Label) (ds : Field) (ts us vs ws : Trees) → SamePlace (inside_of x a) b → SamePlace b c → SamePlace c d → d ≡ inside_of x f → SamePlace a f →
     EnteredList p keeps (inside_of x a) ts b us → VisitedTrees p b us c vs → ExitedList p keeps c vs d ws → opens_list keeps (inside_of x a) ≡ inside_of x a → opens_list keeps d ≡ d →
@@ -106,7 +106,7 @@ visited-whole P E keeps law a m b c t u w e options v' x' =
     record {
       stepped = λ none fits after. steps-trans (rows-into (λ s s' x y. step-into (λ n s s' x y h. inl h)) (v.stepped none fits after)) (x.stepped (v.visited none fits after));
       directives = x.directives ∙ v.directives;
-      free = λ none fits after h. x.none (p.constructs h) (λ t w. (law a.options).own h t w) (v.free none fits after h);
+      free = λ none fits after h. x.none (removed_by p h) (λ t w. written_is_none p (law a.options) h t w) (v.free none fits after h);
       cleared = λ none fits after. x.cleared (v.visited none fits after);
     }
 

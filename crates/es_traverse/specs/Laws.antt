@@ -1,5 +1,6 @@
 -- What a lawful type states of itself, and what its hooks promise.
-use Rattle.std.specs.Prelude.{◌≡◌, refl, ◌⊎◌, ℕ, ◌+◌, ◌<◌, ◌≤◌, ◌||◌, ◌&&◌, Bool, true, false, not, cond, Option, Some, List, [], ◌∷◌, length}
+use Rattle.std.proofs.Common.{sym, ◌∙◌, true≢false}
+use Rattle.std.specs.Prelude.{◌≡◌, refl, is_some, ◌⊎◌, ℕ, ◌+◌, ◌<◌, ◌≤◌, ◌||◌, ◌&&◌, Bool, true, false, not, cond, Option, Some, None, List, [], ◌∷◌, length}
 use Rattle.es_tree.specs.HasForm.{has_form}
 use Rattle.es_tree.specs.Tree.{Tree, node, Label, Fields, done, ◌then◌, one, Trees, kind_of, label_of, fields_of, tree_size, trees_size}
 use Rattle.es_tree.specs.Walks.{any_node, any_in_fields, any_in_trees}
@@ -10,13 +11,13 @@ use Rattle.es_tree.specs.declared.table.Sort.TheVariants.{Program as s-Program}
 use Rattle.es_scope.specs.declared.ancestor.Ancestor.{Ancestor}
 use Rattle.es_resolution.specs.Seen.{seen, seen_among}
 use Rattle.es_runs.specs.Weights.{weight, trees_weight}
-use Rattle.es_steps.specs.Open.{Pending, nothing_pending, OpenFields, body, finished_fields, is_body, is_statement_body, opened, opened_field}
+use Rattle.es_steps.specs.Open.{Pending, nothing_pending, Open, OpenFields, body, finished, finished_fields, is_body, is_statement_body, opened, opened_field}
 use Rattle.es_steps.specs.Rules.{either_rule}
 use Rattle.es_steps.proofs.FormLists.{IsPlain}
 use Rattle.es_steps.specs.Steps.{Ledger, Site, Spot, FieldsStep, FieldStep, Step, Steps, site_in, the_program}
 use Rattle.es_visit.specs.declared.hook.Hook.{Hook}
 use Rattle.es_visit.specs.declared.hook.Hook.TheVariants.{Expression, Statement}
-use Rattle.es_visit.specs.Hooks.{hook_of_sort, sort_of, IsHooked}
+use Rattle.es_visit.specs.Hooks.{hook_of_kind, hook_of_sort, sort_of, IsHooked}
 use Rattle.es_visit.specs.Counts.{hooks_in, hooks_in_trees}
 use Rattle.es_changes.specs.Changes.{Each, HasRoom, Kept, ListStepped, open_program, Stepped, TreesStepped}
 use Rattle.es_traverse.specs.Bodies.{BodiesStandIn}
@@ -30,16 +31,31 @@ use Rattle.es_changes.specs.Moments.{Moment, below, ledger_at, ledger_with, top,
 use Rattle.es_changes.specs.Rules.{IsLawfulRule}
 
 -- What a type states of itself under some options: its rule; the conditions of the visit, and what its hook before an expression counts on
--- of it and leaves; for each hook the constructs that it removes, as a test of a node; what it puts in the place of a node on the way in,
--- and what it puts or writes later.
+-- of it and leaves; for each hook before a node the constructs that it removes, as a test of a node, and those that a hook after a node
+-- removes, by its kind; what such a hook counts on; what the type puts in the place of a node on the way in, and what it puts or writes
+-- later.
 pub record Profile : Type 1 where
   pub rule : Site → Ledger → Spot → Ledger → Spot → Type 0
   pub conditions : Conditions
   pub counts : Site → Tree → Bool
   pub leaves : Site → Tree → Bool
   pub constructs : Hook → AstType → Label → Fields → Bool
+  pub late_constructs : AstType → Label → Fields → Bool
+  pub counts_after : Site → Tree → Bool
   pub makes : Tree → Type 0
   pub writes : Tree → Type 0
+
+-- the constructs that a hook before a node removes, or those that one after a node does
+abbrev pub removed_by : Profile → Option Hook → AstType → Label → Fields → Bool
+removed_by p (Some h) = p.constructs h
+removed_by p None = p.late_constructs
+
+-- a type that acts after no node removes none there, and counts on nothing
+abbrev pub no_construct : AstType → Label → Fields → Bool
+no_construct k l fs = false
+
+abbrev pub whatever_it_is : Site → Tree → Bool
+whatever_it_is n t = true
 
 -- what a test knows
 abbrev pub Known : (Site → Tree → Bool) → Site → Tree → Type 0
@@ -55,6 +71,23 @@ is_construct constructs t = constructs (kind_of t) (label_of t) (fields_of t)
 abbrev pub IsStable : (Site → Ledger → Spot → Ledger → Spot → Type 0) → (AstType → Label → Fields → Bool) → Type 0
 IsStable R constructs = (n : Site) (s s' : Ledger) (k : AstType) (l : Label) (first fs gs : OpenFields) → BodiesStandIn (is_body k) fs → FieldsStep R (site_in n k l first) s fs s' gs → constructs k l (finished_fields fs) ≡ false → constructs k l (finished_fields gs) ≡ false
 
+-- After nodes: a construct that is removed there has a hook by its kind, and what is written is none; what the hooks count on is known of a
+-- node before it is visited, and each step keeps it.
+pub record IsOutward (profile : Profile) : Type 0 where
+  pub placed : (k : AstType) (l : Label) (fs : Fields) → profile.late_constructs k l fs ≡ true → is_some (hook_of_kind k) ≡ true
+  pub own : (t : Tree) → profile.writes t → is_construct profile.late_constructs t ≡ false
+  pub known : (n : Site) (t : Tree) → holds_before profile.conditions n t → profile.counts_after n t ≡ true
+  pub carried : (n : Site) (s s' : Ledger) (x y : Open) → Step profile.rule n s x s' y → profile.counts_after n (finished x) ≡ true → profile.counts_after n (finished y) ≡ true
+
+-- so it is of a type that acts after no node
+pub acts_inward : (p : Profile) → ((k : AstType) (l : Label) (fs : Fields) → p.late_constructs k l fs ≡ false) → ((n : Site) (t : Tree) → p.counts_after n t ≡ true) → IsOutward p
+acts_inward p none all = record {
+  placed = λ k l fs e. absurd (true≢false (sym e ∙ none k l fs));
+  own = λ t w. none (kind_of t) (label_of t) (fields_of t);
+  known = λ n t h. all n t;
+  carried = λ n s s' x y h k. all n (finished y);
+}
+
 pub record IsLawful (profile : Profile) : Type 0 where
   pub rule : IsLawfulRule profile.rule
   pub stable : (h : Hook) → IsStable profile.rule (profile.constructs h)
@@ -62,6 +95,12 @@ pub record IsLawful (profile : Profile) : Type 0 where
   pub placed : (h : Hook) (k : AstType) (l : Label) (fs : Fields) → profile.constructs h k l fs ≡ true → IsHooked h k
   -- what is written is no construct
   pub own : (h : Hook) (t : Tree) → profile.writes t → is_construct (profile.constructs h) t ≡ false
+  pub outward : IsOutward profile
+
+-- what is written is none of either time
+pub written_is_none : (p : Profile) → IsLawful p → (h : Option Hook) (t : Tree) → p.writes t → is_construct (removed_by p h) t ≡ false
+written_is_none p law (Some h) t w = law.own h t w
+written_is_none p law None t w = law.outward.own t w
 
 -- what a hook may count on in its code: the type has the settings of these options, there is room for ids, and a pair is open
 pub record IsReady {X : Type 0} (suits : X → EnvOptions → Type 0) (x : X) (a : Moment) (weight : ℕ) : Type 0 where
@@ -187,8 +226,10 @@ MakesNoneIn writes fs gs = (test : AstType → Label → Fields → Bool) → ((
 abbrev pub anything : Site → Tree → Type 0
 anything n t = Unit {0}
 
-pub record Exited (profile : Profile) (a : Moment) (t : Tree) (b : Moment) (u : Tree) : Type 0 where
-  pub stepped : Stepped profile.rule anything a t b u
+-- by this hook: one by the kind of the node leaves no construct of those that are removed after nodes, where none stood inside
+pub record Exited (profile : Profile) (hook : Hook) (a : Moment) (t : Tree) (b : Moment) (u : Tree) : Type 0 where
+  pub stepped : Stepped profile.rule (Known profile.counts_after) a t b u
+  pub cleared : hook_of_kind (kind_of t) ≡ Some hook → any_in_fields profile.late_constructs (fields_of t) ≡ false → any_node profile.late_constructs u ≡ false
   pub body : KeepsBody t u
   pub none : MakesNone profile.writes t u
   pub hooks : hooks_in t ≤ hooks_in u
@@ -284,6 +325,8 @@ both_profile p q = record {
   counts = p.counts;
   leaves = q.leaves;
   constructs = λ h k l fs. p.constructs h k l fs || q.constructs h k l fs;
+  late_constructs = q.late_constructs;
+  counts_after = q.counts_after;
   makes = λ t. p.makes t ⊎ q.makes t;
   writes = λ t. p.writes t ⊎ q.writes t;
 }
@@ -296,7 +339,8 @@ abbrev pub EndsApart : Profile → Ending → Type 0
 EndsApart p e = (t : Tree) → p.writes t → is_construct e.constructs t ≡ false
 
 -- The second type makes no construct of the first, neither writes one of the other, and the steps of neither make a node
--- above them one. They have the same conditions, and the second counts on no more than the first leaves.
+-- above them one. They have the same conditions, and the second counts on no more than the first leaves. The second alone may remove constructs after
+-- nodes, which the first doesn't write, and both count on the same there.
 pub record AreApart (first second : Profile) : Type 0 where
   pub makes : (h : Hook) (t : Tree) → second.makes t → is_construct (first.constructs h) t ≡ false
   pub first_writes : (h : Hook) (t : Tree) → first.writes t → is_construct (second.constructs h) t ≡ false
@@ -306,6 +350,9 @@ pub record AreApart (first second : Profile) : Type 0 where
   pub before : (n : Site) (t : Tree) → second.conditions.before n t ≡ first.conditions.before n t
   pub after : (n : Site) (t : Tree) → second.conditions.after n t ≡ first.conditions.after n t
   pub meets : (n : Site) (t : Tree) → first.leaves n t ≡ true → second.counts n t ≡ true
+  pub none_late : (k : AstType) (l : Label) (fs : Fields) → first.late_constructs k l fs ≡ false
+  pub none_later : (t : Tree) → first.writes t → is_construct second.late_constructs t ≡ false
+  pub counts_after : (n : Site) (t : Tree) → second.counts_after n t ≡ first.counts_after n t
 
 -- with a type that keeps no pairs nothing is pending
 abbrev pub IsQuiet : Bool → List Pending → Type 0

@@ -1,6 +1,6 @@
 -- Two types together are lawful, where they are apart: a step of their rules is a step of one or the other.
-use Rattle.std.proofs.Common.{◌≡◌, ◌||◌, ℕ, Bool, true, false, refl, ◌⊎◌, inl, inr, true≢false}
-use Rattle.es_steps.specs.Open.{Open, OpenField, OpenFields, OpenTrees, finished_fields}
+use Rattle.std.proofs.Common.{◌≡◌, ◌∙◌, ◌||◌, ℕ, Bool, true, false, refl, sym, ◌⊎◌, inl, inr, true≢false}
+use Rattle.es_steps.specs.Open.{Open, OpenField, OpenFields, OpenTrees, finished, finished_fields}
 use Rattle.es_steps.specs.Rules.{either_rule}
 use Rattle.es_steps.specs.Steps.{Ledger, Site, Spot, Step, FieldsStep, FieldStep, TreesStep}
 use Rattle.es_steps.specs.Steps.Step.{acts, inside}
@@ -78,4 +78,13 @@ both_lawful p q f g apart = record {
     | inl i ↦ neither (is_construct (p.constructs h) t) (is_construct (q.constructs h) t) (f.own h t i) (apart.first_writes h t i)
     | inr j ↦ neither (is_construct (p.constructs h) t) (is_construct (q.constructs h) t) (apart.second_writes h t j) (g.own h t j)
   ];
+  outward = record {
+    placed = g.outward.placed;
+    own = λ t w. elim w [ inl i ↦ apart.none_later t i | inr j ↦ g.outward.own t j ];
+    known = λ n t h. g.outward.known n t (apart.before n t ∙ h);
+    carried = λ n s s' x y h k. elim (split-step h) [
+      | inl i ↦ apart.counts_after n (finished y) ∙ f.outward.carried n s s' x y i (sym (apart.counts_after n (finished x)) ∙ k)
+      | inr j ↦ g.outward.carried n s s' x y j k
+    ];
+  };
 }

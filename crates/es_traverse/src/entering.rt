@@ -1,5 +1,7 @@
 //! Types that act at one hook alone, before the children of a node: their nine other hooks do nothing.
 ghost use Rattle.std.specs.Prelude.{◌≡◌, OnOk, false};
+ghost use Rattle.es_tree.specs.Tree.{Fields, Label};
+ghost use Rattle.es_tree.specs.declared.ast_type.AstType.{AstType};
 ghost use Rattle.es_tree.specs.declared.options.EnvOptions.{EnvOptions as Options};
 ghost use Rattle.es_traverse.specs.ContextMoments.{moment};
 ghost use Rattle.es_traverse.specs.Laws.{EnteredWhere, IsLawful, IsReady, KeptLoad, OnlyAt, PassesOn, Seen, anywhere, no_ending};
@@ -36,6 +38,9 @@ pub trait Enters<S: Additions>: Lowering {
 
     /// It removes nothing at other hooks.
     ghost only: { (o : Options) → OnlyAt Self.HOOK (Self.profile o) };
+
+    /// It removes nothing after nodes.
+    ghost none_late: { (o : Options) (k : AstType) (l : Label) (fs : Fields) → (Self.profile o).late_constructs k l fs ≡ false };
 
     /// At another hook than that of expressions it leaves expressions as it finds them.
     ghost passes: { (o : Options) → (Self.HOOK ≡ Expression → ⊥) → PassesOn (Self.profile o) };

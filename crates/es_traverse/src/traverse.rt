@@ -135,7 +135,8 @@ pub trait Traverse<S: Additions>: Lowering {
         ensures entered { OnOk result (Seen (λ t u. EnteredAs (Self.profile ctx.old.options) hook site (moment S.pending ctx.old) t (moment S.pending ctx.new) u) node.old node.new) }
         ensures goes { OnOk result (Goes Self.suits Self.tally Self.entries ctx.old.options hook self.old self.new) };
 
-    /// After the children of a node, by its kind, and then by its sort.
+    /// After the children of a node, by its kind, and then by its sort. By its kind it leaves no construct of those that the
+    /// type removes after nodes.
     fn exit_node(
         &mut self,
         hook: Hook,
@@ -144,7 +145,7 @@ pub trait Traverse<S: Additions>: Lowering {
     ) -> Result<(), AllocError>
         requires ready { IsReady Self.suits self.old (moment S.pending ctx.old) (weight node.old) }
         ensures kept { OnOk result (KeptTree (moment S.pending ctx.old) node.old (moment S.pending ctx.new) node.new) }
-        ensures exited { OnOk result (Seen (λ t u. Exited (Self.profile ctx.old.options) (moment S.pending ctx.old) t (moment S.pending ctx.new) u) node.old node.new) }
+        ensures exited { OnOk result (Seen (λ t u. Exited (Self.profile ctx.old.options) hook (moment S.pending ctx.old) t (moment S.pending ctx.new) u) node.old node.new) }
         ensures ids { OnOk result (KeepsIds node.old node.new) }
         ensures goes { OnOk result (GoesOut Self.suits Self.tally Self.entries ctx.old.options hook (label_of node.old).id self.old self.new) };
 

@@ -14,10 +14,10 @@ ghost use Rattle.es_steps.specs.Open.{nothing_pending};
 ghost use Rattle.es_changes.specs.Changes.{Kept};
 ghost use Rattle.es_changes.specs.Moments.{top as first_pending};
 ghost use Rattle.es_traverse.specs.ContextMoments.{moment};
-ghost use Rattle.es_traverse.specs.Laws.{CanVisit, Exited, IsReady, KeptLoad, KeptTree, KeptVisited, KeptVisitedTrees, MakesNone, Seen, SeenAmong};
+ghost use Rattle.es_traverse.specs.Laws.{CanVisit, IsReady, KeptLoad, KeptTree, KeptVisited, KeptVisitedTrees, MakesNone, Seen, SeenAmong};
 ghost use Rattle.es_traverse.specs.Loads.{allowance, field_load, fields_load, load, own_allowance, trees_load, wrapping, writing};
 ghost use Rattle.es_traverse.specs.Sites.{hook_of_role, is_arrow_body, parameters_in, role_at};
-ghost use Rattle.es_traverse.specs.Visits.{EnteredKind, EnteredNode, EnteredSort, ExitedAt, ExitedNode, VisitedAt, VisitedField, VisitedFields, VisitedList, VisitedProgram, VisitedStatements, VisitedTrees, opens_at};
+ghost use Rattle.es_traverse.specs.Visits.{EnteredKind, EnteredNode, EnteredSort, ExitedAt, ExitedKind, ExitedNode, ExitedSort, VisitedAt, VisitedField, VisitedFields, VisitedList, VisitedProgram, VisitedStatements, VisitedTrees, opens_at};
 
 use crate::lowering::Additions;
 use crate::site::{Parent, Role, Site, parent_of, role_at, scope_inside, site_at};
@@ -421,7 +421,7 @@ fn exit_kind<T: Traverse<S>, S: Additions, L: Ledger>(
 ) -> Result<(), AllocError>
     requires ready { IsReady T.suits t.old (moment S.pending ctx.old) (weight node.old) }
     ensures kept { OnOk result (KeptTree (moment S.pending ctx.old) node.old (moment S.pending ctx.new) node.new) }
-    ensures exited { OnOk result (Seen (λ p q. Exited (T.profile ctx.old.options) (moment S.pending ctx.old) p (moment S.pending ctx.new) q) node.old node.new) }
+    ensures exited { OnOk result (Seen (λ p q. ExitedKind (T.profile ctx.old.options) (moment S.pending ctx.old) p (moment S.pending ctx.new) q) node.old node.new) }
     ensures ids { OnOk result (KeepsIds node.old node.new) }
     ensures goes { OnOk result (GoesOutByKind T.suits T.tally T.entries ctx.old.options (kind_of node.old) (label_of node.old).id t.old t.new) }
     ensures cost { OnOk result (steps.new ≤ steps.old + 1) }
@@ -444,7 +444,7 @@ fn exit_sort<T: Traverse<S>, S: Additions, L: Ledger>(
 ) -> Result<(), AllocError>
     requires ready { IsReady T.suits t.old (moment S.pending ctx.old) (weight node.old) }
     ensures kept { OnOk result (KeptTree (moment S.pending ctx.old) node.old (moment S.pending ctx.new) node.new) }
-    ensures exited { OnOk result (Seen (λ p q. Exited (T.profile ctx.old.options) (moment S.pending ctx.old) p (moment S.pending ctx.new) q) node.old node.new) }
+    ensures exited { OnOk result (Seen (λ p q. ExitedSort (T.profile ctx.old.options) (moment S.pending ctx.old) p (moment S.pending ctx.new) q) node.old node.new) }
     ensures ids { OnOk result (KeepsIds node.old node.new) }
     ensures goes { OnOk result (GoesOutBySort T.suits T.tally T.entries ctx.old.options (label_of node.old).id t.old t.new) }
     ensures cost { OnOk result (steps.new ≤ steps.old + 1) }

@@ -106,6 +106,8 @@ impl Enters<TransformState> for OptionalChaining {
 
     ghost only = { λ o. chain_only o };
 
+    ghost none_late = { λ o k l fs. refl };
+
     ghost passes = { λ o. acts_there (chain_profile o) };
 
     ghost lawful = { λ x o. chain_lawful o };

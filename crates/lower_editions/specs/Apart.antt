@@ -414,10 +414,10 @@ module _ (o : EnvOptions) where
   -- TOGETHER
 
   pub expressions_apart : AreApart (nullish_coalescing_profile o) (chain_profile o)
-  expressions_apart = apart (nullish_coalescing_profile o) (chain_profile o) coalescing_chains (λ n t e. e)
+  expressions_apart = apart (nullish_coalescing_profile o) (chain_profile o) coalescing_chains (record { none_late = λ k l fs. refl; none_later = λ t w. refl; counts_after = λ n t. refl }) (λ n t e. e)
 
   pub es2020_apart : AreApart (expressions_profile o) (namespace_profile o)
-  es2020_apart = apart (expressions_profile o) (namespace_profile o) (both_separate_from (nullish_coalescing_profile o) (chain_profile o) (namespace_profile o) coalescing_exports chains_exports) (λ n t e. e)
+  es2020_apart = apart (expressions_profile o) (namespace_profile o) (both_separate_from (nullish_coalescing_profile o) (chain_profile o) (namespace_profile o) coalescing_exports chains_exports) (record { none_late = λ k l fs. refl; none_later = λ t w. refl; counts_after = λ n t. refl }) (λ n t e. e)
 
   -- one type before those of ECMAScript 2020
   before_es2020 : (p : Profile) → AreSeparate p (nullish_coalescing_profile o) → AreSeparate p (chain_profile o) → AreSeparate p (namespace_profile o) → AreSeparate p (es2020_profile o)
@@ -428,13 +428,13 @@ module _ (o : EnvOptions) where
   values_profile = both_profile (es2018_profile o) (es2016_profile o)
 
   pub values_apart : AreApart (es2018_profile o) (es2016_profile o)
-  values_apart = apart (es2018_profile o) (es2016_profile o) spreads_powers (λ n t e. e)
+  values_apart = apart (es2018_profile o) (es2016_profile o) spreads_powers (record { none_late = λ k l fs. refl; none_later = λ t w. refl; counts_after = λ n t. refl }) (λ n t e. e)
 
   abbrev last_profile : Profile
   last_profile = both_profile (es2019_profile o) values_profile
 
   pub last_apart : AreApart (es2019_profile o) values_profile
-  last_apart = apart (es2019_profile o) values_profile (separate_from_both (es2019_profile o) (es2018_profile o) (es2016_profile o) catches_spreads catches_powers) (λ n t e. e)
+  last_apart = apart (es2019_profile o) values_profile (separate_from_both (es2019_profile o) (es2018_profile o) (es2016_profile o) catches_spreads catches_powers) (record { none_late = λ k l fs. refl; none_later = λ t w. refl; counts_after = λ n t. refl }) (λ n t e. e)
 
   -- one type before these
   before_last : (p : Profile) → AreSeparate p (optional_catch_profile o) → AreSeparate p (object_spread_profile o) → AreSeparate p (exponentiation_profile o) → AreSeparate p last_profile
@@ -447,19 +447,19 @@ module _ (o : EnvOptions) where
       (before_last (namespace_profile o) exports_catches exports_spreads exports_powers)
 
   pub later_apart : AreApart (es2020_profile o) last_profile
-  later_apart = apart (es2020_profile o) last_profile later_separate (λ n t e. e)
+  later_apart = apart (es2020_profile o) last_profile later_separate (record { none_late = λ k l fs. refl; none_later = λ t w. refl; counts_after = λ n t. refl }) (λ n t e. e)
 
   pub editions_apart : AreApart (es2021_profile o) (both_profile (es2020_profile o) last_profile)
   editions_apart =
       apart (es2021_profile o) (both_profile (es2020_profile o) last_profile)
-      (separate_from_both (es2021_profile o) (es2020_profile o) last_profile (before_es2020 (es2021_profile o) assignments_coalescing assignments_chains assignments_exports) (before_last (es2021_profile o) assignments_catches assignments_spreads assignments_powers)) (λ n t e. e)
+      (separate_from_both (es2021_profile o) (es2020_profile o) last_profile (before_es2020 (es2021_profile o) assignments_coalescing assignments_chains assignments_exports) (before_last (es2021_profile o) assignments_catches assignments_spreads assignments_powers)) (record { none_late = λ k l fs. refl; none_later = λ t w. refl; counts_after = λ n t. refl }) (λ n t e. e)
 
   -- the type that writes comes before all
   pub all_apart : AreApart (common_profile o) (both_profile (es2021_profile o) (both_profile (es2020_profile o) last_profile))
   all_apart =
       apart (common_profile o) (both_profile (es2021_profile o) (both_profile (es2020_profile o) last_profile))
       (separate_from_both (common_profile o) (es2021_profile o) (both_profile (es2020_profile o) last_profile) common_assignments
-      (separate_from_both (common_profile o) (es2020_profile o) last_profile (before_es2020 (common_profile o) common_coalescing common_chains common_exports) (before_last (common_profile o) common_catches common_spreads common_powers))) (λ n t e. e)
+      (separate_from_both (common_profile o) (es2020_profile o) last_profile (before_es2020 (common_profile o) common_coalescing common_chains common_exports) (before_last (common_profile o) common_catches common_spreads common_powers))) (record { none_late = λ k l fs. refl; none_later = λ t w. refl; counts_after = λ n t. refl }) (λ n t e. e)
 
   -- AFTER THE PROGRAM: what a type writes, one that acted there before it doesn't take away
 

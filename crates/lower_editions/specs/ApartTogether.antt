@@ -20,8 +20,14 @@ pub record AreSeparate (first second : Profile) : Type 0 where
   pub before : (n : Site) (t : Tree) → second.conditions.before n t ≡ first.conditions.before n t
   pub after : (n : Site) (t : Tree) → second.conditions.after n t ≡ first.conditions.after n t
 
-pub apart : (p q : Profile) → AreSeparate p q → ((n : Site) (t : Tree) → p.leaves n t ≡ true → q.counts n t ≡ true) → AreApart p q
-apart p q h meets = record { makes = h.makes; first_writes = h.first_writes; second_writes = h.second_writes; first_stable = h.first_stable; second_stable = h.second_stable; before = h.before; after = h.after; meets = meets }
+-- and of what they do after nodes
+pub record AreSeparateAfter (first second : Profile) : Type 0 where
+  pub none_late : (k : AstType) (l : Label) (fs : Fields) → first.late_constructs k l fs ≡ false
+  pub none_later : (t : Tree) → first.writes t → is_construct second.late_constructs t ≡ false
+  pub counts_after : (n : Site) (t : Tree) → second.counts_after n t ≡ first.counts_after n t
+
+pub apart : (p q : Profile) → AreSeparate p q → AreSeparateAfter p q → ((n : Site) (t : Tree) → p.leaves n t ≡ true → q.counts n t ≡ true) → AreApart p q
+apart p q h after meets = record { makes = h.makes; first_writes = h.first_writes; second_writes = h.second_writes; first_stable = h.first_stable; second_stable = h.second_stable; before = h.before; after = h.after; meets = meets; none_late = after.none_late; none_later = after.none_later; counts_after = after.counts_after }
 
 first_false : (a b : Bool) → (a || b) ≡ false → a ≡ false
 first_false false b e = refl

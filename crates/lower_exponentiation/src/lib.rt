@@ -114,6 +114,8 @@ impl Enters<TransformState> for ExponentiationOperator {
 
     ghost only = { exponentiation_only };
 
+    ghost none_late = { λ o k l fs. refl };
+
     ghost passes = { λ o. acts_there (exponentiation_profile o) };
 
     ghost lawful = { λ x o. exponentiation_lawful o };

@@ -100,6 +100,8 @@ impl Enters<TransformState> for LogicalAssignmentOperators {
 
     ghost only = { logical_assignment_only };
 
+    ghost none_late = { λ o k l fs. refl };
+
     ghost passes = { λ o. acts_there (logical_assignment_profile o) };
 
     ghost lawful = { λ x o. logical_assignment_lawful o };

@@ -3,7 +3,7 @@
 use Rattle.std.proofs.Common.{refl, sym, true≢false}
 use Rattle.es_tree.specs.declared.options.EnvOptions.{EnvOptions}
 use Rattle.es_changes.proofs.Lawful.{law_lawful_proof}
-use Rattle.es_traverse.specs.Laws.{IsLawful}
+use Rattle.es_traverse.specs.Laws.{IsLawful, acts_inward}
 use Rattle.es_row_laws.proofs.Fewer.{fewer-lawful}
 use Rattle.lower_namespace_exports.specs.Profile.{namespace_profile}
 
@@ -13,4 +13,5 @@ namespace_lawful o = record {
   stable = λ h n s s' k l first fs gs stand r e. refl;
   placed = λ h k l fs e. absurd (true≢false (sym e));
   own = λ h t w. refl;
+  outward = acts_inward (namespace_profile o) (λ k l fs. refl) (λ n t. refl);
 }

@@ -10,7 +10,7 @@ use Rattle.es_steps.specs.CoreRules.{where_on}
 use Rattle.es_steps.specs.NamespaceExports.{NamespaceRule}
 use Rattle.es_steps.specs.Rules.{Writing, either_rule}
 use Rattle.es_steps.specs.Steps.{Ledger, Site, Spot}
-use Rattle.es_traverse.specs.Laws.{Ending, Profile}
+use Rattle.es_traverse.specs.Laws.{Ending, Profile, no_construct, whatever_it_is}
 
 -- the kinds of what it writes: an import with a name, and an export of a name
 abbrev pub is_module_node : AstType → Bool
@@ -36,6 +36,8 @@ namespace_profile o = record {
   counts = is_free o;
   leaves = is_free o;
   constructs = λ h k l fs. false;
+  late_constructs = no_construct;
+  counts_after = whatever_it_is;
   makes = λ t. ⊥;
   writes = IsModuleNode;
 }

@@ -100,6 +100,8 @@ impl Enters<TransformState> for NullishCoalescingOperator {
 
     ghost only = { nullish_coalescing_only };
 
+    ghost none_late = { λ o k l fs. refl };
+
     ghost passes = { λ o. acts_there (nullish_coalescing_profile o) };
 
     ghost lawful = { λ x o. nullish_coalescing_lawful o };

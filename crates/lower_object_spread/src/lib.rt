@@ -107,6 +107,8 @@ impl Enters<TransformState> for ObjectSpread {
 
     ghost only = { object_spread_only };
 
+    ghost none_late = { λ o k l fs. refl };
+
     ghost passes = { λ o. acts_there (object_spread_profile o) };
 
     ghost lawful = { λ x o. object_spread_lawful o };

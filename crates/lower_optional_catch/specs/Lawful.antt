@@ -10,7 +10,7 @@ use Rattle.es_steps.specs.Steps.{Ledger, Site, Spot}
 use Rattle.es_visit.specs.Hooks.{IsHooked}
 use Rattle.es_visit.specs.declared.hook.Hook.{Hook}
 use Rattle.es_visit.specs.declared.hook.Hook.TheVariants.{CatchClause}
-use Rattle.es_traverse.specs.Laws.{IsLawful, IsStable, OnlyAt, is_construct}
+use Rattle.es_traverse.specs.Laws.{IsLawful, IsStable, OnlyAt, is_construct, acts_inward}
 use Rattle.es_row_laws.proofs.Lawful.{optional-catch-lawful}
 use Rattle.es_row_laws.proofs.Stable.{law_stable_rows_proof}
 use Rattle.lower_optional_catch.specs.Profile.{IsWholeCatch, optional_catch_constructs, optional_catch_profile}
@@ -44,6 +44,7 @@ optional_catch_lawful o = record {
   stable = catch_stable (optional_catch_profile o).rule (law_stable_rows_proof o).optional_catch.optional_catch o.es2019.optional_catch_binding;
   placed = catch_placed o.es2019.optional_catch_binding;
   own = catch_own o.es2019.optional_catch_binding;
+  outward = acts_inward (optional_catch_profile o) (λ k l fs. refl) (λ n t. refl);
 }
 
 pub optional_catch_only : (o : EnvOptions) → OnlyAt CatchClause (optional_catch_profile o)

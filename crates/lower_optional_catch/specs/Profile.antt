@@ -8,7 +8,7 @@ use Rattle.es_tree.specs.declared.options.EnvOptions.{EnvOptions}
 use Rattle.es_visit.specs.declared.hook.Hook.{Hook}
 use Rattle.es_visit.specs.declared.hook.Hook.TheVariants.{CatchClause}
 use Rattle.es_conditions.specs.CoreConditions.{core_conditions, is_free}
-use Rattle.es_traverse.specs.Laws.{Profile, is_construct}
+use Rattle.es_traverse.specs.Laws.{Profile, is_construct, no_construct, whatever_it_is}
 use Rattle.es_row_laws.specs.Laws.{optional_catch_under}
 
 -- each `catch` without a parameter, where it is on
@@ -29,6 +29,8 @@ optional_catch_profile o = record {
   counts = is_free o;
   leaves = is_free o;
   constructs = optional_catch_constructs o.es2019.optional_catch_binding;
+  late_constructs = no_construct;
+  counts_after = whatever_it_is;
   makes = λ t. ⊥;
   writes = IsWholeCatch;
 }

@@ -99,6 +99,8 @@ impl Enters<TransformState> for OptionalCatchBinding {
 
     ghost only = { optional_catch_only };
 
+    ghost none_late = { λ o k l fs. refl };
+
     ghost passes = { λ o no n t known. known };
 
     ghost lawful = { λ x o. optional_catch_lawful o };

@@ -17,7 +17,7 @@ use Rattle.es_visit.specs.declared.hook.Hook.TheVariants.{Expression}
 use Rattle.es_changes.specs.Moments.{Moment}
 use Rattle.es_changes.specs.Rules.{IsLawfulRule}
 use Rattle.es_conditions.specs.Laws.{Keeps}
-use Rattle.es_traverse.specs.Laws.{Entered, IsLawful, IsStable, KeptLoad, Known, Profile, Seen, anything, anywhere, is_construct}
+use Rattle.es_traverse.specs.Laws.{Entered, IsLawful, IsStable, KeptLoad, Known, Profile, Seen, anything, anywhere, is_construct, acts_inward}
 use Rattle.lower_temporaries.specs.Replacings.{IsPut, Replaces}
 use Rattle.lower_temporaries.specs.RowProfiles.{constructs_where, row_profile}
 use Rattle.lower_temporaries.proofs.Entered.{entered-by-row, entered-same, is_expression_hook, kept-by-row, sort-expression}
@@ -50,7 +50,7 @@ module _ (is : AstType → Label → Fields → Bool) where
 
   pub row-lawful : (o : EnvOptions) (counts leaves : Site → Tree → Bool) (R : Site → Ledger → Spot → Ledger → Spot → Type 0) (on : Bool) (makes : Tree → Type 0) → IsLawfulRule R → IsStable R is → ((k : AstType) (l : Label) (fs : Fields) → is k l fs ≡ true → IsHooked Expression k) →
       IsLawful (row_profile o counts leaves R (constructs_where is on) makes)
-  row-lawful o counts leaves R on makes lawful stable hooked = record { rule = lawful; stable = stable-where R stable on; placed = placed-where hooked on; own = λ h t e. absurd e }
+  row-lawful o counts leaves R on makes lawful stable hooked = record { rule = lawful; stable = stable-where R stable on; placed = placed-where hooked on; own = λ h t e. absurd e; outward = acts_inward (row_profile o counts leaves R (constructs_where is on) makes) (λ k l fs. refl) (λ n t. refl) }
 
 -- WHAT IS PUT, by the kinds of the two nodes
 

@@ -7,7 +7,7 @@ use Rattle.es_steps.specs.Steps.{Ledger, Site, Spot}
 use Rattle.es_visit.specs.declared.hook.Hook.{Hook}
 use Rattle.es_visit.specs.declared.hook.Hook.TheVariants.{Expression}
 use Rattle.es_conditions.specs.CoreConditions.{core_conditions}
-use Rattle.es_traverse.specs.Laws.{Profile}
+use Rattle.es_traverse.specs.Laws.{Profile, no_construct, whatever_it_is}
 
 -- It removes these constructs, where it is on, and is the hook of expressions.
 abbrev pub constructs_where : (AstType → Label → Fields → Bool) → Bool → Hook → AstType → Label → Fields → Bool
@@ -22,6 +22,8 @@ row_profile o counts leaves rule constructs makes = record {
   counts = counts;
   leaves = leaves;
   constructs = constructs;
+  late_constructs = no_construct;
+  counts_after = whatever_it_is;
   makes = makes;
   writes = λ t. ⊥;
 }

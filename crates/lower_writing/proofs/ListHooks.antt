@@ -31,7 +31,7 @@ use Rattle.es_changes.specs.Moments.{Moment, ledger_with, top, with_pair}
 use Rattle.es_traverse.specs.Laws.{EnteredList, EnteredParameters, Exited, ExitedBody, ExitedList, ExitedParameters, ExitedProgram, KeptTree, KeptTrees, Seen, SeenAmong, anything, is_construct, is_outermost, no_ending, opens_body, opens_list}
 use Rattle.es_traverse.specs.Listed.{any_among}
 use Rattle.es_traverse.proofs.Kept.{hooks-seen, hooks-seen-among}
-use Rattle.es_traverse.proofs.NoHooks.{none-listed}
+use Rattle.es_traverse.proofs.NoHooks.{none-listed, exited-elsewhere}
 use Rattle.lower_temporaries.specs.Declarators.{declarations_written}
 use Rattle.lower_temporaries.specs.Store.{is_inert_pending}
 use Rattle.lower_writing.specs.Writing.{MayBeWritten, after_writing, common_profile, ids_for, ids_for_body}
@@ -40,6 +40,7 @@ use Rattle.lower_writing.proofs.Pairs.{body-pair, kept-emptied, no-pair, one-pai
 use Rattle.lower_temporaries.proofs.SeenLaws.{size-seen}
 use Rattle.lower_writing.proofs.SeenWeights.{trees-size-seen, trees-weight-seen, weight-seen}
 use Rattle.lower_writing.proofs.WrittenLists.{after-among, after-none, after-sum, among-less}
+use Rattle.es_visit.specs.declared.hook.Hook.{Hook}
 
 or-false : (a b : Bool) → a ≡ false → b ≡ false → (a || b) ≡ false
 or-false a b e d = rw (e, d) refl
@@ -51,8 +52,8 @@ left-false true b h = h
 module _ (o : EnvOptions) where
   -- NODES AND PARAMETERS stay as they are
 
-  pub exited-none : (a : Moment) (t : Tree) → Exited (common_profile o) a t a t
-  exited-none a t = record { stepped = λ n f k. stays; body = refl; none = λ test w h. h; hooks = omega arith }
+  pub exited-none : (h : Hook) (a : Moment) (t : Tree) → Exited (common_profile o) h a t a t
+  exited-none h a t = exited-elsewhere (common_profile o) a (λ k l fs. refl) h t
 
   pub entered-parameters : (a : Moment) (ts : Trees) → EnteredParameters (common_profile o) a ts a ts
   entered-parameters a ts = record { stepped = λ n f k. stays; leaves = λ n f k. k }

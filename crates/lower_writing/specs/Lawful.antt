@@ -17,7 +17,7 @@ use Rattle.es_steps.proofs.RulesWrite.{writing-writes}
 use Rattle.es_steps.proofs.Taken.{both-lawful, both-write}
 use Rattle.es_steps.proofs.WrapsSlots.{wrap-lawful, wrap-writes}
 use Rattle.es_changes.specs.Rules.{IsLawfulRule, is_asked_for}
-use Rattle.es_traverse.specs.Laws.{IsLawful}
+use Rattle.es_traverse.specs.Laws.{IsLawful, acts_inward}
 use Rattle.lower_writing.specs.Writing.{common_profile}
 
 -- it is a part of the rules that the options ask for
@@ -58,4 +58,5 @@ common_lawful o = record {
   stable = λ h n s s' k l first fs gs stand step e. refl;
   placed = λ h k l fs e. absurd (true≢false (sym e));
   own = λ h t w. refl;
+  outward = acts_inward (common_profile o) (λ k l fs. refl) (λ n t. refl);
 }

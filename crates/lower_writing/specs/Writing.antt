@@ -12,7 +12,7 @@ use Rattle.es_steps.specs.Rules.{Writing, either_rule}
 use Rattle.es_steps.specs.WrapRule.{WrapRule, called_arrow}
 use Rattle.es_changes.specs.Moments.{Moment, below, top}
 use Rattle.es_conditions.specs.CoreConditions.{core_conditions, is_fit, is_wrapped}
-use Rattle.es_traverse.specs.Laws.{Profile, is_construct}
+use Rattle.es_traverse.specs.Laws.{Profile, is_construct, no_construct, whatever_it_is}
 use Rattle.lower_temporaries.specs.Declarators.{declarations_written}
 use Rattle.lower_temporaries.specs.SeenTrees.{is_inert_node}
 use Rattle.lower_writing.specs.Lists.{listed}
@@ -40,6 +40,8 @@ common_profile o = record {
   counts = is_fit o;
   leaves = is_wrapped o;
   constructs = λ h k l fs. false;
+  late_constructs = no_construct;
+  counts_after = whatever_it_is;
   makes = IsCalledArrow;
   writes = MayBeWritten;
 }

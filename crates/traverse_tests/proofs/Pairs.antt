@@ -15,7 +15,7 @@ use Rattle.es_traverse.specs.Laws.{BodyStepped, EnteredAs, EnteredList, EnteredP
 use Rattle.es_traverse.specs.declared.site.Site.{Site as CodeSite}
 use Rattle.es_traverse.specs.declared.site.Site.TheVariants.{ArrowBody}
 use Rattle.es_traverse.proofs.Kept.{opens-seen}
-use Rattle.es_traverse.proofs.NoHooks.{none-listed}
+use Rattle.es_traverse.proofs.NoHooks.{none-listed, exited-elsewhere}
 use Rattle.traverse_tests.specs.Quiet.{never, quiet}
 
 -- COUNTS OF PAIRS
@@ -37,8 +37,8 @@ entered_as Expression c a t = record { stepped = λ n l f k. stays; left = λ n 
 entered_as Statement c a t = record { stepped = λ n l f k. stays; left = λ n l f k. k; cleared = λ n l f k. refl; sort = λ h e. inl e; body = refl; order = inl refl }
 entered_as _ c a t = record { stepped = λ n l f k. stays; left = λ n l f k. k; cleared = λ n l f k. refl; body = refl; order = inl refl }
 
-pub exited_none : (a : Moment) (t : Tree) → Exited quiet a t a t
-exited_none a t = record { stepped = λ n f k. stays; body = refl; none = λ test w h. h; hooks = omega arith }
+pub exited_none : (h : Hook) (a : Moment) (t : Tree) → Exited quiet h a t a t
+exited_none h a t = exited-elsewhere quiet a (λ k l fs. refl) h t
 
 pub entered_parameters : (a : Moment) (ts : Trees) → EnteredParameters quiet a ts a ts
 entered_parameters a ts = record { stepped = λ n f k. stays; leaves = λ n f k. k }

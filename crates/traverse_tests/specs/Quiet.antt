@@ -1,9 +1,9 @@
 -- A type that does nothing, whatever the program is.
 use Rattle.std.specs.Prelude.{false, true}
-use Rattle.std.proofs.Common.{sym, true≢false}
+use Rattle.std.proofs.Common.{refl, sym, true≢false}
 use Rattle.es_steps.specs.Steps.{Ledger, Site, Spot}
 use Rattle.es_changes.specs.Rules.{IsLawfulRule}
-use Rattle.es_traverse.specs.Laws.{IsLawful, Profile}
+use Rattle.es_traverse.specs.Laws.{IsLawful, Profile, no_construct, whatever_it_is, acts_inward}
 use Rattle.es_traverse.specs.NothingAsked.{nothing_asked}
 
 -- the rule that never acts
@@ -46,6 +46,8 @@ quiet = record {
   counts = λ n t. true;
   leaves = λ n t. true;
   constructs = λ h k l fs. false;
+  late_constructs = no_construct;
+  counts_after = whatever_it_is;
   makes = λ t. ⊥;
   writes = λ t. ⊥;
 }
@@ -56,4 +58,5 @@ quiet_lawful = record {
   stable = λ h n s s' k l first fs gs stand step e. e;
   placed = λ h k l fs e. absurd (true≢false (sym e));
   own = λ h t w. absurd w;
+  outward = acts_inward quiet (λ k l fs. refl) (λ n t. refl);
 }

@@ -27,7 +27,7 @@ use Rattle.es_changes.specs.Rules.{IsLawfulRule, is_asked_for}
 use Rattle.es_visit.specs.Hooks.{IsHooked}
 use Rattle.es_visit.specs.declared.hook.Hook.{Hook}
 use Rattle.es_visit.specs.declared.hook.Hook.TheVariants.{Statement}
-use Rattle.es_traverse.specs.Laws.{IsLawful}
+use Rattle.es_traverse.specs.Laws.{IsLawful, acts_inward}
 use Rattle.visit_example.specs.Removals.{Removing, debugger_constructs, removal}
 use Rattle.visit_example.specs.Removals.Removing.{removes}
 
@@ -133,4 +133,5 @@ removal_lawful = record {
   stable = λ h n s s' k l first fs gs stand step e. kept_kind h k l _ _ e;
   placed = hooked;
   own = λ h t w. absurd w;
+  outward = acts_inward removal (λ k l fs. refl) (λ n t. refl);
 }

@@ -6,7 +6,7 @@ use Rattle.es_tree.specs.declared.ast_type.AstType.TheVariants.{DebuggerStatemen
 use Rattle.es_steps.specs.Steps.{Ledger, Site, Spot, at_node}
 use Rattle.es_visit.specs.declared.hook.Hook.{Hook}
 use Rattle.es_visit.specs.declared.hook.Hook.TheVariants.{Statement}
-use Rattle.es_traverse.specs.Laws.{Profile}
+use Rattle.es_traverse.specs.Laws.{Profile, no_construct, whatever_it_is}
 use Rattle.es_traverse.specs.NothingAsked.{nothing_asked}
 
 -- the rule, wherever the statement stands
@@ -35,6 +35,8 @@ removal = record {
   counts = λ n t. true;
   leaves = λ n t. true;
   constructs = debugger_constructs;
+  late_constructs = no_construct;
+  counts_after = whatever_it_is;
   makes = λ t. kind_of t ≡ EmptyStatement;
   writes = λ t. ⊥;
 }

@@ -1,4 +1,4 @@
-use Rattle.std.proofs.Common.{refl, arith}
+use Rattle.std.proofs.Common.{Some, refl, arith}
 use Rattle.es_tree.specs.Tree.{trees}
 use Rattle.es_visit.specs.declared.hook.Hook.TheVariants.{Statement}
 use Rattle.es_traverse.proofs.NothingAsked.{nothing-asked-sound}
@@ -12,4 +12,4 @@ pub traverse-requires-clause-ready : goal.traverse-requires-clause-ready
 traverse-requires-clause-ready g c = record { suited = tt; room = c.requires.room; pair = omega arith }
 
 pub returns-clause-none : goal.returns-clause-none
-returns-clause-none g c names fits = none-left names (trees c.traverse.new.program.body.items) ((c.in_ok-traverse.ensures.visited names).free refl fits refl Statement)
+returns-clause-none g c names fits = none-left names (trees c.traverse.new.program.body.items) ((c.in_ok-traverse.ensures.visited names).free refl fits refl (Some Statement))
