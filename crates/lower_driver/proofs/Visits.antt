@@ -1,5 +1,5 @@
 -- From the one visit of a run to what the source becomes.
-use Rattle.std.proofs.Common.{◌≡◌, ◌+◌, ◌*◌, ◌≤◌, ◌<◌, ◌^◌, ℕ, refl, sym, ap, ◌∙◌, subst, List, [], ◌∷◌, Option, None, inl, inr, arith, true≢false}
+use Rattle.std.proofs.Common.{Some, ◌≡◌, ◌+◌, ◌*◌, ◌≤◌, ◌<◌, ◌^◌, ℕ, refl, sym, ap, ◌∙◌, subst, List, [], ◌∷◌, Option, None, inl, inr, arith, true≢false}
 use Rattle.std.specs.Prelude.{Bool, true, false, ◌&&◌, ◌||◌, is_some}
 use Rattle.es_tree.specs.Bare.{bare}
 use Rattle.es_tree.specs.Constructs.{has_enabled_construct, has_unbuilt_construct, is_chain, is_nullish_coalescing, is_object_rest, is_object_spread, is_optional_catch}
@@ -61,6 +61,7 @@ use Rattle.es_reached.specs.Reached.{built_rules}
 use Rattle.es_reached.proofs.Results.{law_core_result_proof, law_first_proof, law_result_proof}
 use Rattle.es_reached.proofs.BarePlaces.{law_bare_places_proof}
 use Rattle.es_reached.proofs.RestSteps.{law_no_rests_proof}
+use Rattle.es_statement_steps.proofs.Results.{law_statement_result_proof}
 use Rattle.es_reached.proofs.Sources.{law_bare_seen_proof, law_bare_source_proof}
 use Rattle.lower_temporaries.specs.Takings.{moment_of, pending_of}
 use Rattle.lower_temporaries.specs.declared.state.TransformState.{TransformState}
@@ -228,7 +229,7 @@ module _ (c : EnvOptions) (p : Tree) (ctx ctx' : TraverseCtx TransformState) (x 
       let ts = seen_among names (trees y.body.items) in
       let start : top (moment_of ctx).lists ≡ nothing_pending = ap top begun.lists in
       let test : Hook → AstType → Label → Fields → Bool = (visit_profile c).constructs in
-      let free : (h : Hook) → any_in_trees (test h) ts ≡ false = λ h. or_first (any_in_trees (test h) ts) false (visited.free start fits known h) in
+      let free : (h : Hook) → any_in_trees (test h) ts ≡ false = λ h. or_first (any_in_trees (test h) ts) false (visited.free start fits known (Some h)) in
       none-of-trees (test Expression) (test CatchClause) (is_lowered_construct c)
       (λ k l fs. grouped (c.es2021.logical_assignment_operators && is_lowered_assignment k l fs) (c.es2020.nullish_coalescing_operator && is_nullish_coalescing k l fs) (c.es2020.optional_chaining && is_chain k l fs)
       (is_some c.es2018.object_rest_spread && is_object_spread k l fs) (c.es2016.exponentiation_operator && is_lowered_power k l fs)
@@ -266,6 +267,7 @@ module _ (c : EnvOptions) (p : Tree) (ctx ctx' : TraverseCtx TransformState) (x 
         result = becomes;
         none = sym (copied-enabled o c copy (plain_program y)) ∙ none-left (copied-unbuilt o c copy ∙ unbuilt) becomes.form (law_among_proof (plain_program y) becomes.kept) visited ∙ copied-left o c copy (plain_program y) ∙ sym (same-left o (plain_program y) result written) ∙ rests;
         core = λ core. law_core_result_proof o p (plain_program y) (made_of ctx') core right becomes;
+        statements = λ runs. law_statement_result_proof o p (plain_program y) (made_of ctx') runs becomes;
         unchanged = λ none. absurd (true≢false (sym some ∙ none));
         size = size-left next kept;
       }
@@ -278,6 +280,7 @@ becomes-itself o p form right none =
       result = becomes;
       none = none;
       core = λ core. law_core_result_proof o p p [] core right becomes;
+      statements = λ runs. law_statement_result_proof o p p [] runs becomes;
       unchanged = λ asked. record { same = refl; no_names = refl };
       size = omega arith;
     }
