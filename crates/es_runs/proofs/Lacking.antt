@@ -1,7 +1,7 @@
 -- Where no value is `document.all`, the steps of the machine give none.
 use Rattle.std.proofs.Common.{◌≡◌, refl, List, [], ◌∷◌}
 use Rattle.std.proofs.lemmas.Bool.{and_parts}
-use Rattle.std.specs.Prelude.{Bool, true, false, bytes_eq, if◌then◌else◌, codes}
+use Rattle.std.specs.Prelude.{Bool, true, false, bytes_eq, if◌then◌else◌, codes, ◌&&◌}
 use Rattle.es_tree.specs.Words.{Text}
 use Rattle.es_runs.specs.Machine.{Value, Values, M, ◌>>=◌, onward, return, stop, next, State, Stop, Result, Cell, Move, Question, ask, cell_of, set_cell, is_loosely_nullish, do_call, joined}
 use Rattle.es_runs.specs.Machine.Value.{undefined, null, boolean, number, bigint, text, host, bound, unset_error, constant_error, own}
@@ -16,49 +16,68 @@ use Rattle.es_tree.specs.Scopes.{Declared}
 use Rattle.es_runs.specs.Core.{Binding, Reference, read_name, read_cell, write_name, change_cell, keep_cell, apply_call, apply_bind, closed_result, typeof_name, initialise, settle}
 use Rattle.es_runs.specs.Core.Binding.{free, changeable, constant, silent}
 use Rattle.es_runs.specs.Core.Reference.{named, property, plain}
-use Rattle.es_runs.specs.Runs.{first_cell, cells_of, lacks_all, moves_lack}
+use Rattle.es_runs.specs.Runs.{first_cell, cells_of, lacks_all, values_lack, moves_lack}
 
--- the value counts the same for `==`, whether `document.all` counts as null or not: it isn't `document.all`
-abbrev pub NotAll : Value → Type 0
-NotAll v = is_loosely_nullish false v ≡ is_loosely_nullish true v
+-- no `document.all` in a value
+abbrev pub Lacks : Value → Type 0
+Lacks v = lacks_all v ≡ true
+
+abbrev pub AllLack : Values → Type 0
+AllLack vs = values_lack vs ≡ true
 
 abbrev pub Anything : {A : Type 0} → A → Type 0
 Anything a = Unit {0}
 
-abbrev pub CellNotAll : Cell → Type 0
-CellNotAll unset = Unit {0}
-CellNotAll (holds v) = NotAll v
+abbrev pub CellLacks : Cell → Type 0
+CellLacks unset = Unit {0}
+CellLacks (holds v) = Lacks v
 
--- a property isn't known to have a value before it is asked for
-abbrev pub ReferenceNotAll : Reference → Type 0
-ReferenceNotAll (plain v) = NotAll v
-ReferenceNotAll _ = Unit {0}
+-- a property isn't known to have a value before it is asked for, and its key is only asked for
+abbrev pub ReferenceLacks : Reference → Type 0
+ReferenceLacks (named x) = Unit {0}
+ReferenceLacks (property o k) = Lacks o
+ReferenceLacks (plain v) = Lacks v
+
+-- what is thrown may be caught
+abbrev pub StopLacks : Stop → Type 0
+StopLacks (throws v) = Lacks v
+StopLacks _ = Unit {0}
 
 -- no cell holds `document.all`, and no move that is left has it
-abbrev pub HasNoAll : State → Type 0
-HasNoAll (state c ms qs) = ((x : Text) → CellNotAll (c x)) × (moves_lack ms ≡ true)
+abbrev pub StateLacks : State → Type 0
+StateLacks (state c ms qs) = ((x : Text) → CellLacks (c x)) × (moves_lack ms ≡ true)
 
--- the same result twice, with P where it is given, and no `document.all` in the state after it
-pub data Matched {A : Type 0} (P : A → Type 0) : Result A → Result A → Type 0 where
-  both_give : {a : A} {s : State} → P a → HasNoAll s → Matched P (gives a s) (gives a s)
-  both_stop : {m : Stop} {s : State} → HasNoAll s → Matched P (stops m s) (stops m s)
+-- two results with the same stop or with R of what they give, and in the same state, with no `document.all` after it
+pub data Matched {A : Type 0} (R : A → A → Type 0) : Result A → Result A → Type 0 where
+  both_give : {a b : A} {s : State} → R a b → StateLacks s → Matched R (gives a s) (gives b s)
+  both_stop : {m : Stop} {s : State} → StopLacks m → StateLacks s → Matched R (stops m s) (stops m s)
+
+-- the same twice, with P
+pub data Same {A : Type 0} (P : A → Type 0) : A → A → Type 0 where
+  same : {a : A} → P a → Same P a a
+
+abbrev pub MatchesBy : {A : Type 0} → (A → A → Type 0) → M A → M A → Type 0
+MatchesBy R m k = (s : State) → StateLacks s → Matched R (m s) (k s)
 
 abbrev pub Matches : {A : Type 0} → (A → Type 0) → M A → M A → Type 0
-Matches P m k = (s : State) → HasNoAll s → Matched P (m s) (k s)
+Matches P m k = MatchesBy (Same P) m k
 
-pub same_result : {A : Type 0} {P : A → Type 0} {r q : Result A} → Matched P r q → r ≡ q
-same_result (both_give h n) = refl
-same_result (both_stop n) = refl
+pub same_result : {A : Type 0} {P : A → Type 0} {r q : Result A} → Matched (Same P) r q → r ≡ q
+same_result (both_give (same h) n) = refl
+same_result (both_stop k n) = refl
 
--- a value that has no `document.all` isn't `document.all`
-pub not_all : (v : Value) → lacks_all v ≡ true → NotAll v
+pub both_lack : {a b : Bool} → a ≡ true → b ≡ true → (a && b) ≡ true
+both_lack h g = rw (h, g) refl
+
+-- a value that has no `document.all` counts the same for `==`, whether `document.all` counts as null or not
+pub not_all : (v : Value) → Lacks v → is_loosely_nullish false v ≡ is_loosely_nullish true v
 not_all undefined h = refl
 not_all null h = refl
 not_all (boolean b) h = refl
 not_all (number b) h = refl
 not_all (bigint b) h = refl
 not_all (text b) h = refl
-not_all (host n callable truthy true) h = cc
+not_all (host n callable truthy true) h = absurd (cc h)
 not_all (host n callable truthy false) h = refl
 not_all (bound f r vs) h = refl
 not_all (unset_error b) h = refl
@@ -67,77 +86,83 @@ not_all (own b) h = refl
 
 -- COMBINATIONS
 
-onward_matched : {A B : Type 0} {P : A → Type 0} {Q : B → Type 0} {r q : Result A} {k l : A → M B} → Matched P r q → ((a : A) → P a → Matches Q (k a) (l a)) → Matched Q (onward r k) (onward q l)
-onward_matched (both_give h n) kl = kl _ h _ n
-onward_matched (both_stop n) kl = both_stop n
+onward_matched : {A B : Type 0} {R : A → A → Type 0} {Q : B → B → Type 0} {r q : Result A} {k l : A → M B} → Matched R r q → ((a b : A) → R a b → MatchesBy Q (k a) (l b)) → Matched Q (onward r k) (onward q l)
+onward_matched (both_give h n) kl = kl _ _ h _ n
+onward_matched (both_stop k n) kl = both_stop k n
 
-pub bind : {A B : Type 0} {P : A → Type 0} {Q : B → Type 0} {m n : M A} {k l : A → M B} → Matches P m n → ((a : A) → P a → Matches Q (k a) (l a)) → Matches Q (m >>= k) (n >>= l)
-bind h kl s n = onward_matched (h s n) kl
+pub bind_by : {A B : Type 0} {R : A → A → Type 0} {Q : B → B → Type 0} {m n : M A} {k l : A → M B} → MatchesBy R m n → ((a b : A) → R a b → MatchesBy Q (k a) (l b)) → MatchesBy Q (m >>= k) (n >>= l)
+bind_by h kl s n = onward_matched (h s n) kl
 
-loosened : {A : Type 0} {P : A → Type 0} {r q : Result A} → Matched P r q → Matched Anything r q
-loosened (both_give h n) = both_give tt n
-loosened (both_stop n) = both_stop n
+on_same : {A B : Type 0} {P : A → Type 0} {Q : B → B → Type 0} {k l : A → M B} → ((a : A) → P a → MatchesBy Q (k a) (l a)) → (a b : A) → Same P a b → MatchesBy Q (k a) (l b)
+on_same kl _ _ (same h) = kl _ h
+
+pub bind : {A B : Type 0} {P : A → Type 0} {Q : B → B → Type 0} {m n : M A} {k l : A → M B} → Matches P m n → ((a : A) → P a → MatchesBy Q (k a) (l a)) → MatchesBy Q (m >>= k) (n >>= l)
+bind h kl = bind_by h (on_same kl)
+
+loosened : {A : Type 0} {P : A → Type 0} {r q : Result A} → Matched (Same P) r q → Matched (Same Anything) r q
+loosened (both_give (same h) n) = both_give (same tt) n
+loosened (both_stop k n) = both_stop k n
 
 pub loosen : {A : Type 0} {P : A → Type 0} {m k : M A} → Matches P m k → Matches Anything m k
 loosen h s n = loosened (h s n)
 
 pub returns : {A : Type 0} {P : A → Type 0} (a : A) → P a → Matches P (return a) (return a)
-returns a h s n = both_give h n
+returns a h s n = both_give (same h) n
 
-pub stopped : {A : Type 0} {P : A → Type 0} (m : Stop) → Matches P (stop m) (stop m)
-stopped m s n = both_stop n
+pub stopped : {A : Type 0} {R : A → A → Type 0} (m : Stop) → StopLacks m → MatchesBy R (stop m) (stop m)
+stopped m k s n = both_stop k n
 
-pub choice : (b : Bool) {A : Type 0} {P : A → Type 0} {m n k l : M A} → Matches P m n → Matches P k l → Matches P (if b then m else k) (if b then n else l)
+pub choice : (b : Bool) {A : Type 0} {R : A → A → Type 0} {m n k l : M A} → MatchesBy R m n → MatchesBy R k l → MatchesBy R (if b then m else k) (if b then n else l)
 choice true h g = h
 choice false h g = g
 
 -- STEPS
 
-next_matched : (c : Text → Cell) (ms : List Move) (qs : List Question) → ((x : Text) → CellNotAll (c x)) → moves_lack ms ≡ true → Matched NotAll (next c ms qs) (next c ms qs)
-next_matched c [] qs h g = both_stop (h, refl)
-next_matched c (answer v ∷ ms) qs h g = let e = and_parts (lacks_all v) (moves_lack ms) g in both_give (not_all v e.0) (h, e.1)
-next_matched c (throw v ∷ ms) qs h g = both_stop (h, (and_parts (lacks_all v) (moves_lack ms) g).1)
+next_matched : (c : Text → Cell) (ms : List Move) (qs : List Question) → ((x : Text) → CellLacks (c x)) → moves_lack ms ≡ true → Matched (Same Lacks) (next c ms qs) (next c ms qs)
+next_matched c [] qs h g = both_stop tt (h, refl)
+next_matched c (answer v ∷ ms) qs h g = let e = and_parts (lacks_all v) (moves_lack ms) g in both_give (same e.0) (h, e.1)
+next_matched c (throw v ∷ ms) qs h g = let e = and_parts (lacks_all v) (moves_lack ms) g in both_stop e.0 (h, e.1)
 
--- an answer isn't `document.all`
-pub asks : (q : Question) → Matches NotAll (ask q) (ask q)
+-- an answer has no `document.all`
+pub asks : (q : Question) → Matches Lacks (ask q) (ask q)
 asks q (state c ms qs) n = next_matched c ms (q ∷ qs) n.0 n.1
 
-pub reads_cell : (x : Text) → Matches CellNotAll (cell_of x) (cell_of x)
-reads_cell x (state c ms qs) n = both_give (n.0 x) n
+pub reads_cell : (x : Text) → Matches CellLacks (cell_of x) (cell_of x)
+reads_cell x (state c ms qs) n = both_give (same (n.0 x)) n
 
-one_of : (b : Bool) (c d : Cell) → CellNotAll c → CellNotAll d → CellNotAll (if b then c else d)
+pub one_of : (b : Bool) (c d : Cell) → CellLacks c → CellLacks d → CellLacks (if b then c else d)
 one_of true c d h n = h
 one_of false c d h n = n
 
-pub sets : (x : Text) (v : Value) → NotAll v → Matches NotAll (set_cell x v) (set_cell x v)
-sets x v h (state c ms qs) n = both_give h ((λ y. one_of (bytes_eq y x) (holds v) (c y) h (n.0 y)), n.1)
+pub sets : (x : Text) (v : Value) → Lacks v → Matches Lacks (set_cell x v) (set_cell x v)
+sets x v h (state c ms qs) n = both_give (same h) ((λ y. one_of (bytes_eq y x) (holds v) (c y) h (n.0 y)), n.1)
 
-reads : (x : Text) (c : Cell) → CellNotAll c → Matches NotAll (read_cell x c) (read_cell x c)
-reads x unset h = stopped (faults (unset_error x))
+reads : (x : Text) (c : Cell) → CellLacks c → Matches Lacks (read_cell x c) (read_cell x c)
+reads x unset h = stopped (faults (unset_error x)) tt
 reads x (holds v) h = returns v h
 
-pub reads_name : (x : Text) (b : Binding) → Matches NotAll (read_name x b) (read_name x b)
+pub reads_name : (x : Text) (b : Binding) → Matches Lacks (read_name x b) (read_name x b)
 reads_name x free = asks (read x)
 reads_name x changeable = bind (reads_cell x) (reads x)
 reads_name x constant = bind (reads_cell x) (reads x)
 reads_name x (silent z) = bind (reads_cell x) (reads x)
 
-changes : (x : Text) (v : Value) → NotAll v → (c : Cell) → CellNotAll c → Matches NotAll (change_cell x v c) (change_cell x v c)
-changes x v h unset n = stopped (faults (unset_error x))
+changes : (x : Text) (v : Value) → Lacks v → (c : Cell) → CellLacks c → Matches Lacks (change_cell x v c) (change_cell x v c)
+changes x v h unset n = stopped (faults (unset_error x)) tt
 changes x v h (holds u) n = sets x v h
 
-keeps : (x : Text) (c : Cell) → CellNotAll c → Matches NotAll (keep_cell x c) (keep_cell x c)
-keeps x unset n = stopped (faults (unset_error x))
-keeps x (holds u) n = stopped (faults (constant_error x))
+keeps : (x : Text) (c : Cell) → CellLacks c → Matches Lacks (keep_cell x c) (keep_cell x c)
+keeps x unset n = stopped (faults (unset_error x)) tt
+keeps x (holds u) n = stopped (faults (constant_error x)) tt
 
-pub writes : (x : Text) (v : Value) → NotAll v → (b : Binding) → Matches NotAll (write_name x v b) (write_name x v b)
+pub writes : (x : Text) (v : Value) → Lacks v → (b : Binding) → Matches Lacks (write_name x v b) (write_name x v b)
 writes x v h free = bind (asks (write x v)) (λ u n. returns v h)
 writes x v h changeable = bind (reads_cell x) (changes x v h)
 writes x v h constant = bind (reads_cell x) (keeps x)
 writes x v h (silent z) = bind (reads_cell x) (keeps x)
 
 -- a call asks, whatever is called
-pub calls : (f r : Value) (us : Values) → Matches NotAll (do_call f r us) (do_call f r us)
+pub calls : (f r : Value) (us : Values) → Matches Lacks (do_call f r us) (do_call f r us)
 calls undefined r us = asks (call undefined r us)
 calls null r us = asks (call null r us)
 calls (boolean b) r us = asks (call (boolean b) r us)
@@ -150,49 +175,48 @@ calls (unset_error b) r us = asks (call (unset_error b) r us)
 calls (constant_error b) r us = asks (call (constant_error b) r us)
 calls (own b) r us = asks (call (own b) r us)
 
-pub applies_call : (f : Value) (us : Values) → Matches NotAll (apply_call f us) (apply_call f us)
+pub applies_call : (f : Value) (us : Values) → Matches Lacks (apply_call f us) (apply_call f us)
 applies_call f none = calls f undefined none
 applies_call f (r and us) = calls f r us
 
--- what `bind` gives isn't `document.all`, whatever it has
-pub applies_bind : (f : Value) (us : Values) → Matches NotAll (apply_bind f us) (apply_bind f us)
-applies_bind f none = returns (bound f undefined none) refl
-applies_bind f (r and us) = returns (bound f r us) refl
+pub applies_bind : (f : Value) (us : Values) → Lacks f → AllLack us → Matches Lacks (apply_bind f us) (apply_bind f us)
+applies_bind f none h g = returns (bound f undefined none) (both_lack (both_lack h refl) refl)
+applies_bind f (r and us) h g = let e = and_parts (lacks_all r) (values_lack us) g in returns (bound f r us) (both_lack (both_lack h e.0) e.1)
 
-pub types_name : (x : Text) (b : Binding) → Matches NotAll (typeof_name x b) (typeof_name x b)
+pub types_name : (x : Text) (b : Binding) → Matches Lacks (typeof_name x b) (typeof_name x b)
 types_name x free = asks (typeof_read x)
 types_name x changeable = bind (reads_name x changeable) (λ u h. asks (operator (codes "typeof") (u and none)))
 types_name x constant = bind (reads_name x constant) (λ u h. asks (operator (codes "typeof") (u and none)))
 types_name x (silent z) = bind (reads_name x (silent z)) (λ u h. asks (operator (codes "typeof") (u and none)))
 
-pub closed_matched : {r q : Result Reference} → Matched ReferenceNotAll r q → Matched ReferenceNotAll (closed_result r) (closed_result q)
+pub closed_matched : {r q : Result Reference} → Matched (Same ReferenceLacks) r q → Matched (Same ReferenceLacks) (closed_result r) (closed_result q)
 closed_matched (both_give h n) = both_give h n
-closed_matched (both_stop {m = cut} n) = both_give refl n
-closed_matched (both_stop {m = throws u} n) = both_stop n
-closed_matched (both_stop {m = waits} n) = both_stop n
-closed_matched (both_stop {m = uncallable} n) = both_stop n
-closed_matched (both_stop {m = unknown} n) = both_stop n
-closed_matched (both_stop {m = breaks l} n) = both_stop n
-closed_matched (both_stop {m = continues l} n) = both_stop n
-closed_matched (both_stop {m = out_of_turns} n) = both_stop n
-closed_matched (both_stop {m = faults z} n) = both_stop n
+closed_matched (both_stop {m = cut} k n) = both_give (same refl) n
+closed_matched (both_stop {m = throws u} k n) = both_stop k n
+closed_matched (both_stop {m = waits} k n) = both_stop k n
+closed_matched (both_stop {m = uncallable} k n) = both_stop k n
+closed_matched (both_stop {m = unknown} k n) = both_stop k n
+closed_matched (both_stop {m = breaks l} k n) = both_stop k n
+closed_matched (both_stop {m = continues l} k n) = both_stop k n
+closed_matched (both_stop {m = out_of_turns} k n) = both_stop k n
+closed_matched (both_stop {m = faults z} k n) = both_stop k n
 
-pub initialises : (u : Value) → NotAll u → (r : Reference) → Matches NotAll (initialise u r) (initialise u r)
+pub initialises : (u : Value) → Lacks u → (r : Reference) → Matches Lacks (initialise u r) (initialise u r)
 initialises u h (named x) = sets x u h
-initialises u h (property o k) = stopped unknown
-initialises u h (plain p) = stopped unknown
+initialises u h (property o k) = stopped unknown tt
+initialises u h (plain p) = stopped unknown tt
 
-pub settles : (lets : Bool) (r : Reference) → Matches NotAll (settle lets r) (settle lets r)
+pub settles : (lets : Bool) (r : Reference) → Matches Lacks (settle lets r) (settle lets r)
 settles true (named x) = sets x undefined refl
 settles true (property o k) = returns undefined refl
 settles true (plain p) = returns undefined refl
 settles false r = returns undefined refl
 
-first_not_all : (b : Bool) → CellNotAll (if b then holds undefined else unset)
+first_not_all : (b : Bool) → CellLacks (if b then holds undefined else unset)
 first_not_all true = refl
 first_not_all false = tt
 
 -- before a run each cell is unset or undefined
-pub first_cells : (ds : List Declared) (x : Text) → CellNotAll (cells_of ds x)
+pub first_cells : (ds : List Declared) (x : Text) → CellLacks (cells_of ds x)
 first_cells [] x = tt
 first_cells (d ∷ ds) x = one_of (bytes_eq x d.name) (first_cell d.kind) (cells_of ds x) (first_not_all (bytes_eq d.kind (codes "var"))) (first_cells ds x)

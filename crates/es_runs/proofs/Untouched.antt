@@ -4,13 +4,13 @@ use Rattle.std.specs.Prelude.{Bool, true, false, bytes_eq, if◌then◌else◌}
 use Rattle.es_tree.specs.Words.{Text}
 use Rattle.es_tree.specs.Core.{is_core_node}
 use Rattle.es_tree.specs.Fresh.{is_among}
-use Rattle.es_tree.specs.Names.{first_text, names_if, names_in_fields, names_in_field, names_in_trees, own_name, is_name_place, is_reexport}
+use Rattle.es_tree.specs.Names.{first_text, flag_at, names_if, names_in_fields, names_in_field, names_in_trees, own_name, is_name_place, is_reexport}
 use Rattle.es_tree.specs.Scopes.{is_written, target_names, written_by, writes}
 use Rattle.es_tree.specs.Tree.{Tree, node, Label, Fields, done, ◌then◌, Field, missing, one, many, statements, Trees, empty, ◌before◌, kind_of}
 use Rattle.es_tree.specs.Walks.{all_nodes, all_in_fields, all_in_field, all_in_trees, any_node, any_in_fields, any_in_field, any_in_trees}
 use Rattle.es_tree.specs.declared.ast_type.AstType.{AstType}
-use Rattle.es_tree.specs.declared.ast_type.AstType.TheVariants.{Program, Identifier, VariableDeclaration, VariableDeclarator, UnaryExpression, UpdateExpression, BinaryExpression, AssignmentExpression, MemberExpression, CallExpression, ChainExpression, ParenthesizedExpression}
-use Rattle.es_runs.specs.Alike.{Level, Need, needs, member_needs, unary_need, binary_needs, callee_then_values, the_callee, bad_names, is_bad, touches, touches_fields, touches_field, touches_nodes}
+use Rattle.es_tree.specs.declared.ast_type.AstType.TheVariants.{Program, Identifier, VariableDeclaration, VariableDeclarator, UnaryExpression, UpdateExpression, BinaryExpression, AssignmentExpression, MemberExpression, CallExpression, ChainExpression, ParenthesizedExpression, ObjectProperty, PatternProperty, TargetProperty}
+use Rattle.es_runs.specs.Alike.{Level, Need, needs, member_needs, unary_need, binary_needs, callee_then_values, key_then_value, the_callee, bad_names, is_bad, touches, touches_fields, touches_field, touches_nodes}
 use Rattle.es_runs.specs.Alike.Level.{no_evaluation, value_alone, whole_reference, a_callee, a_target, an_operand_of_typeof}
 use Rattle.es_runs.specs.Core.{UnaryClass, unary_class, flag, flag_after}
 use Rattle.es_runs.specs.Core.UnaryClass.{typeof_class, delete_class, void_class}
@@ -92,6 +92,11 @@ module _ (hidden steady : Text → Bool) where
   call_level false zero e = absurd (cc e)
   call_level optional (suc i) e = absurd (cc e)
 
+  key_level : (computed : Bool) (i : ℕ) → (key_then_value computed i).level ≡ a_target → ⊥
+  key_level true zero e = absurd (cc e)
+  key_level false zero e = absurd (cc e)
+  key_level computed (suc i) e = absurd (cc e)
+
   link_targets : (t : Tree) → is_link (kind_of t) ≡ true → Unsteady (target_names t)
   link_targets (node MemberExpression l fs) e y s = refl
   link_targets (node CallExpression l fs) e y s = refl
@@ -128,6 +133,9 @@ module _ (hidden steady : Text → Bool) where
   targets n ParenthesizedExpression l fs part stand formed written target = single_target _ fs formed (λ t e d. subst (λ gs. Unsteady (target_names (node ParenthesizedExpression l gs))) e (target d))
   targets n VariableDeclarator l fs part stand formed written target = absurd (cc part)
   targets n VariableDeclaration l fs part stand formed written target = absurd (cc part)
+  targets n ObjectProperty l fs part stand formed written target = no_targets _ fs (key_level (flag_at 2 l.flags))
+  targets n PatternProperty l fs part stand formed written target = no_targets _ fs (key_level (flag_at 1 l.flags))
+  targets n TargetProperty l fs part stand formed written target = no_targets _ fs (key_level (flag_at 1 l.flags))
   targets n _ l fs part stand formed written target = no_targets _ fs (λ i e. absurd (cc e))
 
   part_expression : (k : AstType) → is_part k ≡ true → is_expression k ≡ true

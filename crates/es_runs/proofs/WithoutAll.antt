@@ -9,7 +9,7 @@ use Rattle.es_tree.specs.Tree.{node}
 use Rattle.es_tree.specs.Tree.{done, ◌then◌}
 use Rattle.es_tree.specs.Tree.{missing, one, many, statements}
 use Rattle.es_tree.specs.Tree.{empty, ◌before◌}
-use Rattle.es_runs.specs.Machine.{Value, Values, M, return, Move, is_callable, is_nullish, is_true, is_null, is_undefined}
+use Rattle.es_runs.specs.Machine.{Value, Values, M, return, stop, Move, is_callable, is_nullish, is_true, is_null, is_undefined}
 use Rattle.es_runs.specs.Machine.Value.{undefined, null, boolean, number, bigint, text}
 use Rattle.es_runs.specs.Machine.Values.{none, ◌and◌}
 use Rattle.es_runs.specs.Machine.Question.{get, delete, put, construct, operator}
@@ -17,115 +17,116 @@ use Rattle.es_runs.specs.Machine.State.{state}
 use Rattle.es_runs.specs.Machine.Stop.{cut, uncallable, unknown}
 use Rattle.es_tree.specs.Names.{first_text as first}
 use Rattle.es_tree.specs.Scopes.{Declared}
-use Rattle.es_runs.specs.Core.{World, Reference, Meaning, Form, value, values, get_value, put_value, gives_value, nothing, literal, name, cut_where, word_of, key, pow_form, static_form, member_form, member, receiver, run_call, plain_call, apply_call, apply_bind, method_call, unmarked_call, call_value, chain, typeof_value, delete_value, void_form, UnaryClass, unary_by, unary_class, is_equality, compared, asked_binary, equality, binary, goes_right, logical, conditional, last_value, AssignClass, assigned, assign_class, assignment, without_last, update_at, in_order, declared, Part, of_one, of_two, of_three, of_many, of_one_many, of_declarator, of_program, number_form, meaning_of, meaning, parts, part, meanings, second, flag, flag_after}
+use Rattle.es_runs.specs.Core.{World, Binding, Reference, Meaning, Form, value, values, get_value, put_value, gives_value, nothing, literal, name, cut_where, word_of, key, pow_form, static_form, member_form, member, receiver, run_call, plain_call, apply_call, apply_bind, method_call, unmarked_call, call_value, chain, typeof_value, delete_value, void_form, UnaryClass, unary_by, unary_class, is_equality, compared, asked_binary, equality, binary, goes_right, logical, conditional, last_value, AssignClass, assigned, assign_class, assignment, without_last, update_at, in_order, declared, Part, of_one, of_two, of_three, of_many, of_one_many, of_declarator, of_program, number_form, meaning_of, meaning, parts, part, meanings, second, flag, flag_after}
 use Rattle.es_runs.specs.Core.UnaryClass.{typeof_class, delete_class, void_class, not_class, asked_class}
 use Rattle.es_runs.specs.Core.AssignClass.{plainly, logically, compound}
 use Rattle.es_runs.specs.Core.Reference.{named, property, plain}
 use Rattle.es_runs.specs.Core.Form.{word, null_form, void_zero, math_pow, member_call, member_bind, other}
 use Rattle.es_runs.specs.Core.Part.{absent, single, several}
-use Rattle.es_runs.specs.Runs.{world_of, run_where, cells_of, lacks_all, moves_lack, IsAssumed}
-use Rattle.es_runs.proofs.CoreWorlds.{core_world, core_means}
-use Rattle.es_runs.proofs.Lacking.{NotAll, Anything, ReferenceNotAll, Matches, same_result, not_all, bind, loosen, returns, stopped, choice, asks, reads_name, writes, calls, applies_call, applies_bind, types_name, closed_matched, initialises, settles, first_cells}
+use Rattle.es_runs.specs.Runs.{scope_of, run_where, cells_of, lacks_all, moves_lack, IsAssumed}
+use Rattle.es_runs.proofs.CoreWorlds.{core_means}
+use Rattle.es_runs.proofs.Lacking.{Lacks, AllLack, Anything, ReferenceLacks, MatchesBy, Matches, both_lack, same_result, not_all, bind, loosen, returns, stopped, choice, asks, reads_name, writes, calls, applies_call, applies_bind, types_name, closed_matched, initialises, settles, first_cells}
 
 -- the two meanings of a node: the same form, and evaluations that match
-record Matching (a b : Meaning) : Type 0 where
-  evaluation : Matches ReferenceNotAll a.reference b.reference
-  form : b.form ≡ a.form
+pub record Matching (a b : Meaning) : Type 0 where
+  pub evaluation : Matches ReferenceLacks a.reference b.reference
+  pub form : b.form ≡ a.form
 
-data AllMatching : List Meaning → List Meaning → Type 0 where
-  no_more : AllMatching [] []
-  one_more : {a b : Meaning} {xs ys : List Meaning} → Matching a b → AllMatching xs ys → AllMatching (a ∷ xs) (b ∷ ys)
+-- two lists alike at each place
+pub data AllBy {A : Type 0} (R : A → A → Type 0) : List A → List A → Type 0 where
+  no_more : AllBy R [] []
+  one_more : {a b : A} {xs ys : List A} → R a b → AllBy R xs ys → AllBy R (a ∷ xs) (b ∷ ys)
 
-data PartMatching : Part → Part → Type 0 where
+pub data PartMatching : Part → Part → Type 0 where
   absent_matching : PartMatching absent absent
   single_matching : {a b : Meaning} → Matching a b → PartMatching (single a) (single b)
-  several_matching : {xs ys : List Meaning} → AllMatching xs ys → PartMatching (several xs) (several ys)
+  several_matching : {xs ys : List Meaning} → AllBy Matching xs ys → PartMatching (several xs) (several ys)
 
-data PartsMatching : List Part → List Part → Type 0 where
-  no_part : PartsMatching [] []
-  one_part : {p q : Part} {ps qs : List Part} → PartMatching p q → PartsMatching ps qs → PartsMatching (p ∷ ps) (q ∷ qs)
-
-plain_matching : {m k : M Value} → Matches NotAll m k → Matching (gives_value m) (gives_value k)
+pub plain_matching : {m k : M Value} → Matches Lacks m k → Matching (gives_value m) (gives_value k)
 plain_matching h = record { evaluation = bind h (λ u n. returns (plain u) n); form = refl }
 
-literal_matching : (u : Value) (f : Form) → NotAll u → Matching (literal u f) (literal u f)
+pub literal_matching : (u : Value) (f : Form) → Lacks u → Matching (literal u f) (literal u f)
 literal_matching u f h = record { evaluation = returns (plain u) h; form = refl }
 
-nothing_matching : Matching nothing nothing
-nothing_matching = record { evaluation = stopped unknown; form = refl }
+pub nothing_matching : Matching nothing nothing
+nothing_matching = record { evaluation = stopped unknown tt; form = refl }
 
 name_matching : (x : Text) → Matching (name x) (name x)
 name_matching x = record { evaluation = returns (named x) tt; form = refl }
 
-one_not_all : (b : Bool) (x y : Value) → NotAll x → NotAll y → NotAll (if b then x else y)
-one_not_all true x y h g = h
-one_not_all false x y h g = g
+one_lacks : (b : Bool) (x y : Value) → Lacks x → Lacks y → Lacks (if b then x else y)
+one_lacks true x y h g = h
+one_lacks false x y h g = g
 
 -- PARTS
 
-one_matching : (f g : Meaning → Meaning) → ((a b : Meaning) → Matching a b → Matching (f a) (g b)) → {ps qs : List Part} → PartsMatching ps qs → Matching (of_one f ps) (of_one g qs)
-one_matching f g k (one_part (single_matching {a = a} {b = b} h) no_part) = k a b h
+one_matching : (f g : Meaning → Meaning) → ((a b : Meaning) → Matching a b → Matching (f a) (g b)) → {ps qs : List Part} → AllBy PartMatching ps qs → Matching (of_one f ps) (of_one g qs)
+one_matching f g k (one_more (single_matching {a = a} {b = b} h) no_more) = k a b h
 one_matching f g k _ = nothing_matching
 
-two_matching : (f g : Meaning → Meaning → Meaning) → ((a a' b b' : Meaning) → Matching a a' → Matching b b' → Matching (f a b) (g a' b')) → {ps qs : List Part} → PartsMatching ps qs → Matching (of_two f ps) (of_two g qs)
-two_matching f g k (one_part (single_matching {a = a} {b = a'} h) (one_part (single_matching {a = b} {b = b'} i) no_part)) = k a a' b b' h i
+two_matching : (f g : Meaning → Meaning → Meaning) → ((a a' b b' : Meaning) → Matching a a' → Matching b b' → Matching (f a b) (g a' b')) → {ps qs : List Part} → AllBy PartMatching ps qs → Matching (of_two f ps) (of_two g qs)
+two_matching f g k (one_more (single_matching {a = a} {b = a'} h) (one_more (single_matching {a = b} {b = b'} i) no_more)) = k a a' b b' h i
 two_matching f g k _ = nothing_matching
 
-three_matching : (f g : Meaning → Meaning → Meaning → Meaning) → ((a a' b b' c c' : Meaning) → Matching a a' → Matching b b' → Matching c c' → Matching (f a b c) (g a' b' c')) → {ps qs : List Part} → PartsMatching ps qs → Matching (of_three f ps) (of_three g qs)
-three_matching f g k (one_part (single_matching {a = a} {b = a'} h) (one_part (single_matching {a = b} {b = b'} i) (one_part (single_matching {a = c} {b = c'} j) no_part))) = k a a' b b' c c' h i j
+three_matching : (f g : Meaning → Meaning → Meaning → Meaning) → ((a a' b b' c c' : Meaning) → Matching a a' → Matching b b' → Matching c c' → Matching (f a b c) (g a' b' c')) → {ps qs : List Part} → AllBy PartMatching ps qs → Matching (of_three f ps) (of_three g qs)
+three_matching f g k (one_more (single_matching {a = a} {b = a'} h) (one_more (single_matching {a = b} {b = b'} i) (one_more (single_matching {a = c} {b = c'} j) no_more))) = k a a' b b' c c' h i j
 three_matching f g k _ = nothing_matching
 
-many_matching : (f g : List Meaning → Meaning) → ((xs ys : List Meaning) → AllMatching xs ys → Matching (f xs) (g ys)) → {ps qs : List Part} → PartsMatching ps qs → Matching (of_many f ps) (of_many g qs)
-many_matching f g k (one_part (several_matching {xs = xs} {ys = ys} h) no_part) = k xs ys h
+many_matching : (f g : List Meaning → Meaning) → ((xs ys : List Meaning) → AllBy Matching xs ys → Matching (f xs) (g ys)) → {ps qs : List Part} → AllBy PartMatching ps qs → Matching (of_many f ps) (of_many g qs)
+many_matching f g k (one_more (several_matching {xs = xs} {ys = ys} h) no_more) = k xs ys h
 many_matching f g k _ = nothing_matching
 
-one_many_matching : (f g : Meaning → List Meaning → Meaning) → ((a b : Meaning) (xs ys : List Meaning) → Matching a b → AllMatching xs ys → Matching (f a xs) (g b ys)) → {ps qs : List Part} → PartsMatching ps qs → Matching (of_one_many f ps) (of_one_many g qs)
-one_many_matching f g k (one_part (single_matching {a = a} {b = b} h) (one_part (several_matching {xs = xs} {ys = ys} i) no_part)) = k a b xs ys h i
+one_many_matching : (f g : Meaning → List Meaning → Meaning) → ((a b : Meaning) (xs ys : List Meaning) → Matching a b → AllBy Matching xs ys → Matching (f a xs) (g b ys)) → {ps qs : List Part} → AllBy PartMatching ps qs → Matching (of_one_many f ps) (of_one_many g qs)
+one_many_matching f g k (one_more (single_matching {a = a} {b = b} h) (one_more (several_matching {xs = xs} {ys = ys} i) no_more)) = k a b xs ys h i
 one_many_matching f g k _ = nothing_matching
 
 -- THE KINDS
 
-module _ (ds : List Declared) (this : Value) (lacks : NotAll this) where
-  -- where it counts as null, and where it doesn't
+-- a world of the core, where `document.all` counts as null, or not
+abbrev pub world_in : Bool → (Text → Binding) → Value → World
+world_in counts scope this = record { scope = scope; this = this; counts_all = counts; other = λ t. stop unknown; spreads = false }
+
+module _ (scope : Text → Binding) (this : Value) (lacks : Lacks this) where
+  -- where it counts, and where it doesn't
   abbrev w : World
-  w = world_of true this ds
+  w = world_in true scope this
 
   abbrev v : World
-  v = world_of false this ds
+  v = world_in false scope this
 
-  gets : (r : Reference) → ReferenceNotAll r → Matches NotAll (get_value w r) (get_value v r)
+  pub gets : (r : Reference) → ReferenceLacks r → Matches Lacks (get_value w r) (get_value v r)
   gets (named x) h = reads_name x (w.scope x)
   gets (property o k) h = asks (get o k)
   gets (plain u) h = returns u h
 
-  puts : (r : Reference) (u : Value) → NotAll u → Matches NotAll (put_value w r u) (put_value v r u)
+  pub puts : (r : Reference) (u : Value) → Lacks u → Matches Lacks (put_value w r u) (put_value v r u)
   puts (named x) u h = writes x u h (w.scope x)
   puts (property o k) u h = bind (asks (put o k u)) (λ z n. returns u h)
-  puts (plain p) u h = stopped unknown
+  puts (plain p) u h = stopped unknown tt
 
-  has_value : {a b : Meaning} → Matching a b → Matches NotAll (value w a) (value v b)
+  pub has_value : {a b : Meaning} → Matching a b → Matches Lacks (value w a) (value v b)
   has_value h = bind h.evaluation gets
 
-  all_values : {xs ys : List Meaning} → AllMatching xs ys → Matches Anything (values w xs) (values v ys)
-  all_values no_more = returns none tt
-  all_values (one_more h hs) = bind (has_value h) (λ u n. bind (all_values hs) (λ us t. returns (u and us) tt))
+  pub all_values : {xs ys : List Meaning} → AllBy Matching xs ys → Matches AllLack (values w xs) (values v ys)
+  all_values no_more = returns none refl
+  all_values (one_more h hs) = bind (has_value h) (λ u n. bind (all_values hs) (λ us t. returns (u and us) (both_lack n t)))
 
-  last_matches : (u : Value) → NotAll u → {xs ys : List Meaning} → AllMatching xs ys → Matches NotAll (last_value w u xs) (last_value v u ys)
+  last_matches : (u : Value) → Lacks u → {xs ys : List Meaning} → AllBy Matching xs ys → Matches Lacks (last_value w u xs) (last_value v u ys)
   last_matches u n no_more = returns u n
   last_matches u n (one_more h hs) = bind (has_value h) (λ x i. last_matches x i hs)
 
-  order_matches : {xs ys : List Meaning} → AllMatching xs ys → Matches NotAll (in_order w xs) (in_order v ys)
+  pub order_matches : {xs ys : List Meaning} → AllBy Matching xs ys → Matches Lacks (in_order w xs) (in_order v ys)
   order_matches no_more = returns undefined refl
   order_matches (one_more h hs) = bind (has_value h) (λ x i. order_matches hs)
 
-  declared_matches : (lets : Bool) {xs ys : List Meaning} → AllMatching xs ys → Matches NotAll (declared lets xs) (declared lets ys)
+  pub declared_matches : (lets : Bool) {xs ys : List Meaning} → AllBy Matching xs ys → Matches Lacks (declared lets xs) (declared lets ys)
   declared_matches lets no_more = returns undefined refl
   declared_matches lets (one_more h hs) = bind h.evaluation (λ r i. bind (settles lets r) (λ x n. declared_matches lets hs))
 
   -- members
 
-  cuts : {A : Type 0} {P : A → Type 0} (b : Bool) {m k : M A} → Matches P m k → Matches P (cut_where b m) (cut_where b k)
-  cuts true h = stopped cut
+  cuts : {A : Type 0} {R : A → A → Type 0} (b : Bool) {m k : M A} → MatchesBy R m k → MatchesBy R (cut_where b m) (cut_where b k)
+  cuts true h = stopped cut tt
   cuts false h = h
 
   key_matches : (computed : Bool) (a b : Meaning) → Matching a b → Matches Anything (key w computed a) (key v computed b)
@@ -147,34 +148,34 @@ module _ (ds : List Declared) (this : Value) (lacks : NotAll this) where
 
   member_matching : (computed optional : Bool) (a a' b b' : Meaning) → Matching a a' → Matching b b' → Matching (member w computed optional a b) (member v computed optional a' b')
   member_matching computed optional a a' b b' h g = record {
-    evaluation = bind (has_value h) (λ o n. cuts (optional && is_nullish o) (bind (key_matches computed b b' g) (λ k t. returns (property o k) tt)));
+    evaluation = bind (has_value h) (λ o n. cuts (optional && is_nullish o) (bind (key_matches computed b b' g) (λ k t. returns (property o k) n)));
     form = rw (h.form, g.form) (member_same computed optional a.form b.form);
   }
 
   -- calls
 
-  runs : (b : Bool) (f r : Value) {xs ys : List Meaning} → AllMatching xs ys → Matches NotAll (run_call w b xs f r) (run_call v b ys f r)
+  runs : (b : Bool) (f r : Value) {xs ys : List Meaning} → AllBy Matching xs ys → Matches Lacks (run_call w b xs f r) (run_call v b ys f r)
   runs true f r h = bind (all_values h) (λ us t. calls f r us)
-  runs false f r h = stopped uncallable
+  runs false f r h = stopped uncallable tt
 
-  plain_call_matches : (optional : Bool) {xs ys : List Meaning} → AllMatching xs ys → (r : Reference) → ReferenceNotAll r → Matches NotAll (plain_call w optional xs r) (plain_call v optional ys r)
+  pub plain_call_matches : (optional : Bool) {xs ys : List Meaning} → AllBy Matching xs ys → (r : Reference) → ReferenceLacks r → Matches Lacks (plain_call w optional xs r) (plain_call v optional ys r)
   plain_call_matches optional h r i = bind (gets r i) (λ f n. cuts (optional && is_nullish f) (runs (is_callable f) f (receiver r) h))
 
-  method_matches : (apply : Value → Values → M Value) → ((f : Value) (us : Values) → Matches NotAll (apply f us) (apply f us)) → {xs ys : List Meaning} → AllMatching xs ys → (r : Reference) → ReferenceNotAll r → Matches NotAll (method_call w apply xs r) (method_call v apply ys r)
+  method_matches : (apply : Value → Values → M Value) → ((f : Value) (us : Values) → Lacks f → AllLack us → Matches Lacks (apply f us) (apply f us)) → {xs ys : List Meaning} → AllBy Matching xs ys → (r : Reference) → ReferenceLacks r → Matches Lacks (method_call w apply xs r) (method_call v apply ys r)
   method_matches apply ok h (named x) i = plain_call_matches false h (named x) i
-  method_matches apply ok h (property o k) i = choice (is_callable o) (bind (all_values h) (λ us t. ok o us)) (plain_call_matches false h (property o k) i)
+  method_matches apply ok h (property o k) i = choice (is_callable o) (bind (all_values h) (λ us t. ok o us i t)) (plain_call_matches false h (property o k) i)
   method_matches apply ok h (plain u) i = plain_call_matches false h (plain u) i
 
-  unmarked_matches : (f : Form) {m k : M Reference} → Matches ReferenceNotAll m k → {xs ys : List Meaning} → AllMatching xs ys → Matches NotAll (unmarked_call w f m xs) (unmarked_call v f k ys)
+  unmarked_matches : (f : Form) {m k : M Reference} → Matches ReferenceLacks m k → {xs ys : List Meaning} → AllBy Matching xs ys → Matches Lacks (unmarked_call w f m xs) (unmarked_call v f k ys)
   unmarked_matches math_pow h (one_more g (one_more f no_more)) = bind (has_value g) (λ x n. bind (has_value f) (λ y i. asks (operator (codes "**") (x and y and none))))
   unmarked_matches math_pow h no_more = bind h (plain_call_matches false no_more)
   unmarked_matches math_pow h (one_more g no_more) = bind h (plain_call_matches false (one_more g no_more))
   unmarked_matches math_pow h (one_more g (one_more f (one_more e d))) = bind h (plain_call_matches false (one_more g (one_more f (one_more e d))))
-  unmarked_matches member_call h g = bind h (method_matches apply_call applies_call g)
+  unmarked_matches member_call h g = bind h (method_matches apply_call (λ f us n t. applies_call f us) g)
   unmarked_matches member_bind h g = bind h (method_matches apply_bind applies_bind g)
   unmarked_matches _ h g = bind h (plain_call_matches false g)
 
-  call_matches : (optional : Bool) (a b : Meaning) → Matching a b → {xs ys : List Meaning} → AllMatching xs ys → Matches NotAll (call_value w optional a xs) (call_value v optional b ys)
+  pub call_matches : (optional : Bool) (a b : Meaning) → Matching a b → {xs ys : List Meaning} → AllBy Matching xs ys → Matches Lacks (call_value w optional a xs) (call_value v optional b ys)
   call_matches true a b h g = bind h.evaluation (plain_call_matches true g)
   call_matches false a b h g = rw h.form (unmarked_matches a.form h.evaluation g)
 
@@ -183,12 +184,12 @@ module _ (ds : List Declared) (this : Value) (lacks : NotAll this) where
 
   -- operators
 
-  types : (r : Reference) → ReferenceNotAll r → Matches NotAll (typeof_value w r) (typeof_value v r)
+  types : (r : Reference) → ReferenceLacks r → Matches Lacks (typeof_value w r) (typeof_value v r)
   types (named x) h = types_name x (w.scope x)
   types (property o k) h = bind (asks (get o k)) (λ u n. asks (operator (codes "typeof") (u and none)))
   types (plain p) h = bind (gets (plain p) h) (λ u n. asks (operator (codes "typeof") (u and none)))
 
-  deletes : (r : Reference) → ReferenceNotAll r → Matches NotAll (delete_value w r) (delete_value v r)
+  deletes : (r : Reference) → ReferenceLacks r → Matches Lacks (delete_value w r) (delete_value v r)
   deletes (named x) h = bind (gets (named x) h) (λ u n. returns (boolean true) refl)
   deletes (property o k) h = asks (delete o k)
   deletes (plain p) h = bind (gets (plain p) h) (λ u n. returns (boolean true) refl)
@@ -200,14 +201,14 @@ module _ (ds : List Declared) (this : Value) (lacks : NotAll this) where
   unary_matching not_class op a b h = plain_matching (bind (has_value h) (λ u n. returns (boolean (not (is_true u))) refl))
   unary_matching asked_class op a b h = plain_matching (bind (has_value h) (λ u n. asks (operator op (u and none))))
 
-  asked_matches : (op : Text) (a a' b b' : Meaning) → Matching a a' → Matching b b' → Matches NotAll (asked_binary w op a b) (asked_binary v op a' b')
+  asked_matches : (op : Text) (a a' b b' : Meaning) → Matching a a' → Matching b b' → Matches Lacks (asked_binary w op a b) (asked_binary v op a' b')
   asked_matches op a a' b b' h g = bind (has_value h) (λ x n. bind (has_value g) (λ y i. asks (operator op (x and y and none))))
 
   -- here alone the two machines differ
-  silent_matches : (op : Text) (strictly : Value → Bool) (u : Value) → NotAll u → Matches NotAll (return (boolean (compared true op strictly u))) (return (boolean (compared false op strictly u)))
-  silent_matches op strictly u n = rw n (returns (boolean (compared true op strictly u)) refl)
+  silent_matches : (op : Text) (strictly : Value → Bool) (u : Value) → Lacks u → Matches Lacks (return (boolean (compared true op strictly u))) (return (boolean (compared false op strictly u)))
+  silent_matches op strictly u n = rw (not_all u n) (returns (boolean (compared true op strictly u)) refl)
 
-  equality_matches : (op : Text) (a a' b b' : Meaning) (f : Form) → Matching a a' → Matching b b' → Matches NotAll (equality w op a b f) (equality v op a' b' f)
+  equality_matches : (op : Text) (a a' b b' : Meaning) (f : Form) → Matching a a' → Matching b b' → Matches Lacks (equality w op a b f) (equality v op a' b' f)
   equality_matches op a a' b b' null_form h g = bind (has_value h) (silent_matches op is_null)
   equality_matches op a a' b b' void_zero h g = bind (has_value h) (silent_matches op is_undefined)
   equality_matches op a a' b b' _ h g = asked_matches op a a' b b' h g
@@ -221,7 +222,7 @@ module _ (ds : List Declared) (this : Value) (lacks : NotAll this) where
   conditional_matching : (a a' b b' c c' : Meaning) → Matching a a' → Matching b b' → Matching c c' → Matching (conditional w a b c) (conditional v a' b' c')
   conditional_matching a a' b b' c c' h g f = plain_matching (bind (has_value h) (λ u n. choice (is_true u) (has_value g) (has_value f)))
 
-  assigned_matches : (c : AssignClass) (op : Text) (a b : Meaning) → Matching a b → (r : Reference) → ReferenceNotAll r → Matches NotAll (assigned w c op a r) (assigned v c op b r)
+  assigned_matches : (c : AssignClass) (op : Text) (a b : Meaning) → Matching a b → (r : Reference) → ReferenceLacks r → Matches Lacks (assigned w c op a r) (assigned v c op b r)
   assigned_matches plainly op a b h r i = bind (has_value h) (puts r)
   assigned_matches logically op a b h r i = bind (gets r i) (λ x n. choice (goes_right (without_last op) x) (bind (has_value h) (puts r)) (returns x n))
   assigned_matches compound op a b h r i = bind (gets r i) (λ x n. bind (has_value h) (λ y j. bind (asks (operator (without_last op) (x and y and none))) (puts r)))
@@ -229,23 +230,23 @@ module _ (ds : List Declared) (this : Value) (lacks : NotAll this) where
   assignment_matching : (op : Text) (a a' b b' : Meaning) → Matching a a' → Matching b b' → Matching (assignment w op a b) (assignment v op a' b')
   assignment_matching op a a' b b' h g = plain_matching (bind h.evaluation (assigned_matches (assign_class op) op b b' g))
 
-  update_matches : (op : Text) (prefix : Bool) (r : Reference) → ReferenceNotAll r → Matches NotAll (update_at w op prefix r) (update_at v op prefix r)
+  update_matches : (op : Text) (prefix : Bool) (r : Reference) → ReferenceLacks r → Matches Lacks (update_at w op prefix r) (update_at v op prefix r)
   update_matches op prefix r i =
       bind (gets r i) (λ x n.
       bind (asks (operator (codes "numeric") (x and none))) (λ old j.
       bind (asks (operator op (old and none))) (λ new k.
-      bind (puts r new k) (λ z m. returns (if prefix then new else old) (one_not_all prefix new old k j)))))
+      bind (puts r new k) (λ z m. returns (if prefix then new else old) (one_lacks prefix new old k j)))))
 
-  declarator_parts : {ps qs : List Part} → PartsMatching ps qs → Matching (of_declarator w ps) (of_declarator v qs)
-  declarator_parts (one_part (single_matching h) (one_part absent_matching no_part)) = h
-  declarator_parts (one_part (single_matching h) (one_part (single_matching g) no_part)) = plain_matching (bind h.evaluation (λ r i. bind (has_value g) (λ u n. initialises u n r)))
+  declarator_parts : {ps qs : List Part} → AllBy PartMatching ps qs → Matching (of_declarator w ps) (of_declarator v qs)
+  declarator_parts (one_more (single_matching h) (one_more absent_matching no_more)) = h
+  declarator_parts (one_more (single_matching h) (one_more (single_matching g) no_more)) = plain_matching (bind h.evaluation (λ r i. bind (has_value g) (λ u n. initialises u n r)))
   declarator_parts _ = nothing_matching
 
-  program_parts : {ps qs : List Part} → PartsMatching ps qs → Matching (of_program w ps) (of_program v qs)
-  program_parts (one_part (several_matching h) (one_part (several_matching g) no_part)) = plain_matching (order_matches g)
+  program_parts : {ps qs : List Part} → AllBy PartMatching ps qs → Matching (of_program w ps) (of_program v qs)
+  program_parts (one_more (several_matching h) (one_more (several_matching g) no_more)) = plain_matching (order_matches g)
   program_parts _ = nothing_matching
 
-  kind_matching : (k : AstType) (ts : List (Option Text)) (fs : List Bool) {ps qs : List Part} → PartsMatching ps qs → Matching (meaning_of w k ts fs ps) (meaning_of v k ts fs qs)
+  pub kind_matching : (k : AstType) (ts : List (Option Text)) (fs : List Bool) {ps qs : List Part} → AllBy PartMatching ps qs → Matching (meaning_of w k ts fs ps) (meaning_of v k ts fs qs)
   kind_matching Identifier ts fs h = name_matching (first ts)
   kind_matching ThisExpression ts fs h = literal_matching this other lacks
   kind_matching NullLiteral ts fs h = literal_matching null null_form refl
@@ -273,11 +274,11 @@ module _ (ds : List Declared) (this : Value) (lacks : NotAll this) where
 
   mutual
     node_matching : (a : Tree) → Matching (meaning w a) (meaning v a)
-    node_matching (node k l fs) = rw (core_means w (core_world _ _ _) k l fs, core_means v (core_world _ _ _) k l fs) (kind_matching k l.texts l.flags (fields_matching fs))
+    node_matching (node k l fs) = rw (core_means w (record { other = λ t. refl; spreads = refl }) k l fs, core_means v (record { other = λ t. refl; spreads = refl }) k l fs) (kind_matching k l.texts l.flags (fields_matching fs))
 
-    fields_matching : (fs : Fields) → PartsMatching (parts w fs) (parts v fs)
-    fields_matching done = no_part
-    fields_matching (f then fs) = one_part (field_matching f) (fields_matching fs)
+    fields_matching : (fs : Fields) → AllBy PartMatching (parts w fs) (parts v fs)
+    fields_matching done = no_more
+    fields_matching (f then fs) = one_more (field_matching f) (fields_matching fs)
 
     field_matching : (f : Field) → PartMatching (part w f) (part v f)
     field_matching missing = absent_matching
@@ -285,16 +286,13 @@ module _ (ds : List Declared) (this : Value) (lacks : NotAll this) where
     field_matching (many ns) = several_matching (nodes_matching ns)
     field_matching (statements ns) = several_matching (nodes_matching ns)
 
-    nodes_matching : (ns : Trees) → AllMatching (meanings w ns) (meanings v ns)
+    nodes_matching : (ns : Trees) → AllBy Matching (meanings w ns) (meanings v ns)
     nodes_matching empty = no_more
     nodes_matching (n before ns) = one_more (node_matching n) (nodes_matching ns)
 
-  run_same : (p : Tree) (moves : List Move) → moves_lack moves ≡ true → run_where true ds p this moves ≡ run_where false ds p this moves
-  run_same p moves h = same_result (has_value (node_matching p) (state (cells_of ds) moves []) (first_cells ds, h))
-
 -- Where neither `this` nor a move has `document.all`, a run is the same whether it counts as null for `==` or not.
 pub without_all : (ds : List Declared) (p : Tree) (this : Value) (moves : List Move) → lacks_all this ≡ true → moves_lack moves ≡ true → run_where true ds p this moves ≡ run_where false ds p this moves
-without_all ds p this moves h g = run_same ds this (not_all this h) p moves g
+without_all ds p this moves h g = same_result (has_value (scope_of ds) this h (node_matching (scope_of ds) this h p) (state (cells_of ds) moves []) (first_cells ds, g))
 
 -- Under the assumption that no value is `document.all`, or without it, a run is that of the machine that goes with it.
 pub run_assumed : (no_all : Bool) (ds : List Declared) (p : Tree) (this : Value) (moves : List Move) → IsAssumed no_all this moves → run_where true ds p this moves ≡ run_where (not no_all) ds p this moves

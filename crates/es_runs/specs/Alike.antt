@@ -3,7 +3,7 @@ use Rattle.std.specs.Prelude.{◌≡◌, ℕ, zero, suc, Bool, true, false, List
 use Rattle.es_tree.specs.Words.{Text}
 use Rattle.es_tree.specs.declared.ast_type.AstType.{AstType}
 use Rattle.es_tree.specs.Tree.{Tree, Fields, Field, Trees, Label}
-use Rattle.es_tree.specs.declared.ast_type.AstType.TheVariants.{Identifier, UnaryExpression, UpdateExpression, BinaryExpression, AssignmentExpression, MemberExpression, CallExpression, ChainExpression, ParenthesizedExpression, VariableDeclarator, VariableDeclaration}
+use Rattle.es_tree.specs.declared.ast_type.AstType.TheVariants.{Identifier, UnaryExpression, UpdateExpression, BinaryExpression, AssignmentExpression, MemberExpression, CallExpression, ChainExpression, ParenthesizedExpression, VariableDeclarator, VariableDeclaration, ObjectProperty, PatternProperty, TargetProperty}
 use Rattle.es_tree.specs.Tree.{node}
 use Rattle.es_tree.specs.Tree.{done, ◌then◌}
 use Rattle.es_tree.specs.Tree.{missing, one, many, statements}
@@ -17,7 +17,7 @@ use Rattle.es_runs.specs.Machine.State.{state}
 use Rattle.es_runs.specs.Machine.Stop.{uncallable, faults}
 use Rattle.es_runs.specs.Machine.Cell.{unset, holds}
 use Rattle.es_runs.specs.Machine.Result.{gives, stops}
-use Rattle.es_tree.specs.Names.{first_text as first}
+use Rattle.es_tree.specs.Names.{first_text as first, flag_at}
 use Rattle.es_runs.specs.Core.{World, Reference, Meaning, value, flag, flag_after, is_equality, typeof_value, UnaryClass, unary_class, Called, callee_from}
 use Rattle.es_runs.specs.Core.UnaryClass.{typeof_class, delete_class, void_class}
 use Rattle.es_runs.specs.Core.Reference.{named, property, plain}
@@ -178,6 +178,11 @@ abbrev pub callee_then_values : Need → ℕ → Need
 callee_then_values n zero = n
 callee_then_values n (suc i) = the_value
 
+-- a key that isn't computed is told, and not evaluated
+abbrev pub key_then_value : Bool → ℕ → Need
+key_then_value computed zero = key_need computed
+key_then_value computed (suc i) = the_value
+
 -- what a chain takes of its content: `typeof` of a chain takes the reference of what stands in it
 abbrev pub content_level : Level → Level
 content_level Level.an_operand_of_typeof = Level.whole_reference
@@ -195,6 +200,9 @@ needs need ChainExpression ts fs i = record { level = content_level need.level; 
 needs need ParenthesizedExpression ts fs i = record { level = need.level; form = false }
 needs need VariableDeclarator ts fs i = callee_then_values the_target i
 needs need VariableDeclaration ts fs i = record { level = Level.a_target; form = false }
+needs need ObjectProperty ts fs i = key_then_value (flag_at 2 fs) i
+needs need PatternProperty ts fs i = key_then_value (flag_at 1 fs) i
+needs need TargetProperty ts fs i = key_then_value (flag_at 1 fs) i
 needs need _ ts fs i = the_value
 
 abbrev pub is_bad : (Level → Text → Bool) → Level → AstType → List (Option Text) → Bool
