@@ -43,7 +43,7 @@ use Rattle.es_statement_runs.specs.Places.Close.{placed, within}
 use Rattle.es_statement_runs.specs.Places.CloseFields.{close_done, close_then}
 use Rattle.es_statement_runs.specs.Places.CloseField.{close_missing, close_one, close_many, close_statements}
 use Rattle.es_statement_runs.specs.Places.CloseTrees.{close_empty, close_before}
-use Rattle.es_statement_runs.specs.Runs.{silent_or, program_scope, program_world, start_cells, RunAlike}
+use Rattle.es_statement_runs.specs.Runs.{silent_or, program_scope, program_world, world_where, start_cells, RunAlike}
 use Rattle.es_statement_runs.specs.BareVars.{BareDeclarators, BareVar, Beside, BesideFields, BesideField, BesideTrees, BesideList, names_around}
 use Rattle.es_statement_runs.specs.BareVars.BareDeclarators.{none_bare, one_bare}
 use Rattle.es_statement_runs.specs.BareVars.BareVar.{bare_var}
@@ -58,7 +58,7 @@ use Rattle.es_statement_runs.proofs.KindsAlike.{inner, inner_same}
 use Rattle.es_statement_runs.proofs.SensesAlike.{begun_like, ends_like, only_like, parts_like}
 use Rattle.es_statement_runs.proofs.Everywhere.{both_left, both_right, close_self, not_so, visible_good, within_like}
 use Rattle.es_statement_runs.proofs.OwnCells.{first_apart}
-use Rattle.es_statement_runs.proofs.RunLaws.{same_run}
+use Rattle.es_statement_runs.proofs.WithoutAll.{alike_where}
 use Rattle.es_statement_runs.proofs.Programs.{unsilent_scope}
 use Rattle.es_statement_runs.proofs.TopVars.{temporaries_apart}
 
@@ -190,13 +190,13 @@ module _ (F : Frame) (quiet : Quiet F) (stack : StackSeen F) (bad : Level → Te
       Alike F Equal (value w (sense (placed_at o w [] []) (program l ds body)).core) (value v (sense (placed_at o v [] []) (program l ds after)).core)
   beside_program l ds es {body = body} h uses w v same e = rw uses ((ends_like F quiet w v same value_taken (beside_begun h same e (stack_alike F quiet (using_in body) (λ _. stack) (beside_list h (both_at same e))))).core.evaluation)
 
-  -- The general law: what is asked of rows, and of the two programs.
-  pub beside_run : (l : Label) (ds body after : Trees) → BesideList bad R (top_in body) true body after → using_in after ≡ using_in body →
-      ((this : Value) → SameWorld F.hidden (program_world o this (program l ds body)) (program_world o this (program l ds after))) → ((this : Value) → Known (top_in body) (program_world o this (program l ds body)) (program_world o this (program l ds after))) →
+  -- The general law: what is asked of rows, and of the two programs, in the worlds where `document.all` counts, or where it doesn't and none is met.
+  pub beside_run_where : (no_all : Bool) (l : Label) (ds body after : Trees) → BesideList bad R (top_in body) true body after → using_in after ≡ using_in body →
+      ((this : Value) → SameWorld F.hidden (world_where (not no_all) o this (program l ds body)) (world_where (not no_all) o this (program l ds after))) → ((this : Value) → Known (top_in body) (world_where (not no_all) o this (program l ds body)) (world_where (not no_all) o this (program l ds after))) →
       ((n : ℕ) (moves : List Move) → Agree F (state (start_cells n (top_in body)) moves []) (state (start_cells n (top_in after)) moves [])) →
-      ((x : Text) → is_declared (top_in body) x ≡ true → F.hidden x ≡ false) → RunAlike o false (program l ds body) (program l ds after)
-  beside_run l ds body after h uses same known start counts n this moves assumed t ms in_sight = same_run F (is_declared (top_in body)) counts in_sight
-      (beside_program l ds (top_in body) h uses (program_world o this (program l ds body)) (program_world o this (program l ds after)) (same this) (known this) _ _ (start n moves))
+      ((x : Text) → is_declared (top_in body) x ≡ true → F.hidden x ≡ false) → RunAlike o no_all (program l ds body) (program l ds after)
+  beside_run_where no_all l ds body after h uses same known start counts = alike_where F no_all o (program l ds body) (program l ds after) counts
+      (λ n this moves. beside_program l ds (top_in body) h uses (world_where (not no_all) o this (program l ds body)) (world_where (not no_all) o this (program l ds after)) (same this) (known this) _ _ (start n moves))
 
 -- TREES THAT ARE CLOSE, such as a tree that avoids what is bad and itself
 
@@ -325,9 +325,9 @@ module _ (hidden : Text → Bool) where
     pub start_same : (n : ℕ) (moves : List Move) → Agree (any_cells hidden) (state (start_cells n ds) moves []) (state (start_cells n es) moves [])
     start_same n moves = agree (λ y h. ap (λ (c : Cell). if bytes_eq y turns_cell then holds (own (count n)) else c) (cell_same y h)) (λ y h. tt) (λ y h. tt)
 
-  pub top_worlds : (u : Supply) (l : Label) (ds body after : Trees) → ((y : Text) → hidden y ≡ false → kind_in (top_in after) y ≡ kind_in (top_in body) y) → silent_names u (program l ds after) ≡ silent_names u (program l ds body) → (this : Value) →
-      SameWorld hidden (program_world u this (program l ds body)) (program_world u this (program l ds after))
-  top_worlds u l ds body after tops silents this = record {
+  pub top_worlds : (counts : Bool) (u : Supply) (l : Label) (ds body after : Trees) → ((y : Text) → hidden y ≡ false → kind_in (top_in after) y ≡ kind_in (top_in body) y) → silent_names u (program l ds after) ≡ silent_names u (program l ds body) → (this : Value) →
+      SameWorld hidden (world_where counts u this (program l ds body)) (world_where counts u this (program l ds after))
+  top_worlds counts u l ds body after tops silents this = record {
     scope = λ y h. ap (λ (es : List (Text × Silent)). silent_or (entry es y) (scope_of (top_in after) y)) silents ∙ ap (λ (b : Binding). silent_or (entry (silent_names u (program l ds body)) y) b) (bound_same (top_in body) (top_in after) tops y h);
     this = refl;
     counts = refl;
@@ -343,8 +343,8 @@ law_vars_proof u xs l ds body after rows tops apart silents unsilent math progra
     let bad : Level → Text → Bool = bad_names hidden none_hidden in
     let quiet : Quiet F = record { own_seen = λ y e i. record { hidden = temporaries_apart xs program_names y e; frozen = refl; loose = refl }; math = math } in
     let stack : StackSeen F = record { hidden = temporaries_apart xs program_names stack_cell refl; frozen = refl; loose = refl } in
-    beside_run F quiet stack bad (λ n x h. h) u seen (λ es w v. Unsaid hidden w v) (λ es w v same h. said_alike_from F u w v same h) (λ ds es vis w v h. unsaid_inside hidden es w v h) (λ es. no_row) (λ es t a b i. absurd i) l ds body after rows (using_list bad rows)
-    (top_worlds hidden u l ds body after tops silents) (unsaid_programs u xs (program l ds body) (program l ds after) silents unsilent) (start_same hidden (top_in body) (top_in after) tops) apart
+    beside_run_where F quiet stack bad (λ n x h. h) u seen (λ es w v. Unsaid hidden w v) (λ es w v same h. said_alike_from F u w v same h) (λ ds es vis w v h. unsaid_inside hidden es w v h) (λ es. no_row) (λ es t a b i. absurd i) false l ds body after rows (using_list bad rows)
+    (top_worlds hidden true u l ds body after tops silents) (unsaid_programs u xs (program l ds body) (program l ds after) silents unsilent) (start_same hidden (top_in body) (top_in after) tops) apart
 
 -- WHERE THE TOP DECLARES SOME OF THESE NAMES MORE, in whatever order, what the law asks of the tops holds
 

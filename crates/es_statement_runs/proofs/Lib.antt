@@ -58,3 +58,9 @@ pub mod ValidNodes
 pub mod ValidProof
 pub mod ValidInstances
 pub mod OperandInstances
+pub mod LackingStatements
+pub mod LackingPatterns
+pub mod LackingSenses
+pub mod LackingKinds
+pub mod SilentEntries
+pub mod WithoutAll

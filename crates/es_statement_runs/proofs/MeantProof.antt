@@ -1,5 +1,5 @@
 -- A program that means something never ends without meaning.
-use Rattle.std.proofs.Common.{◌≡◌, refl, sym, subst, List, [], ◌∷◌, ◌++◌, ap}
+use Rattle.std.proofs.Common.{◌≡◌, refl, sym, subst, List, [], ◌∷◌, ap}
 use Rattle.std.specs.Prelude.{ℕ, zero, suc, Bool, true, false, not, ◌&&◌, ◌||◌, Option, Some, None, codes, bytes_eq, if◌then◌else◌}
 use Rattle.es_tree.specs.Words.{Text}
 use Rattle.es_tree.specs.Names.{flag_at, first_text as first}
@@ -31,6 +31,8 @@ use Rattle.es_statement_runs.specs.Meant.Role.{a_value, a_target, a_head}
 use Rattle.es_statement_runs.specs.Meant.Nature.{value_like}
 use Rattle.es_statement_runs.proofs.Fine.{Fine, Means, Any, weaker, from_cuts, return_fine, stop_fine, then_fine, choice_fine, ask_fine, value_fine, plain_fine, order_fine}
 use Rattle.es_statement_runs.proofs.FineStatements.{stack_where_fine, in_scope_fine, outside_fine, looped_fine, go_on_fine, labelled_fine, each_fine, switched_fine, collected_fine, default_put_fine, property_fine, object_fine, array_fine}
+use Rattle.es_statement_runs.proofs.SilentEntries.{Entries, both_entries, list_entries}
+use Rattle.es_statement_runs.proofs.SilentEntries.Entries.{no_entry, entry_and}
 use Rattle.es_statement_runs.proofs.MeantKinds.{Valued, Gives, quiet, quiet_putter, putter_fine, head_fine, member_fine, new_fine, unary_fine, binary_fine, logical_fine, conditional_fine, sequence_fine, assignment_fine, update_fine, declarator_fine, chain_fine, tagged_fine, ended, assigned_valued}
 use Rattle.es_runs.specs.Machine.{Stop, Result, State, set_cell}
 use Rattle.es_runs.specs.Machine.Stop.{throws, faults, waits, uncallable, cut, unknown, out_of_turns}
@@ -47,8 +49,8 @@ use Rattle.es_statement_runs.proofs.MeantParts.KeyAt.{key_at}
 use Rattle.std.proofs.lemmas.Slice.Eq.{bytes_eq-Decides}
 use Rattle.es_runs.specs.Machine.{Move}
 use Rattle.es_runs.specs.Machine.State.{state}
-use Rattle.es_statement_runs.specs.Helpers.{entry, silent_names, helper_names, constant_where, constant_by, constants_by, constants_in, binds_constant, texts_of, program_list}
-use Rattle.es_statement_runs.specs.Runs.{silent_or, program_world, place_of, outcome, start_cells}
+use Rattle.es_statement_runs.specs.Helpers.{entry, silent_names, helper_names, program_list}
+use Rattle.es_statement_runs.specs.Runs.{silent_or, program_world, world_where, place_of, outcome, start_cells}
 use Rattle.es_statement_runs.specs.Runs.Outcome.{meaningless}
 use Rattle.es_statement_runs.specs.Names.{declared_at_top}
 use Rattle.es_runs.specs.Core.{Silent}
@@ -267,42 +269,15 @@ module _ (S : Supply) where
 
 -- THE NAMES OF THE TOP: where none stands for a helper, some may stand for keys
 
-data AllKeys : List (Text × Silent) → Type 0 where
-  no_keys : AllKeys []
-  keys_and : {x : Text} {vs : Values} {es : List (Text × Silent)} → AllKeys es → AllKeys ((x, keys_name vs) ∷ es)
+abbrev IsKeys : Silent → Type 0
+IsKeys (helper_name h) = ⊥
+IsKeys (keys_name vs) = Unit {0}
 
-both_keys : {es ds : List (Text × Silent)} → AllKeys es → AllKeys ds → AllKeys (es ++ ds)
-both_keys no_keys g = g
-both_keys (keys_and h) g = keys_and (both_keys h g)
-
-where_keys : (x : Text) (b : Bool) (o : Option Values) → AllKeys (constant_where x b o)
-where_keys x true (Some vs) = keys_and no_keys
-where_keys x true None = no_keys
-where_keys x false o = no_keys
-
-choice_keys : (b : Bool) {es : List (Text × Silent)} → AllKeys es → AllKeys (if b then es else [])
-choice_keys true h = h
-choice_keys false h = no_keys
-
-module _ (u : Supply) (hs : List (Text × Silent)) (p : Tree) where
-  by_keys : (d : Tree) → AllKeys (constant_by u hs p d)
-  by_keys (node Rattle.es_tree.specs.declared.ast_type.AstType.TheVariants.VariableDeclarator l (one x then (one (node Rattle.es_tree.specs.declared.ast_type.AstType.TheVariants.ArrayExpression m es) then done))) = where_keys _ _ (texts_of es)
-  by_keys _ = no_keys
-
-  declarators_keys : (ds : Trees) → AllKeys (constants_by u hs p ds)
-  declarators_keys empty = no_keys
-  declarators_keys (d before ds) = both_keys (by_keys d) (declarators_keys ds)
-
-  list_keys : (ts : Trees) → AllKeys (constants_in u hs p ts)
-  list_keys empty = no_keys
-  list_keys (node Rattle.es_tree.specs.declared.ast_type.AstType.TheVariants.VariableDeclaration l (many ds then fs) before ts) = both_keys (choice_keys (binds_constant (first l.texts)) (declarators_keys ds)) (list_keys ts)
-  list_keys (t before ts) = list_keys ts
-
-silent_keys : (u : Supply) (p : Tree) → helper_names u p ≡ [] → AllKeys (silent_names u p)
-silent_keys no_helpers p h = no_keys
-silent_keys by_global p h = both_keys (subst AllKeys (sym h) no_keys) (list_keys by_global (helper_names by_global p) p (program_list p))
-silent_keys (by_import m) p h = both_keys (subst AllKeys (sym h) no_keys) (list_keys (by_import m) (helper_names (by_import m) p) p (program_list p))
-silent_keys (by_require m) p h = both_keys (subst AllKeys (sym h) no_keys) (list_keys (by_require m) (helper_names (by_require m) p) p (program_list p))
+silent_keys : (u : Supply) (p : Tree) → helper_names u p ≡ [] → Entries IsKeys (silent_names u p)
+silent_keys no_helpers p h = no_entry
+silent_keys by_global p h = both_entries IsKeys (subst (Entries IsKeys) (sym h) no_entry) (list_entries IsKeys (λ vs k. tt) by_global (helper_names by_global p) p (program_list p))
+silent_keys (by_import m) p h = both_entries IsKeys (subst (Entries IsKeys) (sym h) no_entry) (list_entries IsKeys (λ vs k. tt) (by_import m) (helper_names (by_import m) p) p (program_list p))
+silent_keys (by_require m) p h = both_entries IsKeys (subst (Entries IsKeys) (sym h) no_entry) (list_entries IsKeys (λ vs k. tt) (by_require m) (helper_names (by_require m) p) p (program_list p))
 
 scope_not : (ds : List Declared) (x t : Text) → scope_of ds x ≡ silent (helper_name t) → ⊥
 scope_not [] x t e = absurd (cc e)
@@ -312,16 +287,17 @@ scope_not (d ∷ ds) x t e = at (bytes_eq x d.name) (λ i. scope_not ds x t i) e
     at true g i = binding_not d.kind t i
     at false g i = g i
 
-entry_not : {es : List (Text × Silent)} → AllKeys es → (b : Binding) (x t : Text) → (b ≡ silent (helper_name t) → ⊥) → silent_or (entry es x) b ≡ silent (helper_name t) → ⊥
-entry_not no_keys b x t g e = g e
-entry_not (keys_and {x = y} {vs = vs} {es = es} h) b x t g e = at (bytes_eq y x) (λ i. entry_not h b x t g i) e
+entry_not : {es : List (Text × Silent)} → Entries IsKeys es → (b : Binding) (x t : Text) → (b ≡ silent (helper_name t) → ⊥) → silent_or (entry es x) b ≡ silent (helper_name t) → ⊥
+entry_not no_entry b x t g e = g e
+entry_not (entry_and {s = helper_name t} k h) b x u g e = absurd k
+entry_not (entry_and {x = y} {s = keys_name vs} {es = es} k h) b x t g e = at (bytes_eq y x) (λ i. entry_not h b x t g i) e
   where
     at : (z : Bool) → (silent_or (entry es x) b ≡ silent (helper_name t) → ⊥) → silent_or (if z then Some (keys_name vs) else entry es x) b ≡ silent (helper_name t) → ⊥
     at true k i = absurd (cc i)
     at false k i = k i
 
-pub top_free : (u : Supply) (p : Tree) (this : Value) → helper_names u p ≡ [] → HelperFree (program_world u this p)
-top_free u p this h = record { none_named = λ x t e. entry_not (silent_keys u p h) (scope_of (declared_at_top p) x) x t (λ i. scope_not (declared_at_top p) x t i) e }
+pub top_free : (counts : Bool) (u : Supply) (p : Tree) (this : Value) → helper_names u p ≡ [] → HelperFree (world_where counts u this p)
+top_free counts u p this h = record { none_named = λ x t e. entry_not (silent_keys u p h) (scope_of (declared_at_top p) x) x t (λ i. scope_not (declared_at_top p) x t i) e }
 
 -- THE LAW
 
@@ -340,4 +316,4 @@ never (fine_stops {w = continues []} k h) e = absurd (cc k)
 never (fine_stops {w = continues (l ∷ ls)} k h) e = absurd (cc k)
 
 pub law_meant_proof : LawMeant
-law_meant_proof u n p h g this moves = never {A = Any} (value_fine (program_world u this p) (sense (place_of u this p) p).core (tree_sound u p (as_role a_value false) [] [] h (spotted (top_free u p this g))).reference (state (start_cells n (declared_at_top p)) moves []) tt)
+law_meant_proof u n p h g this moves = never {A = Any} (value_fine (program_world u this p) (sense (place_of u this p) p).core (tree_sound u p (as_role a_value false) [] [] h (spotted (top_free true u p this g))).reference (state (start_cells n (declared_at_top p)) moves []) tt)

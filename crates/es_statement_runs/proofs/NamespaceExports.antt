@@ -14,7 +14,7 @@ use Rattle.es_runs.specs.Core.Binding.{changeable, constant, free}
 use Rattle.es_runs.specs.Alike.{Frame, Alike, Equal, SameWorld, Level, bad_names}
 use Rattle.es_runs.specs.Runs.{binding_of, is_declared, none_hidden, program, scope_of}
 use Rattle.es_runs.proofs.Basic.{ask_alike, return_alike, then_alike}
-use Rattle.es_statement_runs.specs.Alike.{Told, Quiet, StackSeen, SenseLike}
+use Rattle.es_statement_runs.specs.Alike.{Quiet, StackSeen, SenseLike}
 use Rattle.es_statement_runs.specs.Alike.SensesLike.{no_sense, sense_and}
 use Rattle.es_statement_runs.specs.Helpers.{Supply}
 use Rattle.es_statement_runs.specs.Kinds.{found, kind_in, sense, senses}
@@ -31,8 +31,6 @@ use Rattle.es_statement_runs.proofs.BareVars.Places.{both_at}
 use Rattle.es_statement_runs.proofs.Catches.{hide_set}
 use Rattle.es_statement_runs.proofs.TopVars.{temporaries_apart}
 use Rattle.es_statement_runs.proofs.Combinators.{stack_alike}
-use Rattle.es_statement_runs.proofs.Everywhere.{close_like, close_self}
-use Rattle.es_statement_runs.proofs.Everywhere.PlaceLike.{place_like}
 use Rattle.es_statement_runs.proofs.Programs.{unsilent_scope}
 use Rattle.es_statement_runs.proofs.RunLaws.{same_run}
 use Rattle.es_statement_runs.proofs.SensesAlike.{begun_like, ends_like, label_text}
@@ -98,6 +96,6 @@ law_namespace_exports_proof u xs l ds body after rows tops apart silents unsilen
     let quiet : Quiet (any_cells hidden) = record { own_seen = λ y e i. record { hidden = temporaries_apart xs program_names y e; frozen = refl; loose = refl }; math = math } in
     let stack : StackSeen (any_cells hidden) = record { hidden = temporaries_apart xs program_names stack_cell refl; frozen = refl; loose = refl } in
     same_run (any_cells hidden) (is_declared (top_in body)) apart in_sight
-    (split_program u xs quiet stack seen (program_world u this (program l ds body)) (program_world u this (program l ds after)) (top_worlds hidden u l ds body after tops silents this) (unsaid_programs u xs (program l ds body) (program l ds after) silents unsilent this)
+    (split_program u xs quiet stack seen (program_world u this (program l ds body)) (program_world u this (program l ds after)) (top_worlds hidden true u l ds body after tops silents this) (unsaid_programs u xs (program l ds body) (program l ds after) silents unsilent this)
     (λ x e m k. rw (unsilent_scope u (program l ds after) x (ap (λ es. is_silent es x) silents ∙ unsilent x e)) (asks_declared (top_in after) x m k))
     l ds rows (using_split rows) _ _ (start_same hidden (top_in body) (top_in after) tops n moves))

@@ -1,5 +1,5 @@
 -- The laws of rows over whatever operands at some programs, so that it is seen that their premises can be met.
-use Rattle.std.proofs.Common.{refl, []}
+use Rattle.std.proofs.Common.{◌≡◌, refl, []}
 use Rattle.std.specs.Prelude.{Bool, true, false, ◌∷◌, Some, codes}
 use Rattle.es_tree.specs.Words.{Text}
 use Rattle.es_tree.specs.declared.ast_type.AstType.TheVariants.{ArrayExpression, ArrayTarget, AssignmentExpression, ChainExpression, MemberExpression, SpreadElement, ThisExpression, WhileStatement, SwitchCase, SwitchStatement}
@@ -11,7 +11,7 @@ use Rattle.es_runs.specs.Exponentiation.ExponentiationRule.{power_assignment}
 use Rattle.es_runs.specs.Exponentiation.TargetTwice.{bound_name}
 use Rattle.es_runs.specs.LogicalAssignment.{assigned_where}
 use Rattle.es_runs.specs.LogicalAssignment.LogicalAssignmentRule.{to_static_member}
-use Rattle.es_runs.specs.OptionalChaining.{where_short, null_checks, member_at}
+use Rattle.es_runs.specs.OptionalChaining.{has_tests, where_short, null_checks, member_at}
 use Rattle.es_runs.specs.OptionalChaining.OptionalChainingRule.{by_tests}
 use Rattle.es_runs.specs.OptionalChaining.Walked.{base, marked_member}
 use Rattle.es_runs.specs.OptionalChaining.Continued.{same_spine}
@@ -62,32 +62,40 @@ marked_at = made [] (true ∷ true ∷ [])
 abbrev chain_source : Tree
 chain_source = node ChainExpression bare (one (node MemberExpression marked_at (one a_ then one spread_list then done)) then done)
 
-abbrev chain_target : Tree
-chain_target = where_short bare (null_checks false a_ a_) void_zero_node (member_at marked_at true a_ spread_list)
+-- with two strict tests, or with a loose one
+abbrev chain_target : Bool → Tree
+chain_target no_all = where_short bare (null_checks no_all a_ a_) void_zero_node (member_at marked_at true a_ spread_list)
 
-chain_rows : CloseTrees no_bad (RowsOver no_bad chaining [] 1 []) body_needs (looping chain_source) (looping chain_target)
-chain_rows = close_before
+some_tests : (no_all : Bool) → has_tests (null_checks no_all a_ a_) ≡ true
+some_tests true = refl
+some_tests false = refl
+
+chain_rows : (no_all : Bool) → CloseTrees no_bad (RowsOver no_bad (chaining no_all) [] 1 []) body_needs (looping chain_source) (looping (chain_target no_all))
+chain_rows no_all = close_before
     (within refl refl refl refl refl refl refl (close_then (close_one (close_self no_bad _ (x_ (codes "t")) value_taken refl)) (close_then (close_one
     (placed (below_scope refl refl refl refl refl refl refl refl (close_then (close_statements (close_before (close_self no_bad _ (declaration (codes "let") (codes "a") (x_ (codes "z"))) value_taken refl) (close_before (within refl refl refl refl refl refl refl (close_then (close_one
-    (placed (row_over (only (codes "a")) none_hidden none_hidden (by_tests refl (marked_member refl (same_spine refl (base refl)) (as_name refl refl)) refl, refl) (λ y e. rw e refl) (λ y e. absurd (cc e)) (λ y e. absurd (cc e)) refl refl refl))) close_done)) close_empty))) close_done)))) close_done)))
+    (placed (row_over (only (codes "a")) none_hidden none_hidden (by_tests refl (marked_member refl (same_spine refl (base refl)) (as_name refl refl)) (some_tests no_all), refl) (λ y e. rw e refl) (λ y e. absurd (cc e)) (λ y e. absurd (cc e)) refl refl refl))) close_done)) close_empty))) close_done)))) close_done)))
     close_empty
 
-chain_here : RunAlike no_helpers false (program bare empty (looping chain_source)) (program bare empty (looping chain_target))
-chain_here = law_chain_proof [] 1 bare empty _ _ chain_rows refl refl refl refl (λ y e. refl) (λ y e. absurd (cc e))
+chain_here : RunAlike no_helpers false (program bare empty (looping chain_source)) (program bare empty (looping (chain_target false)))
+chain_here = law_chain_proof false [] 1 bare empty _ _ (chain_rows false) refl refl refl refl (λ y e. refl) (λ y e. absurd (cc e))
+
+loose_here : RunAlike no_helpers true (program bare empty (looping chain_source)) (program bare empty (looping (chain_target true)))
+loose_here = law_chain_proof true [] 1 bare empty _ _ (chain_rows true) refl refl refl refl (λ y e. refl) (λ y e. absurd (cc e))
 
 -- `switch (t) { case k: let a = z; e; }`
 abbrev switching : Tree → Trees
 switching e = plain SwitchStatement (one (x_ (codes "t")) then many (plain SwitchCase (one (x_ (codes "k")) then statements (declaration (codes "let") (codes "a") (x_ (codes "z")) before statement e before empty) then done) before empty) then done) before empty
 
-switch_rows : CloseTrees no_bad (RowsOver no_bad chaining [] 1 []) body_needs (switching chain_source) (switching chain_target)
+switch_rows : CloseTrees no_bad (RowsOver no_bad (chaining false) [] 1 []) body_needs (switching chain_source) (switching (chain_target false))
 switch_rows = close_before
     (placed (below_switch refl refl refl refl refl (close_one (close_self no_bad _ (x_ (codes "t")) value_taken refl)) (close_then (close_many (close_before (within refl refl refl refl refl refl refl (close_then (close_one (close_self no_bad _ (x_ (codes "k")) value_taken refl)) (close_then
     (close_statements (close_before (close_self no_bad _ (declaration (codes "let") (codes "a") (x_ (codes "z"))) value_taken refl) (close_before (within refl refl refl refl refl refl refl (close_then (close_one
     (placed (row_over (only (codes "a")) none_hidden none_hidden (by_tests refl (marked_member refl (same_spine refl (base refl)) (as_name refl refl)) refl, refl) (λ y e. rw e refl) (λ y e. absurd (cc e)) (λ y e. absurd (cc e)) refl refl refl))) close_done)) close_empty))) close_done))) close_empty)) close_done)))
     close_empty
 
-switch_here : RunAlike no_helpers false (program bare empty (switching chain_source)) (program bare empty (switching chain_target))
-switch_here = law_chain_proof [] 1 bare empty _ _ switch_rows refl refl refl refl (λ y e. refl) (λ y e. absurd (cc e))
+switch_here : RunAlike no_helpers false (program bare empty (switching chain_source)) (program bare empty (switching (chain_target false)))
+switch_here = law_chain_proof false [] 1 bare empty _ _ switch_rows refl refl refl refl (λ y e. refl) (λ y e. absurd (cc e))
 
 -- `this.p ||= [d] = c`
 abbrev this_ : Tree

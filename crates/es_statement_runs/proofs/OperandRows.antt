@@ -20,7 +20,7 @@ use Rattle.es_runs.specs.LogicalAssignment.LogicalAssignmentRule.{to_name, to_st
 use Rattle.es_runs.specs.OptionalChaining.{where_short, has_tests, true_node, delete_node}
 use Rattle.es_runs.specs.OptionalChaining.OptionalChainingRule.{by_tests, as_callee, in_delete}
 use Rattle.es_runs.specs.Rules.{in_place_of, void_zero_node}
-use Rattle.es_runs.specs.Runs.{world_of, none_hidden, only, scope_of, binding_of, is_declared, program}
+use Rattle.es_runs.specs.Runs.{none_hidden, only, scope_of, binding_of, is_declared, program}
 use Rattle.es_runs.proofs.Exponentiation.{exponentiation_like}
 use Rattle.es_runs.proofs.LogicalAssignment.{logical_assignment_like}
 use Rattle.es_runs.proofs.OptionalChaining.{optional_chaining_like}
@@ -43,7 +43,7 @@ use Rattle.es_statement_runs.proofs.MeantProof.{entered_free, top_free}
 use Rattle.es_statement_runs.proofs.MeantSenses.{HelperFree}
 use Rattle.es_statement_runs.proofs.OperandMeanings.{back_same, there_same, told, tree_mirror}
 use Rattle.es_statement_runs.proofs.OperandWorlds.{told_others}
-use Rattle.es_statement_runs.proofs.Programs.{rows_run}
+use Rattle.es_statement_runs.proofs.Programs.{rows_run_where}
 use Rattle.es_statement_runs.proofs.RowsStand.{assigning_stands, chaining_stands, raising_stands}
 use Rattle.es_statement_runs.specs.Operands.{is_settled, stands_over}
 use Rattle.es_statement_runs.proofs.ScopedRows.{scoped_like}
@@ -80,7 +80,7 @@ required_says false m = refl
 power_says : (m : Label) (l r : Tree) (w : World) (ls : List Text) (x : Text) → (sense (quiet_at w ls x) (power_at m l r)).more ≡ nothing_more
 power_says m l r w ls x = required_says _ _
 
-chaining_says : {bound steady in_use : Text → Bool} {xs : List Text} {n : Need} {a b : Tree} → chaining bound steady in_use xs n a b → SayNothing a b
+chaining_says : {no_all : Bool} {bound steady in_use : Text → Bool} {xs : List Text} {n : Need} {a b : Tree} → chaining no_all bound steady in_use xs n a b → SayNothing a b
 chaining_says (by_tests {m = m} {w = way} e k h, tidy) = record { first_says = λ w ls x. refl; second_says = short_says m way.tests void_zero_node way.current h }
 chaining_says (as_callee {m = m} {d = d} {w = way} e k h r, tidy) = record { first_says = λ w ls x. refl; second_says = short_says m way.tests void_zero_node d h }
 chaining_says (in_delete {m = m} {w = way} e i k h, tidy) = record { first_says = λ w ls x. refl; second_says = short_says m way.tests true_node (delete_node way.current) h }
@@ -116,10 +116,10 @@ module _ (xs : List Text) (others : Text → Bool) where
 
 -- ONE ROW
 
--- what is known where rows act: the worlds count `document.all`, the temporaries are changeable names of the second, the names that scopes around
+-- what is known where rows act: whether the worlds count `document.all`, the temporaries are changeable names of the second, the names that scopes around
 -- declare are bound, none stands for a helper, and what the rows ask of the scope
-pub record Known (xs : List Text) (Asks : (Text → Binding) → Type 0) (ds : List Declared) (w v : World) : Type 0 where
-  pub counts : w.counts_all ≡ true
+pub record Known (no_all : Bool) (xs : List Text) (Asks : (Text → Binding) → Type 0) (ds : List Declared) (w v : World) : Type 0 where
+  pub counts : w.counts_all ≡ not no_all
   pub cells : (x : Text) → among_names xs x ≡ true → v.scope x ≡ changeable
   pub binds : (y : Text) → is_declared ds y ≡ true → is_free (w.scope y) ≡ false
   pub free : HelperFree w
@@ -127,12 +127,12 @@ pub record Known (xs : List Text) (Asks : (Text → Binding) → Type 0) (ds : L
   pub asked : Asks w.scope
 
 -- a rule whose two nodes are alike in the core, where what isn't core is
-pub record IsKept (R : (bound steady in_use : Text → Bool) → List Text → Need → Tree → Tree → Type 0) (Asks : (Text → Binding) → Type 0) : Type 0 where
-  pub like : (bound steady in_use : Text → Bool) (xs : List Text) (w v : World) (n : Need) (a b : Tree) → Asks w.scope → w.counts_all ≡ true → RowPlace bound steady w v xs n a → R bound steady in_use xs n a b → Like (set_cells (among_names xs)) w v n (meaning w a) (meaning v b)
+pub record IsKept (no_all : Bool) (R : (bound steady in_use : Text → Bool) → List Text → Need → Tree → Tree → Type 0) (Asks : (Text → Binding) → Type 0) : Type 0 where
+  pub like : (bound steady in_use : Text → Bool) (xs : List Text) (w v : World) (n : Need) (a b : Tree) → Asks w.scope → w.counts_all ≡ not no_all → RowPlace bound steady w v xs n a → R bound steady in_use xs n a b → Like (set_cells (among_names xs)) w v n (meaning w a) (meaning v b)
   pub says : (bound steady in_use : Text → Bool) (xs : List Text) (n : Need) (a b : Tree) → R bound steady in_use xs n a b → SayNothing a b
   pub stands : (bound steady in_use : Text → Bool) (xs : List Text) (n : Need) (a b : Tree) → R bound steady in_use xs n a b → (good : Tree → Bool) → stands_over good a ≡ true → stands_over good b ≡ true
 
-module _ (R : (bound steady in_use : Text → Bool) → List Text → Need → Tree → Tree → Type 0) (Asks : (Text → Binding) → Type 0) (kept : IsKept R Asks) (xs : List Text) (math : among_names xs (codes "Math") ≡ false) (program_names : are_program_names xs ≡ true) where
+module _ (no_all : Bool) (R : (bound steady in_use : Text → Bool) → List Text → Need → Tree → Tree → Type 0) (Asks : (Text → Binding) → Type 0) (kept : IsKept no_all R Asks) (xs : List Text) (math : among_names xs (codes "Math") ≡ false) (program_names : are_program_names xs ≡ true) where
   steady_apart : (steady : Text → Bool) → ((y : Text) → steady y ≡ true → is_own_cell y ≡ false) → (y : Text) → is_own_cell y ≡ true → (among_names xs y ≡ false) × (steady y ≡ false)
   steady_apart steady own y e = (temporaries_apart xs program_names y e, at (steady y) refl)
     where
@@ -141,7 +141,7 @@ module _ (R : (bound steady in_use : Text → Bool) → List Text → Need → T
       at false h = refl
 
   -- the row, at any place of any supply of names
-  pub over_like : (ds : List Declared) (t : Take) (a b : Tree) → RowOver R xs ds t a b → (w v : World) → SameWorld (among_names xs) w v → Known xs Asks ds w v → (ls : List Text) (x : Text) →
+  pub over_like : (ds : List Declared) (t : Take) (a b : Tree) → RowOver R xs ds t a b → (w v : World) → SameWorld (among_names xs) w v → Known no_all xs Asks ds w v → (ls : List Text) (x : Text) →
       SenseLike (set_cells (among_names xs)) w v t (sense (quiet_at w ls x) a) (sense (quiet_at v ls x) b)
   over_like ds t a b (row_over bound steady in_use rule declared within own stands formed untouched) w v same k ls x =
       let bad : Level → Text → Bool = bad_names (among_names xs) steady in
@@ -185,7 +185,7 @@ module _ (R : (bound steady in_use : Text → Bool) → List Text → Need → T
         at true i k = bound_by (bytes_eq e.kind (codes "const"))
         at false i k = k i
 
-    kept_known : (es ds : List Declared) → all_good bad_here (names_of_all ds) ≡ true → (w v : World) → Known xs Asks es w v → Known xs Asks es (inner w ds) (inner v ds)
+    kept_known : (es ds : List Declared) → all_good bad_here (names_of_all ds) ≡ true → (w v : World) → Known no_all xs Asks es w v → Known no_all xs Asks es (inner w ds) (inner v ds)
     kept_known es ds h w v k = record {
       counts = k.counts;
       cells = λ y e. ap (λ (c : Option Text). found c y v.scope y) (unseen xs others ds h y (hidden_bad y e)) ∙ k.cells y e;
@@ -195,7 +195,7 @@ module _ (R : (bound steady in_use : Text → Bool) → List Text → Need → T
       asked = asks_kept w ds h k.asked;
     }
 
-    known_entered : (es ds : List Declared) → all_good bad_here (names_of_all es) ≡ true → (w v : World) → Known xs Asks ds w v → Known xs Asks (es ++ ds) (inner w es) (inner v es)
+    known_entered : (es ds : List Declared) → all_good bad_here (names_of_all es) ≡ true → (w v : World) → Known no_all xs Asks ds w v → Known no_all xs Asks (es ++ ds) (inner w es) (inner v es)
     known_entered es ds h w v k = record {
       counts = k.counts;
       cells = λ y e. ap (λ (c : Option Text). found c y v.scope y) (unseen xs others es h y (hidden_bad y e)) ∙ k.cells y e;
@@ -231,22 +231,22 @@ module _ (R : (bound steady in_use : Text → Bool) → List Text → Need → T
     below Level.a_callee x h = h
 
     -- where scopes around declare names too
-    pub rows_like : (n : ℕ) (ds : List Declared) (t : Take) (a b : Tree) → RowsOver bad_here R xs n ds t a b → (w v : World) → SameWorld (among_names xs) w v → Known xs Asks ds w v → (ls : List Text) (x : Text) →
+    pub rows_like : (n : ℕ) (ds : List Declared) (t : Take) (a b : Tree) → RowsOver bad_here R xs n ds t a b → (w v : World) → SameWorld (among_names xs) w v → Known no_all xs Asks ds w v → (ls : List Text) (x : Text) →
         SenseLike F w v t (sense (quiet_at w ls x) a) (sense (quiet_at v ls x) b)
     rows_like zero ds t a b row w v same k ls x = over_like ds t a b row w v same k ls x
-    rows_like (suc n) ds t a b row w v same k ls x = scoped_like F quiet stack bad_here below no_helpers tt (Known xs Asks) kept_known known_entered (RowsOver bad_here R xs n) (rows_like n) ds t a b row w v same k ls x
+    rows_like (suc n) ds t a b row w v same k ls x = scoped_like F quiet stack bad_here below no_helpers tt (Known no_all xs Asks) kept_known known_entered (RowsOver bad_here R xs n) (rows_like n) ds t a b row w v same k ls x
 
     pub keep_runs : (n : ℕ) (l : Label) (ds body after : Trees) → Rattle.es_statement_runs.specs.Places.CloseTrees bad_here (RowsOver bad_here R xs n (top_in body)) Rattle.es_statement_runs.specs.Laws.body_needs body after → top_in after ≡ top_in body → Rattle.es_statement_runs.specs.Names.using_in after ≡ Rattle.es_statement_runs.specs.Names.using_in body →
-        ((y : Text) → is_declared (top_in body) y ≡ true → among_names xs y ≡ false) → ((this : Value) → Asks (world_of true this (top_in body)).scope) → Rattle.es_statement_runs.specs.Runs.RunAlike no_helpers false (program l ds body) (program l ds (vars_before xs after))
+        ((y : Text) → is_declared (top_in body) y ≡ true → among_names xs y ≡ false) → ((this : Value) → Asks (scope_of (top_in body))) → Rattle.es_statement_runs.specs.Runs.RunAlike no_helpers no_all (program l ds body) (program l ds (vars_before xs after))
     keep_runs n l ds body after rows tops uses apart asked =
-        rows_run F quiet stack bad_here below no_helpers l ds body after xs tt (Known xs Asks (top_in body)) (kept_known (top_in body)) (RowsOver bad_here R xs n (top_in body)) (rows_like n (top_in body)) rows uses
-        (vars_world xs body after tops)
+        rows_run_where F quiet stack bad_here below no_helpers l ds body after xs tt (Known no_all xs Asks (top_in body)) (kept_known (top_in body)) (RowsOver bad_here R xs n (top_in body)) (rows_like n (top_in body)) rows uses no_all
+        (vars_world xs body after tops (not no_all))
         (λ this. record {
           counts = refl;
           cells = λ y e. vars_scope xs after y ∙ (rw e refl);
           binds = λ y e. not_so (is_free (scope_of (top_in body) y)) e;
-          free = top_free no_helpers (program l ds body) this refl;
-          free_after = top_free no_helpers (program l ds (vars_before xs after)) this refl;
+          free = top_free (not no_all) no_helpers (program l ds body) this refl;
+          free_after = top_free (not no_all) no_helpers (program l ds (vars_before xs after)) this refl;
           asked = asked this;
         })
         (vars_start xs body after tops) apart
@@ -256,15 +256,15 @@ module _ (R : (bound steady in_use : Text → Bool) → List Text → Need → T
 abbrev pub nothing_asked : (Text → Binding) → Type 0
 nothing_asked scope = Unit {0}
 
-pub chaining_kept : IsKept chaining nothing_asked
-chaining_kept = record {
-  like = λ bound steady in_use xs w v n a b asked counts place rule. optional_chaining_like false bound steady in_use xs w v n a b counts place rule;
+pub chaining_kept : (no_all : Bool) → IsKept no_all (chaining no_all) nothing_asked
+chaining_kept no_all = record {
+  like = λ bound steady in_use xs w v n a b asked counts place rule. optional_chaining_like no_all bound steady in_use xs w v n a b counts place rule;
   says = λ bound steady in_use xs n a b rule. chaining_says rule;
   stands = λ bound steady in_use xs n a b rule good h. chaining_stands good rule.0 h;
 }
 
-pub assigning_kept : IsKept assigning nothing_asked
-assigning_kept = record {
+pub assigning_kept : (no_all : Bool) → IsKept no_all assigning nothing_asked
+assigning_kept no_all = record {
   like = λ bound steady in_use xs w v n a b asked counts place rule. logical_assignment_like bound steady in_use xs w v n a b place rule;
   says = λ bound steady in_use xs n a b rule. assigning_says rule;
   stands = λ bound steady in_use xs n a b rule good h. assigning_stands good rule h;
@@ -273,8 +273,8 @@ assigning_kept = record {
 abbrev pub math_free : (Text → Binding) → Type 0
 math_free scope = is_free (scope (codes "Math")) ≡ true
 
-pub raising_kept : IsKept raising math_free
-raising_kept = record {
+pub raising_kept : (no_all : Bool) → IsKept no_all raising math_free
+raising_kept no_all = record {
   like = λ bound steady in_use xs w v n a b asked counts place rule. exponentiation_like in_use w v asked n a b place rule.1 rule.0;
   says = λ bound steady in_use xs n a b rule. raising_says rule.0;
   stands = λ bound steady in_use xs n a b rule good h. raising_stands good rule.0 h;
@@ -290,11 +290,11 @@ math_kept xs w ds h k = ap (λ (c : Option Text). is_free (found c (codes "Math"
 -- THE LAWS
 
 pub law_chain_proof : LawChain
-law_chain_proof xs n l ds body after rows tops uses math names apart others = keep_runs chaining nothing_asked chaining_kept xs math names none_hidden (λ w ds h k. tt) n l ds body after rows tops uses apart (λ this. tt)
+law_chain_proof no_all xs n l ds body after rows tops uses math names apart others = keep_runs no_all (chaining no_all) nothing_asked (chaining_kept no_all) xs math names none_hidden (λ w ds h k. tt) n l ds body after rows tops uses apart (λ this. tt)
 
 pub law_logical_assignment_proof : LawLogicalAssignment
-law_logical_assignment_proof xs n l ds body after rows tops uses math names apart others = keep_runs assigning nothing_asked assigning_kept xs math names none_hidden (λ w ds h k. tt) n l ds body after rows tops uses apart (λ this. tt)
+law_logical_assignment_proof xs n l ds body after rows tops uses math names apart others = keep_runs false assigning nothing_asked (assigning_kept false) xs math names none_hidden (λ w ds h k. tt) n l ds body after rows tops uses apart (λ this. tt)
 
 pub law_exponentiation_proof : LawExponentiation
 law_exponentiation_proof xs n l ds body after rows tops uses math names apart others =
-    keep_runs raising math_free raising_kept xs math names (only (codes "Math")) (math_kept xs) n l ds body after rows tops uses apart (λ this. not_not (is_free (scope_of (top_in body) (codes "Math"))) (others (codes "Math") refl))
+    keep_runs false raising math_free (raising_kept false) xs math names (only (codes "Math")) (math_kept xs) n l ds body after rows tops uses apart (λ this. not_not (is_free (scope_of (top_in body) (codes "Math"))) (others (codes "Math") refl))

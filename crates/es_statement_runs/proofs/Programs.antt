@@ -1,5 +1,5 @@
 -- From lists that are close to runs: for any frame, any rows, any supply of helpers, and any temporaries declared in front.
-use Rattle.std.specs.Prelude.{Some, Option, None, is_some, ℕ, Bool, true, false}
+use Rattle.std.specs.Prelude.{Some, Option, None, is_some, ℕ, Bool, true, false, not}
 use Rattle.std.proofs.Common.{◌∙◌, ap, is_some, Option, ◌≡◌, refl, List, [], ◌∷◌}
 use Rattle.es_tree.specs.Words.{Text}
 use Rattle.es_tree.specs.Scopes.{Declared}
@@ -10,7 +10,7 @@ use Rattle.es_runs.specs.Machine.{Value, M, Move}
 use Rattle.es_runs.specs.Machine.State.{state}
 use Rattle.es_runs.specs.Alike.{Frame, Agree, Alike, Equal, SameWorld, Level, bad_names, value_and_form}
 use Rattle.es_statement_runs.specs.Helpers.{entry, silent_names, Supply}
-use Rattle.es_statement_runs.specs.Runs.{silent_or, program_scope, program_world, start_cells, RunAlike}
+use Rattle.es_statement_runs.specs.Runs.{silent_or, program_scope, program_world, start_cells, RunAlike, world_where}
 use Rattle.es_statement_runs.specs.Alike.{Told, Quiet, StackSeen, SenseLike, SensesLike}
 use Rattle.es_statement_runs.specs.Laws.{is_silent, vars_before}
 use Rattle.es_statement_runs.specs.Names.{declared_at_top, top_in, using_in, names_of_all}
@@ -24,7 +24,7 @@ use Rattle.es_statement_runs.proofs.KindsAlike.{inner}
 use Rattle.es_statement_runs.proofs.SensesAlike.{ends_like, begun_like, bodies_like}
 use Rattle.es_statement_runs.proofs.Everywhere.{close_senses}
 use Rattle.es_statement_runs.proofs.Everywhere.PlaceLike.{place_like}
-use Rattle.es_statement_runs.proofs.RunLaws.{same_run}
+use Rattle.es_statement_runs.proofs.WithoutAll.{alike_where}
 
 -- THE NAMES OF THE TOP
 
@@ -85,8 +85,13 @@ module _ (F : Frame) (quiet : Quiet F) (stack : StackSeen F) (bad : Level → Te
   abbrev new_names : List Declared
   new_names = top_in (vars_before xs after)
 
+  pub rows_run_where : (no_all : Bool) → ((this : Value) → SameWorld F.hidden (world_where (not no_all) u this (program l ds body)) (world_where (not no_all) u this (program l ds (vars_before xs after)))) → ((this : Value) → Known (world_where (not no_all) u this (program l ds body)) (world_where (not no_all) u this (program l ds (vars_before xs after)))) →
+      ((n : ℕ) (moves : List Move) → Agree F (state (start_cells n old_names) moves []) (state (start_cells n new_names) moves [])) →
+      ((x : Text) → is_declared old_names x ≡ true → F.hidden x ≡ false) → RunAlike u no_all (program l ds body) (program l ds (vars_before xs after))
+  rows_run_where no_all same known start counts = alike_where F no_all u (program l ds body) (program l ds (vars_before xs after)) counts
+      (λ n this moves. program_alike F quiet stack bad below u told Known kept R base l ds body after xs rows uses (world_where (not no_all) u this (program l ds body)) (world_where (not no_all) u this (program l ds (vars_before xs after))) (same this) (known this) _ _ (start n moves))
+
   pub rows_run : ((this : Value) → SameWorld F.hidden (program_world u this (program l ds body)) (program_world u this (program l ds (vars_before xs after)))) → ((this : Value) → Known (program_world u this (program l ds body)) (program_world u this (program l ds (vars_before xs after)))) →
       ((n : ℕ) (moves : List Move) → Agree F (state (start_cells n old_names) moves []) (state (start_cells n new_names) moves [])) →
       ((x : Text) → is_declared old_names x ≡ true → F.hidden x ≡ false) → RunAlike u false (program l ds body) (program l ds (vars_before xs after))
-  rows_run same known start counts n this moves assumed t ms in_sight = same_run F (is_declared old_names) counts in_sight
-      (program_alike F quiet stack bad below u told Known kept R base l ds body after xs rows uses (program_world u this (program l ds body)) (program_world u this (program l ds (vars_before xs after))) (same this) (known this) _ _ (start n moves))
+  rows_run = rows_run_where false

@@ -76,8 +76,8 @@ module _ (good : Tree → Bool) where
     deletes = λ e h. rw h refl;
   }
 
-  pub chaining_stands : {bound steady in_use : Text → Bool} {xs : List Text} {n : Need} {a b : Tree} → OptionalChainingRule false bound steady in_use xs n a b → Stands a → Stands b
-  chaining_stands {bound} {steady} {in_use} {xs} r h = optional_chaining_good Stands AnyName chains_stand false bound steady in_use r (none_asked xs) h
+  pub chaining_stands : {no_all : Bool} {bound steady in_use : Text → Bool} {xs : List Text} {n : Need} {a b : Tree} → OptionalChainingRule no_all bound steady in_use xs n a b → Stands a → Stands b
+  chaining_stands {no_all} {bound} {steady} {in_use} {xs} r h = optional_chaining_good Stands AnyName chains_stand no_all bound steady in_use r (none_asked xs) h
 
   -- ASSIGNMENTS
 

@@ -150,7 +150,7 @@ calls_helper x known w k = at (w.scope helpers_) k
 at_one : (w : World) → is_free (w.scope helpers_) ≡ true → (t : Take) (a b : Tree) → SpreadRow t a b → (ls : List Text) (x : Text) → SenseLike no_frame w w t (sense (placed_at by_global w ls x) a) (sense (placed_at by_global w ls x) b)
 at_one w k t a b row ls x = let h = same_sense by_global w (calls_helper (codes "objectSpread2") refl w k) row ls x in rw (h.1.0, h.1.1) (object_self w (same_world w) t h.0)
 
-spread_like : (t : Take) (a b : Tree) → SpreadRow t a b → (w v : World) → SameWorld none_hidden w v → (is_free (v.scope helpers_) ≡ true) × SameRest w v → (ls : List Text) (x : Text) → SenseLike no_frame w v t (sense (placed_at by_global w ls x) a) (sense (placed_at by_global v ls x) b)
+pub spread_like : (t : Take) (a b : Tree) → SpreadRow t a b → (w v : World) → SameWorld none_hidden w v → (is_free (v.scope helpers_) ≡ true) × SameRest w v → (ls : List Text) (x : Text) → SenseLike no_frame w v t (sense (placed_at by_global w ls x) a) (sense (placed_at by_global v ls x) b)
 spread_like t a b row w v same k ls x =
     let here : is_free (w.scope helpers_) ≡ true = ap is_free (sym (same.scope helpers_ refl)) ∙ k.0 in
     subst (λ (z : World). SenseLike no_frame w z t (sense (placed_at by_global w ls x) a) (sense (placed_at by_global z ls x) b)) (worlds_equal w v k.1 same) (at_one w here t a b row ls x)

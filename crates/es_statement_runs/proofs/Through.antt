@@ -25,8 +25,8 @@ module _ (F : Frame) where
   states_after : {s1 s2 s3 s4 : State} → Agree no_frame s1 s2 → Agree F s2 s3 → Agree no_frame s3 s4 → Agree F s1 s4
   states_after {s1} {s2} {s3} {s4} g h k = rw (same_states k) (rw (same_states g) at h)
 
-  module _ {A B C D : Type 0} {R1 : A → B → Type 0} {R2 : B → C → Type 0} {R3 : C → D → Type 0} {R : A → D → Type 0} (through : (a : A) (b : B) (c : C) (d : D) → R1 a b → R2 b c → R3 c d → R a d) where
-    result_through : {p : Result A} {q : Result B} {r : Result C} {t : Result D} → Same no_frame R1 p q → Same F R2 q r → Same no_frame R3 r t → Same F R p t
+  module _ {A B C D : Type 0} {First : A → B → Type 0} {Second : B → C → Type 0} {Third : C → D → Type 0} {R : A → D → Type 0} (through : (a : A) (b : B) (c : C) (d : D) → First a b → Second b c → Third c d → R a d) where
+    result_through : {p : Result A} {q : Result B} {r : Result C} {t : Result D} → Same no_frame First p q → Same F Second q r → Same no_frame Third r t → Same F R p t
     result_through (both_give e g) (both_give f h) (both_give d k) = both_give (through _ _ _ _ e f d) (states_after g h k)
     result_through (both_stop g) (both_stop h) (both_stop k) = both_stop (states_after g h k)
     result_through (both_stop g) (both_stop h) outside = outside
@@ -36,7 +36,7 @@ module _ (F : Frame) where
     result_through outside h k = outside
     result_through (at_fault e) h k = absurd (cc e)
 
-    alike_through : {m : M A} {k : M B} {l : M C} {n : M D} → Alike no_frame R1 m k → Alike F R2 k l → Alike no_frame R3 l n → Alike F R m n
+    alike_through : {m : M A} {k : M B} {l : M C} {n : M D} → Alike no_frame First m k → Alike F Second k l → Alike no_frame Third l n → Alike F R m n
     alike_through h g f s t a = result_through (h s s (agree_self s)) (g s t a) (f t t (agree_self t))
 
   equal_through : {A : Type 0} (a b c d : A) → Equal a b → Equal b c → Equal c d → Equal a d

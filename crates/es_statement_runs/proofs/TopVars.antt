@@ -32,8 +32,8 @@ vars_cells [] after y = refl
 vars_cells (x ∷ xs) after y = ap (λ (b : Cell). if bytes_eq y x then holds undefined else b) (vars_cells xs after y) ∙ or_later (bytes_eq y x) (among_names xs y) (holds undefined) (cells_of (top_in after) y)
 
 module _ (xs : List Text) (body after : Trees) (tops : top_in after ≡ top_in body) where
-  pub vars_world : (this : Value) → SameWorld (among_names xs) (world_of true this (top_in body)) (world_of true this (top_in (vars_before xs after)))
-  vars_world this = record { scope = λ y e. vars_scope xs after y ∙ (rw (e, tops) refl); this = refl; counts = refl }
+  pub vars_world : (counts : Bool) (this : Value) → SameWorld (among_names xs) (world_of counts this (top_in body)) (world_of counts this (top_in (vars_before xs after)))
+  vars_world counts this = record { scope = λ y e. vars_scope xs after y ∙ (rw (e, tops) refl); this = refl; counts = refl }
 
   set_here : (b : Bool) (n : ℕ) (rest c : Cell) → c ≡ holds undefined → Rattle.es_runs.specs.Machine.is_set (if b then holds (own (count n)) else c) ≡ true
   set_here true n rest c e = refl

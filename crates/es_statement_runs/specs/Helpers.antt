@@ -199,10 +199,10 @@ abbrev pub only_excludes : ℕ → ℕ → Bool
 only_excludes zero m = false
 only_excludes (suc n) m = nat_eq m (suc (suc n))
 
--- `x = [TEXTS]`, where x is read somewhere, and only as the keys of such calls
+-- `x = [TEXTS]`, where x is a name that is read somewhere, and only as the keys of such calls
 abbrev pub constant_by : Supply → List (Text × Silent) → Tree → Tree → List (Text × Silent)
-constant_by u hs p (node VariableDeclarator l (one x then (one (node ArrayExpression m es) then done))) =
-    constant_where (own_text x) (only_excludes (key_places u hs (own_text x) p) (occurrences (own_text x) (names_of p))) (texts_of es)
+constant_by u hs p (node VariableDeclarator l (one (node Identifier k gs) then (one (node ArrayExpression m es) then done))) =
+    constant_where (first_text k.texts) (only_excludes (key_places u hs (first_text k.texts) p) (occurrences (first_text k.texts) (names_of p))) (texts_of es)
 constant_by u hs p t = []
 
 abbrev pub constants_by : Supply → List (Text × Silent) → Tree → Trees → List (Text × Silent)

@@ -15,7 +15,7 @@ use Rattle.es_runs.specs.Core.{Silent, World, value, meaning, second}
 use Rattle.es_runs.specs.Alike.{Same, Equal, touches, Level, Frame, set_cells, bad_names, value_and_form, Need}
 use Rattle.es_runs.specs.Alike.Level.{a_target}
 use Rattle.es_runs.specs.Rules.{assign_node, member_node, strays, tested_by}
-use Rattle.es_runs.specs.Runs.{made, identifier, none_hidden, only, program, var_statement, is_declared, stands, asked, state_of, cells, outcome as core_outcome, run as core_run}
+use Rattle.es_runs.specs.Runs.{IsAssumed, made, identifier, none_hidden, only, program, var_statement, is_declared, stands, asked, state_of, cells, outcome as core_outcome, run as core_run}
 use Rattle.es_runs.specs.Runs.Outcome.{called_uncallable}
 use Rattle.es_runs.specs.OptionalChaining.{OptionalChainingRule}
 use Rattle.es_runs.specs.Standing.{undeclaring}
@@ -37,7 +37,7 @@ use Rattle.es_statement_runs.specs.Senses.More.{nothing_more}
 use Rattle.es_statement_runs.specs.Kinds.{kind_in, sense}
 use Rattle.es_statement_runs.specs.BareVars.{BesideList, PutList}
 use Rattle.es_statement_runs.specs.Calls.{is_spread}
-use Rattle.es_statement_runs.specs.Runs.{RunAlike, run, outcome}
+use Rattle.es_statement_runs.specs.Runs.{RunAlike, run, run_where, outcome}
 use Rattle.es_statement_runs.specs.Runs.Outcome.{meaningless}
 use Rattle.es_statement_runs.specs.Meant.{is_meant}
 
@@ -167,32 +167,32 @@ RowsOver bad R xs (suc n) ds t a b = InScope bad (RowsOver bad R xs n) ds t a b
 
 -- At whatever places of whatever statements, with a `var` of each temporary at the top of the list, where no scope declares these other names and nothing
 -- writes them.
-abbrev pub RowsKeepRuns : (Text → Bool) → ((bound steady in_use : Text → Bool) → List Text → Need → Tree → Tree → Type 0) → Type 0
-RowsKeepRuns others R = (xs : List Text) (n : ℕ) (l : Label) (ds body after : Trees) →
+abbrev pub RowsKeepRuns : Bool → (Text → Bool) → ((bound steady in_use : Text → Bool) → List Text → Need → Tree → Tree → Type 0) → Type 0
+RowsKeepRuns no_all others R = (xs : List Text) (n : ℕ) (l : Label) (ds body after : Trees) →
     CloseTrees (bad_names (among_names xs) others) (RowsOver (bad_names (among_names xs) others) R xs n (top_in body)) body_needs body after → top_in after ≡ top_in body → using_in after ≡ using_in body →
     among_names xs (codes "Math") ≡ false → are_program_names xs ≡ true → ((y : Text) → is_declared (top_in body) y ≡ true → among_names xs y ≡ false) → ((y : Text) → others y ≡ true → is_declared (top_in body) y ≡ false) →
-    RunAlike no_helpers false (program l ds body) (program l ds (vars_before xs after))
+    RunAlike no_helpers no_all (program l ds body) (program l ds (vars_before xs after))
 
--- optional chaining
-abbrev pub chaining : (bound steady in_use : Text → Bool) → List Text → Need → Tree → Tree → Type 0
-chaining bound steady in_use xs n a b = OptionalChainingRule false bound steady in_use xs n a b × (strays false a ≡ false)
+-- optional chaining, where no value is assumed to be `document.all`, or where one may be
+abbrev pub chaining : (no_all : Bool) (bound steady in_use : Text → Bool) → List Text → Need → Tree → Tree → Type 0
+chaining no_all bound steady in_use xs n a b = OptionalChainingRule no_all bound steady in_use xs n a b × (strays false a ≡ false)
 
 abbrev pub LawChain : Type 0
-LawChain = RowsKeepRuns none_hidden chaining
+LawChain = (no_all : Bool) → RowsKeepRuns no_all none_hidden (chaining no_all)
 
 -- logical assignment, to names and members
 abbrev pub assigning : (bound steady in_use : Text → Bool) → List Text → Need → Tree → Tree → Type 0
 assigning bound steady in_use xs n a b = LogicalAssignmentRule steady in_use xs n a b
 
 abbrev pub LawLogicalAssignment : Type 0
-LawLogicalAssignment = RowsKeepRuns none_hidden assigning
+LawLogicalAssignment = RowsKeepRuns false none_hidden assigning
 
 -- exponentiation, and its assignment, where no scope declares `Math` and nothing writes it
 abbrev pub raising : (bound steady in_use : Text → Bool) → List Text → Need → Tree → Tree → Type 0
 raising bound steady in_use xs n a b = ExponentiationRule bound in_use xs n a b × (is_raisable a ≡ true)
 
 abbrev pub LawExponentiation : Type 0
-LawExponentiation = RowsKeepRuns (only (codes "Math")) raising
+LawExponentiation = RowsKeepRuns false (only (codes "Math")) raising
 
 -- RUNS ALIKE COMPOSE, where what the first source declares is declared by the second, so that steps may be taken one after another
 abbrev pub LawThen : Type 0
@@ -599,6 +599,10 @@ LawParted = (v : Value) (ks : Values) (ps : List StaticProperty) (ms : List Memb
 -- A program whose nodes are core is without functions, arrows and classes.
 abbrev pub LawCoreClass : Type 0
 LawCoreClass = (t : Tree) → is_core t ≡ true → is_without_functions t ≡ true
+
+-- Where neither `this` nor a move has `document.all`, the run is the same whether it counts as null for `==` or not.
+abbrev pub LawWithoutAll : Type 0
+LawWithoutAll = (u : Supply) (n : ℕ) (p : Tree) (this : Value) (moves : List Move) → IsAssumed true this moves → run u n p this moves ≡ run_where false u n p this moves
 
 -- In a program that uses no helper itself no name stands for one.
 abbrev pub LawNoHelper : Type 0

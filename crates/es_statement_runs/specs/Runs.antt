@@ -34,18 +34,29 @@ silent_or None b = b
 abbrev pub program_scope : Supply → Tree → Text → Binding
 program_scope u t x = silent_or (entry (silent_names u t) x) (scope_of (declared_at_top t) x)
 
+-- where `document.all` counts as null for `==`, or not
+abbrev pub world_where : Bool → Supply → Value → Tree → World
+world_where counts u this t = record { scope = program_scope u t; this = this; counts_all = counts; other = λ e. stop unknown; spreads = false }
+
+-- it counts, as ECMA-262 has it
 abbrev pub program_world : Supply → Value → Tree → World
-program_world u this t = record { scope = program_scope u t; this = this; counts_all = true; other = λ e. stop unknown; spreads = false }
+program_world u this t = world_where true u this t
+
+abbrev pub place_where : Bool → Supply → Value → Tree → Place
+place_where counts u this t = record { world = world_where counts u this t; labels = []; word = []; supply = u }
 
 abbrev pub place_of : Supply → Value → Tree → Place
-place_of u this t = record { world = program_world u this t; labels = []; word = []; supply = u }
+place_of u this t = place_where true u this t
 
 abbrev pub run_in : Place → ℕ → List Declared → Tree → List Move → Result Value
 run_in p n ds t moves = value p.world (sense p t).core (state (start_cells n ds) moves [])
 
--- the run from n turns
+-- the run from n turns, where `document.all` counts, or not
+abbrev pub run_where : Bool → Supply → ℕ → Tree → Value → List Move → Result Value
+run_where counts u n t this moves = run_in (place_where counts u this t) n (declared_at_top t) t moves
+
 abbrev pub run : Supply → ℕ → Tree → Value → List Move → Result Value
-run u n t this moves = run_in (place_of u this t) n (declared_at_top t) t moves
+run u n t this moves = run_where true u n t this moves
 
 pub data Outcome : Type 0 where
   finished : Outcome

@@ -2,7 +2,7 @@
 //! definitions.
 #![tactic(auto)]
 
-ghost use Rattle.es_statement_runs.specs.Laws.{LawAssign, LawCatch, LawCatchPattern, LawChain, LawCollected, LawCoreClass, LawCoreMeaning, LawCoreRun, LawExponentiation, LawFresh, LawGroups, LawHead, LawLater, LawLogicalAssignment, LawMeant, LawNamespaceExports, LawNoHelper, LawNullish, LawParted, LawPlace, LawPower, LawRest, LawSpread, LawTemporaries, LawThen, LawUsing, LawValidIsMeant, LawValidMeaning, LawVars};
+ghost use Rattle.es_statement_runs.specs.Laws.{LawAssign, LawCatch, LawCatchPattern, LawChain, LawCollected, LawCoreClass, LawCoreMeaning, LawCoreRun, LawExponentiation, LawFresh, LawGroups, LawHead, LawLater, LawLogicalAssignment, LawMeant, LawNamespaceExports, LawNoHelper, LawNullish, LawParted, LawPlace, LawPower, LawRest, LawSpread, LawTemporaries, LawThen, LawUsing, LawValidIsMeant, LawValidMeaning, LawVars, LawWithoutAll};
 
 /// A tree of core kinds means what it means in the core.
 pub fn law_core_meaning()
@@ -118,6 +118,11 @@ pub fn law_statement_rest()
 /// Names of the top may be set later in the source than in the target: declarations by `let` become declarations by `var`.
 pub fn law_statement_later()
     ensures { LawLater }
+{}
+
+/// Where no value is `document.all`, a run is the same whether that counts as null for `==` or not.
+pub fn law_statement_without_all()
+    ensures { LawWithoutAll }
 {}
 
 /// A program that means something never ends without meaning, however helpers are supplied, where no name of its stands for one.
