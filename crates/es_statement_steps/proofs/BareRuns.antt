@@ -110,18 +110,18 @@ module _ (hs : List (Text × Silent)) where
   texts-bare (statements ts then fs) = refl
 
   module _ (p : Tree) where
-    excluded-bare : (x y : Text) → y ≡ x → only_excludes (key_places by_global hs y (bare p)) (occurrences y (names_of (bare p))) ≡ only_excludes (key_places by_global hs x p) (occurrences x (names_of p))
-    excluded-bare x y e = ap (λ z. only_excludes (key_places by_global hs z (bare p)) (occurrences z (names_of (bare p)))) e ∙ (λ i. only_excludes (places-bare x p i) (occurrences x (names-bare true p i)))
+    excluded-bare : (x : Text) → only_excludes (key_places by_global hs x (bare p)) (occurrences x (names_of (bare p))) ≡ only_excludes (key_places by_global hs x p) (occurrences x (names_of p))
+    excluded-bare x = λ i. only_excludes (places-bare x p i) (occurrences x (names-bare true p i))
 
     constant-bare : (d : Tree) → constant_by by_global hs (bare p) (bare d) ≡ constant_by by_global hs p d
-    constant-bare (node VariableDeclarator l (one x then (one (node ArrayExpression m es) then done))) =
-        λ i. constant_where (own-text-bare x i) (excluded-bare (own_text x) (own_text (bare x)) (own-text-bare x) i) (texts-bare es i)
-    constant-bare (node VariableDeclarator l (one x then (one (node ArrayExpression m es) then (f then fs)))) = refl
-    constant-bare (node VariableDeclarator l (one x then (one (node _ m es) then fs))) = refl
-    constant-bare (node VariableDeclarator l (one x then (missing then fs))) = refl
-    constant-bare (node VariableDeclarator l (one x then (many ts then fs))) = refl
-    constant-bare (node VariableDeclarator l (one x then (statements ts then fs))) = refl
-    constant-bare (node VariableDeclarator l (one x then done)) = refl
+    constant-bare (node VariableDeclarator l (one (node Identifier k gs) then (one (node ArrayExpression m es) then done))) = λ i. constant_where (first_text k.texts) (excluded-bare (first_text k.texts) i) (texts-bare es i)
+    constant-bare (node VariableDeclarator l (one (node Identifier k gs) then (one (node ArrayExpression m es) then (f then fs)))) = refl
+    constant-bare (node VariableDeclarator l (one (node Identifier k gs) then (one (node _ m es) then fs))) = refl
+    constant-bare (node VariableDeclarator l (one (node Identifier k gs) then (missing then fs))) = refl
+    constant-bare (node VariableDeclarator l (one (node Identifier k gs) then (many ts then fs))) = refl
+    constant-bare (node VariableDeclarator l (one (node Identifier k gs) then (statements ts then fs))) = refl
+    constant-bare (node VariableDeclarator l (one (node Identifier k gs) then done)) = refl
+    constant-bare (node VariableDeclarator l (one (node _ k gs) then fs)) = refl
     constant-bare (node VariableDeclarator l (missing then fs)) = refl
     constant-bare (node VariableDeclarator l (many ts then fs)) = refl
     constant-bare (node VariableDeclarator l (statements ts then fs)) = refl

@@ -32,6 +32,8 @@ use Rattle.es_statement_runs.proofs.Everywhere.{both_left}
 use Rattle.es_statement_runs.proofs.KindsAlike.{inner}
 use Rattle.es_statement_runs.proofs.Moved.{BothMute}
 use Rattle.es_resolution.specs.Resolved.{Resolved}
+use Rattle.es_statement_runs.specs.Helpers.Supply.{no_helpers}
+use Rattle.es_statement_runs.proofs.MeantProof.{entered_free as no_helper_inside}
 use Rattle.es_statement_steps.proofs.FoundNames.{Finds}
 use Rattle.es_statement_steps.proofs.Rooms.{stays_put}
 use Rattle.es_statement_steps.proofs.NewNames.{new-fresh}
@@ -81,7 +83,7 @@ catch-stays = refl
 
 -- THE CLAUSES ARE ALIKE
 
-module _ (u : Supply) where
+module _ (no_all : Bool) (u : Supply) where
   abbrev with_name : Text → Declared
   with_name x = record { name = x; kind = codes "let" }
 
@@ -92,23 +94,27 @@ module _ (u : Supply) where
   one-more : (x : Text) (w v : World) → SameWorld (among_names (x ∷ [])) w v → SameWorld (among_names (x ∷ [])) (inner w []) (inner v (with_name x ∷ []))
   one-more x w v same = record { scope = λ y e. rw (not-other (bytes_eq y x) e) (same.scope y e); this = same.this; counts = same.counts }
 
-  known-more : (x : Text) (ds : List Declared) (w v : World) → WorldsKnown false (x ∷ []) ds w v → WorldsKnown false (x ∷ []) ds (inner w []) (inner v (with_name x ∷ []))
+  known-more : (x : Text) (ds : List Declared) (w v : World) → WorldsKnown no_all false (x ∷ []) ds w v → WorldsKnown no_all false (x ∷ []) ds (inner w []) (inner v (with_name x ∷ []))
   known-more x ds w v k = record {
     temporaries = λ e z h. absurd (cc e);
     bound = k.bound;
     unsaid = λ z h. ((k.unsaid z h).0, (unsaid_inside (among_names (x ∷ [])) (with_name x ∷ []) w v k.unsaid z h).1);
+    rest = record { other = k.rest.other; spreads = k.rest.spreads };
+    counts = k.counts;
+    free = k.free;
+    free_after = no_helper_inside no_helpers (with_name x ∷ []) v [] [] k.free_after;
   }
 
-  pub catch-keeps : KeepsRuns u false CatchRow
+  pub catch-keeps : KeepsRuns no_all u false CatchRow
   catch-keeps = record { alike = alike }
     where
       alike : (new : List Bound) (n : Site) (whole : Whole) (a b : Tree) → CatchRow new n whole a b → (t : Take) (ds : List Declared) → Resolved n.role n.names a → Finds ds n.names → Fine a → avoids (bad_temporaries (names_among new)) t a ≡ true →
           Quiet (temporaries_frame false (names_among new)) → StackSeen (temporaries_frame false (names_among new)) → SupplySeen (temporaries_frame false (names_among new)) u →
-          (w v : World) → SameWorld (among_names (names_among new)) w v → WorldsKnown false (names_among new) ds w v → (ls : List Text) (y : Text) → SenseLike (temporaries_frame false (names_among new)) w v t (sense (placed_at u w ls y) a) (sense (placed_at u v ls y) b)
+          (w v : World) → SameWorld (among_names (names_among new)) w v → WorldsKnown no_all false (names_among new) ds w v → (ls : List Text) (y : Text) → SenseLike (temporaries_frame false (names_among new)) w v t (sense (placed_at u w ls y) a) (sense (placed_at u v ls y) b)
       alike new n whole a b (made_catch {m = m} {b = c} {x = x} fresh) t ds resolved found fine away quiet stack seen w v same known ls y =
           let hidden = among_names (x.name ∷ []) in
           let here : hidden x.name ≡ true = ap (λ b. b || false) (bytes_eq-self x.name) in
-          let body = part-like u false (x.name ∷ []) quiet stack seen (inner w []) (inner v (with_name x.name ∷ [])) (one-more x.name w v same) ds (known-more x.name ds w v known) value_taken c (both_left (avoids (bad_temporaries (x.name ∷ [])) value_taken c) true away) [] [] in
+          let body = part-like no_all u false (x.name ∷ []) quiet stack seen (inner w []) (inner v (with_name x.name ∷ [])) (one-more x.name w v same) ds (known-more x.name ds w v known) value_taken c (both_left (avoids (bad_temporaries (x.name ∷ [])) value_taken c) true away) [] [] in
           rw (own_binding v x.name (codes "let"), declared_putter u (inner v (with_name x.name ∷ [])) (codes "let") (name x.name)) (record {
             core = nothing_like (temporaries_frame false (x.name ∷ [])) w v same t.need;
             more = λ _. same_handles (λ z. hide_scope hidden x.name [] here (hide_set hidden x.name z here body.core.evaluation));

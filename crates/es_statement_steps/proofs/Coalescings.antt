@@ -1,6 +1,6 @@
 -- The rows of nullish coalescing keep the runs of statements, whatever the operands are.
 use Rattle.std.proofs.Common.{◌≡◌, refl, sym, subst, ap, ◌∙◌, ℕ, List, [], ◌∷◌}
-use Rattle.std.specs.Prelude.{true, false, ◌&&◌, ◌||◌, not, Option, Some, None, is_some, codes}
+use Rattle.std.specs.Prelude.{Bool, true, false, ◌&&◌, ◌||◌, not, Option, Some, None, is_some, codes}
 use Rattle.es_tree.specs.Fresh.{node_base}
 use Rattle.es_tree.specs.Names.{first_text}
 use Rattle.es_tree.specs.Scopes.{Declared}
@@ -79,7 +79,7 @@ made-as by_global v ls y m x l r e = rw e refl
 made-as (by_import z) v ls y m x l r e = rw e refl
 made-as (by_require z) v ls y m x l r e = rw e refl
 
-module _ (u : Supply) where
+module _ (no_all : Bool) (u : Supply) where
   -- the operands stay
   operand-left : (xs : List Text) (m : Label) (l r : Tree) (t : Take) → avoids (bad_temporaries xs) t (node LogicalExpression m (one l then one r then done)) ≡ true → avoids (bad_temporaries xs) value_taken l ≡ true
   operand-left xs m l r t h = both_left (avoids (bad_temporaries xs) value_taken l) (avoids (bad_temporaries xs) value_taken r && true) h
@@ -89,21 +89,21 @@ module _ (u : Supply) where
 
   alike : (new : List Bound) (n : Site) (whole : Whole) (a b : Tree) → NullishCoalescingRule n whole new a b → (t : Take) (ds : List Declared) → Resolved n.role n.names a → Finds ds n.names → Fine a → avoids (bad_temporaries (names_among new)) t a ≡ true →
       Quiet (temporaries_frame true (names_among new)) → StackSeen (temporaries_frame true (names_among new)) → SupplySeen (temporaries_frame true (names_among new)) u →
-      (w v : World) → SameWorld (among_names (names_among new)) w v → WorldsKnown true (names_among new) ds w v → (ls : List Text) (y : Text) →
+      (w v : World) → SameWorld (among_names (names_among new)) w v → WorldsKnown no_all true (names_among new) ds w v → (ls : List Text) (y : Text) →
       SenseLike (temporaries_frame true (names_among new)) w v t (sense (placed_at u w ls y) a) (sense (placed_at u v ls y) b)
   alike new n whole a b (with_temporary {m = m} {l = l} {r = r} {x = x} texts again next) t ds resolved found fine away quiet stack seen w v same known ls y =
       let hidden = among_names (x.name ∷ []) in
       let here : among_names (x.name ∷ []) x.name ≡ true = ap (λ b. b || false) (bytes_eq-self x.name) in
       let var = known.temporaries refl x.name here in
-      let left = part-like u true (x.name ∷ []) quiet stack seen w v same ds known value_taken l (operand-left (x.name ∷ []) m l r t away) [] [] in
-      let right = part-like u true (x.name ∷ []) quiet stack seen w v same ds known value_taken r (operand-right (x.name ∷ []) m l r t away) [] [] in
+      let left = part-like no_all u true (x.name ∷ []) quiet stack seen w v same ds known value_taken l (operand-left (x.name ∷ []) m l r t away) [] [] in
+      let right = part-like no_all u true (x.name ∷ []) quiet stack seen w v same ds known value_taken r (operand-right (x.name ∷ []) m l r t away) [] [] in
       rw (ap first_text texts, made-as u v ls y m x l r var) (record {
         core = like_by_value hidden w v same t.need _ _
             (nullish_alike hidden w v same x.name here var (sense (placed_at u w [] []) r).core (sense (placed_at u v [] []) r).core right.core.evaluation (sense (placed_at u w [] []) l).core (sense (placed_at u v [] []) l).core left.core.evaluation);
         more = λ _. same_nothing;
       })
   alike new n whole a b (reading_again {m = m} {l = node ThisExpression o fs} {r = r} texts again) t ds resolved found fine away quiet stack seen w v same known ls y =
-      let right = part-like u true [] quiet stack seen w v same ds known value_taken r (operand-right [] m (node ThisExpression o fs) r t away) [] [] in
+      let right = part-like no_all u true [] quiet stack seen w v same ds known value_taken r (operand-right [] m (node ThisExpression o fs) r t away) [] [] in
       let here = λ (z : Value). tested_meaning v (literal z other) (literal z other) (sense (placed_at u v [] []) r).core in
       rw (ap first_text texts) (record {
         core = subst (λ (z : Value). Like (set_cells (among_names [])) w v t.need (logical w (codes "??") (literal w.this other) (sense (placed_at u w [] []) r).core) (here z)) (sym same.this)
@@ -111,7 +111,7 @@ module _ (u : Supply) where
         more = λ _. same_nothing;
       })
   alike new n whole a b (reading_again {m = m} {l = node Identifier o fs} {r = r} texts again) t ds resolved found fine away quiet stack seen w v same known ls y =
-      let right = part-like u true [] quiet stack seen w v same ds known value_taken r (operand-right [] m (node Identifier o fs) r t away) [] [] in
+      let right = part-like no_all u true [] quiet stack seen w v same ds known value_taken r (operand-right [] m (node Identifier o fs) r t away) [] [] in
       let symbol : is_some (symbol_of o) ≡ true = has-symbol (symbol_of o) again in
       let bound : is_free (w.scope (first_text o.texts)) ≡ false = known.bound (first_text o.texts) ∙ ap not (sym (found (first_text o.texts)) ∙ ap is_some (sym resolved.2.0.0) ∙ symbol) in
       rw (ap first_text texts) (record {
@@ -124,5 +124,5 @@ module _ (u : Supply) where
       has-symbol None e = absurd (cc e)
   alike new n whole a b (reading_again {l = node k o fs} texts again) t ds resolved found fine away quiet stack seen w v same known ls y = absurd (cc again)
 
-pub coalescing-keeps : (u : Supply) → KeepsRuns u true (Row CoalescingRow coalescing-shape)
-coalescing-keeps u = record { alike = λ new n whole a b h. alike u new n whole a b h.rule }
+pub coalescing-keeps : (no_all : Bool) (u : Supply) → KeepsRuns no_all u true (Row CoalescingRow coalescing-shape)
+coalescing-keeps no_all u = record { alike = λ new n whole a b h. alike no_all u new n whole a b h.rule }

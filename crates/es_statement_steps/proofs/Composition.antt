@@ -90,23 +90,23 @@ known-fine {x = x} k = program_stands (finished x) k.form k.class k.keeps
 
 -- WHAT IS ASKED OF STEPS
 
-pub record AloneRuns (o : EnvOptions) (u : Supply) (Clean : Tree → Type 0) : Type 0 where
+pub record AloneRuns (o : EnvOptions) (no_all : Bool) (u : Supply) (Clean : Tree → Type 0) : Type 0 where
   -- of the class
   pub class : {s s' : Ledger} {x y : Open} → Step (alone o) the_program s x s' y → IsProper x → IsProper y → Class (finished x) → Class (finished y)
   -- and of runs, where Clean is kept
-  pub clean : {s s' : Ledger} {x y : Open} → Step (alone o) the_program s x s' y → Known s x → Clean (finished x) → Clean (finished y)
-  pub runs : {s s' : Ledger} {x y : Open} → Step (alone o) the_program s x s' y → Known s x → Known s' y → Clean (finished x) → Clean (finished y) → StepAlike u (finished x) (finished y)
+  pub clean : {s s' : Ledger} {x y : Open} → Step (alone o) the_program s x s' y → Known s x → Known s' y → Clean (finished x) → Clean (finished y)
+  pub runs : {s s' : Ledger} {x y : Open} → Step (alone o) the_program s x s' y → Known s x → Known s' y → Clean (finished x) → Clean (finished y) → StepAlike no_all u (finished x) (finished y)
 
 -- exports of namespaces, where they are asked for
 abbrev pub Exports : EnvOptions → Site → Ledger → Spot → Ledger → Spot → Type 0
 Exports o = where_on o.es2020.export_namespace_from NamespaceRule
 
-pub record NamespaceRuns (o : EnvOptions) (u : Supply) (Clean : Tree → Type 0) : Type 0 where
+pub record NamespaceRuns (o : EnvOptions) (no_all : Bool) (u : Supply) (Clean : Tree → Type 0) : Type 0 where
   pub class : {s s' : Ledger} {x y : Open} → Step (Exports o) the_program s x s' y → has_form s-Program (finished x) ≡ true → Class (finished x) → Class (finished y)
-  pub clean : {s s' : Ledger} {x y : Open} → Step (Exports o) the_program s x s' y → Known s (spread x) → Clean (finished x) → Clean (finished y)
-  pub runs : {s s' : Ledger} {x y : Open} → Step (Exports o) the_program s x s' y → Known s (spread x) → Known s' (spread y) → Clean (finished x) → Clean (finished y) → StepAlike u (finished x) (finished y)
+  pub clean : {s s' : Ledger} {x y : Open} → Step (Exports o) the_program s x s' y → Known s (spread x) → Known s' (spread y) → Clean (finished x) → Clean (finished y)
+  pub runs : {s s' : Ledger} {x y : Open} → Step (Exports o) the_program s x s' y → Known s (spread x) → Known s' (spread y) → Clean (finished x) → Clean (finished y) → StepAlike no_all u (finished x) (finished y)
 
-module _ (o : EnvOptions) (u : Supply) (Clean : Tree → Type 0) (law : AloneRuns o u Clean) (exports : NamespaceRuns o u Clean) where
+module _ (o : EnvOptions) (no_all : Bool) (u : Supply) (Clean : Tree → Type 0) (law : AloneRuns o no_all u Clean) (exports : NamespaceRuns o no_all u Clean) where
   -- what is kept of form and places, and the class
   pub record Shaped (x : Open) : Type 0 where
     pub proper : IsProper x
@@ -136,17 +136,17 @@ module _ (o : EnvOptions) (u : Supply) (Clean : Tree → Type 0) (law : AloneRun
       record { proper = next.proper; form = next.formed; keeps = next.keeps k.keeps; class = subst (λ (t : Tree). Class t) (sym (finished-spread y)) (exports.class r form (subst (λ (t : Tree). Class t) (finished-spread x) k.class)) }
 
   -- one step, where the names on both sides are known
-  alike-after : {s s' : Ledger} (x y : Open) → Split s s' x y → Known s (spread x) → Known s' (spread y) → Clean (finished x) → Clean (finished y) → StepAlike u (finished x) (finished y)
+  alike-after : {s s' : Ledger} (x y : Open) → Split s s' x y → Known s (spread x) → Known s' (spread y) → Clean (finished x) → Clean (finished y) → StepAlike no_all u (finished x) (finished y)
   alike-after x y (moves r) k m c d =
-      subst (λ (t : Tree). StepAlike u t (finished y)) (finished-spread x) (subst (λ (t : Tree). StepAlike u (finished (spread x)) t) (finished-spread y)
+      subst (λ (t : Tree). StepAlike no_all u t (finished y)) (finished-spread x) (subst (λ (t : Tree). StepAlike no_all u (finished (spread x)) t) (finished-spread y)
       (law.runs r k m (subst (λ (t : Tree). Clean t) (sym (finished-spread x)) c) (subst (λ (t : Tree). Clean t) (sym (finished-spread y)) d)))
-  alike-after x y (rests e) k m c d = unchanged u (finished x) (finished y) (sym (finished-spread x) ∙ ap finished e.1 ∙ finished-spread y)
+  alike-after x y (rests e) k m c d = unchanged no_all u (finished x) (finished y) (sym (finished-spread x) ∙ ap finished e.1 ∙ finished-spread y)
   alike-after x y (leaves r) k m c d = exports.runs r k m c d
 
-  clean-after : {s s' : Ledger} (x y : Open) → Split s s' x y → Known s (spread x) → Clean (finished x) → Clean (finished y)
-  clean-after x y (moves r) k c = subst (λ (t : Tree). Clean t) (finished-spread y) (law.clean r k (subst (λ (t : Tree). Clean t) (sym (finished-spread x)) c))
-  clean-after x y (rests e) k c = subst (λ (t : Tree). Clean t) (sym (finished-spread x) ∙ ap finished e.1 ∙ finished-spread y) c
-  clean-after x y (leaves r) k c = exports.clean r k c
+  clean-after : {s s' : Ledger} (x y : Open) → Split s s' x y → Known s (spread x) → Known s' (spread y) → Clean (finished x) → Clean (finished y)
+  clean-after x y (moves r) k m c = subst (λ (t : Tree). Clean t) (finished-spread y) (law.clean r k m (subst (λ (t : Tree). Clean t) (sym (finished-spread x)) c))
+  clean-after x y (rests e) k m c = subst (λ (t : Tree). Clean t) (sym (finished-spread x) ∙ ap finished e.1 ∙ finished-spread y) c
+  clean-after x y (leaves r) k m c = exports.clean r k m c
 
   known-of : (s : Ledger) (x : Open) → Shaped (spread x) → IsResolved (finished x) → Named (whole_in s).in_use (whole_in s).free_symbol reads (finished x) → Known s (spread x)
   known-of s x k resolved named = record {
@@ -164,13 +164,13 @@ module _ (o : EnvOptions) (u : Supply) (Clean : Tree → Type 0) (law : AloneRun
   program-scope : (t : Tree) → has_form s-Program t ≡ true → is_var_scope (kind_of t) ≡ true
   program-scope (node k l fs) h = ap is_var_scope (form-placed (node k l fs) h).0
 
-  then-alike : (x y z : Tree) → StepAlike u x y → StepAlike u y z → StepAlike u x z
-  then-alike x y z a b = record { runs = law_then_proof u false x y z a.runs b.runs a.declared; declared = λ w h. b.declared w (a.declared w h) }
+  then-alike : (x y z : Tree) → StepAlike no_all u x y → StepAlike no_all u y z → StepAlike no_all u x z
+  then-alike x y z a b = record { runs = law_then_proof u no_all x y z a.runs b.runs a.declared; declared = λ w h. b.declared w (a.declared w h) }
 
   -- STEPS IN A ROW, where each symbol has the name that it has in the end, and nothing is pending outside the program
   pub composed : (ends : ℕ → Text) {s s' : Ledger} {x x' : Open} → Steps (Step (with_further_rules o) the_program) s x s' x' → ((m : ℕ) → m < (whole_in s').free_symbol → ends m ≡ (whole_in s').called m) → is_var_scope (kind_of (finished x)) ≡ true →
-      Named (whole_in s).in_use (whole_in s).free_symbol reads (finished x) → LedgerPasses (is_called ends) s → Passes (is_called ends) (finished x) → IsResolved (finished x) → IsClean s' → Shaped (spread x) → Clean (finished x) → StepAlike u (finished x) (finished x')
-  composed ends {x = x} stays end kind used beside names resolved last shaped clean = unchanged u (finished x) (finished x) refl
+      Named (whole_in s).in_use (whole_in s).free_symbol reads (finished x) → LedgerPasses (is_called ends) s → Passes (is_called ends) (finished x) → IsResolved (finished x) → IsClean s' → Shaped (spread x) → Clean (finished x) → StepAlike no_all u (finished x) (finished x')
+  composed ends {x = x} stays end kind used beside names resolved last shaped clean = unchanged no_all u (finished x) (finished x) refl
   composed ends {x = x} {x' = x'} (goes {s = s} {s' = m} {s'' = s'} {u = y} one rest) end kind used beside names resolved last shaped clean =
       let all = step_under (with_further_rules o) (AllRules o) (built-all o) one in
       let later = all_under (with_further_rules o) (AllRules o) (built-all o) rest in
@@ -188,7 +188,7 @@ module _ (o : EnvOptions) (u : Supply) (Clean : Tree → Type 0) (law : AloneRun
       let shaped_after = shaped-after x y (split one) shaped in
       let known = known-of s x shaped resolved used in
       let known_after = known-of m y shaped_after resolved_after first.named in
-      let clean_after = clean-after x y (split one) known clean in
+      let clean_after = clean-after x y (split one) known known_after clean in
       then-alike (finished x) (finished y) (finished x') (alike-after x y (split one) known known_after clean clean_after) (composed ends rest end kind_after first.named k.1 k.0 resolved_after last shaped_after clean_after)
     where
       longer-free : (k : ℕ) → k < (whole_in m).free_symbol → (whole_in m).free_symbol ≤ (whole_in s').free_symbol → k < (whole_in s').free_symbol

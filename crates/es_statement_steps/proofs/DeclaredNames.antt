@@ -10,7 +10,7 @@ use Rattle.es_tree.specs.Walks.{all_nodes}
 use Rattle.es_tree.specs.Words.{Text}
 use Rattle.es_tree.specs.declared.ast_type.AstType.{AstType}
 use Rattle.es_tree.specs.declared.ast_type.AstType.TheVariants.{Program, BlockStatement, StaticBlock, VariableDeclaration, VariableDeclarator, FunctionDeclaration, FunctionExpression, FunctionBody, ArrowFunctionExpression, ClassDeclaration, ClassExpression, MethodDefinition, ForStatement, ForInStatement, ForOfStatement, SwitchStatement, SwitchCase, CatchClause, ImportDeclaration, ImportSpecifier, ImportDefaultSpecifier, ImportNamespaceSpecifier, ExportNamedDeclaration, ExportSpecifier, ExportDefaultDeclaration, Identifier, AssignmentExpression, UpdateExpression, ParenthesizedExpression, ObjectPattern, PatternProperty, ArrayPattern, AssignmentPattern, RestElement, ObjectTarget, TargetProperty, ArrayTarget, TargetWithDefault, TargetRest}
-use Rattle.es_semantic.specs.RolesOf.{binding_of, reads, role_at}
+use Rattle.es_semantic.specs.RolesOf.{binding_of, reads, refers, role_at}
 use Rattle.es_semantic.specs.declared.place.Binding.TheVariants.{Variable, Let, Constant}
 use Rattle.es_semantic.specs.declared.place.Role.{Role}
 use Rattle.es_semantic.specs.declared.place.Role.TheVariants.{Nothing, Binds}
@@ -48,42 +48,50 @@ pub asked_export : (v b : Bool) → is_asked v (if b then Nothing else reads) �
 asked_export v true = refl
 asked_export v false = refl
 
--- where a node that stands in an expression or a pattern declares nothing, neither does what stands in it
+-- what no role of references has, and no role in an expression or a pattern where the node hasn't
+pub role_inner_by : (q : Role → Bool) → ((read write : Bool) → q (refers read write) ≡ false) → q Nothing ≡ false → (r : Role) (k : AstType) (l : Label) (fs : Fields) (i : ℕ) → is_statement_kind k ≡ true → is_inner k ≡ true → q r ≡ false → q (role_at r k l fs i) ≡ false
+role_inner_by q read told r AssignmentExpression l fs zero c e o = read _ true
+role_inner_by q read told r UpdateExpression l fs zero c e o = read true true
+role_inner_by q read told r ParenthesizedExpression l fs zero c e o = o
+role_inner_by q read told r VariableDeclarator l fs zero c e o = o
+role_inner_by q read told r ObjectPattern l fs zero c e o = o
+role_inner_by q read told r PatternProperty l fs (suc zero) c e o = o
+role_inner_by q read told r ArrayPattern l fs i c e o = o
+role_inner_by q read told r AssignmentPattern l fs zero c e o = o
+role_inner_by q read told r RestElement l fs zero c e o = o
+role_inner_by q read told r ObjectTarget l fs zero c e o = o
+role_inner_by q read told r TargetProperty l fs (suc zero) c e o = o
+role_inner_by q read told r ArrayTarget l fs i c e o = o
+role_inner_by q read told r TargetWithDefault l fs zero c e o = o
+role_inner_by q read told r TargetRest l fs zero c e o = o
+role_inner_by q read told r Program l fs i c e o = absurd (cc e)
+role_inner_by q read told r VariableDeclaration l fs i c e o = absurd (cc e)
+role_inner_by q read told r CatchClause l fs i c e o = absurd (cc e)
+role_inner_by q read told r ImportSpecifier l fs i c e o = absurd (cc e)
+role_inner_by q read told r ImportDefaultSpecifier l fs i c e o = absurd (cc e)
+role_inner_by q read told r ImportNamespaceSpecifier l fs i c e o = absurd (cc e)
+role_inner_by q read told r ExportNamedDeclaration l fs i c e o = absurd (cc e)
+role_inner_by q read told r ExportSpecifier l fs zero c e o = o
+role_inner_by q read told r ExportDefaultDeclaration l fs i c e o = absurd (cc e)
+role_inner_by q read told r ForInStatement l fs i c e o = absurd (cc e)
+role_inner_by q read told r ForOfStatement l fs i c e o = absurd (cc e)
+role_inner_by q read told r FunctionDeclaration l fs i c e o = absurd (cc e)
+role_inner_by q read told r FunctionBody l fs i c e o = absurd (cc e)
+role_inner_by q read told r StaticBlock l fs i c e o = absurd (cc e)
+role_inner_by q read told r ClassDeclaration l fs i c e o = absurd (cc e)
+role_inner_by q read told r FunctionExpression l fs i c e o = absurd (cc c)
+role_inner_by q read told r ArrowFunctionExpression l fs i c e o = absurd (cc c)
+role_inner_by q read told r ClassExpression l fs i c e o = absurd (cc c)
+role_inner_by q read told r MethodDefinition l fs i c e o = absurd (cc c)
+role_inner_by q read told r k l fs i c e o = by_place (is_name_place k l i)
+  where
+    by_place : (b : Bool) → q (if b then reads else Nothing) ≡ false
+    by_place true = read true false
+    by_place false = told
+
+-- where a node declares nothing, neither does what stands in it
 role_inner : (v : Bool) (r : Role) (k : AstType) (l : Label) (fs : Fields) (i : ℕ) → is_statement_kind k ≡ true → is_inner k ≡ true → is_asked v r ≡ false → is_asked v (role_at r k l fs i) ≡ false
-role_inner v r AssignmentExpression l fs zero c e o = refl
-role_inner v r UpdateExpression l fs zero c e o = refl
-role_inner v r ParenthesizedExpression l fs zero c e o = o
-role_inner v r VariableDeclarator l fs zero c e o = o
-role_inner v r ObjectPattern l fs zero c e o = o
-role_inner v r PatternProperty l fs (suc zero) c e o = o
-role_inner v r ArrayPattern l fs i c e o = o
-role_inner v r AssignmentPattern l fs zero c e o = o
-role_inner v r RestElement l fs zero c e o = o
-role_inner v r ObjectTarget l fs zero c e o = o
-role_inner v r TargetProperty l fs (suc zero) c e o = o
-role_inner v r ArrayTarget l fs i c e o = o
-role_inner v r TargetWithDefault l fs zero c e o = o
-role_inner v r TargetRest l fs zero c e o = o
-role_inner v r Program l fs i c e o = absurd (cc e)
-role_inner v r VariableDeclaration l fs i c e o = absurd (cc e)
-role_inner v r CatchClause l fs i c e o = absurd (cc e)
-role_inner v r ImportSpecifier l fs i c e o = absurd (cc e)
-role_inner v r ImportDefaultSpecifier l fs i c e o = absurd (cc e)
-role_inner v r ImportNamespaceSpecifier l fs i c e o = absurd (cc e)
-role_inner v r ExportNamedDeclaration l fs i c e o = absurd (cc e)
-role_inner v r ExportSpecifier l fs zero c e o = o
-role_inner v r ExportDefaultDeclaration l fs i c e o = absurd (cc e)
-role_inner v r ForInStatement l fs i c e o = absurd (cc e)
-role_inner v r ForOfStatement l fs i c e o = absurd (cc e)
-role_inner v r FunctionDeclaration l fs i c e o = absurd (cc e)
-role_inner v r FunctionBody l fs i c e o = absurd (cc e)
-role_inner v r StaticBlock l fs i c e o = absurd (cc e)
-role_inner v r ClassDeclaration l fs i c e o = absurd (cc e)
-role_inner v r FunctionExpression l fs i c e o = absurd (cc c)
-role_inner v r ArrowFunctionExpression l fs i c e o = absurd (cc c)
-role_inner v r ClassExpression l fs i c e o = absurd (cc c)
-role_inner v r MethodDefinition l fs i c e o = absurd (cc c)
-role_inner v r k l fs i c e o = asked_place v (is_name_place k l i)
+role_inner v = role_inner_by (is_asked v) (λ read write. refl) refl
 
 -- what is declared in a pattern stands where names are bound
 role_pattern : (v : Bool) (r : Role) (k : AstType) (l : Label) (fs : Fields) (i : ℕ) → (is_pattern k || is_declarator k) ≡ true → is_asked v (role_at r k l fs i) ≡ true → binds_at k i ≡ true
@@ -462,12 +470,8 @@ module _ (x : Text) where
       (bound-both (if reaches_out v VariableDeclaration zero then declared_among v role ds else []) (declared_in v (λ i. reaches_out v VariableDeclaration (suc i)) (λ i. role_at r VariableDeclaration l (many ds then gs) (suc i)) gs) x
       (is_asked v role && declares (declarators_names word ds) x) false
       (if_bound v (reaches_out v VariableDeclaration zero) (declared_among v role ds) (is_asked v role && declares (declarators_names word ds) x) (λ g. declarators_named v role word ds declarators) ∙ ap (λ b. b && (is_asked v role && declares (declarators_names word ds) x)) (counts zero))
-      (none_bound v (λ i. reaches_out v VariableDeclaration (suc i)) (λ i. reads) gs (map_below (λ i t. Child VariableDeclaration (suc i) t) (λ i t. reaches_out v VariableDeclaration (suc i) ≡ true → bound_by (declared v reads t) x ≡ false) (λ i t e g. inner_none v reads t refl (declarator_inner (kind_of t) e.stands_there.part) e.nodes) gs c.1))
+      (none_bound v (λ i. reaches_out v VariableDeclaration (suc i)) (λ i. reads) gs (map_below (λ i t. Child VariableDeclaration (suc i) t) (λ i t. reaches_out v VariableDeclaration (suc i) ≡ true → bound_by (declared v reads t) x ≡ false) (λ i t e g. absurd (let no = e.stands_there.part in cc no)) gs c.1))
       ∙ or-false (is_asked v role && declares (declarators_names word ds) x))
-    where
-      declarator_inner : (k : AstType) → is_declarator k ≡ true → is_inner k ≡ true
-      declarator_inner VariableDeclarator e = refl
-      declarator_inner _ e = absurd (cc e)
   declaration_named v r l fs word h = absurd (let s = standing VariableDeclaration l fs h in cc s.shape)
 
   -- by its word

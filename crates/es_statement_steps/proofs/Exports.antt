@@ -45,9 +45,10 @@ use Rattle.es_statement_runs.specs.BareVars.BesideField.{beside_many, beside_mis
 use Rattle.es_statement_runs.specs.BareVars.BesideFields.{beside_done, beside_then}
 use Rattle.es_statement_runs.specs.BareVars.BesideList.{both_have, first_has, second_has}
 use Rattle.es_statement_runs.specs.BareVars.BesideTrees.{beside_before, beside_empty}
-use Rattle.es_statement_runs.specs.Helpers.Supply.{no_helpers}
+use Rattle.es_statement_runs.specs.Helpers.{Supply, silent_names}
+use Rattle.es_statement_steps.proofs.KeylessPrograms.{IsKeyless, excludes_none}
 use Rattle.es_statement_runs.specs.Kinds.{found, kind_in}
-use Rattle.es_statement_runs.specs.Laws.{SplitExports, among_names, body_needs, export_of, no_row, namespace_import as plain_import}
+use Rattle.es_statement_runs.specs.Laws.{is_silent, SplitExports, among_names, body_needs, export_of, no_row, namespace_import as plain_import}
 use Rattle.es_statement_runs.specs.Laws.SplitExports.{as_it_is, none_split, one_split}
 use Rattle.es_statement_runs.specs.Names.{top_in, top_names, var_names, var_names_all}
 use Rattle.es_statement_runs.specs.Places.{Take, avoids, avoids_trees, label_taken, take, value_taken}
@@ -58,10 +59,10 @@ use Rattle.es_statement_runs.proofs.NamespaceExports.{law_namespace_exports_proo
 use Rattle.es_statement_steps.proofs.Composition.{Exports, Known, NamespaceRuns, exported, known-fine}
 use Rattle.es_statement_steps.proofs.FoundNames.{declared_is}
 use Rattle.es_statement_steps.proofs.FreshNames.{top_used, unused_avoids}
-use Rattle.es_statement_steps.proofs.MadeNames.{made_math, made_program_names}
+use Rattle.es_statement_steps.proofs.MadeNames.{made_math, made_program_names, made_supply}
 use Rattle.es_statement_steps.proofs.NewNames.{new-fresh}
 use Rattle.es_statement_steps.proofs.Rooms.{IsProgram, program-fields}
-use Rattle.es_statement_steps.proofs.RowRuns.{StepAlike, false-where, not-new, undeclared-kind}
+use Rattle.es_statement_steps.proofs.RowRuns.{alike-under, StepAlike, false-where, not-new, undeclared-kind}
 use Rattle.es_statement_steps.proofs.Sources.{avoids-nothing, avoids-nothing-all, nothing, then-alike}
 use Rattle.es_statement_steps.proofs.StepMoves.{AreNew, Fine}
 use Rattle.es_statement_steps.proofs.Tamed.{Class}
@@ -179,6 +180,10 @@ export-none x m e s attributes f = rw (exported-none e f.exported) refl
 
 -- THE LISTS
 
+keyless-joined : (vs ts : Trees) → all_in_trees excludes_none vs ≡ true → all_in_trees excludes_none ts ≡ true → all_in_trees excludes_none (joined_trees vs ts) ≡ true
+keyless-joined empty ts v k = k
+keyless-joined (t before vs) ts v k = let d = and_parts (all_nodes excludes_none t) (all_in_trees excludes_none vs) v in and_from (all_nodes excludes_none t) (all_in_trees excludes_none (joined_trees vs ts)) d.0 (keyless-joined vs ts d.1 k)
+
 module _ (x : Bound) where
   abbrev xs : List Text
   xs = x.name ∷ []
@@ -190,12 +195,13 @@ module _ (x : Bound) where
   by_import = record { name = x.name; kind = codes "const" }
 
   -- first the export becomes an import and an export, and then what is pending moves after the import, and marks are given
-  record Parted (ts us : Trees) : Type 0 where
-    between : Trees
+  pub record Parted (ts us : Trees) : Type 0 where
+    pub between : Trees
     split : SplitExports bad xs ts between
     beside : (ds : List Declared) → BesideList nothing (λ es. no_row) ds true between us
     more : OneMore by_import (top_in ts) (top_in between)
     more_after : OneMore by_import (top_in ts) (top_in us)
+    pub keyless : all_in_trees excludes_none ts ≡ true → (all_in_trees excludes_none between ≡ true) × (all_in_trees excludes_none us ≡ true)
 
   itself : (t : Tree) (ds : List Declared) (n : Take) → Beside nothing (λ es. no_row) ds n t t
   itself t ds n = self_beside nothing (λ es. no_row) t ds n (avoids-nothing n t)
@@ -211,8 +217,15 @@ module _ (x : Bound) where
   unsplit empty h = none_split
   unsplit (t before ts) h = as_it_is (both_left (avoids bad body_needs t) (avoids_trees bad body_needs ts) h) (unsplit ts (both_right (avoids bad body_needs t) (avoids_trees bad body_needs ts) h))
 
+  keyless-cons : (t : Tree) (ts us vs : Trees) → all_in_trees excludes_none (t before ts) ≡ true → (all_in_trees excludes_none ts ≡ true → (all_in_trees excludes_none us ≡ true) × (all_in_trees excludes_none vs ≡ true)) →
+      (all_in_trees excludes_none (t before us) ≡ true) × (all_in_trees excludes_none (t before vs) ≡ true)
+  keyless-cons t ts us vs k rest =
+      let d = and_parts (all_nodes excludes_none t) (all_in_trees excludes_none ts) k in
+      let r = rest d.1 in
+      (and_from (all_nodes excludes_none t) (all_in_trees excludes_none us) d.0 r.0, and_from (all_nodes excludes_none t) (all_in_trees excludes_none vs) d.0 r.1)
+
   cons : {ts us : Trees} (t : Tree) → avoids bad body_needs t ≡ true → Parted ts us → Parted (t before ts) (t before us)
-  cons t h r = record { between = t before r.between; split = as_it_is h r.split; beside = λ ds. both_have (itself t ds (take the_value true)) (r.beside ds); more = under by_import (top_names t) r.more; more_after = under by_import (top_names t) r.more_after }
+  cons {ts = ts} {us = us} t h r = record { between = t before r.between; split = as_it_is h r.split; beside = λ ds. both_have (itself t ds (take the_value true)) (r.beside ds); more = under by_import (top_names t) r.more; more_after = under by_import (top_names t) r.more_after; keyless = λ k. keyless-cons t ts r.between us k r.keyless }
 
   abbrev unmarked_import : Label → Tree → Trees → Tree
   unmarked_import m s attributes = plain_import (record (made [] []) { start = m.start; stop = m.stop }) (made [] []) x.name s attributes
@@ -237,6 +250,18 @@ module _ (x : Bound) where
   source-avoids m e s attributes h =
       both_left (avoids bad label_taken s) (avoids_trees bad label_taken attributes && true) (both_right (avoids bad label_taken e) (avoids bad label_taken s && (avoids_trees bad label_taken attributes && true)) h)
 
+  -- an import and an export make no call
+  keyless-here : (vs : Trees) (m : Label) (e s : Tree) (attributes ts : Trees) → all_in_trees excludes_none vs ≡ true → all_in_trees excludes_none (all_from m e s attributes before ts) ≡ true →
+      (all_in_trees excludes_none (unmarked_import m s attributes before (unmarked_export e before ts)) ≡ true) × (all_in_trees excludes_none (made_import m x s attributes before joined_trees vs (made_export x e before ts)) ≡ true)
+  keyless-here vs m e s attributes ts v k =
+      let d = and_parts (all_nodes excludes_none (all_from m e s attributes)) (all_in_trees excludes_none ts) k in
+      let g = and_parts (all_nodes excludes_none e) (all_nodes excludes_none s && (all_in_trees excludes_none attributes && true)) d.0 in
+      let i = and_parts (all_nodes excludes_none s) (all_in_trees excludes_none attributes && true) g.1 in
+      let j = (and_parts (all_in_trees excludes_none attributes) true i.1).0 in
+      let export_so : all_in_trees excludes_none (made_export x e before ts) ≡ true = rw (g.0, d.1) refl in
+      let after_so : all_in_trees excludes_none (joined_trees vs (made_export x e before ts)) ≡ true = keyless-joined vs (made_export x e before ts) v export_so in
+      (rw (i.0, j, g.0, d.1) refl, rw (i.0, j, after_so) refl)
+
   -- the export itself, with what is pending
   at-export : (vs : Trees) → AtMost vs → (m : Label) (e s : Tree) (attributes ts : Trees) → ExportForm m e s attributes → avoids_trees bad body_needs (joined_trees vs (all_from m e s attributes before ts)) ≡ true →
       Parted (joined_trees vs (all_from m e s attributes before ts)) (made_import m x s attributes before joined_trees vs (made_export x e before ts))
@@ -246,6 +271,7 @@ module _ (x : Bound) where
     beside = λ ds. both_have (import-marked m s attributes ds) (both_have (export-marked e ds) (list-itself ts ds));
     more = at-once by_import (top_names (all_from m e s attributes)) (top_names (unmarked_export e)) (top_in ts) (all-none m e s attributes f) (export-none x m e s attributes f);
     more_after = at-once by_import (top_names (all_from m e s attributes)) (top_names (made_export x e)) (top_in ts) (all-none m e s attributes f) (export-none x m e s attributes f);
+    keyless = λ k. keyless-here empty m e s attributes ts refl k;
   }
   at-export (v before empty) (one_there b) m e s attributes ts f h =
       let rest = both_right (avoids bad body_needs v) (avoids_trees bad body_needs (all_from m e s attributes before ts)) h in
@@ -256,7 +282,14 @@ module _ (x : Bound) where
         beside = λ ds. first_has b (both_have (import-marked m s attributes ds) (second_has b (both_have (export-marked e ds) (list-itself ts ds))));
         more = under by_import (top_names v) (at-once by_import (top_names (all_from m e s attributes)) (top_names (unmarked_export e)) (top_in ts) (all-none m e s attributes f) (export-none x m e s attributes f));
         more_after = at-first by_import (top_names v) (top_names (all_from m e s attributes)) (top_names (made_export x e)) (top_in ts) (all-none m e s attributes f) (export-none x m e s attributes f);
+        keyless = λ k. keyless-with m e s attributes ts k;
       }
+    where
+      keyless-with : (m : Label) (e s : Tree) (attributes ts : Trees) → all_in_trees excludes_none (v before (all_from m e s attributes before ts)) ≡ true → (all_in_trees excludes_none (v before (unmarked_import m s attributes before (unmarked_export e before ts))) ≡ true) × (all_in_trees excludes_none (made_import m x s attributes before (v before (made_export x e before ts))) ≡ true)
+      keyless-with m e s attributes ts k =
+          let d = and_parts (all_nodes excludes_none v) (all_in_trees excludes_none (all_from m e s attributes before ts)) k in
+          let r = keyless-here (v before empty) m e s attributes ts (and_from (all_nodes excludes_none v) true d.0 refl) d.1 in
+          (and_from (all_nodes excludes_none v) (all_in_trees excludes_none (unmarked_import m s attributes before (unmarked_export e before ts))) d.0 r.0, r.1)
   at-export (v before (_ before _)) most m e s attributes ts f h = elim most [ ]
 
   form-there : (m : Label) (e s : Tree) (attributes ts : Trees) → trees_form s-Statement s-Statement (all_from m e s attributes before ts) ≡ true → ExportForm m e s attributes
@@ -286,7 +319,8 @@ module _ (x : Bound) where
 declared-by : (ds es : List Declared) (z : Text) → kind_in es z ≡ kind_in ds z → is_declared ds z ≡ true → is_declared es z ≡ true
 declared-by ds es z e h = ap (λ (b : Binding). not (is_free b)) (top_bound es z ∙ ap (λ (c : Option Text). found c z (λ y. free) z) e ∙ sym (top_bound ds z)) ∙ h
 
-module _ (w : Whole) (x : Bound) (are_new : AreNew w (x ∷ [])) (l : Label) (ds body after : Trees) (parts : Parted x body after) (named : Named w.in_use w.free_symbol reads (program l ds body)) (fine : Fine (program l ds body)) where
+module _ (w : Whole) (x : Bound) (are_new : AreNew w (x ∷ [])) (l : Label) (ds body after : Trees) (parts : Parted x body after) (named : Named w.in_use w.free_symbol reads (program l ds body)) (fine : Fine (program l ds body))
+    (u : Supply) (silent : silent_names u (program l ds body) ≡ []) (silent_between : silent_names u (program l ds parts.between) ≡ []) (silent_after : silent_names u (program l ds after) ≡ []) where
   abbrev d : Declared
   d = record { name = x.name; kind = codes "const" }
 
@@ -313,20 +347,20 @@ module _ (w : Whole) (x : Bound) (are_new : AreNew w (x ∷ [])) (l : Label) (ds
       at true e = added d parts.more_after y e (undeclared y e) ∙ sym (added d parts.more y e (undeclared y e))
       at false e = kept d parts.more_after y e ∙ sym (kept d parts.more y e)
 
-  first-alike : StepAlike no_helpers (program l ds body) (program l ds parts.between)
+  first-alike : StepAlike false u (program l ds body) (program l ds parts.between)
   first-alike = record {
-    runs = law_namespace_exports_proof no_helpers (x.name ∷ []) l ds body parts.between parts.split kept-so apart refl (λ y e. refl) (made_math (x.name ∷ []) are_new.names) (made_program_names (x.name ∷ []) are_new.names) tt;
+    runs = law_namespace_exports_proof u (x.name ∷ []) l ds body parts.between parts.split kept-so apart (silent_between ∙ sym silent) (λ y e. ap (λ es. is_silent es y) silent) (made_math (x.name ∷ []) are_new.names) (made_program_names (x.name ∷ []) are_new.names) (made_supply u (x.name ∷ []) are_new.names);
     declared = λ z h. declared-by (top_in body) (top_in parts.between) z (kept-so z (apart z h)) h;
   }
 
-  second-alike : StepAlike no_helpers (program l ds parts.between) (program l ds after)
+  second-alike : StepAlike false u (program l ds parts.between) (program l ds after)
   second-alike = record {
-    runs = law_vars_proof no_helpers [] l ds parts.between after (parts.beside (top_in parts.between)) (λ y e. same-kinds y) (λ y e. refl) refl (λ y e. absurd (cc e)) refl refl tt;
+    runs = law_vars_proof u [] l ds parts.between after (parts.beside (top_in parts.between)) (λ y e. same-kinds y) (λ y e. refl) (silent_after ∙ sym silent_between) (λ y e. absurd (cc e)) refl refl (made_supply u [] refl);
     declared = λ z h. declared-by (top_in parts.between) (top_in after) z (same-kinds z) h;
   }
 
-  list-alike : StepAlike no_helpers (program l ds body) (program l ds after)
-  list-alike = then-alike no_helpers (program l ds body) (program l ds parts.between) (program l ds after) first-alike second-alike
+  list-alike : StepAlike false u (program l ds body) (program l ds after)
+  list-alike = then-alike false u (program l ds body) (program l ds parts.between) (program l ds after) first-alike second-alike
 
 -- THE PROGRAM
 
@@ -336,27 +370,43 @@ body-avoids w x are_new l ds body named fine =
     unused_avoids w.in_use w.free_symbol (among_names (x.name ∷ [])) (λ y e. not-new w (x ∷ []) are_new y e) reads value_taken (program l ds body) (λ e. absurd (cc e)) named fine in
     both_left (avoids_trees (bad x) body_needs body) true (both_right (avoids_trees (bad x) body_needs ds) (avoids_trees (bad x) body_needs body && true) whole_so)
 
-program-run : {s s' : Ledger} {x y : Open} → ProgramExported s s' x y → Known s x → StepAlike no_helpers (finished x) (finished y)
-program-run (in_the_list {w = w} {l = l} {d = d} {p = p} {q = q} {x = x} {y = y} {a = a} {b = b} {ts = ts} {us = us} h) k =
-    let r = split-by h in
-    let body = whole_list p x a (finished_trees ts) in
-    let fs = finished_fields (d and (list p x a ts and ends)) in
-    let children = (and_parts _ _ (node_form s-Program Program l fs k.form).children).1 in
-    let form = after-rest s-Statement (pending_statements p x a) (finished_trees ts) (and_parts (trees_form s-Statement s-Statement body) true children).0 in
-    let there = λ (p : Pending) (x : Option Bound) (a : Additions). StepAlike no_helpers (node Program l fs) (node Program l (finished_field d then (statements (whole_list p x a (finished_trees us)) then done))) in
-    subst (λ (p : Pending). there p y b) (sym r.pending) (subst (λ (x : Option Bound). there p x b) (sym r.this) (subst (λ (a : Additions). there p x a) (sym r.top)
-    (go (finished_field d) r form k.proper.1.0.0 (program-fields s-Program l fs k.form) k.named (known-fine k))))
-  where
-    go : (f : Field) (r : SplitBy w p q x y a b (finished_trees ts) (finished_trees us)) → trees_form s-Statement s-Statement (finished_trees ts) ≡ true → IsPlainList p x a →
-        IsProgram (f then (statements (whole_list p x a (finished_trees ts)) then done)) → Named w.in_use w.free_symbol reads (node Program l (f then (statements (whole_list p x a (finished_trees ts)) then done))) →
-        Fine (node Program l (f then (statements (whole_list p x a (finished_trees ts)) then done))) →
-        StepAlike no_helpers (node Program l (f then (statements (whole_list p x a (finished_trees ts)) then done))) (node Program l (f then (statements (whole_list p x a (finished_trees us)) then done)))
-    go missing r form plain shape named fine = absurd shape
-    go (one t) r form plain shape named fine = absurd shape
-    go (statements t) r form plain shape named fine = absurd shape
-    go (many ds) r form plain shape named fine =
-        let body = whole_list p x a (finished_trees ts) in
-        list-alike w r.name r.are_new l ds body (whole_list p x a (finished_trees us)) (parted r.name (pending_statements p x a) (at-most p x a plain) r.split (body-avoids w r.name r.are_new l ds body named fine) form) named fine
+-- what is asked of a program is kept by the parts
+abbrev pub PartsClean : (Tree → Type 0) → Type 0
+PartsClean Clean = (x : Bound) (l : Label) (ds body after : Trees) (parts : Parted x body after) → Clean (program l ds body) → Clean (program l ds parts.between) × Clean (program l ds after)
+
+pub keyless-parts : PartsClean IsKeyless
+keyless-parts x l ds body after parts clean =
+    let d = and_parts (all_in_trees excludes_none ds) (all_in_trees excludes_none body && true) clean in
+    let r = parts.keyless (and_parts (all_in_trees excludes_none body) true d.1).0 in (
+      and_from (all_in_trees excludes_none ds) (all_in_trees excludes_none parts.between && true) d.0 (and_from (all_in_trees excludes_none parts.between) true r.0 refl),
+      and_from (all_in_trees excludes_none ds) (all_in_trees excludes_none after && true) d.0 (and_from (all_in_trees excludes_none after) true r.1 refl),
+    )
+
+module _ (u : Supply) (Clean : Tree → Type 0) (quiet : (t : Tree) → Clean t → silent_names u t ≡ []) (parts_clean : PartsClean Clean) where
+  program-run : {s s' : Ledger} {x y : Open} → ProgramExported s s' x y → Known s x → Clean (finished x) → StepAlike false u (finished x) (finished y) × Clean (finished y)
+  program-run (in_the_list {w = w} {l = l} {d = d} {p = p} {q = q} {x = x} {y = y} {a = a} {b = b} {ts = ts} {us = us} h) k clean =
+      let r = split-by h in
+      let body = whole_list p x a (finished_trees ts) in
+      let fs = finished_fields (d and (list p x a ts and ends)) in
+      let children = (and_parts _ _ (node_form s-Program Program l fs k.form).children).1 in
+      let form = after-rest s-Statement (pending_statements p x a) (finished_trees ts) (and_parts (trees_form s-Statement s-Statement body) true children).0 in
+      let there = λ (p : Pending) (x : Option Bound) (a : Additions). StepAlike false u (node Program l fs) (node Program l (finished_field d then (statements (whole_list p x a (finished_trees us)) then done))) × Clean (node Program l (finished_field d then (statements (whole_list p x a (finished_trees us)) then done))) in
+      subst (λ (p : Pending). there p y b) (sym r.pending) (subst (λ (x : Option Bound). there p x b) (sym r.this) (subst (λ (a : Additions). there p x a) (sym r.top)
+      (go (finished_field d) r form k.proper.1.0.0 (program-fields s-Program l fs k.form) k.named (known-fine k) clean)))
+    where
+      go : (f : Field) (r : SplitBy w p q x y a b (finished_trees ts) (finished_trees us)) → trees_form s-Statement s-Statement (finished_trees ts) ≡ true → IsPlainList p x a →
+          IsProgram (f then (statements (whole_list p x a (finished_trees ts)) then done)) → Named w.in_use w.free_symbol reads (node Program l (f then (statements (whole_list p x a (finished_trees ts)) then done))) →
+          Fine (node Program l (f then (statements (whole_list p x a (finished_trees ts)) then done))) →
+          Clean (node Program l (f then (statements (whole_list p x a (finished_trees ts)) then done))) →
+          StepAlike false u (node Program l (f then (statements (whole_list p x a (finished_trees ts)) then done))) (node Program l (f then (statements (whole_list p x a (finished_trees us)) then done))) × Clean (node Program l (f then (statements (whole_list p x a (finished_trees us)) then done)))
+      go missing r form plain shape named fine clean = absurd shape
+      go (one t) r form plain shape named fine clean = absurd shape
+      go (statements t) r form plain shape named fine clean = absurd shape
+      go (many ds) r form plain shape named fine clean =
+          let body = whole_list p x a (finished_trees ts) in
+          let parts = parted r.name (pending_statements p x a) (at-most p x a plain) r.split (body-avoids w r.name r.are_new l ds body named fine) form in
+          let after = parts_clean r.name l ds body (whole_list p x a (finished_trees us)) parts clean in
+          (list-alike w r.name r.are_new l ds body (whole_list p x a (finished_trees us)) parts named fine u (quiet (program l ds body) clean) (quiet (program l ds parts.between) after.0) (quiet (program l ds (whole_list p x a (finished_trees us))) after.1), after.1)
 
 -- THE CLASS
 
@@ -422,14 +472,15 @@ program-class (in_the_list {l = l} {d = d} {p = p} {q = q} {x = x} {y = y} {a = 
 
 -- WHAT IS ASKED OF THEM
 
-module _ (o : EnvOptions) (Clean : Tree → Type 0) (clean : (t : Tree) → Clean t) where
+module _ (o : EnvOptions) (no_all : Bool) (u : Supply) (Clean : Tree → Type 0) (quiet : (t : Tree) → Clean t → silent_names u t ≡ []) (parts_clean : PartsClean Clean) where
   exports-class : {s s' : Ledger} {x y : Open} → Step (Exports o) the_program s x s' y → has_form s-Program (finished x) ≡ true → Class (finished x) → Class (finished y)
   exports-class {x = x} {y = y} h form c = subst (λ (t : Tree). Class t) (finished-spread y) (program-class (program-exported (exported o h) form) (subst (λ (t : Tree). Class t) (sym (finished-spread x)) c))
 
-  exports-run : {s s' : Ledger} {x y : Open} → Step (Exports o) the_program s x s' y → Known s (spread x) → StepAlike no_helpers (finished x) (finished y)
-  exports-run {x = x} {y = y} h k =
+  exports-run : {s s' : Ledger} {x y : Open} → Step (Exports o) the_program s x s' y → Known s (spread x) → Clean (finished x) → StepAlike false u (finished x) (finished y) × Clean (finished y)
+  exports-run {x = x} {y = y} h k c =
       let form = subst (λ (t : Tree). has_form s-Program t ≡ true) (finished-spread x) k.form in
-      subst (λ (t : Tree). StepAlike no_helpers t (finished y)) (finished-spread x) (subst (λ (t : Tree). StepAlike no_helpers (finished (spread x)) t) (finished-spread y) (program-run (program-exported (exported o h) form) k))
+      let r = program-run u Clean quiet parts_clean (program-exported (exported o h) form) k (subst (λ (t : Tree). Clean t) (sym (finished-spread x)) c) in
+      (subst (λ (t : Tree). StepAlike false u t (finished y)) (finished-spread x) (subst (λ (t : Tree). StepAlike false u (finished (spread x)) t) (finished-spread y) r.0), subst (λ (t : Tree). Clean t) (finished-spread y) r.1)
 
-  pub namespace-runs : NamespaceRuns o no_helpers Clean
-  namespace-runs = record { class = exports-class; clean = λ {s} {s'} {x} {y} h k c. clean (finished y); runs = λ h k m c d. exports-run h k }
+  pub namespace-runs : NamespaceRuns o no_all u Clean
+  namespace-runs = record { class = exports-class; clean = λ h k m c. (exports-run h k c).1; runs = λ {s} {s'} {x} {y} h k m c d. alike-under no_all u (finished x) (finished y) (exports-run h k c).0 }

@@ -79,7 +79,7 @@ resolved_field r p (one t) h = h
 resolved_field r p (many ts) h = resolved_trees r p ts h
 resolved_field r p (statements ts) h = resolved_trees r p ts h
 
-resolved_below : (roles : ℕ → Role) (places : ℕ → Place) (fs : Fields) → ResolvedIn roles places fs → Below (λ i t. Resolved (roles i) (places i) t) fs
+pub resolved_below : (roles : ℕ → Role) (places : ℕ → Place) (fs : Fields) → ResolvedIn roles places fs → Below (λ i t. Resolved (roles i) (places i) t) fs
 resolved_below roles places done h = tt
 resolved_below roles places (f then fs) h = (resolved_field (roles zero) (places zero) f h.0, resolved_below (λ i. roles (suc i)) (λ i. places (suc i)) fs h.1)
 
@@ -117,7 +117,7 @@ within_some (b ∷ bs) f x h =
     at false s o e g = g
 
 -- the scope of what stands in a field of a node of the class
-scope_at : (p : Place) (k : AstType) (l : Label) (roles : ℕ → Role) (fs : Fields) (i : ℕ) → is_statement_kind k ≡ true → is_program k ≡ false →
+pub scope_at : (p : Place) (k : AstType) (l : Label) (roles : ℕ → Role) (fs : Fields) (i : ℕ) → is_statement_kind k ≡ true → is_program k ≡ false →
     (place_in p k l roles fs i).scope ≡ (if makes_scope k && is_inside k i then within (declared_in false (is_inside k) roles fs) p.scope else p.scope)
 scope_at p Program l roles fs i c n = absurd (cc n)
 scope_at p StaticBlock l roles fs i c n = absurd (cc c)
@@ -143,9 +143,6 @@ around_is ds es ArrowFunctionExpression i c n = absurd (cc c)
 around_is ds es ClassDeclaration i c n = absurd (cc c)
 around_is ds es ClassExpression i c n = absurd (cc c)
 around_is ds es _ i c n = refl
-
-abbrev pub names_in : List Declared → AstType → Fields → ℕ → List Declared
-names_in ds k fs i = names_around k (own_names k fs) ds i
 
 -- look-up finds a symbol for these names alone
 abbrev pub Finds : List Declared → Place → Type 0

@@ -1,6 +1,6 @@
 -- What steps reach from a program of the class runs as the program does.
 use Rattle.std.proofs.Common.{arith, ◌≡◌, refl, sym, ap, subst, ◌∙◌, List, []}
-use Rattle.std.specs.Prelude.{true, ◌&&◌}
+use Rattle.std.specs.Prelude.{Bool, true, ◌&&◌}
 use Rattle.es_tree.specs.Bare.{bare, bare_field, bare_fields, bare_label, bare_trees}
 use Rattle.es_tree.specs.HasForm.{has_form}
 use Rattle.es_tree.specs.Tree.{Tree, node, Label, Fields, done, ◌then◌, Field, missing, one, many, statements, Trees, empty, ◌before◌, kind_of}
@@ -70,7 +70,7 @@ mutual
   class-bare-all empty = refl
   class-bare-all (t before ts) = λ i. class-bare t i && class-bare-all ts i
 
-source-bare : (p : Tree) → bare p ≡ bare (source p)
+pub source-bare : (p : Tree) → bare p ≡ bare (source p)
 source-bare p = sym (law_bare_source_proof p)
 
 source-class : (p : Tree) → Class p → Class (source p)
@@ -107,9 +107,8 @@ program-parts (node k l fs) h = at k (form-placed (node k l fs) h).0 h
 
 -- WHAT NO NAME OF A PROGRAM STANDS FOR, nor of those between it and its source
 
-pub record AllSilent (u : Supply) (p : Tree) : Type 0 where
-  pub first : silent_names u p ≡ []
-  pub others : (l : Label) (ds ts : Trees) → bare_trees ts ≡ bare_trees (program_list p) → silent_names u (program l ds ts) ≡ []
+abbrev pub AllSilent : Supply → Tree → Type 0
+AllSilent u p = (t : Tree) → bare t ≡ bare p → silent_names u t ≡ []
 
 mutual
   bare-twice-tree : (t : Tree) → bare (bare t) ≡ bare t
@@ -129,25 +128,25 @@ mutual
   bare-twice empty = refl
   bare-twice (t before ts) = λ i. bare-twice-tree t i before bare-twice ts i
 
-source-alike : (u : Supply) (p : Tree) → has_form s-Program p ≡ true → AllSilent u p → StepAlike u p (source p)
-source-alike u p form silent =
+source-alike : (no_all : Bool) (u : Supply) (p : Tree) → has_form s-Program p ≡ true → AllSilent u p → StepAlike no_all u p (source p)
+source-alike no_all u p form silent =
     let a = program-parts p form in
     let b = program-parts (source p) (source-form p form) in
     let listed : bare_trees a.body ≡ bare_trees b.body = same-lists a.same b.same in
-    subst (λ (t : Tree). StepAlike u t (source p)) (sym a.same) (subst (λ (t : Tree). StepAlike u (program a.label a.directives a.body) t) (sym b.same)
-    (same-but-marks u a.label b.label a.directives b.directives a.body b.body listed
-    (silent.others a.label a.directives a.body (ap (λ t. bare_trees (program_list t)) (sym a.same)))
-    (silent.others a.label a.directives (bare_trees a.body) (bare-twice a.body ∙ ap (λ t. bare_trees (program_list t)) (sym a.same)))
-    (silent.others a.label a.directives b.body (sym listed ∙ ap (λ t. bare_trees (program_list t)) (sym a.same)))
-    (silent.others b.label b.directives b.body (sym listed ∙ ap (λ t. bare_trees (program_list t)) (sym a.same)))))
+    subst (λ (t : Tree). StepAlike no_all u t (source p)) (sym a.same) (subst (λ (t : Tree). StepAlike no_all u (program a.label a.directives a.body) t) (sym b.same)
+    (same-but-marks no_all u a.label b.label a.directives b.directives a.body b.body listed
+    (silent (program a.label a.directives a.body) (ap bare (sym a.same)))
+    (silent (program a.label a.directives (bare_trees a.body)) (ap (λ ts. program (bare_label a.label) (bare_trees a.directives) ts) (bare-twice a.body) ∙ ap bare (sym a.same)))
+    (silent (program a.label a.directives b.body) (ap (λ ts. program (bare_label a.label) (bare_trees a.directives) ts) (sym listed) ∙ ap bare (sym a.same)))
+    (silent (program b.label b.directives b.body) (ap bare (sym b.same) ∙ sym (source-bare p)))))
   where
     same-lists : {l m : Label} {ds es body after : Trees} → p ≡ program l ds body → source p ≡ program m es after → bare_trees body ≡ bare_trees after
     same-lists d e = ap program_list (sym (ap bare d) ∙ source-bare p ∙ ap bare e)
 
 -- STEPS
 
-pub reached-runs : (o : EnvOptions) (u : Supply) (Clean : Tree → Type 0) → AloneRuns o u Clean → NamespaceRuns o u Clean → (p q : Tree) (names : List Text) → IsStatementProgram p → AllSilent u p → Clean (source p) → Reached (built_rules o) p (first_whole p) names q → StepAlike u p q
-reached-runs o u Clean alone exports p q names h silent clean reached =
+pub reached-runs : (o : EnvOptions) (no_all : Bool) (u : Supply) (Clean : Tree → Type 0) → AloneRuns o no_all u Clean → NamespaceRuns o no_all u Clean → (p q : Tree) (names : List Text) → IsStatementProgram p → AllSilent u p → Clean (source p) → Reached (built_rules o) p (first_whole p) names q → StepAlike no_all u p q
+reached-runs o no_all u Clean alone exports p q names h silent clean reached =
     let w = first_whole p in
     let w' = reached.whole in
     let t = source p in
@@ -159,16 +158,16 @@ reached-runs o u Clean alone exports p q names h silent clean reached =
     let opens = λ (P : Tree → Type 0) (z : P t). subst P (sym (finished-opened t)) z in
     let places = law_bare_places_proof p t (source-bare p) (law_among_proof p h.rules) in
     let spread_same : finished (spread (opened t)) ≡ t = ap finished (spread-opened t) ∙ finished-opened t in
-    let shaped : Shaped o u Clean alone exports (spread (opened t)) = record {
+    let shaped : Shaped o no_all u Clean alone exports (spread (opened t)) = record {
       proper = subst (λ (x : Open). IsProper x) (sym (spread-opened t)) (opened-proper t);
       form = subst (λ (x : Tree). has_form s-Program x ≡ true) (sym spread_same) form;
       keeps = subst (λ (x : Tree). Keeps [] x) (sym spread_same) ((law_places_proof t).to_places places);
       class = subst (λ (x : Tree). Class x) (sym spread_same) (source-class p h.without_functions);
     } in
-    let led = composed o u Clean alone exports w'.called reached.steps (λ m e. refl) (ap (λ (a : Tree). is_var_scope (kind_of a)) (finished-opened t) ∙ ap is_var_scope (program-kind t form))
+    let led = composed o no_all u Clean alone exports w'.called reached.steps (λ m e. refl) (ap (λ (a : Tree). is_var_scope (kind_of a)) (finished-opened t) ∙ ap is_var_scope (program-kind t form))
     (opens (λ a. Named w.in_use w.free_symbol reads a) bound.named) (none-beside (is_called w'.called) w) (opens (λ a. Passes (is_called w'.called) a) called) (opens (λ a. IsResolved a) bound.resolved)
     (record { vars = refl; this = refl }) shaped (opens Clean clean) in
-    then-alike u p t q (source-alike u p h.form silent) (subst (λ (x : Tree). StepAlike u x q) (finished-opened t) (subst (λ (y : Tree). StepAlike u (finished (opened t)) y) (finished-opened q) led))
+    then-alike no_all u p t q (source-alike no_all u p h.form silent) (subst (λ (x : Tree). StepAlike no_all u x q) (finished-opened t) (subst (λ (y : Tree). StepAlike no_all u (finished (opened t)) y) (finished-opened q) led))
   where
     program-kind : (t : Tree) → has_form s-Program t ≡ true → kind_of t ≡ Program
     program-kind (node k l fs) f = (form-placed (node k l fs) f).0

@@ -24,19 +24,23 @@ use Rattle.es_resolution.specs.Resolved.{Resolved}
 use Rattle.es_steps.specs.CoreBridge.{names_among}
 use Rattle.es_steps.specs.Steps.{Ledger, Site, Spot, Whole}
 use Rattle.es_statement_runs.specs.Alike.{Quiet, SenseLike, StackSeen}
-use Rattle.es_statement_runs.specs.Helpers.{Supply, entry, silent_names}
+use Rattle.es_statement_runs.specs.Helpers.{Supply, entry, helper_names, silent_names}
 use Rattle.es_statement_runs.specs.Helpers.Supply.{no_helpers, by_global, by_import, by_require}
 use Rattle.es_statement_runs.specs.Kinds.{found, kind_in, sense}
 use Rattle.es_statement_runs.specs.Laws.{among_names, is_silent}
 use Rattle.es_statement_runs.specs.Names.{declared_at_top, names_of_all, top_in, var_names_all}
 use Rattle.es_statement_runs.specs.Places.{SupplySeen, Take, all_good, avoids, avoids_trees, placed_at, take, value_taken}
-use Rattle.es_statement_runs.specs.Runs.{RunAlike, program_scope, program_world, silent_or, start_cells}
+use Rattle.es_statement_runs.specs.Runs.{RunAlike, program_scope, world_where, silent_or, start_cells}
 use Rattle.es_statement_runs.specs.Scopes.{stack_cell, turns_cell}
-use Rattle.es_statement_runs.proofs.BareVars.{MoreDeclared, Unsaid, beside_like, beside_run, cell_by, kinds_kept, kinds_made, said_alike_from, self_beside, top_bound, top_cell, top_worlds, unsaid_inside, unsaid_programs}
+use Rattle.es_statement_runs.proofs.RunLaws.{SameRest}
+use Rattle.es_statement_runs.proofs.WithoutAll.{under_assumption}
+use Rattle.es_statement_runs.proofs.BareVars.{MoreDeclared, Unsaid, beside_like, beside_run_where, cell_by, kinds_kept, kinds_made, said_alike_from, self_beside, top_bound, top_cell, top_worlds, unsaid_inside, unsaid_programs}
 use Rattle.es_statement_runs.proofs.BareVars.Places.{both_at}
 use Rattle.es_statement_runs.proofs.TopVars.{temporaries_apart}
 use Rattle.es_statement_runs.proofs.Everywhere.{both_left, both_right, not_so}
 use Rattle.es_statement_runs.proofs.KindsAlike.{inner}
+use Rattle.es_statement_runs.proofs.MeantProof.{entered_free as no_helper_inside, top_free}
+use Rattle.es_statement_runs.proofs.MeantSenses.{HelperFree}
 use Rattle.es_statement_runs.proofs.Moved.{BothMute, list_beside, tops_more, using_list}
 use Rattle.es_statement_steps.proofs.FoundNames.{Bounds, Finds, bounds_top, bytes_turned, entered_free}
 use Rattle.es_statement_steps.proofs.FreshNames.{top_used, unused_avoids}
@@ -46,12 +50,17 @@ use Rattle.es_statement_steps.proofs.ProgramMoves.{MovedProgram, ProgramWent}
 use Rattle.es_statement_steps.proofs.StepMoves.{Acted, AllDeclared, AreNew, Fine, NodeRule, both-mute, sent}
 
 -- THE TWO WORLDS of a place where the scopes around declare ds: the made names are changeable names of the second, where they are declared by `var`; the
--- names ds alone are bound in the first; and made names stand for no helper
+-- names ds alone are bound in the first; made names stand for no helper; both count `document.all` where a value may be it; and no
+-- name stands for a helper
 
-pub record WorldsKnown (hoisted : Bool) (xs : List Text) (ds : List Declared) (w v : World) : Type 0 where
+pub record WorldsKnown (no_all hoisted : Bool) (xs : List Text) (ds : List Declared) (w v : World) : Type 0 where
   pub temporaries : hoisted ≡ true → (x : Text) → among_names xs x ≡ true → v.scope x ≡ changeable
   pub bound : Bounds ds w
   pub unsaid : Unsaid (among_names xs) w v
+  pub rest : SameRest w v
+  pub counts : w.counts_all ≡ not no_all
+  pub free : HelperFree w
+  pub free_after : HelperFree v
 
 -- the cells of names that are declared by `var` are set, and of others nothing is known
 abbrev pub fits_where : Bool → Cell → Type 0
@@ -77,26 +86,30 @@ unseen xs (d ∷ es) h x e = at (bytes_eq x d.name) refl (unseen xs es (both_rig
         let good : among_names xs d.name ≡ true = ap (among_names xs) (sym same) ∙ e in
         absurd (let no : true ≡ false = sym (ap (λ b. b || false) good) ∙ bad in cc no)
 
-known-inside : (hoisted : Bool) (xs : List Text) (ds es : List Declared) → all_good (bad_temporaries xs) (names_of_all es) ≡ true → (w v : World) → WorldsKnown hoisted xs ds w v → WorldsKnown hoisted xs (es ++ ds) (inner w es) (inner v es)
-known-inside hoisted xs ds es good w v k = record {
+known-inside : (no_all hoisted : Bool) (xs : List Text) (ds es : List Declared) → all_good (bad_temporaries xs) (names_of_all es) ≡ true → (w v : World) → WorldsKnown no_all hoisted xs ds w v → WorldsKnown no_all hoisted xs (es ++ ds) (inner w es) (inner v es)
+known-inside no_all hoisted xs ds es good w v k = record {
   temporaries = λ b x e. ap (λ (c : Option Text). found c x v.scope x) (unseen xs es good x e) ∙ k.temporaries b x e;
   bound = λ x. entered_free es ds w.scope x (k.bound x);
   unsaid = unsaid_inside (among_names xs) es w v k.unsaid;
+  rest = record { other = k.rest.other; spreads = k.rest.spreads };
+  counts = k.counts;
+  free = no_helper_inside no_helpers es w [] [] k.free;
+  free_after = no_helper_inside no_helpers es v [] [] k.free_after;
 }
 
 -- WHAT A ROW OWES: wherever it acts, its two sides are alike
 
-pub record KeepsRuns (u : Supply) (hoisted : Bool) (A : List Bound → Site → Whole → Tree → Tree → Type 0) : Type 0 where
+pub record KeepsRuns (no_all : Bool) (u : Supply) (hoisted : Bool) (A : List Bound → Site → Whole → Tree → Tree → Type 0) : Type 0 where
   pub alike : (new : List Bound) (n : Site) (whole : Whole) (a b : Tree) → A new n whole a b → (t : Take) (ds : List Declared) → Resolved n.role n.names a → Finds ds n.names → Fine a → avoids (bad_temporaries (names_among new)) t a ≡ true →
       Quiet (temporaries_frame hoisted (names_among new)) → StackSeen (temporaries_frame hoisted (names_among new)) → SupplySeen (temporaries_frame hoisted (names_among new)) u →
-      (w v : World) → SameWorld (among_names (names_among new)) w v → WorldsKnown hoisted (names_among new) ds w v → (ls : List Text) (x : Text) →
+      (w v : World) → SameWorld (among_names (names_among new)) w v → WorldsKnown no_all hoisted (names_among new) ds w v → (ls : List Text) (x : Text) →
       SenseLike (temporaries_frame hoisted (names_among new)) w v t (sense (placed_at u w ls x) a) (sense (placed_at u v ls x) b)
 
 -- a part that stays is alike
-pub part-like : (u : Supply) (hoisted : Bool) (xs : List Text) → Quiet (temporaries_frame hoisted xs) → StackSeen (temporaries_frame hoisted xs) → SupplySeen (temporaries_frame hoisted xs) u → (w v : World) → SameWorld (among_names xs) w v → (ds : List Declared) → WorldsKnown hoisted xs ds w v →
+pub part-like : (no_all : Bool) (u : Supply) (hoisted : Bool) (xs : List Text) → Quiet (temporaries_frame hoisted xs) → StackSeen (temporaries_frame hoisted xs) → SupplySeen (temporaries_frame hoisted xs) u → (w v : World) → SameWorld (among_names xs) w v → (ds : List Declared) → WorldsKnown no_all hoisted xs ds w v →
     (t : Take) (a : Tree) → avoids (bad_temporaries xs) t a ≡ true → (ls : List Text) (x : Text) → SenseLike (temporaries_frame hoisted xs) w v t (sense (placed_at u w ls x) a) (sense (placed_at u v ls x) a)
-part-like u hoisted xs quiet stack seen w v same ds known t a h ls x =
-    beside_like (temporaries_frame hoisted xs) quiet stack (bad_temporaries xs) (λ n x h. h) u seen (WorldsKnown hoisted xs) (λ ds w v same k. said_alike_from (temporaries_frame hoisted xs) u w v same k.unsaid) (λ ds es good w v k. known-inside hoisted xs ds es good w v k)
+part-like no_all u hoisted xs quiet stack seen w v same ds known t a h ls x =
+    beside_like (temporaries_frame hoisted xs) quiet stack (bad_temporaries xs) (λ n x h. h) u seen (WorldsKnown no_all hoisted xs) (λ ds w v same k. said_alike_from (temporaries_frame hoisted xs) u w v same k.unsaid) (λ ds es good w v k. known-inside no_all hoisted xs ds es good w v k)
     (λ ds t a b. ⊥) (λ ds t a b e. absurd e) (self_beside (bad_temporaries xs) (λ ds t a b. ⊥) a ds t h) (both_at same known)
 
 -- THE RUN
@@ -123,15 +136,19 @@ declared-is ds x = ap is_free (top_bound ds x) ∙ entered-top ds x
 
 -- WHAT A STEP LEAVES: the program runs as before, and what its top declared is declared
 
-pub record StepAlike (u : Supply) (x y : Tree) : Type 0 where
-  pub runs : RunAlike u false x y
+pub record StepAlike (no_all : Bool) (u : Supply) (x y : Tree) : Type 0 where
+  pub runs : RunAlike u no_all x y
   pub declared : (z : Text) → is_declared (declared_at_top x) z ≡ true → is_declared (declared_at_top y) z ≡ true
 
-run-self : (u : Supply) (x : Tree) → RunAlike u false x x
-run-self u x n this moves assumed t ms inside = record { outcomes = refl; questions = refl; final_cells = λ y e i. refl }
+run-self : (no_all : Bool) (u : Supply) (x : Tree) → RunAlike u no_all x x
+run-self no_all u x n this moves assumed t ms inside = record { outcomes = refl; questions = refl; final_cells = λ y e i. refl }
 
-pub unchanged : (u : Supply) (x y : Tree) → x ≡ y → StepAlike u x y
-unchanged u x y e = subst (λ (z : Tree). StepAlike u x z) e (record { runs = run-self u x; declared = λ z h. h })
+pub unchanged : (no_all : Bool) (u : Supply) (x y : Tree) → x ≡ y → StepAlike no_all u x y
+unchanged no_all u x y e = subst (λ (z : Tree). StepAlike no_all u x z) e (record { runs = run-self no_all u x; declared = λ z h. h })
+
+-- a step that leaves this without the assumption leaves it under it
+pub alike-under : (no_all : Bool) (u : Supply) (x y : Tree) → StepAlike false u x y → StepAlike no_all u x y
+alike-under no_all u x y h = record { runs = under_assumption no_all u x y h.runs; declared = h.declared }
 
 pub undeclared-kind : (ds : List Declared) (x : Text) → declares ds x ≡ false → kind_in ds x ≡ None
 undeclared-kind [] x h = refl
@@ -160,7 +177,18 @@ false-where false h = refl
 var-cell : (ds : List Declared) (x : Text) → kind_in ds x ≡ Some (codes "var") → is_set (cells_of ds x) ≡ true
 var-cell ds x h = ap is_set (top_cell ds x) ∙ ap (λ c. is_set (cell_by c)) h
 
-module _ (u : Supply) (Q : Site → Ledger → Spot → Ledger → Spot → Type 0) (A : List Bound → Site → Whole → Tree → Tree → Type 0) (law : NodeRule Q A) (keeps : KeepsRuns u law.hoisted A)
+-- where no name is silent none stands for a helper
+first-none : {X : Type 0} (xs ys : List X) → xs ++ ys ≡ [] → xs ≡ []
+first-none [] ys h = refl
+first-none (x ∷ xs) ys h = absurd (cc h)
+
+none-named : (counts : Bool) (u : Supply) (p : Tree) → silent_names u p ≡ [] → (this : Value) → HelperFree (world_where counts u this p)
+none-named counts no_helpers p h this = top_free counts no_helpers p this refl
+none-named counts by_global p h this = top_free counts by_global p this refl
+none-named counts (by_import m) p h this = top_free counts (by_import m) p this (first-none (helper_names (by_import m) p) _ h)
+none-named counts (by_require m) p h this = top_free counts (by_require m) p this (first-none (helper_names (by_require m) p) _ h)
+
+module _ (no_all : Bool) (u : Supply) (Q : Site → Ledger → Spot → Ledger → Spot → Type 0) (A : List Bound → Site → Whole → Tree → Tree → Type 0) (law : NodeRule Q A) (keeps : KeepsRuns no_all u law.hoisted A)
     (whole : Whole) (l : Label) (ds body after : Trees) (new : List Bound) (are_new : AreNew whole new) (moved : MovedProgram Q A law new body after) (declared : AllDeclared (sent law.hoisted new) (var_names_all after))
     (named : Named whole.in_use whole.free_symbol reads (program l ds body)) (fine : Fine (program l ds body)) (fine_after : Fine (program l ds after)) (silent : silent_names u (program l ds body) ≡ []) (silent_after : silent_names u (program l ds after) ≡ []) where
   abbrev xs : List Text
@@ -197,7 +225,7 @@ module _ (u : Supply) (Q : Site → Ledger → Spot → Ledger → Spot → Type
   abbrev ActedAway : List Declared → Take → Tree → Tree → Type 0
   ActedAway es t a b = Acted A new es t a b × (avoids (bad_temporaries xs) t a ≡ true)
 
-  row-like : (es : List Declared) (t : Take) (a b : Tree) → ActedAway es t a b → (w v : World) → SameWorld (among_names xs) w v → WorldsKnown hoisted xs es w v → (ls : List Text) (x : Text) → SenseLike F w v t (sense (placed_at u w ls x) a) (sense (placed_at u v ls x) b)
+  row-like : (es : List Declared) (t : Take) (a b : Tree) → ActedAway es t a b → (w v : World) → SameWorld (among_names xs) w v → WorldsKnown no_all hoisted xs es w v → (ls : List Text) (x : Text) → SenseLike F w v t (sense (placed_at u w ls x) a) (sense (placed_at u v ls x) b)
   row-like es t a b h w v same known ls x = keeps.alike new h.0.site h.0.whole a b h.0.rule t es h.0.resolved h.0.found h.0.stood h.1 quiet stack seen w v same known ls x
 
   tops-more : MoreDeclared (codes "var") xs (top_in body) (top_in after)
@@ -222,11 +250,15 @@ module _ (u : Supply) (Q : Site → Ledger → Spot → Ledger → Spot → Type
   silents : silent_names u (program l ds after) ≡ silent_names u (program l ds body)
   silents = silent_after ∙ sym silent
 
-  known : (this : Value) → WorldsKnown hoisted xs (top_in body) (program_world u this (program l ds body)) (program_world u this (program l ds after))
+  known : (this : Value) → WorldsKnown no_all hoisted xs (top_in body) (world_where (not no_all) u this (program l ds body)) (world_where (not no_all) u this (program l ds after))
   known this = record {
     temporaries = scope-after;
     bound = bounds_top u this (program l ds body) (λ x e. absurd (let no : false ≡ true = sym (ap (λ es. is_some (entry es x)) silent) ∙ e in cc no));
     unsaid = unsaid_programs u xs (program l ds body) (program l ds after) silents (λ y e. ap (λ es. is_silent es y) silent) this;
+    rest = record { other = refl; spreads = refl };
+    counts = refl;
+    free = none-named (not no_all) u (program l ds body) silent this;
+    free_after = none-named (not no_all) u (program l ds after) silent_after this;
   }
 
   apart : (x : Text) → is_declared (top_in body) x ≡ true → among_names xs x ≡ false
@@ -249,18 +281,18 @@ module _ (u : Supply) (Q : Site → Ledger → Spot → Ledger → Spot → Type
   still-declared : (z : Text) → is_declared (top_in body) z ≡ true → is_declared (top_in after) z ≡ true
   still-declared z e = ap (λ (b : Binding). not (is_free b)) (top_bound (top_in after) z ∙ ap (λ (c : Option Text). found c z (λ y. free) z) (kinds_kept (codes "var") xs tops-more z (apart z e)) ∙ sym (top_bound (top_in body) z)) ∙ e
 
-  list-runs : RunAlike u false (program l ds body) (program l ds after)
-  list-runs = beside_run F quiet stack (bad_temporaries xs) (λ n x h. h) u seen (WorldsKnown hoisted xs) (λ es w v same k. said_alike_from F u w v same k.unsaid) (λ es fs good w v k. known-inside hoisted xs es fs good w v k) ActedAway row-like
-      l ds body after (list_beside xs (Acted A new) mute (bad_temporaries xs) ActedAway (λ es t a b h g. (h, g)) true moved avoid) (using_list xs (Acted A new) mute moved)
-      (λ this. top_worlds (among_names xs) u l ds body after (kinds_kept (codes "var") xs tops-more) silents this) known start apart
+  list-runs : RunAlike u no_all (program l ds body) (program l ds after)
+  list-runs = beside_run_where F quiet stack (bad_temporaries xs) (λ n x h. h) u seen (WorldsKnown no_all hoisted xs) (λ es w v same k. said_alike_from F u w v same k.unsaid) (λ es fs good w v k. known-inside no_all hoisted xs es fs good w v k) ActedAway row-like
+      no_all l ds body after (list_beside xs (Acted A new) mute (bad_temporaries xs) ActedAway (λ es t a b h g. (h, g)) true moved avoid) (using_list xs (Acted A new) mute moved)
+      (λ this. top_worlds (among_names xs) (not no_all) u l ds body after (kinds_kept (codes "var") xs tops-more) silents this) known start apart
 
-  pub list-alike : StepAlike u (program l ds body) (program l ds after)
+  pub list-alike : StepAlike no_all u (program l ds body) (program l ds after)
   list-alike = record { runs = list-runs; declared = still-declared }
 
 -- a step of such a row
-pub row-alike : (u : Supply) (Q : Site → Ledger → Spot → Ledger → Spot → Type 0) (A : List Bound → Site → Whole → Tree → Tree → Type 0) (law : NodeRule Q A) → KeepsRuns u law.hoisted A →
-    (whole : Whole) (x y : Tree) → ProgramWent law.hoisted (MovedProgram Q A law) whole x y → Named whole.in_use whole.free_symbol reads x → Fine x → Fine y → silent_names u x ≡ [] → silent_names u y ≡ [] → StepAlike u x y
-row-alike u Q A law keeps whole x y h named fine fine_after silent silent_after =
-    subst (λ (p : Tree). StepAlike u p y) (sym h.first) (subst (λ (q : Tree). StepAlike u (program h.label h.directives h.body) q) (sym h.second)
-    (list-alike u Q A law keeps whole h.label h.directives h.body h.after h.new h.are_new h.moved h.declared (subst (λ (p : Tree). Named whole.in_use whole.free_symbol reads p) h.first named) (subst (λ (p : Tree). Fine p) h.first fine) (subst (λ (q : Tree). Fine q) h.second fine_after)
+pub row-alike : (no_all : Bool) (u : Supply) (Q : Site → Ledger → Spot → Ledger → Spot → Type 0) (A : List Bound → Site → Whole → Tree → Tree → Type 0) (law : NodeRule Q A) → KeepsRuns no_all u law.hoisted A →
+    (whole : Whole) (x y : Tree) → ProgramWent law.hoisted (MovedProgram Q A law) whole x y → Named whole.in_use whole.free_symbol reads x → Fine x → Fine y → silent_names u x ≡ [] → silent_names u y ≡ [] → StepAlike no_all u x y
+row-alike no_all u Q A law keeps whole x y h named fine fine_after silent silent_after =
+    subst (λ (p : Tree). StepAlike no_all u p y) (sym h.first) (subst (λ (q : Tree). StepAlike no_all u (program h.label h.directives h.body) q) (sym h.second)
+    (list-alike no_all u Q A law keeps whole h.label h.directives h.body h.after h.new h.are_new h.moved h.declared (subst (λ (p : Tree). Named whole.in_use whole.free_symbol reads p) h.first named) (subst (λ (p : Tree). Fine p) h.first fine) (subst (λ (q : Tree). Fine q) h.second fine_after)
     (sym (ap (silent_names u) h.first) ∙ silent) (sym (ap (silent_names u) h.second) ∙ silent_after)))

@@ -21,6 +21,7 @@ use Rattle.es_statement_runs.specs.Laws.{among_names, any_cells, no_row}
 use Rattle.es_statement_runs.specs.Names.{declared_at_top, names_of_all, own_names, top_in}
 use Rattle.es_statement_runs.specs.Places.{SupplySeen, Take, all_good, avoids, avoids_field, avoids_fields, avoids_trees, placed_at, take, takes_of}
 use Rattle.es_statement_runs.specs.Runs.{SameRun, program_world, run, silent_or, start_cells}
+use Rattle.es_statement_runs.proofs.WithoutAll.{under_assumption}
 use Rattle.es_statement_runs.proofs.BareVars.{kinds_kept, law_vars_proof, top_bound}
 use Rattle.es_statement_runs.proofs.Composing.{law_then_proof}
 use Rattle.es_statement_runs.proofs.Moved.{BothMute, Moved, MovedField, MovedFields, MovedList, MovedTrees, Room, list_beside, tops_more}
@@ -119,12 +120,12 @@ no_mute : (ds : List Declared) (t : Take) (a b : Tree) → no_rows ds t a b → 
 no_mute ds t a b e = absurd e
 
 -- lists that are moved by nothing
-list-same : (u : Supply) (l : Label) (ds body after : Trees) → MovedList (among_names []) no_rows open_room (top_in body) true body after → silent_names u (program l ds body) ≡ [] → silent_names u (program l ds after) ≡ [] → StepAlike u (program l ds body) (program l ds after)
-list-same u l ds body after moved silent silent_after =
+list-same : (no_all : Bool) (u : Supply) (l : Label) (ds body after : Trees) → MovedList (among_names []) no_rows open_room (top_in body) true body after → silent_names u (program l ds body) ≡ [] → silent_names u (program l ds after) ≡ [] → StepAlike no_all u (program l ds body) (program l ds after)
+list-same no_all u l ds body after moved silent silent_after =
     let tops = kinds_kept (codes "var") [] (tops_more [] no_rows no_mute moved) in
     record {
-      runs = law_vars_proof u [] l ds body after (list_beside [] no_rows no_mute nothing no_rows (λ es t a b h g. absurd h) true moved (avoids-nothing-all (take the_value true) body)) tops (λ y e. refl)
-          (silent_after ∙ sym silent) (λ y e. absurd (cc e)) refl refl (supply-nothing u);
+      runs = under_assumption no_all u (program l ds body) (program l ds after) (law_vars_proof u [] l ds body after (list_beside [] no_rows no_mute nothing no_rows (λ es t a b h g. absurd h) true moved (avoids-nothing-all (take the_value true) body)) tops (λ y e. refl)
+          (silent_after ∙ sym silent) (λ y e. absurd (cc e)) refl refl (supply-nothing u));
       declared = λ z h. ap (λ (b : Binding). not (is_free b)) (top_bound (top_in after) z ∙ ap (λ (c : Option Text). found c z (λ y. free) z) (tops z refl) ∙ sym (top_bound (top_in body) z)) ∙ h;
     }
   where
@@ -138,8 +139,8 @@ list-same u l ds body after moved silent silent_after =
 abbrev silent-world : (u : Supply) (this : Value) (p : Tree) → List (Text × Silent) → World
 silent-world u this p es = record (program_world u this p) { scope = λ x. silent_or (entry es x) (scope_of (declared_at_top p) x) }
 
-relabelled : (u : Supply) (l m : Label) (ds es body : Trees) → silent_names u (program l ds body) ≡ [] → silent_names u (program m es body) ≡ [] → StepAlike u (program l ds body) (program m es body)
-relabelled u l m ds es body silent silent_after = record {
+relabelled : (no_all : Bool) (u : Supply) (l m : Label) (ds es body : Trees) → silent_names u (program l ds body) ≡ [] → silent_names u (program m es body) ≡ [] → StepAlike no_all u (program l ds body) (program m es body)
+relabelled no_all u l m ds es body silent silent_after = record {
   runs = λ n this moves assumed t ms inside.
       subst (λ (r : Result Value). SameRun (is_declared (top_in body)) (run u n (program l ds body) this moves) r) (same n this moves) (record { outcomes = refl; questions = refl; final_cells = λ y e i. refl });
   declared = λ z h. h;
@@ -151,15 +152,15 @@ relabelled u l m ds es body silent silent_after = record {
     same : (n : ℕ) (this : Value) (moves : List Move) → run u n (program l ds body) this moves ≡ run u n (program m es body) this moves
     same n this moves = ap (run_as n this moves) (silent ∙ sym silent_after)
 
-pub then-alike : (u : Supply) (x y z : Tree) → StepAlike u x y → StepAlike u y z → StepAlike u x z
-then-alike u x y z a b = record { runs = law_then_proof u false x y z a.runs b.runs a.declared; declared = λ w h. b.declared w (a.declared w h) }
+pub then-alike : (no_all : Bool) (u : Supply) (x y z : Tree) → StepAlike no_all u x y → StepAlike no_all u y z → StepAlike no_all u x z
+then-alike no_all u x y z a b = record { runs = law_then_proof u no_all x y z a.runs b.runs a.declared; declared = λ w h. b.declared w (a.declared w h) }
 
 -- a program, and one that is the same but for ids and marks, where no name of the programs between stands for a helper
-pub same-but-marks : (u : Supply) (l m : Label) (ds es body after : Trees) → bare_trees body ≡ bare_trees after →
-    silent_names u (program l ds body) ≡ [] → silent_names u (program l ds (bare_trees body)) ≡ [] → silent_names u (program l ds after) ≡ [] → silent_names u (program m es after) ≡ [] → StepAlike u (program l ds body) (program m es after)
-same-but-marks u l m ds es body after same s1 s2 s3 s4 =
-    let first = list-same u l ds body (bare_trees body) (list-bare (among_names []) body) s1 s2 in
-    let second = list-same u l ds (bare_trees after) after (list-from (among_names []) after) (sym (ap (λ ts. silent_names u (program l ds ts)) same) ∙ s2) s3 in
-    then-alike u (program l ds body) (program l ds after) (program m es after)
-    (then-alike u (program l ds body) (program l ds (bare_trees after)) (program l ds after) (subst (λ (ts : Trees). StepAlike u (program l ds body) (program l ds ts)) same first) second)
-    (relabelled u l m ds es after s3 s4)
+pub same-but-marks : (no_all : Bool) (u : Supply) (l m : Label) (ds es body after : Trees) → bare_trees body ≡ bare_trees after →
+    silent_names u (program l ds body) ≡ [] → silent_names u (program l ds (bare_trees body)) ≡ [] → silent_names u (program l ds after) ≡ [] → silent_names u (program m es after) ≡ [] → StepAlike no_all u (program l ds body) (program m es after)
+same-but-marks no_all u l m ds es body after same s1 s2 s3 s4 =
+    let first = list-same no_all u l ds body (bare_trees body) (list-bare (among_names []) body) s1 s2 in
+    let second = list-same no_all u l ds (bare_trees after) after (list-from (among_names []) after) (sym (ap (λ ts. silent_names u (program l ds ts)) same) ∙ s2) s3 in
+    then-alike no_all u (program l ds body) (program l ds after) (program m es after)
+    (then-alike no_all u (program l ds body) (program l ds (bare_trees after)) (program l ds after) (subst (λ (ts : Trees). StepAlike no_all u (program l ds body) (program l ds ts)) same first) second)
+    (relabelled no_all u l m ds es after s3 s4)

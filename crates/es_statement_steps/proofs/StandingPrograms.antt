@@ -11,7 +11,7 @@ use Rattle.es_tree.specs.Tree.{Tree, node, Label, Fields, done, ◌then◌, Fiel
 use Rattle.es_tree.specs.Walks.{all_nodes, all_in_field, all_in_fields, all_in_trees}
 use Rattle.es_tree.specs.Words.{Text}
 use Rattle.es_tree.specs.declared.ast_type.AstType.{AstType}
-use Rattle.es_tree.specs.declared.ast_type.AstType.TheVariants.{Program, BlockStatement, VariableDeclaration, VariableDeclarator, IfStatement, ForStatement, ForInStatement, ForOfStatement, WhileStatement, DoWhileStatement, LabeledStatement, SwitchStatement, SwitchCase, CatchClause, ImportDeclaration, ImportSpecifier, ImportDefaultSpecifier, ImportNamespaceSpecifier, ExportNamedDeclaration, ArrayExpression, ArrayPattern, ArrayTarget, ObjectProperty, MetaProperty}
+use Rattle.es_tree.specs.declared.ast_type.AstType.TheVariants.{Program, BlockStatement, VariableDeclaration, VariableDeclarator, IfStatement, ForStatement, ForInStatement, ForOfStatement, WhileStatement, DoWhileStatement, LabeledStatement, SwitchStatement, SwitchCase, CatchClause, ImportDeclaration, ImportSpecifier, ImportDefaultSpecifier, ImportNamespaceSpecifier, ExportNamedDeclaration, ArrayExpression, ArrayPattern, ArrayTarget, ObjectProperty, MetaProperty, UpdateExpression, ParenthesizedExpression, ChainExpression, AssignmentExpression, CallExpression}
 use Rattle.es_tree.specs.declared.table.Sort.TheVariants.{Directive as s-Directive, Expression as s-Expression, Identifier as s-Identifier, ModuleExportName as s-ModuleExportName, Program as s-Program, Statement as s-Statement}
 use Rattle.es_semantic.proofs.FormEdges.{Edges, EdgesAll, EdgesBy, EdgesIn, ElementsFit, TableFits, edges-inside, elements-are, entries_fit}
 use Rattle.es_resolution.proofs.AllForms.{All, AllAmong, AllBy, AllIn, all-tree}
@@ -272,6 +272,29 @@ formed ImportNamespaceSpecifier l fs h = absurd (false≢true h)
 formed ExportNamedDeclaration l (missing then fs) h = refl
 formed ExportNamedDeclaration l (one t then fs) h = refl
 formed ExportNamedDeclaration l fs h = absurd (false≢true h)
+formed UpdateExpression l (one u then done) h = refl
+formed UpdateExpression l (one u then (g then fs)) h = absurd (false≢true (later _ false h))
+formed UpdateExpression l fs h = absurd (false≢true h)
+formed ParenthesizedExpression l (one u then done) h = refl
+formed ParenthesizedExpression l (one u then (g then fs)) h = absurd (false≢true (later _ false h))
+formed ParenthesizedExpression l fs h = absurd (false≢true h)
+formed ChainExpression l (one u then done) h = refl
+formed ChainExpression l (one u then (g then fs)) h = absurd (false≢true (later _ false h))
+formed ChainExpression l fs h = absurd (false≢true h)
+formed AssignmentExpression l (one t then (one u then done)) h = refl
+formed AssignmentExpression l (one t then (one u then (g then fs))) h = absurd (let d : (has_form _ u && false) ≡ true = later _ _ h in let e : false ≡ true = later _ false d in false≢true e)
+formed AssignmentExpression l (one t then (missing then fs)) h = absurd (false≢true (later _ false h))
+formed AssignmentExpression l (one t then (many ts then fs)) h = absurd (false≢true (later _ false h))
+formed AssignmentExpression l (one t then (statements ts then fs)) h = absurd (false≢true (later _ false h))
+formed AssignmentExpression l (one t then done) h = absurd (false≢true (later _ false h))
+formed AssignmentExpression l fs h = absurd (false≢true h)
+formed CallExpression l (one t then (many ts then done)) h = refl
+formed CallExpression l (one t then (many ts then (g then fs))) h = absurd (let d : (_ && false) ≡ true = later _ _ h in let e : false ≡ true = later _ false d in false≢true e)
+formed CallExpression l (one t then (missing then fs)) h = absurd (false≢true (later _ false h))
+formed CallExpression l (one t then (one u then fs)) h = absurd (false≢true (later _ false h))
+formed CallExpression l (one t then (statements ts then fs)) h = absurd (false≢true (later _ false h))
+formed CallExpression l (one t then done) h = absurd (false≢true (later _ false h))
+formed CallExpression l fs h = absurd (false≢true h)
 formed _ l fs h = refl
 
 -- PROGRAMS

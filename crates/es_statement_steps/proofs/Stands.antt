@@ -8,7 +8,7 @@ use Rattle.es_tree.specs.Tree.{Tree, node, Label, Fields, done, ◌then◌, miss
 use Rattle.es_tree.specs.Walks.{all_nodes, all_in_fields}
 use Rattle.es_tree.specs.Words.{Text}
 use Rattle.es_tree.specs.declared.ast_type.AstType.{AstType}
-use Rattle.es_tree.specs.declared.ast_type.AstType.TheVariants.{Program, ExpressionStatement, BlockStatement, StaticBlock, EmptyStatement, DebuggerStatement, VariableDeclaration, VariableDeclarator, FunctionDeclaration, FunctionBody, ClassDeclaration, ReturnStatement, ThrowStatement, IfStatement, ForStatement, ForInStatement, ForOfStatement, WhileStatement, DoWhileStatement, BreakStatement, ContinueStatement, LabeledStatement, SwitchStatement, SwitchCase, TryStatement, CatchClause, ImportDeclaration, ImportSpecifier, ImportDefaultSpecifier, ImportNamespaceSpecifier, ExportNamedDeclaration, ExportSpecifier, ExportDefaultDeclaration, ExportAllDeclaration, Identifier, ObjectProperty, MemberExpression, ParenthesizedExpression, ObjectPattern, PatternProperty, ArrayPattern, AssignmentPattern, RestElement, ObjectTarget, TargetProperty, ArrayTarget, TargetWithDefault, TargetRest}
+use Rattle.es_tree.specs.declared.ast_type.AstType.TheVariants.{Program, ExpressionStatement, BlockStatement, StaticBlock, EmptyStatement, DebuggerStatement, VariableDeclaration, VariableDeclarator, FunctionDeclaration, FunctionBody, ClassDeclaration, ReturnStatement, ThrowStatement, IfStatement, ForStatement, ForInStatement, ForOfStatement, WhileStatement, DoWhileStatement, BreakStatement, ContinueStatement, LabeledStatement, SwitchStatement, SwitchCase, TryStatement, CatchClause, ImportDeclaration, ImportSpecifier, ImportDefaultSpecifier, ImportNamespaceSpecifier, ExportNamedDeclaration, ExportSpecifier, ExportDefaultDeclaration, ExportAllDeclaration, Identifier, ObjectProperty, MemberExpression, ParenthesizedExpression, ObjectPattern, PatternProperty, ArrayPattern, AssignmentPattern, RestElement, ObjectTarget, TargetProperty, ArrayTarget, TargetWithDefault, TargetRest, CallExpression, ChainExpression, SpreadElement, TemplateLiteral, TaggedTemplateExpression, ObjectExpression, BinaryExpression, AssignmentExpression, UpdateExpression, UnaryExpression, LogicalExpression, ConditionalExpression, SequenceExpression, NewExpression, TemplateElement, Directive, ImportAttribute, ThisExpression, NullLiteral, BooleanLiteral, NumericLiteral, BigIntLiteral, StringLiteral}
 use Rattle.es_statement_runs.specs.Names.{is_word}
 use Rattle.es_statement_runs.specs.Programs.{is_statement_kind}
 use Rattle.es_statement_steps.proofs.Below.{fields_pass}
@@ -108,6 +108,47 @@ tells ExportNamedDeclaration (suc zero) = true
 tells ParenthesizedExpression zero = true
 tells k i = false
 
+-- kinds whose role is that of names that are bound or written in them, and where these stand
+abbrev pub takes_target : AstType → Bool
+takes_target VariableDeclarator = true
+takes_target ObjectPattern = true
+takes_target PatternProperty = true
+takes_target ArrayPattern = true
+takes_target AssignmentPattern = true
+takes_target RestElement = true
+takes_target ObjectTarget = true
+takes_target TargetProperty = true
+takes_target ArrayTarget = true
+takes_target TargetWithDefault = true
+takes_target TargetRest = true
+takes_target k = false
+
+abbrev pub aims : AstType → ℕ → Bool
+aims VariableDeclaration zero = true
+aims VariableDeclarator zero = true
+aims CatchClause zero = true
+aims ForInStatement zero = true
+aims ForOfStatement zero = true
+aims AssignmentExpression zero = true
+aims UpdateExpression zero = true
+aims ObjectPattern zero = true
+aims PatternProperty (suc zero) = true
+aims ArrayPattern i = true
+aims AssignmentPattern zero = true
+aims RestElement zero = true
+aims ObjectTarget zero = true
+aims TargetProperty (suc zero) = true
+aims ArrayTarget i = true
+aims TargetWithDefault zero = true
+aims TargetRest zero = true
+aims k i = false
+
+-- a name, in parentheses or not
+abbrev pub is_name_alone : AstType → Bool
+is_name_alone Identifier = true
+is_name_alone ParenthesizedExpression = true
+is_name_alone k = false
+
 abbrev pub is_declarator : AstType → Bool
 is_declarator VariableDeclarator = true
 is_declarator k = false
@@ -126,10 +167,63 @@ abbrev pub is_name : AstType → Bool
 is_name Identifier = true
 is_name k = false
 
--- the kinds of the parts of a program, a declaration, a `switch`, an import and an export
+abbrev pub is_link_kind : AstType → Bool
+is_link_kind MemberExpression = true
+is_link_kind CallExpression = true
+is_link_kind k = false
+
+-- no name, nor what passes on what its place takes, and no item of a declaration or an export
+abbrev pub is_closed : AstType → Bool
+is_closed Identifier = false
+is_closed ParenthesizedExpression = false
+is_closed ChainExpression = false
+is_closed VariableDeclarator = false
+is_closed ExportSpecifier = false
+is_closed k = true
+
+-- what stands in declarations and exports alone
+abbrev pub is_item : AstType → Bool
+is_item VariableDeclarator = true
+is_item ExportSpecifier = true
+is_item k = false
+
+abbrev pub is_spread : AstType → Bool
+is_spread SpreadElement = true
+is_spread k = false
+
+-- what an expression takes: no part of a declaration, an export, a program, a template, an object or a pattern, and no spread
+abbrev pub is_operand : AstType → Bool
+is_operand SpreadElement = false
+is_operand VariableDeclarator = false
+is_operand ExportSpecifier = false
+is_operand Directive = false
+is_operand TemplateElement = false
+is_operand ObjectProperty = false
+is_operand ObjectPattern = false
+is_operand PatternProperty = false
+is_operand ArrayPattern = false
+is_operand AssignmentPattern = false
+is_operand RestElement = false
+is_operand ObjectTarget = false
+is_operand TargetProperty = false
+is_operand ArrayTarget = false
+is_operand TargetWithDefault = false
+is_operand TargetRest = false
+is_operand ImportAttribute = false
+is_operand k = true
+
+-- what an assignment takes besides
+abbrev pub is_assigned : AstType → Bool
+is_assigned ObjectTarget = true
+is_assigned ArrayTarget = true
+is_assigned k = is_operand k
+
+-- the kinds of the parts of a program, a declaration, a `switch`, an import and an export; of a chain, a template, an object and its patterns; and of
+-- operators. Items of declarations and exports stand there alone.
 abbrev pub parts_fit : AstType → ℕ → AstType → Bool
 parts_fit Program zero j = is_inner j
-parts_fit VariableDeclaration i j = is_declarator j
+parts_fit VariableDeclaration zero j = is_declarator j
+parts_fit VariableDeclaration (suc i) j = false
 parts_fit SwitchStatement (suc zero) j = is_case j
 parts_fit ImportDeclaration zero j = is_import_item j
 parts_fit ImportDeclaration (suc i) j = is_inner j
@@ -138,11 +232,42 @@ parts_fit ImportSpecifier (suc zero) j = is_name j
 parts_fit ImportDefaultSpecifier zero j = is_name j
 parts_fit ImportNamespaceSpecifier zero j = is_name j
 parts_fit ExportNamedDeclaration (suc i) j = is_inner j
-parts_fit k i j = true
+parts_fit ChainExpression i j = is_link_kind j
+parts_fit TemplateLiteral zero j = is_closed j
+parts_fit TaggedTemplateExpression (suc i) j = is_closed j
+parts_fit ObjectExpression i j = is_closed j
+parts_fit ObjectPattern i j = is_closed j
+parts_fit ObjectTarget i j = is_closed j
+parts_fit BinaryExpression i j = is_operand j
+parts_fit AssignmentExpression zero j = is_assigned j
+parts_fit AssignmentExpression (suc i) j = is_operand j
+parts_fit UpdateExpression (suc i) j = false
+parts_fit ParenthesizedExpression (suc i) j = false
+parts_fit PatternProperty (suc (suc i)) j = false
+parts_fit TargetProperty (suc (suc i)) j = false
+parts_fit RestElement (suc i) j = false
+parts_fit TargetRest (suc i) j = false
+parts_fit Identifier i j = is_operand j
+parts_fit ThisExpression i j = is_operand j
+parts_fit NullLiteral i j = is_operand j
+parts_fit BooleanLiteral i j = is_operand j
+parts_fit NumericLiteral i j = is_operand j
+parts_fit BigIntLiteral i j = is_operand j
+parts_fit StringLiteral i j = is_operand j
+parts_fit UnaryExpression i j = is_operand j
+parts_fit UpdateExpression zero j = is_operand j
+parts_fit LogicalExpression i j = is_operand j
+parts_fit ConditionalExpression i j = is_operand j
+parts_fit SequenceExpression i j = is_operand j
+parts_fit MemberExpression i j = is_operand j
+parts_fit ParenthesizedExpression zero j = is_operand j
+parts_fit CallExpression i j = is_operand j || is_spread j
+parts_fit NewExpression i j = is_operand j || is_spread j
+parts_fit k i j = not (is_item j)
 
 -- what may stand in a field, by the table of fields
 abbrev pub fits : AstType → ℕ → AstType → Bool
-fits k i j = not (is_program j) && ((not (is_inner k) || is_inner j) && ((not (binds_at k i) || is_pattern j) && ((not (hands_on j) || not (tells k i)) && parts_fit k i j)))
+fits k i j = not (is_program j) && ((not (is_inner k) || is_inner j) && ((not (binds_at k i) || is_pattern j) && ((not (hands_on j) || not (tells k i)) && ((not (takes_target j) || aims k i) && parts_fit k i j))))
 
 -- what declares nothing in the scope around it, but by `var`
 abbrev pub is_plain : AstType → Text → Bool
@@ -182,7 +307,7 @@ takes k i j = false
 abbrev pub child_stands : AstType → ℕ → Tree → Bool
 child_stands k i (node j l fs) = fits k i j && (is_plain j (first_text l.texts) || takes k i j)
 
--- the fields of what declares
+-- the fields of what declares, and of expressions that write, call and pass on what their place takes
 abbrev pub shaped : AstType → Fields → Bool
 shaped Program (many ds then (statements ts then done)) = true
 shaped Program fs = false
@@ -217,6 +342,16 @@ shaped ImportNamespaceSpecifier fs = false
 shaped ExportNamedDeclaration (missing then fs) = true
 shaped ExportNamedDeclaration (one t then fs) = true
 shaped ExportNamedDeclaration fs = false
+shaped UpdateExpression (one t then done) = true
+shaped UpdateExpression fs = false
+shaped ParenthesizedExpression (one t then done) = true
+shaped ParenthesizedExpression fs = false
+shaped ChainExpression (one t then done) = true
+shaped ChainExpression fs = false
+shaped AssignmentExpression (one t then (one r then done)) = true
+shaped AssignmentExpression fs = false
+shaped CallExpression (one f then (many ts then done)) = true
+shaped CallExpression fs = false
 shaped k fs = true
 
 abbrev pub stands : AstType → Label → Fields → Bool
@@ -247,6 +382,7 @@ pub record ChildStands (k : AstType) (i : ℕ) (j : AstType) (word : Text) : Typ
   pub inner : is_inner k ≡ true → is_inner j ≡ true
   pub pattern : binds_at k i ≡ true → is_pattern j ≡ true
   pub role : tells k i ≡ true → hands_on j ≡ false
+  pub aim : takes_target j ≡ true → aims k i ≡ true
   pub part : parts_fit k i j ≡ true
   pub plain : takes k i j ≡ false → is_plain j word ≡ true
 
@@ -270,15 +406,17 @@ pub child_parts : (k : AstType) (i : ℕ) (t : Tree) → child_stands k i t ≡ 
 child_parts k i (node j l fs) h =
     let word = first_text l.texts in
     let d = and_parts (fits k i j) (is_plain j word || takes k i j) h in
-    let p = and_parts (not (is_program j)) ((not (is_inner k) || is_inner j) && ((not (binds_at k i) || is_pattern j) && ((not (hands_on j) || not (tells k i)) && parts_fit k i j))) d.0 in
-    let q = and_parts (not (is_inner k) || is_inner j) ((not (binds_at k i) || is_pattern j) && ((not (hands_on j) || not (tells k i)) && parts_fit k i j)) p.1 in
-    let r = and_parts (not (binds_at k i) || is_pattern j) ((not (hands_on j) || not (tells k i)) && parts_fit k i j) q.1 in
-    let s = and_parts (not (hands_on j) || not (tells k i)) (parts_fit k i j) r.1 in
+    let p = and_parts (not (is_program j)) ((not (is_inner k) || is_inner j) && ((not (binds_at k i) || is_pattern j) && ((not (hands_on j) || not (tells k i)) && ((not (takes_target j) || aims k i) && parts_fit k i j)))) d.0 in
+    let q = and_parts (not (is_inner k) || is_inner j) ((not (binds_at k i) || is_pattern j) && ((not (hands_on j) || not (tells k i)) && ((not (takes_target j) || aims k i) && parts_fit k i j))) p.1 in
+    let r = and_parts (not (binds_at k i) || is_pattern j) ((not (hands_on j) || not (tells k i)) && ((not (takes_target j) || aims k i) && parts_fit k i j)) q.1 in
+    let s = and_parts (not (hands_on j) || not (tells k i)) ((not (takes_target j) || aims k i) && parts_fit k i j) r.1 in
+    let u = and_parts (not (takes_target j) || aims k i) (parts_fit k i j) s.1 in
     record {
       program = not_true (is_program j) p.0;
       inner = implied (is_inner k) (is_inner j) q.0;
       pattern = implied (binds_at k i) (is_pattern j) r.0;
       role = unless (hands_on j) (tells k i) s.0;
-      part = s.1;
+      aim = implied (takes_target j) (aims k i) u.0;
+      part = u.1;
       plain = or_else (is_plain j word) (takes k i j) d.1;
     }

@@ -8,7 +8,7 @@ use Rattle.es_tree.specs.Tree.{Tree, node, Label, Fields, done, ◌then◌, Fiel
 use Rattle.es_tree.specs.Walks.{all_nodes}
 use Rattle.es_tree.specs.Words.{Text}
 use Rattle.es_tree.specs.declared.ast_type.AstType.{AstType}
-use Rattle.es_tree.specs.declared.ast_type.AstType.TheVariants.{ArrowFunctionExpression, BlockStatement, ClassDeclaration, ClassExpression, FunctionBody, FunctionDeclaration, FunctionExpression, ImportDeclaration, Program, StaticBlock, SwitchCase, SwitchStatement, VariableDeclaration}
+use Rattle.es_tree.specs.declared.ast_type.AstType.TheVariants.{BlockStatement, ImportDeclaration, Program, SwitchCase, VariableDeclaration}
 use Rattle.es_runs.specs.Alike.{the_value}
 use Rattle.es_runs.proofs.Temporary.{bytes_eq-flip, bytes_eq-self}
 use Rattle.es_statement_steps.proofs.DeclaredNames.{declares_append}
@@ -42,10 +42,9 @@ use Rattle.es_statement_runs.proofs.Moved.MovedField.{moved_many, moved_one}
 use Rattle.es_statement_runs.proofs.Moved.MovedFields.{moved_then}
 use Rattle.es_statement_runs.proofs.Moved.MovedList.{moved_end, moved_grown, moved_new, moved_statement}
 use Rattle.es_statement_runs.proofs.Moved.MovedTrees.{moved_before, moved_empty}
-use Rattle.es_statement_runs.specs.Programs.{is_statement_kind}
 use Rattle.es_statement_steps.proofs.MadeNames.{all_made}
 use Rattle.es_statement_steps.proofs.Below.{Below, BelowField, BelowTrees, nodes_below}
-use Rattle.es_statement_steps.proofs.FoundNames.{Finds, finds_inside, names_in}
+use Rattle.es_statement_steps.proofs.FoundNames.{Finds, finds_inside}
 use Rattle.es_statement_steps.proofs.Stands.{is_program, standing, stands}
 use Rattle.es_statement_steps.proofs.Rooms.{IsBlock, IsCase, NoList, NoLists, Stood, StoodIn, block-fields, case-fields, block-longer, by-list, case-longer, is_holder, list-kind, no-body, opened-here, stays_put, stood-inside, unlisted}
 
@@ -351,21 +350,9 @@ Fine t = all_nodes stands t ≡ true
 pub fine-inside : (k : AstType) (l : Label) (fs : Fields) → Fine (node k l fs) → Below (λ i t. Fine t) fs
 fine-inside k l fs h = nodes_below stands fs (standing k l fs h).below
 
--- the names around what stands in a field
-around-in : (k : AstType) (fs : Fields) (ds : List Declared) (i : ℕ) → is_statement_kind k ≡ true → names_around k (own_names k fs) ds i ≡ names_in ds k fs i
-around-in SwitchStatement fs ds zero c = refl
-around-in SwitchStatement fs ds (suc i) c = refl
-around-in StaticBlock fs ds i c = absurd (cc c)
-around-in FunctionDeclaration fs ds i c = absurd (cc c)
-around-in FunctionExpression fs ds i c = absurd (cc c)
-around-in FunctionBody fs ds i c = absurd (cc c)
-around-in ArrowFunctionExpression fs ds i c = absurd (cc c)
-around-in ClassDeclaration fs ds i c = absurd (cc c)
-around-in ClassExpression fs ds i c = absurd (cc c)
-around-in _ fs ds i c = refl
-
+-- names around what stands in a field are found
 ties : (n : Site) (ds : List Declared) (k : AstType) (l : Label) (fs : Fields) → is_program k ≡ false → Fine (node k l fs) → ResolvedIn (role_at n.role k l fs) (place_in n.names k l (role_at n.role k l fs) fs) fs → Finds ds n.names → (i : ℕ) → Finds (names_around k (own_names k fs) ds i) (place_in n.names k l (role_at n.role k l fs) fs i)
-ties n ds k l fs p h resolved found i = subst (λ (es : List Declared). Finds es (place_in n.names k l (role_at n.role k l fs) fs i)) (sym (around-in k fs ds i (standing k l fs h).class)) (finds_inside ds n.names n.role k l fs i found p h resolved)
+ties n ds k l fs p h resolved found i = finds_inside ds n.names n.role k l fs i found p h resolved
 
 module _ (Q : Site → Ledger → Spot → Ledger → Spot → Type 0) (A : List Bound → Site → Whole → Tree → Tree → Type 0) (law : NodeRule Q A) where
   pub both-mute : (new : List Bound) (ds : List Declared) (t : Take) (a b : Tree) → Acted A new ds t a b → BothMute (names_among new) a b

@@ -51,7 +51,7 @@ off-rule : (b : Bool) (R : Site → Ledger → Spot → Ledger → Spot → Type
 off-rule true R e n s s' x y h = absurd (cc e)
 off-rule false R e n s s' x y h = h
 
-on-rule : (b : Bool) (R : Site → Ledger → Spot → Ledger → Spot → Type 0) (n : Site) (s s' : Ledger) (x y : Spot) → where_on b R n s x s' y → R n s x s' y
+pub on-rule : (b : Bool) (R : Site → Ledger → Spot → Ledger → Spot → Type 0) (n : Site) (s s' : Ledger) (x y : Spot) → where_on b R n s x s' y → R n s x s' y
 on-rule true R n s s' x y h = h
 on-rule false R n s s' x y h = absurd h
 
@@ -105,7 +105,7 @@ module _ (o : EnvOptions) (no : AskedForNo o) (further : FurtherClass o) where
   tamed-step h proper after class = tamed (alone o) (StatementRules o) (alone-form o) tame-alone h none-above proper after class
 
 -- writing keeps form as all rules do
-writing-form : (o : EnvOptions) → FormLawful Writing
+pub writing-form : (o : EnvOptions) → FormLawful Writing
 writing-form o = record {
   at_nodes = λ n s s' t u a slot h f. absurd (writes-lists h);
   no_flanks = λ n s s' t u bs cs h. absurd (writes-lists h);
@@ -113,39 +113,50 @@ writing-form o = record {
   at_bodies = λ n s s' p t u h. (alone-form o).at_bodies n s s' p t u (inl (inl h));
 }
 
+-- WHAT STEPS OF THE RULES DO, from what those of each do
+
+module _ (P : Ledger → Ledger → Open → Open → Type 0) where
+  abbrev pub Does : (Site → Ledger → Spot → Ledger → Spot → Type 0) → Type 0
+  Does R = (s s' : Ledger) (x y : Open) → Step R the_program s x s' y → P s s' x y
+
+  pub on-does : (b : Bool) (R : Site → Ledger → Spot → Ledger → Spot → Type 0) → Does R → Does (where_on b R)
+  on-does b R does s s' x y h = does s s' x y (step_under (where_on b R) R (λ n s x s' y r. on-rule b R n s s' x y r) h)
+
+  either-does : (R Q : Site → Ledger → Spot → Ledger → Spot → Type 0) → Does R → Does Q → Does (either_rule R Q)
+  either-does R Q first second s s' x y h = at (step-either R Q h)
+    where
+      at : Step R the_program s x s' y ⊎ Step Q the_program s x s' y → P s s' x y
+      at (inl r) = first s s' x y r
+      at (inr r) = second s s' x y r
+
+  pub statement-does : (o : EnvOptions) → Does Writing → Does (RowRule NullishCoalescingRule) → Does CatchRule → Does (where_on (is_some o.es2018.object_rest_spread) (Replacing SpreadRule)) → Does (StatementRules o)
+  statement-does o writing coalescing catch spread =
+      either-does Writing (either_rule (where_on o.es2020.nullish_coalescing_operator (RowRule NullishCoalescingRule)) (FurtherRules o)) writing
+      (either-does (where_on o.es2020.nullish_coalescing_operator (RowRule NullishCoalescingRule)) (FurtherRules o) (on-does o.es2020.nullish_coalescing_operator (RowRule NullishCoalescingRule) coalescing)
+      (either-does (where_on o.es2019.optional_catch_binding CatchRule) (where_on (is_some o.es2018.object_rest_spread) (Replacing SpreadRule)) (on-does o.es2019.optional_catch_binding CatchRule catch) spread))
+
 -- WHAT EACH DOES TO RUNS
 
-module _ (o : EnvOptions) (no : AskedForNo o) (u : Supply) (Clean : Tree → Type 0) (quiet : (t : Tree) → Clean t → silent_names u t ≡ []) where
+module _ (o : EnvOptions) (no : AskedForNo o) (no_all : Bool) (u : Supply) (Clean : Tree → Type 0) (quiet : (t : Tree) → Clean t → silent_names u t ≡ []) where
+  abbrev pub Keeping : Ledger → Ledger → Open → Open → Type 0
+  Keeping s s' x y = Known s x → Known s' y → Clean (finished x) → Clean (finished y) → StepAlike no_all u (finished x) (finished y)
+
   abbrev pub Runs : (Site → Ledger → Spot → Ledger → Spot → Type 0) → Type 0
-  Runs R = (s s' : Ledger) (x y : Open) → Step R the_program s x s' y → Known s x → Known s' y → Clean (finished x) → Clean (finished y) → StepAlike u (finished x) (finished y)
+  Runs = Does Keeping
 
   -- a rule of nodes, from what its row does
-  pub node-runs : (Q : Site → Ledger → Spot → Ledger → Spot → Type 0) (A : List Bound → Site → Whole → Tree → Tree → Type 0) (law : NodeRule Q A) → KeepsRuns u law.hoisted A → Runs Q
+  pub node-runs : (Q : Site → Ledger → Spot → Ledger → Spot → Type 0) (A : List Bound → Site → Whole → Tree → Tree → Type 0) (law : NodeRule Q A) → KeepsRuns no_all u law.hoisted A → Runs Q
   node-runs Q A law keeps s s' x y h k m c d =
-      row-alike u Q A law keeps (whole_in s) (finished x) (finished y) (program-moved Q A law h k.proper k.form k.class (known-fine k) (known-fine m) k.resolved) k.named (known-fine k) (known-fine m) (quiet (finished x) c) (quiet (finished y) d)
+      row-alike no_all u Q A law keeps (whole_in s) (finished x) (finished y) (program-moved Q A law h k.proper k.form k.class (known-fine k) (known-fine m) k.resolved) k.named (known-fine k) (known-fine m) (quiet (finished x) c) (quiet (finished y) d)
 
   -- a row that declares its temporaries
-  pub replacing-runs : (R : Site → Whole → List Bound → Tree → Tree → Type 0) (shape : RowShape R) → KeepsRuns u true (Row R shape) → Runs (Replacing R)
-  replacing-runs R shape keeps = node-runs (Replacing R) (Row R shape) (replacing-rule R shape) (subst (λ (b : Bool). KeepsRuns u b (Row R shape)) (sym (replacing-hoists R shape)) keeps)
+  pub replacing-runs : (R : Site → Whole → List Bound → Tree → Tree → Type 0) (shape : RowShape R) → KeepsRuns no_all u true (Row R shape) → Runs (Replacing R)
+  replacing-runs R shape keeps = node-runs (Replacing R) (Row R shape) (replacing-rule R shape) (subst (λ (b : Bool). KeepsRuns no_all u b (Row R shape)) (sym (replacing-hoists R shape)) keeps)
 
   -- a catch clause with a name
   pub catch-runs : Runs CatchRule
-  catch-runs = node-runs CatchRule CatchRow catch-rule (subst (λ (b : Bool). KeepsRuns u b CatchRow) (sym catch-stays) (catch-keeps u))
+  catch-runs = node-runs CatchRule CatchRow catch-rule (subst (λ (b : Bool). KeepsRuns no_all u b CatchRow) (sym catch-stays) (catch-keeps no_all u))
 
-  pub further-runs : Runs (where_on (is_some o.es2018.object_rest_spread) (Replacing SpreadRule)) → Runs (FurtherRules o)
-  further-runs spread s s' x y h k m c d = at (step-either (where_on o.es2019.optional_catch_binding CatchRule) (where_on (is_some o.es2018.object_rest_spread) (Replacing SpreadRule)) h)
-    where
-      at : Step (where_on o.es2019.optional_catch_binding CatchRule) the_program s x s' y ⊎ Step (where_on (is_some o.es2018.object_rest_spread) (Replacing SpreadRule)) the_program s x s' y → StepAlike u (finished x) (finished y)
-      at (inl r) = catch-runs s s' x y (step_under (where_on o.es2019.optional_catch_binding CatchRule) CatchRule (λ n s x s' y r. on-rule o.es2019.optional_catch_binding CatchRule n s s' x y r) r) k m c d
-      at (inr r) = spread s s' x y r k m c d
-
-  pub statement-runs : Runs (FurtherRules o) → Runs (StatementRules o)
-  statement-runs further s s' x y h k m c d = at (step-either Writing (either_rule (where_on o.es2020.nullish_coalescing_operator (RowRule NullishCoalescingRule)) (FurtherRules o)) h)
-    where
-      rest : Step (where_on o.es2020.nullish_coalescing_operator (RowRule NullishCoalescingRule)) the_program s x s' y ⊎ Step (FurtherRules o) the_program s x s' y → StepAlike u (finished x) (finished y)
-      rest (inl r) = replacing-runs CoalescingRow coalescing-shape (coalescing-keeps u) s s' x y (step_under (where_on o.es2020.nullish_coalescing_operator (RowRule NullishCoalescingRule)) (RowRule NullishCoalescingRule) (λ n s x s' y r. on-rule o.es2020.nullish_coalescing_operator (RowRule NullishCoalescingRule) n s s' x y r) r) k m c d
-      rest (inr r) = further s s' x y r k m c d
-
-      at : Step Writing the_program s x s' y ⊎ Step (either_rule (where_on o.es2020.nullish_coalescing_operator (RowRule NullishCoalescingRule)) (FurtherRules o)) the_program s x s' y → StepAlike u (finished x) (finished y)
-      at (inl r) = unchanged u (finished x) (finished y) (written-same Writing (writing-form o) (λ n s s' t u h. absurd (writes-lists h)) r k.proper).1
-      at (inr r) = rest (step-either (where_on o.es2020.nullish_coalescing_operator (RowRule NullishCoalescingRule)) (FurtherRules o) r)
+  pub statement-runs : Runs (where_on (is_some o.es2018.object_rest_spread) (Replacing SpreadRule)) → Runs (StatementRules o)
+  statement-runs spread = statement-does Keeping o (λ s s' x y h k m c d. unchanged no_all u (finished x) (finished y) (written-same Writing (writing-form o) (λ n s s' t u h. absurd (writes-lists h)) h k.proper).1)
+      (replacing-runs CoalescingRow coalescing-shape (coalescing-keeps no_all u)) catch-runs spread

@@ -44,7 +44,7 @@ class-fields : (fs : Fields) → Below (λ i. Class) fs → all_in_fields is_sta
 class-fields done h = refl
 class-fields (f then fs) h = and_from (all_in_field is_statement_node f) (all_in_fields is_statement_node fs) (class-field f h.0) (class-fields fs h.1)
 
-node-kind : (k : AstType) (l : Label) (fs : Fields) → is_statement_node k l fs ≡ true → is_statement_kind k ≡ true
+pub node-kind : (k : AstType) (l : Label) (fs : Fields) → is_statement_node k l fs ≡ true → is_statement_kind k ≡ true
 node-kind ObjectProperty l fs h = refl
 node-kind MetaProperty l fs h = refl
 node-kind _ l fs h = h
@@ -85,7 +85,7 @@ slot-below up k l fs i c h = record {
   slot = off (is_field_value (ancestor k l fs i 0)) (leads_to_value (ancestor k l fs i 0)) (is_in_parameter up) (no-value k l fs i c) h.parameter;
 }
 
-no-arrow : (k : AstType) (i : ℕ) → is_statement_kind k ≡ true → is_body k i ≡ false
+pub no-arrow : (k : AstType) (i : ℕ) → is_statement_kind k ≡ true → is_body k i ≡ false
 no-arrow ArrowFunctionExpression i h = absurd (cc h)
 no-arrow _ i h = refl
 

@@ -13,7 +13,7 @@ use Rattle.es_statement_runs.specs.Runs.{RunAlike}
 
 -- whether the options ask for a lowering of which no row is known to keep the runs of statements, whatever its operands are
 abbrev pub asks_for_unknown_rows : EnvOptions → Bool
-asks_for_unknown_rows o = o.es2020.optional_chaining || o.es2021.logical_assignment_operators || o.es2016.exponentiation_operator || is_some o.es2018.object_rest_spread
+asks_for_unknown_rows o = o.es2020.optional_chaining || o.es2021.logical_assignment_operators || o.es2016.exponentiation_operator
 
 -- Object spread has its helper as a member of `babelHelpers`; the other lowerings have none.
 abbrev pub supply_asked : EnvOptions → Supply
