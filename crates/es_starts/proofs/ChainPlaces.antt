@@ -14,7 +14,7 @@ use Rattle.es_tree.specs.Parens.{without_parens}
 use Rattle.es_tree.specs.Table.{own_kinds, rest_sort}
 use Rattle.es_tree.specs.Tree.{Tree, node, Label, Fields, done, ◌then◌, Field, missing, one, many, statements, Trees, empty, ◌before◌, kind_of}
 use Rattle.es_tree.specs.declared.ast_type.AstType.{AstType}
-use Rattle.es_tree.specs.declared.ast_type.AstType.TheVariants.{AssignmentExpression, CallExpression, ChainExpression, MemberExpression, ParenthesizedExpression, UnaryExpression, UpdateExpression, VariableDeclaration, VariableDeclarator}
+use Rattle.es_tree.specs.declared.ast_type.AstType.TheVariants.{AssignmentExpression, CallExpression, ChainExpression, MemberExpression, ObjectProperty, ParenthesizedExpression, PatternProperty, TargetProperty, UnaryExpression, UpdateExpression, VariableDeclaration, VariableDeclarator}
 use Rattle.es_tree.specs.declared.options.EnvOptions.{EnvOptions}
 use Rattle.es_tree.specs.declared.table.Content.{Content}
 use Rattle.es_tree.specs.declared.table.Content.TheVariants.{Child as c-Child}
@@ -154,6 +154,9 @@ module _ (o : EnvOptions) where
     first-ok VariableDeclaration l f fs h keeps inside ok = absurd (true≢false (sym (node_form s VariableDeclaration l (f then fs) h).children))
     first-ok MemberExpression l f fs h keeps inside ok = any-ok (field_site MemberExpression l (f then fs) 0) f (object-takes (flag_after l.flags) (flag_at 1 l.flags) (second-flag l.flags))
     first-ok CallExpression l f fs h keeps inside ok = any-ok (field_site CallExpression l (f then fs) 0) f (or_right (takes_value (the_callee (flag l.flags)).level) true refl)
+    first-ok ObjectProperty l f fs h keeps inside ok = any-ok (field_site ObjectProperty l (f then fs) 0) f (key-takes (flag_at 2 l.flags) false)
+    first-ok PatternProperty l f fs h keeps inside ok = any-ok (field_site PatternProperty l (f then fs) 0) f (key-takes (flag_at 1 l.flags) false)
+    first-ok TargetProperty l f fs h keeps inside ok = any-ok (field_site TargetProperty l (f then fs) 0) f (key-takes (flag_at 1 l.flags) false)
     first-ok k l f fs h keeps inside ok = any-ok (field_site k l (f then fs) 0) f refl
 
     -- nodes with one field
