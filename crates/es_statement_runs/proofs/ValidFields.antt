@@ -23,9 +23,10 @@ use Rattle.es_statement_runs.specs.Helpers.Supply.{by_global}
 use Rattle.es_statement_runs.specs.Meant.{Spot, Slot, Slots, is_label}
 use Rattle.es_statement_runs.specs.Meant.Slot.{required, optional, absent, listed, nonempty, a_key, passed, labelled_by}
 use Rattle.es_statement_runs.specs.Meant.Slots.{no_slot, slot, repeated}
-use Rattle.es_statement_runs.specs.Programs.{is_statement_kind, is_statement_node, names_no_cell}
+use Rattle.es_statement_runs.specs.Programs.{is_statement_kind, is_statement_node}
 use Rattle.es_statement_runs.proofs.ValidForm.{Formed, formed, form_at, kind_passes, at_sort, before_sort, of_sort, of_place, of_content, of_entry}
 use Rattle.es_statement_runs.proofs.ValidForm.Formed.{formed_required, formed_missing, formed_optional, formed_list, formed_nonempty, formed_rest, formed_statements}
+use Rattle.es_statement_runs.proofs.ValidNames.{cells_free, free_among, free_at, free_in}
 use Rattle.es_statement_runs.proofs.ValidPlaces.{looks, looks_at}
 use Rattle.es_statement_runs.proofs.ValidRules.{Keeps, KeepsAll, KeepsFields, KeepsField, KeepsTrees}
 use Rattle.es_statement_runs.proofs.ValidRules.KeepsAll.{keeps_all}
@@ -40,7 +41,7 @@ abbrev pub no_supply : Supply → List Text → Bool
 no_supply by_global xs = not (is_among xs (codes "babelHelpers"))
 no_supply u xs = true
 
--- WHAT IS KNOWN OF A TREE, and of fields and lists: that the nodes are of the class, that no text is one of the machine's own cells, and that no name is the object of all helpers where a program gets them by it
+-- WHAT IS KNOWN OF A TREE, and of fields and lists: that the nodes are of the class, that no name is one of the machine's own cells, and that no name is the object of all helpers where a program gets them by it
 pub record Known (u : Supply) (a b : Bool) (xs : List Text) : Type 0 where
   pub class : a ≡ true
   pub cells : b ≡ true
@@ -61,28 +62,28 @@ pub known_second : {u : Supply} (a b c d : Bool) (xs ys : List Text) → Known u
 known_second {u} a b c d xs ys h = record { class = (and_parts a b h.class).1; cells = (and_parts c d h.cells).1; names = (names_parts u xs ys h.names).1 }
 
 abbrev pub KnownTree : Supply → Bool → Tree → Type 0
-KnownTree u counts t = Known u (all_nodes is_statement_node t) (all_nodes names_no_cell t) (names_if counts t)
+KnownTree u counts t = Known u (all_nodes is_statement_node t) (cells_free t) (names_if counts t)
 
 abbrev pub KnownFields : Supply → (ℕ → Bool) → Fields → Type 0
-KnownFields u counts fs = Known u (all_in_fields is_statement_node fs) (all_in_fields names_no_cell fs) (names_in_fields counts fs)
+KnownFields u counts fs = Known u (all_in_fields is_statement_node fs) (free_in counts fs) (names_in_fields counts fs)
 
 abbrev KnownField : Supply → Bool → Field → Type 0
-KnownField u counts f = Known u (all_in_field is_statement_node f) (all_in_field names_no_cell f) (names_in_field counts f)
+KnownField u counts f = Known u (all_in_field is_statement_node f) (if counts then free_at f else true) (names_in_field counts f)
 
 abbrev KnownTrees : Supply → Trees → Type 0
-KnownTrees u ts = Known u (all_in_trees is_statement_node ts) (all_in_trees names_no_cell ts) (names_in_trees ts)
+KnownTrees u ts = Known u (all_in_trees is_statement_node ts) (free_among ts) (names_in_trees ts)
 
 field_known : {u : Supply} (counts : ℕ → Bool) (f : Field) (fs : Fields) → KnownFields u counts (f then fs) → KnownField u (counts zero) f
-field_known counts f fs h = known_first (all_in_field is_statement_node f) (all_in_fields is_statement_node fs) (all_in_field names_no_cell f) (all_in_fields names_no_cell fs) (names_in_field (counts zero) f) (names_in_fields (λ n. counts (suc n)) fs) h
+field_known counts f fs h = known_first (all_in_field is_statement_node f) (all_in_fields is_statement_node fs) (if counts zero then free_at f else true) (free_in (λ n. counts (suc n)) fs) (names_in_field (counts zero) f) (names_in_fields (λ n. counts (suc n)) fs) h
 
 fields_known : {u : Supply} (counts : ℕ → Bool) (f : Field) (fs : Fields) → KnownFields u counts (f then fs) → KnownFields u (λ n. counts (suc n)) fs
-fields_known counts f fs h = known_second (all_in_field is_statement_node f) (all_in_fields is_statement_node fs) (all_in_field names_no_cell f) (all_in_fields names_no_cell fs) (names_in_field (counts zero) f) (names_in_fields (λ n. counts (suc n)) fs) h
+fields_known counts f fs h = known_second (all_in_field is_statement_node f) (all_in_fields is_statement_node fs) (if counts zero then free_at f else true) (free_in (λ n. counts (suc n)) fs) (names_in_field (counts zero) f) (names_in_fields (λ n. counts (suc n)) fs) h
 
 tree_known : {u : Supply} (t : Tree) (ts : Trees) → KnownTrees u (t before ts) → KnownTree u true t
-tree_known t ts h = known_first (all_nodes is_statement_node t) (all_in_trees is_statement_node ts) (all_nodes names_no_cell t) (all_in_trees names_no_cell ts) (names_if true t) (names_in_trees ts) h
+tree_known t ts h = known_first (all_nodes is_statement_node t) (all_in_trees is_statement_node ts) (cells_free t) (free_among ts) (names_if true t) (names_in_trees ts) h
 
 trees_known : {u : Supply} (t : Tree) (ts : Trees) → KnownTrees u (t before ts) → KnownTrees u ts
-trees_known t ts h = known_second (all_nodes is_statement_node t) (all_in_trees is_statement_node ts) (all_nodes names_no_cell t) (all_in_trees names_no_cell ts) (names_if true t) (names_in_trees ts) h
+trees_known t ts h = known_second (all_nodes is_statement_node t) (all_in_trees is_statement_node ts) (cells_free t) (free_among ts) (names_if true t) (names_in_trees ts) h
 
 -- A TREE THAT STANDS WELL
 pub record TreeOk (u : Supply) (up : List Ancestor) (c : Spot) (ls : List Text) (x : Text) (t : Tree) : Type 0 where
@@ -135,11 +136,11 @@ abbrev pub slot_fits : Slot → Content → Bool → Field → Bool
 slot_fits required (c-Child s Required) counts f = counts
 slot_fits required (c-Child s Optional) counts f = counts && not (is_missing f)
 slot_fits optional (c-Child s Optional) counts f = counts
-slot_fits listed (c-Child s a-List) counts f = true
-slot_fits listed (c-Child s NonEmptyList) counts f = true
-slot_fits listed (c-Child s ListWithRest) counts f = true
-slot_fits listed (c-Child s Statements) counts f = true
-slot_fits nonempty (c-Child s NonEmptyList) counts f = true
+slot_fits listed (c-Child s a-List) counts f = counts
+slot_fits listed (c-Child s NonEmptyList) counts f = counts
+slot_fits listed (c-Child s ListWithRest) counts f = counts
+slot_fits listed (c-Child s Statements) counts f = counts
+slot_fits nonempty (c-Child s NonEmptyList) counts f = counts
 slot_fits a_key (c-Child s Required) counts f = true
 slot_fits absent (c-Child s Optional) counts f = is_missing f
 slot_fits passed (c-Child s o) counts f = true
@@ -185,7 +186,10 @@ module _ (u : Supply) (up : List Ancestor) (c : Spot) (ls : List Text) (x : Text
       )
 
   one_known : (counts : Bool) (t : Tree) → counts ≡ true → KnownField u counts (one t) → KnownTree u true t
-  one_known counts t e d = subst (λ b. KnownTree u b t) e d
+  one_known counts t e d = subst (λ b. Known u (all_nodes is_statement_node t) (if b then cells_free t else true) (names_if b t)) e d
+
+  list_known : (counts : Bool) (ts : Trees) → counts ≡ true → KnownField u counts (many ts) → KnownTrees u ts
+  list_known counts ts e d = subst (λ b. Known u (all_in_trees is_statement_node ts) (if b then free_among ts else true) (names_in_trees ts)) e d
 
   field_ok : (k : AstType) (l : Label) (s : Slot) (e : Content) (counts : Bool) (f : Field) → slot_fits s e counts f ≡ true → Formed k l e f → KeepsField up f → KnownField u counts f →
       (looks s ≡ true → (t : Tree) → Within t f → ((P : AstType → Bool) → of_content P e ≡ true → P (kind_of t) ≡ true) → Gives t) → FieldOk u s up c ls x f
@@ -194,11 +198,11 @@ module _ (u : Supply) (up : List Ancestor) (c : Spot) (ls : List Text) (x : Text
   field_ok k l required _ counts _ h (formed_missing) w d g = absurd (false≢true (and_parts counts false h).1)
   field_ok k l optional _ counts _ h (formed_missing) w d g = tt
   field_ok k l optional _ counts _ h (formed_optional {s} {t} m) (keeps_one w) d g = one_ok (sort_at k l s) t m w (one_known counts t h d) (λ q. g refl t refl (λ P a. q P (at_sort P k l s (and_parts (of_place P s) _ a).0)))
-  field_ok k l listed _ counts _ h (formed_list {s} {ts} m) (keeps_many w) d g = list_ok s s ts m w d (λ t i q. g refl t i (λ P a. let b = (and_parts (of_sort P s) true (and_parts (of_place P s) _ a).1).0 in q P b b))
-  field_ok k l listed _ counts _ h (formed_nonempty {s} {t} {ts} m) (keeps_many w) d g = list_ok s s (t before ts) m w d (λ t i q. g refl t i (λ P a. let b = (and_parts (of_sort P s) true (and_parts (of_place P s) _ a).1).0 in q P b b))
-  field_ok k l listed _ counts _ h (formed_rest {s} {ts} m) (keeps_many w) d g = list_ok s (rest_sort s) ts m w d (λ t i q. g refl t i (λ P a. let b = and_parts (of_sort P s) (of_sort P (rest_sort s)) (and_parts (of_place P s) _ a).1 in q P b.0 b.1))
-  field_ok k l listed _ counts _ h (formed_statements {s} {ts} m) (keeps_statements w) d g = list_ok s s ts m w d (λ t i q. g refl t i (λ P a. let b = (and_parts (of_sort P s) true (and_parts (of_place P s) _ a).1).0 in q P b b))
-  field_ok k l nonempty _ counts _ h (formed_nonempty {s} {t} {ts} m) (keeps_many w) d g = list_ok s s (t before ts) m w d (λ t i q. g refl t i (λ P a. let b = (and_parts (of_sort P s) true (and_parts (of_place P s) _ a).1).0 in q P b b))
+  field_ok k l listed _ counts _ h (formed_list {s} {ts} m) (keeps_many w) d g = list_ok s s ts m w (list_known counts ts h d) (λ t i q. g refl t i (λ P a. let b = (and_parts (of_sort P s) true (and_parts (of_place P s) _ a).1).0 in q P b b))
+  field_ok k l listed _ counts _ h (formed_nonempty {s} {t} {ts} m) (keeps_many w) d g = list_ok s s (t before ts) m w (list_known counts (t before ts) h d) (λ t i q. g refl t i (λ P a. let b = (and_parts (of_sort P s) true (and_parts (of_place P s) _ a).1).0 in q P b b))
+  field_ok k l listed _ counts _ h (formed_rest {s} {ts} m) (keeps_many w) d g = list_ok s (rest_sort s) ts m w (list_known counts ts h d) (λ t i q. g refl t i (λ P a. let b = and_parts (of_sort P s) (of_sort P (rest_sort s)) (and_parts (of_place P s) _ a).1 in q P b.0 b.1))
+  field_ok k l listed _ counts _ h (formed_statements {s} {ts} m) (keeps_statements w) d g = list_ok s s ts m w (list_known counts ts h d) (λ t i q. g refl t i (λ P a. let b = (and_parts (of_sort P s) true (and_parts (of_place P s) _ a).1).0 in q P b b))
+  field_ok k l nonempty _ counts _ h (formed_nonempty {s} {t} {ts} m) (keeps_many w) d g = list_ok s s (t before ts) m w (list_known counts (t before ts) h d) (λ t i q. g refl t i (λ P a. let b = (and_parts (of_sort P s) true (and_parts (of_place P s) _ a).1).0 in q P b b))
   field_ok k l a_key _ counts _ h (formed_required m) w d g = tt
   field_ok k l absent _ counts _ h (formed_missing) w d g = tt
   field_ok k l passed _ counts _ h m w d g = tt

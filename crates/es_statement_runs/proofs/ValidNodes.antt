@@ -25,9 +25,10 @@ use Rattle.es_statement_runs.specs.Meant.{Spot, Slots, slots, spots, key_slot, v
 use Rattle.es_statement_runs.specs.Meant.Slot.{optional}
 use Rattle.es_statement_runs.specs.Meant.Slots.{repeated}
 use Rattle.es_statement_runs.specs.Names.{own_use}
-use Rattle.es_statement_runs.specs.Programs.{is_statement_node, names_no_cell}
+use Rattle.es_statement_runs.specs.Programs.{is_statement_node}
 use Rattle.es_statement_runs.proofs.ValidFields.{Known, KnownFields, FieldsOk, elements_ok, fields_ok, label_fits, passed_ok, slot_fits, slots_fit}
 use Rattle.es_statement_runs.proofs.ValidForm.{Child, kind_passes}
+use Rattle.es_statement_runs.proofs.ValidNames.{free_in}
 use Rattle.es_statement_runs.proofs.ValidPlaces.{inner, looks_at}
 use Rattle.es_statement_runs.proofs.ValidRules.{Keeps, KeepsAll, KeepsFields, is_crowded}
 use Rattle.es_statement_runs.proofs.ValidRules.KeepsAll.{keeps_all}
@@ -163,11 +164,11 @@ module _ (u : Supply) (up : List Ancestor) (c : Spot) (ls : List Text) (x : Text
       (elements_ok u (labels_in k (named_label k fs) ls) (word_in k l.texts) k l p.sort p.last fs At Places (is_name_place k l) a m w d
       (λ i t j q v e. g i t (ap (λ (ss : Slots). looks_at ss i) h) (record { within = j; form = refl; kinds = q; kept = v; class = e })))
 
-  fields_of_node : (b : Bool) → is_reexport k fs ≡ b → FormOf k l fs → Keeps up (node k l fs) → KeepsFields At fs → Known u (all_in_fields is_statement_node fs) (all_in_fields names_no_cell fs) (if b then [] else names_in_fields (is_name_place k l) fs) → Stands up c ls x (node k l fs) →
+  fields_of_node : (b : Bool) → is_reexport k fs ≡ b → FormOf k l fs → Keeps up (node k l fs) → KeepsFields At fs → Known u (all_in_fields is_statement_node fs) (if b then true else free_in (is_name_place k l) fs) (if b then [] else names_in_fields (is_name_place k l) fs) → Stands up c ls x (node k l fs) →
       FieldsOk u Ss At Places (labels_in k (named_label k fs) ls) (word_in k l.texts) fs
   fields_of_node true e m w ws d s = reexport_ok u At Places (labels_in k (named_label k fs) ls) (word_in k l.texts) k l fs (has_value k fs) (named_label k fs) e w.export m
   fields_of_node false e m w ws d s = children_ok (elements_of (child_entries k)) (kind_fits k l fs m) m ws d (λ i t o h. inner l fs up n c ls x k i t m s w o h)
 
 pub node_ok : (u : Supply) (up : List Ancestor) (c : Spot) (ls : List Text) (x : Text) (k : AstType) (l : Label) (fs : Fields) → KeepsAll up (node k l fs) → FormOf k l fs →
-    Known u (all_in_fields is_statement_node fs) (all_in_fields names_no_cell fs) (if is_reexport k fs then [] else names_in_fields (is_name_place k l) fs) → Stands up c ls x (node k l fs) → NodeOk u c ls k l fs
+    Known u (all_in_fields is_statement_node fs) (if is_reexport k fs then true else free_in (is_name_place k l) fs) (if is_reexport k fs then [] else names_in_fields (is_name_place k l) fs) → Stands up c ls x (node k l fs) → NodeOk u c ls k l fs
 node_ok u up c ls x k l fs (keeps_all {n = n} w ws) m d s = record { at = λ i. ancestor k l fs i n ∷ up; fields = fields_of_node u up c ls x k l fs n (is_reexport k fs) refl m w ws d s }

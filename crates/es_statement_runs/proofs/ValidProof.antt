@@ -1,15 +1,15 @@
 -- A valid program of the class means something.
-use Rattle.std.proofs.Common.{◌≡◌, ◌∙◌, ℕ, zero, suc, refl, ap, List, [], ◌∷◌, ◌++◌}
+use Rattle.std.proofs.Common.{◌≡◌, ◌∙◌, ℕ, zero, suc, refl, ap, subst, List, [], ◌∷◌, ◌++◌}
 use Rattle.std.proofs.lemmas.Bool.{and_parts, and_from, false≢true, or_left, or_right}
 use Rattle.std.specs.List.{list_any}
-use Rattle.std.specs.Prelude.{Bool, true, false, not, ◌||◌, is_some, bytes_eq, codes, if◌then◌else◌}
+use Rattle.std.specs.Prelude.{Bool, true, false, not, ◌&&◌, ◌||◌, is_some, bytes_eq, codes, if◌then◌else◌}
 use Rattle.es_tree.specs.Ancestors.{Ancestor, is_breakable, is_in_loop, labels, place_of}
 use Rattle.es_tree.specs.Attributes.{child_entries}
 use Rattle.es_tree.specs.Children.{child_at}
 use Rattle.es_tree.specs.CoreStaticRules.{is_optional, is_stray_optional}
-use Rattle.es_tree.specs.HasForm.{field_form, fields_form}
+use Rattle.es_tree.specs.HasForm.{fields_form, has_form}
 use Rattle.es_tree.specs.Names.{first_text, flag_at, is_name_place, is_reexport, names_in_fields, names_of, own_name}
-use Rattle.es_tree.specs.StaticRules.{is_label, is_loop_label, is_missing_label}
+use Rattle.es_tree.specs.StaticRules.{breaks as rules_broken, is_label, is_loop_label, is_missing_label}
 use Rattle.es_tree.specs.Tree.{Tree, node, Label, Fields, done, ◌then◌, Field, missing, one, many, statements, Trees, empty, ◌before◌, kind_of, label_of}
 use Rattle.es_tree.specs.Walks.{all_in_fields}
 use Rattle.es_tree.specs.Words.{Text}
@@ -18,9 +18,7 @@ use Rattle.es_tree.specs.declared.ast_type.AstType.TheVariants.{Program, Variabl
 use Rattle.es_tree.specs.declared.place.Place.{Place}
 use Rattle.es_tree.specs.declared.place.Place.TheVariants.{Other, ProgramBody, Spine, Target, Declarator, Declared}
 use Rattle.es_tree.specs.declared.table.Entry.{Entry}
-use Rattle.es_tree.specs.declared.table.Sort.TheVariants.{Program as s-Program, ModuleExportName as s-ModuleExportName}
-use Rattle.es_tree.specs.declared.table.Often.TheVariants.{Required}
-use Rattle.es_tree.specs.declared.table.Content.TheVariants.{Child as c-Child}
+use Rattle.es_tree.specs.declared.table.Sort.TheVariants.{Program as s-Program, Identifier as s-Identifier, ModuleExportName as s-ModuleExportName}
 use Rattle.es_tree.proofs.NodeForm.{node_form}
 use Rattle.es_runs.specs.Core.{flag_after}
 use Rattle.es_runs.specs.Machine.Stop.{breaks, continues}
@@ -28,18 +26,18 @@ use Rattle.es_statement_runs.specs.Helpers.{Supply}
 use Rattle.es_statement_runs.specs.Helpers.Supply.{no_helpers, by_global, by_import, by_require}
 use Rattle.es_statement_runs.specs.Kinds.{label_in}
 use Rattle.es_statement_runs.specs.Laws.{LawValidIsMeant, LawValidMeaning}
-use Rattle.es_statement_runs.specs.Meant.{Role, allowed, Spot, nature, serves, Slot, Slots, slots, spots, as_role, all_meant, are_meant, fits_head, has_value, is_label_there, is_meant_at, is_meant_field, is_plain_word, is_said, is_some_name, labels_in, named_label, word_in}
+use Rattle.es_statement_runs.specs.Meant.{Role, allowed, Spot, nature, serves, Slot, Slots, slots, spots, as_role, all_meant, are_meant, fits_head, has_value, is_label_there, is_meant, is_meant_at, is_meant_field, is_plain_word, is_said, is_some_name, labels_in, named_label, word_in}
 use Rattle.es_statement_runs.specs.Meant.Role.{a_value, a_head_declarator}
 use Rattle.es_statement_runs.specs.Meant.Slot.{required, optional, absent, listed, nonempty, a_key, passed, labelled_by}
 use Rattle.es_statement_runs.specs.Meant.Slots.{no_slot, slot, repeated}
 use Rattle.es_statement_runs.specs.Names.{is_word, last_name, names_of_all, own_names, own_use}
-use Rattle.es_statement_runs.specs.Programs.{is_statement_node, names_no_cell, uses_no_helper}
-use Rattle.es_statement_runs.specs.Scopes.{are_program_names, is_own_cell}
+use Rattle.es_statement_runs.specs.Programs.{is_statement_node, is_without_functions, names_no_cell, uses_no_helper}
+use Rattle.es_statement_runs.specs.Scopes.{is_own_cell}
 use Rattle.es_statement_runs.proofs.MeantProof.{law_meant_proof}
 use Rattle.es_statement_runs.proofs.NoHelpers.{law_no_helper_proof}
 use Rattle.es_statement_runs.proofs.ValidFields.{FieldOk, FieldsOk, Known, TreeOk, TreesOk, known_second, label_fits, no_supply, tree_keeps}
 use Rattle.es_statement_runs.proofs.ValidForm.{kind_passes}
-use Rattle.es_statement_runs.proofs.ValidNames.{own_names_free}
+use Rattle.es_statement_runs.proofs.ValidNames.{cells_free, free_in, no_cell_free, own_free}
 use Rattle.es_statement_runs.proofs.ValidNodes.{FormOf, first_flag, node_ok}
 use Rattle.es_statement_runs.proofs.ValidRules.{Keeps, program_keeps}
 use Rattle.es_statement_runs.proofs.ValidStands.{Stands, Ways, fits_declarator, is_spine, not_false, or_false}
@@ -110,42 +108,43 @@ head_said : (r : Role) (up : List Ancestor) (l : Label) (fs : Fields) → fields
 head_said a_head_declarator up l fs h g = valueless l fs h g
 head_said _ up l fs h g = refl
 
-some_said : (xs : List Text) → are_program_names xs ≡ true → is_label_there xs ≡ true → is_some_name xs ≡ true
-some_said [] h g = g
-some_said (x ∷ xs) h g = (and_parts (not (is_own_cell x)) (are_program_names xs) h).0
+-- an import's item has its name here as its last field
+abbrev is_identifier : AstType → Bool
+is_identifier Identifier = true
+is_identifier _ = false
 
--- an import's specifier has its name here as its last field
-default_there : (k : AstType) (l : Label) (fs : Fields) → fields_form k l (child_entries ImportDefaultSpecifier) fs ≡ true → is_label_there (names_of_all (last_name fs)) ≡ true
-default_there k l (one (node j m gs) then done) h = refl
-default_there k l (one (node j m gs) then (f then fs)) h = absurd (false≢true (and_parts _ false h).1)
-default_there k l done h = absurd (false≢true h)
-default_there k l (missing then fs) h = absurd (false≢true h)
-default_there k l (many ts then fs) h = absurd (false≢true h)
-default_there k l (statements ts then fs) h = absurd (false≢true h)
+item_said : (k : AstType) (m : Label) (gs : Fields) → is_identifier k ≡ true → cells_free (node k m gs) ≡ true → not (is_own_cell (first_text m.texts)) ≡ true
+item_said Identifier m gs e h = (and_parts (not (is_own_cell (first_text m.texts))) true (and_parts (not (is_own_cell (first_text m.texts)) && true) _ h).0).0
+item_said _ m gs e h = absurd (false≢true e)
 
-specifier_there : (k : AstType) (l : Label) (fs : Fields) → fields_form k l (child_entries ImportSpecifier) fs ≡ true → is_label_there (names_of_all (last_name fs)) ≡ true
-specifier_there k l (one (node j m gs) then fs) h = at fs (and_parts (field_form k l (c-Child s-ModuleExportName Required) (one (node j m gs))) _ h).1
-  where
-    at : (hs : Fields) → fields_form k l (later_entries (child_entries ImportSpecifier)) hs ≡ true → is_label_there (names_of_all (last_name (one (node j m gs) then hs))) ≡ true
-    at (one (node i n hs) then done) h = refl
-    at (one (node i n hs) then (f then fs)) h = absurd (false≢true (and_parts _ false h).1)
-    at done h = absurd (false≢true h)
-    at (missing then fs) h = absurd (false≢true h)
-    at (many ts then fs) h = absurd (false≢true h)
-    at (statements ts then fs) h = absurd (false≢true h)
-specifier_there k l done h = absurd (false≢true h)
-specifier_there k l (missing then fs) h = absurd (false≢true h)
-specifier_there k l (many ts then fs) h = absurd (false≢true h)
-specifier_there k l (statements ts then fs) h = absurd (false≢true h)
+default_said : (k : AstType) (l : Label) (fs : Fields) (counts : ℕ → Bool) → counts zero ≡ true → fields_form k l (child_entries ImportDefaultSpecifier) fs ≡ true → free_in counts fs ≡ true → is_some_name (names_of_all (last_name fs)) ≡ true
+default_said k l (one (node j m gs) then done) counts c h g =
+    item_said j m gs (kind_passes is_identifier s-Identifier (node j m gs) (and_parts (has_form s-Identifier (node j m gs)) true h).0 refl)
+    (subst (λ b. (if b then cells_free (node j m gs) else true) ≡ true) c (and_parts (if counts zero then cells_free (node j m gs) else true) true g).0)
+default_said k l (one (node j m gs) then (f then fs)) counts c h g = absurd (false≢true (and_parts _ false h).1)
+default_said k l done counts c h g = absurd (false≢true h)
+default_said k l (missing then fs) counts c h g = absurd (false≢true h)
+default_said k l (many ts then fs) counts c h g = absurd (false≢true h)
+default_said k l (statements ts then fs) counts c h g = absurd (false≢true h)
+
+specifier_said : (l : Label) (fs : Fields) → fields_form ImportSpecifier l (child_entries ImportSpecifier) fs ≡ true → free_in (is_name_place ImportSpecifier l) fs ≡ true → is_some_name (names_of_all (last_name fs)) ≡ true
+specifier_said l (one (node j m gs) then (f then fs)) h g =
+    default_said ImportSpecifier l (f then fs) (λ n. is_name_place ImportSpecifier l (suc n)) refl (and_parts (has_form s-ModuleExportName (node j m gs)) _ h).1 g
+specifier_said l (one (node j m gs) then done) h g = absurd (false≢true (and_parts (has_form s-ModuleExportName (node j m gs)) false h).1)
+specifier_said l done h g = absurd (false≢true h)
+specifier_said l (missing then fs) h g = absurd (false≢true h)
+specifier_said l (many ts then fs) h g = absurd (false≢true h)
+specifier_said l (statements ts then fs) h g = absurd (false≢true h)
 
 -- what is known of a node
 record NodeKnown (u : Supply) (up : List Ancestor) (c : Spot) (ls : List Text) (x : Text) (k : AstType) (l : Label) (fs : Fields) : Type 0 where
   form : FormOf k l fs
   keeps : Keeps up (node k l fs)
   class : is_statement_node k l fs ≡ true
-  cells : not (is_own_cell (first_text l.texts)) ≡ true
+  cells : names_no_cell k l fs ≡ true
   names : no_supply u (own_name true k l ++ (if is_reexport k fs then [] else names_in_fields (is_name_place k l) fs)) ≡ true
-  free : are_program_names (names_of_all (own_names k fs)) ≡ true
+  free : own_free k fs ≡ true
+  inside : (if is_reexport k fs then true else free_in (is_name_place k l) fs) ≡ true
   stands : Stands up c ls x (node k l fs)
 
 module _ (u : Supply) (up : List Ancestor) (c : Spot) (ls : List Text) (x : Text) where
@@ -160,9 +159,9 @@ module _ (u : Supply) (up : List Ancestor) (c : Spot) (ls : List Text) (x : Text
       let d = and_parts (not (is_word (codes "using") x) || c.uses) (fits_declarator up c.role fs) h.stands.fit in
       and_from (not (is_word (codes "using") x) || c.uses) (fits_head c.role (has_value VariableDeclarator fs)) d.0 (head_said c.role up l fs h.form d.1)
   said MetaProperty l fs h = h.class
-  said ImportSpecifier l fs h = some_said (names_of_all (last_name fs)) h.free (specifier_there ImportSpecifier l fs h.form)
-  said ImportDefaultSpecifier l fs h = some_said (names_of_all (last_name fs)) h.free (default_there ImportDefaultSpecifier l fs h.form)
-  said ImportNamespaceSpecifier l fs h = some_said (names_of_all (last_name fs)) h.free (default_there ImportNamespaceSpecifier l fs h.form)
+  said ImportSpecifier l fs h = specifier_said l fs h.form h.inside
+  said ImportDefaultSpecifier l fs h = default_said ImportDefaultSpecifier l fs (is_name_place ImportDefaultSpecifier l) refl h.form h.inside
+  said ImportNamespaceSpecifier l fs h = default_said ImportNamespaceSpecifier l fs (is_name_place ImportNamespaceSpecifier l) refl h.form h.inside
   said _ l fs h = h.free
 
 label_meant : (u : Supply) (c : Spot) (ls : List Text) (x : Text) (ns : List Text) (f : Field) → label_fits ns f ≡ true → is_meant_field u (labelled_by ns) c ls x f ≡ true
@@ -180,19 +179,21 @@ module _ (u : Supply) where
   known : (up : List Ancestor) (c : Spot) (ls : List Text) (x : Text) (k : AstType) (l : Label) (fs : Fields) → TreeOk u up c ls x (node k l fs) → NodeKnown u up c ls x k l fs
   known up c ls x k l fs h =
       let class = and_parts (is_statement_node k l fs) (all_in_fields is_statement_node fs) h.known.class in
-      let cells = and_parts (not (is_own_cell (first_text l.texts))) (all_in_fields names_no_cell fs) h.known.cells in
+      let cells = and_parts (names_no_cell k l fs && own_free k fs) (if is_reexport k fs then true else free_in (is_name_place k l) fs) h.known.cells in
+      let own = and_parts (names_no_cell k l fs) (own_free k fs) cells.0 in
       record {
         form = (node_form h.sort k l fs h.form).children;
         keeps = tree_keeps h.keeps;
         class = class.0;
-        cells = cells.0;
+        cells = own.0;
         names = h.known.names;
-        free = own_names_free k fs cells.1;
+        free = own.1;
+        inside = cells.1;
         stands = h.stands;
       }
 
-  below : (up : List Ancestor) (c : Spot) (ls : List Text) (x : Text) (k : AstType) (l : Label) (fs : Fields) → TreeOk u up c ls x (node k l fs) → Known u (all_in_fields is_statement_node fs) (all_in_fields names_no_cell fs) (if is_reexport k fs then [] else names_in_fields (is_name_place k l) fs)
-  below up c ls x k l fs h = known_second (is_statement_node k l fs) (all_in_fields is_statement_node fs) (not (is_own_cell (first_text l.texts))) (all_in_fields names_no_cell fs) (own_name true k l) (if is_reexport k fs then [] else names_in_fields (is_name_place k l) fs) h.known
+  below : (up : List Ancestor) (c : Spot) (ls : List Text) (x : Text) (k : AstType) (l : Label) (fs : Fields) → TreeOk u up c ls x (node k l fs) → Known u (all_in_fields is_statement_node fs) (if is_reexport k fs then true else free_in (is_name_place k l) fs) (if is_reexport k fs then [] else names_in_fields (is_name_place k l) fs)
+  below up c ls x k l fs h = known_second (is_statement_node k l fs) (all_in_fields is_statement_node fs) (names_no_cell k l fs && own_free k fs) (if is_reexport k fs then true else free_in (is_name_place k l) fs) (own_name true k l) (if is_reexport k fs then [] else names_in_fields (is_name_place k l) fs) h.known
 
   mutual
     tree_meant : (up : List Ancestor) (c : Spot) (ls : List Text) (x : Text) (t : Tree) → TreeOk u up c ls x t → is_meant_at u c ls x t ≡ true
@@ -249,14 +250,18 @@ unsupplied no_helpers p h = refl
 unsupplied (by_import m) p h = refl
 unsupplied (by_require m) p h = refl
 
-pub law_valid_is_meant_proof : LawValidIsMeant
-law_valid_is_meant_proof u p h g = tree_meant u [] (as_role a_value false) [] [] p (record {
+-- where no name of it is one of the machine's own cells, whatever its keys and labels are
+pub valid_meant : (u : Supply) (p : Tree) → has_form s-Program p ≡ true → rules_broken p ≡ [] → is_without_functions p ≡ true → cells_free p ≡ true → uses_no_helper u p ≡ true → is_meant u p ≡ true
+valid_meant u p form rules class cells g = tree_meant u [] (as_role a_value false) [] [] p (record {
   sort = s-Program;
-  form = h.form;
-  keeps = program_keeps p h.rules;
-  known = record { class = h.without_functions; cells = h.names; names = unsupplied u p g };
-  stands = program_stands p (kind_passes is_program s-Program p h.form refl);
+  form = form;
+  keeps = program_keeps p rules;
+  known = record { class = class; cells = cells; names = unsupplied u p g };
+  stands = program_stands p (kind_passes is_program s-Program p form refl);
 })
+
+pub law_valid_is_meant_proof : LawValidIsMeant
+law_valid_is_meant_proof u p h g = valid_meant u p h.form h.rules h.without_functions (no_cell_free p h.names) g
 
 pub law_valid_meaning_proof : LawValidMeaning
 law_valid_meaning_proof u n p h g = law_meant_proof u n p (law_valid_is_meant_proof u p h g) (law_no_helper_proof u p g)

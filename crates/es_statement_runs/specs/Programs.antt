@@ -45,11 +45,12 @@ is_statement_node k l fs = is_statement_kind k
 abbrev pub is_without_functions : Tree → Bool
 is_without_functions = all_nodes is_statement_node
 
--- VALID PROGRAMS OF THE CLASS: they have form, keep the static rules, and no text of theirs is one of the machine's own cells, as none is that holds
--- bytes alone
+-- VALID PROGRAMS OF THE CLASS: they have form, keep the static rules, and no identifier of theirs is one of the machine's own cells, as none is that
+-- holds bytes alone
 
 abbrev pub names_no_cell : AstType → Label → Fields → Bool
-names_no_cell k l fs = not (is_own_cell (first_text l.texts))
+names_no_cell Identifier l fs = not (is_own_cell (first_text l.texts))
+names_no_cell k l fs = true
 
 pub record IsStatementProgram (p : Tree) : Type 0 where
   pub form : has_form s-Program p ≡ true
