@@ -4,6 +4,6 @@ pub mod BareAncestors
 pub mod BarePlaces
 pub mod StepsByName
 pub mod Results
-pub mod RestFree
-pub mod RestRows
-pub mod RestSteps
+pub mod FreeTrees
+pub mod FreeRows
+pub mod FreeSteps

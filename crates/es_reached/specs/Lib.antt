@@ -1,3 +1,4 @@
 pub mod BareTrees
 pub mod NoRests
 pub mod Reached
+pub mod Unmade

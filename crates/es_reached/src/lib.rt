@@ -5,6 +5,7 @@
 ghost use Rattle.es_reached.specs.BareTrees.{LawBarePlaces, LawBareSeen, LawBareSource};
 ghost use Rattle.es_reached.specs.NoRests.{LawNoRests};
 ghost use Rattle.es_reached.specs.Reached.{LawCoreResult, LawFirst, LawResult};
+ghost use Rattle.es_reached.specs.Unmade.{LawNoneMade};
 
 /// What steps of the built lowerings that options ask for reach from a program that has form and breaks no static rule, with nothing
 /// pending, is what the program becomes, however it is written: names keep their bindings, and the written program has form, breaks no
@@ -41,4 +42,9 @@ pub fn law_bare_places()
 /// No step of the built lowerings makes an object pattern with a rest, of bindings or of targets.
 pub fn law_no_rests()
     ensures { LawNoRests }
+{}
+
+/// Nor an object literal with a spread, an optional chain, a logical assignment or a power: each is as absent as it was.
+pub fn law_none_made()
+    ensures { LawNoneMade }
 {}

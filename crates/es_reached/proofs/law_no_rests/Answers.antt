@@ -1,4 +1,4 @@
-use Rattle.es_reached.proofs.RestSteps.{law_no_rests_proof}
+use Rattle.es_reached.proofs.FreeSteps.{law_no_rests_proof}
 use Rattle.es_reached.proofs.law_no_rests.Goals as goal
 
 pub returns : goal.returns
