@@ -107,7 +107,7 @@ SoundAssigning = SoundRow AssigningRow
 
 pub assigning-keeps : (no_all : Bool) → KeepsRuns no_all no_helpers true SoundAssigning
 assigning-keeps no_all = record {
-  alike = λ new n whole a b h t ds resolved found fine away quiet stack seen w v same known ls x.
+  alike = λ new n whole a b h t taken ds resolved found fine away quiet stack seen w v same known ls x.
       let row = by-names n whole t new a b h.row.rule resolved in
       let names = (both-fresh n whole new a b h.row.rule).names in
       settled-like no_all assigning nothing_asked (assigning_kept no_all) (names_among new) n.names whole t ds a b row.made row.rule row.same (sound-settled (names_among new) (steady_names whole n.names.scope) t a h.sound (assigning-shape.first n whole new a b h.row).1 (no-item n whole new a b h.row.rule) fine away) found quiet names w v same known tt ls x;

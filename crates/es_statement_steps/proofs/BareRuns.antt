@@ -1,11 +1,11 @@
 -- Ids and marks mean nothing: a program and what it is without them run as one, where helpers are supplied as members of `babelHelpers` or
 -- not at all.
-use Rattle.std.proofs.Common.{◌≡◌, refl, sym, subst, ap, ◌∙◌, ℕ, zero, suc, Bool, true, false, List, [], ◌∷◌, ◌++◌, Option, Some, None}
+use Rattle.std.proofs.Common.{◌≡◌, refl, sym, ap, ◌∙◌, ℕ, zero, suc, Bool, true, false, List, [], ◌∷◌, ◌++◌}
 use Rattle.std.specs.Prelude.{◌+◌, ◌&&◌, codes, if◌then◌else◌}
-use Rattle.es_tree.specs.Bare.{bare, bare_field, bare_fields, bare_label, bare_trees}
+use Rattle.es_tree.specs.Bare.{bare, bare_field, bare_fields, bare_trees}
 use Rattle.es_tree.specs.Names.{first_text, names_of}
 use Rattle.es_tree.specs.Scopes.{own_text}
-use Rattle.es_tree.specs.Tree.{Tree, node, Label, Fields, done, ◌then◌, Field, missing, one, many, statements, Trees, empty, ◌before◌}
+use Rattle.es_tree.specs.Tree.{Tree, node, Fields, done, ◌then◌, Field, missing, one, many, statements, Trees, empty, ◌before◌}
 use Rattle.es_tree.specs.Words.{Text}
 use Rattle.es_tree.specs.declared.ast_type.AstType.{AstType}
 use Rattle.es_tree.specs.declared.ast_type.AstType.TheVariants.{ArrayExpression, CallExpression, Identifier, MemberExpression, StringLiteral, VariableDeclaration, VariableDeclarator}
@@ -21,7 +21,7 @@ use Rattle.es_statement_runs.specs.Helpers.Supply.{no_helpers, by_global}
 use Rattle.es_statement_runs.specs.Kinds.{from_portions, inside, portion, portions, sense, senses}
 use Rattle.es_statement_runs.specs.Names.{declared_at_top, is_word}
 use Rattle.es_statement_runs.specs.Runs.{RunAlike, outcome, run, run_in, place_of, silent_or, start_cells}
-use Rattle.es_statement_runs.specs.Senses.{Place, Portion, Sense}
+use Rattle.es_statement_runs.specs.Senses.{Place, Sense}
 use Rattle.es_statement_runs.specs.Senses.Portion.{alone, rows}
 use Rattle.es_statement_steps.proofs.BareScopes.{declared-bare, label-bare, own-names-bare, own-use-bare}
 

@@ -38,7 +38,7 @@ use Rattle.es_statement_steps.proofs.FoundNames.{Finds}
 use Rattle.es_statement_steps.proofs.Rooms.{stays_put}
 use Rattle.es_statement_steps.proofs.NewNames.{new-fresh}
 use Rattle.es_statement_steps.proofs.RowRuns.{KeepsRuns, WorldsKnown, bad_temporaries, part-like, temporaries_frame}
-use Rattle.es_statement_steps.proofs.StepMoves.{Acting, AreNew, Fine, NodeRule}
+use Rattle.es_statement_steps.proofs.StepMoves.{Acting, AreNew, Fine, NodeRule, taken_at}
 
 -- THE RULE AT A CLAUSE
 
@@ -108,10 +108,10 @@ module _ (no_all : Bool) (u : Supply) where
   pub catch-keeps : KeepsRuns no_all u false CatchRow
   catch-keeps = record { alike = alike }
     where
-      alike : (new : List Bound) (n : Site) (whole : Whole) (a b : Tree) → CatchRow new n whole a b → (t : Take) (ds : List Declared) → Resolved n.role n.names a → Finds ds n.names → Fine a → avoids (bad_temporaries (names_among new)) t a ≡ true →
+      alike : (new : List Bound) (n : Site) (whole : Whole) (a b : Tree) → CatchRow new n whole a b → (t : Take) → t ≡ taken_at n.above → (ds : List Declared) → Resolved n.role n.names a → Finds ds n.names → Fine a → avoids (bad_temporaries (names_among new)) t a ≡ true →
           Quiet (temporaries_frame false (names_among new)) → StackSeen (temporaries_frame false (names_among new)) → SupplySeen (temporaries_frame false (names_among new)) u →
           (w v : World) → SameWorld (among_names (names_among new)) w v → WorldsKnown no_all false (names_among new) ds w v → (ls : List Text) (y : Text) → SenseLike (temporaries_frame false (names_among new)) w v t (sense (placed_at u w ls y) a) (sense (placed_at u v ls y) b)
-      alike new n whole a b (made_catch {m = m} {b = c} {x = x} fresh) t ds resolved found fine away quiet stack seen w v same known ls y =
+      alike new n whole a b (made_catch {m = m} {b = c} {x = x} fresh) t taken ds resolved found fine away quiet stack seen w v same known ls y =
           let hidden = among_names (x.name ∷ []) in
           let here : hidden x.name ≡ true = ap (λ b. b || false) (bytes_eq-self x.name) in
           let body = part-like no_all u false (x.name ∷ []) quiet stack seen (inner w []) (inner v (with_name x.name ∷ [])) (one-more x.name w v same) ds (known-more x.name ds w v known) value_taken c (both_left (avoids (bad_temporaries (x.name ∷ [])) value_taken c) true away) [] [] in

@@ -1,18 +1,18 @@
 -- The rows of optional chaining keep the runs of statements, whatever the operands are.
-use Rattle.std.proofs.Common.{◌≡◌, ◌+◌, arith, ℕ, zero, refl, sym, ap, subst, ◌∙◌, List, [], ◌∷◌, ◌++◌, length}
-use Rattle.std.specs.Prelude.{Bool, true, false, Option, Some, None, is_some, codes}
+use Rattle.std.proofs.Common.{◌≡◌, ◌+◌, arith, ℕ, refl, sym, ap, subst, ◌∙◌, List, [], ◌∷◌, ◌++◌, length}
+use Rattle.std.specs.Prelude.{Bool, true, false, Option, Some, None, is_some}
 use Rattle.es_tree.specs.Bare.{bare, bare_label, bare_trees}
 use Rattle.es_tree.specs.Fresh.{IsFreshName, also, node_base}
 use Rattle.es_tree.specs.Parens.{without_parens}
 use Rattle.es_tree.specs.Scopes.{Declared}
-use Rattle.es_tree.specs.Tree.{Tree, node, Label, done, ◌then◌, one, Trees, empty, ◌before◌, kind_of}
+use Rattle.es_tree.specs.Tree.{Tree, node, Label, done, ◌then◌, one, Trees, ◌before◌, kind_of}
 use Rattle.es_tree.specs.Words.{Text}
-use Rattle.es_tree.specs.declared.ast_type.AstType.TheVariants.{BinaryExpression, ChainExpression, ConditionalExpression, LogicalExpression, MemberExpression, UnaryExpression}
+use Rattle.es_tree.specs.declared.ast_type.AstType.TheVariants.{ChainExpression, MemberExpression, UnaryExpression}
 use Rattle.es_runs.specs.Alike.{Level, Need, SameWorld}
 use Rattle.es_runs.specs.Alike.Level.{a_callee}
 use Rattle.es_runs.specs.Core.{World}
 use Rattle.es_runs.specs.NullishCoalescing.{also_all as also_names}
-use Rattle.es_runs.specs.OptionalChaining.{call_at, delete_node, has_tests, is_member, is_super, is_this_or_super, joined_by_or, member_at, null_checks, stored_call as stored_by_name, takes_value, this_node, true_node, where_short, is_name_among as is_name_among_by_name, start as start_by_name, bind_node as bind_by_name, Receives as ReceivesByName, Way as WayByName, Tested as TestedByName, Called as CalledByName, Walked as WalkedByName, Continued as ContinuedByName, BoundCallee as BoundCalleeByName, OptionalChainingRule as OptionalChainingByName}
+use Rattle.es_runs.specs.OptionalChaining.{call_at, delete_node, has_tests, is_member, is_super, is_this_or_super, member_at, null_checks, stored_call as stored_by_name, takes_value, this_node, true_node, where_short, is_name_among as is_name_among_by_name, start as start_by_name, bind_node as bind_by_name, Receives as ReceivesByName, Way as WayByName, Tested as TestedByName, Called as CalledByName, Walked as WalkedByName, Continued as ContinuedByName, BoundCallee as BoundCalleeByName, OptionalChainingRule as OptionalChainingByName}
 use Rattle.es_runs.specs.OptionalChaining.Receives.{by_this as plain_by_this, by_name as plain_by_name, by_temporary as plain_by_temporary}
 use Rattle.es_runs.specs.OptionalChaining.Tested.{as_name as plain_as_name, in_holder as plain_in_holder, in_temporary as plain_in_temporary}
 use Rattle.es_runs.specs.OptionalChaining.Called.{by_name as plain_called_by_name, by_value as plain_by_value, by_first_member as plain_by_first_member, by_later_member as plain_by_later_member}
@@ -20,16 +20,17 @@ use Rattle.es_runs.specs.OptionalChaining.Walked.{base as plain_base, plain_memb
 use Rattle.es_runs.specs.OptionalChaining.Continued.{same_spine as plain_same_spine, inner_spine as plain_inner_spine}
 use Rattle.es_runs.specs.OptionalChaining.BoundCallee.{no_member as plain_no_member, to_object as plain_to_object}
 use Rattle.es_runs.specs.OptionalChaining.OptionalChainingRule.{by_tests as plain_by_tests, as_callee as plain_as_callee, in_delete as plain_in_delete}
-use Rattle.es_runs.specs.Rules.{assign_node, binary_node, conditional_at, in_place_of, logical_node, member_node, null_node, strays, void_zero_node}
-use Rattle.es_runs.specs.Runs.{identifier as identifier_called, made}
+use Rattle.es_runs.specs.Rules.{assign_node, strays, void_zero_node}
+use Rattle.es_runs.specs.Runs.{identifier as identifier_called}
 use Rattle.es_semantic.specs.RolesOf.{role_at}
+use Rattle.es_unsupported.specs.Shapes.{is_chain_kind}
 use Rattle.es_resolution.specs.Declarations.{Bound}
 use Rattle.es_resolution.specs.Named.{Named}
 use Rattle.es_resolution.specs.Resolved.{Resolved, place_in}
 use Rattle.es_steps.specs.CoreBridge.{names_among}
 use Rattle.es_steps.specs.Duplication.{IsNext, is_among_symbols}
-use Rattle.es_steps.specs.Nodes.{identifier, word}
-use Rattle.es_steps.specs.OptionalChaining.{BoundCallee, Called, Continued, OptionalChainingRule, Receives, Tested, Walked, Way, bind_node, is_name_among, or_held, stored_call}
+use Rattle.es_steps.specs.Nodes.{identifier}
+use Rattle.es_steps.specs.OptionalChaining.{BoundCallee, Called, Continued, OptionalChainingRule, Receives, Tested, Walked, Way, is_name_among, or_held, stored_call}
 use Rattle.es_steps.specs.OptionalChaining.Receives.{by_this, by_name, by_temporary}
 use Rattle.es_steps.specs.OptionalChaining.Tested.{as_name, in_holder, in_temporary}
 use Rattle.es_steps.specs.OptionalChaining.Called.{by_name as called_by_name, by_value, by_first_member, by_later_member}
@@ -40,87 +41,26 @@ use Rattle.es_steps.specs.OptionalChaining.OptionalChainingRule.{by_tests, as_ca
 use Rattle.es_steps.specs.Rules.{with_made}
 use Rattle.es_steps.specs.Steps.{Site, Whole}
 use Rattle.es_steps.specs.WrapRule.{OutsideSlots}
-use Rattle.es_steps.proofs.BridgeTrees.{node_base-bare}
 use Rattle.es_statement_runs.specs.Alike.{Quiet, SenseLike}
 use Rattle.es_statement_runs.specs.Helpers.Supply.{no_helpers}
 use Rattle.es_statement_runs.specs.Kinds.{sense}
 use Rattle.es_statement_runs.specs.Laws.{among_names, chaining}
 use Rattle.es_statement_runs.specs.Places.{Take, avoids, placed_at}
-use Rattle.es_statement_runs.specs.Senses.Portion.{alone as alone_field}
 use Rattle.es_statement_runs.proofs.Moved.{is_mute}
 use Rattle.es_statement_runs.proofs.OperandRows.{chaining_kept, nothing_asked}
+use Rattle.es_statement_steps.proofs.ChainSenses.{base-by-bare, bind-same, checks-same, delete-same, none-first, none-too, placed-same, short-same, some-checks, tests-some}
 use Rattle.es_statement_steps.proofs.Doublings.{also-same, names-both, steady_names}
 use Rattle.es_statement_steps.proofs.FoundNames.{Finds}
 use Rattle.es_statement_steps.proofs.NewNames.{free-before, new-both, new-one, no-new}
 use Rattle.es_statement_steps.proofs.Replacings.{RowShape}
 use Rattle.es_statement_steps.proofs.Rooms.{stays_put}
 use Rattle.es_statement_steps.proofs.RowRuns.{WorldsKnown, bad_temporaries, temporaries_frame}
-use Rattle.es_statement_steps.proofs.SameSenses.{EachSame, SameSense, assign-same, before-same, call-same, each-both, member-same, node-same, one-same, two-same}
+use Rattle.es_statement_steps.proofs.SameSenses.{EachSame, SameSense, assign-same, before-same, each-both}
 use Rattle.es_statement_steps.proofs.SettledRows.{ByNames, SoundRow, bound_names, settled-like, sound-settled}
 use Rattle.es_statement_steps.proofs.Spellings.{Hung, HolderNew, IsNewHolder, Spelled, alone-bound, alone-held, called, hung, hung-parens, member-spelled, spelled-bare, spelled-member, spelled-parens, spelled-same, spelled-super, spelled-this, steady_here}
 use Rattle.es_statement_steps.proofs.Spellings.Spelled.{as_source, as_holder, at_member, at_call}
 use Rattle.es_statement_steps.proofs.Stands.{is_inner, is_item}
 use Rattle.es_statement_steps.proofs.StepMoves.{AreNew, Fine}
-
--- WHAT IS MADE
-
-binary-same : (op : Text) (a b c d : Tree) → SameSense a b → SameSense c d → SameSense (binary_node op a c) (binary_node op b d)
-binary-same op a b c d h g = node-same BinaryExpression (made (Some op ∷ []) []) (one a then (one c then done)) (one b then (one d then done)) refl refl refl (two-same a b c d h g)
-
-logical-same : (op : Text) (a b c d : Tree) → SameSense a b → SameSense c d → SameSense (logical_node op a c) (logical_node op b d)
-logical-same op a b c d h g = node-same LogicalExpression (made (Some op ∷ []) []) (one a then (one c then done)) (one b then (one d then done)) refl refl refl (two-same a b c d h g)
-
-checks-same : (no_all : Bool) (a b c d : Tree) → SameSense a b → SameSense c d → EachSame (null_checks no_all a c) (null_checks no_all b d)
-checks-same true a b c d h g = (binary-same (codes "==") a b null_node null_node h (λ p. refl), tt)
-checks-same false a b c d h g = (binary-same (codes "===") a b null_node null_node h (λ p. refl), (binary-same (codes "===") c d void_zero_node void_zero_node g (λ p. refl), tt))
-
-joined-same : (t u : Tree) (ts us : List Tree) → SameSense t u → EachSame ts us → SameSense (joined_by_or t ts) (joined_by_or u us)
-joined-same t u [] [] h g = h
-joined-same t u (a ∷ ts) (b ∷ us) h g = joined-same (logical_node (codes "||") t a) (logical_node (codes "||") u b) ts us (logical-same (codes "||") t u a b h g.0) g.1
-joined-same t u [] (b ∷ us) h g = absurd g
-joined-same t u (a ∷ ts) [] h g = absurd g
-
-conditional-same : (m : Label) (a b c d e f : Tree) → SameSense a b → SameSense c d → SameSense e f → SameSense (conditional_at m a c e) (conditional_at m b d f)
-conditional-same m a b c d e f h g k = node-same ConditionalExpression m (one a then (one c then (one e then done))) (one b then (one d then (one f then done))) refl refl refl
-    (λ at. λ i. alone_field (h (at zero) i) ∷ alone_field (g (at 1) i) ∷ alone_field (k (at 2) i) ∷ [])
-
-short-same : (m : Label) (ts us : List Tree) (short a b : Tree) → EachSame ts us → SameSense a b → SameSense (where_short m ts short a) (where_short m us short b)
-short-same m [] [] short a b h g = g
-short-same m (t ∷ ts) (u ∷ us) short a b h g = conditional-same (in_place_of m) (joined_by_or t ts) (joined_by_or u us) short short a b (joined-same t u ts us h.0 h.1) (λ p. refl) g
-short-same m [] (u ∷ us) short a b h g = absurd h
-short-same m (t ∷ ts) [] short a b h g = absurd h
-
-delete-same : (a b : Tree) → SameSense a b → SameSense (delete_node a) (delete_node b)
-delete-same a b h = node-same UnaryExpression (made (Some (codes "delete") ∷ []) []) (one a then done) (one b then done) refl refl refl (one-same a b h)
-
-placed-same : (l : Label) (computed : Bool) (o u k j : Tree) → SameSense o u → SameSense k j → SameSense (member_at l computed o k) (member_at l computed u j)
-placed-same l computed o u k j h g = node-same MemberExpression (record l { flags = computed ∷ false ∷ [] }) (one o then (one k then done)) (one u then (one j then done)) refl refl refl (two-same o u k j h g)
-
-bind-same : (a b c d : Tree) → SameSense a b → SameSense c d → SameSense (bind_by_name a c) (bind_node b d)
-bind-same a b c d h g = call-same (made [] (false ∷ [])) (member_node false a (identifier_called (codes "bind"))) (member_node false b (word (codes "bind"))) (c before empty) (d before empty) (member-same false a b (identifier_called (codes "bind")) (word (codes "bind")) h (λ p. refl)) (before-same c d empty empty g (λ p. refl))
-
-tests-some : (ts us : List Tree) → EachSame ts us → has_tests us ≡ true → has_tests ts ≡ true
-tests-some [] [] h e = e
-tests-some (t ∷ ts) us h e = refl
-tests-some [] (u ∷ us) h e = absurd h
-
-none-first : (ts us : List Tree) → EachSame ts us → ts ≡ [] → us ≡ []
-none-first [] [] h e = refl
-none-first [] (u ∷ us) h e = absurd h
-none-first (t ∷ ts) us h e = absurd (cc e)
-
-none-too : (ts us : List Tree) → EachSame ts us → us ≡ [] → ts ≡ []
-none-too [] us h e = refl
-none-too (t ∷ ts) [] h e = absurd h
-none-too (t ∷ ts) (u ∷ us) h e = absurd (cc e)
-
-some-checks : (no_all : Bool) (ts : List Tree) (e again : Tree) → ts ++ null_checks no_all e again ≡ [] → ⊥
-some-checks true [] e again h = cc h
-some-checks false [] e again h = cc h
-some-checks no_all (t ∷ ts) e again h = cc h
-
-base-by-bare : (a b : Tree) → bare a ≡ bare b → node_base a ≡ node_base b
-base-by-bare a b e = sym (node_base-bare a) ∙ (ap node_base e ∙ node_base-bare b)
 
 -- SPINES
 
@@ -374,19 +314,23 @@ module _ (no_all : Bool) (known : Whole) (look : Text → Option ℕ) where
 
 -- THE ROW BY NAMES
 
+-- an optional chain, maybe in parentheses
+abbrev pub is_chain : Tree → Bool
+is_chain t = is_chain_kind (kind_of (without_parens t))
+
 -- what a place takes here is taken there
 pub record Meets (here there : Level) : Type 0 where
   pub value : takes_value here ≡ true → takes_value there ≡ true
   pub callee : here ≡ a_callee → there ≡ a_callee
 
-by-names : (no_all : Bool) (n : Site) (w : Whole) (m : Need) (bs : List Bound) (a b : Tree) → OptionalChainingRule no_all n w bs a b → Meets n.need.level m.level → Resolved n.role n.names a → Named w.in_use w.free_symbol n.role a →
+by-names : (no_all : Bool) (n : Site) (w : Whole) (m : Need) (bs : List Bound) (a b : Tree) → OptionalChainingRule no_all n w bs a b → (is_chain a ≡ true → Meets n.need.level m.level) → Resolved n.role n.names a → Named w.in_use w.free_symbol n.role a →
     ByNames (OptionalChainingByName no_all (bound_names n.names) (steady_names w n.names.scope) w.in_use (names_among bs) m a) b
 by-names no_all n w m bs a b (by_tests {m = l} {e = e} {w = way} level r some) meets h g =
     let k = walked no_all w n.names.scope r (hung n.names.scope w.in_use w.free_symbol (place_in n.names ChainExpression l (role_at n.role ChainExpression l (one e then done)) (one e then done) 0) e (λ x. refl) h.2.0 g.1.0) in
     record {
       made = where_short l k.way.tests void_zero_node k.way.current;
       rule = subst (λ (zs : List Text). OptionalChainingByName no_all (bound_names n.names) (steady_names w n.names.scope) w.in_use zs m (node ChainExpression l (one e then done)) (where_short l k.way.tests void_zero_node k.way.current)) k.after.taken
-          (plain_by_tests (meets.value level) k.rule (tests-some k.way.tests way.tests k.after.tests some));
+          (plain_by_tests ((meets refl).value level) k.rule (tests-some k.way.tests way.tests k.after.tests some));
       same = short-same l k.way.tests way.tests void_zero_node k.way.current way.current k.after.tests (spelled-same n.names.scope w.in_use w.free_symbol k.after.current);
     }
 by-names no_all n w m bs a b (as_callee {m = l} {e = e} {d = d} {w = way} {xs = xs} level r some callee) meets h g =
@@ -395,7 +339,7 @@ by-names no_all n w m bs a b (as_callee {m = l} {e = e} {d = d} {w = way} {xs = 
     record {
       made = where_short l k.way.tests void_zero_node c.callee;
       rule = subst (λ (zs : List Text). OptionalChainingByName no_all (bound_names n.names) (steady_names w n.names.scope) w.in_use zs m (node ChainExpression l (one e then done)) (where_short l k.way.tests void_zero_node c.callee)) (ap (λ (zs : List Text). zs ++ names_among xs) k.after.taken ∙ sym (names-both way.taken xs))
-          (plain_as_callee (meets.callee level) k.rule (tests-some k.way.tests way.tests k.after.tests some) c.rule);
+          (plain_as_callee ((meets refl).callee level) k.rule (tests-some k.way.tests way.tests k.after.tests some) c.rule);
       same = short-same l k.way.tests way.tests void_zero_node c.callee d k.after.tests c.same;
     }
 by-names no_all n w m bs a b (in_delete {m = j} {l = l} {t = t} {e = e} {w = way} texts alone target r some) meets h g =
@@ -490,7 +434,7 @@ pub record SoundChaining (no_all : Bool) (new : List Bound) (n : Site) (w : Whol
   pub named : Named w.in_use w.free_symbol n.role a
   pub tidy : strays false a ≡ false
 
-pub chaining-alike : (no_all : Bool) (new : List Bound) (n : Site) (whole : Whole) (a b : Tree) → SoundChaining no_all new n whole a b → (t : Take) → Meets n.need.level t.need.level → (ds : List Declared) → Resolved n.role n.names a → Finds ds n.names → Fine a → avoids (bad_temporaries (names_among new)) t a ≡ true → Quiet (temporaries_frame true (names_among new)) →
+pub chaining-alike : (no_all : Bool) (new : List Bound) (n : Site) (whole : Whole) (a b : Tree) → SoundChaining no_all new n whole a b → (t : Take) → (is_chain a ≡ true → Meets n.need.level t.need.level) → (ds : List Declared) → Resolved n.role n.names a → Finds ds n.names → Fine a → avoids (bad_temporaries (names_among new)) t a ≡ true → Quiet (temporaries_frame true (names_among new)) →
     (w v : World) → SameWorld (among_names (names_among new)) w v → WorldsKnown no_all true (names_among new) ds w v → (ls : List Text) (x : Text) →
     SenseLike (temporaries_frame true (names_among new)) w v t (sense (placed_at no_helpers w ls x) a) (sense (placed_at no_helpers v ls x) b)
 chaining-alike no_all new n whole a b h t meets ds resolved found fine away quiet w v same known ls x =

@@ -38,7 +38,7 @@ use Rattle.es_statement_steps.proofs.Rooms.{stays_put}
 use Rattle.es_statement_steps.proofs.Stands.{is_inner}
 use Rattle.es_statement_steps.proofs.Replacings.{RowShape, Row}
 use Rattle.es_statement_steps.proofs.RowRuns.{KeepsRuns, WorldsKnown, bad_temporaries, part-like, temporaries_frame}
-use Rattle.es_statement_steps.proofs.StepMoves.{AreNew, Fine}
+use Rattle.es_statement_steps.proofs.StepMoves.{AreNew, Fine, taken_at}
 
 -- ITS SHAPE
 
@@ -87,11 +87,11 @@ module _ (no_all : Bool) (u : Supply) where
   operand-right : (xs : List Text) (m : Label) (l r : Tree) (t : Take) → avoids (bad_temporaries xs) t (node LogicalExpression m (one l then one r then done)) ≡ true → avoids (bad_temporaries xs) value_taken r ≡ true
   operand-right xs m l r t h = both_left (avoids (bad_temporaries xs) value_taken r) true (both_right (avoids (bad_temporaries xs) value_taken l) (avoids (bad_temporaries xs) value_taken r && true) h)
 
-  alike : (new : List Bound) (n : Site) (whole : Whole) (a b : Tree) → NullishCoalescingRule n whole new a b → (t : Take) (ds : List Declared) → Resolved n.role n.names a → Finds ds n.names → Fine a → avoids (bad_temporaries (names_among new)) t a ≡ true →
+  alike : (new : List Bound) (n : Site) (whole : Whole) (a b : Tree) → NullishCoalescingRule n whole new a b → (t : Take) → t ≡ taken_at n.above → (ds : List Declared) → Resolved n.role n.names a → Finds ds n.names → Fine a → avoids (bad_temporaries (names_among new)) t a ≡ true →
       Quiet (temporaries_frame true (names_among new)) → StackSeen (temporaries_frame true (names_among new)) → SupplySeen (temporaries_frame true (names_among new)) u →
       (w v : World) → SameWorld (among_names (names_among new)) w v → WorldsKnown no_all true (names_among new) ds w v → (ls : List Text) (y : Text) →
       SenseLike (temporaries_frame true (names_among new)) w v t (sense (placed_at u w ls y) a) (sense (placed_at u v ls y) b)
-  alike new n whole a b (with_temporary {m = m} {l = l} {r = r} {x = x} texts again next) t ds resolved found fine away quiet stack seen w v same known ls y =
+  alike new n whole a b (with_temporary {m = m} {l = l} {r = r} {x = x} texts again next) t taken ds resolved found fine away quiet stack seen w v same known ls y =
       let hidden = among_names (x.name ∷ []) in
       let here : among_names (x.name ∷ []) x.name ≡ true = ap (λ b. b || false) (bytes_eq-self x.name) in
       let var = known.temporaries refl x.name here in
@@ -102,7 +102,7 @@ module _ (no_all : Bool) (u : Supply) where
             (nullish_alike hidden w v same x.name here var (sense (placed_at u w [] []) r).core (sense (placed_at u v [] []) r).core right.core.evaluation (sense (placed_at u w [] []) l).core (sense (placed_at u v [] []) l).core left.core.evaluation);
         more = λ _. same_nothing;
       })
-  alike new n whole a b (reading_again {m = m} {l = node ThisExpression o fs} {r = r} texts again) t ds resolved found fine away quiet stack seen w v same known ls y =
+  alike new n whole a b (reading_again {m = m} {l = node ThisExpression o fs} {r = r} texts again) t taken ds resolved found fine away quiet stack seen w v same known ls y =
       let right = part-like no_all u true [] quiet stack seen w v same ds known value_taken r (operand-right [] m (node ThisExpression o fs) r t away) [] [] in
       let here = λ (z : Value). tested_meaning v (literal z other) (literal z other) (sense (placed_at u v [] []) r).core in
       rw (ap first_text texts) (record {
@@ -110,7 +110,7 @@ module _ (no_all : Bool) (u : Supply) where
             (like_by_value (among_names []) w v same t.need _ _ (literal_steady (among_names []) w v same w.this other (sense (placed_at u w [] []) r).core (sense (placed_at u v [] []) r).core right.core.evaluation));
         more = λ _. same_nothing;
       })
-  alike new n whole a b (reading_again {m = m} {l = node Identifier o fs} {r = r} texts again) t ds resolved found fine away quiet stack seen w v same known ls y =
+  alike new n whole a b (reading_again {m = m} {l = node Identifier o fs} {r = r} texts again) t taken ds resolved found fine away quiet stack seen w v same known ls y =
       let right = part-like no_all u true [] quiet stack seen w v same ds known value_taken r (operand-right [] m (node Identifier o fs) r t away) [] [] in
       let symbol : is_some (symbol_of o) ≡ true = has-symbol (symbol_of o) again in
       let bound : is_free (w.scope (first_text o.texts)) ≡ false = known.bound (first_text o.texts) ∙ ap not (sym (found (first_text o.texts)) ∙ ap is_some (sym resolved.2.0.0) ∙ symbol) in
@@ -122,7 +122,7 @@ module _ (no_all : Bool) (u : Supply) where
       has-symbol : (s : Option ℕ) → (is_among_symbols whole.steady s && has_no_fields fs) ≡ true → is_some s ≡ true
       has-symbol (Some z) e = refl
       has-symbol None e = absurd (cc e)
-  alike new n whole a b (reading_again {l = node k o fs} texts again) t ds resolved found fine away quiet stack seen w v same known ls y = absurd (cc again)
+  alike new n whole a b (reading_again {l = node k o fs} texts again) t taken ds resolved found fine away quiet stack seen w v same known ls y = absurd (cc again)
 
 pub coalescing-keeps : (no_all : Bool) (u : Supply) → KeepsRuns no_all u true (Row CoalescingRow coalescing-shape)
 coalescing-keeps no_all u = record { alike = λ new n whole a b h. alike no_all u new n whole a b h.rule }

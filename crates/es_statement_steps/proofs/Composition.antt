@@ -3,6 +3,7 @@ use Rattle.std.proofs.Common.{arith, ◌≤◌, ◌<◌, inl, inr, ◌≡◌, �
 use Rattle.std.proofs.lemmas.Slice.Eq.{bytes_eq-Decides}
 use Rattle.std.specs.Prelude.{Bool, true, false, is_some}
 use Rattle.es_tree.specs.HasForm.{has_form}
+use Rattle.es_tree.specs.StaticRules.{breaks}
 use Rattle.es_tree.specs.Tree.{Tree, node, kind_of}
 use Rattle.es_tree.specs.Words.{Text}
 use Rattle.es_tree.specs.declared.options.EnvOptions.{EnvOptions}
@@ -17,9 +18,10 @@ use Rattle.es_steps.specs.CoreRules.{where_on}
 use Rattle.es_steps.specs.Identifiers.{Passes, is_called}
 use Rattle.es_steps.specs.NamespaceExports.{NamespaceRule}
 use Rattle.es_steps.specs.ObjectSpread.{SpreadRule}
-use Rattle.es_steps.specs.Open.{Open, finished}
+use Rattle.es_steps.specs.Laws.{IsWellBound, nothing_beside}
+use Rattle.es_steps.specs.Open.{Open, finished, opened}
 use Rattle.es_steps.specs.Rules.{Replacing, either_rule}
-use Rattle.es_steps.specs.Steps.{Ledger, Site, Spot, Step, Steps, the_program}
+use Rattle.es_steps.specs.Steps.{Ledger, Site, Spot, Step, Steps, Whole, the_program}
 use Rattle.es_steps.specs.Steps.Steps.{goes, stays}
 use Rattle.es_steps.proofs.BridgeInclusion.{all_under, step_under}
 use Rattle.es_steps.proofs.FormOpen.{IsProper}
@@ -39,8 +41,10 @@ use Rattle.es_valid_steps.proofs.ProgramLists.{program-exported}
 use Rattle.es_valid_steps.proofs.Spread.{finished-spread, spread}
 use Rattle.es_valid_steps.proofs.SpreadSteps.{SameBoth, Went, spread-step}
 use Rattle.es_valid_steps.proofs.SpreadSteps.Went.{moves, rests, leaves}
+use Rattle.es_valid_names.proofs.FurtherNames.{law_further_rules_proof}
 use Rattle.es_statement_runs.specs.Helpers.{Supply}
 use Rattle.es_statement_runs.proofs.Composing.{law_then_proof}
+use Rattle.es_statement_steps.proofs.NothingBeside.{IsAlone, alone-after, one-more}
 use Rattle.es_statement_steps.proofs.RowRuns.{StepAlike, unchanged}
 use Rattle.es_statement_steps.proofs.StandingPrograms.{program_stands}
 use Rattle.es_statement_steps.proofs.StepMoves.{Fine}
@@ -74,13 +78,15 @@ on-exports false n s x s' y r = absurd r
 pub exported : (o : EnvOptions) {s s' : Ledger} {x y : Open} → Step (where_on o.es2020.export_namespace_from NamespaceRule) the_program s x s' y → Step NamespaceRule the_program s x s' y
 exported o r = step_under (where_on o.es2020.export_namespace_from NamespaceRule) NamespaceRule (on-exports o.es2020.export_namespace_from) r
 
--- WHAT IS KNOWN of a program, with what stands beside statements in its lists: temporaries alone are pending, it has form, keeps the rules of places, is
--- of the class, and names are resolved and in use
+-- WHAT IS KNOWN of a program, with what stands beside statements in its lists: temporaries alone are pending, and nothing outside it; it has form, breaks no
+-- static rule, is of the class, and names are resolved and in use
 
 pub record Known (s : Ledger) (x : Open) : Type 0 where
   pub proper : IsProper x
+  pub alone : IsAlone s
   pub form : has_form s-Program (finished x) ≡ true
   pub keeps : Keeps [] (finished x)
+  pub rules : breaks (finished x) ≡ []
   pub class : Class (finished x)
   pub resolved : IsResolved (finished x)
   pub named : Named (whole_in s).in_use (whole_in s).free_symbol reads (finished x)
@@ -90,23 +96,23 @@ known-fine {x = x} k = program_stands (finished x) k.form k.class k.keeps
 
 -- WHAT IS ASKED OF STEPS
 
-pub record AloneRuns (o : EnvOptions) (no_all : Bool) (u : Supply) (Clean : Tree → Type 0) : Type 0 where
+pub record AloneRuns (o : EnvOptions) (no_all : Bool) (u : Supply) (Clean : Whole → Tree → Type 0) : Type 0 where
   -- of the class
   pub class : {s s' : Ledger} {x y : Open} → Step (alone o) the_program s x s' y → IsProper x → IsProper y → Class (finished x) → Class (finished y)
   -- and of runs, where Clean is kept
-  pub clean : {s s' : Ledger} {x y : Open} → Step (alone o) the_program s x s' y → Known s x → Known s' y → Clean (finished x) → Clean (finished y)
-  pub runs : {s s' : Ledger} {x y : Open} → Step (alone o) the_program s x s' y → Known s x → Known s' y → Clean (finished x) → Clean (finished y) → StepAlike no_all u (finished x) (finished y)
+  pub clean : {s s' : Ledger} {x y : Open} → Step (alone o) the_program s x s' y → Known s x → Known s' y → Clean (whole_in s) (finished x) → Clean (whole_in s') (finished y)
+  pub runs : {s s' : Ledger} {x y : Open} → Step (alone o) the_program s x s' y → Known s x → Known s' y → Clean (whole_in s) (finished x) → Clean (whole_in s') (finished y) → StepAlike no_all u (finished x) (finished y)
 
 -- exports of namespaces, where they are asked for
 abbrev pub Exports : EnvOptions → Site → Ledger → Spot → Ledger → Spot → Type 0
 Exports o = where_on o.es2020.export_namespace_from NamespaceRule
 
-pub record NamespaceRuns (o : EnvOptions) (no_all : Bool) (u : Supply) (Clean : Tree → Type 0) : Type 0 where
+pub record NamespaceRuns (o : EnvOptions) (no_all : Bool) (u : Supply) (Clean : Whole → Tree → Type 0) : Type 0 where
   pub class : {s s' : Ledger} {x y : Open} → Step (Exports o) the_program s x s' y → has_form s-Program (finished x) ≡ true → Class (finished x) → Class (finished y)
-  pub clean : {s s' : Ledger} {x y : Open} → Step (Exports o) the_program s x s' y → Known s (spread x) → Known s' (spread y) → Clean (finished x) → Clean (finished y)
-  pub runs : {s s' : Ledger} {x y : Open} → Step (Exports o) the_program s x s' y → Known s (spread x) → Known s' (spread y) → Clean (finished x) → Clean (finished y) → StepAlike no_all u (finished x) (finished y)
+  pub clean : {s s' : Ledger} {x y : Open} → Step (Exports o) the_program s x s' y → Known s (spread x) → Known s' (spread y) → Clean (whole_in s) (finished x) → Clean (whole_in s') (finished y)
+  pub runs : {s s' : Ledger} {x y : Open} → Step (Exports o) the_program s x s' y → Known s (spread x) → Known s' (spread y) → Clean (whole_in s) (finished x) → Clean (whole_in s') (finished y) → StepAlike no_all u (finished x) (finished y)
 
-module _ (o : EnvOptions) (no_all : Bool) (u : Supply) (Clean : Tree → Type 0) (law : AloneRuns o no_all u Clean) (exports : NamespaceRuns o no_all u Clean) where
+module _ (o : EnvOptions) (no_all : Bool) (u : Supply) (Clean : Whole → Tree → Type 0) (law : AloneRuns o no_all u Clean) (exports : NamespaceRuns o no_all u Clean) where
   -- what is kept of form and places, and the class
   pub record Shaped (x : Open) : Type 0 where
     pub proper : IsProper x
@@ -136,23 +142,25 @@ module _ (o : EnvOptions) (no_all : Bool) (u : Supply) (Clean : Tree → Type 0)
       record { proper = next.proper; form = next.formed; keeps = next.keeps k.keeps; class = subst (λ (t : Tree). Class t) (sym (finished-spread y)) (exports.class r form (subst (λ (t : Tree). Class t) (finished-spread x) k.class)) }
 
   -- one step, where the names on both sides are known
-  alike-after : {s s' : Ledger} (x y : Open) → Split s s' x y → Known s (spread x) → Known s' (spread y) → Clean (finished x) → Clean (finished y) → StepAlike no_all u (finished x) (finished y)
-  alike-after x y (moves r) k m c d =
+  alike-after : {s s' : Ledger} (x y : Open) → Split s s' x y → Known s (spread x) → Known s' (spread y) → Clean (whole_in s) (finished x) → Clean (whole_in s') (finished y) → StepAlike no_all u (finished x) (finished y)
+  alike-after {s = s} {s' = s'} x y (moves r) k m c d =
       subst (λ (t : Tree). StepAlike no_all u t (finished y)) (finished-spread x) (subst (λ (t : Tree). StepAlike no_all u (finished (spread x)) t) (finished-spread y)
-      (law.runs r k m (subst (λ (t : Tree). Clean t) (sym (finished-spread x)) c) (subst (λ (t : Tree). Clean t) (sym (finished-spread y)) d)))
+      (law.runs r k m (subst (λ (t : Tree). Clean (whole_in s) t) (sym (finished-spread x)) c) (subst (λ (t : Tree). Clean (whole_in s') t) (sym (finished-spread y)) d)))
   alike-after x y (rests e) k m c d = unchanged no_all u (finished x) (finished y) (sym (finished-spread x) ∙ ap finished e.1 ∙ finished-spread y)
   alike-after x y (leaves r) k m c d = exports.runs r k m c d
 
-  clean-after : {s s' : Ledger} (x y : Open) → Split s s' x y → Known s (spread x) → Known s' (spread y) → Clean (finished x) → Clean (finished y)
-  clean-after x y (moves r) k m c = subst (λ (t : Tree). Clean t) (finished-spread y) (law.clean r k m (subst (λ (t : Tree). Clean t) (sym (finished-spread x)) c))
-  clean-after x y (rests e) k m c = subst (λ (t : Tree). Clean t) (sym (finished-spread x) ∙ ap finished e.1 ∙ finished-spread y) c
+  clean-after : {s s' : Ledger} (x y : Open) → Split s s' x y → Known s (spread x) → Known s' (spread y) → Clean (whole_in s) (finished x) → Clean (whole_in s') (finished y)
+  clean-after {s = s} {s' = s'} x y (moves r) k m c = subst (λ (t : Tree). Clean (whole_in s') t) (finished-spread y) (law.clean r k m (subst (λ (t : Tree). Clean (whole_in s) t) (sym (finished-spread x)) c))
+  clean-after {s = s} {s' = s'} x y (rests e) k m c = subst (λ (z : Ledger). Clean (whole_in z) (finished y)) e.0 (subst (λ (t : Tree). Clean (whole_in s) t) (sym (finished-spread x) ∙ ap finished e.1 ∙ finished-spread y) c)
   clean-after x y (leaves r) k m c = exports.clean r k m c
 
-  known-of : (s : Ledger) (x : Open) → Shaped (spread x) → IsResolved (finished x) → Named (whole_in s).in_use (whole_in s).free_symbol reads (finished x) → Known s (spread x)
-  known-of s x k resolved named = record {
+  known-of : (s : Ledger) (x : Open) → Shaped (spread x) → IsAlone s → breaks (finished x) ≡ [] → IsResolved (finished x) → Named (whole_in s).in_use (whole_in s).free_symbol reads (finished x) → Known s (spread x)
+  known-of s x k alone rules resolved named = record {
     proper = k.proper;
+    alone = alone;
     form = k.form;
     keeps = k.keeps;
+    rules = subst (λ (t : Tree). breaks t ≡ []) (sym (finished-spread x)) rules;
     class = k.class;
     resolved = subst (λ (t : Tree). IsResolved t) (sym (finished-spread x)) resolved;
     named = subst (λ (t : Tree). Named (whole_in s).in_use (whole_in s).free_symbol reads t) (sym (finished-spread x)) named;
@@ -167,29 +175,39 @@ module _ (o : EnvOptions) (no_all : Bool) (u : Supply) (Clean : Tree → Type 0)
   then-alike : (x y z : Tree) → StepAlike no_all u x y → StepAlike no_all u y z → StepAlike no_all u x z
   then-alike x y z a b = record { runs = law_then_proof u no_all x y z a.runs b.runs a.declared; declared = λ w h. b.declared w (a.declared w h) }
 
-  -- STEPS IN A ROW, where each symbol has the name that it has in the end, and nothing is pending outside the program
-  pub composed : (ends : ℕ → Text) {s s' : Ledger} {x x' : Open} → Steps (Step (with_further_rules o) the_program) s x s' x' → ((m : ℕ) → m < (whole_in s').free_symbol → ends m ≡ (whole_in s').called m) → is_var_scope (kind_of (finished x)) ≡ true →
-      Named (whole_in s).in_use (whole_in s).free_symbol reads (finished x) → LedgerPasses (is_called ends) s → Passes (is_called ends) (finished x) → IsResolved (finished x) → IsClean s' → Shaped (spread x) → Clean (finished x) → StepAlike no_all u (finished x) (finished x')
-  composed ends {x = x} stays end kind used beside names resolved last shaped clean = unchanged no_all u (finished x) (finished x) refl
-  composed ends {x = x} {x' = x'} (goes {s = s} {s' = m} {s'' = s'} {u = y} one rest) end kind used beside names resolved last shaped clean =
-      let all = step_under (with_further_rules o) (AllRules o) (built-all o) one in
-      let later = all_under (with_further_rules o) (AllRules o) (built-all o) rest in
-      let lawful = all-rules-lawful o in
-      let writes = all-rules-write o in
-      let r = recalled (AllRules o) lawful writes all in
-      let rs = all-recalled (AllRules o) lawful writes later in
-      let same : (k : ℕ) → k < (whole_in m).free_symbol → ends k ≡ (whole_in m).called k = λ k e. end k (longer-free k e rs.freer) ∙ rs.same k e in
-      let first = led (AllRules o) lawful writes ends (goes all stays) same kind used beside names in
-      let k = passed (AllRules o) lawful writes (is_called ends) all (record { words = λ w. refl; new = λ n e d. (bytes_eq-Decides ((whole_in m).called n) (ends n)).1 (sym (same n d)) }) beside names in
-      let kind_after = program-scope (finished y) (spread-form y (shaped-after x y (split one) shaped)) in
-      let others = led (AllRules o) lawful writes ends later end kind_after first.named k.1 k.0 in
-      let here = others.clean last in
-      let resolved_after = first.resolved here resolved in
-      let shaped_after = shaped-after x y (split one) shaped in
-      let known = known-of s x shaped resolved used in
-      let known_after = known-of m y shaped_after resolved_after first.named in
-      let clean_after = clean-after x y (split one) known known_after clean in
-      then-alike (finished x) (finished y) (finished x') (alike-after x y (split one) known known_after clean clean_after) (composed ends rest end kind_after first.named k.1 k.0 resolved_after last shaped_after clean_after)
-    where
-      longer-free : (k : ℕ) → k < (whole_in m).free_symbol → (whole_in m).free_symbol ≤ (whole_in s').free_symbol → k < (whole_in s').free_symbol
-      longer-free k d e = omega arith
+  -- STEPS IN A ROW from a program that breaks no static rule, where each symbol has the name that it has in the end, and nothing is pending outside the
+  -- program
+  module _ (source : Tree) (first : Whole) (source_form : has_form s-Program source ≡ true) (source_rules : breaks source ≡ []) (bound : IsWellBound first source) where
+    abbrev From : Ledger → Open → Type 0
+    From s x = Steps (Step (with_further_rules o) the_program) (nothing_beside first) (opened source) s x
+
+    rules-there : (s : Ledger) (x : Open) → From s x → IsAlone s → breaks (finished x) ≡ []
+    rules-there s x from alone = law_further_rules_proof o source first (whole_in s) x source_form source_rules bound (subst (λ (z : Ledger). From z x) alone from)
+
+    pub composed : (ends : ℕ → Text) {s s' : Ledger} {x x' : Open} → From s x → IsAlone s → Steps (Step (with_further_rules o) the_program) s x s' x' → ((m : ℕ) → m < (whole_in s').free_symbol → ends m ≡ (whole_in s').called m) → is_var_scope (kind_of (finished x)) ≡ true →
+        Named (whole_in s).in_use (whole_in s).free_symbol reads (finished x) → LedgerPasses (is_called ends) s → Passes (is_called ends) (finished x) → IsResolved (finished x) → IsClean s' → Shaped (spread x) → Clean (whole_in s) (finished x) → StepAlike no_all u (finished x) (finished x')
+    composed ends {x = x} from alone stays end kind used beside names resolved last shaped clean = unchanged no_all u (finished x) (finished x) refl
+    composed ends {x = x} {x' = x'} from alone (goes {s = s} {s' = m} {s'' = s'} {u = y} one rest) end kind used beside names resolved last shaped clean =
+        let all = step_under (with_further_rules o) (AllRules o) (built-all o) one in
+        let later = all_under (with_further_rules o) (AllRules o) (built-all o) rest in
+        let lawful = all-rules-lawful o in
+        let writes = all-rules-write o in
+        let r = recalled (AllRules o) lawful writes all in
+        let rs = all-recalled (AllRules o) lawful writes later in
+        let same : (k : ℕ) → k < (whole_in m).free_symbol → ends k ≡ (whole_in m).called k = λ k e. end k (longer-free k e rs.freer) ∙ rs.same k e in
+        let first = led (AllRules o) lawful writes ends (goes all stays) same kind used beside names in
+        let k = passed (AllRules o) lawful writes (is_called ends) all (record { words = λ w. refl; new = λ n e d. (bytes_eq-Decides ((whole_in m).called n) (ends n)).1 (sym (same n d)) }) beside names in
+        let kind_after = program-scope (finished y) (spread-form y (shaped-after x y (split one) shaped)) in
+        let others = led (AllRules o) lawful writes ends later end kind_after first.named k.1 k.0 in
+        let here = others.clean last in
+        let resolved_after = first.resolved here resolved in
+        let shaped_after = shaped-after x y (split one) shaped in
+        let from_after = one-more from one in
+        let alone_after = alone-after (AllRules o) lawful writes ends all same used names alone here in
+        let known = known-of s x shaped alone (rules-there s x from alone) resolved used in
+        let known_after = known-of m y shaped_after alone_after (rules-there m y from_after alone_after) resolved_after first.named in
+        let clean_after = clean-after x y (split one) known known_after clean in
+        then-alike (finished x) (finished y) (finished x') (alike-after x y (split one) known known_after clean clean_after) (composed ends from_after alone_after rest end kind_after first.named k.1 k.0 resolved_after last shaped_after clean_after)
+      where
+        longer-free : (k : ℕ) → k < (whole_in m).free_symbol → (whole_in m).free_symbol ≤ (whole_in s').free_symbol → k < (whole_in s').free_symbol
+        longer-free k d e = omega arith

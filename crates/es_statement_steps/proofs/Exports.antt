@@ -3,13 +3,13 @@
 use Rattle.std.proofs.Common.{◌≡◌, refl, sym, ap, subst, ◌∙◌, List, [], ◌∷◌, ◌++◌}
 use Rattle.std.proofs.lemmas.Bool.{and_from, and_parts}
 use Rattle.std.specs.Prelude.{Bool, true, false, not, ◌&&◌, ◌||◌, Option, Some, None, bytes_eq, codes, map, if◌then◌else◌}
-use Rattle.es_tree.specs.Fresh.{node_base}
 use Rattle.es_tree.specs.HasForm.{has_form, trees_form}
 use Rattle.es_tree.specs.Scopes.{Declared, declares}
-use Rattle.es_tree.specs.Tree.{Tree, node, Label, done, ◌then◌, Field, missing, one, many, statements, Trees, empty, ◌before◌, trees}
-use Rattle.es_tree.specs.Walks.{all_in_field, all_in_trees, all_nodes}
+use Rattle.es_tree.specs.Tree.{Fields, Tree, node, Label, done, ◌then◌, Field, missing, one, many, statements, Trees, empty, ◌before◌, trees}
+use Rattle.es_tree.specs.Walks.{all_in_trees, all_nodes}
 use Rattle.es_tree.specs.Words.{Text}
-use Rattle.es_tree.specs.declared.ast_type.AstType.TheVariants.{ExportAllDeclaration, Identifier, ImportAttribute, Program, StringLiteral}
+use Rattle.es_tree.specs.declared.ast_type.AstType.{AstType}
+use Rattle.es_tree.specs.declared.ast_type.AstType.TheVariants.{ExportNamedDeclaration, ExportSpecifier, Identifier, ImportAttribute, ImportDeclaration, ImportNamespaceSpecifier, Program, StringLiteral}
 use Rattle.es_tree.specs.declared.options.EnvOptions.{EnvOptions}
 use Rattle.es_tree.specs.declared.table.Sort.TheVariants.{ImportAttribute as s-ImportAttribute, ModuleExportName as s-ModuleExportName, Program as s-Program, Statement as s-Statement, StringLiteral as s-StringLiteral}
 use Rattle.es_tree.proofs.NodeForm.{node_form}
@@ -21,20 +21,15 @@ use Rattle.es_runs.proofs.Temporary.{bytes_eq-self}
 use Rattle.es_semantic.specs.RolesOf.{reads}
 use Rattle.es_resolution.specs.Declarations.{Bound}
 use Rattle.es_resolution.specs.Named.{Named}
-use Rattle.es_steps.specs.NamespaceExports.{NamespaceRule, namespace_import}
-use Rattle.es_steps.specs.NamespaceExports.NamespaceRule.{exports}
-use Rattle.es_steps.specs.Nodes.{declarator, export_node, identifier, joined_trees, made, placed, specifier_node}
-use Rattle.es_steps.specs.Open.{Additions, Open, OpenTrees, Pending, after_imports, finished, finished_field, finished_fields, finished_trees, is_import, no_additions, nothing_pending, opened, pending_statements, whole_list, with_vars}
+use Rattle.es_steps.specs.Nodes.{declarator, joined_trees, made}
+use Rattle.es_steps.specs.Open.{Additions, Open, Pending, after_imports, finished, finished_field, finished_fields, finished_trees, is_import, no_additions, nothing_pending, pending_statements, whole_list, with_vars}
 use Rattle.es_steps.specs.Open.OpenFields.{ends, ◌and◌}
 use Rattle.es_steps.specs.Open.OpenField.{list}
-use Rattle.es_steps.specs.Rules.{next_name}
-use Rattle.es_steps.specs.Steps.{Ledger, Site, Step, Whole, ledger, the_program}
-use Rattle.es_steps.specs.Steps.Spot.{at_beside, at_node}
+use Rattle.es_steps.specs.Steps.{Ledger, Step, Whole, the_program}
 use Rattle.es_steps.proofs.FormLists.{IsPlainList, after-rest, first-formed}
-use Rattle.es_steps.proofs.Opened.{finished-opened}
+use Rattle.es_steps.proofs.Taken.{whole_in}
 use Rattle.es_valid_steps.proofs.NamespaceRows.{ExportForm, export-form}
-use Rattle.es_valid_steps.proofs.ProgramLists.{Exported, ProgramExported, program-exported}
-use Rattle.es_valid_steps.proofs.ProgramLists.Exported.{here, there}
+use Rattle.es_valid_steps.proofs.ProgramLists.{ProgramExported, program-exported}
 use Rattle.es_valid_steps.proofs.ProgramLists.ProgramExported.{at_list as in_the_list}
 use Rattle.es_valid_steps.proofs.Spread.{finished-spread, spread}
 use Rattle.es_statement_runs.specs.BareVars.{BareDeclarators, BareVar, Beside, BesideList, BesideTrees}
@@ -57,50 +52,16 @@ use Rattle.es_statement_runs.proofs.BareVars.{law_vars_proof, list_beside, self_
 use Rattle.es_statement_runs.proofs.Everywhere.{both_left, both_right}
 use Rattle.es_statement_runs.proofs.NamespaceExports.{law_namespace_exports_proof}
 use Rattle.es_statement_steps.proofs.Composition.{Exports, Known, NamespaceRuns, exported, known-fine}
+use Rattle.es_statement_steps.proofs.ExportSplits.{SplitBy, SplitHere, all_from, is_export_kind, made_export, made_import, program-so, split-by}
+use Rattle.es_statement_steps.proofs.ExportSplits.SplitHere.{split_here, split_later}
 use Rattle.es_statement_steps.proofs.FoundNames.{declared_is}
 use Rattle.es_statement_steps.proofs.FreshNames.{top_used, unused_avoids}
 use Rattle.es_statement_steps.proofs.MadeNames.{made_math, made_program_names, made_supply}
-use Rattle.es_statement_steps.proofs.NewNames.{new-fresh}
 use Rattle.es_statement_steps.proofs.Rooms.{IsProgram, program-fields}
 use Rattle.es_statement_steps.proofs.RowRuns.{alike-under, StepAlike, false-where, not-new, undeclared-kind}
 use Rattle.es_statement_steps.proofs.Sources.{avoids-nothing, avoids-nothing-all, nothing, then-alike}
 use Rattle.es_statement_steps.proofs.StepMoves.{AreNew, Fine}
 use Rattle.es_statement_steps.proofs.Tamed.{Class}
-
--- WHAT A STEP DOES TO THE LIST
-
-abbrev all_from : Label → Tree → Tree → Trees → Tree
-all_from m e s attributes = node ExportAllDeclaration m (one e then one s then many attributes then done)
-
-abbrev made_import : Label → Bound → Tree → Trees → Tree
-made_import m x s attributes = placed m (namespace_import x s attributes)
-
-abbrev made_export : Bound → Tree → Tree
-made_export x e = export_node (specifier_node (identifier x) e ∷ [])
-
-data SplitHere (x : Bound) : Trees → Trees → Type 0 where
-  split_here : (m : Label) (e s : Tree) (attributes ts : Trees) → SplitHere x (all_from m e s attributes before ts) (made_import m x s attributes before (made_export x e before ts))
-  split_later : (t : Tree) {ts us : Trees} → SplitHere x ts us → SplitHere x (t before ts) (t before us)
-
-record SplitBy (w : Whole) (p q : Pending) (x y : Option Bound) (a b : Additions) (ts us : Trees) : Type 0 where
-  pending : q ≡ p
-  this : y ≡ x
-  top : b ≡ a
-  name : Bound
-  are_new : AreNew w (name ∷ [])
-  split : SplitHere name ts us
-
-split-first : {n : Site} {w w' : Whole} {p q : Pending} {x y : Option Bound} {a b : Additions} {t i e : Tree} (ts : Trees) → NamespaceRule n (ledger w p x a) (at_node t) (ledger w' q y b) (at_beside (i ∷ []) e []) →
-    SplitBy w p q x y a b (t before ts) (i before (e before ts))
-split-first ts (exports {w = w} {m = m} {e = e} {s = s} {attributes = attributes} {x = x} d fresh q r o) =
-    record { pending = refl; this = refl; top = refl; name = next_name w x; are_new = new-fresh w (node_base e) (next_name w x) fresh; split = split_here m e s attributes ts }
-
-split-by : {n : Site} {w w' : Whole} {p q : Pending} {x y : Option Bound} {a b : Additions} {ts us : OpenTrees} → Exported n (ledger w p x a) (ledger w' q y b) ts us → SplitBy w p q x y a b (finished_trees ts) (finished_trees us)
-split-by {w = w} {p = p} {q = q} {x = x} {y = y} {a = a} {b = b} (here t i e {ts = ts} h) =
-    subst (λ (f : Tree). SplitBy w p q x y a b (f before finished_trees ts) (finished (opened i) before (finished (opened e) before finished_trees ts))) (sym (finished-opened t))
-    (subst (λ (f : Tree). SplitBy w p q x y a b (t before finished_trees ts) (f before (finished (opened e) before finished_trees ts))) (sym (finished-opened i))
-    (subst (λ (f : Tree). SplitBy w p q x y a b (t before finished_trees ts) (i before (f before finished_trees ts))) (sym (finished-opened e)) (split-first (finished_trees ts) h)))
-split-by (there t h) = let r = split-by h in record { pending = r.pending; this = r.this; top = r.top; name = r.name; are_new = r.are_new; split = split_later (finished t) r.split }
 
 -- at most one statement is pending, of `var` without values
 data AtMost : Trees → Type 0 where
@@ -408,79 +369,37 @@ module _ (u : Supply) (Clean : Tree → Type 0) (quiet : (t : Tree) → Clean t 
           let after = parts_clean r.name l ds body (whole_list p x a (finished_trees us)) parts clean in
           (list-alike w r.name r.are_new l ds body (whole_list p x a (finished_trees us)) parts named fine u (quiet (program l ds body) clean) (quiet (program l ds parts.between) after.0) (quiet (program l ds (whole_list p x a (finished_trees us))) after.1), after.1)
 
--- THE CLASS
+-- TESTS OF NODES
 
-joined-left : (vs ts : Trees) → all_in_trees is_statement_node (joined_trees vs ts) ≡ true → all_in_trees is_statement_node vs ≡ true
-joined-left empty ts h = refl
-joined-left (v before vs) ts h = let p = and_parts (all_nodes is_statement_node v) (all_in_trees is_statement_node (joined_trees vs ts)) h in and_from (all_nodes is_statement_node v) (all_in_trees is_statement_node vs) p.0 (joined-left vs ts p.1)
+-- a test that the nodes made for exports pass is kept
+pub exports-so : (P : AstType → Label → Fields → Bool) → ((k : AstType) (l : Label) (fs : Fields) → is_export_kind k ≡ true → P k l fs ≡ true) → (o : EnvOptions) {s s' : Ledger} {x y : Open} → Step (Exports o) the_program s x s' y → has_form s-Program (finished x) ≡ true → all_nodes P (finished x) ≡ true → all_nodes P (finished y) ≡ true
+exports-so P passes o {x = x} {y = y} h form c = subst (λ (t : Tree). all_nodes P t ≡ true) (finished-spread y) (program-so P passes (program-exported (exported o h) form) (subst (λ (t : Tree). all_nodes P t ≡ true) (sym (finished-spread x)) c))
 
-joined-right : (vs ts : Trees) → all_in_trees is_statement_node (joined_trees vs ts) ≡ true → all_in_trees is_statement_node ts ≡ true
-joined-right empty ts h = h
-joined-right (v before vs) ts h = joined-right vs ts (and_parts (all_nodes is_statement_node v) (all_in_trees is_statement_node (joined_trees vs ts)) h).1
-
-joined-both : (vs ts : Trees) → all_in_trees is_statement_node vs ≡ true → all_in_trees is_statement_node ts ≡ true → all_in_trees is_statement_node (joined_trees vs ts) ≡ true
-joined-both empty ts h k = k
-joined-both (v before vs) ts h k = let p = and_parts (all_nodes is_statement_node v) (all_in_trees is_statement_node vs) h in and_from (all_nodes is_statement_node v) (all_in_trees is_statement_node (joined_trees vs ts)) p.0 (joined-both vs ts p.1 k)
-
-record ClassParts (m : Label) (e s : Tree) (attributes ts : Trees) : Type 0 where
-  exported : all_nodes is_statement_node e ≡ true
-  from : all_nodes is_statement_node s ≡ true
-  given : all_in_trees is_statement_node attributes ≡ true
-  rest : all_in_trees is_statement_node ts ≡ true
-
-class-parts : (m : Label) (e s : Tree) (attributes ts : Trees) → all_in_trees is_statement_node (all_from m e s attributes before ts) ≡ true → ClassParts m e s attributes ts
-class-parts m e s attributes ts h =
-    let p = and_parts (all_nodes is_statement_node (all_from m e s attributes)) (all_in_trees is_statement_node ts) h in
-    let q = and_parts (all_nodes is_statement_node e) (all_nodes is_statement_node s && (all_in_trees is_statement_node attributes && true)) p.0 in
-    let r = and_parts (all_nodes is_statement_node s) (all_in_trees is_statement_node attributes && true) q.1 in
-    record { exported = q.0; from = r.0; given = (and_parts (all_in_trees is_statement_node attributes) true r.1).0; rest = p.1 }
-
-import-class : (x : Bound) (m : Label) (e s : Tree) (attributes ts : Trees) → ClassParts m e s attributes ts → all_nodes is_statement_node (made_import m x s attributes) ≡ true
-import-class x m e s attributes ts c = rw (c.from, c.given) refl
-
-export-class : (x : Bound) (m : Label) (e s : Tree) (attributes ts : Trees) → ClassParts m e s attributes ts → all_nodes is_statement_node (made_export x e) ≡ true
-export-class x m e s attributes ts c = rw c.exported refl
-
-split-class : (x : Bound) {ts us : Trees} → SplitHere x ts us → all_in_trees is_statement_node ts ≡ true → all_in_trees is_statement_node us ≡ true
-split-class x (split_here m e s attributes ts) h =
-    let c = class-parts m e s attributes ts h in
-    and_from (all_nodes is_statement_node (made_import m x s attributes)) (all_in_trees is_statement_node (made_export x e before ts)) (import-class x m e s attributes ts c)
-    (and_from (all_nodes is_statement_node (made_export x e)) (all_in_trees is_statement_node ts) (export-class x m e s attributes ts c) c.rest)
-split-class x (split_later t {ts = ts} {us = us} g) h = let p = and_parts (all_nodes is_statement_node t) (all_in_trees is_statement_node ts) h in and_from (all_nodes is_statement_node t) (all_in_trees is_statement_node us) p.0 (split-class x g p.1)
-
-after-class : (x : Bound) (vs : Trees) {ts us : Trees} → SplitHere x ts us → all_in_trees is_statement_node (after_imports vs ts) ≡ true → all_in_trees is_statement_node (after_imports vs us) ≡ true
-after-class x vs (split_here m e s attributes ts) h =
-    let c = class-parts m e s attributes ts (joined-right vs (all_from m e s attributes before ts) h) in
-    and_from (all_nodes is_statement_node (made_import m x s attributes)) (all_in_trees is_statement_node (joined_trees vs (made_export x e before ts))) (import-class x m e s attributes ts c)
-    (joined-both vs (made_export x e before ts) (joined-left vs (all_from m e s attributes before ts) h) (and_from (all_nodes is_statement_node (made_export x e)) (all_in_trees is_statement_node ts) (export-class x m e s attributes ts c) c.rest))
-after-class x vs (split_later t {ts = ts} {us = us} g) h = at (is_import t) h (after-class x vs g)
-  where
-    at : (b : Bool) → all_in_trees is_statement_node (if b then t before after_imports vs ts else joined_trees vs (t before ts)) ≡ true → (all_in_trees is_statement_node (after_imports vs ts) ≡ true → all_in_trees is_statement_node (after_imports vs us) ≡ true) →
-        all_in_trees is_statement_node (if b then t before after_imports vs us else joined_trees vs (t before us)) ≡ true
-    at true h r = let p = and_parts (all_nodes is_statement_node t) (all_in_trees is_statement_node (after_imports vs ts)) h in and_from (all_nodes is_statement_node t) (all_in_trees is_statement_node (after_imports vs us)) p.0 (r p.1)
-    at false h r = joined-both vs (t before us) (joined-left vs (t before ts) h) (split-class x (split_later t g) (joined-right vs (t before ts) h))
-
-program-class : {s s' : Ledger} {x y : Open} → ProgramExported s s' x y → Class (finished x) → Class (finished y)
-program-class (in_the_list {l = l} {d = d} {p = p} {q = q} {x = x} {y = y} {a = a} {b = b} {ts = ts} {us = us} h) c =
-    let r = split-by h in
-    let head = all_in_field is_statement_node (finished_field d) in
-    let parts = and_parts head (all_in_trees is_statement_node (whole_list p x a (finished_trees ts)) && true) c in
-    let there = λ (p : Pending) (x : Option Bound) (a : Additions). all_nodes is_statement_node (node Program l (finished_field d then (statements (whole_list p x a (finished_trees us)) then done))) ≡ true in
-    let list_so = after-class r.name (pending_statements p x a) r.split (and_parts (all_in_trees is_statement_node (whole_list p x a (finished_trees ts))) true parts.1).0 in
-    subst (λ (p : Pending). there p y b) (sym r.pending) (subst (λ (x : Option Bound). there p x b) (sym r.this) (subst (λ (a : Additions). there p x a) (sym r.top)
-    (and_from head (all_in_trees is_statement_node (whole_list p x a (finished_trees us)) && true) parts.0 (and_from (all_in_trees is_statement_node (whole_list p x a (finished_trees us))) true list_so refl))))
+made-class : (k : AstType) (l : Label) (fs : Fields) → is_export_kind k ≡ true → is_statement_node k l fs ≡ true
+made-class Identifier l fs h = refl
+made-class ImportNamespaceSpecifier l fs h = refl
+made-class ImportDeclaration l fs h = refl
+made-class ExportSpecifier l fs h = refl
+made-class ExportNamedDeclaration l fs h = refl
+made-class Program l fs h = refl
+made-class _ l fs h = absurd (cc h)
 
 -- WHAT IS ASKED OF THEM
 
 module _ (o : EnvOptions) (no_all : Bool) (u : Supply) (Clean : Tree → Type 0) (quiet : (t : Tree) → Clean t → silent_names u t ≡ []) (parts_clean : PartsClean Clean) where
   exports-class : {s s' : Ledger} {x y : Open} → Step (Exports o) the_program s x s' y → has_form s-Program (finished x) ≡ true → Class (finished x) → Class (finished y)
-  exports-class {x = x} {y = y} h form c = subst (λ (t : Tree). Class t) (finished-spread y) (program-class (program-exported (exported o h) form) (subst (λ (t : Tree). Class t) (sym (finished-spread x)) c))
+  exports-class h form c = exports-so is_statement_node made-class o h form c
 
-  exports-run : {s s' : Ledger} {x y : Open} → Step (Exports o) the_program s x s' y → Known s (spread x) → Clean (finished x) → StepAlike false u (finished x) (finished y) × Clean (finished y)
+  pub exports-run : {s s' : Ledger} {x y : Open} → Step (Exports o) the_program s x s' y → Known s (spread x) → Clean (finished x) → StepAlike false u (finished x) (finished y) × Clean (finished y)
   exports-run {x = x} {y = y} h k c =
       let form = subst (λ (t : Tree). has_form s-Program t ≡ true) (finished-spread x) k.form in
       let r = program-run u Clean quiet parts_clean (program-exported (exported o h) form) k (subst (λ (t : Tree). Clean t) (sym (finished-spread x)) c) in
       (subst (λ (t : Tree). StepAlike false u t (finished y)) (finished-spread x) (subst (λ (t : Tree). StepAlike false u (finished (spread x)) t) (finished-spread y) r.0), subst (λ (t : Tree). Clean t) (finished-spread y) r.1)
 
-  pub namespace-runs : NamespaceRuns o no_all u Clean
-  namespace-runs = record { class = exports-class; clean = λ h k m c. (exports-run h k c).1; runs = λ {s} {s'} {x} {y} h k m c d. alike-under no_all u (finished x) (finished y) (exports-run h k c).0 }
+  -- where what is asked of programs on the way, with what is known of the whole, tells this and is kept
+  pub namespace-runs : (Asked : Whole → Tree → Type 0) → ((w : Whole) (t : Tree) → Asked w t → Clean t) → ((s s' : Ledger) (x y : Open) → Step (Exports o) the_program s x s' y → Known s (spread x) → Known s' (spread y) → Asked (whole_in s) (finished x) → Asked (whole_in s') (finished y)) → NamespaceRuns o no_all u Asked
+  namespace-runs Asked tells keeps = record {
+    class = exports-class;
+    clean = λ {s} {s'} {x} {y} h k m c. keeps s s' x y h k m c;
+    runs = λ {s} {s'} {x} {y} h k m c d. alike-under no_all u (finished x) (finished y) (exports-run h k (tells (whole_in s) (finished x) c)).0;
+  }

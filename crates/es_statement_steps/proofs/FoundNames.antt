@@ -24,7 +24,6 @@ use Rattle.es_resolution.specs.Declarations.{Bound, declared, declared_among, de
 use Rattle.es_resolution.specs.Resolved.{OwnRight, Place, Resolved, ResolvedAll, ResolvedBy, ResolvedIn, bound_by, frame, has_symbol, nowhere, or_around, place_in, var_frame, within}
 use Rattle.es_statement_runs.specs.BareVars.{names_around}
 use Rattle.es_statement_runs.specs.Helpers.{Supply, entry, silent_names}
-use Rattle.es_statement_runs.specs.Helpers.Supply.{no_helpers}
 use Rattle.es_statement_runs.specs.Kinds.{found, inside, kind_in}
 use Rattle.es_statement_runs.specs.Names.{declared_at_top, own_names, tops}
 use Rattle.es_statement_runs.specs.Programs.{is_statement_kind}
@@ -250,9 +249,6 @@ bounds_inside ds q _ ts fs ls i c n b x = b x
 abbrev pub SilentDeclared : Supply → Tree → Type 0
 SilentDeclared u t = (x : Text) → is_some (entry (silent_names u t) x) ≡ true → declares (declared_at_top t) x ≡ true
 
-pub none_silent : (t : Tree) → SilentDeclared no_helpers t
-none_silent t x h = absurd (cc h)
-
 pub bounds_top : (u : Supply) (this : Value) (t : Tree) → SilentDeclared u t → Bounds (declared_at_top t) (program_world u this t)
 bounds_top u this t silents x = at (entry (silent_names u t) x) (silents x)
   where
@@ -265,15 +261,3 @@ bounds_top u this t silents x = at (entry (silent_names u t) x) (silents x)
 pub record Seen (ds : List Declared) (p : Place) (w : World) : Type 0 where
   pub found : Finds ds p
   pub bound : Bounds ds w
-
--- so a name is free exactly where look-up finds no symbol for it
-pub seen_free : (ds : List Declared) (p : Place) (w : World) → Seen ds p w → (x : Text) → is_free (w.scope x) ≡ not (is_some (p.scope x))
-seen_free ds p w s x = s.bound x ∙ ap not (sym (s.found x))
-
-pub seen_top : (u : Supply) (this : Value) (l : Label) (fs : Fields) (i : ℕ) → all_nodes stands (node Program l fs) ≡ true → Resolved reads nowhere (node Program l fs) → SilentDeclared u (node Program l fs) →
-    Seen (tops fs) (place_in nowhere Program l (role_at reads Program l fs) fs i) (program_world u this (node Program l fs))
-seen_top u this l fs i h resolved silents = record { found = finds_top l fs i h resolved; bound = bounds_top u this (node Program l fs) silents }
-
-pub seen_inside : (ds : List Declared) (p : Place) (q : Site) (r : Role) (k : AstType) (l : Label) (fs : Fields) (ls : List Text) (i : ℕ) → is_program k ≡ false → all_nodes stands (node k l fs) ≡ true → ResolvedIn (role_at r k l fs) (place_in p k l (role_at r k l fs) fs) fs → Seen ds p q.world →
-    Seen (names_around k (own_names k fs) ds i) (place_in p k l (role_at r k l fs) fs i) (inside q k l.texts (own_names k fs) ls i).world
-seen_inside ds p q r k l fs ls i n h resolved s = record { found = finds_inside ds p r k l fs i s.found n h resolved; bound = bounds_inside ds q k l.texts fs ls i (standing k l fs h).class n s.bound }

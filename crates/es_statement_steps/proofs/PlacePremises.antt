@@ -42,13 +42,13 @@ resolved-below roles places (f then fs) h = (resolved-field (roles zero) (places
 
 -- NAMES AROUND
 
-abbrev is_no_cell : Text → Bool
+abbrev pub is_no_cell : Text → Bool
 is_no_cell x = not (is_own_cell x)
 
 abbrev Clean : List Declared → Type 0
 Clean ds = (y : Text) → declares ds y ≡ true → is_no_cell y ≡ true
 
-either-true : (a b c : Bool) → (a ≡ true → c ≡ true) → (b ≡ true → c ≡ true) → (a || b) ≡ true → c ≡ true
+pub either-true : (a b c : Bool) → (a ≡ true → c ≡ true) → (b ≡ true → c ≡ true) → (a || b) ≡ true → c ≡ true
 either-true true b c f g e = f refl
 either-true false b c f g e = g e
 

@@ -216,7 +216,7 @@ unbound n w bs t u (power_assignment free texts right alone object) = free.unbou
 
 pub raising-keeps : (no_all : Bool) → KeepsRuns no_all no_helpers true SoundRaising
 raising-keeps no_all = record {
-  alike = λ new n whole a b h t ds resolved found fine away quiet stack seen w v same known ls x.
+  alike = λ new n whole a b h t taken ds resolved found fine away quiet stack seen w v same known ls x.
       let rule = h.row.rule in
       let row = by-names n whole t new a b rule resolved in
       let free : is_free (w.scope (codes "Math")) ≡ true = known.bound (codes "Math") ∙ ap not (sym (found (codes "Math")) ∙ ap is_some (unbound n whole new a b rule)) in

@@ -32,7 +32,7 @@ use Rattle.es_statement_runs.proofs.Moved.Room.{open_room, closed_room}
 use Rattle.es_statement_steps.proofs.Below.{Below, BelowField, BelowTrees}
 use Rattle.es_statement_steps.proofs.FoundNames.{Finds, finds_top}
 use Rattle.es_statement_steps.proofs.Rooms.{IsProgram, NoList, NoLists, Stood, closed-room, formed-inside, no-body, opened-here, program-fields, program-first, program-longer, program-second, shut-unlisted, stays_put, stood-inside, unlisted}
-use Rattle.es_statement_steps.proofs.StepMoves.{Acted, AllDeclared, AreNew, Fine, Fresh, Listed, NodeRule, below-after, fine-inside, listed, resolved-after, sent, trees-moved}
+use Rattle.es_statement_steps.proofs.StepMoves.{Acted, AllDeclared, AreNew, Fine, Fresh, Listed, NodeRule, below-after, fine-inside, listed, resolved-after, sent, taken_at, trees-moved}
 
 -- what a step makes of a program
 pub record ProgramWent (hoisted : Bool) (M : List Bound → Trees → Trees → Type 0) (w : Whole) (x y : Tree) : Type 0 where
@@ -103,23 +103,23 @@ module _ (Q : Site → Ledger → Spot → Ledger → Spot → Type 0) (A : List
       (record { label = l; directives = ds; body = whole_list p y b ts; after = whole_list q y b us; first = refl; second = refl; new = h.new; are_new = h.are_new; moved = h.moved; declared = h.declared }))
 
   -- the list of a program, and its directives
-  in-program : {s s' : Ledger} {fs gs : OpenFields} (l : Label) (n : ℕ → Site) → FieldsStep Q n s fs s' gs → AreProperFields (is_body Program) fs → IsProgram (finished_fields fs) → is_target (n 1).above ≡ false → is_program_list (n 1).above ≡ true →
+  in-program : {s s' : Ledger} {fs gs : OpenFields} (l : Label) (n : ℕ → Site) → FieldsStep Q n s fs s' gs → AreProperFields (is_body Program) fs → IsProgram (finished_fields fs) → is_target (n 1).above ≡ false → is_program_list (n 1).above ≡ true → take the_value true ≡ taken_at (n 1).above →
       Below (λ i t. Stood Program (room_in open_room Program i) t) (finished_fields fs) → Below (λ i t. Fine t) (finished_fields fs) → Below (λ i t. Fine t) (finished_fields gs) → ResolvedIn (λ i. (n i).role) (λ i. (n i).names) (finished_fields fs) → ((i : ℕ) → Finds (tops (finished_fields fs)) (n i).names) →
       ProgramWent law.hoisted MovedProgram (whole_in s) (node Program l (finished_fields fs)) (node Program l (finished_fields gs))
-  in-program l n (in_first {f = f} {fs = fs} h) proper shape target top stood fine after resolved found = absurd (still-by h Program false proper.0 refl (program-first (finished_field f) (finished_fields fs) shape) stood.0)
-  in-program l n (in_later {f = f} (in_first {fs = ends} (in_program {p = p} {q = q} {y = y} {y' = y'} {b = b} {b' = b'} {ts = ts} {us = us} e h))) proper shape target top stood fine after resolved found =
+  in-program l n (in_first {f = f} {fs = fs} h) proper shape target top taken stood fine after resolved found = absurd (still-by h Program false proper.0 refl (program-first (finished_field f) (finished_fields fs) shape) stood.0)
+  in-program l n (in_later {f = f} (in_first {fs = ends} (in_program {p = p} {q = q} {y = y} {y' = y'} {b = b} {b' = b'} {ts = ts} {us = us} e h))) proper shape target top taken stood fine after resolved found =
       in-list l (finished_field f) (finished_trees ts) (finished_trees us) shape
-      (listed Q A law Program y b proper.1.0.0 (trees-moved Q A law h Program open_room (tops (finished_fields (f and (list p y b ts and ends)))) (take the_value true) proper.1.0.1 (below-after (Stood Program open_room) (pending_statements p y b) (finished_trees ts) stood.1.0) (below-after Fine (pending_statements p y b) (finished_trees ts) fine.1.0) (below-after Fine (pending_statements q y' b') (finished_trees us) after.1.0) (resolved-after (n 1).role (n 1).names (pending_statements p y b) (finished_trees ts) resolved.1.0) (found 1)))
-  in-program l n (in_later {f = f} (in_first {fs = ends} (in_list e e' h))) proper shape target top stood fine after resolved found = absurd (cc (e', top))
-  in-program l n (in_later {f = f} (in_first {fs = ends} (in_target e h))) proper shape target top stood fine after resolved found = absurd (cc (e, target))
-  in-program l n (in_later {f = f} (in_first {fs = ends} (acts_on_list {n = m} {s = s} {s' = s'} {p = p} {q = q} {x = x} {y = y} {a = a} {b = b} ts us h))) proper shape target top stood fine after resolved found = absurd (law.nodes m s s' (at_list p x a ts) (at_list q y b us) h)
-  in-program l n (in_later {f = f} (in_first {f = g} {fs = ends} (in_child h))) proper shape target top stood fine after resolved found = absurd (program-second (finished_field f) (finished_field g) done shape tt)
-  in-program l n (in_later {f = f} (in_first {f = g} {fs = ends} (in_children h))) proper shape target top stood fine after resolved found = absurd (program-second (finished_field f) (finished_field g) done shape tt)
-  in-program l n (in_later {f = f} (in_first {f = g} {fs = ends} (in_body e y y' h))) proper shape target top stood fine after resolved found = absurd (program-second (finished_field f) (finished_field g) done shape tt)
-  in-program l n (in_later {f = f} (in_first {f = g} {fs = ends} (acts_on_body t u h))) proper shape target top stood fine after resolved found = absurd (program-second (finished_field f) (finished_field g) done shape tt)
-  in-program l n (in_later {f = f} (in_first {f = g} {fs = i and gs} h)) proper shape target top stood fine after resolved found = absurd (program-longer (finished_field f) (finished_field g) (finished_field i) (finished_fields gs) shape)
-  in-program l n (in_later {f = f} (in_later {f = g} (in_first {f = i} {fs = gs} h))) proper shape target top stood fine after resolved found = absurd (program-longer (finished_field f) (finished_field g) (finished_field i) (finished_fields gs) shape)
-  in-program l n (in_later {f = f} (in_later {f = g} (in_later {f = i} {fs = gs} h))) proper shape target top stood fine after resolved found = absurd (program-longer (finished_field f) (finished_field g) (finished_field i) (finished_fields gs) shape)
+      (listed Q A law Program y b proper.1.0.0 (trees-moved Q A law h Program open_room (tops (finished_fields (f and (list p y b ts and ends)))) (take the_value true) taken proper.1.0.1 (below-after (Stood Program open_room) (pending_statements p y b) (finished_trees ts) stood.1.0) (below-after Fine (pending_statements p y b) (finished_trees ts) fine.1.0) (below-after Fine (pending_statements q y' b') (finished_trees us) after.1.0) (resolved-after (n 1).role (n 1).names (pending_statements p y b) (finished_trees ts) resolved.1.0) (found 1)))
+  in-program l n (in_later {f = f} (in_first {fs = ends} (in_list e e' h))) proper shape target top taken stood fine after resolved found = absurd (cc (e', top))
+  in-program l n (in_later {f = f} (in_first {fs = ends} (in_target e h))) proper shape target top taken stood fine after resolved found = absurd (cc (e, target))
+  in-program l n (in_later {f = f} (in_first {fs = ends} (acts_on_list {n = m} {s = s} {s' = s'} {p = p} {q = q} {x = x} {y = y} {a = a} {b = b} ts us h))) proper shape target top taken stood fine after resolved found = absurd (law.nodes m s s' (at_list p x a ts) (at_list q y b us) h)
+  in-program l n (in_later {f = f} (in_first {f = g} {fs = ends} (in_child h))) proper shape target top taken stood fine after resolved found = absurd (program-second (finished_field f) (finished_field g) done shape tt)
+  in-program l n (in_later {f = f} (in_first {f = g} {fs = ends} (in_children h))) proper shape target top taken stood fine after resolved found = absurd (program-second (finished_field f) (finished_field g) done shape tt)
+  in-program l n (in_later {f = f} (in_first {f = g} {fs = ends} (in_body e y y' h))) proper shape target top taken stood fine after resolved found = absurd (program-second (finished_field f) (finished_field g) done shape tt)
+  in-program l n (in_later {f = f} (in_first {f = g} {fs = ends} (acts_on_body t u h))) proper shape target top taken stood fine after resolved found = absurd (program-second (finished_field f) (finished_field g) done shape tt)
+  in-program l n (in_later {f = f} (in_first {f = g} {fs = i and gs} h)) proper shape target top taken stood fine after resolved found = absurd (program-longer (finished_field f) (finished_field g) (finished_field i) (finished_fields gs) shape)
+  in-program l n (in_later {f = f} (in_later {f = g} (in_first {f = i} {fs = gs} h))) proper shape target top taken stood fine after resolved found = absurd (program-longer (finished_field f) (finished_field g) (finished_field i) (finished_fields gs) shape)
+  in-program l n (in_later {f = f} (in_later {f = g} (in_later {f = i} {fs = gs} h))) proper shape target top taken stood fine after resolved found = absurd (program-longer (finished_field f) (finished_field g) (finished_field i) (finished_fields gs) shape)
 
   kind-program : (t : Tree) → has_form s-Program t ≡ true → kind_of t ≡ Program
   kind-program (node k l fs) h = (form-placed (node k l fs) h).0
@@ -132,6 +132,6 @@ module _ (Q : Site → Ledger → Spot → Ledger → Spot → Type 0) (A : List
       let no : stays_put (kind_of t) ≡ false = law.acts_on a.new the_program (whole_in s) t u a.rule in
       absurd (let yes : kind_of t ≡ Program = kind-program t (subst (λ (x : Tree). has_form s-Program x ≡ true) (finished-opened t) form) in let e : true ≡ false = sym (ap stays_put yes) ∙ no in cc e)
   program-moved (inside {k = Program} {l = l} {fs = fs} {gs = gs} h) proper form class fine after resolved =
-      in-program l (site_in the_program Program l fs) h proper (program-fields s-Program l (finished_fields fs) form) refl refl (formed-inside open_room s-Program Program l (finished_fields fs) form class refl)
+      in-program l (site_in the_program Program l fs) h proper (program-fields s-Program l (finished_fields fs) form) refl refl refl (formed-inside open_room s-Program Program l (finished_fields fs) form class refl)
       (fine-inside Program l (finished_fields fs) fine) (fine-inside Program l (finished_fields gs) after) resolved.2 (λ i. finds_top l (finished_fields fs) i fine resolved)
   program-moved (inside {k = k} {l = l} {fs = fs} h) proper form class fine after resolved = absurd (let no : false ≡ true = (node_form s-Program k l (finished_fields fs) form).sort in cc no)

@@ -3,6 +3,7 @@ use Rattle.std.proofs.Common.{arith, ◌≡◌, refl, sym, ap, subst, ◌∙◌,
 use Rattle.std.specs.Prelude.{Bool, true, ◌&&◌}
 use Rattle.es_tree.specs.Bare.{bare, bare_field, bare_fields, bare_label, bare_trees}
 use Rattle.es_tree.specs.HasForm.{has_form}
+use Rattle.es_tree.specs.StaticRules.{breaks}
 use Rattle.es_tree.specs.Tree.{Tree, node, Label, Fields, done, ◌then◌, Field, missing, one, many, statements, Trees, empty, ◌before◌, kind_of}
 use Rattle.es_tree.specs.Walks.{all_nodes, all_in_field, all_in_fields, all_in_trees}
 use Rattle.es_tree.specs.Words.{Text}
@@ -22,6 +23,8 @@ use Rattle.es_steps.specs.CoreBridge.{Reached, first_whole}
 use Rattle.es_steps.specs.Identifiers.{Passes, is_called}
 use Rattle.es_steps.specs.Laws.{IsWellBound}
 use Rattle.es_steps.specs.Open.{Open, finished, opened}
+use Rattle.es_steps.specs.Steps.{Whole}
+use Rattle.es_steps.specs.Steps.Steps.{stays}
 use Rattle.es_steps.proofs.BridgeInclusion.{all_under}
 use Rattle.es_steps.specs.AllRules.{AllRules}
 use Rattle.es_steps.proofs.FormOpen.{IsProper, opened-proper}
@@ -34,6 +37,7 @@ use Rattle.es_valid_steps.specs.Laws.{with_further_rules}
 use Rattle.es_valid_steps.specs.PlaceRules.{Keeps}
 use Rattle.es_valid_steps.proofs.Spread.{spread, spread-opened}
 use Rattle.es_valid_steps.proofs.Visits.{law_among_proof, law_places_proof}
+use Rattle.es_valid_names.proofs.BareNames.{law_bare_declared_proof, law_declared_among_proof, law_together_proof}
 use Rattle.es_reached.specs.Reached.{built_rules}
 use Rattle.es_reached.proofs.BarePlaces.{law_bare_places_proof}
 use Rattle.es_reached.proofs.Sources.{law_bare_source_proof}
@@ -75,6 +79,10 @@ source-bare p = sym (law_bare_source_proof p)
 
 source-class : (p : Tree) → Class p → Class (source p)
 source-class p h = sym (class-bare (source p)) ∙ ap (λ t. all_nodes is_statement_node t) (sym (source-bare p)) ∙ class-bare p ∙ h
+
+-- and breaks no static rule
+rules-bare : (t u : Tree) → bare t ≡ bare u → breaks t ≡ [] → breaks u ≡ []
+rules-bare t u same h = law_together_proof u (law_bare_places_proof t u same (law_among_proof t h)) (law_bare_declared_proof t u same (law_declared_among_proof t h))
 
 source-form : (p : Tree) → has_form s-Program p ≡ true → has_form s-Program (source p) ≡ true
 source-form p h = sym (has_form-bare s-Program (source p)) ∙ ap (has_form s-Program) (sym (source-bare p)) ∙ has_form-bare s-Program p ∙ h
@@ -145,7 +153,7 @@ source-alike no_all u p form silent =
 
 -- STEPS
 
-pub reached-runs : (o : EnvOptions) (no_all : Bool) (u : Supply) (Clean : Tree → Type 0) → AloneRuns o no_all u Clean → NamespaceRuns o no_all u Clean → (p q : Tree) (names : List Text) → IsStatementProgram p → AllSilent u p → Clean (source p) → Reached (built_rules o) p (first_whole p) names q → StepAlike no_all u p q
+pub reached-runs : (o : EnvOptions) (no_all : Bool) (u : Supply) (Clean : Whole → Tree → Type 0) → AloneRuns o no_all u Clean → NamespaceRuns o no_all u Clean → (p q : Tree) (names : List Text) → IsStatementProgram p → AllSilent u p → Clean (first_whole p) (source p) → Reached (built_rules o) p (first_whole p) names q → StepAlike no_all u p q
 reached-runs o no_all u Clean alone exports p q names h silent clean reached =
     let w = first_whole p in
     let w' = reached.whole in
@@ -164,9 +172,10 @@ reached-runs o no_all u Clean alone exports p q names h silent clean reached =
       keeps = subst (λ (x : Tree). Keeps [] x) (sym spread_same) ((law_places_proof t).to_places places);
       class = subst (λ (x : Tree). Class x) (sym spread_same) (source-class p h.without_functions);
     } in
-    let led = composed o no_all u Clean alone exports w'.called reached.steps (λ m e. refl) (ap (λ (a : Tree). is_var_scope (kind_of a)) (finished-opened t) ∙ ap is_var_scope (program-kind t form))
+    let rules = rules-bare p t (source-bare p) h.rules in
+    let led = composed o no_all u Clean alone exports t w form rules bound w'.called stays refl reached.steps (λ m e. refl) (ap (λ (a : Tree). is_var_scope (kind_of a)) (finished-opened t) ∙ ap is_var_scope (program-kind t form))
     (opens (λ a. Named w.in_use w.free_symbol reads a) bound.named) (none-beside (is_called w'.called) w) (opens (λ a. Passes (is_called w'.called) a) called) (opens (λ a. IsResolved a) bound.resolved)
-    (record { vars = refl; this = refl }) shaped (opens Clean clean) in
+    (record { vars = refl; this = refl }) shaped (opens (Clean w) clean) in
     then-alike no_all u p t q (source-alike no_all u p h.form silent) (subst (λ (x : Tree). StepAlike no_all u x q) (finished-opened t) (subst (λ (y : Tree). StepAlike no_all u (finished (opened t)) y) (finished-opened q) led))
   where
     program-kind : (t : Tree) → has_form s-Program t ≡ true → kind_of t ≡ Program

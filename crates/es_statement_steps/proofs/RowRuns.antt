@@ -47,7 +47,7 @@ use Rattle.es_statement_steps.proofs.FreshNames.{top_used, unused_avoids}
 use Rattle.es_statement_steps.proofs.TopNames.{hoisted_top}
 use Rattle.es_statement_steps.proofs.MadeNames.{all_made, made_math, made_program_names, made_supply}
 use Rattle.es_statement_steps.proofs.ProgramMoves.{MovedProgram, ProgramWent}
-use Rattle.es_statement_steps.proofs.StepMoves.{Acted, AllDeclared, AreNew, Fine, NodeRule, both-mute, sent}
+use Rattle.es_statement_steps.proofs.StepMoves.{Acted, AllDeclared, AreNew, Fine, NodeRule, both-mute, sent, taken_at}
 
 -- THE TWO WORLDS of a place where the scopes around declare ds: the made names are changeable names of the second, where they are declared by `var`; the
 -- names ds alone are bound in the first; made names stand for no helper; both count `document.all` where a value may be it; and no
@@ -100,7 +100,7 @@ known-inside no_all hoisted xs ds es good w v k = record {
 -- WHAT A ROW OWES: wherever it acts, its two sides are alike
 
 pub record KeepsRuns (no_all : Bool) (u : Supply) (hoisted : Bool) (A : List Bound → Site → Whole → Tree → Tree → Type 0) : Type 0 where
-  pub alike : (new : List Bound) (n : Site) (whole : Whole) (a b : Tree) → A new n whole a b → (t : Take) (ds : List Declared) → Resolved n.role n.names a → Finds ds n.names → Fine a → avoids (bad_temporaries (names_among new)) t a ≡ true →
+  pub alike : (new : List Bound) (n : Site) (whole : Whole) (a b : Tree) → A new n whole a b → (t : Take) → t ≡ taken_at n.above → (ds : List Declared) → Resolved n.role n.names a → Finds ds n.names → Fine a → avoids (bad_temporaries (names_among new)) t a ≡ true →
       Quiet (temporaries_frame hoisted (names_among new)) → StackSeen (temporaries_frame hoisted (names_among new)) → SupplySeen (temporaries_frame hoisted (names_among new)) u →
       (w v : World) → SameWorld (among_names (names_among new)) w v → WorldsKnown no_all hoisted (names_among new) ds w v → (ls : List Text) (x : Text) →
       SenseLike (temporaries_frame hoisted (names_among new)) w v t (sense (placed_at u w ls x) a) (sense (placed_at u v ls x) b)
@@ -226,7 +226,7 @@ module _ (no_all : Bool) (u : Supply) (Q : Site → Ledger → Spot → Ledger �
   ActedAway es t a b = Acted A new es t a b × (avoids (bad_temporaries xs) t a ≡ true)
 
   row-like : (es : List Declared) (t : Take) (a b : Tree) → ActedAway es t a b → (w v : World) → SameWorld (among_names xs) w v → WorldsKnown no_all hoisted xs es w v → (ls : List Text) (x : Text) → SenseLike F w v t (sense (placed_at u w ls x) a) (sense (placed_at u v ls x) b)
-  row-like es t a b h w v same known ls x = keeps.alike new h.0.site h.0.whole a b h.0.rule t es h.0.resolved h.0.found h.0.stood h.1 quiet stack seen w v same known ls x
+  row-like es t a b h w v same known ls x = keeps.alike new h.0.site h.0.whole a b h.0.rule t h.0.taken es h.0.resolved h.0.found h.0.stood h.1 quiet stack seen w v same known ls x
 
   tops-more : MoreDeclared (codes "var") xs (top_in body) (top_in after)
   tops-more = tops_more xs (Acted A new) mute moved

@@ -49,7 +49,7 @@ pub record Operands (n : Site) (w : Whole) (a : Tree) : Type 0 where
   pub place : Place n w a
   pub unwritten : (t : Take) → avoids (bad_names none_hidden (steady_names w n.names.scope)) t a ≡ true
 
-steady-some : (w : Whole) (s : Option ℕ) → is_among_symbols w.steady s ≡ true → is_some s ≡ true
+pub steady-some : (w : Whole) (s : Option ℕ) → is_among_symbols w.steady s ≡ true → is_some s ≡ true
 steady-some w (Some s) h = refl
 steady-some w None h = absurd (cc h)
 

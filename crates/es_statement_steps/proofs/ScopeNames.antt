@@ -73,10 +73,6 @@ module _ (x : Text) where
 
   -- THE SCOPES OF NODES
 
-  -- what stands in a field in which no declaration stands
-  plain_child : (k : AstType) (i : ℕ) (t : Tree) → Child k i t → takes k i (kind_of t) ≡ false → is_plain (kind_of t) (word_of t) ≡ true
-  plain_child k i t c e = c.stands_there.plain e
-
   -- in a list or a head of such a node
   listed_child : (k : AstType) (i : ℕ) (t : Tree) → ((j : AstType) → takes k i j ≡ is_declaration j) → Child k i t → Listed t
   listed_child k i t e c = record { plain = λ n. c.stands_there.plain (e (kind_of t) ∙ n); nodes = c.nodes }

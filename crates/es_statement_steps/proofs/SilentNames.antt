@@ -13,12 +13,10 @@ use Rattle.es_runs.specs.Core.{Silent}
 use Rattle.es_runs.specs.Core.Silent.{keys_name}
 use Rattle.es_runs.specs.Machine.{Values}
 use Rattle.es_resolution.proofs.Basics.{bytes_eq-equal}
-use Rattle.es_statement_runs.specs.Helpers.{Supply, binds_constant, constant_by, constant_where, constants_by, constants_in, entry, key_places, occurrences, one_where, only_excludes, program_list, silent_names, texts_of}
-use Rattle.es_statement_runs.specs.Helpers.Supply.{by_global}
+use Rattle.es_statement_runs.specs.Helpers.{Supply, binds_constant, constant_by, constant_where, constants_by, constants_in, entry, key_places, occurrences, one_where, only_excludes, program_list, texts_of}
 use Rattle.es_statement_runs.specs.Laws.{is_silent}
 use Rattle.es_statement_runs.specs.Names.{binding_word, declarator_bound, declarators_names, declared_as, declared_at_top, top_in, top_names}
 use Rattle.es_statement_steps.proofs.DeclaredNames.{declares_append}
-use Rattle.es_statement_steps.proofs.FoundNames.{SilentDeclared}
 
 -- a name that stands nowhere in a list of names stands there no time
 none_occur : (x : Text) (ys : List Text) → is_among ys x ≡ false → occurrences x ys ≡ 0
@@ -77,9 +75,6 @@ module _ (x : Text) where
     lacks_list empty = refl
     lacks_list (node VariableDeclaration l (many ds then fs) before ts) = lacks_append (if binds_constant (first_text l.texts) then constants_by u hs p ds else []) (constants_in u hs p ts) (lacks_if (binds_constant (first_text l.texts)) (constants_by u hs p ds) (lacks_all ds)) (lacks_list ts)
     lacks_list (t before ts) = lacks_list ts
-
-pub away_not_silent : (x : Text) (p : Tree) → is_among (names_of p) x ≡ false → is_silent (silent_names by_global p) x ≡ false
-away_not_silent x p away = lacks_list x by_global [] p away (program_list p)
 
 -- SUCH A NAME IS DECLARED at the top of the program
 
@@ -142,6 +137,3 @@ module _ (x : Text) where
 listed_tops : (p : Tree) → top_in (program_list p) ≡ declared_at_top p
 listed_tops (node k l (f then (statements ts then fs))) = refl
 listed_tops (node k l _) = refl
-
-pub silent_declared : (p : Tree) → SilentDeclared by_global p
-silent_declared p x e = ap (λ ds. declares ds x) (sym (listed_tops p)) ∙ covers_list x by_global [] p (program_list p) e

@@ -36,7 +36,7 @@ use Rattle.es_statement_steps.proofs.Rooms.{stays_put}
 use Rattle.es_statement_steps.proofs.RowRuns.{KeepsRuns, WorldsKnown, bad_temporaries, temporaries_frame}
 use Rattle.es_statement_steps.proofs.SpreadParts.{is_copy, spread-copy}
 use Rattle.es_statement_steps.proofs.Stands.{is_inner}
-use Rattle.es_statement_steps.proofs.StepMoves.{AreNew, Fine}
+use Rattle.es_statement_steps.proofs.StepMoves.{AreNew, Fine, taken_at}
 
 abbrev helper : Tree
 helper = helper_node (codes "objectSpread2")
@@ -136,11 +136,11 @@ spread-shape = record { acts_on = acts; new_names = news; first = first; second 
 
 -- ITS SIDES ARE ALIKE, where the object of all helpers is unbound
 
-spread-alike : (no_all : Bool) (new : List Bound) (n : Site) (whole : Whole) (a b : Tree) → SpreadRule n whole new a b → (t : Take) (ds : List Declared) → Resolved n.role n.names a → Finds ds n.names → Fine a → avoids (bad_temporaries (names_among new)) t a ≡ true →
+spread-alike : (no_all : Bool) (new : List Bound) (n : Site) (whole : Whole) (a b : Tree) → SpreadRule n whole new a b → (t : Take) → t ≡ taken_at n.above → (ds : List Declared) → Resolved n.role n.names a → Finds ds n.names → Fine a → avoids (bad_temporaries (names_among new)) t a ≡ true →
     Quiet (temporaries_frame true (names_among new)) → StackSeen (temporaries_frame true (names_among new)) → SupplySeen (temporaries_frame true (names_among new)) by_global →
     (w v : World) → SameWorld (among_names (names_among new)) w v → WorldsKnown no_all true (names_among new) ds w v → (ls : List Text) (y : Text) →
     SenseLike (temporaries_frame true (names_among new)) w v t (sense (placed_at by_global w ls y) a) (sense (placed_at by_global v ls y) b)
-spread-alike no_all new n whole a _ (spreads {m = m} {ps = ps} {u = u} scope used some none made_so) t ds resolved found fine away quiet stack seen w v same known ls y =
+spread-alike no_all new n whole a _ (spreads {m = m} {ps = ps} {u = u} scope used some none made_so) t taken ds resolved found fine away quiet stack seen w v same known ls y =
     let h = before-copy u [] ps made_so some in
     let undeclared : declares ds (codes "babelHelpers") ≡ false = sym (found (codes "babelHelpers")) ∙ ap is_some scope in
     let free : is_free (v.scope (codes "babelHelpers")) ≡ true = ap is_free (same.scope (codes "babelHelpers") refl) ∙ known.bound (codes "babelHelpers") ∙ ap not undeclared in

@@ -11,7 +11,7 @@ use Rattle.es_tree.specs.Tree.{Tree, node, Label, Fields, done, ◌then◌, Fiel
 use Rattle.es_tree.specs.Walks.{all_nodes, all_in_field, all_in_fields, all_in_trees}
 use Rattle.es_tree.specs.Words.{Text}
 use Rattle.es_tree.specs.declared.ast_type.AstType.{AstType}
-use Rattle.es_tree.specs.declared.ast_type.AstType.TheVariants.{Program, BlockStatement, VariableDeclaration, VariableDeclarator, IfStatement, ForStatement, ForInStatement, ForOfStatement, WhileStatement, DoWhileStatement, LabeledStatement, SwitchStatement, SwitchCase, CatchClause, ImportDeclaration, ImportSpecifier, ImportDefaultSpecifier, ImportNamespaceSpecifier, ExportNamedDeclaration, ArrayExpression, ArrayPattern, ArrayTarget, ObjectProperty, MetaProperty, UpdateExpression, ParenthesizedExpression, ChainExpression, AssignmentExpression, CallExpression}
+use Rattle.es_tree.specs.declared.ast_type.AstType.TheVariants.{Program, BlockStatement, VariableDeclaration, VariableDeclarator, IfStatement, ForStatement, ForInStatement, ForOfStatement, WhileStatement, DoWhileStatement, LabeledStatement, SwitchStatement, SwitchCase, CatchClause, ImportDeclaration, ImportSpecifier, ImportDefaultSpecifier, ImportNamespaceSpecifier, ExportNamedDeclaration, ArrayExpression, ArrayPattern, ArrayTarget, ObjectProperty, MetaProperty, UpdateExpression, ParenthesizedExpression, ChainExpression, AssignmentExpression, CallExpression, TaggedTemplateExpression}
 use Rattle.es_tree.specs.declared.table.Sort.TheVariants.{Directive as s-Directive, Expression as s-Expression, Identifier as s-Identifier, ModuleExportName as s-ModuleExportName, Program as s-Program, Statement as s-Statement}
 use Rattle.es_semantic.proofs.FormEdges.{Edges, EdgesAll, EdgesBy, EdgesIn, ElementsFit, TableFits, edges-inside, elements-are, entries_fit}
 use Rattle.es_resolution.proofs.AllForms.{All, AllAmong, AllBy, AllIn, all-tree}
@@ -295,6 +295,8 @@ formed CallExpression l (one t then (one u then fs)) h = absurd (false≢true (l
 formed CallExpression l (one t then (statements ts then fs)) h = absurd (false≢true (later _ false h))
 formed CallExpression l (one t then done) h = absurd (false≢true (later _ false h))
 formed CallExpression l fs h = absurd (false≢true h)
+formed TaggedTemplateExpression l (one t then fs) h = refl
+formed TaggedTemplateExpression l fs h = absurd (false≢true h)
 formed _ l fs h = refl
 
 -- PROGRAMS

@@ -352,6 +352,8 @@ shaped AssignmentExpression (one t then (one r then done)) = true
 shaped AssignmentExpression fs = false
 shaped CallExpression (one f then (many ts then done)) = true
 shaped CallExpression fs = false
+shaped TaggedTemplateExpression (one t then fs) = true
+shaped TaggedTemplateExpression fs = false
 shaped k fs = true
 
 abbrev pub stands : AstType → Label → Fields → Bool
@@ -390,7 +392,7 @@ not_true : (a : Bool) → not a ≡ true → a ≡ false
 not_true true h = absurd (cc h)
 not_true false h = refl
 
-implied : (a b : Bool) → (not a || b) ≡ true → a ≡ true → b ≡ true
+pub implied : (a b : Bool) → (not a || b) ≡ true → a ≡ true → b ≡ true
 implied true b h e = h
 implied false b h e = absurd (cc e)
 

@@ -27,7 +27,7 @@ use Rattle.es_statement_steps.proofs.Below.{Below, BelowField, BelowTrees, both_
 use Rattle.es_statement_steps.proofs.DeclaredNames.{from_children, role_inner_by}
 use Rattle.es_statement_steps.proofs.FoundNames.{resolved_below, scope_at}
 use Rattle.es_statement_steps.proofs.FreshNames.{IsGood, named_good, names_told}
-use Rattle.es_statement_steps.proofs.Stands.{is_inner, is_program, standing, stands, takes_target}
+use Rattle.es_statement_steps.proofs.Stands.{is_inner, is_program, standing, stands}
 
 abbrev pub is_bound : Role → Bool
 is_bound (Binds b) = true
@@ -59,67 +59,72 @@ inner_scope p k l roles fs i c e =
     scope_at p k l roles fs i c (inner_program k e)
     ∙ ap (λ b. if b && is_inside k i then within (declared_in false (is_inside k) roles fs) p.scope else p.scope) (no_scope k c e)
 
+-- symbols that aren't written in a node aren't in what stands in it
+module _ (S : ℕ → Type 0) where
+  abbrev pub NoneWritten : Role → Tree → Type 0
+  NoneWritten r t = (s : ℕ) → S s → is_written s r t ≡ false
+
+  none_trees : (r : Role) (ts : Trees) → ((s : ℕ) → S s → is_written_among s r ts ≡ false) → BelowTrees (NoneWritten r) ts
+  none_trees r empty h = tt
+  none_trees r (t before ts) h = ((λ s e. (or_parts (is_written s r t) (is_written_among s r ts) (h s e)).0), none_trees r ts (λ s e. (or_parts (is_written s r t) (is_written_among s r ts) (h s e)).1))
+
+  none_field : (r : Role) (w : Field) → ((s : ℕ) → S s → is_written_by s r w ≡ false) → BelowField (NoneWritten r) w
+  none_field r missing h = tt
+  none_field r (one t) h = h
+  none_field r (many ts) h = none_trees r ts h
+  none_field r (statements ts) h = none_trees r ts h
+
+  pub none_below : (roles : ℕ → Role) (fs : Fields) → ((s : ℕ) → S s → is_written_in s roles fs ≡ false) → Below (λ i. NoneWritten (roles i)) fs
+  none_below roles done h = tt
+  none_below roles (w then fs) h = (
+    none_field (roles zero) w (λ s e. (or_parts (is_written_by s (roles zero) w) (is_written_in s (λ i. roles (suc i)) fs) (h s e)).0),
+    none_below (λ i. roles (suc i)) fs (λ s e. (or_parts (is_written_by s (roles zero) w) (is_written_in s (λ i. roles (suc i)) fs) (h s e)).1),
+  )
+
 -- f: what names find; frozen: names that find a symbol
 module _ (f : Text → Option ℕ) (frozen : Text → Bool) (found : (x : Text) → frozen x ≡ true → is_some (f x) ≡ true) where
-  -- none of their symbols is written
-  abbrev pub Unwritten : Role → Tree → Type 0
-  Unwritten r t = (s : ℕ) (x : Text) → frozen x ≡ true → f x ≡ Some s → is_written s r t ≡ false
+  -- what one of them finds
+  abbrev pub IsFrozen : ℕ → Type 0
+  IsFrozen s = (x : Text) × (frozen x ≡ true) × (f x ≡ Some s)
 
   -- what binds or writes isn't one of these names
   abbrev pub IsSteady : Role → Label → Type 0
   IsSteady r l = is_aimed r ≡ true → frozen (first_text l.texts) ≡ false
-
-  unwritten_trees : (r : Role) (ts : Trees) → ((s : ℕ) (x : Text) → frozen x ≡ true → f x ≡ Some s → is_written_among s r ts ≡ false) → BelowTrees (Unwritten r) ts
-  unwritten_trees r empty h = tt
-  unwritten_trees r (t before ts) h = ((λ s x e g. (or_parts (is_written s r t) (is_written_among s r ts) (h s x e g)).0), unwritten_trees r ts (λ s x e g. (or_parts (is_written s r t) (is_written_among s r ts) (h s x e g)).1))
-
-  unwritten_field : (r : Role) (w : Field) → ((s : ℕ) (x : Text) → frozen x ≡ true → f x ≡ Some s → is_written_by s r w ≡ false) → BelowField (Unwritten r) w
-  unwritten_field r missing h = tt
-  unwritten_field r (one t) h = h
-  unwritten_field r (many ts) h = unwritten_trees r ts h
-  unwritten_field r (statements ts) h = unwritten_trees r ts h
-
-  unwritten_below : (roles : ℕ → Role) (fs : Fields) → ((s : ℕ) (x : Text) → frozen x ≡ true → f x ≡ Some s → is_written_in s roles fs ≡ false) → Below (λ i. Unwritten (roles i)) fs
-  unwritten_below roles done h = tt
-  unwritten_below roles (w then fs) h = (
-    unwritten_field (roles zero) w (λ s x e g. (or_parts (is_written_by s (roles zero) w) (is_written_in s (λ i. roles (suc i)) fs) (h s x e g)).0),
-    unwritten_below (λ i. roles (suc i)) fs (λ s x e g. (or_parts (is_written_by s (roles zero) w) (is_written_in s (λ i. roles (suc i)) fs) (h s x e g)).1),
-  )
 
   -- a name that is written here and found is a symbol that is written
   written_here : (l : Label) (o : Option ℕ) → symbol_of l ≡ o → is_some o ≡ true → ((s : ℕ) → o ≡ Some s → (true && is_symbol s (symbol_of l)) ≡ false) → ⊥
   written_here l (Some s) e h g = let no : is_symbol s (symbol_of l) ≡ false = g s refl in let yes : is_symbol s (symbol_of l) ≡ true = ap (is_symbol s) e ∙ eq-eqb s s refl in absurd (cc (no, yes))
   written_here l None e h g = absurd (cc h)
 
-  own_steady : (p : Place) (r : Role) (k : AstType) (l : Label) → p.scope ≡ f → OwnRight p r k l → is_bound r ≡ false → ((s : ℕ) (x : Text) → frozen x ≡ true → f x ≡ Some s → own_writes s r k l ≡ false) → OwnAt IsSteady r k l
+  own_steady : (p : Place) (r : Role) (k : AstType) (l : Label) → p.scope ≡ f → OwnRight p r k l → is_bound r ≡ false → ((s : ℕ) → IsFrozen s → own_writes s r k l ≡ false) → OwnAt IsSteady r k l
   own_steady p (Binds b) Identifier l e h n w = absurd (cc n)
   own_steady p (Refers fl) Identifier l e h n w = λ a. at (frozen (first_text l.texts)) refl a
     where
       at : (c : Bool) → frozen (first_text l.texts) ≡ c → fl.write ≡ true → c ≡ false
       at false g a = refl
-      at true g a = absurd (written_here l (f (first_text l.texts)) (h ∙ ap (λ (m : Text → Option ℕ). m (first_text l.texts)) e) (found (first_text l.texts) g) (λ s q. ap (λ b. b && is_symbol s (symbol_of l)) (sym a) ∙ w s (first_text l.texts) g q))
+      at true g a = absurd (written_here l (f (first_text l.texts)) (h ∙ ap (λ (m : Text → Option ℕ). m (first_text l.texts)) e) (found (first_text l.texts) g) (λ s q. ap (λ b. b && is_symbol s (symbol_of l)) (sym a) ∙ w s (first_text l.texts, g, q)))
   own_steady p _ Identifier l e h n w = λ a. absurd (cc a)
   own_steady p r _ l e h n w = tt
 
   abbrev Steady : Tree → Type 0
-  Steady t = (r : Role) (p : Place) → p.scope ≡ f → Resolved r p t → is_bound r ≡ false → is_inner (kind_of t) ≡ true → all_nodes stands t ≡ true → Unwritten r t → AtNames IsSteady r t
+  Steady t = (r : Role) (p : Place) → p.scope ≡ f → Resolved r p t → is_bound r ≡ false → is_inner (kind_of t) ≡ true → all_nodes stands t ≡ true → NoneWritten IsFrozen r t → AtNames IsSteady r t
 
   steady_at : (k : AstType) (l : Label) (fs : Fields) → Below (λ i. Steady) fs → Steady (node k l fs)
   steady_at k l fs below r p e resolved n inner h w =
       let s = standing k l fs h in
       let roles = role_at r k l fs in
       let places = place_in p k l roles fs in (
-        own_steady p r k l e resolved.0 n (λ m x d g. (or_parts (own_writes m r k l) (is_written_in m roles fs) (w m x d g)).0),
+        own_steady p r k l e resolved.0 n (λ m d. (or_parts (own_writes m r k l) (is_written_in m roles fs) (w m d)).0),
         below_names IsSteady roles fs
-            (from_children k l fs (λ i t. Steady t × (Resolved (roles i) (places i) t × Unwritten (roles i) t)) (λ i t. AtNames IsSteady (roles i) t) s
-            (both_below (λ i. Steady) (λ i t. Resolved (roles i) (places i) t × Unwritten (roles i) t) fs below
-            (both_below (λ i t. Resolved (roles i) (places i) t) (λ i. Unwritten (roles i)) fs (resolved_below roles places fs resolved.2)
-            (unwritten_below roles fs (λ m x d g. (or_parts (own_writes m r k l) (is_written_in m roles fs) (w m x d g)).1))))
+            (from_children k l fs (λ i t. Steady t × (Resolved (roles i) (places i) t × NoneWritten IsFrozen (roles i) t)) (λ i t. AtNames IsSteady (roles i) t) s
+            (both_below (λ i. Steady) (λ i t. Resolved (roles i) (places i) t × NoneWritten IsFrozen (roles i) t) fs below
+            (both_below (λ i t. Resolved (roles i) (places i) t) (λ i. NoneWritten IsFrozen (roles i)) fs (resolved_below roles places fs resolved.2)
+            (none_below IsFrozen roles fs (λ m d. (or_parts (own_writes m r k l) (is_written_in m roles fs) (w m d)).1))))
             (λ i t q c. q.0 (roles i) (places i) (inner_scope p k l roles fs i s.class inner ∙ e) q.1.0 (role_inner_by is_bound (λ read write. refl) refl r k l fs i s.class inner n) (c.stands_there.inner inner) c.nodes q.1.1)),
       )
 
   -- none of the names binds or writes
-  pub steady_names : (r : Role) (p : Place) (t : Tree) → p.scope ≡ f → Resolved r p t → is_bound r ≡ false → is_inner (kind_of t) ≡ true → all_nodes stands t ≡ true → Unwritten r t → AtNames IsSteady r t
+  pub steady_names : (r : Role) (p : Place) (t : Tree) → p.scope ≡ f → Resolved r p t → is_bound r ≡ false → is_inner (kind_of t) ≡ true → all_nodes stands t ≡ true → NoneWritten IsFrozen r t → AtNames IsSteady r t
   steady_names r p t = by_parts Steady steady_at t r p
 
 -- NAMES THAT AREN'T IN USE, AND STEADY ONES: the first stand nowhere in an expression, and the others are no targets
@@ -142,8 +147,4 @@ pub steady_avoids : (in_use : Text → Bool) (free : ℕ) (hidden frozen : Text 
 steady_avoids in_use free hidden frozen away r n p t found suits named resolved unbound inner h unwritten =
     let bad : Level → Text → Bool = bad_names hidden frozen in
     names_avoid is_aimed aims_pass bad (λ q m. IsGood in_use free bad q m × IsSteady p.scope frozen found q m) (λ q m l e a d. steady_good in_use hidden frozen away q m (first_text l.texts) e a d.0.0 d.1) r n t
-    (both_names (IsGood in_use free bad) (IsSteady p.scope frozen found) r t (named_good in_use free bad r t named (names_told hidden frozen t)) (steady_names p.scope frozen found r p t refl resolved unbound inner h unwritten)) suits h
-
--- an expression that is evaluated suits
-pub value_suits : (r : Role) (n : Take) (k : AstType) → (r ≡ Nothing → ⊥) → (n.need.level ≡ a_target → ⊥) → takes_target k ≡ false → Suits is_aimed r n k
-value_suits r n k named evaluated pattern = record { told = λ e. absurd (named e); target = λ e a. absurd (evaluated e); pattern = λ e. absurd (cc (pattern, e)) }
+    (both_names (IsGood in_use free bad) (IsSteady p.scope frozen found) r t (named_good in_use free bad r t named (names_told hidden frozen t)) (steady_names p.scope frozen found r p t refl resolved unbound inner h (λ s q. unwritten s q.0 q.1 q.2))) suits h

@@ -2,13 +2,14 @@
 use Rattle.std.proofs.Common.{inl, inr, ◌≡◌, ℕ, zero, suc, refl, sym, ap, subst, ◌∙◌, List, [], ◌∷◌, ◌++◌}
 use Rattle.std.specs.Prelude.{◌⊎◌, ◌||◌, Bool, true, false, not, Option, None, bytes_eq, codes, map, if◌then◌else◌}
 use Rattle.std.proofs.lemmas.List.{append_assoc}
+use Rattle.es_tree.specs.Ancestors.{Ancestor}
 use Rattle.es_tree.specs.HasForm.{has_form, same_type}
 use Rattle.es_tree.specs.Scopes.{Declared, declares}
 use Rattle.es_tree.specs.Tree.{Tree, node, Label, Fields, done, ◌then◌, Field, missing, one, many, statements, Trees, empty, ◌before◌, kind_of, trees}
 use Rattle.es_tree.specs.Walks.{all_nodes}
 use Rattle.es_tree.specs.Words.{Text}
 use Rattle.es_tree.specs.declared.ast_type.AstType.{AstType}
-use Rattle.es_tree.specs.declared.ast_type.AstType.TheVariants.{BlockStatement, ImportDeclaration, Program, SwitchCase, VariableDeclaration}
+use Rattle.es_tree.specs.declared.ast_type.AstType.TheVariants.{BlockStatement, Program, SwitchCase, VariableDeclaration}
 use Rattle.es_runs.specs.Alike.{the_value}
 use Rattle.es_runs.proofs.Temporary.{bytes_eq-flip, bytes_eq-self}
 use Rattle.es_statement_steps.proofs.DeclaredNames.{declares_append}
@@ -31,17 +32,16 @@ use Rattle.es_steps.proofs.FormOpen.{AreProperFields, AreProperTrees, IsProper, 
 use Rattle.es_steps.proofs.FormRules.{AtNodes, no-names}
 use Rattle.es_steps.proofs.Opened.{finished-opened}
 use Rattle.es_steps.proofs.Taken.{pending_in, this_in, top_in, whole_in}
-use Rattle.es_statement_runs.specs.BareVars.{GrownDeclarators, names_around}
-use Rattle.es_statement_runs.specs.BareVars.GrownDeclarators.{as_named, none_grown, one_grown}
+use Rattle.es_statement_runs.specs.BareVars.{names_around}
 use Rattle.es_statement_runs.specs.Laws.{among_names}
 use Rattle.es_statement_runs.specs.Names.{declarators_names, lexical_in, own_names, var_names, var_names_all, var_names_at, var_names_in}
 use Rattle.es_statement_runs.specs.Places.{Take, take, takes_of, value_taken}
-use Rattle.es_statement_runs.proofs.Moved.{BothMute, Moved, MovedField, MovedFields, MovedList, MovedTrees, Room, field_self, fields_self, is_mute, list_self, moved_self, opened_room, room_in, trees_self}
+use Rattle.es_statement_runs.proofs.Moved.{BothMute, Moved, MovedField, MovedFields, MovedList, MovedTrees, Room, field_self, fields_self, list_self, moved_self, opened_room, room_in, trees_self}
 use Rattle.es_statement_runs.proofs.Moved.Moved.{moved_block, moved_case, moved_node, moved_place}
 use Rattle.es_statement_runs.proofs.Moved.MovedField.{moved_many, moved_one}
 use Rattle.es_statement_runs.proofs.Moved.MovedFields.{moved_then}
-use Rattle.es_statement_runs.proofs.Moved.MovedList.{moved_end, moved_grown, moved_new, moved_statement}
-use Rattle.es_statement_runs.proofs.Moved.MovedTrees.{moved_before, moved_empty}
+use Rattle.es_statement_runs.proofs.Moved.MovedTrees.{moved_before}
+use Rattle.es_statement_steps.proofs.ListMoves.{AllFresh, whole-moved}
 use Rattle.es_statement_steps.proofs.MadeNames.{all_made}
 use Rattle.es_statement_steps.proofs.Below.{Below, BelowField, BelowTrees, nodes_below}
 use Rattle.es_statement_steps.proofs.FoundNames.{Finds, finds_inside}
@@ -82,81 +82,6 @@ pub record NodeRule (Q : Site → Ledger → Spot → Ledger → Spot → Type 0
 
 -- LISTS
 
--- what is pending for a list, where temporaries alone are
-abbrev vars : List Bound → Trees
-vars bs = declaration (codes "var") (map declarator bs) empty
-
-module _ (fresh : Text → Bool) where
-  same-declarators : (bs : List Bound) → GrownDeclarators fresh (trees (map declarator bs)) (trees (map declarator bs))
-  same-declarators [] = none_grown
-  same-declarators (b ∷ bs) = as_named refl (same-declarators bs)
-
-abbrev AllFresh : (Text → Bool) → List Bound → Type 0
-AllFresh fresh [] = Unit {0}
-AllFresh fresh (b ∷ bs) = (fresh b.name ≡ true) × AllFresh fresh bs
-
-new-declarators : (fresh : Text → Bool) (cs : List Bound) → AllFresh fresh cs → GrownDeclarators fresh empty (trees (map declarator cs))
-new-declarators fresh [] h = none_grown
-new-declarators fresh (c ∷ cs) h = one_grown h.0 (new-declarators fresh cs h.1)
-
-more-declarators : (fresh : Text → Bool) (bs cs : List Bound) → AllFresh fresh cs → GrownDeclarators fresh (trees (map declarator bs)) (trees (map declarator bs ++ map declarator cs))
-more-declarators fresh [] cs h = new-declarators fresh cs h
-more-declarators fresh (b ∷ bs) cs h = as_named refl (more-declarators fresh bs cs h)
-
-module _ (xs : List Text) (R : List Declared → Take → Tree → Tree → Type 0) (mute : (ds : List Declared) (t : Take) (a b : Tree) → R ds t a b → BothMute xs a b) where
-  mute-import : (t : Tree) → is_mute (kind_of t) ≡ true → is_import t ≡ false
-  mute-import (node ImportDeclaration l fs) h = absurd (cc h)
-  mute-import (node k l fs) h = at k h
-    where
-      at : (k : AstType) → is_mute k ≡ true → is_import (node k l fs) ≡ false
-      at ImportDeclaration h = absurd (cc h)
-      at _ h = refl
-
-  import-kept : {r : Room} {ds : List Declared} {t : Take} {a b : Tree} → Moved (among_names xs) R r ds t a b → is_import b ≡ is_import a
-  import-kept (moved_place {ds = ds} {t = t} {a = a} {b = b} e h) = let m = mute ds t a b h in rw (mute-import a m.first, mute-import b m.second) refl
-  import-kept (moved_node e i h) = refl
-  import-kept (moved_block e h) = refl
-  import-kept (moved_case e g h) = refl
-
-  list-of : {r : Room} {ds : List Declared} {more : Bool} {ts us : Trees} → MovedTrees (among_names xs) R r ds (take the_value more) ts us → MovedList (among_names xs) R r ds more ts us
-  list-of moved_empty = moved_end
-  list-of (moved_before h hs) = moved_statement h (list-of hs)
-
-  -- the temporaries before a list
-  vars-before : (bs cs : List Bound) → AllFresh (among_names xs) cs → {r : Room} {ds : List Declared} {more : Bool} {ts us : Trees} → MovedList (among_names xs) R r ds more ts us →
-      MovedList (among_names xs) R r ds more (joined_trees (vars bs) ts) (joined_trees (declaration (codes "var") (map declarator bs ++ map declarator cs) empty) us)
-  vars-before [] [] f h = h
-  vars-before [] (c ∷ cs) f h = moved_new refl (new-declarators (among_names xs) (c ∷ cs) f) h
-  vars-before (b ∷ bs) cs f h = moved_grown refl refl (more-declarators (among_names xs) (b ∷ bs) cs f) h
-
-  -- a list with what is pending for it
-  pub list-moved : (bs cs : List Bound) → AllFresh (among_names xs) cs → {r : Room} {ds : List Declared} {more : Bool} {ts us : Trees} → MovedTrees (among_names xs) R r ds (take the_value more) ts us →
-      MovedList (among_names xs) R r ds more (after_imports (vars bs) ts) (after_imports (declaration (codes "var") (map declarator bs ++ map declarator cs) empty) us)
-  list-moved bs cs f moved_empty = joined-end bs cs f
-    where
-      joined-end : (bs cs : List Bound) → AllFresh (among_names xs) cs → {r : Room} {ds : List Declared} {more : Bool} → MovedList (among_names xs) R r ds more (vars bs) (declaration (codes "var") (map declarator bs ++ map declarator cs) empty)
-      joined-end [] [] f = moved_end
-      joined-end [] (c ∷ cs) f = moved_new refl (new-declarators (among_names xs) (c ∷ cs) f) moved_end
-      joined-end (b ∷ bs) cs f = moved_grown refl refl (more-declarators (among_names xs) (b ∷ bs) cs f) moved_end
-  list-moved bs cs f {r = r} {ds = ds} {more = more} (moved_before {a = a} {b = b} {ts = ts} {us = us} h hs) = at (is_import a) (is_import b) (import-kept h) (list-moved bs cs f hs)
-    where
-      at : (v w : Bool) → w ≡ v → MovedList (among_names xs) R r ds more (after_imports (vars bs) ts) (after_imports (declaration (codes "var") (map declarator bs ++ map declarator cs) empty) us) →
-          MovedList (among_names xs) R r ds more (if v then a before after_imports (vars bs) ts else joined_trees (vars bs) (a before ts)) (if w then b before after_imports (declaration (codes "var") (map declarator bs ++ map declarator cs) empty) us else joined_trees (declaration (codes "var") (map declarator bs ++ map declarator cs) empty) (b before us))
-      at true true e g = moved_statement h g
-      at true false e g = absurd (cc e)
-      at false true e g = absurd (cc e)
-      at false false e g = vars-before bs cs f (moved_statement h (list-of hs))
-
-  -- as it is written with the names that are put in
-  pub whole-moved : (p q : Pending) (y : Option Bound) (a : Additions) (put : List Bound) → IsPlainList p y a → q ≡ with_vars put p → AllFresh (among_names xs) put → {r : Room} {ds : List Declared} {more : Bool} {ts us : Trees} → MovedTrees (among_names xs) R r ds (take the_value more) ts us →
-      MovedList (among_names xs) R r ds more (whole_list p y a ts) (whole_list q y a us)
-  whole-moved p q y a put plain e f {r = r} {ds = ds} {more = more} {ts = ts} {us = us} h =
-      subst (λ (q : Pending). MovedList (among_names xs) R r ds more (whole_list p y a ts) (whole_list q y a us)) (sym e)
-      (subst (λ (y : Option Bound). MovedList (among_names xs) R r ds more (whole_list p y a ts) (whole_list (with_vars put p) y a us)) (sym plain.this)
-      (subst (λ (a : Additions). MovedList (among_names xs) R r ds more (whole_list p None a ts) (whole_list (with_vars put p) None a us)) (sym plain.top)
-      (subst (λ (p : Pending). MovedList (among_names xs) R r ds more (whole_list p None no_additions ts) (whole_list (with_vars put p) None no_additions us)) (sym plain.vars.are)
-      (list-moved plain.vars.names put f h))))
-
 -- a list with others written before it
 pub below-after : (P : Tree → Type 0) (bs ts : Trees) → BelowTrees P (after_imports bs ts) → BelowTrees P ts
 below-after P bs empty h = tt
@@ -182,6 +107,11 @@ resolved-after r p bs (t before ts) h = at (is_import t) (λ g. resolved-after r
     at true s g = (g.0, s g.1)
     at false s g = rest bs g
 
+-- what a place takes, by what stands around it
+abbrev pub taken_at : List Ancestor → Take
+taken_at [] = value_taken
+taken_at (a ∷ up) = takes_of (taken_at up) a.kind a.label.texts a.label.flags a.index
+
 -- WHERE A RULE ACTED: at a site whose names are those that the scopes around declare, in a tree whose names are resolved there
 
 pub record Acted (A : List Bound → Site → Whole → Tree → Tree → Type 0) (new : List Bound) (ds : List Declared) (t : Take) (a b : Tree) : Type 0 where
@@ -192,6 +122,7 @@ pub record Acted (A : List Bound → Site → Whole → Tree → Tree → Type 0
   pub found : Finds ds site.names
   pub stood : all_nodes stands a ≡ true
   pub stood_after : all_nodes stands b ≡ true
+  pub taken : t ≡ taken_at site.above
 
 -- what a step leaves, where M is what is known of what it makes with new names, and D that they are declared in it
 pub record Went (hoisted : Bool) (s s' : Ledger) (M D : List Bound → Type 0) : Type 0 where
@@ -358,9 +289,9 @@ module _ (Q : Site → Ledger → Spot → Ledger → Spot → Type 0) (A : List
   pub both-mute : (new : List Bound) (ds : List Declared) (t : Take) (a b : Tree) → Acted A new ds t a b → BothMute (names_among new) a b
   both-mute new ds t a b h = law.mute new h.site h.whole a b h.rule h.stood h.stood_after
 
-  acts-here : (n : Site) (s s' : Ledger) (t u : Tree) → Q n s (at_node t) s' (at_node u) → (o : AstType) (r : Room) (ds : List Declared) (k : Take) → Stood o r t → Fine t → Fine u → Resolved n.role n.names t → Finds ds n.names →
+  acts-here : (n : Site) (s s' : Ledger) (t u : Tree) → Q n s (at_node t) s' (at_node u) → (o : AstType) (r : Room) (ds : List Declared) (k : Take) → k ≡ taken_at n.above → Stood o r t → Fine t → Fine u → Resolved n.role n.names t → Finds ds n.names →
       Went law.hoisted s s' (λ new. Moved (Fresh new) (Acted A new) r ds k t u) (λ bs. InTree t u bs)
-  acts-here n s s' t u h o r ds k stood fine after resolved found =
+  acts-here n s s' t u h o r ds k taken stood fine after resolved found =
       let a = law.acting n s s' t u h in
       record {
         new = a.new;
@@ -371,7 +302,7 @@ module _ (Q : Site → Ledger → Spot → Ledger → Spot → Type 0) (A : List
         this = a.this;
         top = a.top;
         are_new = law.new_names a.new n (whole_in s) t u a.rule;
-        moved = moved_place (opened-here r (kind_of t) stood.room (law.acts_on a.new n (whole_in s) t u a.rule)) (record { site = n; whole = whole_in s; rule = a.rule; resolved = resolved; found = found; stood = fine; stood_after = after });
+        moved = moved_place (opened-here r (kind_of t) stood.room (law.acts_on a.new n (whole_in s) t u a.rule)) (record { site = n; whole = whole_in s; rule = a.rule; resolved = resolved; found = found; stood = fine; stood_after = after; taken = taken });
       }
 
   -- what was changed in a list of statements, with what is pending for it
@@ -414,13 +345,13 @@ module _ (Q : Site → Ledger → Spot → Ledger → Spot → Type 0) (A : List
   case-test {f = f} (statements ts then (g then fs)) shape h = absurd (case-longer f (statements ts) g fs shape)
 
   mutual
-    pub step-moved : {n : Site} {s s' : Ledger} {t u : Open} → Step Q n s t s' u → (o : AstType) (r : Room) (ds : List Declared) (k : Take) → IsProper t → Stood o r (finished t) → Fine (finished t) → Fine (finished u) → Resolved n.role n.names (finished t) → Finds ds n.names →
+    pub step-moved : {n : Site} {s s' : Ledger} {t u : Open} → Step Q n s t s' u → (o : AstType) (r : Room) (ds : List Declared) (k : Take) → k ≡ taken_at n.above → IsProper t → Stood o r (finished t) → Fine (finished t) → Fine (finished u) → Resolved n.role n.names (finished t) → Finds ds n.names →
         Went law.hoisted s s' (λ new. Moved (Fresh new) (Acted A new) r ds k (finished t) (finished u)) (λ bs. InTree (finished t) (finished u) bs)
-    step-moved (acts {n = n} {s = s} {s' = s'} t u h) o r ds k proper stood fine after resolved found =
+    step-moved (acts {n = n} {s = s} {s' = s'} t u h) o r ds k taken proper stood fine after resolved found =
         subst (λ (x : Tree). Went law.hoisted s s' (λ new. Moved (Fresh new) (Acted A new) r ds k x (finished (opened u))) (λ bs. InTree x (finished (opened u)) bs)) (sym (finished-opened t))
         (subst (λ (y : Tree). Went law.hoisted s s' (λ new. Moved (Fresh new) (Acted A new) r ds k t y) (λ bs. InTree t y bs)) (sym (finished-opened u))
-        (acts-here n s s' t u h o r ds k (subst (λ (x : Tree). Stood o r x) (finished-opened t) stood) (subst (λ (x : Tree). Fine x) (finished-opened t) fine) (subst (λ (x : Tree). Fine x) (finished-opened u) after) (subst (λ (x : Tree). Resolved n.role n.names x) (finished-opened t) resolved) found))
-    step-moved (inside {n = n} {s = s} {s' = s'} {k = j} {l = l} {fs = fs} {gs = gs} h) o r ds k proper stood fine after resolved found =
+        (acts-here n s s' t u h o r ds k taken (subst (λ (x : Tree). Stood o r x) (finished-opened t) stood) (subst (λ (x : Tree). Fine x) (finished-opened t) fine) (subst (λ (x : Tree). Fine x) (finished-opened u) after) (subst (λ (x : Tree). Resolved n.role n.names x) (finished-opened t) resolved) found))
+    step-moved (inside {n = n} {s = s} {s' = s'} {k = j} {l = l} {fs = fs} {gs = gs} h) o r ds k taken proper stood fine after resolved found =
         let stoods = stood-inside o r j l (finished_fields fs) stood in
         let fines = fine-inside j l (finished_fields fs) fine in
         let afters = fine-inside j l (finished_fields gs) after in
@@ -429,71 +360,71 @@ module _ (Q : Site → Ledger → Spot → Ledger → Spot → Type 0) (A : List
         subst (λ (i : AstType). Went law.hoisted s s' (λ new. Moved (Fresh new) (Acted A new) r ds k (node i l (finished_fields fs)) (node i l (finished_fields gs))) (λ bs. InTree (node i l (finished_fields fs)) (node i l (finished_fields gs)) bs)) (sym e) w in
         by-list j (list-kind j (standing j l (finished_fields fs) fine).class stood.nested)
         (λ e. back BlockStatement e (block-moved h r ds k l (subst (λ (i : AstType). AreProperFields (is_body i) fs) e proper) (block-fields stood.sort l (finished_fields fs) (subst (λ (i : AstType). has_form stood.sort (node i l (finished_fields fs)) ≡ true) e stood.form))
-        (subst (λ (i : AstType). is_target (site_in n i l fs zero).above ≡ false) (sym e) refl) (subst (λ (i : AstType). is_program_list (site_in n i l fs zero).above ≡ false) (sym e) refl)
+        (subst (λ (i : AstType). is_target (site_in n i l fs zero).above ≡ false) (sym e) refl) (subst (λ (i : AstType). is_program_list (site_in n i l fs zero).above ≡ false) (sym e) refl) (subst (λ (i : AstType). value_taken ≡ taken_at (site_in n i l fs zero).above) (sym e) refl)
         (subst (λ (i : AstType). StoodIn r i (finished_fields fs)) e stoods) fines afters resolved.2 (λ m. subst (λ (i : AstType). Finds (names_around i (own_names i (finished_fields fs)) ds m) (site_in n j l fs m).names) e (finds m))))
         (λ e. back SwitchCase e (case-moved h r ds k l (subst (λ (i : AstType). AreProperFields (is_body i) fs) e proper) (case-fields stood.sort l (finished_fields fs) (subst (λ (i : AstType). has_form stood.sort (node i l (finished_fields fs)) ≡ true) e stood.form))
-        (subst (λ (i : AstType). is_target (site_in n i l fs 1).above ≡ false) (sym e) refl) (subst (λ (i : AstType). is_program_list (site_in n i l fs 1).above ≡ false) (sym e) refl)
+        (subst (λ (i : AstType). is_target (site_in n i l fs 1).above ≡ false) (sym e) refl) (subst (λ (i : AstType). is_program_list (site_in n i l fs 1).above ≡ false) (sym e) refl) (subst (λ (i : AstType). (m : ℕ) → value_taken ≡ taken_at (site_in n i l fs m).above) (sym e) (λ m. refl))
         (subst (λ (i : AstType). StoodIn r i (finished_fields fs)) e stoods) fines afters resolved.2 (λ m. subst (λ (i : AstType). Finds (names_around i (own_names i (finished_fields fs)) ds m) (site_in n j l fs m).names) e (finds m))))
         (λ e. go-on (λ new m. moved_node refl refl m) (λ bs d. in-node j l (finished_fields fs) (finished_fields gs) bs d)
-        (fields-moved h j (room_in r j) (names_around j (own_names j (finished_fields fs)) ds) (takes_of k j l.texts l.flags) (is_body j) proper (no-body o r j l (finished_fields fs) stood) (unlisted o r j l (finished_fields fs) stood e) stoods fines afters resolved.2 finds))
+        (fields-moved h j (room_in r j) (names_around j (own_names j (finished_fields fs)) ds) (takes_of k j l.texts l.flags) (λ i. ap (λ t. takes_of t j l.texts l.flags i) taken) (is_body j) proper (no-body o r j l (finished_fields fs) stood) (unlisted o r j l (finished_fields fs) stood e) stoods fines afters resolved.2 finds))
 
-    fields-moved : {c : ℕ → Site} {s s' : Ledger} {fs gs : OpenFields} → FieldsStep Q c s fs s' gs → (j : AstType) (rooms : ℕ → Room) (d : ℕ → List Declared) (takes : ℕ → Take) (bodies : ℕ → Bool) → AreProperFields bodies fs → ((i : ℕ) → bodies i ≡ false) → NoLists (finished_fields fs) →
+    fields-moved : {c : ℕ → Site} {s s' : Ledger} {fs gs : OpenFields} → FieldsStep Q c s fs s' gs → (j : AstType) (rooms : ℕ → Room) (d : ℕ → List Declared) (takes : ℕ → Take) → ((i : ℕ) → takes i ≡ taken_at (c i).above) → (bodies : ℕ → Bool) → AreProperFields bodies fs → ((i : ℕ) → bodies i ≡ false) → NoLists (finished_fields fs) →
         Below (λ i t. Stood j (rooms i) t) (finished_fields fs) → Below (λ i t. Fine t) (finished_fields fs) → Below (λ i t. Fine t) (finished_fields gs) → ResolvedIn (λ i. (c i).role) (λ i. (c i).names) (finished_fields fs) → ((i : ℕ) → Finds (d i) (c i).names) →
         Went law.hoisted s s' (λ new. MovedFields (Fresh new) (Acted A new) rooms d takes (finished_fields fs) (finished_fields gs)) (λ bs. InFields j (finished_fields gs) bs)
-    fields-moved (in_first {g = g} {fs = fs} h) j rooms d takes bodies proper none lists stood fine after resolved found =
-        go-on (λ new m. moved_then m (fields_self (Fresh new) (Acted A new) (finished_fields fs))) (λ bs e. (e.0, declared-left bs (var_names_at (finished_field g)) (var_names_in (finished_fields fs)) e.1)) (field-moved h j (rooms zero) (d zero) (takes zero) (bodies zero) proper.0 (none zero) lists.0 stood.0 fine.0 after.0 resolved.0 (found zero))
-    fields-moved (in_later {f = f} {gs = gs} h) j rooms d takes bodies proper none lists stood fine after resolved found =
-        go-on (λ new m. moved_then (field_self (Fresh new) (Acted A new) (finished_field f)) m) (λ bs e. (e.0, declared-right bs (var_names_at (finished_field f)) (var_names_in (finished_fields gs)) e.1)) (fields-moved h j (λ i. rooms (suc i)) (λ i. d (suc i)) (λ i. takes (suc i)) (λ i. bodies (suc i)) proper.1 (λ i. none (suc i)) lists.1 stood.1 fine.1 after.1 resolved.1 (λ i. found (suc i)))
+    fields-moved (in_first {g = g} {fs = fs} h) j rooms d takes taken bodies proper none lists stood fine after resolved found =
+        go-on (λ new m. moved_then m (fields_self (Fresh new) (Acted A new) (finished_fields fs))) (λ bs e. (e.0, declared-left bs (var_names_at (finished_field g)) (var_names_in (finished_fields fs)) e.1)) (field-moved h j (rooms zero) (d zero) (takes zero) (taken zero) (bodies zero) proper.0 (none zero) lists.0 stood.0 fine.0 after.0 resolved.0 (found zero))
+    fields-moved (in_later {f = f} {gs = gs} h) j rooms d takes taken bodies proper none lists stood fine after resolved found =
+        go-on (λ new m. moved_then (field_self (Fresh new) (Acted A new) (finished_field f)) m) (λ bs e. (e.0, declared-right bs (var_names_at (finished_field f)) (var_names_in (finished_fields gs)) e.1)) (fields-moved h j (λ i. rooms (suc i)) (λ i. d (suc i)) (λ i. takes (suc i)) (λ i. taken (suc i)) (λ i. bodies (suc i)) proper.1 (λ i. none (suc i)) lists.1 stood.1 fine.1 after.1 resolved.1 (λ i. found (suc i)))
 
-    field-moved : {n : Site} {s s' : Ledger} {f g : OpenField} → FieldStep Q n s f s' g → (j : AstType) (r : Room) (ds : List Declared) (k : Take) (b : Bool) → IsProperField b f → b ≡ false → NoList (finished_field f) →
+    field-moved : {n : Site} {s s' : Ledger} {f g : OpenField} → FieldStep Q n s f s' g → (j : AstType) (r : Room) (ds : List Declared) (k : Take) → k ≡ taken_at n.above → (b : Bool) → IsProperField b f → b ≡ false → NoList (finished_field f) →
         BelowField (Stood j r) (finished_field f) → BelowField Fine (finished_field f) → BelowField Fine (finished_field g) → ResolvedBy n.role n.names (finished_field f) → Finds ds n.names → Went law.hoisted s s' (λ new. MovedField (Fresh new) (Acted A new) r ds k (finished_field f) (finished_field g)) (λ bs. InField j (finished_field g) bs)
-    field-moved (in_child h) j r ds k b proper none lists stood fine after resolved found = go-on (λ new m. moved_one m) (λ bs d. (stood.held d.0, d.1)) (step-moved h j r ds k proper stood fine after resolved found)
-    field-moved (in_children h) j r ds k b proper none lists stood fine after resolved found = go-on (λ new m. moved_many m) (λ bs d. d) (trees-moved h j r ds k proper stood fine after resolved found)
-    field-moved (in_body e y y' h) j r ds k b proper none lists stood fine after resolved found = absurd (let e : b ≡ true = proper.0 in cc (e, none))
-    field-moved (in_list e e' h) j r ds k b proper none lists stood fine after resolved found = absurd lists
-    field-moved (in_target e h) j r ds k b proper none lists stood fine after resolved found = absurd lists
-    field-moved (in_program e h) j r ds k b proper none lists stood fine after resolved found = absurd lists
-    field-moved (acts_on_list ts us h) j r ds k b proper none lists stood fine after resolved found = absurd lists
-    field-moved (acts_on_body {n = n} {s = s} {s' = s'} {p = p} t u h) j r ds k b proper none lists stood fine after resolved found = absurd (law.nodes n s s' (at_body p t) (at_node u) h)
+    field-moved (in_child h) j r ds k taken b proper none lists stood fine after resolved found = go-on (λ new m. moved_one m) (λ bs d. (stood.held d.0, d.1)) (step-moved h j r ds k taken proper stood fine after resolved found)
+    field-moved (in_children h) j r ds k taken b proper none lists stood fine after resolved found = go-on (λ new m. moved_many m) (λ bs d. d) (trees-moved h j r ds k taken proper stood fine after resolved found)
+    field-moved (in_body e y y' h) j r ds k taken b proper none lists stood fine after resolved found = absurd (let e : b ≡ true = proper.0 in cc (e, none))
+    field-moved (in_list e e' h) j r ds k taken b proper none lists stood fine after resolved found = absurd lists
+    field-moved (in_target e h) j r ds k taken b proper none lists stood fine after resolved found = absurd lists
+    field-moved (in_program e h) j r ds k taken b proper none lists stood fine after resolved found = absurd lists
+    field-moved (acts_on_list ts us h) j r ds k taken b proper none lists stood fine after resolved found = absurd lists
+    field-moved (acts_on_body {n = n} {s = s} {s' = s'} {p = p} t u h) j r ds k taken b proper none lists stood fine after resolved found = absurd (law.nodes n s s' (at_body p t) (at_node u) h)
 
-    pub trees-moved : {n : Site} {s s' : Ledger} {ts us : OpenTrees} → TreesStep Q n s ts s' us → (j : AstType) (r : Room) (ds : List Declared) (k : Take) → AreProperTrees ts → BelowTrees (Stood j r) (finished_trees ts) → BelowTrees Fine (finished_trees ts) → BelowTrees Fine (finished_trees us) → ResolvedAll n.role n.names (finished_trees ts) → Finds ds n.names →
+    pub trees-moved : {n : Site} {s s' : Ledger} {ts us : OpenTrees} → TreesStep Q n s ts s' us → (j : AstType) (r : Room) (ds : List Declared) (k : Take) → k ≡ taken_at n.above → AreProperTrees ts → BelowTrees (Stood j r) (finished_trees ts) → BelowTrees Fine (finished_trees ts) → BelowTrees Fine (finished_trees us) → ResolvedAll n.role n.names (finished_trees ts) → Finds ds n.names →
         Went law.hoisted s s' (λ new. MovedTrees (Fresh new) (Acted A new) r ds k (finished_trees ts) (finished_trees us)) (λ bs. InTrees j (finished_trees us) bs)
-    trees-moved (in_head {u = u} {ts = ts} h) j r ds k proper stood fine after resolved found = go-on (λ new m. moved_before m (trees_self (Fresh new) (Acted A new) (finished_trees ts))) (λ bs d. (stood.0.held d.0, declared-left bs (var_names (finished u)) (var_names_all (finished_trees ts)) d.1)) (step-moved h j r ds k proper.0 stood.0 fine.0 after.0 resolved.0 found)
-    trees-moved (in_tail {t = t} {us = us} h) j r ds k proper stood fine after resolved found = go-on (λ new m. moved_before (moved_self (Fresh new) (Acted A new) (finished t)) m) (λ bs d. (d.0, declared-right bs (var_names (finished t)) (var_names_all (finished_trees us)) d.1)) (trees-moved h j r ds k proper.1 stood.1 fine.1 after.1 resolved.1 found)
-    trees-moved (in_flanked h) j r ds k proper stood fine after resolved found = absurd proper
-    trees-moved (after_flanked h) j r ds k proper stood fine after resolved found = absurd proper
-    trees-moved (flanks {n = n} {s = s} {s' = s'} {bs = bs} {cs = cs} t u h) j r ds k proper stood fine after resolved found = absurd (law.nodes n s s' (at_node t) (at_beside bs u cs) h)
-    trees-moved (acts_on_flanked t us h) j r ds k proper stood fine after resolved found = absurd proper
+    trees-moved (in_head {u = u} {ts = ts} h) j r ds k taken proper stood fine after resolved found = go-on (λ new m. moved_before m (trees_self (Fresh new) (Acted A new) (finished_trees ts))) (λ bs d. (stood.0.held d.0, declared-left bs (var_names (finished u)) (var_names_all (finished_trees ts)) d.1)) (step-moved h j r ds k taken proper.0 stood.0 fine.0 after.0 resolved.0 found)
+    trees-moved (in_tail {t = t} {us = us} h) j r ds k taken proper stood fine after resolved found = go-on (λ new m. moved_before (moved_self (Fresh new) (Acted A new) (finished t)) m) (λ bs d. (d.0, declared-right bs (var_names (finished t)) (var_names_all (finished_trees us)) d.1)) (trees-moved h j r ds k taken proper.1 stood.1 fine.1 after.1 resolved.1 found)
+    trees-moved (in_flanked h) j r ds k taken proper stood fine after resolved found = absurd proper
+    trees-moved (after_flanked h) j r ds k taken proper stood fine after resolved found = absurd proper
+    trees-moved (flanks {n = n} {s = s} {s' = s'} {bs = bs} {cs = cs} t u h) j r ds k taken proper stood fine after resolved found = absurd (law.nodes n s s' (at_node t) (at_beside bs u cs) h)
+    trees-moved (acts_on_flanked t us h) j r ds k taken proper stood fine after resolved found = absurd proper
 
-    block-moved : {c : ℕ → Site} {s s' : Ledger} {fs gs : OpenFields} → FieldsStep Q c s fs s' gs → (r : Room) (ds : List Declared) (k : Take) (l : Label) → AreProperFields (is_body BlockStatement) fs → IsBlock (finished_fields fs) → is_target (c zero).above ≡ false → is_program_list (c zero).above ≡ false →
+    block-moved : {c : ℕ → Site} {s s' : Ledger} {fs gs : OpenFields} → FieldsStep Q c s fs s' gs → (r : Room) (ds : List Declared) (k : Take) (l : Label) → AreProperFields (is_body BlockStatement) fs → IsBlock (finished_fields fs) → is_target (c zero).above ≡ false → is_program_list (c zero).above ≡ false → value_taken ≡ taken_at (c zero).above →
         StoodIn r BlockStatement (finished_fields fs) → Below (λ i t. Fine t) (finished_fields fs) → Below (λ i t. Fine t) (finished_fields gs) → ResolvedIn (λ i. (c i).role) (λ i. (c i).names) (finished_fields fs) → ((i : ℕ) → Finds (names_around BlockStatement (own_names BlockStatement (finished_fields fs)) ds i) (c i).names) →
         Went law.hoisted s s' (λ new. Moved (Fresh new) (Acted A new) r ds k (node BlockStatement l (finished_fields fs)) (node BlockStatement l (finished_fields gs))) (λ bs. InTree (node BlockStatement l (finished_fields fs)) (node BlockStatement l (finished_fields gs)) bs)
-    block-moved (in_first {c = c} {fs = ends} (in_list {p = p} {q = q} {y = y} {b = b} {ts = ts} {us = us} e e' h)) r ds k l proper shape target top stood fine after resolved found =
-        kept-outside (listed BlockStatement y b proper.0.0 (trees-moved h BlockStatement (opened_room r) (lexical_in (whole_list p y b (finished_trees ts)) ++ ds) (take the_value false) proper.0.1 (below-after (Stood BlockStatement (opened_room r)) (pending_statements p y b) (finished_trees ts) stood.0) (below-after Fine (pending_statements p y b) (finished_trees ts) fine.0) (below-after Fine (pending_statements q y b) (finished_trees us) after.0) (resolved-after (c zero).role (c zero).names (pending_statements p y b) (finished_trees ts) resolved.0) (found zero))) (λ new m. moved_block refl m) (λ bs d. (refl, declared-left bs (var_names_all (whole_list q y b (finished_trees us))) [] d))
-    block-moved (in_first {fs = ends} (in_target e h)) r ds k l proper shape target top stood fine after resolved found = absurd (cc (e, target))
-    block-moved (in_first {fs = ends} (in_program e h)) r ds k l proper shape target top stood fine after resolved found = absurd (cc (e, top))
-    block-moved (in_first {fs = ends} (acts_on_list {n = n} {s = s} {s' = s'} {p = p} {q = q} {x = x} {y = y} {a = a} {b = b} ts us h)) r ds k l proper shape target top stood fine after resolved found = absurd (law.nodes n s s' (at_list p x a ts) (at_list q y b us) h)
-    block-moved (in_first {fs = ends} (in_child h)) r ds k l proper shape target top stood fine after resolved found = absurd shape
-    block-moved (in_first {fs = ends} (in_children h)) r ds k l proper shape target top stood fine after resolved found = absurd shape
-    block-moved (in_first {fs = ends} (in_body e y y' h)) r ds k l proper shape target top stood fine after resolved found = absurd shape
-    block-moved (in_first {fs = ends} (acts_on_body t u h)) r ds k l proper shape target top stood fine after resolved found = absurd shape
-    block-moved (in_first {f = f} {fs = g and gs} h) r ds k l proper shape target top stood fine after resolved found = absurd (block-longer (finished_field f) (finished_field g) (finished_fields gs) shape)
-    block-moved (in_later {f = f} (in_first {f = g} {fs = gs} h)) r ds k l proper shape target top stood fine after resolved found = absurd (block-longer (finished_field f) (finished_field g) (finished_fields gs) shape)
-    block-moved (in_later {f = f} (in_later {f = g} {fs = gs} h)) r ds k l proper shape target top stood fine after resolved found = absurd (block-longer (finished_field f) (finished_field g) (finished_fields gs) shape)
+    block-moved (in_first {c = c} {fs = ends} (in_list {p = p} {q = q} {y = y} {b = b} {ts = ts} {us = us} e e' h)) r ds k l proper shape target top taken stood fine after resolved found =
+        kept-outside (listed BlockStatement y b proper.0.0 (trees-moved h BlockStatement (opened_room r) (lexical_in (whole_list p y b (finished_trees ts)) ++ ds) (take the_value false) taken proper.0.1 (below-after (Stood BlockStatement (opened_room r)) (pending_statements p y b) (finished_trees ts) stood.0) (below-after Fine (pending_statements p y b) (finished_trees ts) fine.0) (below-after Fine (pending_statements q y b) (finished_trees us) after.0) (resolved-after (c zero).role (c zero).names (pending_statements p y b) (finished_trees ts) resolved.0) (found zero))) (λ new m. moved_block refl m) (λ bs d. (refl, declared-left bs (var_names_all (whole_list q y b (finished_trees us))) [] d))
+    block-moved (in_first {fs = ends} (in_target e h)) r ds k l proper shape target top taken stood fine after resolved found = absurd (cc (e, target))
+    block-moved (in_first {fs = ends} (in_program e h)) r ds k l proper shape target top taken stood fine after resolved found = absurd (cc (e, top))
+    block-moved (in_first {fs = ends} (acts_on_list {n = n} {s = s} {s' = s'} {p = p} {q = q} {x = x} {y = y} {a = a} {b = b} ts us h)) r ds k l proper shape target top taken stood fine after resolved found = absurd (law.nodes n s s' (at_list p x a ts) (at_list q y b us) h)
+    block-moved (in_first {fs = ends} (in_child h)) r ds k l proper shape target top taken stood fine after resolved found = absurd shape
+    block-moved (in_first {fs = ends} (in_children h)) r ds k l proper shape target top taken stood fine after resolved found = absurd shape
+    block-moved (in_first {fs = ends} (in_body e y y' h)) r ds k l proper shape target top taken stood fine after resolved found = absurd shape
+    block-moved (in_first {fs = ends} (acts_on_body t u h)) r ds k l proper shape target top taken stood fine after resolved found = absurd shape
+    block-moved (in_first {f = f} {fs = g and gs} h) r ds k l proper shape target top taken stood fine after resolved found = absurd (block-longer (finished_field f) (finished_field g) (finished_fields gs) shape)
+    block-moved (in_later {f = f} (in_first {f = g} {fs = gs} h)) r ds k l proper shape target top taken stood fine after resolved found = absurd (block-longer (finished_field f) (finished_field g) (finished_fields gs) shape)
+    block-moved (in_later {f = f} (in_later {f = g} {fs = gs} h)) r ds k l proper shape target top taken stood fine after resolved found = absurd (block-longer (finished_field f) (finished_field g) (finished_fields gs) shape)
 
-    case-moved : {c : ℕ → Site} {s s' : Ledger} {fs gs : OpenFields} → FieldsStep Q c s fs s' gs → (r : Room) (ds : List Declared) (k : Take) (l : Label) → AreProperFields (is_body SwitchCase) fs → IsCase (finished_fields fs) → is_target (c 1).above ≡ false → is_program_list (c 1).above ≡ false →
+    case-moved : {c : ℕ → Site} {s s' : Ledger} {fs gs : OpenFields} → FieldsStep Q c s fs s' gs → (r : Room) (ds : List Declared) (k : Take) (l : Label) → AreProperFields (is_body SwitchCase) fs → IsCase (finished_fields fs) → is_target (c 1).above ≡ false → is_program_list (c 1).above ≡ false → ((i : ℕ) → value_taken ≡ taken_at (c i).above) →
         StoodIn r SwitchCase (finished_fields fs) → Below (λ i t. Fine t) (finished_fields fs) → Below (λ i t. Fine t) (finished_fields gs) → ResolvedIn (λ i. (c i).role) (λ i. (c i).names) (finished_fields fs) → ((i : ℕ) → Finds (names_around SwitchCase (own_names SwitchCase (finished_fields fs)) ds i) (c i).names) →
         Went law.hoisted s s' (λ new. Moved (Fresh new) (Acted A new) r ds k (node SwitchCase l (finished_fields fs)) (node SwitchCase l (finished_fields gs))) (λ bs. InTree (node SwitchCase l (finished_fields fs)) (node SwitchCase l (finished_fields gs)) bs)
-    case-moved (in_first {f = f} {fs = fs} h) r ds k l proper shape target top stood fine after resolved found = case-test (finished_fields fs) shape (λ lists. field-moved h SwitchCase (opened_room r) ds value_taken false proper.0 refl lists stood.0 fine.0 after.0 resolved.0 (found zero))
-    case-moved (in_later {c = c} {f = f} (in_first {fs = ends} (in_list {p = p} {q = q} {y = y} {b = b} {ts = ts} {us = us} e e' h))) r ds k l proper shape target top stood fine after resolved found =
-        kept-outside (listed SwitchCase y b proper.1.0.0 (trees-moved h SwitchCase (opened_room r) ds (take the_value false) proper.1.0.1 (below-after (Stood SwitchCase (opened_room r)) (pending_statements p y b) (finished_trees ts) stood.1.0) (below-after Fine (pending_statements p y b) (finished_trees ts) fine.1.0) (below-after Fine (pending_statements q y b) (finished_trees us) after.1.0) (resolved-after (c 1).role (c 1).names (pending_statements p y b) (finished_trees ts) resolved.1.0) (found 1))) (λ new m. moved_case refl (field_self (Fresh new) (Acted A new) (finished_field f)) m) (λ bs d. (refl, declared-right bs (var_names_at (finished_field f)) (var_names_all (whole_list q y b (finished_trees us)) ++ []) (declared-left bs (var_names_all (whole_list q y b (finished_trees us))) [] d)))
-    case-moved (in_later (in_first {fs = ends} (in_target e h))) r ds k l proper shape target top stood fine after resolved found = absurd (cc (e, target))
-    case-moved (in_later (in_first {fs = ends} (in_program e h))) r ds k l proper shape target top stood fine after resolved found = absurd (cc (e, top))
-    case-moved (in_later (in_first {fs = ends} (acts_on_list {n = n} {s = s} {s' = s'} {p = p} {q = q} {x = x} {y = y} {a = a} {b = b} ts us h))) r ds k l proper shape target top stood fine after resolved found = absurd (law.nodes n s s' (at_list p x a ts) (at_list q y b us) h)
-    case-moved (in_later (in_first {fs = ends} (in_child h))) r ds k l proper shape target top stood fine after resolved found = absurd shape
-    case-moved (in_later (in_first {fs = ends} (in_children h))) r ds k l proper shape target top stood fine after resolved found = absurd shape
-    case-moved (in_later (in_first {fs = ends} (in_body e y y' h))) r ds k l proper shape target top stood fine after resolved found = absurd shape
-    case-moved (in_later (in_first {fs = ends} (acts_on_body t u h))) r ds k l proper shape target top stood fine after resolved found = absurd shape
-    case-moved (in_later {f = f} (in_first {f = g} {fs = i and gs} h)) r ds k l proper shape target top stood fine after resolved found = absurd (case-longer (finished_field f) (finished_field g) (finished_field i) (finished_fields gs) shape)
-    case-moved (in_later {f = f} (in_later {f = g} (in_first {f = i} {fs = gs} h))) r ds k l proper shape target top stood fine after resolved found = absurd (case-longer (finished_field f) (finished_field g) (finished_field i) (finished_fields gs) shape)
-    case-moved (in_later {f = f} (in_later {f = g} (in_later {f = i} {fs = gs} h))) r ds k l proper shape target top stood fine after resolved found = absurd (case-longer (finished_field f) (finished_field g) (finished_field i) (finished_fields gs) shape)
+    case-moved (in_first {f = f} {fs = fs} h) r ds k l proper shape target top taken stood fine after resolved found = case-test (finished_fields fs) shape (λ lists. field-moved h SwitchCase (opened_room r) ds value_taken (taken zero) false proper.0 refl lists stood.0 fine.0 after.0 resolved.0 (found zero))
+    case-moved (in_later {c = c} {f = f} (in_first {fs = ends} (in_list {p = p} {q = q} {y = y} {b = b} {ts = ts} {us = us} e e' h))) r ds k l proper shape target top taken stood fine after resolved found =
+        kept-outside (listed SwitchCase y b proper.1.0.0 (trees-moved h SwitchCase (opened_room r) ds (take the_value false) (taken 1) proper.1.0.1 (below-after (Stood SwitchCase (opened_room r)) (pending_statements p y b) (finished_trees ts) stood.1.0) (below-after Fine (pending_statements p y b) (finished_trees ts) fine.1.0) (below-after Fine (pending_statements q y b) (finished_trees us) after.1.0) (resolved-after (c 1).role (c 1).names (pending_statements p y b) (finished_trees ts) resolved.1.0) (found 1))) (λ new m. moved_case refl (field_self (Fresh new) (Acted A new) (finished_field f)) m) (λ bs d. (refl, declared-right bs (var_names_at (finished_field f)) (var_names_all (whole_list q y b (finished_trees us)) ++ []) (declared-left bs (var_names_all (whole_list q y b (finished_trees us))) [] d)))
+    case-moved (in_later (in_first {fs = ends} (in_target e h))) r ds k l proper shape target top taken stood fine after resolved found = absurd (cc (e, target))
+    case-moved (in_later (in_first {fs = ends} (in_program e h))) r ds k l proper shape target top taken stood fine after resolved found = absurd (cc (e, top))
+    case-moved (in_later (in_first {fs = ends} (acts_on_list {n = n} {s = s} {s' = s'} {p = p} {q = q} {x = x} {y = y} {a = a} {b = b} ts us h))) r ds k l proper shape target top taken stood fine after resolved found = absurd (law.nodes n s s' (at_list p x a ts) (at_list q y b us) h)
+    case-moved (in_later (in_first {fs = ends} (in_child h))) r ds k l proper shape target top taken stood fine after resolved found = absurd shape
+    case-moved (in_later (in_first {fs = ends} (in_children h))) r ds k l proper shape target top taken stood fine after resolved found = absurd shape
+    case-moved (in_later (in_first {fs = ends} (in_body e y y' h))) r ds k l proper shape target top taken stood fine after resolved found = absurd shape
+    case-moved (in_later (in_first {fs = ends} (acts_on_body t u h))) r ds k l proper shape target top taken stood fine after resolved found = absurd shape
+    case-moved (in_later {f = f} (in_first {f = g} {fs = i and gs} h)) r ds k l proper shape target top taken stood fine after resolved found = absurd (case-longer (finished_field f) (finished_field g) (finished_field i) (finished_fields gs) shape)
+    case-moved (in_later {f = f} (in_later {f = g} (in_first {f = i} {fs = gs} h))) r ds k l proper shape target top taken stood fine after resolved found = absurd (case-longer (finished_field f) (finished_field g) (finished_field i) (finished_fields gs) shape)
+    case-moved (in_later {f = f} (in_later {f = g} (in_later {f = i} {fs = gs} h))) r ds k l proper shape target top taken stood fine after resolved found = absurd (case-longer (finished_field f) (finished_field g) (finished_field i) (finished_fields gs) shape)

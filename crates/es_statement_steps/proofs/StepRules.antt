@@ -1,23 +1,26 @@
 -- The built rules at programs of the class: which of them act there, that they keep the class, and what each does to runs.
 use Rattle.std.proofs.Common.{◌≡◌, inl, inr, refl, sym, subst, List, []}
-use Rattle.std.proofs.lemmas.Bool.{and_parts}
-use Rattle.std.specs.Prelude.{◌⊎◌, ◌&&◌, Bool, true, false, Option, is_some}
-use Rattle.es_tree.specs.Tree.{Tree, Trees}
+use Rattle.std.specs.Prelude.{◌⊎◌, Bool, true, false, Option, is_some}
+use Rattle.es_tree.specs.Tree.{Label, Tree, Trees, node}
 use Rattle.es_tree.specs.Walks.{all_nodes}
+use Rattle.es_tree.specs.declared.ast_type.AstType.TheVariants.{ArrowFunctionExpression, ClassDeclaration, ClassExpression, FunctionBody, FunctionDeclaration, FunctionExpression, MetaProperty, MethodDefinition, ObjectProperty, PrivateIdentifier, PropertyDefinition, ReturnStatement, StaticBlock, Super}
 use Rattle.es_tree.specs.declared.options.EnvOptions.{EnvOptions}
 use Rattle.es_resolution.specs.Declarations.{Bound}
-use Rattle.es_steps.specs.CoreRules.{RowRule, where_on}
+use Rattle.es_steps.specs.CoreRules.{RowRule, rows_under, where_on}
+use Rattle.es_steps.specs.Exponentiation.{ExponentiationRule}
+use Rattle.es_steps.specs.LogicalAssignment.{LogicalAssignmentRule}
+use Rattle.es_steps.specs.Nodes.{placed}
 use Rattle.es_steps.specs.NullishCoalescing.{NullishCoalescingRule}
-use Rattle.es_steps.specs.NullishCoalescing.NullishCoalescingRule.{reading_again, with_temporary}
 use Rattle.es_steps.specs.ObjectSpread.{SpreadRule}
 use Rattle.es_steps.specs.Open.{Additions, Open, Pending, finished}
 use Rattle.es_steps.specs.OptionalCatch.{CatchRule}
 use Rattle.es_steps.specs.OptionalCatch.CatchRule.{catches}
+use Rattle.es_steps.specs.OptionalChaining.{OptionalChainingRule}
 use Rattle.es_steps.specs.Rules.{Replacing, Writing, either_rule}
 use Rattle.es_steps.specs.Rules.Replacing.{replaces}
 use Rattle.es_steps.specs.Steps.{Ledger, Site, Spot, Step, Whole, the_program}
-use Rattle.es_steps.specs.Steps.Spot.{at_list, at_node}
-use Rattle.es_steps.specs.WrapRule.{WrapRule}
+use Rattle.es_steps.specs.Steps.Spot.{at_beside, at_body, at_list, at_node}
+use Rattle.es_steps.specs.WrapRule.{OutsideSlots, WrapRule}
 use Rattle.es_steps.specs.WrapRule.WrapRule.{wraps}
 use Rattle.es_steps.proofs.BridgeInclusion.{step_under}
 use Rattle.es_steps.proofs.FormOpen.{IsProper}
@@ -30,26 +33,24 @@ use Rattle.es_statement_runs.specs.Programs.{is_statement_node}
 use Rattle.es_statement_steps.proofs.Catchings.{CatchRow, catch-keeps, catch-rule, catch-stays}
 use Rattle.es_statement_steps.proofs.Coalescings.{CoalescingRow, coalescing-keeps, coalescing-shape}
 use Rattle.es_statement_steps.proofs.Composition.{Known, known-fine}
+use Rattle.es_statement_steps.proofs.MadeOf.{PassesMade, assigning-of, chaining-of, coalescing-of, raising-of}
+use Rattle.es_statement_steps.proofs.NoSteps.{off-step}
 use Rattle.es_statement_steps.proofs.ProgramMoves.{program-moved}
 use Rattle.es_statement_steps.proofs.Replacings.{Row, RowShape, replacing-hoists, replacing-rule}
 use Rattle.es_statement_steps.proofs.RowRuns.{KeepsRuns, StepAlike, row-alike, unchanged}
+use Rattle.es_statement_steps.proofs.SpreadParts.{spread-so}
 use Rattle.es_statement_steps.proofs.StepMoves.{NodeRule}
 use Rattle.es_statement_steps.proofs.StepSplits.{step-either}
 use Rattle.es_statement_steps.proofs.Tamed.{Class, NoSlot, Tame, none-above, tamed}
 use Rattle.es_statement_steps.proofs.Writings.{written-same}
 
--- WHICH RULES ACT, where optional chaining, logical assignment and exponentiation aren't asked for
+-- WHICH RULES ACT: no slot stands in programs of the class, so that nothing is wrapped
 
 abbrev pub FurtherRules : EnvOptions → Site → Ledger → Spot → Ledger → Spot → Type 0
 FurtherRules o = either_rule (where_on o.es2019.optional_catch_binding CatchRule) (where_on (is_some o.es2018.object_rest_spread) (Replacing SpreadRule))
 
 abbrev pub StatementRules : EnvOptions → Site → Ledger → Spot → Ledger → Spot → Type 0
-StatementRules o = either_rule Writing (either_rule (where_on o.es2020.nullish_coalescing_operator (RowRule NullishCoalescingRule)) (FurtherRules o))
-
--- a rule that is off holds nowhere
-off-rule : (b : Bool) (R : Site → Ledger → Spot → Ledger → Spot → Type 0) → b ≡ false → (n : Site) (s s' : Ledger) (x y : Spot) → where_on b R n s x s' y → ⊥
-off-rule true R e n s s' x y h = absurd (cc e)
-off-rule false R e n s s' x y h = h
+StatementRules o = either_rule Writing (either_rule (rows_under o) (FurtherRules o))
 
 pub on-rule : (b : Bool) (R : Site → Ledger → Spot → Ledger → Spot → Type 0) (n : Site) (s s' : Ledger) (x y : Spot) → where_on b R n s x s' y → R n s x s' y
 on-rule true R n s s' x y h = h
@@ -58,45 +59,81 @@ on-rule false R n s s' x y h = absurd h
 wrap-nodes : (o : EnvOptions) (n : Site) (s s' : Ledger) (x y : Spot) → WrapRule o n s x s' y → AtNodes x y
 wrap-nodes o n s s' x y (wraps d e slot h) = tt
 
-pub record AskedForNo (o : EnvOptions) : Type 0 where
-  pub chaining : o.es2020.optional_chaining ≡ false
-  pub logical : o.es2021.logical_assignment_operators ≡ false
-  pub exponentiation : o.es2016.exponentiation_operator ≡ false
+-- AT NODES, whatever each row does wherever it acts the rules do
 
--- what the rows make is of the class
-coalescing-class : (n : Site) (s s' : Ledger) (t u : Tree) → RowRule NullishCoalescingRule n s (at_node t) s' (at_node u) → Class t → Class u
-coalescing-class n s s' t u (replaces bs h) c = row n _ bs t u h.rule c
-  where
-    row : (n : Site) (w : Whole) (bs : List Bound) (t u : Tree) → NullishCoalescingRule n w bs t u → Class t → Class u
-    row n w bs t u (with_temporary {l = l} {r = r} texts again next) c = let d = and_parts (all_nodes is_statement_node l) (all_nodes is_statement_node r && true) c in rw (d.0, (and_parts (all_nodes is_statement_node r) true d.1).0) refl
-    row n w bs t u (reading_again {l = l} {r = r} texts again) c = let d = and_parts (all_nodes is_statement_node l) (all_nodes is_statement_node r && true) c in rw (d.0, (and_parts (all_nodes is_statement_node r) true d.1).0) refl
+pub record RowsDo (no_all : Bool) (F : Tree → Tree → Type 0) : Type 0 where
+  pub assigning : (n : Site) (w : Whole) (bs : List Bound) (t u : Tree) → LogicalAssignmentRule n w bs t u → F t u
+  pub coalescing : (n : Site) (w : Whole) (bs : List Bound) (t u : Tree) → NullishCoalescingRule n w bs t u → F t u
+  pub chaining : (n : Site) (w : Whole) (bs : List Bound) (t u : Tree) → OptionalChainingRule no_all n w bs t u → F t u
+  pub raising : (n : Site) (w : Whole) (bs : List Bound) (t u : Tree) → ExponentiationRule n w bs t u → F t u
+  pub catching : (n : Site) (s s' : Ledger) (t u : Tree) → CatchRule n s (at_node t) s' (at_node u) → F t u
+  pub spreading : (n : Site) (w : Whole) (bs : List Bound) (t u : Tree) → SpreadRule n w bs t u → F t u
+
+module _ (o : EnvOptions) (F : Tree → Tree → Type 0) (rows : RowsDo o.assumptions.no_document_all F) where
+  replaced : (R : Site → Whole → List Bound → Tree → Tree → Type 0) → ((n : Site) (w : Whole) (bs : List Bound) (t u : Tree) → R n w bs t u → F t u) → {n : Site} {s s' : Ledger} {t u : Tree} → Replacing R n s (at_node t) s' (at_node u) → F t u
+  replaced R does {n = n} {t = t} {u = u} (replaces {w = w} bs h) = does n w bs t u h
+
+  row-does : (b : Bool) (R : Site → Whole → List Bound → Tree → Tree → Type 0) → ((n : Site) (w : Whole) (bs : List Bound) (t u : Tree) → R n w bs t u → F t u) → (n : Site) (s s' : Ledger) (t u : Tree) → where_on b (RowRule R) n s (at_node t) s' (at_node u) → F t u
+  row-does b R does n s s' t u h = replaced (OutsideSlots R) (λ n w bs t u r. does n w bs t u r.rule) (on-rule b (RowRule R) n s s' (at_node t) (at_node u) h)
+
+  pub nodes-do : (n : Site) (s s' : Ledger) (t u : Tree) → StatementRules o n s (at_node t) s' (at_node u) → F t u
+  nodes-do n s s' t u (inl h) = absurd (writes-lists h)
+  nodes-do n s s' t u (inr (inl (inl h))) = row-does o.es2021.logical_assignment_operators LogicalAssignmentRule rows.assigning n s s' t u h
+  nodes-do n s s' t u (inr (inl (inr (inl (inl h))))) = row-does o.es2020.nullish_coalescing_operator NullishCoalescingRule rows.coalescing n s s' t u h
+  nodes-do n s s' t u (inr (inl (inr (inl (inr h))))) = row-does o.es2020.optional_chaining (OptionalChainingRule o.assumptions.no_document_all) rows.chaining n s s' t u h
+  nodes-do n s s' t u (inr (inl (inr (inr h)))) = row-does o.es2016.exponentiation_operator ExponentiationRule rows.raising n s s' t u h
+  nodes-do n s s' t u (inr (inr (inl h))) = rows.catching n s s' t u (on-rule o.es2019.optional_catch_binding CatchRule n s s' (at_node t) (at_node u) h)
+  nodes-do n s s' t u (inr (inr (inr h))) = replaced SpreadRule rows.spreading (on-rule (is_some o.es2018.object_rest_spread) (Replacing SpreadRule) n s s' (at_node t) (at_node u) h)
+
+-- WHAT THEY MAKE is of the class
+
+made-class : PassesMade is_statement_node
+made-class ObjectProperty l fs h = absurd (cc h)
+made-class MetaProperty l fs h = absurd (cc h)
+made-class StaticBlock l fs h = absurd (cc h)
+made-class FunctionDeclaration l fs h = absurd (cc h)
+made-class FunctionExpression l fs h = absurd (cc h)
+made-class FunctionBody l fs h = absurd (cc h)
+made-class ArrowFunctionExpression l fs h = absurd (cc h)
+made-class ClassDeclaration l fs h = absurd (cc h)
+made-class ClassExpression l fs h = absurd (cc h)
+made-class MethodDefinition l fs h = absurd (cc h)
+made-class PropertyDefinition l fs h = absurd (cc h)
+made-class ReturnStatement l fs h = absurd (cc h)
+made-class PrivateIdentifier l fs h = absurd (cc h)
+made-class Super l fs h = absurd (cc h)
+made-class _ l fs h = refl
 
 catch-class : (n : Site) (s s' : Ledger) (t u : Tree) → CatchRule n s (at_node t) s' (at_node u) → Class t → Class u
 catch-class n s s' t u (catches fresh) c = c
 
-pub record FurtherClass (o : EnvOptions) : Type 0 where
-  pub spread : (n : Site) (s s' : Ledger) (t u : Tree) → where_on (is_some o.es2018.object_rest_spread) (Replacing SpreadRule) n s (at_node t) s' (at_node u) → Class t → Class u
+placed-class : (m : Label) (u : Tree) → all_nodes is_statement_node (placed m u) ≡ all_nodes is_statement_node u
+placed-class m (node ObjectProperty l fs) = refl
+placed-class m (node MetaProperty l fs) = refl
+placed-class m (node k l fs) = refl
 
-module _ (o : EnvOptions) (no : AskedForNo o) (further : FurtherClass o) where
+rows-class : (no_all : Bool) → RowsDo no_all (λ t u. Class t → Class u)
+rows-class no_all = record {
+  assigning = assigning-of is_statement_node made-class;
+  coalescing = coalescing-of is_statement_node made-class;
+  chaining = chaining-of is_statement_node made-class no_all;
+  raising = raising-of is_statement_node made-class;
+  catching = catch-class;
+  spreading = spread-so is_statement_node refl (λ given. refl) (λ ps. refl) placed-class;
+}
+
+module _ (o : EnvOptions) where
   tame-nodes : (n : Site) (s s' : Ledger) (t u : Tree) → NoSlot n.above → alone o n s (at_node t) s' (at_node u) → Class t → StatementRules o n s (at_node t) s' (at_node u) × Class u
   tame-nodes n s s' t u slot (inl (inl h)) c = absurd (writes-lists h)
   tame-nodes n s s' t u slot (inl (inr (inl (wraps role e here h)))) c = absurd (cc (here, slot.slot))
-  tame-nodes n s s' t u slot (inl (inr (inr (inl h)))) c = absurd (off-rule o.es2021.logical_assignment_operators _ no.logical n s s' (at_node t) (at_node u) h)
-  tame-nodes n s s' t u slot (inl (inr (inr (inr (inl (inl h)))))) c = (inr (inl h), coalescing-class n s s' t u (on-rule o.es2020.nullish_coalescing_operator (RowRule NullishCoalescingRule) n s s' (at_node t) (at_node u) h) c)
-  tame-nodes n s s' t u slot (inl (inr (inr (inr (inl (inr h)))))) c = absurd (off-rule o.es2020.optional_chaining _ no.chaining n s s' (at_node t) (at_node u) h)
-  tame-nodes n s s' t u slot (inl (inr (inr (inr (inr h))))) c = absurd (off-rule o.es2016.exponentiation_operator _ no.exponentiation n s s' (at_node t) (at_node u) h)
-  tame-nodes n s s' t u slot (inr (inl h)) c = (inr (inr (inl h)), catch-class n s s' t u (on-rule o.es2019.optional_catch_binding CatchRule n s s' (at_node t) (at_node u) h) c)
-  tame-nodes n s s' t u slot (inr (inr h)) c = (inr (inr (inr h)), further.spread n s s' t u h c)
+  tame-nodes n s s' t u slot (inl (inr (inr h))) c = (inr (inl h), nodes-do o (λ t u. Class t → Class u) (rows-class o.assumptions.no_document_all) n s s' t u (inr (inl h)) c)
+  tame-nodes n s s' t u slot (inr h) c = (inr (inr h), nodes-do o (λ t u. Class t → Class u) (rows-class o.assumptions.no_document_all) n s s' t u (inr (inr h)) c)
 
   tame-lists : (n : Site) (s s' : Ledger) (p q : Pending) (x y : Option Bound) (a b : Additions) (ts us : Trees) → alone o n s (at_list p x a ts) s' (at_list q y b us) → StatementRules o n s (at_list p x a ts) s' (at_list q y b us)
   tame-lists n s s' p q x y a b ts us (inl (inl h)) = inl h
   tame-lists n s s' p q x y a b ts us (inl (inr (inl h))) = absurd (wrap-nodes o n s s' (at_list p x a ts) (at_list q y b us) h)
-  tame-lists n s s' p q x y a b ts us (inl (inr (inr (inl h)))) = absurd (off-rule o.es2021.logical_assignment_operators _ no.logical n s s' (at_list p x a ts) (at_list q y b us) h)
-  tame-lists n s s' p q x y a b ts us (inl (inr (inr (inr (inl (inl h)))))) = inr (inl h)
-  tame-lists n s s' p q x y a b ts us (inl (inr (inr (inr (inl (inr h)))))) = absurd (off-rule o.es2020.optional_chaining _ no.chaining n s s' (at_list p x a ts) (at_list q y b us) h)
-  tame-lists n s s' p q x y a b ts us (inl (inr (inr (inr (inr h))))) = absurd (off-rule o.es2016.exponentiation_operator _ no.exponentiation n s s' (at_list p x a ts) (at_list q y b us) h)
-  tame-lists n s s' p q x y a b ts us (inr (inl h)) = inr (inr (inl h))
-  tame-lists n s s' p q x y a b ts us (inr (inr h)) = inr (inr (inr h))
+  tame-lists n s s' p q x y a b ts us (inl (inr (inr h))) = inr (inl h)
+  tame-lists n s s' p q x y a b ts us (inr h) = inr (inr h)
 
   pub tame-alone : Tame (alone o) (StatementRules o)
   tame-alone = record { nodes = tame-nodes; lists = tame-lists }
@@ -104,14 +141,25 @@ module _ (o : EnvOptions) (no : AskedForNo o) (further : FurtherClass o) where
   pub tamed-step : {s s' : Ledger} {x y : Open} → Step (alone o) the_program s x s' y → IsProper x → IsProper y → Class (finished x) → Step (StatementRules o) the_program s x s' y × Class (finished y)
   tamed-step h proper after class = tamed (alone o) (StatementRules o) (alone-form o) tame-alone h none-above proper after class
 
--- writing keeps form as all rules do
-pub writing-form : (o : EnvOptions) → FormLawful Writing
-writing-form o = record {
-  at_nodes = λ n s s' t u a slot h f. absurd (writes-lists h);
-  no_flanks = λ n s s' t u bs cs h. absurd (writes-lists h);
-  at_lists = λ n s s' p q x y a b ts us h k. (alone-form o).at_lists n s s' p q x y a b ts us (inl (inl h)) k;
-  at_bodies = λ n s s' p t u h. (alone-form o).at_bodies n s s' p t u (inl (inl h));
+-- a part of a rule keeps form as the rule does
+under-form : (R Q : Site → Ledger → Spot → Ledger → Spot → Type 0) → ((n : Site) (s : Ledger) (x : Spot) (s' : Ledger) (y : Spot) → R n s x s' y → Q n s x s' y) → FormLawful Q → FormLawful R
+under-form R Q under law = record {
+  at_nodes = λ n s s' t u a slot h f. law.at_nodes n s s' t u a slot (under n s (at_node t) s' (at_node u) h) f;
+  no_flanks = λ n s s' t u bs cs h. law.no_flanks n s s' t u bs cs (under n s (at_node t) s' (at_beside bs u cs) h);
+  at_lists = λ n s s' p q x y a b ts us h k. law.at_lists n s s' p q x y a b ts us (under n s (at_list p x a ts) s' (at_list q y b us) h) k;
+  at_bodies = λ n s s' p t u h. law.at_bodies n s s' p t u (under n s (at_body p t) s' (at_node u) h);
 }
+
+statement-alone : (o : EnvOptions) (n : Site) (s : Ledger) (x : Spot) (s' : Ledger) (y : Spot) → StatementRules o n s x s' y → alone o n s x s' y
+statement-alone o n s x s' y (inl h) = inl (inl h)
+statement-alone o n s x s' y (inr (inl h)) = inl (inr (inr h))
+statement-alone o n s x s' y (inr (inr h)) = inr h
+
+pub statement-form : (o : EnvOptions) → FormLawful (StatementRules o)
+statement-form o = under-form (StatementRules o) (alone o) (statement-alone o) (alone-form o)
+
+pub writing-form : (o : EnvOptions) → FormLawful Writing
+writing-form o = under-form Writing (alone o) (λ n s x s' y h. inl (inl h)) (alone-form o)
 
 -- WHAT STEPS OF THE RULES DO, from what those of each do
 
@@ -122,6 +170,9 @@ module _ (P : Ledger → Ledger → Open → Open → Type 0) where
   pub on-does : (b : Bool) (R : Site → Ledger → Spot → Ledger → Spot → Type 0) → Does R → Does (where_on b R)
   on-does b R does s s' x y h = does s s' x y (step_under (where_on b R) R (λ n s x s' y r. on-rule b R n s s' x y r) h)
 
+  pub off-does : (b : Bool) (R : Site → Ledger → Spot → Ledger → Spot → Type 0) → b ≡ false → Does (where_on b R)
+  off-does b R e s s' x y h = absurd (off-step b R e h)
+
   either-does : (R Q : Site → Ledger → Spot → Ledger → Spot → Type 0) → Does R → Does Q → Does (either_rule R Q)
   either-does R Q first second s s' x y h = at (step-either R Q h)
     where
@@ -129,17 +180,45 @@ module _ (P : Ledger → Ledger → Open → Open → Type 0) where
       at (inl r) = first s s' x y r
       at (inr r) = second s s' x y r
 
-  pub statement-does : (o : EnvOptions) → Does Writing → Does (RowRule NullishCoalescingRule) → Does CatchRule → Does (where_on (is_some o.es2018.object_rest_spread) (Replacing SpreadRule)) → Does (StatementRules o)
-  statement-does o writing coalescing catch spread =
-      either-does Writing (either_rule (where_on o.es2020.nullish_coalescing_operator (RowRule NullishCoalescingRule)) (FurtherRules o)) writing
-      (either-does (where_on o.es2020.nullish_coalescing_operator (RowRule NullishCoalescingRule)) (FurtherRules o) (on-does o.es2020.nullish_coalescing_operator (RowRule NullishCoalescingRule) coalescing)
-      (either-does (where_on o.es2019.optional_catch_binding CatchRule) (where_on (is_some o.es2018.object_rest_spread) (Replacing SpreadRule)) (on-does o.es2019.optional_catch_binding CatchRule catch) spread))
+  -- of each rule, where options ask for it
+  pub record EachDoes (o : EnvOptions) : Type 0 where
+    pub writing : Does Writing
+    pub assigning : Does (where_on o.es2021.logical_assignment_operators (RowRule LogicalAssignmentRule))
+    pub coalescing : Does (RowRule NullishCoalescingRule)
+    pub chaining : Does (where_on o.es2020.optional_chaining (RowRule (OptionalChainingRule o.assumptions.no_document_all)))
+    pub raising : Does (where_on o.es2016.exponentiation_operator (RowRule ExponentiationRule))
+    pub catching : Does CatchRule
+    pub spreading : Does (where_on (is_some o.es2018.object_rest_spread) (Replacing SpreadRule))
+
+  module _ (o : EnvOptions) (each : EachDoes o) where
+    abbrev Assigning : Site → Ledger → Spot → Ledger → Spot → Type 0
+    Assigning = where_on o.es2021.logical_assignment_operators (RowRule LogicalAssignmentRule)
+
+    abbrev Coalescing : Site → Ledger → Spot → Ledger → Spot → Type 0
+    Coalescing = where_on o.es2020.nullish_coalescing_operator (RowRule NullishCoalescingRule)
+
+    abbrev Chaining : Site → Ledger → Spot → Ledger → Spot → Type 0
+    Chaining = where_on o.es2020.optional_chaining (RowRule (OptionalChainingRule o.assumptions.no_document_all))
+
+    abbrev Raising : Site → Ledger → Spot → Ledger → Spot → Type 0
+    Raising = where_on o.es2016.exponentiation_operator (RowRule ExponentiationRule)
+
+    rows-does : Does (rows_under o)
+    rows-does =
+        either-does Assigning (either_rule (either_rule Coalescing Chaining) Raising) each.assigning
+        (either-does (either_rule Coalescing Chaining) Raising
+        (either-does Coalescing Chaining (on-does o.es2020.nullish_coalescing_operator (RowRule NullishCoalescingRule) each.coalescing) each.chaining) each.raising)
+
+    pub statement-does : Does (StatementRules o)
+    statement-does =
+        either-does Writing (either_rule (rows_under o) (FurtherRules o)) each.writing (either-does (rows_under o) (FurtherRules o) rows-does
+        (either-does (where_on o.es2019.optional_catch_binding CatchRule) (where_on (is_some o.es2018.object_rest_spread) (Replacing SpreadRule)) (on-does o.es2019.optional_catch_binding CatchRule each.catching) each.spreading))
 
 -- WHAT EACH DOES TO RUNS
 
-module _ (o : EnvOptions) (no : AskedForNo o) (no_all : Bool) (u : Supply) (Clean : Tree → Type 0) (quiet : (t : Tree) → Clean t → silent_names u t ≡ []) where
+module _ (no_all : Bool) (u : Supply) (Clean : Whole → Tree → Type 0) (quiet : (w : Whole) (t : Tree) → Clean w t → silent_names u t ≡ []) where
   abbrev pub Keeping : Ledger → Ledger → Open → Open → Type 0
-  Keeping s s' x y = Known s x → Known s' y → Clean (finished x) → Clean (finished y) → StepAlike no_all u (finished x) (finished y)
+  Keeping s s' x y = Known s x → Known s' y → Clean (whole_in s) (finished x) → Clean (whole_in s') (finished y) → StepAlike no_all u (finished x) (finished y)
 
   abbrev pub Runs : (Site → Ledger → Spot → Ledger → Spot → Type 0) → Type 0
   Runs = Does Keeping
@@ -147,16 +226,19 @@ module _ (o : EnvOptions) (no : AskedForNo o) (no_all : Bool) (u : Supply) (Clea
   -- a rule of nodes, from what its row does
   pub node-runs : (Q : Site → Ledger → Spot → Ledger → Spot → Type 0) (A : List Bound → Site → Whole → Tree → Tree → Type 0) (law : NodeRule Q A) → KeepsRuns no_all u law.hoisted A → Runs Q
   node-runs Q A law keeps s s' x y h k m c d =
-      row-alike no_all u Q A law keeps (whole_in s) (finished x) (finished y) (program-moved Q A law h k.proper k.form k.class (known-fine k) (known-fine m) k.resolved) k.named (known-fine k) (known-fine m) (quiet (finished x) c) (quiet (finished y) d)
+      row-alike no_all u Q A law keeps (whole_in s) (finished x) (finished y) (program-moved Q A law h k.proper k.form k.class (known-fine k) (known-fine m) k.resolved) k.named (known-fine k) (known-fine m) (quiet (whole_in s) (finished x) c) (quiet (whole_in s') (finished y) d)
 
   -- a row that declares its temporaries
   pub replacing-runs : (R : Site → Whole → List Bound → Tree → Tree → Type 0) (shape : RowShape R) → KeepsRuns no_all u true (Row R shape) → Runs (Replacing R)
   replacing-runs R shape keeps = node-runs (Replacing R) (Row R shape) (replacing-rule R shape) (subst (λ (b : Bool). KeepsRuns no_all u b (Row R shape)) (sym (replacing-hoists R shape)) keeps)
 
+  -- what is pending is written
+  pub writing-runs : EnvOptions → Runs Writing
+  writing-runs o s s' x y h k m c d = unchanged no_all u (finished x) (finished y) (written-same Writing (writing-form o) (λ n s s' t u h. absurd (writes-lists h)) h k.proper).1
+
+  pub coalescing-runs : Runs (RowRule NullishCoalescingRule)
+  coalescing-runs = replacing-runs CoalescingRow coalescing-shape (coalescing-keeps no_all u)
+
   -- a catch clause with a name
   pub catch-runs : Runs CatchRule
   catch-runs = node-runs CatchRule CatchRow catch-rule (subst (λ (b : Bool). KeepsRuns no_all u b CatchRow) (sym catch-stays) (catch-keeps no_all u))
-
-  pub statement-runs : Runs (where_on (is_some o.es2018.object_rest_spread) (Replacing SpreadRule)) → Runs (StatementRules o)
-  statement-runs spread = statement-does Keeping o (λ s s' x y h k m c d. unchanged no_all u (finished x) (finished y) (written-same Writing (writing-form o) (λ n s s' t u h. absurd (writes-lists h)) h k.proper).1)
-      (replacing-runs CoalescingRow coalescing-shape (coalescing-keeps no_all u)) catch-runs spread

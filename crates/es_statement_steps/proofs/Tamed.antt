@@ -1,15 +1,15 @@
 -- In programs of the class no slot stands, so that nothing is wrapped, and steps of other rules make no function.
 use Rattle.std.proofs.Common.{◌≡◌, ℕ, zero, suc, refl, sym, ap, subst, ◌∙◌, List, [], ◌∷◌}
 use Rattle.std.proofs.lemmas.Bool.{and_parts, and_from}
-use Rattle.std.specs.Prelude.{Bool, true, false, ◌&&◌, ◌||◌, Option, None, codes, map, if◌then◌else◌}
+use Rattle.std.specs.Prelude.{Bool, true, false, ◌&&◌, ◌||◌, Option, codes, map}
 use Rattle.es_tree.specs.Ancestors.{Ancestor, ancestor, is_field_value}
-use Rattle.es_tree.specs.Tree.{Tree, Label, Fields, done, ◌then◌, Field, missing, one, many, statements, Trees, empty, ◌before◌, trees}
-use Rattle.es_tree.specs.Walks.{all_nodes, all_in_field, all_in_fields, all_in_trees}
+use Rattle.es_tree.specs.Tree.{Tree, Label, Fields, Trees, empty, trees}
+use Rattle.es_tree.specs.Walks.{all_nodes, all_in_fields, all_in_trees}
 use Rattle.es_tree.specs.declared.ast_type.AstType.{AstType}
 use Rattle.es_tree.specs.declared.ast_type.AstType.TheVariants.{ArrowFunctionExpression, FunctionDeclaration, FunctionExpression, MetaProperty, ObjectProperty, PropertyDefinition}
 use Rattle.es_resolution.specs.Declarations.{Bound}
-use Rattle.es_steps.specs.Nodes.{declarator, joined_trees}
-use Rattle.es_steps.specs.Open.{Additions, Open, OpenField, OpenFields, OpenTrees, Pending, after_imports, declaration, finished, finished_field, finished_fields, finished_trees, is_body, is_import, pending_statements, whole_list, with_vars, nothing_pending}
+use Rattle.es_steps.specs.Nodes.{declarator}
+use Rattle.es_steps.specs.Open.{Additions, Open, OpenField, OpenFields, OpenTrees, Pending, declaration, finished, finished_field, finished_fields, finished_trees, is_body, pending_statements, whole_list}
 use Rattle.es_steps.specs.Slots.{is_in_parameter, is_slot, leads_to_parameter, leads_to_part, leads_to_value}
 use Rattle.es_steps.specs.Steps.{FieldStep, FieldsStep, Ledger, Site, Spot, Step, TreesStep, outline}
 use Rattle.es_steps.specs.Steps.Spot.{at_list, at_node}
@@ -17,32 +17,18 @@ use Rattle.es_steps.specs.Steps.Step.{acts, inside}
 use Rattle.es_steps.specs.Steps.FieldsStep.{in_first, in_later}
 use Rattle.es_steps.specs.Steps.FieldStep.{acts_on_body, acts_on_list, in_body, in_child, in_children, in_list, in_program, in_target}
 use Rattle.es_steps.specs.Steps.TreesStep.{acts_on_flanked, after_flanked, flanks, in_flanked, in_head, in_tail}
-use Rattle.es_steps.proofs.FormLists.{IsPlainList}
 use Rattle.es_steps.proofs.FormOpen.{AreProperFields, AreProperTrees, IsProper, IsProperField}
 use Rattle.es_steps.proofs.FormRules.{FormLawful}
 use Rattle.es_steps.proofs.Opened.{finished-opened, finished-trees}
 use Rattle.es_statement_runs.specs.Programs.{is_statement_kind, is_statement_node}
 use Rattle.es_statement_steps.proofs.Below.{Below, BelowField, BelowTrees, nodes_below}
 use Rattle.es_statement_steps.proofs.StepMoves.{below-after}
+use Rattle.es_statement_steps.proofs.WholeLists.{fields-pass, whole-below}
 
 -- THE CLASS, node by node
 
 abbrev pub Class : Tree → Type 0
 Class t = all_nodes is_statement_node t ≡ true
-
-class-trees : (ts : Trees) → BelowTrees Class ts → all_in_trees is_statement_node ts ≡ true
-class-trees empty h = refl
-class-trees (t before ts) h = and_from (all_nodes is_statement_node t) (all_in_trees is_statement_node ts) h.0 (class-trees ts h.1)
-
-class-field : (f : Field) → BelowField Class f → all_in_field is_statement_node f ≡ true
-class-field missing h = refl
-class-field (one t) h = h
-class-field (many ts) h = class-trees ts h
-class-field (statements ts) h = class-trees ts h
-
-class-fields : (fs : Fields) → Below (λ i. Class) fs → all_in_fields is_statement_node fs ≡ true
-class-fields done h = refl
-class-fields (f then fs) h = and_from (all_in_field is_statement_node f) (all_in_fields is_statement_node fs) (class-field f h.0) (class-fields fs h.1)
 
 pub node-kind : (k : AstType) (l : Label) (fs : Fields) → is_statement_node k l fs ≡ true → is_statement_kind k ≡ true
 node-kind ObjectProperty l fs h = refl
@@ -99,25 +85,6 @@ class-vars : (bs : List Bound) → BelowTrees Class (declaration (codes "var") (
 class-vars [] = tt
 class-vars (b ∷ bs) = (rw (class-declarators bs) refl, tt)
 
-class-joined : (bs ts : Trees) → BelowTrees Class bs → BelowTrees Class ts → BelowTrees Class (joined_trees bs ts)
-class-joined empty ts h g = g
-class-joined (b before bs) ts h g = (h.0, class-joined bs ts h.1 g)
-
-class-after : (bs ts : Trees) → BelowTrees Class bs → BelowTrees Class ts → BelowTrees Class (after_imports bs ts)
-class-after bs empty h g = h
-class-after bs (t before ts) h g = at (is_import t) (class-after bs ts h g.1)
-  where
-    at : (v : Bool) → BelowTrees Class (after_imports bs ts) → BelowTrees Class (if v then t before after_imports bs ts else joined_trees bs (t before ts))
-    at true r = (g.0, r)
-    at false r = class-joined bs (t before ts) h g
-
-class-whole : (p : Pending) (y : Option Bound) (a : Additions) (ts : Trees) → IsPlainList p y a → BelowTrees Class ts → BelowTrees Class (whole_list p y a ts)
-class-whole p y a ts plain h =
-    subst (λ (p : Pending). BelowTrees Class (whole_list p y a ts)) (sym plain.vars.are)
-    (subst (λ (y : Option Bound). BelowTrees Class (whole_list (with_vars plain.vars.names nothing_pending) y a ts)) (sym plain.this)
-    (subst (λ (a : Additions). BelowTrees Class (whole_list (with_vars plain.vars.names nothing_pending) None a ts)) (sym plain.top)
-    (class-after (declaration (codes "var") (map declarator plain.vars.names) empty) ts (class-vars plain.vars.names) h)))
-
 -- STEPS: where no slot stands a step of a rule is one of another, and the class is kept
 
 pub record Tame (R P : Site → Ledger → Spot → Ledger → Spot → Type 0) : Type 0 where
@@ -134,7 +101,7 @@ module _ (R P : Site → Ledger → Spot → Ledger → Spot → Type 0) (law : 
         let d = and_parts (is_statement_node k l (finished_fields fs)) (all_in_fields is_statement_node (finished_fields fs)) class in
         let kind = node-kind k l (finished_fields fs) d.0 in
         let r = tamed-in h (λ i. slot-below n.above k l (outline fs) i kind slot) (is_body k) proper proper_after (λ i. no-arrow k i kind) (nodes_below is_statement_node (finished_fields fs) d.1) in
-        (inside r.0, and_from (is_statement_node k l (finished_fields gs)) (all_in_fields is_statement_node (finished_fields gs)) (node-test k l (finished_fields fs) (finished_fields gs) d.0) (class-fields (finished_fields gs) r.1))
+        (inside r.0, and_from (is_statement_node k l (finished_fields gs)) (all_in_fields is_statement_node (finished_fields gs)) (node-test k l (finished_fields fs) (finished_fields gs) d.0) (fields-pass is_statement_node (finished_fields gs) r.1))
 
     tamed-in : {c : ℕ → Site} {s s' : Ledger} {fs gs : OpenFields} → FieldsStep R c s fs s' gs → ((i : ℕ) → NoSlot (c i).above) → (bodies : ℕ → Bool) → AreProperFields bodies fs → AreProperFields bodies gs → ((i : ℕ) → bodies i ≡ false) → Below (λ i. Class) (finished_fields fs) → FieldsStep P c s fs s' gs × Below (λ i. Class) (finished_fields gs)
     tamed-in (in_first h) slot bodies proper proper_after none class = let r = tamed-by h (slot zero) (bodies zero) proper.0 proper_after.0 (none zero) class.0 in (in_first r.0, (r.1, class.1))
@@ -146,13 +113,13 @@ module _ (R P : Site → Ledger → Spot → Ledger → Spot → Type 0) (law : 
     tamed-by (in_body e y y' h) slot b proper proper_after none class = absurd (let e : b ≡ true = proper.0 in cc (e, none))
     tamed-by (in_list {p = p} {q = q} {y = y} {b = d} {ts = ts} {us = us} e e' h) slot b proper proper_after none class =
         let r = tamed-all h slot proper.1 proper_after.1 (below-after Class (pending_statements p y d) (finished_trees ts) class) in
-        (in_list e e' r.0, class-whole q y d (finished_trees us) proper_after.0 r.1)
+        (in_list e e' r.0, whole-below Class class-vars q y d (finished_trees us) proper_after.0 r.1)
     tamed-by (in_target {p = p} {q = q} {y = y} {y' = y'} {b = d} {ts = ts} {us = us} e h) slot b proper proper_after none class =
         let r = tamed-all h slot proper.1 proper_after.1 (below-after Class (pending_statements p y d) (finished_trees ts) class) in
-        (in_target e r.0, class-whole q y' d (finished_trees us) proper_after.0 r.1)
+        (in_target e r.0, whole-below Class class-vars q y' d (finished_trees us) proper_after.0 r.1)
     tamed-by (in_program {p = p} {q = q} {y = y} {y' = y'} {b = d} {b' = d'} {ts = ts} {us = us} e h) slot b proper proper_after none class =
         let r = tamed-all h slot proper.1 proper_after.1 (below-after Class (pending_statements p y d) (finished_trees ts) class) in
-        (in_program e r.0, class-whole q y' d' (finished_trees us) proper_after.0 r.1)
+        (in_program e r.0, whole-below Class class-vars q y' d' (finished_trees us) proper_after.0 r.1)
     tamed-by (acts_on_list {n = n} {s = s} {s' = s'} {p = p} {q = q} {x = x} {y = y} {a = a} {b = d} ts us h) slot b proper proper_after none class =
         let same = ap (λ vs. whole_list p x a vs) (finished-trees ts) ∙ (law.at_lists n s s' p q x y a d ts us h proper.0).trees ∙ sym (ap (λ vs. whole_list q y d vs) (finished-trees us)) in
         (acts_on_list ts us (tame.lists n s s' p q x y a d ts us h), subst (λ (vs : Trees). BelowTrees Class vs) same class)

@@ -1,37 +1,68 @@
 -- The law of steps and runs: what steps of the lowerings reach from a program without functions, arrows and classes runs as the
 -- program does.
-use Rattle.std.specs.Prelude.{◌≡◌, ◌||◌, Bool, true, false, List, is_some, if◌then◌else◌}
-use Rattle.es_tree.specs.Tree.{Tree}
+use Rattle.std.specs.Prelude.{◌≡◌, ◌&&◌, ◌||◌, Bool, true, false, not, List, is_some, if◌then◌else◌}
+use Rattle.es_tree.specs.Tree.{Fields, Label, Tree}
+use Rattle.es_tree.specs.Walks.{all_nodes, any_node}
 use Rattle.es_tree.specs.Words.{Text}
+use Rattle.es_tree.specs.declared.ast_type.AstType.{AstType}
 use Rattle.es_tree.specs.declared.options.EnvOptions.{EnvOptions}
 use Rattle.es_steps.specs.CoreBridge.{Reached, first_whole}
 use Rattle.es_reached.specs.Reached.{IsResult, built_rules}
+use Rattle.es_reached.specs.Unmade.{is_sought, of_assignments, of_chains, of_powers, of_spreads}
+use Rattle.es_unsupported.specs.Shapes.{has_chain_tag}
 use Rattle.es_statement_runs.specs.Helpers.{Supply}
 use Rattle.es_statement_runs.specs.Helpers.Supply.{no_helpers, by_global}
 use Rattle.es_statement_runs.specs.Programs.{IsStatementProgram, uses_no_helper}
 use Rattle.es_statement_runs.specs.Runs.{RunAlike}
 
--- whether the options ask for a lowering of which no row is known to keep the runs of statements, whatever its operands are
-abbrev pub asks_for_unknown_rows : EnvOptions → Bool
-asks_for_unknown_rows o = o.es2020.optional_chaining || o.es2021.logical_assignment_operators || o.es2016.exponentiation_operator
+-- WHICH ROWS ACT: those that options ask for whose construct stands in the program
+
+abbrev pub spreads_there : EnvOptions → Tree → Bool
+spreads_there o p = is_some o.es2018.object_rest_spread && any_node (is_sought of_spreads) p
+
+abbrev pub chains_there : EnvOptions → Tree → Bool
+chains_there o p = o.es2020.optional_chaining && any_node (is_sought of_chains) p
+
+abbrev pub assignments_there : EnvOptions → Tree → Bool
+assignments_there o p = o.es2021.logical_assignment_operators && any_node (is_sought of_assignments) p
+
+abbrev pub powers_there : EnvOptions → Tree → Bool
+powers_there o p = o.es2016.exponentiation_operator && any_node (is_sought of_powers) p
 
 -- Object spread has its helper as a member of `babelHelpers`; the other lowerings have none.
-abbrev pub supply_asked : EnvOptions → Supply
-supply_asked o = if is_some o.es2018.object_rest_spread then by_global else no_helpers
+abbrev pub supply_there : EnvOptions → Tree → Supply
+supply_there o p = if spreads_there o p then by_global else no_helpers
+
+-- whether there are others beside it of which no law is known there
+abbrev pub mixes_helpers : EnvOptions → Tree → Bool
+mixes_helpers o p = spreads_there o p && (chains_there o p || assignments_there o p || powers_there o p)
+
+-- whether they assume that no value is `document.all` (ECMA-262, B.3.6): optional chaining alone may
+abbrev pub assumes_no_all : EnvOptions → Tree → Bool
+assumes_no_all o p = chains_there o p && o.assumptions.no_document_all
+
+-- no tag of a template is an optional chain, maybe in parentheses (13.3.9, 13.3.11)
+abbrev pub no_chain_tag : AstType → Label → Fields → Bool
+no_chain_tag k l fs = not (has_chain_tag k l fs)
+
+-- Where chains are lowered no tag is one: that isn't lowered.
+abbrev pub TagsAreNoChains : EnvOptions → Tree → Type 0
+TagsAreNoChains o p = o.es2020.optional_chaining ≡ true → all_nodes no_chain_tag p ≡ true
 
 -- A valid program that uses no helper itself runs as what steps of these rules reach from it, at whatever places they are taken and in
--- whatever order.
+-- whatever order: of whatever operands its expressions are, and where it is assumed that no value is `document.all` in every run in which
+-- none is.
 abbrev pub LawStatementRules : Type 0
-LawStatementRules = (o : EnvOptions) (p q : Tree) (names : List Text) → IsStatementProgram p → asks_for_unknown_rows o ≡ false → uses_no_helper (supply_asked o) p ≡ true →
-    Reached (built_rules o) p (first_whole p) names q → RunAlike (supply_asked o) false p q
+LawStatementRules = (o : EnvOptions) (p q : Tree) (names : List Text) → IsStatementProgram p → mixes_helpers o p ≡ false → TagsAreNoChains o p → uses_no_helper (supply_there o p) p ≡ true →
+    Reached (built_rules o) p (first_whole p) names q → RunAlike (supply_there o p) (assumes_no_all o p) p q
 
 -- A program of which the law speaks under these options.
 pub record RunsAsStatements (o : EnvOptions) (p : Tree) : Type 0 where
   -- it is valid, and without functions, arrows and classes
   pub class : IsStatementProgram p
-  pub rows : asks_for_unknown_rows o ≡ false
-  pub helpers : uses_no_helper (supply_asked o) p ≡ true
+  pub rows : mixes_helpers o p ≡ false
+  pub helpers : uses_no_helper (supply_there o p) p ≡ true
 
 -- So it is of what a program becomes (`IsResult`): what is written of it runs as it does.
 abbrev pub LawStatementResult : Type 0
-LawStatementResult = (o : EnvOptions) (p q : Tree) (names : List Text) → RunsAsStatements o p → IsResult o p q names → RunAlike (supply_asked o) false p q
+LawStatementResult = (o : EnvOptions) (p q : Tree) (names : List Text) → RunsAsStatements o p → TagsAreNoChains o p → IsResult o p q names → RunAlike (supply_there o p) (assumes_no_all o p) p q
