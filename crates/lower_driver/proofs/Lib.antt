@@ -2,6 +2,7 @@ pub mod Canonical
 pub mod OpenedProgram
 pub mod Causes
 pub mod NoneUnsupported
+pub mod Untagged
 pub mod BareConstructs
 pub mod CopiedOptions
 pub mod NoneLeft

@@ -1,6 +1,6 @@
 -- A program in which no construct stands that the options ask to lower has no shape that a run doesn't take.
 use Rattle.std.proofs.Common.{◌≡◌, ℕ, suc, ◌+◌, None, Option, Some, refl, ◌∙◌, List, [], ◌∷◌, ◌++◌}
-use Rattle.std.specs.Prelude.{Bool, true, false, ◌&&◌, ◌||◌, is_some, codes, if◌then◌else◌}
+use Rattle.std.specs.Prelude.{Bool, true, false, ◌&&◌, ◌||◌, is_some, codes}
 use Rattle.std.specs.Option.{option_or}
 use Rattle.es_tree.specs.Constructs.{field_at, has_enabled_construct, is_arrow, is_chain, is_enabled_construct, is_enabled_statement, is_exponentiation, is_logical_assignment, is_nullish_coalescing, is_object_rest, is_object_spread}
 use Rattle.es_tree.specs.Options.{is_external}
@@ -47,14 +47,14 @@ in-both true true more h = absurd (cc h)
 in-both true false more h = refl
 in-both false is more h = refl
 
-none-then : (here later : Option (UnsupportedKind × ℕ)) → here ≡ None → later ≡ None → option_or here later ≡ None
+pub none-then : (here later : Option (UnsupportedKind × ℕ)) → here ≡ None → later ≡ None → option_or here later ≡ None
 none-then here later h g = rw (h, g) refl
 
-none-before : (here later : Option (UnsupportedKind × ℕ)) → option_or here later ≡ None → here ≡ None
+pub none-before : (here later : Option (UnsupportedKind × ℕ)) → option_or here later ≡ None → here ≡ None
 none-before None later h = refl
 none-before (Some x) later h = h
 
-none-after : (here later : Option (UnsupportedKind × ℕ)) → option_or here later ≡ None → later ≡ None
+pub none-after : (here later : Option (UnsupportedKind × ℕ)) → option_or here later ≡ None → later ≡ None
 none-after None later h = h
 none-after (Some x) later h = absurd (cc h)
 

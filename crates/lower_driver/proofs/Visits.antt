@@ -60,7 +60,7 @@ use Rattle.es_starts.proofs.FirstTable.{law_first_of_table_proof}
 use Rattle.es_reached.specs.Reached.{built_rules}
 use Rattle.es_reached.proofs.Results.{law_core_result_proof, law_first_proof, law_result_proof}
 use Rattle.es_reached.proofs.BarePlaces.{law_bare_places_proof}
-use Rattle.es_reached.proofs.RestSteps.{law_no_rests_proof}
+use Rattle.es_reached.proofs.FreeSteps.{law_no_rests_proof}
 use Rattle.es_statement_steps.proofs.Results.{law_statement_result_proof}
 use Rattle.es_reached.proofs.Sources.{law_bare_seen_proof, law_bare_source_proof}
 use Rattle.lower_temporaries.specs.Takings.{moment_of, pending_of}
@@ -69,11 +69,13 @@ use Rattle.lower_driver.specs.Copies.{IsCopy}
 use Rattle.lower_driver.specs.Lowers.{Lowers}
 use Rattle.lower_driver.specs.Visits.{visit_ending, visit_profile}
 use Rattle.lower_driver.proofs.BareConstructs.{same-constructs, same-left}
-use Rattle.lower_driver.proofs.CopiedOptions.{copied-enabled, copied-left, copied-reached, copied-unbuilt}
+use Rattle.lower_driver.proofs.CopiedOptions.{copied-enabled, copied-left, copied-reached, copied-unbuilt, copied-unsupported}
 use Rattle.lower_driver.specs.Constructs.{is_lowered_construct, is_lowered_export}
 use Rattle.lower_driver.proofs.EitherTest.{none-of-trees}
 use Rattle.lower_driver.proofs.NoneLeft.{no-exports, none-came, none-enabled, none-written}
+use Rattle.lower_driver.proofs.NoneUnsupported.{none-unsupported}
 use Rattle.lower_driver.proofs.Settled.{tree-settled}
+use Rattle.lower_driver.proofs.Untagged.{tags-are-no-chains}
 
 -- THE FIRST MOMENT
 
@@ -267,7 +269,7 @@ module _ (c : EnvOptions) (p : Tree) (ctx ctx' : TraverseCtx TransformState) (x 
         result = becomes;
         none = sym (copied-enabled o c copy (plain_program y)) ∙ none-left (copied-unbuilt o c copy ∙ unbuilt) becomes.form (law_among_proof (plain_program y) becomes.kept) visited ∙ copied-left o c copy (plain_program y) ∙ sym (same-left o (plain_program y) result written) ∙ rests;
         core = λ core. law_core_result_proof o p (plain_program y) (made_of ctx') core right becomes;
-        statements = λ runs. law_statement_result_proof o p (plain_program y) (made_of ctx') runs becomes;
+        statements = λ runs. law_statement_result_proof o p (plain_program y) (made_of ctx') runs (tags-are-no-chains o p (sym (copied-unsupported o c copy p) ∙ taken)) becomes;
         unchanged = λ none. absurd (true≢false (sym some ∙ none));
         size = size-left next kept;
       }
@@ -280,7 +282,7 @@ becomes-itself o p form right none =
       result = becomes;
       none = none;
       core = λ core. law_core_result_proof o p p [] core right becomes;
-      statements = λ runs. law_statement_result_proof o p p [] runs becomes;
+      statements = λ runs. law_statement_result_proof o p p [] runs (tags-are-no-chains o p (none-unsupported o p none)) becomes;
       unchanged = λ asked. record { same = refl; no_names = refl };
       size = omega arith;
     }

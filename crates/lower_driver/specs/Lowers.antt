@@ -8,7 +8,7 @@ use Rattle.es_tree.specs.declared.options.EnvOptions.{EnvOptions}
 use Rattle.es_json.specs.Canonical.{canonical}
 use Rattle.es_reached.specs.Reached.{IsCoreResult, IsResult}
 use Rattle.es_statement_runs.specs.Runs.{RunAlike}
-use Rattle.es_statement_steps.specs.Laws.{RunsAsStatements, supply_asked}
+use Rattle.es_statement_steps.specs.Laws.{RunsAsStatements, assumes_no_all, supply_there}
 
 -- a source as it is written, with no name made
 pub record IsAsBefore (source written : Tree) (names : List Text) : Type 0 where
@@ -25,8 +25,9 @@ pub record Lowers (o : EnvOptions) (source written : Tree) (names : List Text) :
   -- A core program and what it becomes run alike, where the options assume that no value is `document.all` in every run in which none is.
   pub core : IsCoreProgram source → IsCoreResult o source written names
   -- A program of statements, without functions, arrows and classes, and what it becomes run alike, too: of whatever operands its expressions
-  -- are, where none of its runs is outside.
-  pub statements : RunsAsStatements o source → RunAlike (supply_asked o) false source written
+  -- are, where none of its runs is outside; where chains are lowered and the options assume that no value is `document.all`, in every run in
+  -- which none is.
+  pub statements : RunsAsStatements o source → RunAlike (supply_there o source) (assumes_no_all o source) source written
   -- where the options ask for no construct of the source, nothing is changed
   pub unchanged : has_enabled_construct o source ≡ false → IsAsBefore source written names
   pub size : tree_size written ≤ 64 * tree_size source + 64
