@@ -111,7 +111,7 @@ body-fresh : IsFreshName body_whole.in_use (codes "usingCtx") context
 body-fresh = record { number = 0; name = refl; free = refl; first = λ m h. absurd (omega arith) }
 
 body-derived : Steps (Step UsingRule the_program) (ledger body_whole nothing_pending None no_additions) (opened (program body_source)) (ledger (with_context context body_whole) nothing_pending None no_additions) (opened (program body_lowered))
-body-derived = goes (inside (in_later (in_first (in_program refl (in_head (acts body_source body_lowered (inr (inl (of_declaration named no_directive refl (record { functions = other refl (function no_function); parameters = refl; vars = refl; lexical = refl }) (record { fresh = body-fresh; other = refl; helpers = refl; helpers_used = refl }) (using refl (uses no_more) (is_left refl ended))))))))))) stays
+body-derived = goes (inside (in_later (in_first (in_program refl (in_head (acts body_source body_lowered (inr (inl (of_declaration named no_directive refl (record { functions = other refl (function no_function); parameters = refl; vars = refl; lexical = refl; once = refl }) (record { fresh = body-fresh; other = refl; helpers = refl; helpers_used = refl }) (using refl (uses no_more) (is_left refl ended))))))))))) stays
 
 body-source-resolved : IsResolved (program body_source)
 body-source-resolved = is_resolved-sound (program body_source) refl
@@ -137,7 +137,7 @@ class-fresh : IsFreshName class_whole.in_use (codes "usingCtx") context
 class-fresh = record { number = 0; name = refl; free = refl; first = λ m h. absurd (omega arith) }
 
 class-derived : Steps (Step UsingRule the_program) (ledger class_whole nothing_pending None no_additions) (opened (program class_source)) (ledger (with_context context class_whole) nothing_pending None no_additions) (opened (program class_lowered))
-class-derived = goes (inside (in_later (in_first (in_program refl (in_head (acts class_source class_lowered (inr (inl (of_static_block (made [] []) empty empty (using_x before empty) (constant_x (next_name class_whole context) before empty) class_declaration refl (record { functions = other refl no_function; parameters = refl; vars = refl; lexical = refl }) (record { fresh = class-fresh; other = refl; helpers = refl; helpers_used = refl }) (using refl (uses no_more) ended)))))))))) stays
+class-derived = goes (inside (in_later (in_first (in_program refl (in_head (acts class_source class_lowered (inr (inl (of_static_block (made [] []) empty empty (using_x before empty) (constant_x (next_name class_whole context) before empty) class_declaration refl (record { functions = other refl no_function; parameters = refl; vars = refl; lexical = refl; once = refl }) (record { fresh = class-fresh; other = refl; helpers = refl; helpers_used = refl }) (using refl (uses no_more) ended)))))))))) stays
 
 class-source-resolved : IsResolved (program class_source)
 class-source-resolved = is_resolved-sound (program class_source) refl

@@ -1,4 +1,4 @@
--- The form of lists and bodies with the temporaries that are pending for them.
+-- What may be pending for lists and bodies, and their form with it.
 use Rattle.std.proofs.Common.{◌≡◌, refl, sym, ap, subst, ◌∙◌, List, [], ◌∷◌}
 use Rattle.std.specs.Prelude.{Bool, true, false, Option, Some, None, codes, map, if◌then◌else◌}
 use Rattle.std.proofs.lemmas.Bool.{and_parts, and_from}
@@ -10,11 +10,11 @@ use Rattle.es_tree.specs.declared.table.Sort.{Sort}
 use Rattle.es_tree.specs.declared.table.Sort.TheVariants.{ArrowFunctionBody as s-ArrowFunctionBody, Expression as s-Expression, Statement as s-Statement, VariableDeclarator as s-VariableDeclarator}
 use Rattle.es_tree.proofs.NodeForm.{node_form, has_form-node}
 use Rattle.es_resolution.specs.Declarations.{Bound, is_var_scope}
-use Rattle.es_steps.specs.Nodes.{made, declarator, joined_trees, return_node}
-use Rattle.es_steps.specs.Open.{Additions, Pending, after_imports, declaration, is_import, no_additions, nothing_pending, whole_list, with_vars, written_body}
+use Rattle.es_steps.specs.Nodes.{made, declarator, declarator_with, identifier, joined_trees, return_node, this_expression, this_statement}
+use Rattle.es_steps.specs.Open.{Additions, Pending, after_imports, declaration, import_statement, is_import, no_additions, nothing_pending, pending_statements, whole_list, with_this, with_vars, written, written_body}
 use Rattle.es_steps.specs.Steps.{IsExpression}
 use Rattle.es_steps.proofs.FormSorts.{form-wider}
-use Rattle.es_steps.proofs.FormParts.{IsFormed, no-span}
+use Rattle.es_steps.proofs.FormParts.{IsFormed, IsText, no-span}
 use Rattle.es_steps.proofs.FormMembers.{formed-first, one-sort}
 use Rattle.es_steps.proofs.FormRows.{AreTexts}
 
@@ -26,14 +26,75 @@ pub record IsPlain (p : Pending) : Type 0 where
   pub texts : AreTexts names
   pub are : p ≡ with_vars names nothing_pending
 
--- for a list no name of `this` is, and nothing for the program's top
-pub record IsPlainList (p : Pending) (x : Option Bound) (a : Additions) : Type 0 where
-  pub vars : IsPlain p
-  pub this : x ≡ None
-  pub top : a ≡ no_additions
-
 pub plain-none : IsPlain nothing_pending
 plain-none = record { names = []; texts = tt; are = refl }
+
+-- the name that stands for `this` isn't empty
+abbrev pub HasText : Option Bound → Type 0
+HasText None = Unit {0}
+HasText (Some b) = IsText b
+
+-- what is to be written at a program's top has form in the list of a program
+pub record AreFormed (a : Additions) : Type 0 where
+  pub imports : (s : Sort) → is_of_sort s VariableDeclaration ≡ true → trees_form s s (trees (map import_statement a.imports)) ≡ true
+  pub excluded : (s : Sort) (ts : Trees) → is_of_sort s VariableDeclaration ≡ true → trees_form s s ts ≡ true → trees_form s s (declaration (codes "const") a.excluded ts) ≡ true
+
+-- for a list temporaries are pending, and of a name of `this` and of what is to be written at the program's top what may be
+pub record IsPendingList (This : Option Bound → Type 0) (Top : Additions → Type 0) (p : Pending) (x : Option Bound) (a : Additions) : Type 0 where
+  pub vars : IsPlain p
+  pub this : This x
+  pub top : Top a
+
+-- WHAT MAY BE PENDING of one kind: which of it may be for a list, and what a step may make of it
+
+pub record MayPend (X : Type 0) (nothing : X) : Type 1 where
+  pub Is : X → Type 0
+  pub After : X → X → Type 0
+  pub none : Is nothing
+  pub same : (x y : X) → y ≡ x → After x y
+  pub still : (x y : X) → After x y → Is x → Is y
+
+-- nothing, and it stays
+abbrev pub none_of : (X : Type 0) (nothing : X) → MayPend X nothing
+none_of X nothing = record { Is = λ x. x ≡ nothing; After = λ x y. y ≡ x; none = refl; same = λ x y e. e; still = λ x y e h. e ∙ h }
+
+-- whatever is such, and it stays such
+abbrev pub any_such : (X : Type 0) (nothing : X) (Such : X → Type 0) → Such nothing → MayPend X nothing
+any_such X nothing Such none = record { Is = Such; After = λ x y. Such x → Such y; none = none; same = λ x y e h. subst Such (sym e) h; still = λ x y f h. f h }
+
+-- All that may be pending beside temporaries, and what is known of it around a node; where it is written it has form.
+pub record Setting : Type 1 where
+  pub this : MayPend (Option Bound) None
+  pub top : MayPend Additions no_additions
+  pub Known : Option Bound → Additions → Type 0
+  pub in_target : (x y : Option Bound) (a : Additions) → Known x a → this.Is y → Known y a
+  pub in_program : (y : Option Bound) (b : Additions) → this.Is y → top.Is b → Known y b
+  pub texts : (x : Option Bound) → this.Is x → HasText x
+  pub formed : (a : Additions) → top.Is a → AreFormed a
+
+abbrev pub IsListIn : Setting → Pending → Option Bound → Additions → Type 0
+IsListIn P = IsPendingList P.this.Is P.top.Is
+
+pub nothing-in : (P : Setting) → IsListIn P nothing_pending None no_additions
+nothing-in P = record { vars = plain-none; this = P.this.none; top = P.top.none }
+
+pub nothing-formed : (a : Additions) → a ≡ no_additions → AreFormed a
+nothing-formed a e = subst AreFormed (sym e) (record { imports = λ s d. refl; excluded = λ s ts d h. h })
+
+-- no name of `this` is pending, and nothing for the program's top
+abbrev pub temporaries_alone : Setting
+temporaries_alone = record {
+  this = none_of (Option Bound) None;
+  top = none_of Additions no_additions;
+  Known = λ x a. Unit {0};
+  in_target = λ x y a known h. tt;
+  in_program = λ y b h g. tt;
+  texts = λ x e. subst HasText (sym e) tt;
+  formed = nothing-formed;
+}
+
+abbrev pub IsPlainList : Pending → Option Bound → Additions → Type 0
+IsPlainList = IsListIn temporaries_alone
 
 -- LISTS
 
@@ -71,22 +132,32 @@ declarators-formed : (bs : List Bound) → AreTexts bs → trees_form s-Variable
 declarators-formed [] h = refl
 declarators-formed (b ∷ bs) h = formed-first s-VariableDeclarator (declarator b) (trees (map declarator bs)) (let e = h.0 in rw e refl) (declarators-formed bs h.1)
 
-declared-formed : (s : Sort) (b : Bound) (bs : List Bound) → is_of_sort s VariableDeclaration ≡ true → AreTexts (b ∷ bs) → has_form s (node VariableDeclaration (made (Some (codes "var") ∷ []) []) (many (trees (map declarator (b ∷ bs))) then done)) ≡ true
-declared-formed s b bs e h =
+-- a declaration of these
+var-formed : (s : Sort) (d : Tree) (ds : Trees) → is_of_sort s VariableDeclaration ≡ true → trees_form s-VariableDeclarator s-VariableDeclarator (d before ds) ≡ true → has_form s (node VariableDeclaration (made (Some (codes "var") ∷ []) []) (many (d before ds) then done)) ≡ true
+var-formed s d ds e h =
     let span = no-span (Some (codes "var") ∷ []) [] in
-    has_form-node s VariableDeclaration (made (Some (codes "var") ∷ []) []) (many (trees (map declarator (b ∷ bs))) then done) (record { sort = e; texts = refl; flags = refl; start = span.start; stop = span.stop; agree = refl; children = and_from _ true (declarators-formed (b ∷ bs) h) refl })
+    has_form-node s VariableDeclaration (made (Some (codes "var") ∷ []) []) (many (d before ds) then done) (record { sort = e; texts = refl; flags = refl; start = span.start; stop = span.stop; agree = refl; children = and_from _ true h refl })
 
 declaration-formed : (s : Sort) (bs : List Bound) (ts : Trees) → is_of_sort s VariableDeclaration ≡ true → AreTexts bs → trees_form s s ts ≡ true → trees_form s s (declaration (codes "var") (map declarator bs) ts) ≡ true
 declaration-formed s [] ts e h k = k
-declaration-formed s (b ∷ bs) ts e h k = formed-first s (node VariableDeclaration (made (Some (codes "var") ∷ []) []) (many (trees (map declarator (b ∷ bs))) then done)) ts (declared-formed s b bs e h) k
+declaration-formed s (b ∷ bs) ts e h k = formed-first s (node VariableDeclaration (made (Some (codes "var") ∷ []) []) (many (trees (map declarator (b ∷ bs))) then done)) ts (var-formed s (declarator b) (trees (map declarator bs)) e (declarators-formed (b ∷ bs) h)) k
+
+-- `var x = this;` before others
+this-formed : (s : Sort) (x : Option Bound) (ts : Trees) → is_of_sort s VariableDeclaration ≡ true → HasText x → trees_form s s ts ≡ true → trees_form s s (with_this x ts) ≡ true
+this-formed s None ts e h k = k
+this-formed s (Some b) ts e h k = formed-first s (this_statement b) ts (var-formed s (declarator_with (identifier b) this_expression) empty e (formed-first s-VariableDeclarator (declarator_with (identifier b) this_expression) empty (rw h refl) refl)) k
 
 -- a list with what is pending for it
+pub list-formed : (P : Setting) (s : Sort) (p : Pending) (x : Option Bound) (a : Additions) (ts : Trees) → is_of_sort s VariableDeclaration ≡ true → IsListIn P p x a → trees_form s s ts ≡ true → trees_form s s (whole_list p x a ts) ≡ true
+list-formed P s p x a ts e h k =
+    let top = P.formed a h.top in
+    let vars = subst (λ (q : Pending). trees_form s s (written q empty) ≡ true) (sym h.vars.are) (declaration-formed s h.vars.names empty e h.vars.texts refl) in
+    let others = joined-formed s (trees (map import_statement a.imports)) (written p empty) (top.imports s e) vars in
+    let named = this-formed s x (joined_trees (trees (map import_statement a.imports)) (written p empty)) e (P.texts x h.this) others in
+    after-formed s (pending_statements p x a) ts (top.excluded s (with_this x (joined_trees (trees (map import_statement a.imports)) (written p empty))) e named) k
+
 pub whole-formed : (s : Sort) (p : Pending) (x : Option Bound) (a : Additions) (ts : Trees) → is_of_sort s VariableDeclaration ≡ true → IsPlainList p x a → trees_form s s ts ≡ true → trees_form s s (whole_list p x a ts) ≡ true
-whole-formed s p x a ts e h k =
-    subst (λ (p : Pending). trees_form s s (whole_list p x a ts) ≡ true) (sym h.vars.are)
-    (subst (λ (x : Option Bound). trees_form s s (whole_list (with_vars h.vars.names nothing_pending) x a ts) ≡ true) (sym h.this)
-    (subst (λ (a : Additions). trees_form s s (whole_list (with_vars h.vars.names nothing_pending) None a ts) ≡ true) (sym h.top)
-    (after-formed s (declaration (codes "var") (map declarator h.vars.names) empty) ts (declaration-formed s h.vars.names empty e h.vars.texts refl) k)))
+whole-formed = list-formed temporaries_alone
 
 -- BODIES OF ARROWS
 

@@ -1,6 +1,6 @@
--- Open programs in which temporaries alone are pending, and what the form of a node asks of its fields.
+-- Open programs in which no more is pending than may be, and what the form of a node asks of its fields.
 use Rattle.std.proofs.Common.{◌≡◌, ℕ, zero, suc, refl}
-use Rattle.std.specs.Prelude.{Bool, true, false, if◌then◌else◌}
+use Rattle.std.specs.Prelude.{Bool, true, false, Option, if◌then◌else◌}
 use Rattle.es_tree.specs.HasForm.{element_form, field_form, has_form, is_of_sort, sort_at, trees_form}
 use Rattle.es_tree.specs.Table.{rest_sort}
 use Rattle.es_tree.specs.Tree.{Tree, node, Label, Fields, done, ◌then◌, Field, missing, one, many, statements, Trees, empty, ◌before◌}
@@ -11,60 +11,83 @@ use Rattle.es_tree.specs.declared.table.Content.TheVariants.{Child as c-Child}
 use Rattle.es_tree.specs.declared.table.Often.TheVariants.{Required, Optional, List as a-List, NonEmptyList, ListWithRest, Statements}
 use Rattle.es_tree.specs.declared.table.Sort.{Sort}
 use Rattle.es_tree.specs.declared.table.Sort.TheVariants.{ArrowFunctionBody as s-ArrowFunctionBody, Expression as s-Expression, Program as s-Program}
-use Rattle.es_steps.specs.Open.{Open, open_node, OpenFields, ends, ◌and◌, OpenField, gap, child, body, children, list, OpenTrees, nil, ◌next◌, flanked, is_body, is_statement_body, nothing_pending, opened, opened_fields, opened_field, opened_trees}
+use Rattle.es_resolution.specs.Declarations.{Bound}
+use Rattle.es_steps.specs.Open.{Additions, Pending, Open, open_node, OpenFields, ends, ◌and◌, OpenField, gap, child, body, children, list, OpenTrees, nil, ◌next◌, flanked, is_body, is_statement_body, nothing_pending, opened, opened_fields, opened_field, opened_trees}
 use Rattle.es_steps.specs.Slots.{is_slot}
 use Rattle.es_steps.specs.Steps.{Site}
-use Rattle.es_steps.proofs.FormLists.{IsPlain, IsPlainList, plain-none}
+use Rattle.es_steps.proofs.FormLists.{IsListIn, IsPlain, IsPlainList, Setting, nothing-in, plain-none, temporaries_alone}
 use Rattle.es_steps.proofs.FormPlaces.{content_sort, content_takes}
 
--- PROPER OPEN TREES: temporaries alone are pending, what is the body of an arrow stands where one may, and no statement has others
--- before or after it
+-- TIDY OPEN TREES: for lists no more is pending than may be, for the bodies of arrows temporaries alone; each of those stands where one
+-- may, and no statement has others before or after it
 
-abbrev mutual
-  pub IsProper : Open → Type 0
-  IsProper (open_node k l fs) = AreProperFields (is_body k) fs
+module _ (Listed : Pending → Option Bound → Additions → Type 0) where
+  abbrev mutual
+    pub IsTidy : Open → Type 0
+    IsTidy (open_node k l fs) = AreTidyFields (is_body k) fs
 
-  pub AreProperFields : (ℕ → Bool) → OpenFields → Type 0
-  AreProperFields bodies ends = Unit {0}
-  AreProperFields bodies (f and fs) = IsProperField (bodies zero) f × AreProperFields (λ i. bodies (suc i)) fs
+    pub AreTidyFields : (ℕ → Bool) → OpenFields → Type 0
+    AreTidyFields bodies ends = Unit {0}
+    AreTidyFields bodies (f and fs) = IsTidyField (bodies zero) f × AreTidyFields (λ i. bodies (suc i)) fs
 
-  pub IsProperField : Bool → OpenField → Type 0
-  IsProperField b gap = Unit {0}
-  IsProperField b (child t) = IsProper t
-  IsProperField b (body p t) = (b ≡ true) × IsPlain p × IsProper t
-  IsProperField b (children ts) = AreProperTrees ts
-  IsProperField b (list p x a ts) = IsPlainList p x a × AreProperTrees ts
+    pub IsTidyField : Bool → OpenField → Type 0
+    IsTidyField b gap = Unit {0}
+    IsTidyField b (child t) = IsTidy t
+    IsTidyField b (body p t) = (b ≡ true) × IsPlain p × IsTidy t
+    IsTidyField b (children ts) = AreTidyTrees ts
+    IsTidyField b (list p x a ts) = Listed p x a × AreTidyTrees ts
 
-  pub AreProperTrees : OpenTrees → Type 0
-  AreProperTrees nil = Unit {0}
-  AreProperTrees (t next ts) = IsProper t × AreProperTrees ts
-  AreProperTrees (flanked bs t cs ts) = ⊥
+    pub AreTidyTrees : OpenTrees → Type 0
+    AreTidyTrees nil = Unit {0}
+    AreTidyTrees (t next ts) = IsTidy t × AreTidyTrees ts
+    AreTidyTrees (flanked bs t cs ts) = ⊥
 
-either-proper : (v : Bool) (t : Open) → IsProper t → IsProperField true (if v then child t else body nothing_pending t)
-either-proper true t h = h
-either-proper false t h = (refl, plain-none, h)
+module _ (P : Setting) where
+  either-tidy : (v : Bool) (t : Open) → IsTidy (IsListIn P) t → IsTidyField (IsListIn P) true (if v then child t else body nothing_pending t)
+  either-tidy true t h = h
+  either-tidy false t h = (refl, plain-none, h)
 
-mutual
-  pub opened-proper : (t : Tree) → IsProper (opened t)
-  opened-proper (node k l fs) = opened-fields-proper (is_body k) fs
+  mutual
+    pub opened-tidy : (t : Tree) → IsTidy (IsListIn P) (opened t)
+    opened-tidy (node k l fs) = opened-fields-tidy (is_body k) fs
 
-  opened-fields-proper : (bodies : ℕ → Bool) (fs : Fields) → AreProperFields bodies (opened_fields bodies fs)
-  opened-fields-proper bodies done = tt
-  opened-fields-proper bodies (f then fs) = (opened-field-proper (bodies zero) f, opened-fields-proper (λ i. bodies (suc i)) fs)
+    opened-fields-tidy : (bodies : ℕ → Bool) (fs : Fields) → AreTidyFields (IsListIn P) bodies (opened_fields bodies fs)
+    opened-fields-tidy bodies done = tt
+    opened-fields-tidy bodies (f then fs) = (opened-field-tidy (bodies zero) f, opened-fields-tidy (λ i. bodies (suc i)) fs)
 
-  opened-field-proper : (b : Bool) (f : Field) → IsProperField b (opened_field b f)
-  opened-field-proper true missing = tt
-  opened-field-proper false missing = tt
-  opened-field-proper true (one t) = either-proper (is_statement_body t) (opened t) (opened-proper t)
-  opened-field-proper false (one t) = opened-proper t
-  opened-field-proper true (many ts) = opened-trees-proper ts
-  opened-field-proper false (many ts) = opened-trees-proper ts
-  opened-field-proper true (statements ts) = (record { vars = plain-none; this = refl; top = refl }, opened-trees-proper ts)
-  opened-field-proper false (statements ts) = (record { vars = plain-none; this = refl; top = refl }, opened-trees-proper ts)
+    opened-field-tidy : (b : Bool) (f : Field) → IsTidyField (IsListIn P) b (opened_field b f)
+    opened-field-tidy true missing = tt
+    opened-field-tidy false missing = tt
+    opened-field-tidy true (one t) = either-tidy (is_statement_body t) (opened t) (opened-tidy t)
+    opened-field-tidy false (one t) = opened-tidy t
+    opened-field-tidy true (many ts) = opened-trees-tidy ts
+    opened-field-tidy false (many ts) = opened-trees-tidy ts
+    opened-field-tidy true (statements ts) = (nothing-in P, opened-trees-tidy ts)
+    opened-field-tidy false (statements ts) = (nothing-in P, opened-trees-tidy ts)
 
-  pub opened-trees-proper : (ts : Trees) → AreProperTrees (opened_trees ts)
-  opened-trees-proper empty = tt
-  opened-trees-proper (t before ts) = (opened-proper t, opened-trees-proper ts)
+    pub opened-trees-tidy : (ts : Trees) → AreTidyTrees (IsListIn P) (opened_trees ts)
+    opened-trees-tidy empty = tt
+    opened-trees-tidy (t before ts) = (opened-tidy t, opened-trees-tidy ts)
+
+-- PROPER ones: temporaries alone are pending
+
+abbrev pub IsProper : Open → Type 0
+IsProper = IsTidy IsPlainList
+
+abbrev pub AreProperFields : (ℕ → Bool) → OpenFields → Type 0
+AreProperFields = AreTidyFields IsPlainList
+
+abbrev pub IsProperField : Bool → OpenField → Type 0
+IsProperField = IsTidyField IsPlainList
+
+abbrev pub AreProperTrees : OpenTrees → Type 0
+AreProperTrees = AreTidyTrees IsPlainList
+
+pub opened-proper : (t : Tree) → IsProper (opened t)
+opened-proper = opened-tidy temporaries_alone
+
+pub opened-trees-proper : (ts : Trees) → AreProperTrees (opened_trees ts)
+opened-trees-proper = opened-trees-tidy temporaries_alone
 
 -- FIELDS: what a test of form asks of the nodes in a field, and that it asks nothing else
 

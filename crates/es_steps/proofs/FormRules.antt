@@ -28,7 +28,7 @@ use Rattle.es_steps.specs.Steps.Spot.{at_node, at_beside, at_body, at_list}
 use Rattle.es_steps.specs.WrapRule.{WrapRule, called_arrow}
 use Rattle.es_steps.specs.WrapRule.WrapRule.{wraps}
 use Rattle.es_steps.proofs.FormChains.{chaining-form}
-use Rattle.es_steps.proofs.FormLists.{IsPlainList, plain-none}
+use Rattle.es_steps.proofs.FormLists.{IsListIn, IsPlainList, Setting, nothing-in, plain-none, temporaries_alone}
 use Rattle.es_steps.proofs.FormMembers.{formed-call}
 use Rattle.es_steps.proofs.FormParts.{IsFormed, no-span, span-of}
 use Rattle.es_steps.proofs.FormPowers.{power-form}
@@ -39,13 +39,23 @@ use Rattle.es_steps.proofs.Opened.{written-none}
 use Rattle.es_steps.proofs.RuleLaws.{writes-lists}
 use Rattle.es_steps.proofs.Taken.{pending_in, this_in, top_in}
 
--- what is pending afterwards: these temporaries more, none of whose names is empty
-pub record NewNames (s s' : Ledger) : Type 0 where
+-- what is pending afterwards: these temporaries more, none of whose names is empty, and of the rest what a step may make of it
+pub record NamesAfter (This : Option Bound → Option Bound → Type 0) (Top : Additions → Additions → Type 0) (s s' : Ledger) : Type 0 where
   pub names : List Bound
   pub texts : AreTexts names
   pub pending : pending_in s' ≡ with_vars names (pending_in s)
-  pub this : this_in s' ≡ this_in s
-  pub top : top_in s' ≡ top_in s
+  pub this : This (this_in s) (this_in s')
+  pub top : Top (top_in s) (top_in s')
+
+abbrev pub NamesIn : Setting → Ledger → Ledger → Type 0
+NamesIn P = NamesAfter P.this.After P.top.After
+
+-- these temporaries more alone
+abbrev pub NewNames : Ledger → Ledger → Type 0
+NewNames = NamesIn temporaries_alone
+
+pub names-in : (P : Setting) (s s' : Ledger) → NewNames s s' → NamesIn P s s'
+names-in P s s' h = record { names = h.names; texts = h.texts; pending = h.pending; this = P.this.same (this_in s) (this_in s') h.this; top = P.top.same (top_in s) (top_in s') h.top }
 
 pub no-names : (p : Pending) → p ≡ with_vars [] p
 no-names p = λ i. record p { vars = sym (append-nil p.vars) i }
@@ -54,33 +64,58 @@ pub nothing-new : (s s' : Ledger) → s ≡ s' → NewNames s s'
 nothing-new s s' e = record { names = []; texts = tt; pending = sym (ap (λ r. pending_in r) e) ∙ no-names (pending_in s); this = sym (ap (λ r. this_in r) e); top = sym (ap (λ r. top_in r) e) }
 
 -- a node that a rule leaves
-pub record NodeFormed (a : Sort) (s s' : Ledger) (u : Tree) : Type 0 where
+pub record NodeLeft (Names : Ledger → Ledger → Type 0) (a : Sort) (s s' : Ledger) (u : Tree) : Type 0 where
   pub formed : has_form a u ≡ true
-  pub names : NewNames s s'
+  pub names : Names s s'
 
 -- a list that a rule leaves, which is the same with what is pending for it written
-pub record SameList (s s' : Ledger) (ts us : Trees) (q : Pending) (y : Option Bound) (b : Additions) : Type 0 where
+pub record SameList (Listed : Pending → Option Bound → Additions → Type 0) (s s' : Ledger) (ts us : Trees) (q : Pending) (y : Option Bound) (b : Additions) : Type 0 where
   pub ledger : s ≡ s'
   pub trees : ts ≡ us
-  pub plain : IsPlainList q y b
+  pub plain : Listed q y b
 
-pub record FormLawful (R : Site → Ledger → Spot → Ledger → Spot → Type 0) : Type 0 where
-  pub at_nodes : (n : Site) (s s' : Ledger) (t u : Tree) (a : Sort) → (is_slot n.above ≡ true → a ≡ s-Expression) → R n s (at_node t) s' (at_node u) → has_form a t ≡ true → NodeFormed a s s' u
+-- WHAT A RULE OWES for form, where this may be pending for lists, and this is what it leaves of a node
+
+pub record RuleForm (Listed : Pending → Option Bound → Additions → Type 0) (Left : Sort → Ledger → Ledger → Tree → Type 0) (R : Site → Ledger → Spot → Ledger → Spot → Type 0) : Type 0 where
+  pub at_nodes : (n : Site) (s s' : Ledger) (t u : Tree) (a : Sort) → (is_slot n.above ≡ true → a ≡ s-Expression) → R n s (at_node t) s' (at_node u) → has_form a t ≡ true → Left a s s' u
   pub no_flanks : (n : Site) (s s' : Ledger) (t u : Tree) (bs cs : List Tree) → R n s (at_node t) s' (at_beside bs u cs) → ⊥
-  pub at_lists : (n : Site) (s s' : Ledger) (p q : Pending) (x y : Option Bound) (a b : Additions) (ts us : Trees) → R n s (at_list p x a ts) s' (at_list q y b us) → IsPlainList p x a → SameList s s' (whole_list p x a ts) (whole_list q y b us) q y b
+  pub at_lists : (n : Site) (s s' : Ledger) (p q : Pending) (x y : Option Bound) (a b : Additions) (ts us : Trees) → R n s (at_list p x a ts) s' (at_list q y b us) → Listed p x a → SameList Listed s s' (whole_list p x a ts) (whole_list q y b us) q y b
   pub at_bodies : (n : Site) (s s' : Ledger) (p : Pending) (t u : Tree) → R n s (at_body p t) s' (at_node u) → (s ≡ s') × (written_body p t ≡ u)
+
+-- in a setting, where what is known around the node is
+abbrev pub LeftIn : Setting → Sort → Ledger → Ledger → Tree → Type 0
+LeftIn P a s s' u = P.Known (this_in s) (top_in s) → NodeLeft (NamesIn P) a s s' u
+
+abbrev pub LawfulIn : Setting → (Site → Ledger → Spot → Ledger → Spot → Type 0) → Type 0
+LawfulIn P = RuleForm (IsListIn P) (LeftIn P)
+
+-- and where temporaries alone are pending
+abbrev pub NodeFormed : Sort → Ledger → Ledger → Tree → Type 0
+NodeFormed = NodeLeft NewNames
+
+abbrev pub FormLawful : (Site → Ledger → Spot → Ledger → Spot → Type 0) → Type 0
+FormLawful = RuleForm IsPlainList NodeFormed
 
 -- WRITING
 
-writing-form : FormLawful Writing
-writing-form = record { at_nodes = λ n s s' t u a slot h f. absurd (writes-lists h); no_flanks = λ n s s' t u bs cs h. absurd (writes-lists h); at_lists = lists; at_bodies = bodies }
+pub writing-form : (P : Setting) (Left : Sort → Ledger → Ledger → Tree → Type 0) → RuleForm (IsListIn P) Left Writing
+writing-form P Left = record { at_nodes = λ n s s' t u a slot h f. absurd (writes-lists h); no_flanks = λ n s s' t u bs cs h. absurd (writes-lists h); at_lists = lists; at_bodies = bodies }
   where
-    lists : (n : Site) (s s' : Ledger) (p q : Pending) (x y : Option Bound) (a b : Additions) (ts us : Trees) → Writing n s (at_list p x a ts) s' (at_list q y b us) → IsPlainList p x a → SameList s s' (whole_list p x a ts) (whole_list q y b us) q y b
+    lists : (n : Site) (s s' : Ledger) (p q : Pending) (x y : Option Bound) (a b : Additions) (ts us : Trees) → Writing n s (at_list p x a ts) s' (at_list q y b us) → IsListIn P p x a → SameList (IsListIn P) s s' (whole_list p x a ts) (whole_list q y b us) q y b
     lists n s s' p q x y a b ts us declarators h = record { ledger = refl; trees = written-first p x a ts; plain = record { vars = plain-none; this = h.this; top = h.top } }
-    lists n s s' p q x y a b ts us all_pending h = record { ledger = refl; trees = sym (written-none (whole_list p x a ts)); plain = record { vars = plain-none; this = refl; top = refl } }
+    lists n s s' p q x y a b ts us all_pending h = record { ledger = refl; trees = sym (written-none (whole_list p x a ts)); plain = nothing-in P }
 
     bodies : (n : Site) (s s' : Ledger) (p : Pending) (t u : Tree) → Writing n s (at_body p t) s' (at_node u) → (s ≡ s') × (written_body p t ≡ u)
     bodies n s s' p t u body_declarators = (refl, refl)
+
+-- rules that write lists, and do no more with them, are lawful in each setting where they are with temporaries alone
+pub lawful-in : (P : Setting) (R : Site → Ledger → Spot → Ledger → Spot → Type 0) → FormLawful R → ((n : Site) (s s' : Ledger) (p q : Pending) (x y : Option Bound) (a b : Additions) (ts us : Trees) → R n s (at_list p x a ts) s' (at_list q y b us) → Writing n s (at_list p x a ts) s' (at_list q y b us)) → LawfulIn P R
+lawful-in P R law lists = record {
+  at_nodes = λ n s s' t u a slot h f known. let r = law.at_nodes n s s' t u a slot h f in record { formed = r.formed; names = names-in P s s' r.names };
+  no_flanks = law.no_flanks;
+  at_lists = λ n s s' p q x y a b ts us h k. (writing-form P (LeftIn P)).at_lists n s s' p q x y a b ts us (lists n s s' p q x y a b ts us h) k;
+  at_bodies = law.at_bodies;
+}
 
 -- RULES OF NODES
 
@@ -88,7 +123,7 @@ abbrev pub AtNodes : Spot → Spot → Type 0
 AtNodes (at_node t) (at_node u) = Unit {0}
 AtNodes x y = ⊥
 
-pub nodes-only : (R : Site → Ledger → Spot → Ledger → Spot → Type 0) → ((n : Site) (s s' : Ledger) (x y : Spot) → R n s x s' y → AtNodes x y) → ((n : Site) (s s' : Ledger) (t u : Tree) (a : Sort) → (is_slot n.above ≡ true → a ≡ s-Expression) → R n s (at_node t) s' (at_node u) → has_form a t ≡ true → NodeFormed a s s' u) → FormLawful R
+pub nodes-only : {Listed : Pending → Option Bound → Additions → Type 0} {Left : Sort → Ledger → Ledger → Tree → Type 0} (R : Site → Ledger → Spot → Ledger → Spot → Type 0) → ((n : Site) (s s' : Ledger) (x y : Spot) → R n s x s' y → AtNodes x y) → ((n : Site) (s s' : Ledger) (t u : Tree) (a : Sort) → (is_slot n.above ≡ true → a ≡ s-Expression) → R n s (at_node t) s' (at_node u) → has_form a t ≡ true → Left a s s' u) → RuleForm Listed Left R
 nodes-only R at law = record {
   at_nodes = law;
   no_flanks = λ n s s' t u bs cs h. absurd (at n s s' (at_node t) (at_beside bs u cs) h);
@@ -135,7 +170,7 @@ pick : {A B C : Type 0} → (A → C) → (B → C) → A ⊎ B → C
 pick f g (inl h) = f h
 pick f g (inr h) = g h
 
-pub both-form : {Q R : Site → Ledger → Spot → Ledger → Spot → Type 0} → FormLawful Q → FormLawful R → FormLawful (either_rule Q R)
+pub both-form : {Listed : Pending → Option Bound → Additions → Type 0} {Left : Sort → Ledger → Ledger → Tree → Type 0} {Q R : Site → Ledger → Spot → Ledger → Spot → Type 0} → RuleForm Listed Left Q → RuleForm Listed Left R → RuleForm Listed Left (either_rule Q R)
 both-form {Q} {R} q r = record {
   at_nodes = λ n s s' t u a slot h f. pick {A = Q n s (at_node t) s' (at_node u)} {B = R n s (at_node t) s' (at_node u)} (λ g. q.at_nodes n s s' t u a slot g f) (λ g. r.at_nodes n s s' t u a slot g f) h;
   no_flanks = λ n s s' t u bs cs h. pick {A = Q n s (at_node t) s' (at_beside bs u cs)} {B = R n s (at_node t) s' (at_beside bs u cs)} (λ g. q.no_flanks n s s' t u bs cs g) (λ g. r.no_flanks n s s' t u bs cs g) h;
@@ -143,7 +178,7 @@ both-form {Q} {R} q r = record {
   at_bodies = λ n s s' p t u h. pick {A = Q n s (at_body p t) s' (at_node u)} {B = R n s (at_body p t) s' (at_node u)} (λ g. q.at_bodies n s s' p t u g) (λ g. r.at_bodies n s s' p t u g) h;
 }
 
-nothing-form : FormLawful (λ n s x s' y. ⊥)
+nothing-form : {Listed : Pending → Option Bound → Additions → Type 0} {Left : Sort → Ledger → Ledger → Tree → Type 0} → RuleForm Listed Left (λ n s x s' y. ⊥)
 nothing-form = record {
   at_nodes = λ n s s' t u a slot h f. absurd h;
   no_flanks = λ n s s' t u bs cs h. absurd h;
@@ -151,7 +186,7 @@ nothing-form = record {
   at_bodies = λ n s s' p t u h. absurd h;
 }
 
-pub on-form : (b : Bool) (R : Site → Ledger → Spot → Ledger → Spot → Type 0) → FormLawful R → FormLawful (where_on b R)
+pub on-form : {Listed : Pending → Option Bound → Additions → Type 0} {Left : Sort → Ledger → Ledger → Tree → Type 0} (b : Bool) (R : Site → Ledger → Spot → Ledger → Spot → Type 0) → RuleForm Listed Left R → RuleForm Listed Left (where_on b R)
 on-form true R h = h
 on-form false R h = nothing-form
 
@@ -171,10 +206,10 @@ core-rows-form : (no_all : Bool) → FormLawful (CoreRows no_all)
 core-rows-form no_all = both-form assigns-form (both-form (both-form coalesces-form (chains-form no_all)) raises-form)
 
 pub core-rule-form : (o : EnvOptions) → FormLawful (CoreRule o)
-core-rule-form o = both-form writing-form (both-form (wrap-form o) (core-rows-form o.assumptions.no_document_all))
+core-rule-form o = both-form (writing-form temporaries_alone NodeFormed) (both-form (wrap-form o) (core-rows-form o.assumptions.no_document_all))
 
 rows-under-form : (o : EnvOptions) → FormLawful (rows_under o)
 rows-under-form o = both-form (on-form o.es2021.logical_assignment_operators _ assigns-form) (both-form (both-form (on-form o.es2020.nullish_coalescing_operator _ coalesces-form) (on-form o.es2020.optional_chaining _ (chains-form o.assumptions.no_document_all))) (on-form o.es2016.exponentiation_operator _ raises-form))
 
 pub rule-under-form : (o : EnvOptions) → FormLawful (rule_under o)
-rule-under-form o = both-form writing-form (both-form (wrap-form o) (rows-under-form o))
+rule-under-form o = both-form (writing-form temporaries_alone NodeFormed) (both-form (wrap-form o) (rows-under-form o))

@@ -102,10 +102,10 @@ pub record Entered (ts : Trees) (fs : List Bound) : Type 0 where
   pub named : (u : Text → Bool) (f : ℕ) → NamedAll u f Top ts → NamedAll u f reads ts
   pub resolved : (p : Place) → ((y : Text) → bound_by fs y ≡ true → p.hoist y ≡ p.scope y) → ResolvedAll Top p ts → ResolvedAll reads p ts
 
-bound-first : (f : Bound) (fs : List Bound) → bound_by (f ∷ fs) f.name ≡ true
+pub bound-first : (f : Bound) (fs : List Bound) → bound_by (f ∷ fs) f.name ≡ true
 bound-first f fs = λ i. is_some (if bytes_eq-self f.name i then Some f.symbol else sought fs f.name)
 
-bound-later : (f : Bound) (fs : List Bound) (y : Text) → bound_by fs y ≡ true → bound_by (f ∷ fs) y ≡ true
+pub bound-later : (f : Bound) (fs : List Bound) (y : Text) → bound_by fs y ≡ true → bound_by (f ∷ fs) y ≡ true
 bound-later f fs y e = at (bytes_eq f.name y)
   where
     at : (b : Bool) → is_some (if b then Some f.symbol else sought fs y) ≡ true

@@ -1,7 +1,7 @@
 -- `using` at the top of a function's body or of a static block (Explicit Resource Management, 14.3.1): `function f() { using a = b; return a; }` becomes
 -- `function f() { try { var _usingCtx = babelHelpers.usingCtx(); const a = _usingCtx.u(b); return a; } catch (_) { _usingCtx.e = _; } finally { _usingCtx.d(); } }`.
 -- A function at the top of the body is bound there as by `var` (10.2.11), and afterwards by the block alone (14.2.3).
-use Rattle.std.specs.Prelude.{◌≡◌, ℕ, Bool, true, false, List, [], ◌∷◌, Option}
+use Rattle.std.specs.Prelude.{◌≡◌, ◌&&◌, ℕ, Bool, true, false, List, [], ◌∷◌, Option}
 use Rattle.std.specs.List.{list_all}
 use Rattle.es_resolution.specs.Declarations.{Bound, symbol_of, declared_among}
 use Rattle.es_resolution.specs.Resolved.{Place, place_in}
@@ -81,7 +81,12 @@ pub data TopFunctions : Trees → List Bound → Type 0 where
   function : {l m : Label} {ps ts : Trees} {b : Tree} {fs : List Bound} → TopFunctions ts fs → TopFunctions (node FunctionDeclaration l (one (node Identifier m done) then many ps then one b then done) before ts) (bound_as m ∷ fs)
   other : {k : AstType} {l : Label} {gs : Fields} {ts : Trees} {fs : List Bound} → is_as_in_block k ≡ true → TopFunctions ts fs → TopFunctions (node k l gs before ts) fs
 
--- WHEN FUNCTIONS AT THE TOP may become those of a block, as far as look-up goes, beside these parameters
+-- no two of these have one name
+abbrev pub each_once : List Bound → Bool
+each_once [] = true
+each_once (b ∷ bs) = no_name_of bs b && each_once bs
+
+-- WHEN FUNCTIONS AT THE TOP may become those of a block, as far as look-up and declared names go, beside these parameters
 pub record MayEnter (ps fs : List Bound) (ts : Trees) : Type 0 where
   pub functions : TopFunctions ts fs
   -- no parameter has the name of one, and no `var`
@@ -89,6 +94,8 @@ pub record MayEnter (ps fs : List Bound) (ts : Trees) : Type 0 where
   pub vars : list_all (no_name_of fs) (declared_among true reads ts) ≡ true
   -- none of them and no `var` has a name that the body declares otherwise (15.2.1)
   pub lexical : list_all (no_name_of (declared_among false Top ts)) (declared_among true Top ts) ≡ true
+  -- at the top of a body a function may be declared twice, as by `var`, and in a block once (14.2.1)
+  pub once : each_once fs ≡ true
 
 abbrev pub parameters_of : Trees → List Bound
 parameters_of ps = declared_among false (Binds Parameter) ps
