@@ -1,6 +1,6 @@
 -- Steps of the core rules, of optional catch, namespace exports and object spread keep module requests and exported names.
 use Rattle.std.proofs.Common.{◌≡◌, refl, sym, ap, subst, ◌∙◌, List}
-use Rattle.std.specs.Prelude.{true, is_some}
+use Rattle.std.specs.Prelude.{true, false, is_some}
 use Rattle.es_tree.specs.HasForm.{has_form}
 use Rattle.es_tree.specs.Tree.{Tree}
 use Rattle.es_tree.specs.Words.{Text}
@@ -24,12 +24,13 @@ use Rattle.es_valid_steps.proofs.SpreadSteps.{SameBoth, Went, spread-step}
 use Rattle.es_valid_steps.proofs.SpreadSteps.Went.{moves, rests, leaves}
 use Rattle.es_module_names.specs.Laws.{LawOutside, LawOutsideReached, SameOutside}
 use Rattle.es_module_names.specs.Modules.{exported, request, star_request, texts_among}
-use Rattle.es_module_names.proofs.ProgramLists.{IsReading, exported-program-texts, exported-reading, program-texts, request-reading, star-reading}
+use Rattle.es_module_names.proofs.HeldSteps.{named-read, none-hides}
+use Rattle.es_module_names.proofs.ProgramLists.{IsReading, exported-reading, exported-texts-after, request-reading, star-reading, texts-after, top-imports}
 use Rattle.es_module_names.proofs.RuleKinds.{NamesLawful, both-lawful, catch-lawful, on-lawful, spread-lawful, under-lawful}
 
 -- THE RULES that put no statement beside another, and the one that does
 
-alone-names : (o : EnvOptions) → NamesLawful (alone o)
+pub alone-names : (o : EnvOptions) → NamesLawful (alone o)
 alone-names o = both-lawful (under-lawful o) (both-lawful (on-lawful o.es2019.optional_catch_binding _ catch-lawful) (on-lawful (is_some o.es2018.object_rest_spread) _ spread-lawful))
 
 -- STEPS
@@ -50,12 +51,12 @@ module _ (read : Tree → List Text) (r : IsReading read) (o : EnvOptions) where
       at : Went (Step (alone o) the_program s (spread t) s' (spread u)) (SameBoth s (spread t) s' (spread u)) (Step NamespaceRule the_program s t s' u) → Left read (spread t) (spread u)
       at (moves step) =
           let next = formed-after (alone o) (alone-form o) step s-Program (λ e. absurd (cc e)) proper f in
-          record { proper = next.proper; formed = next.formed; same = program-texts read r (alone o) (alone-form o) (alone-names o) step (λ e. absurd (cc e)) proper next.proper f }
+          record { proper = next.proper; formed = next.formed; same = texts-after read r top-imports (λ up. false) none-hides (alone o) (alone-form o) (named-read (λ up. false) (alone o) (alone-names o)) step (λ e. absurd (cc e)) (λ e. absurd (cc e)) proper next.proper f }
       at (rests e) = subst (λ (x : Open). Left read (spread t) x) e.1 (record { proper = proper; formed = f; same = refl })
       at (leaves step) =
           let export = program-exported step (subst (λ (x : Tree). has_form s-Program x ≡ true) (finished-spread t) f) in
           let next = program-left export proper f in
-          record { proper = next.proper; formed = next.formed; same = exported-program-texts read r export proper next.proper }
+          record { proper = next.proper; formed = next.formed; same = exported-texts-after read r top-imports export proper next.proper }
 
   in-a-row : {s s' : Ledger} {t u : Open} → Steps (Step (either_rule (alone o) NamespaceRule) the_program) s t s' u → IsProper (spread t) → has_form s-Program (finished (spread t)) ≡ true → Read read (spread u) ≡ Read read (spread t)
   in-a-row stays proper f = refl

@@ -2,7 +2,7 @@
 -- declared, and the rules of declared names are kept.
 use Rattle.std.proofs.Common.{◌≡◌, ℕ, refl, sym, ap, subst, ◌∙◌, List, [], ◌∷◌, ◌++◌, filter, map, cond}
 use Rattle.std.specs.Prelude.{Bool, true, false, Option, Some, None, codes, if◌then◌else◌}
-use Rattle.std.proofs.lemmas.List.{append_assoc, map-append}
+use Rattle.std.proofs.lemmas.List.{append-nil, append_assoc, map-append}
 use Rattle.es_tree.specs.Ancestors.{Ancestor, scopes, stands_in}
 use Rattle.es_tree.specs.DeclaredNames.{Name, bound_names, declared, export_name, exports_of, name, var_names}
 use Rattle.es_tree.specs.HasForm.{has_form}
@@ -14,9 +14,9 @@ use Rattle.es_tree.specs.declared.place.Namespace.TheVariants.{Scope}
 use Rattle.es_tree.specs.declared.table.Sort.TheVariants.{Expression as s-Expression}
 use Rattle.es_tree.proofs.NodeForm.{node_form}
 use Rattle.es_resolution.specs.Declarations.{Bound}
-use Rattle.es_steps.specs.Nodes.{declarator, joined_trees, made, return_node}
-use Rattle.es_steps.specs.Open.{Additions, Pending, after_imports, declaration, is_import, no_additions, nothing_pending, pending_statements, whole_list, with_vars, written_body}
-use Rattle.es_steps.proofs.FormLists.{IsPlain, IsPlainList}
+use Rattle.es_steps.specs.Nodes.{declarator, joined_trees, made, return_node, this_statement}
+use Rattle.es_steps.specs.Open.{Additions, Pending, after_imports, declaration, import_statement, is_import, no_additions, nothing_pending, pending_statements, whole_list, with_this, with_vars, written, written_body}
+use Rattle.es_steps.proofs.FormLists.{IsPlain, plain-none}
 use Rattle.es_steps.proofs.Kept.{Each}
 use Rattle.es_valid_names.proofs.Claims.{Around, Clear, ClearAll, Stand, above, claims, claims_all, elsewhere, is_owned, push}
 use Rattle.es_valid_names.proofs.Grown.{AllNew, AllWeak, Grown, IsNew, no_list, new_list, grown-both, grown-self}
@@ -124,9 +124,12 @@ module _ (used used' : Text → Bool) where
       subst (λ (gs : List (List Name)). Grown used used' gs (claims_all is_owned up (joined_trees cs us))) (sym (joined-claims up bs ts))
       (subst (λ (gs : List (List Name)). Grown used used' (claims_all is_owned up bs ++ claims_all is_owned up ts) gs) (sym (joined-claims up cs us)) (grown-both h k))
 
+  abbrev pub AllGrown : List Ancestor → Trees → Trees → Type 0
+  AllGrown up ts us = Grown used used' (claims_all is_owned up ts) (claims_all is_owned up us)
+
   -- with what stands before their first statements that are no imports
   abbrev pub AroundGrown : Trees → Trees → Type 0
-  AroundGrown ts us = (up : List Ancestor) (bs cs : Trees) → Grown used used' (claims_all is_owned up bs) (claims_all is_owned up cs) → Grown used used' (claims_all is_owned up (after_imports bs ts)) (claims_all is_owned up (after_imports cs us))
+  AroundGrown ts us = (up : List Ancestor) (bs cs : Trees) → AllGrown up bs cs → AllGrown up (after_imports bs ts) (after_imports cs us)
 
   pub around-more : (t u : Tree) (ts us : Trees) → is_import u ≡ is_import t → ((up : List Ancestor) → Grown used used' (claims is_owned up t) (claims is_owned up u)) → ((up : List Ancestor) → Grown used used' (claims_all is_owned up ts) (claims_all is_owned up us)) → AroundGrown ts us → AroundGrown (t before ts) (u before us)
   around-more t u ts us e one_more all_more h up bs cs g = at (is_import t) (is_import u) e
@@ -143,19 +146,42 @@ module _ (used used' : Text → Bool) where
 
   -- LISTS
 
-  pending-plain : (p : Pending) (x : Option Bound) (a : Additions) (h : IsPlainList p x a) → pending_statements p x a ≡ declaration (codes "var") (map declarator h.vars.names) empty
-  pending-plain p x a h = λ i. pending_statements (h.vars.are i) (h.this i) (h.top i)
-
   pub with-more : (p q : Pending) (ns bs : List Bound) → p ≡ with_vars ns nothing_pending → q ≡ with_vars bs p → q ≡ with_vars (ns ++ bs) nothing_pending
   with-more p q ns bs e d = d ∙ ap (λ r. with_vars bs r) e ∙ ap (λ ds. record { vars = ds; lets = [] }) (sym (map-append declarator ns bs))
 
-  pub list-grown : (p q : Pending) (x y : Option Bound) (a b : Additions) (bs : List Bound) (ts us : Trees) → IsPlainList p x a → q ≡ with_vars bs p → y ≡ x → b ≡ a → Each IsFresh bs → AroundGrown ts us → (up : List Ancestor) → Grown used used' (claims_all is_owned up (whole_list p x a ts)) (claims_all is_owned up (whole_list q y b us))
-  list-grown p q x y a b bs ts us h e d c fresh g up =
-      let ns = h.vars.names in
-      let later : pending_statements q y b ≡ declaration (codes "var") (map declarator (ns ++ bs)) empty = (λ i. pending_statements (with-more p q ns bs h.vars.are e i) ((d ∙ h.this) i) ((c ∙ h.top) i)) in
-      subst (λ (vs : Trees). Grown used used' (claims_all is_owned up (after_imports vs ts)) (claims_all is_owned up (whole_list q y b us))) (sym (pending-plain p x a h))
-      (subst (λ (vs : Trees). Grown used used' (claims_all is_owned up (after_imports (declaration (codes "var") (map declarator ns) empty) ts)) (claims_all is_owned up (after_imports vs us))) (sym later)
-      (g up (declaration (codes "var") (map declarator ns) empty) (declaration (codes "var") (map declarator (ns ++ bs)) empty) (more-statement up ns bs fresh)))
+  vars-grown : (p q : Pending) (bs : List Bound) → IsPlain p → q ≡ with_vars bs p → Each IsFresh bs → (up : List Ancestor) → AllGrown up (written p empty) (written q empty)
+  vars-grown p q bs h e fresh up =
+      subst (λ (r : Pending). AllGrown up (written r empty) (written q empty)) (sym h.are)
+      (subst (λ (r : Pending). AllGrown up (written (with_vars h.names nothing_pending) empty) (written r empty)) (sym (with-more p q h.names bs h.are e)) (more-statement up h.names bs fresh))
+
+  -- the name of `this`, which may be a new one: `var x = this;` declares what `var x;` does
+  abbrev pub ThisGrown : Option Bound → Option Bound → Type 0
+  ThisGrown x y = (up : List Ancestor) (ts us : Trees) → AllGrown up ts us → AllGrown up (with_this x ts) (with_this y us)
+
+  pub same-this : (x y : Option Bound) → y ≡ x → ThisGrown x y
+  same-this x y e up ts us g = subst (λ (z : Option Bound). AllGrown up (with_this x ts) (with_this z us)) (sym e) (at x)
+    where
+      at : (x : Option Bound) → AllGrown up (with_this x ts) (with_this x us)
+      at None = g
+      at (Some b) = grown-both (grown-self (claims is_owned up (this_statement b))) g
+
+  pub new-this : (b : Bound) → IsFresh b → ThisGrown None (Some b)
+  new-this b h up ts us g = grown-both (subst (λ (hs : List (List Name)). Grown used used' [] hs) (append-nil (claims is_owned up (this_statement b))) (vars-grown nothing_pending (with_vars (b ∷ []) nothing_pending) (b ∷ []) plain-none refl (h, tt) up)) g
+
+  -- what is to be written at the program's top
+  pub record TopGrown (a b : Additions) : Type 0 where
+    pub imports : (up : List Ancestor) (ts us : Trees) → AllGrown up ts us → AllGrown up (joined_trees (trees (map import_statement a.imports)) ts) (joined_trees (trees (map import_statement b.imports)) us)
+    pub excluded : (up : List Ancestor) (ts us : Trees) → AllGrown up ts us → AllGrown up (declaration (codes "const") a.excluded ts) (declaration (codes "const") b.excluded us)
+
+  pub same-top : (a b : Additions) → b ≡ a → TopGrown a b
+  same-top a b e = subst (λ (c : Additions). TopGrown a c) (sym e) (record { imports = λ up ts us g. let is = trees (map import_statement a.imports) in grown-joined up is is ts us (grown-self (claims_all is_owned up is)) g; excluded = λ up ts us. at up ts us a.excluded })
+    where
+      at : (up : List Ancestor) (ts us : Trees) (ds : List Tree) → AllGrown up ts us → AllGrown up (declaration (codes "const") ds ts) (declaration (codes "const") ds us)
+      at up ts us [] g = g
+      at up ts us (d ∷ ds) g = grown-both (grown-self (claims is_owned up (node VariableDeclaration (made (Some (codes "const") ∷ []) []) (many (trees (d ∷ ds)) then done)))) g
+
+  pub list-grown : (p q : Pending) (x y : Option Bound) (a b : Additions) (bs : List Bound) (ts us : Trees) → IsPlain p → q ≡ with_vars bs p → ThisGrown x y → TopGrown a b → Each IsFresh bs → AroundGrown ts us → (up : List Ancestor) → AllGrown up (whole_list p x a ts) (whole_list q y b us)
+  list-grown p q x y a b bs ts us h e this top fresh g up = g up (pending_statements p x a) (pending_statements q y b) (top.excluded up _ _ (this up _ _ (top.imports up _ _ (vars-grown p q bs h e fresh up))))
 
   -- BODIES OF ARROWS
 
@@ -197,6 +223,10 @@ module _ (c : Around) (st : Stand) where
   clear-declaration [] ts h = h
   clear-declaration (b ∷ bs) ts h = ((tt, refl, (clear-declarators (b ∷ bs), tt)), h)
 
+  clear-this : (x : Option Bound) (ts : Trees) → ClearAll c st ts → ClearAll c st (with_this x ts)
+  clear-this None ts h = h
+  clear-this (Some b) ts h = ((tt, refl, (((tt, refl, ((tt, refl, tt), ((tt, refl, tt), tt))), tt), tt)), h)
+
   clear-joined : (bs ts : Trees) → ClearAll c st bs → ClearAll c st ts → ClearAll c st (joined_trees bs ts)
   clear-joined empty ts h k = k
   clear-joined (b before bs) ts h k = (h.0, clear-joined bs ts h.1 k)
@@ -221,11 +251,20 @@ module _ (c : Around) (st : Stand) where
       at true r k = (k.0, r k.1)
       at false r k = joined-clear bs (t before ts) k
 
-  -- a list with temporaries that are pending for it
-  pub whole-clear : (p : Pending) (x : Option Bound) (a : Additions) (ts : Trees) (bs : List Bound) → p ≡ with_vars bs nothing_pending → x ≡ None → a ≡ no_additions → ClearAll c st ts → ClearAll c st (whole_list p x a ts)
-  whole-clear p x a ts bs e d g k =
-      subst (λ (vs : Trees). ClearAll c st (after_imports vs ts)) (sym (λ i. pending_statements (e i) (d i) (g i)))
-      (clear-after (declaration (codes "var") (map declarator bs) empty) ts (clear-declaration bs empty tt) k)
+  -- what is to be written at the program's top
+  pub record TopClear (a : Additions) : Type 0 where
+    pub imports : ClearAll c st (trees (map import_statement a.imports))
+    pub excluded : (ts : Trees) → ClearAll c st ts → ClearAll c st (declaration (codes "const") a.excluded ts)
+
+  -- a list with what is pending for it
+  pub list-clear : (p : Pending) (x : Option Bound) (a : Additions) (ts : Trees) (bs : List Bound) → p ≡ with_vars bs nothing_pending → TopClear a → ClearAll c st ts → ClearAll c st (whole_list p x a ts)
+  list-clear p x a ts bs e top k =
+      let vars = subst (λ (q : Pending). ClearAll c st (written q empty)) (sym e) (clear-declaration bs empty tt) in
+      clear-after (pending_statements p x a) ts (top.excluded _ (clear-this x _ (clear-joined (trees (map import_statement a.imports)) (written p empty) top.imports vars))) k
+
+  -- where nothing is for the program's top
+  pub whole-clear : (p : Pending) (x : Option Bound) (a : Additions) (ts : Trees) (bs : List Bound) → p ≡ with_vars bs nothing_pending → a ≡ no_additions → ClearAll c st ts → ClearAll c st (whole_list p x a ts)
+  whole-clear p x a ts bs e g k = list-clear p x a ts bs e (subst (λ (b : Additions). TopClear b) (sym g) (record { imports = tt; excluded = λ ts h. h })) k
 
 module _ (c : Around) where
   clear-with : (bs : List Bound) (e : Tree) → Clear c elsewhere e → Clear c elsewhere (written_body (with_vars bs nothing_pending) e)

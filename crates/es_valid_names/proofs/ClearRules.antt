@@ -1,6 +1,6 @@
 -- What each rule keeps of the rules of declared names, in one statement for a set of rules.
-use Rattle.std.proofs.Common.{◌≡◌, ℕ, suc, inl, inr, refl, sym, subst, ◌∙◌, List, [], ◌∷◌, ◌++◌}
-use Rattle.std.specs.Prelude.{◌⊎◌, Bool, true, false, ◌&&◌, Some, is_some}
+use Rattle.std.proofs.Common.{◌≡◌, ℕ, suc, inl, inr, refl, sym, ap, subst, ◌∙◌, List, [], ◌∷◌, ◌++◌}
+use Rattle.std.specs.Prelude.{◌⊎◌, Bool, true, false, ◌&&◌, Option, Some, is_some}
 use Rattle.es_tree.specs.Ancestors.{Ancestor}
 use Rattle.es_tree.specs.Constructs.{field_at}
 use Rattle.es_tree.specs.DeclaredNames.{Name, declared, name}
@@ -63,14 +63,21 @@ use Rattle.es_valid_names.proofs.Mute.{Free, expression-kind, free-exported, is_
 abbrev pub use_in : Ledger → Text → Bool
 use_in s = (whole_in s).in_use
 
--- fresh temporaries more are pending, and in use afterwards
-pub record NewNames (s s' : Ledger) : Type 0 where
+-- fresh temporaries more are pending, and of a name of `this` what may be; all are in use afterwards
+pub record MoreNames (This : Option Bound → Option Bound → Type 0) (s s' : Ledger) : Type 0 where
   pub names : List Bound
   pub pending : pending_in s' ≡ with_vars names (pending_in s)
-  pub this : this_in s' ≡ this_in s
+  pub this : This (this_in s) (this_in s')
   pub top : top_in s' ≡ top_in s
   pub fresh : Each (λ b. (use_in s b.name ≡ false) × (use_in s' b.name ≡ true)) names
   pub more : (x : Text) → use_in s x ≡ true → use_in s' x ≡ true
+
+-- temporaries alone
+abbrev pub NewNames : Ledger → Ledger → Type 0
+NewNames = MoreNames (λ x y. y ≡ x)
+
+pub nothing-new : (s s' : Ledger) → s ≡ s' → NewNames s s'
+nothing-new s s' e = record { names = []; pending = sym (ap (λ r. pending_in r) e) ∙ no-names (pending_in s); this = sym (ap (λ r. this_in r) e); top = sym (ap (λ r. top_in r) e); fresh = tt; more = λ x h. sym (ap (λ r. use_in r x) e) ∙ h }
 
 -- the same rules are kept, where the names in use are those of the ledgers
 abbrev pub StaysClear : Ledger → Ledger → Tree → Tree → Type 0

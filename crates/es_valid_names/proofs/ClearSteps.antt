@@ -1,21 +1,20 @@
 -- Steps keep the rules of declared names: by one statement on rules, at whatever places they act.
-use Rattle.std.proofs.Common.{◌≡◌, ◌+◌, ℕ, zero, suc, refl, sym, ap, subst, ◌∙◌, List, [], ◌∷◌, ◌++◌, arith, filter}
-use Rattle.std.specs.Prelude.{Bool, true, false, Option, Some, if◌then◌else◌}
+use Rattle.std.proofs.Common.{◌≡◌, ◌+◌, ℕ, zero, suc, refl, sym, ap, subst, ◌∙◌, List, [], ◌∷◌, ◌++◌, filter}
+use Rattle.std.specs.Prelude.{Bool, true, false, Option, Some}
 use Rattle.es_tree.specs.Ancestors.{Ancestor}
 use Rattle.es_tree.specs.Children.{child_at, only_child}
 use Rattle.es_tree.specs.CoreStaticRules.{is_name}
 use Rattle.es_tree.specs.DeclaredNames.{Name, declared}
 use Rattle.es_tree.specs.HasForm.{has_form, same_type}
 use Rattle.es_tree.specs.StaticRules.{has_node, is_constructor_key}
-use Rattle.es_tree.specs.Tree.{Tree, node, Label, Fields, done, ◌then◌, Field, one, many, statements, Trees, empty, ◌before◌, kind_of}
+use Rattle.es_tree.specs.Tree.{Tree, node, Label, Fields, done, ◌then◌, Field, one, many, statements, Trees, kind_of}
 use Rattle.es_tree.specs.Words.{Text}
 use Rattle.es_tree.specs.declared.ast_type.AstType.{AstType}
 use Rattle.es_tree.specs.declared.ast_type.AstType.TheVariants.{ArrowFunctionExpression, Identifier, StringLiteral}
 use Rattle.es_tree.specs.declared.table.Sort.{Sort}
 use Rattle.es_tree.specs.declared.table.Sort.TheVariants.{ArrowFunctionBody as s-ArrowFunctionBody, Expression as s-Expression}
 use Rattle.es_resolution.specs.Declarations.{Bound}
-use Rattle.es_steps.specs.Nodes.{joined_trees}
-use Rattle.es_steps.specs.Open.{Additions, after_imports, is_import, opened_trees, Pending, pending_statements, whole_list, with_vars, written_body, is_body, Open, OpenFields, OpenField, OpenTrees, opened, finished, finished_fields, finished_field, finished_trees}
+use Rattle.es_steps.specs.Open.{Additions, is_import, opened_trees, Pending, pending_statements, whole_list, with_vars, written_body, is_body, Open, OpenFields, OpenField, OpenTrees, opened, finished, finished_fields, finished_field, finished_trees}
 use Rattle.es_steps.specs.Slots.{is_slot}
 use Rattle.es_steps.specs.Steps.{Whole, Ledger, ledger, Site, Spot, Step, FieldsStep, FieldStep, TreesStep}
 use Rattle.es_steps.specs.Steps.Step.{acts, inside}
@@ -28,12 +27,12 @@ use Rattle.es_steps.proofs.FormRules.{FormLawful, no-names}
 use Rattle.es_steps.proofs.FormSteps.{formed-after}
 use Rattle.es_steps.proofs.Kept.{Each}
 use Rattle.es_steps.proofs.Opened.{finished-opened, finished-trees}
-use Rattle.es_steps.proofs.Taken.{pending_in, this_in, top_in}
-use Rattle.es_valid_steps.proofs.FieldForms.{FieldHas, FieldsHave, TreesHave, node-have}
+use Rattle.es_valid_steps.proofs.Changed.{is-name}
+use Rattle.es_valid_steps.proofs.FieldForms.{ArrowAt, FieldHas, FieldsHave, TreesHave, arrow-first, arrow-next, arrow-zero, node-have, rest-have}
 use Rattle.es_valid_names.proofs.Claims.{Around, Clear, ClearAll, ClearBy, ClearIn, Stand, above, around_in, claims, claims_all, claims_by, claims_in, elsewhere, has_private, in_body as in_class, is_owned, is_owner, outside, owned, push, stand_in}
 use Rattle.es_valid_names.proofs.ClearNodes.{SameShape, SameShapes, declared-fields, face-claims, face-kept, own-kept, push-both, same-shape, same-shapes, stand-kept, wrong-kept}
-use Rattle.es_valid_names.proofs.ClearPending.{AroundGrown, IsFresh, after-clear, around-more, around-same, body-clear, body-grown, clear-body, list-grown, whole-clear, with-more}
-use Rattle.es_valid_names.proofs.ClearRules.{NameLawful, NewNames, use_in}
+use Rattle.es_valid_names.proofs.ClearPending.{AroundGrown, IsFresh, after-clear, around-more, around-same, body-clear, body-grown, clear-body, list-grown, same-this, same-top, whole-clear, with-more}
+use Rattle.es_valid_names.proofs.ClearRules.{NameLawful, NewNames, nothing-new, use_in}
 use Rattle.es_valid_names.proofs.Grown.{Grown, grown-both, grown-self}
 use Rattle.es_valid_names.proofs.MoreAround.{Allows, allows-in, clear-more, clear-more-all, clear-more-by, clear-more-in, private-grown, wrong-less}
 
@@ -71,39 +70,15 @@ pub record FieldsKept (k : AstType) (i : ℕ) (b : Bool) (s s' : Ledger) (fs gs 
   pub key : b ≡ false → is_constructor_key (child_at 0 gs) ≡ true → is_constructor_key (child_at 0 fs) ≡ true
   pub names : NewNames s s'
 
-is-name : (t : Tree) → is_name (Some t) ≡ same_type (kind_of t) Identifier
-is-name (node Identifier l fs) = refl
-is-name (node _ l fs) = refl
-
--- the body of an arrow stands in its second field
-pub record ArrowAt (k : AstType) (i : ℕ) : Type 0 where
-  pub kind : k ≡ ArrowFunctionExpression
-  pub index : i ≡ 1
-
-arrow-at : (k : AstType) (i : ℕ) → is_body k i ≡ true → ArrowAt k i
-arrow-at ArrowFunctionExpression zero e = absurd (cc e)
-arrow-at ArrowFunctionExpression (suc zero) e = record { kind = refl; index = refl }
-arrow-at ArrowFunctionExpression (suc (suc i)) e = absurd (cc e)
-arrow-at k i e = absurd (cc e)
-
-pub arrow-first : (k : AstType) (j : ℕ) → is_body k j ≡ true → ArrowAt k (0 + j)
-arrow-first k j e = let f = arrow-at k j e in record { kind = f.kind; index = let d = f.index in omega (arith, d) }
-
-arrow-next : (bodies : ℕ → Bool) (k : AstType) (i : ℕ) → ((j : ℕ) → bodies j ≡ true → ArrowAt k (i + j)) → (j : ℕ) → bodies (suc j) ≡ true → ArrowAt k (suc i + j)
-arrow-next bodies k i h j e = let f = h (suc j) e in record { kind = f.kind; index = let d = f.index in omega (arith, d) }
-
-arrow-zero : (bodies : ℕ → Bool) (k : AstType) (i : ℕ) → ((j : ℕ) → bodies j ≡ true → ArrowAt k (i + j)) → bodies zero ≡ true → ArrowAt k i
-arrow-zero bodies k i h e = let f = h zero e in record { kind = f.kind; index = let d = f.index in omega (arith, d) }
-
-no-first-body : (k : AstType) → is_body k 0 ≡ false
+pub no-first-body : (k : AstType) → is_body k 0 ≡ false
 no-first-body ArrowFunctionExpression = refl
 no-first-body _ = refl
 
 -- where it stands no rule asks
-arrow-stand : (st : Stand) (k : AstType) (all : Fields) (i : ℕ) → ArrowAt k i → stand_in st k all i ≡ elsewhere
+pub arrow-stand : (st : Stand) (k : AstType) (all : Fields) (i : ℕ) → ArrowAt k i → stand_in st k all i ≡ elsewhere
 arrow-stand st k all i h = λ j. stand_in st (h.kind j) all (h.index j)
 
-in-used : (c : Around) (b : Bool) (gs : List (List Name)) → (around_in c b gs).used ≡ c.used
+pub in-used : (c : Around) (b : Bool) (gs : List (List Name)) → (around_in c b gs).used ≡ c.used
 in-used c true gs = refl
 in-used c false gs = refl
 
@@ -133,28 +108,12 @@ in-node s s' k l fs gs r =
     same-key StringLiteral e = e
     same-key _ e = absurd (cc e)
 
-nothing-new : (s s' : Ledger) → s ≡ s' → NewNames s s'
-nothing-new s s' e = record { names = []; pending = sym (ap (λ r. pending_in r) e) ∙ no-names (pending_in s); this = sym (ap (λ r. this_in r) e); top = sym (ap (λ r. top_in r) e); fresh = tt; more = λ x h. sym (ap (λ r. use_in r x) e) ∙ h }
-
 -- the same with other fields around, which say as much of where it stands
-moved-stands : (c : Around) (gs : List (List Name)) (st : Stand) (k : AstType) (all all' : Fields) (i : ℕ) (fs : Fields) → ((j : ℕ) → stand_in st k all j ≡ stand_in st k all' j) → ClearIn c gs st k all i fs → ClearIn c gs st k all' i fs
+pub moved-stands : (c : Around) (gs : List (List Name)) (st : Stand) (k : AstType) (all all' : Fields) (i : ℕ) (fs : Fields) → ((j : ℕ) → stand_in st k all j ≡ stand_in st k all' j) → ClearIn c gs st k all i fs → ClearIn c gs st k all' i fs
 moved-stands c gs st k all all' i done e h = tt
 moved-stands c gs st k all all' i (f then fs) e h = (subst (λ (z : Stand). ClearBy (around_in c (in_class k i) gs) z f) (e i) h.0, moved-stands c gs st k all all' (suc i) fs e h.1)
 
 -- FIELDS
-
--- the statements of a list with others before them
-joined-have : (bs ts : Trees) → TreesHave (joined_trees bs ts) → TreesHave ts
-joined-have empty ts h = h
-joined-have (b before bs) ts h = joined-have bs ts h.1
-
-rest-have : (bs ts : Trees) → TreesHave (after_imports bs ts) → TreesHave ts
-rest-have bs empty h = tt
-rest-have bs (t before ts) h = at (is_import t) (λ k. rest-have bs ts k) h
-  where
-    at : (v : Bool) → (TreesHave (after_imports bs ts) → TreesHave ts) → TreesHave (if v then t before after_imports bs ts else joined_trees bs (t before ts)) → TreesHave (t before ts)
-    at true r k = (k.0, r k.1)
-    at false r k = joined-have bs (t before ts) k
 
 same-field : (k : AstType) (i : ℕ) (b : Bool) (s s' : Ledger) (f : Field) → s ≡ s' → FieldKept k i b s s' f f
 same-field k i b s s' f e = record {
@@ -170,8 +129,8 @@ same-field k i b s s' f e = record {
 list-kept : (k : AstType) (i : ℕ) (v : Bool) (w w' : Whole) (o p q : Pending) (x x' y y' : Option Bound) (a a' b b' : Additions) (bs : List Bound) (ts us : Trees) → IsPlainList p y b → q ≡ with_vars bs p → y' ≡ y → b' ≡ b → x' ≡ x → a' ≡ a → Each (IsFresh w.in_use w'.in_use) bs → ((z : Text) → w.in_use z ≡ true → w'.in_use z ≡ true) →
     AroundGrown w.in_use w'.in_use ts us → ((c d : Around) → c.used ≡ w.in_use → d.used ≡ w'.in_use → Allows c d → (st : Stand) → ClearAll c st ts → ClearAll d st us) → FieldKept k i v (ledger w o x a) (ledger w' o x' a') (statements (whole_list p y b ts)) (statements (whole_list q y' b' us))
 list-kept k i v w w' o p q x x' y y' a a' b b' bs ts us plain e f g this top fresh more around clear = record {
-  grown = λ l all m up. list-grown w.in_use w'.in_use p q y y' b b' bs ts us plain e f g fresh around (above k l all i m ∷ up);
-  clear = λ c d h j m st r n. whole-clear d st q y' b' us (plain.vars.names ++ bs) (with-more w.in_use w'.in_use p q plain.vars.names bs plain.vars.are e) (f ∙ plain.this) (g ∙ plain.top) (clear c d h j m st (after-clear c st (pending_statements p y b) ts n));
+  grown = λ l all m up. list-grown w.in_use w'.in_use p q y y' b b' bs ts us plain.vars e (same-this w.in_use w'.in_use y y' f) (same-top w.in_use w'.in_use b b' g) fresh around (above k l all i m ∷ up);
+  clear = λ c d h j m st r n. whole-clear d st q y' b' us (plain.vars.names ++ bs) (with-more w.in_use w'.in_use p q plain.vars.names bs plain.vars.are e) (g ∙ plain.top) (clear c d h j m st (after-clear c st (pending_statements p y b) ts n));
   shape = record { single = refl; some = refl };
   name = λ h. refl;
   key = λ h j. j;

@@ -55,7 +55,7 @@ use Rattle.es_valid_names.proofs.StartUsed.{start-used}
 same-there : (x : Text) → is_same_name Scope 1 x (bound_there x) ≡ true
 same-there x = bytes_eq-self x
 
-program-good : {s s' : Ledger} {x y : Open} → ProgramExported s s' x y → Good s x → IsProper y → has_form s-Program (finished y) ≡ true → Good s' y
+pub program-good : {s s' : Ledger} {x y : Open} → ProgramExported s s' x y → Good s x → IsProper y → has_form s-Program (finished y) ≡ true → Good s' y
 program-good {s} {s'} (in_the_list {o = o} {z = z} {c = c} {l = l} {d = d} {p = p} {q = q} {x = x} {y = y} {a = a} {b = b} {ts = ts} {us = us} h) g proper formed =
     let old = finished_fields (d and (list p x a ts and ends)) in
     let new = finished_fields (d and (list q y b us and ends)) in
@@ -78,7 +78,7 @@ program-good {s} {s'} (in_the_list {o = o} {z = z} {c = c} {l = l} {d = d} {p = 
       clear = (
         one-apart (use_in s) (use_in s') (bound_there r.text) r.new r.more more g.clear.0,
         refl,
-        (clear-more-by before after allows elsewhere (finished_field d) g.clear.2.0, (whole-clear after elsewhere q y b (finished_trees us) plain.vars.names (r.pending ∙ plain.vars.are) (r.this ∙ plain.this) (r.top ∙ plain.top) statements_clear, tt)),
+        (clear-more-by before after allows elsewhere (finished_field d) g.clear.2.0, (whole-clear after elsewhere q y b (finished_trees us) plain.vars.names (r.pending ∙ plain.vars.are) (r.top ∙ plain.top) statements_clear, tt)),
       );
     }
 

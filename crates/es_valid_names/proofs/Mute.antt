@@ -306,7 +306,7 @@ quiet MethodDefinition l all i m up e d = record { bound = λ x. refl; key = λ 
 quiet PropertyDefinition l all i m up e d = record { bound = λ x. refl; key = λ c. absurd (cc c) }
 quiet _ l all i m up e d = record { bound = λ x. refl; key = λ c. refl }
 
-sealed-boundary : (k : AstType) (l : Label) (all : Fields) (i : ℕ) (up : List Ancestor) → is_outer k ≡ false → is_boundary k ≡ true → Sealed (above k l all i 0 ∷ up)
+pub sealed-boundary : (k : AstType) (l : Label) (all : Fields) (i : ℕ) (up : List Ancestor) → is_outer k ≡ false → is_boundary k ≡ true → Sealed (above k l all i 0 ∷ up)
 sealed-boundary ArrowFunctionExpression l all i up e d = record { bound = λ x. free-if (i == 0) (parameter_names 0 x) [] (refl, (refl, tt)) tt; declaration = λ x. tt; private = λ x. free-private (above ArrowFunctionExpression l all i 0) up x (λ c. absurd (cc c)); scoped = (refl, tt); first = refl }
 sealed-boundary FunctionExpression l all i up e d = record { bound = λ x. free-if ((i == 1) || false) (parameter_names 0 x) [] (refl, (refl, tt)) tt; declaration = λ x. tt; private = λ x. free-private (above FunctionExpression l all i 0) up x (λ c. absurd (cc c)); scoped = (refl, tt); first = refl }
 sealed-boundary StaticBlock l all i up e d = record { bound = λ x. tt; declaration = λ x. tt; private = λ x. free-private (above StaticBlock l all i 0) up x (λ c. absurd (cc c)); scoped = (refl, tt); first = refl }

@@ -25,12 +25,12 @@ use Rattle.es_steps.proofs.FormOpen.{IsProper}
 use Rattle.es_steps.proofs.FormRules.{FormLawful}
 use Rattle.es_steps.proofs.FormSteps.{formed-after}
 use Rattle.es_steps.proofs.Opened.{finished-opened}
-use Rattle.es_valid_steps.proofs.FieldForms.{node-have}
+use Rattle.es_valid_steps.proofs.FieldForms.{arrow-first, node-have}
 use Rattle.es_valid_names.specs.Laws.{declared_breaks, keeps_exports, declared_rules, name_breaks, name_rules}
 use Rattle.es_valid_names.proofs.Breaks.{Locals, tree-from, tree-to, own-groups, declared-none, fields-none}
 use Rattle.es_valid_names.proofs.Claims.{Around, Clear, Distinct, elsewhere, joined, outside, owned, push}
 use Rattle.es_valid_names.proofs.ClearRules.{NameLawful, use_in}
-use Rattle.es_valid_names.proofs.ClearSteps.{arrow-first, fields-after, in-node, inside-grown}
+use Rattle.es_valid_names.proofs.ClearSteps.{fields-after, in-node, inside-grown}
 use Rattle.es_valid_names.proofs.Grown.{left-none, or-none, right-none}
 use Rattle.es_valid_names.proofs.MoreAround.{Allows, grown-any}
 use Rattle.es_valid_names.proofs.Mute.{class-edges}

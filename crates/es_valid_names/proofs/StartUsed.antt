@@ -79,12 +79,12 @@ module _ (used : Text → Bool) where
       at false true false = (refl, (refl, tt))
       at false false b = (refl, (refl, (refl, (refl, tt))))
 
-  used-private : (up : List Ancestor) (x : Text) → AllUsed used (private_names up x)
+  pub used-private : (up : List Ancestor) (x : Text) → AllUsed used (private_names up x)
   used-private [] x = tt
   used-private (a ∷ []) x = tt
   used-private (a ∷ (c ∷ up)) x = used-if (is_class_key (a ∷ up)) (name PrivateNames c.number x false ∷ map (λ s. name s c.number x true) (slots a)) [] (refl, used-accessors c.number x (if same_type a.kind MethodDefinition then first_text a.label.texts else []) (flag_at 0 a.label.flags)) tt
 
-  used-constructor : (up : List Ancestor) (x : Text) → AllUsed used (constructor_names up x)
+  pub used-constructor : (up : List Ancestor) (x : Text) → AllUsed used (constructor_names up x)
   used-constructor [] x = tt
   used-constructor (c ∷ up) x = used-if (bytes_eq x (codes "constructor")) (name Constructors c.number [] true ∷ []) [] (refl, tt) tt
 

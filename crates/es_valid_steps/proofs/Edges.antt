@@ -1,18 +1,21 @@
 -- What may stand in which field of a program that has form, as far as the rules of places ask: no statement in an expression, but inside
--- functions, arrows and static blocks; a name as the label; and declarators in a declaration.
+-- functions, arrows and static blocks; a name as the label; declarators in a declaration, no `this` as what one declares; and no arrow as
+-- the function of a method.
 use Rattle.std.proofs.Common.{◌≡◌, ◌==◌, ℕ, suc, refl, ap}
 use Rattle.std.specs.Prelude.{Bool, true, false, not, ◌&&◌, ◌||◌, Some}
 use Rattle.std.proofs.lemmas.Bool.{and_parts, and_from}
 use Rattle.es_tree.specs.Ancestors.{is_boundary}
 use Rattle.es_tree.specs.Attributes.{child_entries}
+use Rattle.es_tree.specs.Children.{child_at}
 use Rattle.es_tree.specs.HasForm.{ElementsPlace, elements_of, has_form, is_of_sort, same_type}
 use Rattle.es_tree.specs.Tree.{Tree, node, Label, Fields, done, ◌then◌, Field, missing, one, many, statements, Trees, empty, ◌before◌, kind_of}
 use Rattle.es_tree.specs.declared.ast_type.AstType.{AstType}
-use Rattle.es_tree.specs.declared.ast_type.AstType.TheVariants.{ArrayExpression, ArrayPattern, ArrayTarget, BlockStatement, BreakStatement, CatchClause, ClassDeclaration, ContinueStatement, DebuggerStatement, DoWhileStatement, EmptyStatement, ExportAllDeclaration, ExportDefaultDeclaration, ExportNamedDeclaration, ExpressionStatement, ForInStatement, ForOfStatement, ForStatement, FunctionBody, FunctionDeclaration, Identifier, IfStatement, ImportDeclaration, LabeledStatement, Program, ReturnStatement, SwitchCase, SwitchStatement, ThrowStatement, TryStatement, VariableDeclaration, VariableDeclarator, WhileStatement}
+use Rattle.es_tree.specs.declared.ast_type.AstType.TheVariants.{ArrayExpression, ArrayPattern, ArrayTarget, ArrowFunctionExpression, BlockStatement, BreakStatement, CatchClause, ClassDeclaration, ContinueStatement, DebuggerStatement, DoWhileStatement, EmptyStatement, ExportAllDeclaration, ExportDefaultDeclaration, ExportNamedDeclaration, ExpressionStatement, ForInStatement, ForOfStatement, ForStatement, FunctionBody, FunctionDeclaration, Identifier, IfStatement, ImportDeclaration, LabeledStatement, MethodDefinition, Program, ReturnStatement, SwitchCase, SwitchStatement, ThisExpression, ThrowStatement, TryStatement, VariableDeclaration, VariableDeclarator, WhileStatement}
 use Rattle.es_tree.specs.declared.table.Sort.{Sort}
 use Rattle.es_tree.specs.declared.table.Sort.TheVariants.{Expression as s-Expression}
 use Rattle.es_tree.proofs.NodeForm.{node_form}
 use Rattle.es_semantic.proofs.FormEdges.{Edges, EdgesAll, EdgesBy, EdgesIn, ElementsFit, edges-inside, elements-are, entries_fit, is_last, same-kind}
+use Rattle.es_valid_steps.specs.ArrowNodes.{is_kind_within}
 use Rattle.es_valid_steps.proofs.Moves.{is_jump, jumpless, jumpless_all, jumpless_by, jumpless_in}
 
 -- THE TEST
@@ -57,8 +60,29 @@ is_label_name k i j = not (is_jump k && i == 0) || same_type j Identifier
 abbrev is_declared : AstType → ℕ → AstType → Bool
 is_declared k i j = not (same_type k VariableDeclaration && i == 0) || same_type j VariableDeclarator
 
+abbrev is_bound : AstType → ℕ → AstType → Bool
+is_bound k i j = not (same_type k VariableDeclarator && i == 0) || not (same_type j ThisExpression)
+
+abbrev is_method : AstType → ℕ → AstType → Bool
+is_method k i j = not (same_type k MethodDefinition && i == 1) || not (same_type j ArrowFunctionExpression)
+
 abbrev pub stands : AstType → ℕ → Bool → AstType → Bool
-stands k i last j = is_lasting k j && is_label_name k i j && is_declared k i j
+stands k i last j = is_lasting k j && is_label_name k i j && is_declared k i j && is_bound k i j && is_method k i j
+
+record Parts (k : AstType) (i : ℕ) (j : AstType) : Type 0 where
+  lasting : is_lasting k j ≡ true
+  label : is_label_name k i j ≡ true
+  declared : is_declared k i j ≡ true
+  bound : is_bound k i j ≡ true
+  method : is_method k i j ≡ true
+
+parts : (k j : AstType) (i : ℕ) (last : Bool) → stands k i last j ≡ true → Parts k i j
+parts k j i last h =
+    let a = and_parts (is_lasting k j && is_label_name k i j && is_declared k i j && is_bound k i j) (is_method k i j) h in
+    let b = and_parts (is_lasting k j && is_label_name k i j && is_declared k i j) (is_bound k i j) a.0 in
+    let c = and_parts (is_lasting k j && is_label_name k i j) (is_declared k i j) b.0 in
+    let d = and_parts (is_lasting k j) (is_label_name k i j) c.0 in
+    record { lasting = d.0; label = d.1; declared = c.1; bound = b.1; method = a.1 }
 
 entries-fit : (k : AstType) → entries_fit stands k 0 (child_entries k) ≡ true
 entries-fit Program = refl
@@ -76,7 +100,7 @@ edges = edges-inside stands (record { entries = entries-fit; elements = elements
 -- NO JUMP in what is no statement
 
 lasting : (k j : AstType) (i : ℕ) (last : Bool) → stands k i last j ≡ true → is_statement k ≡ false → is_boundary k ≡ false → is_statement j ≡ false
-lasting k j i last h e d = at (is_statement k) (is_boundary k) (is_statement j) e d (and_parts (is_lasting k j) (is_label_name k i j) (and_parts (is_lasting k j && is_label_name k i j) (is_declared k i j) h).0).0
+lasting k j i last h e d = at (is_statement k) (is_boundary k) (is_statement j) e d (parts k j i last h).lasting
   where
     at : (a b c : Bool) → a ≡ false → b ≡ false → (a || b || not c) ≡ true → c ≡ false
     at true b c e d h = absurd (cc e)
@@ -158,8 +182,31 @@ left-false : (a b : Bool) → a ≡ true → (not a || b) ≡ true → b ≡ tru
 left-false true b e h = h
 left-false false b e h = absurd (cc e)
 
+-- a label is a name
+pub is-label : (k : AstType) (i : ℕ) (last : Bool) (t : Tree) → Edges stands k i last t → is_label_name k i (kind_of t) ≡ true
+is-label k i last (node j l fs) h = (parts k j i last h.0).label
+
 pub label-kind : (k : AstType) (last : Bool) (t : Tree) → is_jump k ≡ true → Edges stands k 0 last t → kind_of t ≡ Identifier
-label-kind k last (node j l fs) e h = same-kind j Identifier (left-false (is_jump k && true) (same_type j Identifier) (and_from (is_jump k) true e refl) (and_parts (is_lasting k j) (is_label_name k 0 j) (and_parts (is_lasting k j && is_label_name k 0 j) (is_declared k 0 j) h.0).0).1)
+label-kind k last t e h = same-kind (kind_of t) Identifier (left-false (is_jump k && true) (same_type (kind_of t) Identifier) (and_from (is_jump k) true e refl) (is-label k 0 last t h))
 
 pub declarator-kind : (t : Tree) → Edges stands VariableDeclaration 0 false t → kind_of t ≡ VariableDeclarator
-declarator-kind (node j l fs) h = same-kind j VariableDeclarator (and_parts (is_lasting VariableDeclaration j && is_label_name VariableDeclaration 0 j) (is_declared VariableDeclaration 0 j) h.0).1
+declarator-kind (node j l fs) h = same-kind j VariableDeclarator (parts VariableDeclaration j 0 false h.0).declared
+
+not-true : (b : Bool) → not b ≡ true → b ≡ false
+not-true true e = absurd (cc e)
+not-true false e = refl
+
+pub no-this-declared : (k : AstType) (fs : Fields) → k ≡ VariableDeclarator → EdgesIn stands k 0 fs → is_kind_within ThisExpression (child_at 0 fs) ≡ false
+no-this-declared k done e h = refl
+no-this-declared k (missing then fs) e h = refl
+no-this-declared k (one (node j l hs) then fs) e h = not-true (same_type j ThisExpression) (left-false (same_type k VariableDeclarator && true) (not (same_type j ThisExpression)) (and_from (same_type k VariableDeclarator) true (ap (λ i. same_type i VariableDeclarator) e) refl) (parts k j 0 (is_last fs) h.0.0).bound)
+no-this-declared k (many ts then fs) e h = refl
+no-this-declared k (statements ts then fs) e h = refl
+
+pub no-arrow-method : (fs : Fields) → EdgesIn stands MethodDefinition 0 fs → is_kind_within ArrowFunctionExpression (child_at 1 fs) ≡ false
+no-arrow-method done h = refl
+no-arrow-method (f then done) h = refl
+no-arrow-method (f then (missing then fs)) h = refl
+no-arrow-method (f then (one (node j l hs) then fs)) h = not-true (same_type j ArrowFunctionExpression) (parts MethodDefinition j 1 (is_last fs) h.1.0.0).method
+no-arrow-method (f then (many ts then fs)) h = refl
+no-arrow-method (f then (statements ts then fs)) h = refl

@@ -1,12 +1,12 @@
 -- What the form of a node says of the nodes in its fields.
-use Rattle.std.proofs.Common.{◌≡◌, ℕ, zero, suc, refl, sym, ◌∙◌, List, [], ◌∷◌}
-use Rattle.std.specs.Prelude.{Bool, true, ◌&&◌, Option, Some, None}
+use Rattle.std.proofs.Common.{◌≡◌, ◌+◌, ℕ, zero, suc, refl, sym, ◌∙◌, List, [], ◌∷◌, arith}
+use Rattle.std.specs.Prelude.{Bool, true, false, ◌&&◌, Option, Some, None, if◌then◌else◌}
 use Rattle.std.proofs.lemmas.Bool.{and_parts}
 use Rattle.es_tree.specs.Attributes.{child_entries}
 use Rattle.es_tree.specs.HasForm.{ElementsPlace, element_form, elements_form, elements_of, field_form, fields_form, has_form, match_option, sort_before_fields, sort_before_trees, trees_form}
 use Rattle.es_tree.specs.Tree.{Tree, node, Label, Fields, done, ◌then◌, Field, missing, one, many, statements, Trees, empty, ◌before◌}
 use Rattle.es_tree.specs.declared.ast_type.AstType.{AstType}
-use Rattle.es_tree.specs.declared.ast_type.AstType.TheVariants.{Program}
+use Rattle.es_tree.specs.declared.ast_type.AstType.TheVariants.{ArrowFunctionExpression, Program}
 use Rattle.es_tree.specs.declared.table.Content.{Content}
 use Rattle.es_tree.specs.declared.table.Content.TheVariants.{Child as c-Child}
 use Rattle.es_tree.specs.declared.table.Entry.{Entry}
@@ -14,7 +14,8 @@ use Rattle.es_tree.specs.declared.table.Often.TheVariants.{Statements}
 use Rattle.es_tree.specs.declared.table.Sort.{Sort}
 use Rattle.es_tree.specs.declared.table.Sort.TheVariants.{ArrowFunctionBody as s-ArrowFunctionBody, Expression as s-Expression, Program as s-Program}
 use Rattle.es_tree.proofs.NodeForm.{node_form}
-use Rattle.es_steps.specs.Open.{OpenFields, finished_fields, is_body}
+use Rattle.es_steps.specs.Nodes.{joined_trees}
+use Rattle.es_steps.specs.Open.{OpenFields, after_imports, finished_fields, is_body, is_import}
 use Rattle.es_steps.specs.Slots.{is_slot}
 use Rattle.es_steps.specs.Steps.{Site, outline, site_in}
 use Rattle.es_steps.proofs.FormOpen.{Holds, element-holds, entry-holds}
@@ -121,3 +122,40 @@ node-have n a k l fs h = at (elements_of (child_entries k)) refl (node_form a k 
         let slots : (i : ℕ) → is_slot (site_in n k l fs i).above ≡ true → ⊥ = λ i d. no-slot (sym (elements-sort k l (child_entries k) p i e) ∙ slot-sort n.above k l (outline fs) i d) in
         let arrows : (i : ℕ) → is_body k i ≡ true → ⊥ = λ i d. no-arrow (sym (elements-sort k l (child_entries k) p i e) ∙ arrow-sort k l i d) in
         elements-have k l p.sort p.last (site_in n k l fs) (is_body k) slots arrows (finished_fields fs) g
+
+-- LISTS: the statements of one with others before them
+
+joined-have : (bs ts : Trees) → TreesHave (joined_trees bs ts) → TreesHave ts
+joined-have empty ts h = h
+joined-have (b before bs) ts h = joined-have bs ts h.1
+
+pub rest-have : (bs ts : Trees) → TreesHave (after_imports bs ts) → TreesHave ts
+rest-have bs empty h = tt
+rest-have bs (t before ts) h = at (is_import t) (λ k. rest-have bs ts k) h
+  where
+    at : (v : Bool) → (TreesHave (after_imports bs ts) → TreesHave ts) → TreesHave (if v then t before after_imports bs ts else joined_trees bs (t before ts)) → TreesHave (t before ts)
+    at true r k = (k.0, r k.1)
+    at false r k = joined-have bs (t before ts) k
+
+-- WHERE THE BODY OF AN ARROW STANDS: in the second field
+
+pub record ArrowAt (k : AstType) (i : ℕ) : Type 0 where
+  pub kind : k ≡ ArrowFunctionExpression
+  pub index : i ≡ 1
+
+arrow-at : (k : AstType) (i : ℕ) → is_body k i ≡ true → ArrowAt k i
+arrow-at ArrowFunctionExpression zero e = absurd (cc e)
+arrow-at ArrowFunctionExpression (suc zero) e = record { kind = refl; index = refl }
+arrow-at ArrowFunctionExpression (suc (suc i)) e = absurd (cc e)
+arrow-at k i e = absurd (cc e)
+
+-- counted from the first field
+pub arrow-first : (k : AstType) (j : ℕ) → is_body k j ≡ true → ArrowAt k (0 + j)
+arrow-first k j e = let f = arrow-at k j e in record { kind = f.kind; index = let d = f.index in omega (arith, d) }
+
+-- the next field
+pub arrow-next : (bodies : ℕ → Bool) (k : AstType) (i : ℕ) → ((j : ℕ) → bodies j ≡ true → ArrowAt k (i + j)) → (j : ℕ) → bodies (suc j) ≡ true → ArrowAt k (suc i + j)
+arrow-next bodies k i h j e = let f = h (suc j) e in record { kind = f.kind; index = let d = f.index in omega (arith, d) }
+
+pub arrow-zero : (bodies : ℕ → Bool) (k : AstType) (i : ℕ) → ((j : ℕ) → bodies j ≡ true → ArrowAt k (i + j)) → bodies zero ≡ true → ArrowAt k i
+arrow-zero bodies k i h e = let f = h zero e in record { kind = f.kind; index = let d = f.index in omega (arith, d) }

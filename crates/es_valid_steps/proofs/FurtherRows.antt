@@ -1,6 +1,6 @@
 -- Optional catch and object spread keep the static rules of places.
 use Rattle.std.proofs.Common.{◌≡◌, ℕ, inl, refl, List, [], ◌∷◌, ◌++◌}
-use Rattle.std.specs.Prelude.{true, false, ◌||◌, Option, Some, None, codes, is_some}
+use Rattle.std.specs.Prelude.{Bool, true, false, ◌||◌, Option, Some, None, codes, is_some}
 use Rattle.es_tree.specs.Ancestors.{Ancestor, ancestor}
 use Rattle.es_tree.specs.Constructs.{any_kind, is_spread}
 use Rattle.es_tree.specs.HasForm.{has_form}
@@ -27,16 +27,13 @@ use Rattle.es_valid_steps.proofs.Changed.{ChangedFields}
 use Rattle.es_valid_steps.proofs.Changed.Changed.{inside, row}
 use Rattle.es_valid_steps.proofs.Changed.ChangedField.{same_field, unseen}
 use Rattle.es_valid_steps.proofs.Changed.ChangedFields.{ends, more}
-use Rattle.es_valid_steps.proofs.Edges.{edges}
 use Rattle.es_valid_steps.proofs.Free.{Free, FreeAll, as-free, free-as, made-there, part}
 use Rattle.es_valid_steps.proofs.Free.From.{from_other}
 use Rattle.es_valid_steps.proofs.Free.Under.{deeper, itself}
 use Rattle.es_valid_steps.proofs.FurtherForms.{or-later, or-none}
-use Rattle.es_valid_steps.proofs.KeptNodes.{alike-changed, here-kept}
+use Rattle.es_valid_steps.proofs.KeptNodes.{node-kept}
 use Rattle.es_valid_steps.proofs.Loose.{loose}
 use Rattle.es_valid_steps.proofs.MadeNodes.{free-call, free-empty, free-member, free-more, free-name, free-object, in-call, is_acted, left-keeps}
-use Rattle.es_valid_steps.proofs.Moves.{keeps-moved}
-use Rattle.es_valid_steps.proofs.Offers.{near-self, near-within, offers-self, offers-within}
 use Rattle.es_valid_steps.proofs.PlaceRows.{NodeKept, PlaceLawful}
 use Rattle.es_valid_steps.proofs.Slots.{SlotHead}
 
@@ -45,18 +42,15 @@ use Rattle.es_valid_steps.proofs.Slots.{SlotHead}
 pub catch-lawful : PlaceLawful CatchRule
 catch-lawful = record { at_nodes = nodes }
   where
-    nodes : (n : Site) (s s' : Ledger) (t u : Tree) (a : Sort) (up : List Ancestor) → (is_slot n.above ≡ true → a ≡ s-Expression) → (is_slot n.above ≡ true → SlotHead up) → CatchRule n s (at_node t) s' (at_node u) → has_form a t ≡ true → Keeps up t → NodeKept n up t u
-    nodes n s s' t u a up slot head (catches {w = w} {m = m} {body = body} {x = x} fresh) f h =
+    nodes : (turns : Bool) (n : Site) (s s' : Ledger) (t u : Tree) (a : Sort) (up : List Ancestor) → (is_slot n.above ≡ true → a ≡ s-Expression) → (is_slot n.above ≡ true → SlotHead up) → CatchRule n s (at_node t) s' (at_node u) → has_form a t ≡ true → Keeps up t → NodeKept turns n up t u
+    nodes turns n s s' t u a up slot head (catches {w = w} {m = m} {body = body} {x = x} fresh) f h =
         let b : Bound = record { name = x; symbol = Some w.free_symbol } in
         let old : Fields = missing then one body then done in
         let new : Fields = one (identifier b) then one body then done in
-        let stand = edges a CatchClause m old f in
-        let changed : ChangedFields CatchClause old new = more (unseen refl) (more same_field ends) in
-        let alike = alike-changed CatchClause m old new stand changed 1 in
-        let there = ancestor CatchClause m new 0 0 ∷ up in
-        let inner = keeps-moved true (ancestor CatchClause m old 1 0 ∷ up) (ancestor CatchClause m new 1 0 ∷ up) body (offers-within true up up (ancestor CatchClause m old 1 0) (ancestor CatchClause m new 1 0) alike (offers-self up) (λ e. absurd (cc e))) (near-within up up (ancestor CatchClause m old 1 0) (ancestor CatchClause m new 1 0) alike (near-self up)) (λ e. absurd (cc e)) h.1.1.0 in
-        let param = made-there there Identifier (record (made (Some x ∷ []) []) { marks = Some w.free_symbol ∷ [] }) done (loose m new 0 0 up CatchClause refl) refl refl refl refl in
-        record { keeps = (here-kept up CatchClause m old new stand changed h.0, ((param, tt), (inner, tt))); seen = inl (inside changed) }
+        let changed : ChangedFields turns CatchClause old new = more (unseen refl) (more same_field ends) in
+        let there = ancestor CatchClause m old 0 0 ∷ up in
+        let param = made-there there Identifier (record (made (Some x ∷ []) []) { marks = Some w.free_symbol ∷ [] }) done (loose m old 0 0 up CatchClause refl) refl refl refl refl in
+        record { keeps = node-kept a up CatchClause m old new f (λ v. record { accessor = refl; operand = λ e. refl }) changed h.0 ((param, tt), (h.1.1.0, tt)); seen = inl (inside changed) }
 
 -- OBJECT SPREAD
 
@@ -118,8 +112,8 @@ helper-free up x = free-member up (made [] (false ∷ false ∷ [])) (word (code
 pub spread-lawful : PlaceLawful (Replacing SpreadRule)
 spread-lawful = record { at_nodes = nodes }
   where
-    nodes : (n : Site) (s s' : Ledger) (t u : Tree) (a : Sort) (up : List Ancestor) → (is_slot n.above ≡ true → a ≡ s-Expression) → (is_slot n.above ≡ true → SlotHead up) → Replacing SpreadRule n s (at_node t) s' (at_node u) → has_form a t ≡ true → Keeps up t → NodeKept n up t u
-    nodes n s s' t u a up slot head (replaces bs (spreads {m = m} {ps = ps} {u = v} unbound used some silent r)) f h =
+    nodes : (turns : Bool) (n : Site) (s s' : Ledger) (t u : Tree) (a : Sort) (up : List Ancestor) → (is_slot n.above ≡ true → a ≡ s-Expression) → (is_slot n.above ≡ true → SlotHead up) → Replacing SpreadRule n s (at_node t) s' (at_node u) → has_form a t ≡ true → Keeps up t → NodeKept turns n up t u
+    nodes turns n s s' t u a up slot head (replaces bs (spreads {m = m} {ps = ps} {u = v} unbound used some silent r)) f h =
         let helper = helper_node (codes "objectSpread2") in
         let free = helper-free up (codes "objectSpread2") in
         let left = placed-keeps up helper free t m v refl h.0 (copies-free up helper free m (many ps then done) None [] ps v r some no_copy tt h.1.0) in

@@ -3,39 +3,41 @@ use Rattle.std.proofs.Common.{◌≡◌, ◌==◌, ℕ, refl, sym, ap, ◌∙◌
 use Rattle.std.specs.Prelude.{Bool, true, false, not, ◌&&◌, ◌||◌, bytes_eq, codes, Option, if◌then◌else◌}
 use Rattle.std.specs.List.{list_any}
 use Rattle.es_tree.specs.Ancestors.{Ancestor, ancestor, has_loop_body, is_derived, is_script_top, labels, leads_by, own_labels, place_of, stands_in}
-use Rattle.es_tree.specs.Children.{child_at}
+use Rattle.es_tree.specs.Children.{child_at, only_child}
 use Rattle.es_tree.specs.CoreStaticRules.{has_optional_in, is_bad_delete, is_bad_target, is_empty_chain, is_missing_init, is_name, is_simple_target, is_stray_optional, needs_value}
-use Rattle.es_tree.specs.HasForm.{same_type}
+use Rattle.es_tree.specs.HasForm.{has_form, same_type}
 use Rattle.es_tree.specs.Names.{first_text}
 use Rattle.es_tree.specs.Parens.{without_parens}
 use Rattle.es_tree.specs.Scopes.{name_in, own_text}
-use Rattle.es_tree.specs.StaticRules.{binds_name, has_pattern, has_value, is_bad_accessor, is_bad_accessor_of, is_bad_for, is_bad_rest, is_bad_using, is_duplicate_label, is_empty, is_label, is_lone_declarator, is_lone_parameter, is_loop_label, is_misplaced_meta, is_misplaced_return, is_misplaced_super, is_missing_label, parameters_in}
+use Rattle.es_tree.specs.StaticRules.{binds_name, has_pattern, has_value, is_accessor_word, is_bad_accessor, is_bad_accessor_of, is_bad_for, is_bad_rest, is_bad_using, is_duplicate_label, is_empty, is_label, is_lone_declarator, is_lone_parameter, is_loop_label, is_misplaced_meta, is_misplaced_return, is_misplaced_super, is_missing_label, parameters_in}
 use Rattle.es_tree.specs.Table.{own_kinds}
 use Rattle.es_tree.specs.Tree.{Tree, node, Label, Fields, done, ◌then◌, Field, missing, one, many, statements, Trees, empty, kind_of}
 use Rattle.es_tree.specs.declared.ast_type.AstType.{AstType}
-use Rattle.es_tree.specs.declared.ast_type.AstType.TheVariants.{BreakStatement, ChainExpression, ClassDeclaration, ClassExpression, ContinueStatement, ExportNamedDeclaration, ForInStatement, ForOfStatement, FunctionExpression, Identifier, LabeledStatement, MetaProperty, MethodDefinition, ObjectPattern, ObjectProperty, ObjectTarget, RestElement, ReturnStatement, Super, TargetRest, UnaryExpression, VariableDeclaration, VariableDeclarator}
+use Rattle.es_tree.specs.declared.ast_type.AstType.TheVariants.{ArrowFunctionExpression, BreakStatement, ChainExpression, ClassDeclaration, ClassExpression, ContinueStatement, ExportNamedDeclaration, ForInStatement, ForOfStatement, FunctionExpression, Identifier, LabeledStatement, MetaProperty, MethodDefinition, ObjectPattern, ObjectProperty, ObjectTarget, RestElement, ReturnStatement, Super, TargetRest, UnaryExpression, VariableDeclaration, VariableDeclarator}
 use Rattle.es_tree.specs.declared.place.Place.{Place}
 use Rattle.es_tree.specs.declared.place.Place.TheVariants.{Declarator, Spine, Target}
 use Rattle.es_runs.proofs.RowKinds.{is_left_kind}
 use Rattle.es_semantic.proofs.FormEdges.{Edges, EdgesAll, EdgesIn, is_last}
-use Rattle.es_valid_steps.specs.PlaceRules.{KeepsHere}
+use Rattle.es_tree.specs.declared.table.Sort.{Sort}
+use Rattle.es_valid_steps.specs.ArrowNodes.{is_arrow_accessor, is_kind_within, is_this_within}
+use Rattle.es_valid_steps.specs.PlaceRules.{Keeps, KeepsHere, KeepsIn}
 use Rattle.es_valid_steps.proofs.MadeNodes.{is_acted}
-use Rattle.es_valid_steps.proofs.Changed.{Changed, ChangedField, ChangedFields, ChangedTrees, child-kept, first-name, is_hidden, kept-text, kind-same, loop-same, optional-in, rest-acted, rest-left, simple-kept, within-kept}
-use Rattle.es_valid_steps.proofs.Changed.Changed.{stays, row, inside}
+use Rattle.es_valid_steps.proofs.Changed.{Changed, ChangedField, ChangedFields, ChangedTrees, child-kept, first-name, is_hidden, is_replaced, kept-text, kind-same, loop-same, optional-in, rest-acted, rest-left, simple-kept, within-kept}
+use Rattle.es_valid_steps.proofs.Changed.Changed.{stays, row, function, named, inside}
 use Rattle.es_valid_steps.proofs.Changed.ChangedFields.{ends, more}
 use Rattle.es_valid_steps.proofs.Changed.ChangedField.{same_field, unseen, child_changed, children_changed, list_changed}
 use Rattle.es_valid_steps.proofs.Changed.ChangedTrees.{none, some}
-use Rattle.es_valid_steps.proofs.Edges.{declarator-kind, label-kind, stands}
-use Rattle.es_valid_steps.proofs.Moves.{is_jump, not-more}
-use Rattle.es_valid_steps.proofs.Offers.{Alike}
+use Rattle.es_valid_steps.proofs.Edges.{declarator-kind, edges, label-kind, no-arrow-method, no-this-declared, stands}
+use Rattle.es_valid_steps.proofs.Moves.{in-moved, is_jump, not-more}
+use Rattle.es_valid_steps.proofs.Offers.{Alike, near-self, near-within, offers-self, offers-within}
 
 -- LABELS
 
-row-label : (t : Tree) → kind_of t ≡ Identifier → is_acted (kind_of t) ≡ false
-row-label t e = ap (λ k. is_acted k) e
+row-label : (t : Tree) → kind_of t ≡ Identifier → is_replaced (kind_of t) ≡ false
+row-label t e = ap (λ k. is_replaced k) e
 
 -- the name of a label is the same
-label-same : (k : AstType) (last : Bool) (t u : Tree) → is_jump k ≡ true → Edges stands k 0 last t → Changed t u → own_text u ≡ own_text t
+label-same : {turns : Bool} (k : AstType) (last : Bool) (t u : Tree) → is_jump k ≡ true → Edges stands k 0 last t → Changed turns t u → own_text u ≡ own_text t
 label-same k last t u e h c = kept-text t u c (row-label t (label-kind k last t e h))
 
 jump-hidden : (k : AstType) → is_jump k ≡ true → is_hidden k ≡ false
@@ -44,7 +46,7 @@ jump-hidden ContinueStatement e = refl
 jump-hidden LabeledStatement e = refl
 jump-hidden _ e = absurd (cc e)
 
-name-same : (k : AstType) (fs gs : Fields) → is_jump k ≡ true → EdgesIn stands k 0 fs → ChangedFields k fs gs → name_in gs ≡ name_in fs
+name-same : {turns : Bool} (k : AstType) (fs gs : Fields) → is_jump k ≡ true → EdgesIn stands k 0 fs → ChangedFields turns k fs gs → name_in gs ≡ name_in fs
 name-same k fs gs e h ends = refl
 name-same k fs gs e h (more {f = missing} same_field cs) = refl
 name-same k fs gs e h (more {f = one t} same_field cs) = refl
@@ -56,7 +58,7 @@ name-same k fs gs e h (more (children_changed c) cs) = refl
 name-same k fs gs e h (more list_changed cs) = refl
 
 -- a jump with a label and one without
-jump-kept : (up : List Ancestor) (k : AstType) (l : Label) (fs gs : Fields) → EdgesIn stands k 0 fs → ChangedFields k fs gs → is_missing_label up (node k l fs) ≡ false → is_missing_label up (node k l gs) ≡ false
+jump-kept : {turns : Bool} (up : List Ancestor) (k : AstType) (l : Label) (fs gs : Fields) → EdgesIn stands k 0 fs → ChangedFields turns k fs gs → is_missing_label up (node k l fs) ≡ false → is_missing_label up (node k l gs) ≡ false
 jump-kept up BreakStatement l fs gs h ends e = e
 jump-kept up BreakStatement l fs gs h (more {f = missing} same_field cs) e = e
 jump-kept up BreakStatement l fs gs h (more {f = one t} same_field cs) e = e
@@ -86,23 +88,25 @@ record SameDeclarator (t u : Tree) : Type 0 where
   name : binds_name u ≡ binds_name t
   value : has_value u ≡ has_value t
 
-declarator-same : (t u : Tree) → kind_of t ≡ VariableDeclarator → Changed t u → SameDeclarator t u
-declarator-same t u e stays = record { name = refl; value = refl }
-declarator-same t u e (row r l) = absurd (cc (declarator-row t e, r))
-declarator-same t u e (inside {k = k} {fs = fs} {gs = gs} c) =
+declarator-same : {turns : Bool} (t u : Tree) → kind_of t ≡ VariableDeclarator → Edges stands VariableDeclaration 0 false t → Changed turns t u → SameDeclarator t u
+declarator-same t u e h stays = record { name = refl; value = refl }
+declarator-same t u e h (row r l) = absurd (cc (declarator-row t e, r))
+declarator-same t u e h (function v) = absurd (cc e)
+declarator-same t u e h (named v) = absurd (cc e)
+declarator-same t u e h (inside {k = k} {fs = fs} {gs = gs} c) =
     let open_kind : is_hidden k ≡ false = ap (λ j. is_hidden j) e in
-    record { name = first-name k fs gs open_kind c; value = child-kept k 1 fs gs open_kind c }
+    record { name = first-name k fs gs open_kind (λ v. no-this-declared k fs e h.1) c; value = child-kept k 1 fs gs open_kind c }
 
-pattern-same : (ts us : Trees) → EdgesAll stands VariableDeclaration 0 ts → ChangedTrees ts us → has_pattern us ≡ has_pattern ts
+pattern-same : {turns : Bool} (ts us : Trees) → EdgesAll stands VariableDeclaration 0 ts → ChangedTrees turns ts us → has_pattern us ≡ has_pattern ts
 pattern-same ts us h none = refl
-pattern-same ts us h (some {t = t} {u = u} {ts = ts'} {us = us'} c cs) = λ i. not ((declarator-same t u (declarator-kind t h.0) c).name i) || pattern-same ts' us' h.1 cs i
+pattern-same ts us h (some {t = t} {u = u} {ts = ts'} {us = us'} c cs) = λ i. not ((declarator-same t u (declarator-kind t h.0) h.0 c).name i) || pattern-same ts' us' h.1 cs i
 
-lone-same : (ts us : Trees) → EdgesAll stands VariableDeclaration 0 ts → ChangedTrees ts us → is_lone_declarator us ≡ is_lone_declarator ts
+lone-same : {turns : Bool} (ts us : Trees) → EdgesAll stands VariableDeclaration 0 ts → ChangedTrees turns ts us → is_lone_declarator us ≡ is_lone_declarator ts
 lone-same ts us h none = refl
-lone-same ts us h (some {t = t} {u = u} c none) = λ i. not ((declarator-same t u (declarator-kind t h.0) c).value i)
+lone-same ts us h (some {t = t} {u = u} c none) = λ i. not ((declarator-same t u (declarator-kind t h.0) h.0 c).value i)
 lone-same ts us h (some c (some d cs)) = refl
 
-using-kept : (up : List Ancestor) (k : AstType) (l : Label) (fs gs : Fields) → EdgesIn stands k 0 fs → ChangedFields k fs gs → is_bad_using up (node k l fs) ≡ false → is_bad_using up (node k l gs) ≡ false
+using-kept : {turns : Bool} (up : List Ancestor) (k : AstType) (l : Label) (fs gs : Fields) → EdgesIn stands k 0 fs → ChangedFields turns k fs gs → is_bad_using up (node k l fs) ≡ false → is_bad_using up (node k l gs) ≡ false
 using-kept up VariableDeclaration l fs gs h ends e = e
 using-kept up VariableDeclaration l fs gs h (more {f = missing} same_field cs) e = e
 using-kept up VariableDeclaration l fs gs h (more {f = one t} same_field cs) e = e
@@ -114,7 +118,7 @@ using-kept up VariableDeclaration l fs gs h (more {fs = rest} {gs = rest'} (chil
 using-kept up VariableDeclaration l fs gs h (more list_changed cs) e = e
 using-kept up _ l fs gs h c e = refl
 
-head-kept : (up : List Ancestor) (k : AstType) (l : Label) (fs gs : Fields) → EdgesIn stands k 0 fs → ChangedFields k fs gs → is_bad_for up (node k l fs) ≡ false → is_bad_for up (node k l gs) ≡ false
+head-kept : {turns : Bool} (up : List Ancestor) (k : AstType) (l : Label) (fs gs : Fields) → EdgesIn stands k 0 fs → ChangedFields turns k fs gs → is_bad_for up (node k l fs) ≡ false → is_bad_for up (node k l gs) ≡ false
 head-kept up VariableDeclaration l fs gs h ends e = e
 head-kept up VariableDeclaration l fs gs h (more {f = missing} same_field cs) e = e
 head-kept up VariableDeclaration l fs gs h (more {f = one t} same_field cs) e = e
@@ -130,9 +134,9 @@ needs-same : (p : Place) (b c : Option Tree) → is_name c ≡ is_name b → nee
 needs-same (Declarator top lexical constant) b c e = ap (λ v. constant || not v) e
 needs-same _ b c e = refl
 
-value-kept : (p : Place) (k : AstType) (l : Label) (fs gs : Fields) → ChangedFields k fs gs → is_missing_init p (node k l fs) ≡ false → is_missing_init p (node k l gs) ≡ false
-value-kept p VariableDeclarator l fs gs c e = (λ i. needs-same p (child_at 0 fs) (child_at 0 gs) (first-name VariableDeclarator fs gs refl c) i && not (child-kept VariableDeclarator 1 fs gs refl c i)) ∙ e
-value-kept p _ l fs gs c e = refl
+value-kept : {turns : Bool} (p : Place) (k : AstType) (l : Label) (fs gs : Fields) → EdgesIn stands k 0 fs → ChangedFields turns k fs gs → is_missing_init p (node k l fs) ≡ false → is_missing_init p (node k l gs) ≡ false
+value-kept p VariableDeclarator l fs gs a c e = (λ i. needs-same p (child_at 0 fs) (child_at 0 gs) (first-name VariableDeclarator fs gs refl (λ v. no-this-declared VariableDeclarator fs refl a) c) i && not (child-kept VariableDeclarator 1 fs gs refl c i)) ∙ e
+value-kept p _ l fs gs a c e = refl
 
 -- PARAMETERS of accessors
 
@@ -179,17 +183,17 @@ record SameCount (ts us : Trees) : Type 0 where
 same-count : (ts : Trees) → SameCount ts ts
 same-count ts = record { none_there = refl; one_there = refl }
 
-list-count : (ts us : Trees) → ChangedTrees ts us → SameCount ts us
+list-count : {turns : Bool} (ts us : Trees) → ChangedTrees turns ts us → SameCount ts us
 list-count ts us none = same-count empty
-list-count ts us (some {t = t} {u = u} c none) = record { none_there = refl; one_there = ap (λ v. not v) (kind-same (λ j. same_type j RestElement) rest-acted rest-left t u c) }
+list-count ts us (some {t = t} {u = u} c none) = record { none_there = refl; one_there = ap (λ v. not v) (kind-same (λ j. same_type j RestElement) rest-acted rest-left refl t u c (λ v d. refl)) }
 list-count ts us (some c (some d cs)) = record { none_there = refl; one_there = refl }
 
-second-list : (fs gs : Fields) → ChangedFields FunctionExpression fs gs → SameCount (list_of (second_field fs)) (list_of (second_field gs))
+second-list : {turns : Bool} (fs gs : Fields) → ChangedFields turns FunctionExpression fs gs → SameCount (list_of (second_field fs)) (list_of (second_field gs))
 second-list fs gs ends = same-count empty
 second-list fs gs (more c ends) = same-count empty
-second-list fs gs (more c (more {f = f} {g = g} d cs)) = at f g d
+second-list {turns} fs gs (more c (more {f = f} {g = g} d cs)) = at f g d
   where
-    at : (f g : Field) → ChangedField FunctionExpression f g → SameCount (list_of f) (list_of g)
+    at : (f g : Field) → ChangedField turns FunctionExpression f g → SameCount (list_of f) (list_of g)
     at f g same_field = same-count (list_of f)
     at f g (unseen e) = absurd (cc e)
     at f g (child_changed c) = same-count empty
@@ -204,35 +208,55 @@ left-parameters : (t : Tree) → is_left_kind (kind_of t) ≡ true → value_par
 left-parameters (node FunctionExpression l fs) e = absurd (cc e)
 left-parameters (node _ l fs) e = refl
 
-value-count : (t u : Tree) → Changed t u → SameCount (value_parameters t) (value_parameters u)
-value-count t u stays = same-count (value_parameters t)
-value-count t u (row r l) = record { none_there = ap (λ ts. is_empty ts) (left-parameters u l ∙ sym (row-parameters t r)); one_there = ap (λ ts. is_lone_parameter ts) (left-parameters u l ∙ sym (row-parameters t r)) }
-value-count t u (inside {k = FunctionExpression} {fs = fs} {gs = gs} c) = second-list fs gs c
-value-count t u (inside {k = _} c) = same-count empty
+-- where it was no arrow that may become a function
+value-count : {turns : Bool} (t u : Tree) → Changed turns t u → (turns ≡ true → same_type (kind_of t) ArrowFunctionExpression ≡ false) → SameCount (value_parameters t) (value_parameters u)
+value-count t u stays d = same-count (value_parameters t)
+value-count t u (row r l) d = record { none_there = ap (λ ts. is_empty ts) (left-parameters u l ∙ sym (row-parameters t r)); one_there = ap (λ ts. is_lone_parameter ts) (left-parameters u l ∙ sym (row-parameters t r)) }
+value-count t u (function v) d = absurd (let x = d v in cc x)
+value-count t u (named v) d = same-count empty
+value-count t u (inside {k = FunctionExpression} {fs = fs} {gs = gs} c) d = second-list fs gs c
+value-count t u (inside {k = _} c) d = same-count empty
 
-second-count : (k : AstType) (fs gs : Fields) → is_hidden k ≡ false → ChangedFields k fs gs → SameCount (field_parameters (second_field fs)) (field_parameters (second_field gs))
-second-count k fs gs e ends = same-count empty
-second-count k fs gs e (more c ends) = same-count empty
-second-count k fs gs e (more c (more {f = f} {g = g} d cs)) = at f g d
+second-count : {turns : Bool} (k : AstType) (fs gs : Fields) → is_hidden k ≡ false → ChangedFields turns k fs gs → (turns ≡ true → is_kind_within ArrowFunctionExpression (child_at 1 fs) ≡ false) → SameCount (field_parameters (second_field fs)) (field_parameters (second_field gs))
+second-count k fs gs e ends d = same-count empty
+second-count k fs gs e (more c ends) d = same-count empty
+second-count {turns} k fs gs e (more c (more {f = f} {g = g} x cs)) d = at f g x d
   where
-    at : (f g : Field) → ChangedField k f g → SameCount (field_parameters f) (field_parameters g)
-    at f g same_field = same-count (field_parameters f)
-    at f g (unseen h) = absurd (cc (e, h))
-    at f g (child_changed {t = t} {u = u} c) = value-count t u c
-    at f g (children_changed c) = same-count empty
-    at f g list_changed = same-count empty
+    at : (f g : Field) → ChangedField turns k f g → (turns ≡ true → is_kind_within ArrowFunctionExpression (only_child f) ≡ false) → SameCount (field_parameters f) (field_parameters g)
+    at f g same_field d = same-count (field_parameters f)
+    at f g (unseen h) d = absurd (cc (e, h))
+    at f g (child_changed {t = t} {u = u} c) d = value-count t u c d
+    at f g (children_changed c) d = same-count empty
+    at f g list_changed d = same-count empty
 
-accessor-same : (k : AstType) (l : Label) (fs gs : Fields) → is_hidden k ≡ false → ChangedFields k fs gs → is_bad_accessor_of l gs ≡ is_bad_accessor_of l fs
-accessor-same k l fs gs e c =
-    let s = second-count k fs gs e c in
+accessor-same : {turns : Bool} (k : AstType) (l : Label) (fs gs : Fields) → is_hidden k ≡ false → ChangedFields turns k fs gs → (turns ≡ true → is_kind_within ArrowFunctionExpression (child_at 1 fs) ≡ false) → is_bad_accessor_of l gs ≡ is_bad_accessor_of l fs
+accessor-same k l fs gs e c d =
+    let s = second-count k fs gs e c d in
     let none_there : is_empty (parameters_in gs) ≡ is_empty (parameters_in fs) = ap (λ ts. is_empty ts) (parameters-are gs) ∙ s.none_there ∙ sym (ap (λ ts. is_empty ts) (parameters-are fs)) in
     let one_there : is_lone_parameter (parameters_in gs) ≡ is_lone_parameter (parameters_in fs) = ap (λ ts. is_lone_parameter ts) (parameters-are gs) ∙ s.one_there ∙ sym (ap (λ ts. is_lone_parameter ts) (parameters-are fs)) in
     λ i. (bytes_eq (first_text l.texts) (codes "get") && not (none_there i)) || (bytes_eq (first_text l.texts) (codes "set") && not (one_there i))
 
-accessor-kept : (k : AstType) (l : Label) (fs gs : Fields) → ChangedFields k fs gs → is_bad_accessor (node k l fs) ≡ false → is_bad_accessor (node k l gs) ≡ false
-accessor-kept MethodDefinition l fs gs c e = accessor-same MethodDefinition l fs gs refl c ∙ e
-accessor-kept ObjectProperty l fs gs c e = accessor-same ObjectProperty l fs gs refl c ∙ e
-accessor-kept _ l fs gs c e = refl
+-- what is no accessor has no bad parameters
+no-accessor : (l : Label) (fs : Fields) → is_accessor_word (first_text l.texts) ≡ false → is_bad_accessor_of l fs ≡ false
+no-accessor l fs e = at (bytes_eq (first_text l.texts) (codes "get")) (bytes_eq (first_text l.texts) (codes "set")) _ _ e
+  where
+    at : (a b x y : Bool) → (a || b) ≡ false → ((a && x) || (b && y)) ≡ false
+    at true b x y e = absurd (cc e)
+    at false true x y e = absurd (cc e)
+    at false false x y e = refl
+
+and-right : (a b : Bool) → a ≡ true → (a && b) ≡ false → b ≡ false
+and-right true b p e = e
+and-right false b p e = absurd (cc p)
+
+accessor-kept : {turns : Bool} (k : AstType) (l : Label) (fs gs : Fields) → EdgesIn stands k 0 fs → (turns ≡ true → is_arrow_accessor k l fs ≡ false) → ChangedFields turns k fs gs → is_bad_accessor (node k l fs) ≡ false → is_bad_accessor (node k l gs) ≡ false
+accessor-kept MethodDefinition l fs gs a d c e = accessor-same MethodDefinition l fs gs refl c (λ v. no-arrow-method fs a) ∙ e
+accessor-kept ObjectProperty l fs gs a d c e = at (is_accessor_word (first_text l.texts)) refl
+  where
+    at : (b : Bool) → is_accessor_word (first_text l.texts) ≡ b → is_bad_accessor_of l gs ≡ false
+    at false p = no-accessor l gs p
+    at true p = accessor-same ObjectProperty l fs gs refl c (λ v. and-right (is_accessor_word (first_text l.texts)) (is_kind_within ArrowFunctionExpression (child_at 1 fs)) p (d v)) ∙ e
+accessor-kept _ l fs gs a d c e = refl
 
 -- THE OTHERS
 
@@ -252,7 +276,7 @@ own-label-same : (up : List Ancestor) (k : AstType) (l : Label) (fs gs : Fields)
 own-label-same up Identifier l fs gs = refl
 own-label-same up _ l fs gs = refl
 
-target-kept : (p : Place) (k : AstType) (l : Label) (fs gs : Fields) → ChangedFields k fs gs → is_bad_target p (node k l fs) ≡ false → is_bad_target p (node k l gs) ≡ false
+target-kept : {turns : Bool} (p : Place) (k : AstType) (l : Label) (fs gs : Fields) → ChangedFields turns k fs gs → is_bad_target p (node k l fs) ≡ false → is_bad_target p (node k l gs) ≡ false
 target-kept (Target s) k l fs gs c e = at (list_any (same_type k) (own_kinds s)) (is_simple_target (kind_of (without_parens (node k l fs)))) (is_simple_target (kind_of (without_parens (node k l gs)))) (simple-kept (node k l fs) (node k l gs) (inside c)) e
   where
     at : (a b c : Bool) → (b ≡ true → c ≡ true) → not (a || b) ≡ false → not (a || c) ≡ false
@@ -260,7 +284,7 @@ target-kept (Target s) k l fs gs c e = at (list_any (same_type k) (own_kinds s))
     at false b c h e = not-more b c h e
 target-kept _ k l fs gs c e = refl
 
-chain-kept : (k : AstType) (l : Label) (fs gs : Fields) → ChangedFields k fs gs → is_empty_chain (node k l fs) ≡ false → is_empty_chain (node k l gs) ≡ false
+chain-kept : {turns : Bool} (k : AstType) (l : Label) (fs gs : Fields) → ChangedFields turns k fs gs → is_empty_chain (node k l fs) ≡ false → is_empty_chain (node k l gs) ≡ false
 chain-kept ChainExpression l fs gs c e = not-more (has_optional_in fs) (has_optional_in gs) (optional-in ChainExpression fs gs refl c) e
 chain-kept _ l fs gs c e = refl
 
@@ -272,11 +296,20 @@ and-less : (a b c : Bool) → (b ≡ false → c ≡ false) → (a && b) ≡ fal
 and-less true b c h e = h e
 and-less false b c h e = refl
 
-delete-kept : (k : AstType) (l : Label) (fs gs : Fields) → ChangedFields k fs gs → is_bad_delete (node k l fs) ≡ false → is_bad_delete (node k l gs) ≡ false
-delete-kept UnaryExpression l fs gs c e = and-less (bytes_eq (first_text l.texts) (codes "delete")) _ _ (within-kept UnaryExpression fs gs refl c) e
-delete-kept _ l fs gs c e = refl
+-- where `this` stands there that may become a name, it's asked of what is left
+delete-kept : {turns : Bool} (k : AstType) (l : Label) (fs gs : Fields) → (turns ≡ true → is_this_within (child_at 0 fs) ≡ true → is_bad_delete (node k l gs) ≡ false) → ChangedFields turns k fs gs → is_bad_delete (node k l fs) ≡ false → is_bad_delete (node k l gs) ≡ false
+delete-kept {turns} UnaryExpression l fs gs d c e = at turns (is_this_within (child_at 0 fs)) refl refl
+  where
+    other : (turns ≡ true → is_this_within (child_at 0 fs) ≡ false) → is_bad_delete (node UnaryExpression l gs) ≡ false
+    other h = and-less (bytes_eq (first_text l.texts) (codes "delete")) _ _ (within-kept UnaryExpression fs gs refl c h) e
 
-rest-kept : (up : List Ancestor) (k : AstType) (l : Label) (fs gs : Fields) → ChangedFields k fs gs → is_bad_rest up (node k l fs) ≡ false → is_bad_rest up (node k l gs) ≡ false
+    at : (a b : Bool) → turns ≡ a → is_this_within (child_at 0 fs) ≡ b → is_bad_delete (node UnaryExpression l gs) ≡ false
+    at true true p q = d p q
+    at true false p q = other (λ v. q)
+    at false b p q = other (λ v. absurd (cc (p, v)))
+delete-kept _ l fs gs d c e = refl
+
+rest-kept : {turns : Bool} (up : List Ancestor) (k : AstType) (l : Label) (fs gs : Fields) → ChangedFields turns k fs gs → is_bad_rest up (node k l fs) ≡ false → is_bad_rest up (node k l gs) ≡ false
 rest-kept [] k l fs gs c e = refl
 rest-kept (a ∷ []) k l fs gs c e = refl
 rest-kept (a ∷ (b ∷ up)) k l fs gs c e = at (leads_by RestElement 0 a && same_type b.kind ObjectPattern && not (same_type k Identifier)) (leads_by TargetRest 0 a && same_type b.kind ObjectTarget) (is_simple_target (kind_of (without_parens (node k l fs)))) (is_simple_target (kind_of (without_parens (node k l gs)))) (simple-kept (node k l fs) (node k l gs) (inside c)) e
@@ -288,8 +321,13 @@ rest-kept (a ∷ (b ∷ up)) k l fs gs c e = at (leads_by RestElement 0 a && sam
 
 -- ONE NODE
 
-pub here-kept : (up : List Ancestor) (k : AstType) (l : Label) (fs gs : Fields) → EdgesIn stands k 0 fs → ChangedFields k fs gs → KeepsHere up (node k l fs) → KeepsHere up (node k l gs)
-here-kept up k l fs gs e c h = record {
+-- What is asked where arrows turn: no accessor's value is one, and what was `this`, maybe in parentheses, is no bad operand afterwards.
+pub record Spared (k : AstType) (l : Label) (fs gs : Fields) : Type 0 where
+  pub accessor : is_arrow_accessor k l fs ≡ false
+  pub operand : is_this_within (child_at 0 fs) ≡ true → is_bad_delete (node k l gs) ≡ false
+
+here-changed : {turns : Bool} (up : List Ancestor) (k : AstType) (l : Label) (fs gs : Fields) → EdgesIn stands k 0 fs → (turns ≡ true → Spared k l fs gs) → ChangedFields turns k fs gs → KeepsHere up (node k l fs) → KeepsHere up (node k l gs)
+here-changed up k l fs gs e s c h = record {
   jump = jump-kept up k l fs gs e c h.jump;
   label = own-label-same up k l fs gs ∙ h.label;
   returned = return-same up k l fs gs ∙ h.returned;
@@ -297,25 +335,29 @@ here-kept up k l fs gs e c h = record {
   target = target-kept (place_of up) k l fs gs c h.target;
   chain = chain-kept k l fs gs c h.chain;
   mark = mark-same (place_of up) k l fs gs h.mark;
-  deleted = delete-kept k l fs gs c h.deleted;
-  value = value-kept (place_of up) k l fs gs c h.value;
+  deleted = delete-kept k l fs gs (λ v. (s v).operand) c h.deleted;
+  value = value-kept (place_of up) k l fs gs e c h.value;
   using_word = using-kept up k l fs gs e c h.using_word;
   head = head-kept up k l fs gs e c h.head;
   item = h.item;
-  accessor = accessor-kept k l fs gs c h.accessor;
+  accessor = accessor-kept k l fs gs e (λ v. (s v).accessor) c h.accessor;
   rest = rest-kept up k l fs gs c h.rest;
   declaration = h.declaration;
   meta = meta-same up k l fs gs ∙ h.meta;
 }
 
+-- where none does
+pub here-kept : (up : List Ancestor) (k : AstType) (l : Label) (fs gs : Fields) → EdgesIn stands k 0 fs → ChangedFields false k fs gs → KeepsHere up (node k l fs) → KeepsHere up (node k l gs)
+here-kept up k l fs gs e = here-changed up k l fs gs e (λ v. absurd (cc v))
+
 -- WHAT IT OFFERS
 
-derived-same : (k : AstType) (l : Label) (fs gs : Fields) (i : ℕ) → ChangedFields k fs gs → is_derived (ancestor k l gs i 0) ≡ is_derived (ancestor k l fs i 0)
+derived-same : {turns : Bool} (k : AstType) (l : Label) (fs gs : Fields) (i : ℕ) → ChangedFields turns k fs gs → is_derived (ancestor k l gs i 0) ≡ is_derived (ancestor k l fs i 0)
 derived-same ClassDeclaration l fs gs i c = child-kept ClassDeclaration 1 fs gs refl c
 derived-same ClassExpression l fs gs i c = child-kept ClassExpression 1 fs gs refl c
 derived-same _ l fs gs i c = refl
 
-loop-body-same : (fs gs : Fields) → ChangedFields LabeledStatement fs gs → has_loop_body gs ≡ has_loop_body fs
+loop-body-same : {turns : Bool} (fs gs : Fields) → ChangedFields turns LabeledStatement fs gs → has_loop_body gs ≡ has_loop_body fs
 loop-body-same fs gs ends = refl
 loop-body-same fs gs (more c ends) = refl
 loop-body-same fs gs (more c (more {f = missing} same_field cs)) = refl
@@ -327,9 +369,16 @@ loop-body-same fs gs (more c (more (child_changed {t = t} {u = u} d) cs)) = loop
 loop-body-same fs gs (more c (more (children_changed d) cs)) = refl
 loop-body-same fs gs (more c (more list_changed cs)) = refl
 
-labels-same : (k : AstType) (l : Label) (fs gs : Fields) (i : ℕ) → EdgesIn stands k 0 fs → ChangedFields k fs gs → own_labels (ancestor k l gs i 0) ≡ own_labels (ancestor k l fs i 0)
+labels-same : {turns : Bool} (k : AstType) (l : Label) (fs gs : Fields) (i : ℕ) → EdgesIn stands k 0 fs → ChangedFields turns k fs gs → own_labels (ancestor k l gs i 0) ≡ own_labels (ancestor k l fs i 0)
 labels-same LabeledStatement l fs gs i h c = λ j. if i == 1 then record { name = name-same LabeledStatement fs gs refl h c j; loop = loop-body-same fs gs c j } ∷ [] else []
 labels-same _ l fs gs i h c = refl
 
-pub alike-changed : (k : AstType) (l : Label) (fs gs : Fields) → EdgesIn stands k 0 fs → ChangedFields k fs gs → (i : ℕ) → Alike (ancestor k l fs i 0) (ancestor k l gs i 0)
+pub alike-changed : {turns : Bool} (k : AstType) (l : Label) (fs gs : Fields) → EdgesIn stands k 0 fs → ChangedFields turns k fs gs → (i : ℕ) → Alike (ancestor k l fs i 0) (ancestor k l gs i 0)
 alike-changed k l fs gs h c i = record { kind = refl; label = refl; index = refl; labels = labels-same k l fs gs i h c; derived = derived-same k l fs gs i c }
+
+-- THE NODE, and what is in its fields, which keeps the rules there before it changed
+pub node-kept : {turns : Bool} (a : Sort) (up : List Ancestor) (k : AstType) (l : Label) (fs gs : Fields) → has_form a (node k l fs) ≡ true → (turns ≡ true → Spared k l fs gs) → ChangedFields turns k fs gs → KeepsHere up (node k l fs) → KeepsIn up k l fs 0 gs → Keeps up (node k l gs)
+node-kept a up k l fs gs f s c h r =
+    let stand = edges a k l fs f in
+    let alike = alike-changed k l fs gs stand c in
+    (here-changed up k l fs gs stand s c h, in-moved true up up k l fs gs 0 gs (λ j. offers-within true up up (ancestor k l fs j 0) (ancestor k l gs j 0) (alike j) (offers-self up) (λ e. absurd (cc e))) (λ j. near-within up up (ancestor k l fs j 0) (ancestor k l gs j 0) (alike j) (near-self up)) (λ e. absurd (cc e)) r)

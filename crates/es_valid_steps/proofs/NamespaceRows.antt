@@ -13,24 +13,24 @@ use Rattle.es_resolution.specs.Declarations.{Bound}
 use Rattle.es_steps.specs.NamespaceExports.{NamespaceRule, namespace_import}
 use Rattle.es_steps.specs.NamespaceExports.NamespaceRule.{exports}
 use Rattle.es_steps.specs.Nodes.{export_node, identifier, made, placed, specifier_node}
-use Rattle.es_steps.specs.Open.{Open, ◌and◌, ends, list, OpenTrees, finished, finished_fields, finished_trees, opened, pending_statements, whole_list}
+use Rattle.es_steps.specs.Open.{Additions, Open, ◌and◌, ends, list, OpenTrees, finished, finished_fields, finished_trees, opened, pending_statements, whole_list}
 use Rattle.es_steps.specs.Rules.{next_name}
 use Rattle.es_steps.specs.Steps.{Ledger, ledger, Site}
 use Rattle.es_steps.specs.Steps.Spot.{at_node, at_beside}
-use Rattle.es_steps.proofs.FormLists.{after-rest, first-formed, whole-formed}
+use Rattle.es_steps.proofs.FormLists.{IsListIn, Setting, after-rest, first-formed, list-formed, temporaries_alone}
 use Rattle.es_steps.proofs.FormMembers.{formed-first}
-use Rattle.es_steps.proofs.FormOpen.{AreProperTrees, IsProper, opened-proper}
+use Rattle.es_steps.proofs.FormOpen.{AreTidyTrees, IsProper, IsTidy, opened-tidy}
 use Rattle.es_steps.proofs.FormParts.{HasSpan, IsText, no-span, span-of}
 use Rattle.es_steps.proofs.FormRows.{next-text}
 use Rattle.es_steps.proofs.FormRules.{NewNames, no-names, nothing-new}
-use Rattle.es_steps.proofs.FormSteps.{plain-list}
+use Rattle.es_steps.proofs.FormSteps.{list-after}
 use Rattle.es_steps.proofs.Opened.{finished-opened}
 use Rattle.es_valid_steps.specs.PlaceRules.{Keeps, KeepsAll}
 use Rattle.es_valid_steps.proofs.Changed.ChangedField.{same_field, list_changed}
 use Rattle.es_valid_steps.proofs.Changed.ChangedFields.{ends as no_more, more}
 use Rattle.es_valid_steps.proofs.Free.{made-there}
 use Rattle.es_valid_steps.proofs.Loose.{Loose, loose}
-use Rattle.es_valid_steps.proofs.Pending.{after-rest as kept-rest, whole-keeps}
+use Rattle.es_valid_steps.proofs.Pending.{TopKeeps, after-rest as kept-rest, list-keeps, nothing-keeps}
 use Rattle.es_valid_steps.proofs.PlaceSteps.{in-node}
 use Rattle.es_valid_steps.proofs.ProgramLists.{Exported, ProgramExported}
 use Rattle.es_valid_steps.proofs.ProgramLists.Exported.{here, there}
@@ -145,54 +145,61 @@ replaced (exports {w = w} {p = p} {m = m} {e = e} {s = source} {attributes = att
       export_kept = λ l all h. export-keeps l all m name e source attributes form h;
     }
 
-record ListLeft (s s' : Ledger) (ts us : OpenTrees) : Type 0 where
+record ListLeft (P : Setting) (s s' : Ledger) (ts us : OpenTrees) : Type 0 where
   formed : trees_form s-Statement s-Statement (finished_trees us) ≡ true
-  proper : AreProperTrees us
+  proper : AreTidyTrees (IsListIn P) us
   names : NewNames s s'
   keeps : (l : Label) (all : Fields) → KeepsAll (up l all) (finished_trees ts) → KeepsAll (up l all) (finished_trees us)
 
-list-left : {n : Site} {s s' : Ledger} {ts us : OpenTrees} → Exported n s s' ts us → AreProperTrees ts → trees_form s-Statement s-Statement (finished_trees ts) ≡ true → ListLeft s s' ts us
-list-left (here t i e {ts = ts} h) proper f =
+list-left : (P : Setting) {n : Site} {s s' : Ledger} {ts us : OpenTrees} → Exported n s s' ts us → AreTidyTrees (IsListIn P) ts → trees_form s-Statement s-Statement (finished_trees ts) ≡ true → ListLeft P s s' ts us
+list-left P (here t i e {ts = ts} h) proper f =
     let parts = first-formed s-Statement (finished (opened t)) (finished_trees ts) f in
     let r = replaced h (subst (λ (x : Tree). has_form s-Statement x ≡ true) (finished-opened t) parts.0) in
     let formed : (x : Tree) → has_form s-Statement x ≡ true → has_form s-Statement (finished (opened x)) ≡ true = λ x g. subst (λ (y : Tree). has_form s-Statement y ≡ true) (sym (finished-opened x)) g in
     let kept : (l : Label) (all : Fields) (x : Tree) → (Keeps (up l all) t → Keeps (up l all) x) → Keeps (up l all) (finished (opened t)) → Keeps (up l all) (finished (opened x)) = λ l all x g k. subst (λ (y : Tree). Keeps (up l all) y) (sym (finished-opened x)) (g (subst (λ (y : Tree). Keeps (up l all) y) (finished-opened t) k)) in
     record {
       formed = formed-first s-Statement (finished (opened i)) (finished (opened e) before finished_trees ts) (formed i r.imported) (formed-first s-Statement (finished (opened e)) (finished_trees ts) (formed e r.exported) parts.1);
-      proper = (opened-proper i, (opened-proper e, proper.1));
+      proper = (opened-tidy P i, (opened-tidy P e, proper.1));
       names = r.names;
       keeps = λ l all g. (kept l all i (r.import_kept l all) g.0, (kept l all e (r.export_kept l all) g.0, g.1));
     }
-list-left (there t {ts = ts} {us = us} h) proper f =
+list-left P (there t {ts = ts} {us = us} h) proper f =
     let parts = first-formed s-Statement (finished t) (finished_trees ts) f in
-    let r = list-left h proper.1 parts.1 in
+    let r = list-left P h proper.1 parts.1 in
     record { formed = formed-first s-Statement (finished t) (finished_trees us) parts.0 r.formed; proper = (proper.0, r.proper); names = r.names; keeps = λ l all g. (g.0, r.keeps l all g.1) }
 
 -- THE PROGRAM
 
-pub record ProgramLeft (x y : Open) : Type 0 where
-  pub proper : IsProper y
+pub record ProgramLeftIn (P : Setting) (x y : Open) : Type 0 where
+  pub proper : IsTidy (IsListIn P) y
   pub formed : has_form s-Program (finished y) ≡ true
   pub keeps : Keeps [] (finished x) → Keeps [] (finished y)
 
-pub program-left : {s s' : Ledger} {x y : Open} → ProgramExported s s' x y → IsProper x → has_form s-Program (finished x) ≡ true → ProgramLeft x y
-program-left (in_the_list {n = n} {w = w} {l = l} {d = d} {p = p} {q = q} {x = x} {y = y} {a = a} {b = b} {ts = ts} {us = us} h) proper f =
+pub program-left-in : (P : Setting) → ((l : Label) (all : Fields) (a : Additions) → P.top.Is a → TopKeeps (up l all) a) → {s s' : Ledger} {x y : Open} → ProgramExported s s' x y → IsTidy (IsListIn P) x → has_form s-Program (finished x) ≡ true → ProgramLeftIn P x y
+program-left-in P top_keeps (in_the_list {n = n} {w = w} {l = l} {d = d} {p = p} {q = q} {x = x} {y = y} {a = a} {b = b} {ts = ts} {us = us} h) proper f =
     let old = d and (list p x a ts and ends) in
     let new = d and (list q y b us and ends) in
     let all = finished_fields old in
     let m = node_form s-Program Program l all f in
     let parts = and_parts _ _ m.children in
     let list_form = (and_parts (trees_form s-Statement s-Statement (whole_list p x a (finished_trees ts))) true parts.1).0 in
-    let r = list-left h proper.1.0.1 (after-rest s-Statement (pending_statements p x a) (finished_trees ts) list_form) in
-    let plain = plain-list p q x y a b r.names.names proper.1.0.0 r.names.texts r.names.pending r.names.this r.names.top in
+    let r = list-left P h proper.1.0.1 (after-rest s-Statement (pending_statements p x a) (finished_trees ts) list_form) in
+    let plain = list-after P p q x y a b r.names.names proper.1.0.0 r.names.texts r.names.pending (P.this.same x y r.names.this) (P.top.same a b r.names.top) in
     let s = ledger w p x a in
     record {
       proper = (proper.0, ((plain, r.proper), tt));
-      formed = has_form-node s-Program Program l (finished_fields new) (record { sort = m.sort; texts = m.texts; flags = m.flags; start = m.start; stop = m.stop; agree = refl; children = and_from _ _ parts.0 (and_from _ true (whole-formed s-Statement q y b (finished_trees us) refl plain r.formed) refl) });
+      formed = has_form-node s-Program Program l (finished_fields new) (record { sort = m.sort; texts = m.texts; flags = m.flags; start = m.start; stop = m.stop; agree = refl; children = and_from _ _ parts.0 (and_from _ true (list-formed P s-Statement q y b (finished_trees us) refl plain r.formed) refl) });
       keeps = λ g.
           (in-node n [] s s Program l old new s-Program f g (record {
-            keeps = (g.1.0, (whole-keeps Program l all 1 [] q y b (finished_trees us) refl plain (r.keeps l all (kept-rest (up l all) (pending_statements p x a) (finished_trees ts) g.1.1.0)), tt));
+            keeps = (g.1.0, (list-keeps Program l all 1 [] q y b (finished_trees us) refl plain.vars (top_keeps l all b plain.top) (r.keeps l all (kept-rest (up l all) (pending_statements p x a) (finished_trees ts) g.1.1.0)), tt));
             seen = more same_field (more list_changed no_more);
             names = nothing-new s s refl;
           })).keeps;
     }
+
+-- with temporaries alone
+abbrev pub ProgramLeft : Open → Open → Type 0
+ProgramLeft = ProgramLeftIn temporaries_alone
+
+pub program-left : {s s' : Ledger} {x y : Open} → ProgramExported s s' x y → IsProper x → has_form s-Program (finished x) ≡ true → ProgramLeft x y
+program-left h = program-left-in temporaries_alone (λ l all a e. nothing-keeps (up l all) a e) h

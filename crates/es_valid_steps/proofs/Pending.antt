@@ -10,9 +10,9 @@ use Rattle.es_tree.specs.declared.ast_type.AstType.TheVariants.{ArrowFunctionExp
 use Rattle.es_tree.specs.declared.place.Place.{Place}
 use Rattle.es_tree.specs.declared.place.Place.TheVariants.{Other, ProgramBody}
 use Rattle.es_resolution.specs.Declarations.{Bound}
-use Rattle.es_steps.specs.Nodes.{declarator, identifier, joined_trees, made, return_node}
-use Rattle.es_steps.specs.Open.{Additions, Pending, after_imports, declaration, is_import, nothing_pending, whole_list, with_vars, written_body}
-use Rattle.es_steps.proofs.FormLists.{IsPlain, IsPlainList}
+use Rattle.es_steps.specs.Nodes.{declarator, declarator_with, identifier, joined_trees, made, return_node, this_expression, this_statement}
+use Rattle.es_steps.specs.Open.{Additions, Pending, after_imports, declaration, import_statement, is_import, no_additions, nothing_pending, pending_statements, whole_list, with_this, with_vars, written, written_body}
+use Rattle.es_steps.proofs.FormLists.{IsPendingList, IsPlain}
 use Rattle.es_valid_steps.specs.PlaceRules.{Keeps, KeepsAll}
 use Rattle.es_valid_steps.proofs.Free.{made-there, unmarked}
 use Rattle.es_valid_steps.proofs.Loose.{goes, loose}
@@ -88,11 +88,12 @@ record PlaceSays (p : Place) : Type 0 where
   inner : (t : Tree) → is_bad_target (declarator_place p (codes "var")) t ≡ false
   bound : (t : Tree) → is_bad_target (binding_place (declarator_place p (codes "var"))) t ≡ false
   value : (b : Bound) → is_missing_init (declarator_place p (codes "var")) (declarator b) ≡ false
+  given : (b : Bound) → is_missing_init (declarator_place p (codes "var")) (declarator_with (identifier b) this_expression) ≡ false
   name : (b : Bound) → is_missing_init (binding_place (declarator_place p (codes "var"))) (identifier b) ≡ false
 
 place-says : (p : Place) → ListPlace p → PlaceSays p
-place-says p at_top = record { target = λ t. refl; inner = λ t. refl; bound = λ t. refl; value = λ b. refl; name = λ b. refl }
-place-says p elsewhere = record { target = λ t. refl; inner = λ t. refl; bound = λ t. refl; value = λ b. refl; name = λ b. refl }
+place-says p at_top = record { target = λ t. refl; inner = λ t. refl; bound = λ t. refl; value = λ b. refl; given = λ b. refl; name = λ b. refl }
+place-says p elsewhere = record { target = λ t. refl; inner = λ t. refl; bound = λ t. refl; value = λ b. refl; given = λ b. refl; name = λ b. refl }
 
 module _ (up : List Ancestor) (h : Listed up) where
   no-head : (t : Tree) → is_bad_for up t ≡ false
@@ -124,6 +125,26 @@ module _ (up : List Ancestor) (h : Listed up) where
   declaration-keeps [] ts k = k
   declaration-keeps (b ∷ bs) ts k = (declared-keeps b bs, k)
 
+  -- `var x = this;`
+  this-declarator : (ds : Trees) (b : Bound) → Keeps (ancestor VariableDeclaration var_label (many ds then done) 0 0 ∷ up) (declarator_with (identifier b) this_expression)
+  this-declarator ds b =
+      let s = place-says (place_of up) h.place in
+      let fs : Fields = one (identifier b) then one this_expression then done in (
+        record { jump = refl; label = refl; returned = refl; super_word = refl; target = s.inner (declarator_with (identifier b) this_expression); chain = refl; mark = unmarked (declarator_place (place_of up) (codes "var")) VariableDeclarator (made [] []) fs refl; deleted = refl; value = s.given b; using_word = refl; head = refl; item = refl; accessor = refl; rest = no-rest up; declaration = refl; meta = refl },
+        (name-keeps ds fs b, ((record { jump = refl; label = refl; returned = refl; super_word = refl; target = refl; chain = refl; mark = refl; deleted = refl; value = refl; using_word = refl; head = refl; item = refl; accessor = refl; rest = refl; declaration = refl; meta = refl }, tt), tt)),
+      )
+    where
+      no-rest : (up : List Ancestor) → is_bad_rest (ancestor VariableDeclaration var_label (many ds then done) 0 0 ∷ up) (declarator_with (identifier b) this_expression) ≡ false
+      no-rest [] = refl
+      no-rest (a ∷ up) = refl
+
+  this-keeps : (x : Option Bound) (ts : Trees) → KeepsAll up ts → KeepsAll up (with_this x ts)
+  this-keeps None ts k = k
+  this-keeps (Some b) ts k =
+      let ds : Trees = declarator_with (identifier b) this_expression before empty in
+      let s = place-says (place_of up) h.place in
+      ((record { jump = refl; label = refl; returned = refl; super_word = refl; target = s.target (this_statement b); chain = refl; mark = unmarked (place_of up) VariableDeclaration var_label (many ds then done) refl; deleted = refl; value = refl; using_word = refl; head = no-head (this_statement b); item = refl; accessor = refl; rest = h.rest (this_statement b); declaration = refl; meta = refl }, ((this-declarator ds b, tt), tt)), k)
+
 -- AROUND IMPORTS
 
 joined-keeps : (up : List Ancestor) (bs ts : Trees) → KeepsAll up bs → KeepsAll up ts → KeepsAll up (joined_trees bs ts)
@@ -150,14 +171,26 @@ after-rest up bs (t before ts) h = at (is_import t) (λ k. after-rest up bs ts k
     at true r k = (k.0, r k.1)
     at false r k = joined-rest up bs (t before ts) k
 
--- a list with temporaries that are pending for it
-pub whole-keeps : (k : AstType) (l : Label) (all : Fields) (i : ℕ) (up : List Ancestor) (p : Pending) (x : Option Bound) (a : Additions) (ts : Trees) → is_list_kind k ≡ true → IsPlainList p x a → KeepsAll (ancestor k l all i 0 ∷ up) ts → KeepsAll (ancestor k l all i 0 ∷ up) (whole_list p x a ts)
-whole-keeps k l all i up p x a ts e h g =
+-- what is to be written at the program's top keeps the rules here
+pub record TopKeeps (up : List Ancestor) (a : Additions) : Type 0 where
+  pub imports : KeepsAll up (trees (map import_statement a.imports))
+  pub excluded : (ts : Trees) → KeepsAll up ts → KeepsAll up (declaration (codes "const") a.excluded ts)
+
+pub nothing-keeps : (up : List Ancestor) (a : Additions) → a ≡ no_additions → TopKeeps up a
+nothing-keeps up a e = subst (λ (b : Additions). TopKeeps up b) (sym e) (record { imports = tt; excluded = λ ts k. k })
+
+-- a list with what is pending for it
+pub list-keeps : (k : AstType) (l : Label) (all : Fields) (i : ℕ) (up : List Ancestor) (p : Pending) (x : Option Bound) (a : Additions) (ts : Trees) → is_list_kind k ≡ true → IsPlain p → TopKeeps (ancestor k l all i 0 ∷ up) a → KeepsAll (ancestor k l all i 0 ∷ up) ts → KeepsAll (ancestor k l all i 0 ∷ up) (whole_list p x a ts)
+list-keeps k l all i up p x a ts e h top g =
     let here = ancestor k l all i 0 ∷ up in
-    subst (λ (p : Pending). KeepsAll here (whole_list p x a ts)) (sym h.vars.are)
-    (subst (λ (x : Option Bound). KeepsAll here (whole_list (with_vars h.vars.names nothing_pending) x a ts)) (sym h.this)
-    (subst (λ (a : Additions). KeepsAll here (whole_list (with_vars h.vars.names nothing_pending) None a ts)) (sym h.top)
-    (after-keeps here (declaration (codes "var") (map declarator h.vars.names) empty) ts (declaration-keeps here (listed l all up k i e) h.vars.names empty tt) g)))
+    let list = listed l all up k i e in
+    let vars = subst (λ (q : Pending). KeepsAll here (written q empty)) (sym h.are) (declaration-keeps here list h.names empty tt) in
+    let others = joined-keeps here (trees (map import_statement a.imports)) (written p empty) top.imports vars in
+    after-keeps here (pending_statements p x a) ts (top.excluded (with_this x (joined_trees (trees (map import_statement a.imports)) (written p empty))) (this-keeps here list x (joined_trees (trees (map import_statement a.imports)) (written p empty)) others)) g
+
+-- where nothing is for the program's top
+pub whole-keeps : {This : Option Bound → Type 0} (k : AstType) (l : Label) (all : Fields) (i : ℕ) (up : List Ancestor) (p : Pending) (x : Option Bound) (a : Additions) (ts : Trees) → is_list_kind k ≡ true → IsPendingList This (λ a. a ≡ no_additions) p x a → KeepsAll (ancestor k l all i 0 ∷ up) ts → KeepsAll (ancestor k l all i 0 ∷ up) (whole_list p x a ts)
+whole-keeps k l all i up p x a ts e h g = list-keeps k l all i up p x a ts e h.vars (nothing-keeps (ancestor k l all i 0 ∷ up) a h.top) g
 
 -- BODIES OF ARROWS: as the expression itself, and in the `return` of a body
 

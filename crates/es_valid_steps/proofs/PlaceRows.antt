@@ -37,13 +37,13 @@ use Rattle.es_valid_steps.proofs.Rows.{assigning-keeps, coalescing-keeps, raisin
 use Rattle.es_valid_steps.proofs.Slots.{SlotHead, wrapped-keeps}
 
 -- What stands there afterwards keeps the rules with the same ancestors, and shows those no other than a row does; in a slot nothing is
--- seen of it.
-pub record NodeKept (n : Site) (up : List Ancestor) (t u : Tree) : Type 0 where
+-- seen of it. Where arrows turn into functions they may too.
+pub record NodeKept (turns : Bool) (n : Site) (up : List Ancestor) (t u : Tree) : Type 0 where
   pub keeps : Keeps up u
-  pub seen : Changed t u ⊎ (is_slot n.above ≡ true)
+  pub seen : Changed turns t u ⊎ (is_slot n.above ≡ true)
 
 pub record PlaceLawful (R : Site → Ledger → Spot → Ledger → Spot → Type 0) : Type 0 where
-  pub at_nodes : (n : Site) (s s' : Ledger) (t u : Tree) (a : Sort) (up : List Ancestor) → (is_slot n.above ≡ true → a ≡ s-Expression) → (is_slot n.above ≡ true → SlotHead up) → R n s (at_node t) s' (at_node u) → has_form a t ≡ true → Keeps up t → NodeKept n up t u
+  pub at_nodes : (turns : Bool) (n : Site) (s s' : Ledger) (t u : Tree) (a : Sort) (up : List Ancestor) → (is_slot n.above ≡ true → a ≡ s-Expression) → (is_slot n.above ≡ true → SlotHead up) → R n s (at_node t) s' (at_node u) → has_form a t ≡ true → Keeps up t → NodeKept turns n up t u
 
 -- KINDS
 
@@ -82,8 +82,8 @@ chaining-kinds no_all n w bs t u (in_delete {m = m} {w = v} texts alone chain wa
 row-lawful : (R : Site → Whole → List Bound → Tree → Tree → Type 0) → ((n : Site) (w : Whole) (bs : List Bound) (t u : Tree) → R n w bs t u → RowKinds t u) → ((n : Site) (w : Whole) (bs : List Bound) (t u : Tree) (a : Sort) (up : List Ancestor) → R n w bs t u → has_form a t ≡ true → Keeps up t → Keeps up u) → PlaceLawful (RowRule R)
 row-lawful R kinds keeps = record { at_nodes = nodes }
   where
-    nodes : (n : Site) (s s' : Ledger) (t u : Tree) (a : Sort) (up : List Ancestor) → (is_slot n.above ≡ true → a ≡ s-Expression) → (is_slot n.above ≡ true → SlotHead up) → RowRule R n s (at_node t) s' (at_node u) → has_form a t ≡ true → Keeps up t → NodeKept n up t u
-    nodes n s s' t u a up slot head (replaces {w = w} bs h) f k = let r = kinds n w bs t u h.rule in record { keeps = keeps n w bs t u a up h.rule f k; seen = inl (row r.acted r.left) }
+    nodes : (turns : Bool) (n : Site) (s s' : Ledger) (t u : Tree) (a : Sort) (up : List Ancestor) → (is_slot n.above ≡ true → a ≡ s-Expression) → (is_slot n.above ≡ true → SlotHead up) → RowRule R n s (at_node t) s' (at_node u) → has_form a t ≡ true → Keeps up t → NodeKept turns n up t u
+    nodes turns n s s' t u a up slot head (replaces {w = w} bs h) f k = let r = kinds n w bs t u h.rule in record { keeps = keeps n w bs t u a up h.rule f k; seen = inl (row r.acted r.left) }
 
 assigns-lawful : PlaceLawful (RowRule LogicalAssignmentRule)
 assigns-lawful = row-lawful LogicalAssignmentRule assigning-kinds assigning-keeps
@@ -102,11 +102,11 @@ chains-lawful no_all = row-lawful (OptionalChainingRule no_all) (chaining-kinds 
 wrap-lawful : (o : EnvOptions) → PlaceLawful (WrapRule o)
 wrap-lawful o = record { at_nodes = nodes }
   where
-    nodes : (n : Site) (s s' : Ledger) (t u : Tree) (a : Sort) (up : List Ancestor) → (is_slot n.above ≡ true → a ≡ s-Expression) → (is_slot n.above ≡ true → SlotHead up) → WrapRule o n s (at_node t) s' (at_node u) → has_form a t ≡ true → Keeps up t → NodeKept n up t u
-    nodes n s s' t u a up slot head (wraps {e = e} role expression here holds) f k = record { keeps = wrapped-keeps up e (head here) (subst (λ (b : Sort). has_form b e ≡ true) (slot here) f) k; seen = inr here }
+    nodes : (turns : Bool) (n : Site) (s s' : Ledger) (t u : Tree) (a : Sort) (up : List Ancestor) → (is_slot n.above ≡ true → a ≡ s-Expression) → (is_slot n.above ≡ true → SlotHead up) → WrapRule o n s (at_node t) s' (at_node u) → has_form a t ≡ true → Keeps up t → NodeKept turns n up t u
+    nodes turns n s s' t u a up slot head (wraps {e = e} role expression here holds) f k = record { keeps = wrapped-keeps up e (head here) (subst (λ (b : Sort). has_form b e ≡ true) (slot here) f) k; seen = inr here }
 
 writing-lawful : PlaceLawful Writing
-writing-lawful = record { at_nodes = λ n s s' t u a up slot head h f k. absurd (writes-lists h) }
+writing-lawful = record { at_nodes = λ turns n s s' t u a up slot head h f k. absurd (writes-lists h) }
 
 -- TOGETHER
 
@@ -115,11 +115,11 @@ pick f g (inl h) = f h
 pick f g (inr h) = g h
 
 pub both-lawful : {Q R : Site → Ledger → Spot → Ledger → Spot → Type 0} → PlaceLawful Q → PlaceLawful R → PlaceLawful (either_rule Q R)
-both-lawful {Q} {R} q r = record { at_nodes = λ n s s' t u a up slot head h f k. pick {A = Q n s (at_node t) s' (at_node u)} {B = R n s (at_node t) s' (at_node u)} (λ d. q.at_nodes n s s' t u a up slot head d f k) (λ d. r.at_nodes n s s' t u a up slot head d f k) h }
+both-lawful {Q} {R} q r = record { at_nodes = λ turns n s s' t u a up slot head h f k. pick {A = Q n s (at_node t) s' (at_node u)} {B = R n s (at_node t) s' (at_node u)} (λ d. q.at_nodes turns n s s' t u a up slot head d f k) (λ d. r.at_nodes turns n s s' t u a up slot head d f k) h }
 
 pub on-lawful : (b : Bool) (R : Site → Ledger → Spot → Ledger → Spot → Type 0) → PlaceLawful R → PlaceLawful (where_on b R)
 on-lawful true R h = h
-on-lawful false R h = record { at_nodes = λ n s s' t u a up slot head d f k. absurd d }
+on-lawful false R h = record { at_nodes = λ turns n s s' t u a up slot head d f k. absurd d }
 
 pub core-lawful : (o : EnvOptions) → PlaceLawful (CoreRule o)
 core-lawful o = both-lawful writing-lawful (both-lawful (wrap-lawful o) (both-lawful assigns-lawful (both-lawful (both-lawful coalesces-lawful (chains-lawful o.assumptions.no_document_all)) raises-lawful)))

@@ -1,16 +1,15 @@
 -- Steps keep the static rules of places: by one statement on rules, at whatever places they act.
-use Rattle.std.proofs.Common.{◌≡◌, ◌+◌, ℕ, zero, suc, inl, inr, refl, sym, ap, subst, ◌∙◌, List, [], ◌∷◌, arith}
-use Rattle.std.specs.Prelude.{◌⊎◌, Bool, true, false, if◌then◌else◌}
+use Rattle.std.proofs.Common.{◌≡◌, ◌+◌, ℕ, zero, suc, inl, inr, refl, sym, ap, subst, ◌∙◌, List, [], ◌∷◌}
+use Rattle.std.specs.Prelude.{◌⊎◌, Bool, true, false}
 use Rattle.es_tree.specs.Ancestors.{Ancestor, ancestor}
 use Rattle.es_tree.specs.HasForm.{has_form}
-use Rattle.es_tree.specs.Tree.{Tree, node, Label, Fields, ◌then◌, one, Trees, empty, ◌before◌}
+use Rattle.es_tree.specs.Tree.{Tree, node, Label, Fields, one, Trees}
 use Rattle.es_tree.specs.declared.ast_type.AstType.{AstType}
 use Rattle.es_tree.specs.declared.ast_type.AstType.TheVariants.{ArrowFunctionExpression, AssignmentPattern, PatternProperty, PropertyDefinition}
 use Rattle.es_tree.specs.declared.table.Sort.{Sort}
 use Rattle.es_tree.specs.declared.table.Sort.TheVariants.{ArrowFunctionBody as s-ArrowFunctionBody, Expression as s-Expression, Program as s-Program}
 use Rattle.es_steps.specs.CoreRules.{CoreRule, rule_under}
-use Rattle.es_steps.specs.Open.{Pending, after_imports, is_import, pending_statements, whole_list, written_body, is_body, Open, open_node, OpenFields, OpenField, OpenTrees, opened, finished, finished_fields, finished_field, finished_trees}
-use Rattle.es_steps.specs.Nodes.{joined_trees}
+use Rattle.es_steps.specs.Open.{Pending, pending_statements, whole_list, written_body, is_body, Open, open_node, OpenFields, OpenField, OpenTrees, opened, finished, finished_fields, finished_field, finished_trees}
 use Rattle.es_steps.specs.Slots.{is_slot}
 use Rattle.es_steps.specs.Steps.{Ledger, Site, Spot, the_program, outline, Step, FieldsStep, FieldStep, TreesStep, Steps}
 use Rattle.es_steps.specs.Steps.Step.{acts, inside}
@@ -30,11 +29,8 @@ use Rattle.es_valid_steps.proofs.Changed.Changed.{stays, inside as inside_change
 use Rattle.es_valid_steps.proofs.Changed.ChangedField.{same_field, unseen, child_changed, children_changed, list_changed}
 use Rattle.es_valid_steps.proofs.Changed.ChangedFields.{more}
 use Rattle.es_valid_steps.proofs.Changed.ChangedTrees.{some}
-use Rattle.es_valid_steps.proofs.Edges.{edges}
-use Rattle.es_valid_steps.proofs.FieldForms.{FieldHas, FieldsHave, TreesHave, node-have}
-use Rattle.es_valid_steps.proofs.KeptNodes.{alike-changed, here-kept}
-use Rattle.es_valid_steps.proofs.Moves.{in-moved}
-use Rattle.es_valid_steps.proofs.Offers.{Near, Offers, near-self, near-within, offers-self, offers-within}
+use Rattle.es_valid_steps.proofs.FieldForms.{ArrowAt, FieldHas, FieldsHave, TreesHave, arrow-first, arrow-next, arrow-zero, node-have, rest-have}
+use Rattle.es_valid_steps.proofs.KeptNodes.{node-kept}
 use Rattle.es_valid_steps.proofs.Pending.{after-rest, body-inside, body-keeps, whole-keeps}
 use Rattle.es_valid_steps.proofs.PlaceRows.{PlaceLawful, core-lawful, under-lawful}
 use Rattle.es_valid_steps.proofs.Slots.{SlotHead, is_slot_kind, slot-kind}
@@ -45,53 +41,32 @@ use Rattle.es_valid_steps.proofs.Visits.{law_places_proof}
 
 pub record TreeKept (n : Site) (up : List Ancestor) (s s' : Ledger) (t u : Open) : Type 0 where
   pub keeps : Keeps up (finished u)
-  seen : Changed (finished t) (finished u) ⊎ (is_slot n.above ≡ true)
+  seen : Changed false (finished t) (finished u) ⊎ (is_slot n.above ≡ true)
   names : NewNames s s'
 
 pub record FieldsKept (k : AstType) (l : Label) (up : List Ancestor) (all : Fields) (i : ℕ) (s s' : Ledger) (fs gs : OpenFields) : Type 0 where
   pub keeps : KeepsIn up k l all i (finished_fields gs)
-  pub seen : ChangedFields k (finished_fields fs) (finished_fields gs)
+  pub seen : ChangedFields false k (finished_fields fs) (finished_fields gs)
   pub names : NewNames s s'
 
 record FieldKept (k : AstType) (up : List Ancestor) (s s' : Ledger) (f g : OpenField) : Type 0 where
   keeps : KeepsBy up (finished_field g)
-  seen : ChangedField k (finished_field f) (finished_field g)
+  seen : ChangedField false k (finished_field f) (finished_field g)
   names : NewNames s s'
 
 record TreesKept (up : List Ancestor) (s s' : Ledger) (ts us : OpenTrees) : Type 0 where
   keeps : KeepsAll up (finished_trees us)
-  seen : ChangedTrees (finished_trees ts) (finished_trees us)
+  seen : ChangedTrees false (finished_trees ts) (finished_trees us)
   names : NewNames s s'
 
-slot-hidden : (k : AstType) → is_slot_kind k ≡ true → is_hidden k ≡ true
+pub slot-hidden : (k : AstType) → is_slot_kind k ≡ true → is_hidden k ≡ true
 slot-hidden AssignmentPattern e = refl
 slot-hidden PatternProperty e = refl
 slot-hidden PropertyDefinition e = refl
 slot-hidden _ e = absurd (cc e)
 
--- where the body of an arrow stands
-record ArrowField (k : AstType) (i : ℕ) : Type 0 where
-  kind : k ≡ ArrowFunctionExpression
-  index : i ≡ 1
-
-arrow-field : (k : AstType) (i : ℕ) → is_body k i ≡ true → ArrowField k i
-arrow-field ArrowFunctionExpression zero e = absurd (cc e)
-arrow-field ArrowFunctionExpression (suc zero) e = record { kind = refl; index = refl }
-arrow-field ArrowFunctionExpression (suc (suc i)) e = absurd (cc e)
-arrow-field k i e = absurd (cc e)
-
--- counted from the first field
-arrow-first : (k : AstType) (j : ℕ) → is_body k j ≡ true → ArrowField k (0 + j)
-arrow-first k j e = let f = arrow-field k j e in record { kind = f.kind; index = let d = f.index in omega (arith, d) }
-
--- the next field
-arrow-next : (bodies : ℕ → Bool) (k : AstType) (i : ℕ) → ((j : ℕ) → bodies j ≡ true → ArrowField k (i + j)) → (j : ℕ) → bodies (suc j) ≡ true → ArrowField k (suc i + j)
-arrow-next bodies k i h j e = let f = h (suc j) e in record { kind = f.kind; index = let d = f.index in omega (arith, d) }
-
-at-zero : (bodies : ℕ → Bool) (k : AstType) (i : ℕ) → ((j : ℕ) → bodies j ≡ true → ArrowField k (i + j)) → bodies zero ≡ true → ArrowField k i
-at-zero bodies k i h e = let f = h zero e in record { kind = f.kind; index = let d = f.index in omega (arith, d) }
-
-module _ (l : Label) (all : Fields) (up : List Ancestor) (k : AstType) (i : ℕ) (h : ArrowField k i) where
+-- the body of an arrow
+module _ (l : Label) (all : Fields) (up : List Ancestor) (k : AstType) (i : ℕ) (h : ArrowAt k i) where
   abbrev There : AstType → ℕ → Tree → Type 0
   There k i e = Keeps (ancestor k l all i 0 ∷ up) e
 
@@ -101,10 +76,10 @@ module _ (l : Label) (all : Fields) (up : List Ancestor) (k : AstType) (i : ℕ)
   from-arrow : (e : Tree) → There ArrowFunctionExpression 1 e → There k i e
   from-arrow e g = subst (λ (j : AstType). There j i e) (sym h.kind) (subst (λ (j : ℕ). There ArrowFunctionExpression j e) (sym h.index) g)
 
-  body-outside : (p : Pending) (e : Tree) → IsPlain p → There k i e → There k i (written_body p e)
+  pub body-outside : (p : Pending) (e : Tree) → IsPlain p → There k i e → There k i (written_body p e)
   body-outside p e plain g = from-arrow (written_body p e) (body-keeps l all up p e plain (to-arrow e g))
 
-  body-within : (p : Pending) (e : Tree) → IsPlain p → There k i (written_body p e) → There k i e
+  pub body-within : (p : Pending) (e : Tree) → IsPlain p → There k i (written_body p e) → There k i e
   body-within p e plain g = from-arrow e (body-inside l all up p e plain (to-arrow (written_body p e) g))
 
 -- A NODE whose fields took a step
@@ -112,32 +87,9 @@ module _ (l : Label) (all : Fields) (up : List Ancestor) (k : AstType) (i : ℕ)
 module _ (n : Site) (up : List Ancestor) (s s' : Ledger) (k : AstType) (l : Label) (fs gs : OpenFields) where
   pub in-node : (a : Sort) → has_form a (node k l (finished_fields fs)) ≡ true → Keeps up (node k l (finished_fields fs)) → FieldsKept k l up (finished_fields fs) 0 s s' fs gs → TreeKept n up s s' (open_node k l fs) (open_node k l gs)
   in-node a f h r =
-      let old = finished_fields fs in
-      let new = finished_fields gs in
-      let stand = edges a k l old f in
-      let alike = alike-changed k l old new stand r.seen in
-      let offers : (j : ℕ) → Offers true (ancestor k l old j 0 ∷ up) (ancestor k l new j 0 ∷ up) = λ j. offers-within true up up (ancestor k l old j 0) (ancestor k l new j 0) (alike j) (offers-self up) (λ e. absurd (cc e)) in
-      let near : (j : ℕ) → Near (ancestor k l old j 0 ∷ up) (ancestor k l new j 0 ∷ up) = λ j. near-within up up (ancestor k l old j 0) (ancestor k l new j 0) (alike j) (near-self up) in
-      record {
-        keeps = (here-kept up k l old new stand r.seen h.0, in-moved true up up k l old new 0 new offers near (λ e. absurd (cc e)) r.keeps);
-        seen = inl (inside_changed r.seen);
-        names = r.names;
-      }
+      record { keeps = node-kept a up k l (finished_fields fs) (finished_fields gs) f (λ v. absurd (cc v)) r.seen h.0 r.keeps; seen = inl (inside_changed r.seen); names = r.names }
 
--- the statements of a list with others before them
-joined-have : (bs ts : Trees) → TreesHave (joined_trees bs ts) → TreesHave ts
-joined-have empty ts h = h
-joined-have (b before bs) ts h = joined-have bs ts h.1
-
-rest-have : (bs ts : Trees) → TreesHave (after_imports bs ts) → TreesHave ts
-rest-have bs empty h = tt
-rest-have bs (t before ts) h = at (is_import t) (λ k. rest-have bs ts k) h
-  where
-    at : (v : Bool) → (TreesHave (after_imports bs ts) → TreesHave ts) → TreesHave (if v then t before after_imports bs ts else joined_trees bs (t before ts)) → TreesHave (t before ts)
-    at true r k = (k.0, r k.1)
-    at false r k = joined-have bs (t before ts) k
-
-either : {A B : Type 0} (C : Type 0) → A ⊎ B → (A → C) → (B → C) → C
+pub either : {A B : Type 0} (C : Type 0) → A ⊎ B → (A → C) → (B → C) → C
 either C (inl a) f g = f a
 either C (inr b) f g = g b
 
@@ -148,27 +100,27 @@ module _ (R : Site → Ledger → Spot → Ledger → Spot → Type 0) (form : F
     pub kept-after : {n : Site} {s s' : Ledger} {t u : Open} → Step R n s t s' u → (a : Sort) (up : List Ancestor) → (is_slot n.above ≡ true → a ≡ s-Expression) → (is_slot n.above ≡ true → SlotHead up) → IsProper t → has_form a (finished t) ≡ true → Keeps up (finished t) → TreeKept n up s s' t u
     kept-after (acts {n = n} {s = s} {s' = s'} t u h) a up slot head proper f g =
         let formed = subst (λ (x : Tree). has_form a x ≡ true) (finished-opened t) f in
-        let r = law.at_nodes n s s' t u a up slot head h formed (subst (λ (x : Tree). Keeps up x) (finished-opened t) g) in
+        let r = law.at_nodes false n s s' t u a up slot head h formed (subst (λ (x : Tree). Keeps up x) (finished-opened t) g) in
         record {
           keeps = subst (λ (x : Tree). Keeps up x) (sym (finished-opened u)) r.keeps;
-          seen = subst (λ (x : Tree). Changed x (finished (opened u)) ⊎ (is_slot n.above ≡ true)) (sym (finished-opened t)) (subst (λ (y : Tree). Changed t y ⊎ (is_slot n.above ≡ true)) (sym (finished-opened u)) r.seen);
+          seen = subst (λ (x : Tree). Changed false x (finished (opened u)) ⊎ (is_slot n.above ≡ true)) (sym (finished-opened t)) (subst (λ (y : Tree). Changed false t y ⊎ (is_slot n.above ≡ true)) (sym (finished-opened u)) r.seen);
           names = (form.at_nodes n s s' t u a slot h formed).names;
         }
     kept-after (inside {n = n} {s = s} {s' = s'} {k = k} {l = l} {fs = fs} {gs = gs} h) a up slot head proper f g =
         in-node n up s s' k l fs gs a f g (fields-after h k l (is_body k) up (finished_fields fs) 0 (λ j e. slot-kind n.above k l (outline fs) j e) (arrow-first k) proper (node-have n a k l fs f) g.1)
 
-    fields-after : {c : ℕ → Site} {s s' : Ledger} {fs gs : OpenFields} → FieldsStep R c s fs s' gs → (k : AstType) (l : Label) (bodies : ℕ → Bool) (up : List Ancestor) (all : Fields) (i : ℕ) → ((j : ℕ) → is_slot (c j).above ≡ true → is_slot_kind k ≡ true) → ((j : ℕ) → bodies j ≡ true → ArrowField k (i + j)) → AreProperFields bodies fs → FieldsHave k c bodies (finished_fields fs) → KeepsIn up k l all i (finished_fields fs) → FieldsKept k l up all i s s' fs gs
+    fields-after : {c : ℕ → Site} {s s' : Ledger} {fs gs : OpenFields} → FieldsStep R c s fs s' gs → (k : AstType) (l : Label) (bodies : ℕ → Bool) (up : List Ancestor) (all : Fields) (i : ℕ) → ((j : ℕ) → is_slot (c j).above ≡ true → is_slot_kind k ≡ true) → ((j : ℕ) → bodies j ≡ true → ArrowAt k (i + j)) → AreProperFields bodies fs → FieldsHave k c bodies (finished_fields fs) → KeepsIn up k l all i (finished_fields fs) → FieldsKept k l up all i s s' fs gs
     fields-after (in_first {c = c} {f = x} {g = y} {fs = fs} h) k l bodies up all i heads arrows proper has g =
-        let r = field-after h k l (bodies zero) up all i (heads zero) (at-zero bodies k i arrows) proper.0 has.0 g.0 in
+        let r = field-after h k l (bodies zero) up all i (heads zero) (arrow-zero bodies k i arrows) proper.0 has.0 g.0 in
         record { keeps = (r.keeps, g.1); seen = more r.seen (same-fields k (finished_fields fs)); names = r.names }
     fields-after (in_later h) k l bodies up all i heads arrows proper has g =
         let r = fields-after h k l (λ j. bodies (suc j)) up all (suc i) (λ j. heads (suc j)) (arrow-next bodies k i arrows) proper.1 has.1 g.1 in
         record { keeps = (g.0, r.keeps); seen = more same_field r.seen; names = r.names }
 
-    field-after : {n : Site} {s s' : Ledger} {f g : OpenField} → FieldStep R n s f s' g → (k : AstType) (l : Label) (b : Bool) (up : List Ancestor) (all : Fields) (i : ℕ) → (is_slot n.above ≡ true → is_slot_kind k ≡ true) → (b ≡ true → ArrowField k i) → IsProperField b f → FieldHas k n b (finished_field f) → KeepsBy (ancestor k l all i 0 ∷ up) (finished_field f) → FieldKept k (ancestor k l all i 0 ∷ up) s s' f g
+    field-after : {n : Site} {s s' : Ledger} {f g : OpenField} → FieldStep R n s f s' g → (k : AstType) (l : Label) (b : Bool) (up : List Ancestor) (all : Fields) (i : ℕ) → (is_slot n.above ≡ true → is_slot_kind k ≡ true) → (b ≡ true → ArrowAt k i) → IsProperField b f → FieldHas k n b (finished_field f) → KeepsBy (ancestor k l all i 0 ∷ up) (finished_field f) → FieldKept k (ancestor k l all i 0 ∷ up) s s' f g
     field-after (in_child {n = n} {t = t} {u = u} h) k l b up all i head arrow proper has g =
         let r = kept-after h has.sort (ancestor k l all i 0 ∷ up) has.slot (λ e. slot_head k l all i (head e)) proper has.formed g in
-        record { keeps = r.keeps; seen = either (ChangedField k (one (finished t)) (one (finished u))) r.seen (λ c. child_changed c) (λ e. unseen (slot-hidden k (head e))); names = r.names }
+        record { keeps = r.keeps; seen = either (ChangedField false k (one (finished t)) (one (finished u))) r.seen (λ c. child_changed c) (λ e. unseen (slot-hidden k (head e))); names = r.names }
     field-after (in_children {ts = ts} {us = us} h) k l b up all i head arrow proper has g =
         let r = trees-after h (ancestor k l all i 0 ∷ up) has.no_slot proper has.trees g in
         record { keeps = r.keeps; seen = children_changed r.seen; names = r.names }
@@ -219,7 +171,7 @@ module _ (R : Site → Ledger → Spot → Ledger → Spot → Type 0) (form : F
     trees-after : {n : Site} {s s' : Ledger} {ts us : OpenTrees} → TreesStep R n s ts s' us → (up : List Ancestor) → (is_slot n.above ≡ true → ⊥) → AreProperTrees ts → TreesHave (finished_trees ts) → KeepsAll up (finished_trees ts) → TreesKept up s s' ts us
     trees-after (in_head {t = t} {u = u} {ts = ts} h) up slot proper has g =
         let r = kept-after h has.0.sort up (λ e. absurd (slot e)) (λ e. absurd (slot e)) proper.0 has.0.formed g.0 in
-        record { keeps = (r.keeps, g.1); seen = some (either (Changed (finished t) (finished u)) r.seen (λ c. c) (λ e. absurd (slot e))) (same-trees (finished_trees ts)); names = r.names }
+        record { keeps = (r.keeps, g.1); seen = some (either (Changed false (finished t) (finished u)) r.seen (λ c. c) (λ e. absurd (slot e))) (same-trees (finished_trees ts)); names = r.names }
     trees-after (in_tail h) up slot proper has g =
         let r = trees-after h up slot proper.1 has.1 g.1 in
         record { keeps = (g.0, r.keeps); seen = some stays r.seen; names = r.names }

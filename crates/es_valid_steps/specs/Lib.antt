@@ -1,2 +1,3 @@
 pub mod PlaceRules
+pub mod ArrowNodes
 pub mod Laws
