@@ -19,15 +19,14 @@ use Rattle.es_steps.specs.Rules.{next_name}
 use Rattle.es_steps.specs.Slots.{is_slot}
 use Rattle.es_steps.specs.Steps.{Ledger, Site, Spot}
 use Rattle.es_steps.specs.Steps.Spot.{at_node}
-use Rattle.es_steps.proofs.FormLists.{narrower}
+use Rattle.es_steps.proofs.FormLists.{HasText, narrower}
 use Rattle.es_steps.proofs.FormMembers.{formed-first}
 use Rattle.es_steps.proofs.FormParts.{IsFormed, IsText, no-span}
 use Rattle.es_steps.proofs.FormRows.{next-text}
-use Rattle.es_steps.proofs.FormRules.{AtNodes, no-names}
+use Rattle.es_steps.proofs.FormRules.{AtNodes, NodeLeft, no-names, nodes-only}
 use Rattle.es_steps.proofs.FormSorts.{form-wider}
 use Rattle.es_steps.proofs.Taken.{this_in}
-use Rattle.es_valid_arrows.proofs.WideOpen.{HasText}
-use Rattle.es_valid_arrows.proofs.WideRules.{WideFormed, WideLawful, nodes-wide, nothing-new}
+use Rattle.es_valid_arrows.proofs.Wide.{WideLawful, WideNames, nothing-new}
 
 -- KINDS: wherever an arrow or `this` may stand, every expression may
 
@@ -107,15 +106,15 @@ arrow-nodes n s s' x y (with_body none) = tt
 arrow-nodes n s s' x y (with_expression e none) = tt
 
 pub arrow-wide-form : WideLawful ArrowRule
-arrow-wide-form = nodes-wide ArrowRule arrow-nodes nodes
+arrow-wide-form = nodes-only ArrowRule arrow-nodes nodes
   where
-    nodes : (n : Site) (s s' : Ledger) (t u : Tree) (a : Sort) → (is_slot n.above ≡ true → a ≡ s-Expression) → HasText (this_in s) → ArrowRule n s (at_node t) s' (at_node u) → has_form a t ≡ true → WideFormed a s s' u
-    nodes n s s' t u a slot named (by_name {l = l} {x = x} {s = symbol} reads belongs reaches found used below) f =
+    nodes : (n : Site) (s s' : Ledger) (t u : Tree) (a : Sort) → (is_slot n.above ≡ true → a ≡ s-Expression) → ArrowRule n s (at_node t) s' (at_node u) → has_form a t ≡ true → HasText (this_in s) → NodeLeft WideNames a s s' u
+    nodes n s s' t u a slot (by_name {l = l} {x = x} {s = symbol} reads belongs reaches found used below) f named =
         record { formed = formed-placed a l (record { name = x; symbol = Some symbol }) named f; names = nothing-new s s' refl }
-    nodes n s s' t u a slot named (by_new_name {w = w} {p = p} {l = l} {x = x} reads belongs reaches fresh) f =
+    nodes n s s' t u a slot (by_new_name {w = w} {p = p} {l = l} {x = x} reads belongs reaches fresh) f named =
         let text = next-text w (text_base (codes "this")) (next_name w x) (record { fresh = fresh; symbol = refl }) in
         record { formed = formed-placed a l (next_name w x) text f; names = record { names = []; texts = tt; pending = no-names p; this = λ k. text; top = refl } }
-    nodes n s s' t u a slot named (with_body {l = l} {m = m} {ps = ps} {fs = fs} none) f =
+    nodes n s s' t u a slot (with_body {l = l} {m = m} {ps = ps} {fs = fs} none) f named =
         record { formed = formed-function a l ps (node FunctionBody m fs) (node FunctionBody m fs) f (function-body m fs (arrow-parts a l ps (node FunctionBody m fs) f).inner); names = nothing-new s s' refl }
-    nodes n s s' t u a slot named (with_expression {l = l} {ps = ps} {e = e} expression none) f =
+    nodes n s s' t u a slot (with_expression {l = l} {ps = ps} {e = e} expression none) f named =
         record { formed = formed-function a l ps e (body_node (return_node e before empty)) f (returning-body e (narrower e expression.no_body (arrow-parts a l ps e f).inner)); names = nothing-new s s' refl }

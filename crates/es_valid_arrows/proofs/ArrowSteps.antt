@@ -21,21 +21,22 @@ use Rattle.es_steps.specs.Steps.Steps.{stays, goes}
 use Rattle.es_steps.specs.WrapRule.{WrapRule}
 use Rattle.es_steps.specs.WrapRule.WrapRule.{wraps}
 use Rattle.es_steps.proofs.BridgeInclusion.{all_under}
-use Rattle.es_steps.proofs.FormRules.{AtNodes}
+use Rattle.es_steps.proofs.FormLists.{HasText}
+use Rattle.es_steps.proofs.FormOpen.{opened-tidy}
+use Rattle.es_steps.proofs.FormRules.{AtNodes, both-form, lawful-in, on-form}
+use Rattle.es_steps.proofs.FormSteps.{tree-left}
 use Rattle.es_steps.proofs.Opened.{finished-opened}
 use Rattle.es_steps.proofs.Taken.{this_in}
 use Rattle.es_valid_steps.proofs.FurtherForms.{catch-nodes, spread-nodes}
 use Rattle.es_valid_steps.proofs.FurtherSteps.{alone, alone-form, alone-written, apart}
-use Rattle.es_valid_steps.proofs.ProgramLists.{program-exported}
+use Rattle.es_valid_steps.proofs.ProgramLists.{ProgramExported, program-exported}
+use Rattle.es_valid_steps.proofs.ProgramLists.ProgramExported.{at_list as in_the_list}
 use Rattle.es_valid_steps.proofs.Spread.{finished-spread, spread, spread-opened}
 use Rattle.es_valid_steps.proofs.SpreadSteps.{SameBoth, Went, spread-step}
 use Rattle.es_valid_steps.proofs.SpreadSteps.Went.{moves, rests, leaves}
 use Rattle.es_valid_arrows.specs.Laws.{LawArrowForm, with_arrows}
 use Rattle.es_valid_arrows.proofs.ArrowForms.{arrow-nodes, arrow-wide-form}
-use Rattle.es_valid_arrows.proofs.WideLists.{program-beside, program-wide}
-use Rattle.es_valid_arrows.proofs.WideOpen.{HasText, IsWide, opened-wide}
-use Rattle.es_valid_arrows.proofs.WideRules.{WideLawful, both-wide, on-wide, widened, writing-wide}
-use Rattle.es_valid_arrows.proofs.WideSteps.{formed-after}
+use Rattle.es_valid_arrows.proofs.Wide.{IsWide, WideLawful, program-wide, this_named}
 
 -- RULES OF NODES
 
@@ -72,16 +73,8 @@ alone-lists o n s s' p q x y a b ts us (inl (inr (inr r))) = absurd (rows-nodes 
 alone-lists o n s s' p q x y a b ts us (inr (inl r)) = absurd (on-nodes o.es2019.optional_catch_binding CatchRule catch-nodes n s s' (at_list p x a ts) (at_list q y b us) r)
 alone-lists o n s s' p q x y a b ts us (inr (inr r)) = absurd (on-nodes (is_some o.es2018.object_rest_spread) (Replacing SpreadRule) spread-nodes n s s' (at_list p x a ts) (at_list q y b us) r)
 
-alone-wide : (o : EnvOptions) → WideLawful (alone o)
-alone-wide o = record {
-  at_nodes = λ n s s' t u a slot named h f. let r = (alone-form o).at_nodes n s s' t u a slot h f in record { formed = r.formed; names = widened s s' r.names };
-  no_flanks = (alone-form o).no_flanks;
-  at_lists = λ n s s' p q x y a b ts us h k. writing-wide.at_lists n s s' p q x y a b ts us (alone-lists o n s s' p q x y a b ts us h) k;
-  at_bodies = (alone-form o).at_bodies;
-}
-
 pub arrows-wide : (o : EnvOptions) → WideLawful (arrows_alone o)
-arrows-wide o = both-wide (alone-wide o) (on-wide (is_some o.es2015.arrow_function) ArrowRule arrow-wide-form)
+arrows-wide o = both-form (lawful-in this_named (alone o) (alone-form o) (alone-lists o)) (on-form (is_some o.es2015.arrow_function) ArrowRule arrow-wide-form)
 
 pub arrows-written : (o : EnvOptions) (n : Site) (s s' : Ledger) (t : Tree) (bs cs : List Tree) (us : Trees) → arrows_alone o n s (at_beside bs t cs) s' (at_trees us) → (s ≡ s') × (flanks_with bs t cs empty ≡ us)
 arrows-written o n s s' t bs cs us (inl r) = alone-written o n s s' t bs cs us r
@@ -108,19 +101,22 @@ pub record OnTheWay (s : Ledger) (x : Open) : Type 0 where
   pub formed : has_form s-Program (finished x) ≡ true
 
 pub source-begins : (t : Tree) (w : Whole) → has_form s-Program t ≡ true → OnTheWay (nothing_beside w) (spread (opened t))
-source-begins t w f = record { named = tt; wide = subst (λ (x : Open). IsWide x) (sym (spread-opened t)) (opened-wide t); formed = subst (λ (x : Tree). has_form s-Program x ≡ true) (sym (same-source t)) f }
+source-begins t w f = record { named = tt; wide = subst (λ (x : Open). IsWide x) (sym (spread-opened t)) (opened-tidy this_named t); formed = subst (λ (x : Tree). has_form s-Program x ≡ true) (sym (same-source t)) f }
+
+program-beside : {s s' : Ledger} {x y : Open} → ProgramExported s s' x y → HasText (this_in s) → HasText (this_in s')
+program-beside (in_the_list h) named = named
 
 module _ (o : EnvOptions) where
   pub one-step : {s s' : Ledger} {t u : Open} → Step (either_rule (arrows_alone o) NamespaceRule) the_program s t s' u → OnTheWay s (spread t) → OnTheWay s' (spread u)
   one-step {s} {s'} {t} {u} h g = at (spread-step (arrows_alone o) NamespaceRule (arrows-wide o).no_flanks (arrows-written o) h)
     where
       at : Went (Step (arrows_alone o) the_program s (spread t) s' (spread u)) (SameBoth s (spread t) s' (spread u)) (Step NamespaceRule the_program s t s' u) → OnTheWay s' (spread u)
-      at (moves r) = let next = formed-after (arrows_alone o) (arrows-wide o) r g.named s-Program (λ e. absurd (cc e)) g.wide g.formed in record { named = next.names.this g.named; wide = next.proper; formed = next.formed }
+      at (moves r) = let next = tree-left this_named (arrows_alone o) (arrows-wide o) r g.named s-Program (λ e. absurd (cc e)) g.wide g.formed in record { named = next.names.this g.named; wide = next.proper; formed = next.formed }
       at (rests e) = subst (λ (x : Open). OnTheWay s' x) e.1 (subst (λ (r : Ledger). OnTheWay r (spread t)) e.0 g)
       at (leaves r) =
           let export = program-exported r (subst (λ (x : Tree). has_form s-Program x ≡ true) (finished-spread t) g.formed) in
           let left = program-wide export g.wide g.formed in
-          record { named = program-beside export g.named; wide = left.wide; formed = left.formed }
+          record { named = program-beside export g.named; wide = left.proper; formed = left.formed }
 
   pub in-a-row : {s s' : Ledger} {t u : Open} → Steps (Step (either_rule (arrows_alone o) NamespaceRule) the_program) s t s' u → OnTheWay s (spread t) → OnTheWay s' (spread u)
   in-a-row stays g = g

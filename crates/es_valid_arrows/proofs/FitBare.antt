@@ -13,7 +13,8 @@ use Rattle.es_tree.specs.declared.ast_type.AstType.{AstType}
 use Rattle.es_tree.specs.declared.ast_type.AstType.TheVariants.{ArrowFunctionExpression, ObjectProperty, Super, ThisExpression, UnaryExpression}
 use Rattle.es_tree.specs.declared.options.EnvOptions.{EnvOptions}
 use Rattle.es_steps.proofs.BridgeTrees.{without_parens-bare}
-use Rattle.es_valid_arrows.specs.ArrowPlaces.{arrow_in, is_arrow_accessor, is_kind_within, is_outer, is_this_within, parameter_in}
+use Rattle.es_valid_steps.specs.ArrowNodes.{is_arrow_accessor, is_kind_within, is_this_within}
+use Rattle.es_valid_arrows.specs.ArrowPlaces.{arrow_in, is_outer, parameter_in}
 use Rattle.es_valid_arrows.proofs.Fits.{ArrowsFit, ArrowsFitAll, ArrowsFitBy, ArrowsFitIn, from-fits, to-fits}
 use Rattle.es_valid_arrows.specs.Laws.{LawBareFits}
 

@@ -26,8 +26,7 @@ use Rattle.es_valid_arrows.proofs.ArrowSteps.{OnTheWay, arrows_alone, arrows-apa
 use Rattle.es_valid_arrows.proofs.FitRules.{arrows-fit}
 use Rattle.es_valid_arrows.proofs.FitSteps.{fits-after}
 use Rattle.es_valid_arrows.proofs.FitTrees.{fit-after, whole-fit}
-use Rattle.es_valid_arrows.proofs.WideLists.{program-wide}
-use Rattle.es_valid_arrows.proofs.WideOpen.{IsWide}
+use Rattle.es_valid_arrows.proofs.Wide.{IsWide, program-wide}
 
 -- NAMESPACE EXPORTS
 
@@ -55,7 +54,7 @@ module _ (o : EnvOptions) where
       at (rests e) = subst (λ (x : Open). FitsProgram o (finished x)) e.1 f
       at (leaves r) =
           let export = program-exported r (subst (λ (x : Tree). has_form s-Program x ≡ true) (finished-spread t) g.formed) in
-          program-fit export g.wide (program-wide export g.wide g.formed).wide f
+          program-fit export g.wide (program-wide export g.wide g.formed).proper f
 
   pub in-a-row : {s s' : Ledger} {t u : Open} → Steps (Step (either_rule (arrows_alone o) NamespaceRule) the_program) s t s' u → OnTheWay s (spread t) → FitsProgram o (finished (spread t)) → FitsProgram o (finished (spread u))
   in-a-row stays g f = f

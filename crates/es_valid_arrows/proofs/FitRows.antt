@@ -32,7 +32,8 @@ use Rattle.es_steps.specs.OptionalChaining.Receives.{by_name, by_temporary as re
 use Rattle.es_steps.specs.OptionalChaining.Tested.{as_name, in_holder, in_temporary}
 use Rattle.es_steps.specs.OptionalChaining.Walked.{base, marked_call, marked_member, plain_call, plain_member}
 use Rattle.es_steps.specs.Steps.{Site, Whole}
-use Rattle.es_valid_arrows.specs.ArrowPlaces.{is_arrow_accessor, is_outer, is_this_within}
+use Rattle.es_valid_steps.specs.ArrowNodes.{is_arrow_accessor, is_this_within}
+use Rattle.es_valid_arrows.specs.ArrowPlaces.{is_outer}
 use Rattle.es_valid_arrows.proofs.Fits.{ArrowsFit, ArrowsFitAll}
 use Rattle.es_valid_arrows.proofs.FitTrees.{appended-fit, inner-fit, is_settled}
 

@@ -32,8 +32,9 @@ use Rattle.es_steps.specs.ThisPlaces.{belongs_to_arrow}
 use Rattle.es_steps.specs.WrapRule.{OutsideSlots, WrapRule, called_arrow, is_wrapped_for}
 use Rattle.es_steps.specs.WrapRule.WrapRule.{wraps}
 use Rattle.es_steps.proofs.RuleLaws.{writes-lists}
+use Rattle.es_valid_steps.specs.ArrowNodes.{is_this_within}
 use Rattle.es_valid_steps.proofs.FurtherSteps.{alone}
-use Rattle.es_valid_arrows.specs.ArrowPlaces.{is_this_within, wraps_slots}
+use Rattle.es_valid_arrows.specs.ArrowPlaces.{wraps_slots}
 use Rattle.es_valid_arrows.proofs.Fits.{ArrowsFit}
 use Rattle.es_valid_arrows.proofs.ArrowSteps.{arrows_alone}
 use Rattle.es_valid_arrows.proofs.FitRows.{Replaced, RowFit, assigning-fit, chaining-fit, coalescing-fit, raising-fit, spreading-fit}

@@ -1,17 +1,16 @@
 -- Steps leave arrows that can become functions, whatever rules are taken that each leave them so.
 use Rattle.std.proofs.Common.{◌≡◌, ℕ, zero, suc, refl, sym, ap, subst, ◌∙◌, []}
-use Rattle.std.specs.Prelude.{◌&&◌, ◌||◌, not, Bool, true, false, Some, if◌then◌else◌}
+use Rattle.std.specs.Prelude.{◌&&◌, ◌||◌, not, Bool, true, false, Some}
 use Rattle.es_tree.specs.Ancestors.{ancestor, is_field_value}
 use Rattle.es_tree.specs.Children.{child_at, only_child}
 use Rattle.es_tree.specs.HasForm.{has_form, same_type}
-use Rattle.es_tree.specs.Tree.{Tree, node, Label, Fields, done, ◌then◌, Field, missing, one, many, statements, Trees, empty, ◌before◌}
+use Rattle.es_tree.specs.Tree.{Tree, node, Label, Fields, done, Field, Trees}
 use Rattle.es_tree.specs.declared.ast_type.AstType.{AstType}
 use Rattle.es_tree.specs.declared.ast_type.AstType.TheVariants.{ArrowFunctionExpression, ObjectProperty, ParenthesizedExpression, Super, UnaryExpression}
 use Rattle.es_tree.specs.declared.options.EnvOptions.{EnvOptions}
 use Rattle.es_tree.specs.declared.table.Sort.{Sort}
 use Rattle.es_tree.specs.declared.table.Sort.TheVariants.{ArrowFunctionBody as s-ArrowFunctionBody, Expression as s-Expression}
-use Rattle.es_steps.specs.Open.{Pending, after_imports, is_body, is_import, pending_statements, whole_list, written_body, Open, OpenFields, OpenField, OpenTrees, opened, finished, finished_fields, finished_field, finished_trees}
-use Rattle.es_steps.specs.Nodes.{joined_trees}
+use Rattle.es_steps.specs.Open.{Pending, is_body, pending_statements, whole_list, written_body, Open, OpenFields, OpenField, OpenTrees, opened, finished, finished_fields, finished_field, finished_trees}
 use Rattle.es_steps.specs.Slots.{is_in_parameter, is_slot, leads_to_value}
 use Rattle.es_steps.specs.Steps.{Ledger, Site, Spot, site_in, Step, FieldsStep, FieldStep, TreesStep}
 use Rattle.es_steps.specs.Steps.Step.{acts, inside}
@@ -19,19 +18,19 @@ use Rattle.es_steps.specs.Steps.FieldsStep.{in_first, in_later}
 use Rattle.es_steps.specs.Steps.FieldStep.{in_child, in_body, in_children, in_list, in_target, in_program, acts_on_body, acts_on_list}
 use Rattle.es_steps.specs.Steps.TreesStep.{in_head, in_tail, in_flanked, after_flanked, flanks, acts_on_flanked}
 use Rattle.es_steps.specs.ThisPlaces.{keeps_this}
-use Rattle.es_steps.proofs.FormLists.{IsPlain, body-inside as formed-inside}
+use Rattle.es_steps.proofs.FormLists.{HasText, IsPlain, body-inside as formed-inside}
 use Rattle.es_steps.proofs.FormRules.{no-names}
 use Rattle.es_steps.proofs.FormSteps.{plain-more}
 use Rattle.es_steps.proofs.Opened.{finished-opened, finished-trees}
 use Rattle.es_steps.proofs.Taken.{this_in}
-use Rattle.es_valid_steps.proofs.FieldForms.{FieldHas, FieldsHave, TreesHave, node-have}
-use Rattle.es_valid_arrows.specs.ArrowPlaces.{arrow_in, is_arrow_accessor, is_kind_within, is_outer, is_this_within, parameter_in, wraps_slots}
+use Rattle.es_valid_steps.specs.ArrowNodes.{is_arrow_accessor, is_kind_within, is_this_within}
+use Rattle.es_valid_steps.proofs.Changed.{this-inside}
+use Rattle.es_valid_steps.proofs.FieldForms.{FieldHas, FieldsHave, TreesHave, node-have, rest-have}
+use Rattle.es_valid_arrows.specs.ArrowPlaces.{arrow_in, is_outer, parameter_in, wraps_slots}
 use Rattle.es_valid_arrows.proofs.Fits.{ArrowsFit, ArrowsFitAll, ArrowsFitBy, ArrowsFitIn}
 use Rattle.es_valid_arrows.proofs.FitRules.{FitLawful, Marked}
 use Rattle.es_valid_arrows.proofs.FitTrees.{FitSeen, body-fit, fit-after, fit-body, whole-fit}
-use Rattle.es_valid_arrows.proofs.WideOpen.{AreWideFields, AreWideTrees, HasText, IsWide, IsWideField}
-use Rattle.es_valid_arrows.proofs.WideRules.{WideLawful, WideNames, nothing-new}
-use Rattle.es_valid_arrows.proofs.WideSteps.{listed-more}
+use Rattle.es_valid_arrows.proofs.Wide.{AreWideFields, AreWideTrees, IsWide, IsWideField, WideLawful, WideNames, listed-more, nothing-new}
 
 -- WHAT A STEP LEAVES
 
@@ -83,40 +82,9 @@ own-kept ObjectProperty l fs gs arrow h g e = and-kept _ (is_kind_within ArrowFu
 own-kept _ l fs gs arrow h g e = refl
 
 -- in parentheses what is inside is seen
-abbrev this_first : Fields → Bool
-this_first (one t then fs) = is_this_within (Some t)
-this_first _ = false
-
-this-inside : (l : Label) (fs : Fields) → is_this_within (Some (node ParenthesizedExpression l fs)) ≡ this_first fs
-this-inside l done = refl
-this-inside l (missing then fs) = refl
-this-inside l (one t then fs) = refl
-this-inside l (many ts then fs) = refl
-this-inside l (statements ts then fs) = refl
-
-this-first : (fs : Fields) → this_first fs ≡ is_this_within (child_at 0 fs)
-this-first done = refl
-this-first (missing then fs) = refl
-this-first (one t then fs) = refl
-this-first (many ts then fs) = refl
-this-first (statements ts then fs) = refl
-
 this-kept : (k : AstType) (l : Label) (fs gs : Fields) → (is_body k 0 ≡ false → is_this_within (child_at 0 fs) ≡ false → is_this_within (child_at 0 gs) ≡ false) → is_this_within (Some (node k l fs)) ≡ false → is_this_within (Some (node k l gs)) ≡ false
-this-kept ParenthesizedExpression l fs gs h e = this-inside l gs ∙ this-first gs ∙ h refl (sym (this-first fs) ∙ sym (this-inside l fs) ∙ e)
+this-kept ParenthesizedExpression l fs gs h e = this-inside l gs ∙ h refl (sym (this-inside l fs) ∙ e)
 this-kept _ l fs gs h e = e
-
--- the statements of a list with others before them
-joined-have : (bs ts : Trees) → TreesHave (joined_trees bs ts) → TreesHave ts
-joined-have empty ts h = h
-joined-have (b before bs) ts h = joined-have bs ts h.1
-
-pub rest-have : (bs ts : Trees) → TreesHave (after_imports bs ts) → TreesHave ts
-rest-have bs empty h = tt
-rest-have bs (t before ts) h = at (is_import t) (λ k. rest-have bs ts k) h
-  where
-    at : (v : Bool) → (TreesHave (after_imports bs ts) → TreesHave ts) → TreesHave (if v then t before after_imports bs ts else joined_trees bs (t before ts)) → TreesHave (t before ts)
-    at true r k = (k.0, r k.1)
-    at false r k = joined-have bs (t before ts) k
 
 -- MARKS inwards
 
@@ -167,7 +135,7 @@ module _ (o : EnvOptions) (R : Site → Ledger → Spot → Ledger → Spot → 
         let formed = subst (λ (x : Tree). has_form a x ≡ true) (finished-opened t) f in
         let r = law.at_nodes n s s' t u arrow parameter marks h (subst (λ (x : Tree). ArrowsFit o arrow parameter x) (finished-opened t) g) in
         subst (λ (x : Tree). TreeFit o arrow parameter s s' x (finished (opened u))) (sym (finished-opened t)) (subst (λ (y : Tree). TreeFit o arrow parameter s s' t y) (sym (finished-opened u))
-        (record { fits = r.fits; seen = r.seen; names = (form.at_nodes n s s' t u a slot named h formed).names }))
+        (record { fits = r.fits; seen = r.seen; names = (form.at_nodes n s s' t u a slot h formed named).names }))
     fits-after (inside {n = n} {s = s} {s' = s'} {k = k} {l = l} {fs = fs} {gs = gs} h) named a arrow parameter slot marks wide f g =
         let r = fields-fit h named k (is_body k) (λ i. arrow_in o arrow parameter (ancestor k l done i 0)) (λ i. parameter_in parameter (ancestor k l done i 0)) (marked-in o n arrow parameter marks k l fs) (body-states o arrow parameter k l) wide (node-have n a k l fs f) g.1 in
         record {

@@ -14,9 +14,10 @@ use Rattle.es_steps.specs.Open.{Additions, Pending, after_imports, declaration, 
 use Rattle.es_steps.specs.Slots.{leads_to_value}
 use Rattle.es_steps.specs.ThisPlaces.{keeps_this}
 use Rattle.es_steps.proofs.FormLists.{IsPlain}
-use Rattle.es_valid_arrows.specs.ArrowPlaces.{arrow_in, is_arrow_accessor, is_kind_within, is_outer, is_this_within, parameter_in, wraps_slots}
+use Rattle.es_valid_steps.specs.ArrowNodes.{is_arrow_accessor, is_kind_within, is_this_within}
+use Rattle.es_valid_arrows.specs.ArrowPlaces.{arrow_in, is_outer, parameter_in, wraps_slots}
 use Rattle.es_valid_arrows.proofs.Fits.{ArrowsFit, ArrowsFitAll, ArrowsFitBy, ArrowsFitIn}
-use Rattle.es_valid_arrows.proofs.WideOpen.{IsListed}
+use Rattle.es_valid_arrows.proofs.Wide.{IsListed}
 
 -- OUT OF AN ARROW
 

@@ -5,7 +5,8 @@ use Rattle.std.proofs.lemmas.Bool.{and_parts, and_from}
 use Rattle.es_tree.specs.Ancestors.{ancestor}
 use Rattle.es_tree.specs.Tree.{Tree, node, Fields, done, ◌then◌, Field, missing, one, many, statements, Trees, empty, ◌before◌}
 use Rattle.es_tree.specs.declared.options.EnvOptions.{EnvOptions}
-use Rattle.es_valid_arrows.specs.ArrowPlaces.{arrow_in, arrows_fit, arrows_fit_all, arrows_fit_by, arrows_fit_in, is_arrow_accessor, is_outer, parameter_in}
+use Rattle.es_valid_steps.specs.ArrowNodes.{is_arrow_accessor}
+use Rattle.es_valid_arrows.specs.ArrowPlaces.{arrow_in, arrows_fit, arrows_fit_all, arrows_fit_by, arrows_fit_in, is_outer, parameter_in}
 
 abbrev mutual
   pub ArrowsFit : EnvOptions → Bool → Bool → Tree → Type 0

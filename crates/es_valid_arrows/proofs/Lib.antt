@@ -1,8 +1,5 @@
-pub mod WideOpen
-pub mod WideRules
-pub mod WideSteps
+pub mod Wide
 pub mod ArrowForms
-pub mod WideLists
 pub mod ArrowSteps
 pub mod Fits
 pub mod FitTrees
@@ -11,9 +8,6 @@ pub mod FitRules
 pub mod FitSteps
 pub mod FitPrograms
 pub mod ArrowReads
-pub mod Turned
-pub mod TurnedNodes
-pub mod WidePending
 pub mod Outside
 pub mod ArrowRows
 pub mod TurnedRules
@@ -21,7 +15,6 @@ pub mod TurnedSteps
 pub mod PlacePrograms
 pub mod NameLike
 pub mod NamedRules
-pub mod NamedPending
 pub mod NamedEdges
 pub mod NamedSteps
 pub mod NamedPrograms

@@ -25,7 +25,7 @@ use Rattle.es_steps.specs.Nodes.{joined_trees}
 use Rattle.es_steps.specs.Open.{after_imports, is_import}
 use Rattle.es_valid_names.proofs.Claims.{Stand, above, is_local, specified, stand_in}
 use Rattle.es_valid_names.proofs.Mute.{Free, is_imported, is_parameter, is_part}
-use Rattle.es_valid_arrows.specs.ArrowPlaces.{is_kind_within}
+use Rattle.es_valid_steps.specs.ArrowNodes.{is_kind_within}
 use Rattle.es_valid_arrows.proofs.NamedRules.{Unbound, Unlocal}
 
 -- WHERE NO `this` STANDS: what binds a name, the local name of an export, and lists of statements

@@ -22,7 +22,7 @@ use Rattle.es_steps.specs.Steps.Steps.{stays, goes}
 use Rattle.es_steps.proofs.BridgeInclusion.{all_under}
 use Rattle.es_steps.proofs.FormLists.{after-rest}
 use Rattle.es_steps.proofs.Opened.{finished-opened}
-use Rattle.es_valid_steps.proofs.FieldForms.{node-have}
+use Rattle.es_valid_steps.proofs.FieldForms.{arrow-first, node-have}
 use Rattle.es_valid_steps.proofs.ProgramLists.{ProgramExported, program-exported}
 use Rattle.es_valid_steps.proofs.ProgramLists.ProgramExported.{at_list as in_the_list}
 use Rattle.es_valid_steps.proofs.Spread.{finished-spread, spread}
@@ -32,9 +32,8 @@ use Rattle.es_valid_steps.proofs.Visits.{law_among_proof, law_places_proof}
 use Rattle.es_valid_names.specs.Laws.{declared_breaks}
 use Rattle.es_valid_names.proofs.BareNames.{law_declared_among_proof, law_together_proof}
 use Rattle.es_valid_names.proofs.Claims.{Clear, above, claims_all, claims_by, elsewhere, is_owned, outside, owned}
-use Rattle.es_valid_names.proofs.ClearPending.{after-clear}
+use Rattle.es_valid_names.proofs.ClearPending.{after-clear, whole-clear}
 use Rattle.es_valid_names.proofs.ClearRules.{use_in}
-use Rattle.es_valid_names.proofs.ClearSteps.{arrow-first}
 use Rattle.es_valid_names.proofs.ExportClashes.{same-exports}
 use Rattle.es_valid_names.proofs.ExportPlaces.{exported_in}
 use Rattle.es_valid_names.proofs.ExportStatements.{program-exports}
@@ -50,11 +49,10 @@ use Rattle.es_valid_arrows.proofs.ArrowReads.{law_arrow_outside_proof}
 use Rattle.es_valid_arrows.proofs.ArrowSteps.{OnTheWay, arrows_alone, arrows-apart, arrows-wide, arrows-written, law_arrow_form_proof, one-step as formed-step, same-source, source-begins}
 use Rattle.es_valid_arrows.proofs.FitPrograms.{law_arrows_fit_proof}
 use Rattle.es_valid_arrows.proofs.NamedEdges.{edges-binding, node-lists}
-use Rattle.es_valid_arrows.proofs.NamedPending.{wide-clear}
 use Rattle.es_valid_arrows.proofs.NamedRules.{arrows-named}
 use Rattle.es_valid_arrows.proofs.NamedSteps.{fields-after, in-node, inside-grown}
 use Rattle.es_valid_arrows.proofs.PlacePrograms.{law_arrow_places_proof}
-use Rattle.es_valid_arrows.proofs.WideOpen.{IsListed}
+use Rattle.es_valid_arrows.proofs.Wide.{IsListed}
 
 -- a program on the way that keeps the rules
 abbrev IsClear : Ledger → Open → Type 0
@@ -91,7 +89,7 @@ program-clear {s} {s'} (in_the_list {o = o} {z = z} {c = c} {l = l} {d = d} {p =
     let statements_clear = r.clear before after allows found (after-clear before elsewhere (pending_statements p x a) (finished_trees ts) k.2.1.0) in (
       one-apart (use_in s) (use_in s') (bound_there r.text) r.new r.more more k.0,
       refl,
-      (clear-more-by before after allows elsewhere (finished_field d) k.2.0, (wide-clear after elsewhere q y b (finished_trees us) plain.vars.names (r.pending ∙ plain.vars.are) (r.top ∙ plain.top) statements_clear, tt)),
+      (clear-more-by before after allows elsewhere (finished_field d) k.2.0, (whole-clear after elsewhere q y b (finished_trees us) plain.vars.names (r.pending ∙ plain.vars.are) (r.top ∙ plain.top) statements_clear, tt)),
     )
 
 -- STEPS

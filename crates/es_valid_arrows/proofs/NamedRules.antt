@@ -1,5 +1,5 @@
 -- What each rule owes for the rules of declared names where arrows become functions, and that those which owed it before owe no more.
-use Rattle.std.proofs.Common.{◌≡◌, inl, inr, refl, sym, ap, subst, ◌∙◌, List, [], ◌∷◌, ◌++◌}
+use Rattle.std.proofs.Common.{◌≡◌, inl, inr, refl, sym, subst, ◌∙◌, List, [], ◌∷◌, ◌++◌}
 use Rattle.std.specs.Prelude.{◌&&◌, not, Bool, true, false, Option, Some, None, is_some}
 use Rattle.es_tree.specs.Ancestors.{Ancestor}
 use Rattle.es_tree.specs.DeclaredNames.{Name, bound_names, exported_names}
@@ -16,21 +16,20 @@ use Rattle.es_steps.specs.Arrows.{ArrowRule}
 use Rattle.es_steps.specs.Arrows.ArrowRule.{by_name, by_new_name, with_body, with_expression}
 use Rattle.es_steps.specs.CoreRules.{where_on}
 use Rattle.es_steps.specs.Nodes.{body_node, identifier, made, placed, return_node}
-use Rattle.es_steps.specs.Open.{is_import, with_vars}
+use Rattle.es_steps.specs.Open.{is_import}
 use Rattle.es_steps.specs.Rules.{next_name}
 use Rattle.es_steps.specs.Slots.{is_slot}
 use Rattle.es_steps.specs.Steps.{Ledger, Site, Spot}
 use Rattle.es_steps.specs.Steps.Spot.{at_node}
 use Rattle.es_steps.proofs.FormLists.{narrower}
 use Rattle.es_steps.proofs.FormRules.{no-names}
-use Rattle.es_steps.proofs.Kept.{Each}
 use Rattle.es_steps.proofs.RuleLaws.{used-after}
-use Rattle.es_steps.proofs.Taken.{pending_in, this_in, top_in}
+use Rattle.es_steps.proofs.Taken.{this_in}
 use Rattle.es_steps.proofs.Temporaries.{AreTaken}
 use Rattle.es_valid_steps.proofs.FurtherSteps.{alone}
 use Rattle.es_valid_names.proofs.Claims.{Around, Clear, Distinct, Stand, above, claims, claims_all, elsewhere, face, is_local, is_owned, push}
-use Rattle.es_valid_names.proofs.ClearPending.{IsFresh, expression-mute}
-use Rattle.es_valid_names.proofs.ClearRules.{NewNames, alone-names, taken-new, use_in}
+use Rattle.es_valid_names.proofs.ClearPending.{IsFresh, ThisGrown, expression-mute, new-this, same-this}
+use Rattle.es_valid_names.proofs.ClearRules.{MoreNames, NewNames, alone-names, nothing-new as no-news, taken-new, use_in}
 use Rattle.es_valid_names.proofs.Grown.{Grown, grown-self, still-distinct}
 use Rattle.es_valid_names.proofs.MoreAround.{Allows, clear-more, clear-more-all}
 use Rattle.es_valid_names.proofs.Mute.{Free, free-append, free-exported, free-filter, mute-expression}
@@ -47,17 +46,19 @@ pub data ThisNames (used used' : Text → Bool) : Option Bound → Option Bound 
   same_name : {x : Option Bound} → ThisNames used used' x x
   new_name : {b : Bound} → IsFresh used used' b → ThisNames used used' None (Some b)
 
+pub this-names-grown : (used used' : Text → Bool) {x y : Option Bound} → ThisNames used used' x y → ThisGrown used used' x y
+this-names-grown used used' (same_name {x = x}) = same-this used used' x x refl
+this-names-grown used used' (new_name {b = b} h) = new-this used used' b h
+
 -- fresh temporaries more are pending, and maybe a fresh name of `this`, all in use afterwards
-pub record FreshNames (s s' : Ledger) : Type 0 where
-  pub names : List Bound
-  pub pending : pending_in s' ≡ with_vars names (pending_in s)
-  pub this : ThisNames (use_in s) (use_in s') (this_in s) (this_in s')
-  pub top : top_in s' ≡ top_in s
-  pub fresh : Each (IsFresh (use_in s) (use_in s')) names
-  pub more : (x : Text) → use_in s x ≡ true → use_in s' x ≡ true
+abbrev pub FreshNames : Ledger → Ledger → Type 0
+FreshNames s s' = MoreNames (ThisNames (use_in s) (use_in s')) s s'
+
+fresh-names : (s s' : Ledger) → NewNames s s' → FreshNames s s'
+fresh-names s s' h = record { names = h.names; pending = h.pending; this = subst (λ (x : Option Bound). ThisNames (use_in s) (use_in s') (this_in s) x) (sym h.this) same_name; top = h.top; fresh = h.fresh; more = h.more }
 
 pub nothing-new : (s s' : Ledger) → s ≡ s' → FreshNames s s'
-nothing-new s s' e = record { names = []; pending = sym (ap (λ r. pending_in r) e) ∙ no-names (pending_in s); this = subst (λ (x : Option Bound). ThisNames (use_in s) (use_in s') (this_in s) x) (ap (λ r. this_in r) e) same_name; top = sym (ap (λ r. top_in r) e); fresh = tt; more = λ x h. sym (ap (λ r. use_in r x) e) ∙ h }
+nothing-new s s' e = fresh-names s s' (no-news s s' e)
 
 -- where `this` stands nothing is bound, and no local name of an export
 abbrev pub Unbound : List Ancestor → Tree → Type 0
@@ -86,13 +87,10 @@ mute-grown {used} {used'} gs hs e d = subst (λ (xs : List (List Name)). Grown u
 alone-named : (o : EnvOptions) → NamedLawful (alone o)
 alone-named o = record { at_nodes = nodes }
   where
-    with_this : (s s' : Ledger) → NewNames s s' → FreshNames s s'
-    with_this s s' h = record { names = h.names; pending = h.pending; this = subst (λ (x : Option Bound). ThisNames (use_in s) (use_in s') (this_in s) x) (sym h.this) same_name; top = h.top; fresh = h.fresh; more = h.more }
-
     nodes : (n : Site) (s s' : Ledger) (t u : Tree) (a : Sort) → (is_slot n.above ≡ true → a ≡ s-Expression) → alone o n s (at_node t) s' (at_node u) → has_form a t ≡ true → has_form a u ≡ true → NamedLeft s s' t u
     nodes n s s' t u a slot h f g =
         let k = (alone-names o).at_nodes n s s' t u a slot h f g in
-        record { grown = λ up e. k.grown up; clear = λ c d e j m st x. k.clear c d e j m st; name = λ e. k.name; key = λ e. k.key; imports = k.imports; inside = k.inside; names = with_this s s' k.names }
+        record { grown = λ up e. k.grown up; clear = λ c d e j m st x. k.clear c d e j m st; name = λ e. k.name; key = λ e. k.key; imports = k.imports; inside = k.inside; names = fresh-names s s' k.names }
 
 -- `this`, and a name in its place
 this-grown : {used used' : Text → Bool} (l : Label) (b : Bound) (up : List Ancestor) → Unbound up (node ThisExpression l done) → Grown used used' (claims is_owned up (node ThisExpression l done)) (claims is_owned up (placed l (identifier b)))

@@ -1,5 +1,5 @@
 -- Steps of rules, those of arrows among them, keep the rules of declared names, at whatever places they act.
-use Rattle.std.proofs.Common.{◌≡◌, ◌+◌, ℕ, zero, suc, refl, sym, ap, subst, ◌∙◌, List, [], ◌∷◌, ◌++◌, arith, filter}
+use Rattle.std.proofs.Common.{◌≡◌, ◌+◌, ℕ, zero, suc, refl, sym, ap, subst, ◌∙◌, List, [], ◌∷◌, ◌++◌, filter}
 use Rattle.std.specs.Prelude.{◌&&◌, ◌||◌, not, Bool, true, false, Option, Some, if◌then◌else◌, bytes_eq, codes}
 use Rattle.es_tree.specs.Ancestors.{Ancestor}
 use Rattle.es_tree.specs.Children.{child_at, only_child}
@@ -8,7 +8,7 @@ use Rattle.es_tree.specs.DeclaredNames.{Name, declared}
 use Rattle.es_tree.specs.HasForm.{has_form, same_type}
 use Rattle.es_tree.specs.Names.{first_text, flag_at}
 use Rattle.es_tree.specs.StaticRules.{has_node, is_accessor_word, is_bad_method, is_constructor_key}
-use Rattle.es_tree.specs.Tree.{Tree, node, Label, Fields, done, ◌then◌, Field, one, many, statements, Trees, empty, ◌before◌, kind_of}
+use Rattle.es_tree.specs.Tree.{Tree, node, Label, Fields, ◌then◌, Field, one, many, statements, Trees, empty, ◌before◌, kind_of}
 use Rattle.es_tree.specs.Words.{Text}
 use Rattle.es_tree.specs.declared.ast_type.AstType.{AstType}
 use Rattle.es_tree.specs.declared.ast_type.AstType.TheVariants.{ArrowFunctionExpression, CatchClause, ClassDeclaration, ExportNamedDeclaration, FunctionDeclaration, Identifier, MethodDefinition, StringLiteral, ThisExpression}
@@ -23,29 +23,27 @@ use Rattle.es_steps.specs.Steps.Step.{acts, inside}
 use Rattle.es_steps.specs.Steps.FieldsStep.{in_first, in_later}
 use Rattle.es_steps.specs.Steps.FieldStep.{in_child, in_body, in_children, in_list, in_target, in_program, acts_on_body, acts_on_list}
 use Rattle.es_steps.specs.Steps.TreesStep.{in_head, in_tail, in_flanked, after_flanked, flanks, acts_on_flanked}
-use Rattle.es_steps.proofs.FormLists.{IsPlain, body-inside as formed-inside, narrower}
+use Rattle.es_steps.proofs.FormLists.{HasText, IsPlain, body-inside as formed-inside, narrower}
 use Rattle.es_steps.proofs.FormRules.{no-names}
+use Rattle.es_steps.proofs.FormSteps.{tree-left}
 use Rattle.es_steps.proofs.Kept.{Each}
 use Rattle.es_steps.proofs.Opened.{finished-opened, finished-trees}
 use Rattle.es_steps.proofs.Taken.{this_in}
-use Rattle.es_valid_steps.proofs.FieldForms.{FieldHas, FieldsHave, TreesHave, node-have}
+use Rattle.es_valid_steps.specs.ArrowNodes.{is_kind_within}
+use Rattle.es_valid_steps.proofs.Changed.{is-name}
+use Rattle.es_valid_steps.proofs.FieldForms.{ArrowAt, FieldHas, FieldsHave, TreesHave, arrow-first, arrow-next, arrow-zero, node-have, rest-have}
 use Rattle.es_valid_names.proofs.Claims.{Around, Clear, ClearAll, ClearBy, ClearIn, Stand, above, around_in, claims, claims_all, claims_by, claims_in, elsewhere, has_private, in_body as in_class, is_local, is_owned, is_owner, is_wrong, outside, owned, push, stand_in}
 use Rattle.es_valid_names.proofs.ClearNodes.{SameShape, SameShapes, declared-fields, face-claims, face-kept, own-kept, push-both, same-shape, same-shapes, stand-kept, wrong-kept}
-use Rattle.es_valid_names.proofs.ClearPending.{AroundGrown, IsFresh, after-clear, around-more, around-same, body-clear, body-grown, clear-body, with-more}
+use Rattle.es_valid_names.proofs.ClearPending.{AroundGrown, IsFresh, after-clear, around-more, around-same, body-clear, body-grown, clear-body, list-grown, same-top, whole-clear, with-more}
 use Rattle.es_valid_names.proofs.ClearRules.{use_in}
-use Rattle.es_valid_names.proofs.ClearSteps.{ArrowAt, arrow-first}
+use Rattle.es_valid_names.proofs.ClearSteps.{arrow-stand, in-used, moved-stands, no-first-body}
 use Rattle.es_valid_names.proofs.Grown.{Grown, grown-both, grown-self}
 use Rattle.es_valid_names.proofs.MoreAround.{Allows, allows-in, clear-more, clear-more-all, clear-more-by, clear-more-in, private-grown, wrong-less}
-use Rattle.es_valid_arrows.specs.ArrowPlaces.{is_kind_within}
-use Rattle.es_valid_arrows.proofs.FitSteps.{rest-have}
 use Rattle.es_valid_arrows.proofs.NameLike.{other-claims}
 use Rattle.es_valid_arrows.proofs.NamedEdges.{AreLists, ListField, NoThis, binding, edge-unbound, edges-after, edges-binding, first-binding, is_binding, method-this, no-this, node-lists, this-edge, unlocal}
-use Rattle.es_valid_arrows.proofs.NamedPending.{wide-clear, wide-grown}
-use Rattle.es_valid_arrows.proofs.NamedRules.{FreshNames, NamedLawful, ThisNames, Unbound, Unlocal, nothing-new}
+use Rattle.es_valid_arrows.proofs.NamedRules.{FreshNames, NamedLawful, ThisNames, Unbound, Unlocal, nothing-new, this-names-grown}
 use Rattle.es_valid_arrows.proofs.NamedRules.ThisNames.{same_name}
-use Rattle.es_valid_arrows.proofs.WideOpen.{AreWideFields, AreWideTrees, HasText, IsListed, IsWide, IsWideField}
-use Rattle.es_valid_arrows.proofs.WideRules.{WideLawful}
-use Rattle.es_valid_arrows.proofs.WideSteps.{formed-after}
+use Rattle.es_valid_arrows.proofs.Wide.{AreWideFields, AreWideTrees, IsListed, IsWide, IsWideField, WideLawful, this_named}
 
 -- WHAT A STEP LEAVES
 
@@ -88,33 +86,6 @@ pub record FieldsNamed (k : AstType) (i : ℕ) (b : Bool) (s s' : Ledger) (fs gs
   pub name : b ≡ false → is_kind_within ThisExpression (child_at 0 fs) ≡ false → is_name (child_at 0 gs) ≡ is_name (child_at 0 fs)
   pub key : b ≡ false → is_kind_within ThisExpression (child_at 0 fs) ≡ false → is_constructor_key (child_at 0 gs) ≡ true → is_constructor_key (child_at 0 fs) ≡ true
   pub names : FreshNames s s'
-
-is-name : (t : Tree) → is_name (Some t) ≡ same_type (kind_of t) Identifier
-is-name (node Identifier l fs) = refl
-is-name (node _ l fs) = refl
-
-arrow-next : (bodies : ℕ → Bool) (k : AstType) (i : ℕ) → ((j : ℕ) → bodies j ≡ true → ArrowAt k (i + j)) → (j : ℕ) → bodies (suc j) ≡ true → ArrowAt k (suc i + j)
-arrow-next bodies k i h j e = let f = h (suc j) e in record { kind = f.kind; index = let d = f.index in omega (arith, d) }
-
-arrow-zero : (bodies : ℕ → Bool) (k : AstType) (i : ℕ) → ((j : ℕ) → bodies j ≡ true → ArrowAt k (i + j)) → bodies zero ≡ true → ArrowAt k i
-arrow-zero bodies k i h e = let f = h zero e in record { kind = f.kind; index = let d = f.index in omega (arith, d) }
-
-no-first-body : (k : AstType) → is_body k 0 ≡ false
-no-first-body ArrowFunctionExpression = refl
-no-first-body _ = refl
-
--- where it stands no rule asks
-arrow-stand : (st : Stand) (k : AstType) (all : Fields) (i : ℕ) → ArrowAt k i → stand_in st k all i ≡ elsewhere
-arrow-stand st k all i h = λ j. stand_in st (h.kind j) all (h.index j)
-
-in-used : (c : Around) (b : Bool) (gs : List (List Name)) → (around_in c b gs).used ≡ c.used
-in-used c true gs = refl
-in-used c false gs = refl
-
--- the same with other fields around, which say as much of where it stands
-moved-stands : (c : Around) (gs : List (List Name)) (st : Stand) (k : AstType) (all all' : Fields) (i : ℕ) (fs : Fields) → ((j : ℕ) → stand_in st k all j ≡ stand_in st k all' j) → ClearIn c gs st k all i fs → ClearIn c gs st k all' i fs
-moved-stands c gs st k all all' i done e h = tt
-moved-stands c gs st k all all' i (f then fs) e h = (subst (λ (z : Stand). ClearBy (around_in c (in_class k i) gs) z f) (e i) h.0, moved-stands c gs st k all all' (suc i) fs e h.1)
 
 -- A NODE whose fields took a step
 
@@ -200,8 +171,8 @@ free-trees up (t before ts) h = (λ e. absurd (let d = h.0 in cc (e, d)), free-t
 list-named : (k : AstType) (i : ℕ) (v : Bool) (w w' : Whole) (o p q : Pending) (x x' y y' : Option Bound) (a a' b b' : Additions) (bs : List Bound) (ts us : Trees) → IsListed p y b → q ≡ with_vars bs p → ThisNames w.in_use w'.in_use y y' → b' ≡ b → ThisNames w.in_use w'.in_use x x' → a' ≡ a → Each (IsFresh w.in_use w'.in_use) bs → ((z : Text) → w.in_use z ≡ true → w'.in_use z ≡ true) →
     EdgesAll binding k i ts → AroundGrown w.in_use w'.in_use ts us → ((c d : Around) → c.used ≡ w.in_use → d.used ≡ w'.in_use → Allows c d → (st : Stand) → AllUnlocal st ts → ClearAll c st ts → ClearAll d st us) → FieldNamed k i v (ledger w o x a) (ledger w' o x' a') (statements (whole_list p y b ts)) (statements (whole_list q y' b' us))
 list-named k i v w w' o p q x x' y y' a a' b b' bs ts us plain e f g this top fresh more edges around clear = record {
-  grown = λ l all m up. wide-grown w.in_use w'.in_use p q y y' b b' bs ts us plain e f g fresh around (above k l all i m ∷ up);
-  clear = λ c d h j m st r n k'. wide-clear d st q y' b' us (plain.vars.names ++ bs) (with-more w.in_use w'.in_use p q plain.vars.names bs plain.vars.are e) (g ∙ plain.top) (clear c d h j m st (all-unlocal k i st ts n edges) (after-clear c st (pending_statements p y b) ts k'));
+  grown = λ l all m up. list-grown w.in_use w'.in_use p q y y' b b' bs ts us plain.vars e (this-names-grown w.in_use w'.in_use f) (same-top w.in_use w'.in_use b b' g) fresh around (above k l all i m ∷ up);
+  clear = λ c d h j m st r n k'. whole-clear d st q y' b' us (plain.vars.names ++ bs) (with-more w.in_use w'.in_use p q plain.vars.names bs plain.vars.are e) (g ∙ plain.top) (clear c d h j m st (all-unlocal k i st ts n edges) (after-clear c st (pending_statements p y b) ts k'));
   shape = record { single = refl; some = refl };
   name = λ h d. refl;
   key = λ h d j. j;
@@ -232,7 +203,7 @@ module _ (R : Site → Ledger → Spot → Ledger → Spot → Type 0) (form : W
     pub named-after : {n : Site} {s s' : Ledger} {t u : Open} → Step R n s t s' u → HasText (this_in s) → (a : Sort) → (is_slot n.above ≡ true → a ≡ s-Expression) → IsWide t → has_form a (finished t) ≡ true → TreeNamed s s' (finished t) (finished u)
     named-after (acts {n = n} {s = s} {s' = s'} t u h) text a slot wide f =
         let formed = subst (λ (x : Tree). has_form a x ≡ true) (finished-opened t) f in
-        let r = law.at_nodes n s s' t u a slot h formed (form.at_nodes n s s' t u a slot text h formed).formed in
+        let r = law.at_nodes n s s' t u a slot h formed (form.at_nodes n s s' t u a slot h formed text).formed in
         subst (λ (x : Tree). TreeNamed s s' x (finished (opened u))) (sym (finished-opened t)) (subst (λ (y : Tree). TreeNamed s s' t y) (sym (finished-opened u))
         (record { grown = r.grown; clear = r.clear; name = r.name; key = r.key; imports = r.imports; names = r.names }))
     named-after (inside {n = n} {s = s} {s' = s'} {k = k} {l = l} {fs = fs} {gs = gs} h) text a slot wide f =
@@ -294,7 +265,7 @@ module _ (R : Site → Ledger → Spot → Ledger → Spot → Type 0) (form : W
         let sort = has.arrow wide.0 in
         let bare = formed-inside p (finished t) wide.1 (subst (λ (z : Sort). has_form z (written_body p (finished t)) ≡ true) sort has.formed) in
         let r = named-after h text s-ArrowFunctionBody (λ d. sym sort ∙ has.slot d) wide.2 bare in
-        let after = formed-after R form h text s-ArrowFunctionBody (λ d. sym sort ∙ has.slot d) wide.2 bare in
+        let after = tree-left this_named R form h text s-ArrowFunctionBody (λ d. sym sort ∙ has.slot d) wide.2 bare in
         body-named k i b w w' o p q x x' a a' r.names.names (finished t) (finished u) wide.0 (arrow wide.0) wide.1 r.names.pending r.names.this r.names.top r.names.fresh r.names.more (narrower (finished t) y.no_body bare) (narrower (finished u) y'.no_body after.formed) r.clear
     field-after (in_list {w = w} {w' = w'} {o = o} {p = p} {q = q} {x = x} {x' = x'} {y = y} {a = a} {a' = a'} {b = d} {ts = ts} {us = us} e e' h) text k b i last arrow wide edges lists has =
         let r = trees-after h text has.no_slot wide.1 (rest-have (pending_statements p y d) (finished_trees ts) has.trees) in

@@ -24,7 +24,7 @@ use Rattle.es_valid_arrows.proofs.FitPrograms.{one-step as fit-step}
 use Rattle.es_valid_arrows.proofs.FitRules.{arrows-fit}
 use Rattle.es_valid_arrows.proofs.TurnedRules.{arrows-turned}
 use Rattle.es_valid_arrows.proofs.TurnedSteps.{kept-after}
-use Rattle.es_valid_arrows.proofs.WideLists.{program-wide}
+use Rattle.es_valid_arrows.proofs.Wide.{program-wide}
 
 module _ (o : EnvOptions) where
   one-step : {s s' : Ledger} {t u : Open} → Step (either_rule (arrows_alone o) NamespaceRule) the_program s t s' u → OnTheWay s (spread t) → FitsProgram o (finished (spread t)) → Keeps [] (finished (spread t)) → Keeps [] (finished (spread u))

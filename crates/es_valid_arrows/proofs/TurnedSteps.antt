@@ -1,55 +1,55 @@
 -- Steps of rules, those of arrows among them, keep the static rules of places where each arrow can become a function.
-use Rattle.std.proofs.Common.{◌≡◌, ◌+◌, ◌==◌, ℕ, zero, suc, inl, inr, refl, sym, ap, subst, ◌∙◌, List, [], ◌∷◌, arith}
-use Rattle.std.specs.Prelude.{◌⊎◌, ◌&&◌, ◌||◌, not, Bool, true, false, Some, if◌then◌else◌}
+use Rattle.std.proofs.Common.{◌≡◌, ◌+◌, ◌==◌, ℕ, zero, suc, inl, inr, refl, sym, ap, subst, ◌∙◌, List, [], ◌∷◌}
+use Rattle.std.specs.Prelude.{◌⊎◌, ◌&&◌, ◌||◌, not, Bool, true, false, Some, bytes_eq, codes}
+use Rattle.std.proofs.lemmas.Bool.{and_from}
 use Rattle.es_tree.specs.Ancestors.{Ancestor, ancestor, stands_in}
 use Rattle.es_tree.specs.Children.{child_at, only_child}
-use Rattle.es_tree.specs.CoreStaticRules.{is_kept, is_kept_within}
+use Rattle.es_tree.specs.CoreStaticRules.{is_bad_delete, is_kept, is_kept_within}
 use Rattle.es_tree.specs.HasForm.{has_form, same_type}
+use Rattle.es_tree.specs.Names.{first_text}
 use Rattle.es_tree.specs.Parens.{without_parens}
-use Rattle.es_tree.specs.Tree.{Tree, node, Label, Fields, done, ◌then◌, missing, one, many, statements, Trees, empty, ◌before◌}
+use Rattle.es_tree.specs.Tree.{Tree, node, Label, Fields, done, one, Trees, empty, ◌before◌}
 use Rattle.es_tree.specs.declared.ast_type.AstType.{AstType}
-use Rattle.es_tree.specs.declared.ast_type.AstType.TheVariants.{ArrowFunctionExpression, AssignmentPattern, BlockStatement, FunctionBody, Identifier, LabeledStatement, ParenthesizedExpression, PatternProperty, Program, PropertyDefinition, StaticBlock, SwitchCase, ThisExpression}
+use Rattle.es_tree.specs.declared.ast_type.AstType.TheVariants.{ArrowFunctionExpression, BlockStatement, FunctionBody, LabeledStatement, ParenthesizedExpression, Program, StaticBlock, SwitchCase, ThisExpression, UnaryExpression}
 use Rattle.es_tree.specs.declared.options.EnvOptions.{EnvOptions}
 use Rattle.es_tree.specs.declared.table.Sort.{Sort}
 use Rattle.es_tree.specs.declared.table.Sort.TheVariants.{ArrowFunctionBody as s-ArrowFunctionBody, Expression as s-Expression}
+use Rattle.es_runs.proofs.Named.{or_first, or_second}
 use Rattle.es_semantic.proofs.FormEdges.{Edges, EdgesAll, EdgesBy, EdgesIn, is_last}
-use Rattle.es_steps.specs.Open.{Pending, pending_statements, whole_list, written_body, is_body, Open, open_node, OpenFields, OpenField, OpenTrees, opened, finished, finished_fields, finished_field, finished_trees}
+use Rattle.es_steps.specs.Open.{pending_statements, whole_list, written_body, is_body, Open, open_node, OpenFields, OpenField, OpenTrees, opened, finished, finished_fields, finished_field, finished_trees}
 use Rattle.es_steps.specs.Slots.{is_slot}
 use Rattle.es_steps.specs.Steps.{Ledger, Site, Spot, outline, Step, FieldsStep, FieldStep, TreesStep}
 use Rattle.es_steps.specs.Steps.Step.{acts, inside}
 use Rattle.es_steps.specs.Steps.FieldsStep.{in_first, in_later}
 use Rattle.es_steps.specs.Steps.FieldStep.{in_child, in_body, in_children, in_list, in_target, in_program, acts_on_body, acts_on_list}
 use Rattle.es_steps.specs.Steps.TreesStep.{in_head, in_tail, in_flanked, after_flanked, flanks, acts_on_flanked}
-use Rattle.es_steps.proofs.FormLists.{IsPlain, body-inside as formed-inside}
+use Rattle.es_steps.proofs.FormLists.{HasText, body-inside as formed-inside}
 use Rattle.es_steps.proofs.FormRules.{no-names}
 use Rattle.es_steps.proofs.FormSteps.{plain-more}
 use Rattle.es_steps.proofs.Opened.{finished-opened, finished-trees}
 use Rattle.es_steps.proofs.Taken.{this_in}
+use Rattle.es_valid_steps.specs.ArrowNodes.{is_arrow_accessor, is_this_within}
 use Rattle.es_valid_steps.specs.PlaceRules.{Keeps, KeepsAll, KeepsBy, KeepsIn}
-use Rattle.es_valid_steps.proofs.Changed.{is_hidden}
-use Rattle.es_valid_steps.proofs.Edges.{edges, stands}
-use Rattle.es_valid_steps.proofs.FieldForms.{FieldHas, FieldsHave, TreesHave, node-have}
-use Rattle.es_valid_steps.proofs.Moves.{in-moved, is_jump}
-use Rattle.es_valid_steps.proofs.Offers.{Near, Offers, near-self, near-within, offers-self, offers-within}
-use Rattle.es_valid_steps.proofs.Pending.{after-rest, body-inside, body-keeps, is_list_kind}
+use Rattle.es_valid_steps.proofs.Changed.{Changed, ChangedField, ChangedFields, ChangedTrees, is_hidden, kept-inside, same-fields, same-trees, this-inside}
+use Rattle.es_valid_steps.proofs.Changed.Changed.{stays, inside as inside_changed}
+use Rattle.es_valid_steps.proofs.Changed.ChangedField.{same_field, unseen, child_changed, children_changed, list_changed}
+use Rattle.es_valid_steps.proofs.Changed.ChangedFields.{more}
+use Rattle.es_valid_steps.proofs.Changed.ChangedTrees.{some}
+use Rattle.es_valid_steps.proofs.Edges.{edges, is-label, stands}
+use Rattle.es_valid_steps.proofs.FieldForms.{ArrowAt, FieldHas, FieldsHave, TreesHave, arrow-first, arrow-next, arrow-zero, node-have, rest-have}
+use Rattle.es_valid_steps.proofs.KeptNodes.{Spared, node-kept}
+use Rattle.es_valid_steps.proofs.Moves.{is_jump}
+use Rattle.es_valid_steps.proofs.Pending.{after-rest, is_list_kind, whole-keeps as wide-keeps}
+use Rattle.es_valid_steps.proofs.PlaceSteps.{body-outside, body-within, either, slot-hidden}
 use Rattle.es_valid_steps.proofs.Slots.{SlotHead, is_slot_kind, slot-kind}
 use Rattle.es_valid_steps.proofs.Slots.SlotHead.{slot_head}
-use Rattle.es_valid_arrows.specs.ArrowPlaces.{arrow_in, is_this_within, parameter_in}
+use Rattle.es_valid_arrows.specs.ArrowPlaces.{arrow_in, is_outer, parameter_in}
 use Rattle.es_valid_arrows.proofs.Fits.{ArrowsFit, ArrowsFitAll, ArrowsFitBy, ArrowsFitIn}
 use Rattle.es_valid_arrows.proofs.FitRules.{FitLawful, Marked}
-use Rattle.es_valid_arrows.proofs.FitSteps.{body-states, body-within as fit-within, marked-in, rest-have}
+use Rattle.es_valid_arrows.proofs.FitSteps.{body-states, body-within as fit-within, marked-in}
 use Rattle.es_valid_arrows.proofs.FitTrees.{fit-after}
-use Rattle.es_valid_arrows.proofs.Turned.{Changed, ChangedField, ChangedFields, ChangedTrees, kept-inside, kept_first, same-fields, same-trees, this-inside, this_first}
-use Rattle.es_valid_arrows.proofs.Turned.Changed.{stays, inside as inside_changed}
-use Rattle.es_valid_arrows.proofs.Turned.ChangedField.{same_field, unseen, child_changed, children_changed, list_changed}
-use Rattle.es_valid_arrows.proofs.Turned.ChangedFields.{more}
-use Rattle.es_valid_arrows.proofs.Turned.ChangedTrees.{some}
-use Rattle.es_valid_arrows.proofs.TurnedNodes.{alike-changed, edges-apart, here-kept}
 use Rattle.es_valid_arrows.proofs.TurnedRules.{TurnedLawful, Unlabeled}
-use Rattle.es_valid_arrows.proofs.WideOpen.{AreWideFields, AreWideTrees, HasText, IsWide, IsWideField}
-use Rattle.es_valid_arrows.proofs.WidePending.{wide-keeps}
-use Rattle.es_valid_arrows.proofs.WideRules.{WideLawful, WideNames, nothing-new}
-use Rattle.es_valid_arrows.proofs.WideSteps.{listed-more}
+use Rattle.es_valid_arrows.proofs.Wide.{AreWideFields, AreWideTrees, IsWide, IsWideField, WideLawful, WideNames, listed-more, nothing-new}
 
 -- WHAT A STEP LEAVES: nodes that keep the rules, and that look to those around them as before; `this` in parentheses becomes a name in
 -- arrows alone
@@ -59,70 +59,26 @@ SameOperand arrow t u = is_this_within (Some t) ≡ true → (is_kept (without_p
 
 pub record TreeKept (n : Site) (up : List Ancestor) (arrow : Bool) (s s' : Ledger) (t u : Open) : Type 0 where
   pub keeps : Keeps up (finished u)
-  seen : Changed (finished t) (finished u) ⊎ (is_slot n.above ≡ true)
+  seen : Changed true (finished t) (finished u) ⊎ (is_slot n.above ≡ true)
   operand : SameOperand arrow (finished t) (finished u)
   names : WideNames s s'
 
 pub record FieldsKept (k : AstType) (l : Label) (up : List Ancestor) (all : Fields) (i : ℕ) (arrow : Bool) (s s' : Ledger) (fs gs : OpenFields) : Type 0 where
   pub keeps : KeepsIn up k l all i (finished_fields gs)
-  pub seen : ChangedFields k (finished_fields fs) (finished_fields gs)
+  pub seen : ChangedFields true k (finished_fields fs) (finished_fields gs)
   pub operand : is_this_within (child_at 0 (finished_fields fs)) ≡ true → (is_kept_within (child_at 0 (finished_fields gs)) ≡ is_kept_within (child_at 0 (finished_fields fs))) ⊎ (arrow ≡ true)
   pub names : WideNames s s'
 
 record FieldKept (k : AstType) (up : List Ancestor) (arrow : Bool) (s s' : Ledger) (f g : OpenField) : Type 0 where
   keeps : KeepsBy up (finished_field g)
-  seen : ChangedField k (finished_field f) (finished_field g)
+  seen : ChangedField true k (finished_field f) (finished_field g)
   operand : is_this_within (only_child (finished_field f)) ≡ true → (is_kept_within (only_child (finished_field g)) ≡ is_kept_within (only_child (finished_field f))) ⊎ (arrow ≡ true)
   names : WideNames s s'
 
 record TreesKept (up : List Ancestor) (s s' : Ledger) (ts us : OpenTrees) : Type 0 where
   keeps : KeepsAll up (finished_trees us)
-  seen : ChangedTrees (finished_trees ts) (finished_trees us)
+  seen : ChangedTrees true (finished_trees ts) (finished_trees us)
   names : WideNames s s'
-
-slot-hidden : (k : AstType) → is_slot_kind k ≡ true → is_hidden k ≡ true
-slot-hidden AssignmentPattern e = refl
-slot-hidden PatternProperty e = refl
-slot-hidden PropertyDefinition e = refl
-slot-hidden _ e = absurd (cc e)
-
--- where the body of an arrow stands
-record ArrowField (k : AstType) (i : ℕ) : Type 0 where
-  kind : k ≡ ArrowFunctionExpression
-  index : i ≡ 1
-
-arrow-field : (k : AstType) (i : ℕ) → is_body k i ≡ true → ArrowField k i
-arrow-field ArrowFunctionExpression zero e = absurd (cc e)
-arrow-field ArrowFunctionExpression (suc zero) e = record { kind = refl; index = refl }
-arrow-field ArrowFunctionExpression (suc (suc i)) e = absurd (cc e)
-arrow-field k i e = absurd (cc e)
-
--- counted from the first field
-arrow-first : (k : AstType) (j : ℕ) → is_body k j ≡ true → ArrowField k (0 + j)
-arrow-first k j e = let f = arrow-field k j e in record { kind = f.kind; index = let d = f.index in omega (arith, d) }
-
--- the next field
-arrow-next : (bodies : ℕ → Bool) (k : AstType) (i : ℕ) → ((j : ℕ) → bodies j ≡ true → ArrowField k (i + j)) → (j : ℕ) → bodies (suc j) ≡ true → ArrowField k (suc i + j)
-arrow-next bodies k i h j e = let f = h (suc j) e in record { kind = f.kind; index = let d = f.index in omega (arith, d) }
-
-at-zero : (bodies : ℕ → Bool) (k : AstType) (i : ℕ) → ((j : ℕ) → bodies j ≡ true → ArrowField k (i + j)) → bodies zero ≡ true → ArrowField k i
-at-zero bodies k i h e = let f = h zero e in record { kind = f.kind; index = let d = f.index in omega (arith, d) }
-
-module _ (l : Label) (all : Fields) (up : List Ancestor) (k : AstType) (i : ℕ) (h : ArrowField k i) where
-  abbrev There : AstType → ℕ → Tree → Type 0
-  There k i e = Keeps (ancestor k l all i 0 ∷ up) e
-
-  to-arrow : (e : Tree) → There k i e → There ArrowFunctionExpression 1 e
-  to-arrow e g = subst (λ (j : ℕ). There ArrowFunctionExpression j e) h.index (subst (λ (j : AstType). There j i e) h.kind g)
-
-  from-arrow : (e : Tree) → There ArrowFunctionExpression 1 e → There k i e
-  from-arrow e g = subst (λ (j : AstType). There j i e) (sym h.kind) (subst (λ (j : ℕ). There ArrowFunctionExpression j e) (sym h.index) g)
-
-  body-outside : (p : Pending) (e : Tree) → IsPlain p → There k i e → There k i (written_body p e)
-  body-outside p e plain g = from-arrow (written_body p e) (body-keeps l all up p e plain (to-arrow e g))
-
-  body-within : (p : Pending) (e : Tree) → IsPlain p → There k i (written_body p e) → There k i e
-  body-within p e plain g = from-arrow e (body-inside l all up p e plain (to-arrow (written_body p e) g))
 
 -- LABELS: no `this` is one
 
@@ -130,12 +86,9 @@ abbrev AllUnlabeled : List Ancestor → Trees → Type 0
 AllUnlabeled up empty = Unit {0}
 AllUnlabeled up (t before ts) = Unlabeled up t × AllUnlabeled up ts
 
-left-true : (a b c d e : Bool) → ((a && (not (b && c) || d)) && e) ≡ true → d ≡ false → (b && c) ≡ false
-left-true a true true true e h g = absurd (cc g)
-left-true true true true false e h g = absurd (cc h)
-left-true false true true false e h g = absurd (cc h)
-left-true a true false d e h g = refl
-left-true a false c d e h g = refl
+left-false : (b : Bool) → (not b || false) ≡ true → b ≡ false
+left-false true h = absurd (cc h)
+left-false false h = refl
 
 and-left-false : (j l c : Bool) → (l ≡ true → j ≡ true) → (j && c) ≡ false → (l && c) ≡ false
 and-left-false true true c h e = e
@@ -148,7 +101,7 @@ labeled-jump LabeledStatement e = refl
 labeled-jump _ e = absurd (cc e)
 
 edge-unlabeled : (k : AstType) (l : Label) (all : Fields) (i : ℕ) (up : List Ancestor) (last : Bool) (t : Tree) → Edges stands k i last t → Unlabeled (ancestor k l all i 0 ∷ up) t
-edge-unlabeled k l all i up last (node ThisExpression m fs) h e = and-left-false (is_jump k) (same_type k LabeledStatement) (i == 0) (labeled-jump k) (left-true _ (is_jump k) (i == 0) (same_type ThisExpression Identifier) _ h.0 refl)
+edge-unlabeled k l all i up last (node ThisExpression m fs) h e = and-left-false (is_jump k) (same_type k LabeledStatement) (i == 0) (labeled-jump k) (left-false (is_jump k && (i == 0)) (is-label k i last (node ThisExpression m fs) h))
 edge-unlabeled k l all i up last (node j m fs) h e = absurd (cc e)
 
 edges-unlabeled : (k : AstType) (l : Label) (all : Fields) (i : ℕ) (up : List Ancestor) (ts : Trees) → EdgesAll stands k i ts → AllUnlabeled (ancestor k l all i 0 ∷ up) ts
@@ -172,32 +125,28 @@ arrow-unlabeled k l all i up e = ap (λ j. same_type j LabeledStatement && (i ==
 
 -- OPERANDS
 
-kept-first : (fs : Fields) → kept_first fs ≡ is_kept_within (child_at 0 fs)
-kept-first done = refl
-kept-first (missing then fs) = refl
-kept-first (one t then fs) = refl
-kept-first (many ts then fs) = refl
-kept-first (statements ts then fs) = refl
-
-this-first : (fs : Fields) → this_first fs ≡ is_this_within (child_at 0 fs)
-this-first done = refl
-this-first (missing then fs) = refl
-this-first (one t then fs) = refl
-this-first (many ts then fs) = refl
-this-first (statements ts then fs) = refl
-
 node-operand : (o : EnvOptions) (arrow parameter : Bool) (k : AstType) (l : Label) (fs gs : Fields) → (is_this_within (child_at 0 fs) ≡ true → (is_kept_within (child_at 0 gs) ≡ is_kept_within (child_at 0 fs)) ⊎ (arrow_in o arrow parameter (ancestor k l done 0 0) ≡ true)) → SameOperand arrow (node k l fs) (node k l gs)
-node-operand o arrow parameter ParenthesizedExpression l fs gs h e = at (h (sym (this-first fs) ∙ sym (this-inside l fs) ∙ e))
+node-operand o arrow parameter ParenthesizedExpression l fs gs h e = at (h (sym (this-inside l fs) ∙ e))
   where
     at : (is_kept_within (child_at 0 gs) ≡ is_kept_within (child_at 0 fs)) ⊎ (arrow ≡ true) → (is_kept (without_parens (node ParenthesizedExpression l gs)) ≡ is_kept (without_parens (node ParenthesizedExpression l fs))) ⊎ (arrow ≡ true)
-    at (inl d) = inl (kept-inside l gs ∙ kept-first gs ∙ d ∙ sym (kept-first fs) ∙ sym (kept-inside l fs))
+    at (inl d) = inl (kept-inside l gs ∙ d ∙ sym (kept-inside l fs))
     at (inr d) = inr d
 node-operand o arrow parameter ThisExpression l fs gs h e = inl refl
 node-operand o arrow parameter _ l fs gs h e = absurd (cc e)
 
-choose : {A B : Type 0} (C : Type 0) → A ⊎ B → (A → C) → (B → C) → C
-choose C (inl a) f g = f a
-choose C (inr b) f g = g b
+-- where it becomes a name it's no operand of `delete`, for which the arrow asks
+both-false : (a b : Bool) → a ≡ true → (a && b) ≡ false → b ≡ true → ⊥
+both-false true true p e q = absurd (cc e)
+both-false true false p e q = absurd (cc q)
+both-false false b p e q = absurd (cc p)
+
+operand-spared : (o : EnvOptions) (k : AstType) (l : Label) (fs gs : Fields) (arrow parameter : Bool) → (is_outer k l fs && arrow) ≡ false → (is_this_within (child_at 0 fs) ≡ true → (is_kept_within (child_at 0 gs) ≡ is_kept_within (child_at 0 fs)) ⊎ (arrow_in o arrow parameter (ancestor k l done 0 0) ≡ true)) → is_bad_delete (node k l fs) ≡ false → is_this_within (child_at 0 fs) ≡ true → is_bad_delete (node k l gs) ≡ false
+operand-spared o UnaryExpression l fs gs arrow parameter outer h e p = at (bytes_eq (first_text l.texts) (codes "delete")) refl
+  where
+    at : (b : Bool) → bytes_eq (first_text l.texts) (codes "delete") ≡ b → is_bad_delete (node UnaryExpression l gs) ≡ false
+    at true q = either (is_bad_delete (node UnaryExpression l gs) ≡ false) (h p) (λ d. ap (λ b. bytes_eq (first_text l.texts) (codes "delete") && b) d ∙ e) (λ d. absurd (both-false (is_outer UnaryExpression l fs) arrow (and_from _ _ q p) outer d))
+    at false q = ap (λ b. b && is_kept_within (child_at 0 gs)) q
+operand-spared o _ l fs gs arrow parameter outer h e p = refl
 
 -- A NODE whose fields took a step
 
@@ -206,12 +155,9 @@ module _ (o : EnvOptions) (n : Site) (up : List Ancestor) (arrow parameter : Boo
   in-node a f fit h r =
       let old = finished_fields fs in
       let new = finished_fields gs in
-      let stand = edges a k l old f in
-      let alike = alike-changed k l old new stand r.seen in
-      let offers : (j : ℕ) → Offers true (ancestor k l old j 0 ∷ up) (ancestor k l new j 0 ∷ up) = λ j. offers-within true up up (ancestor k l old j 0) (ancestor k l new j 0) (alike j) (offers-self up) (λ e. absurd (cc e)) in
-      let near : (j : ℕ) → Near (ancestor k l old j 0 ∷ up) (ancestor k l new j 0 ∷ up) = λ j. near-within up up (ancestor k l old j 0) (ancestor k l new j 0) (alike j) (near-self up) in
+      let spared : Spared k l old new = record { accessor = or_second (is_outer k l old && arrow) (is_arrow_accessor k l old) fit.0; operand = operand-spared o k l old new arrow parameter (or_first (is_outer k l old && arrow) (is_arrow_accessor k l old) fit.0) r.operand h.0.deleted } in
       record {
-        keeps = (here-kept o up k l old new arrow parameter stand (edges-apart a k l old f) fit.0 r.operand r.seen h.0, in-moved true up up k l old new 0 new offers near (λ e. absurd (cc e)) r.keeps);
+        keeps = node-kept a up k l old new f (λ v. spared) r.seen h.0 r.keeps;
         seen = inl (inside_changed r.seen);
         operand = node-operand o arrow parameter k l old new r.operand;
         names = r.names;
@@ -229,28 +175,28 @@ module _ (o : EnvOptions) (R : Site → Ledger → Spot → Ledger → Spot → 
         let m = fits.at_nodes n s s' t u arrow parameter marks h fitting in
         record {
           keeps = subst (λ (x : Tree). Keeps up x) (sym (finished-opened u)) r.keeps;
-          seen = subst (λ (x : Tree). Changed x (finished (opened u)) ⊎ (is_slot n.above ≡ true)) (sym (finished-opened t)) (subst (λ (y : Tree). Changed t y ⊎ (is_slot n.above ≡ true)) (sym (finished-opened u)) r.seen);
+          seen = subst (λ (x : Tree). Changed true x (finished (opened u)) ⊎ (is_slot n.above ≡ true)) (sym (finished-opened t)) (subst (λ (y : Tree). Changed true t y ⊎ (is_slot n.above ≡ true)) (sym (finished-opened u)) r.seen);
           operand = λ e. inr (m.named (subst (λ (x : Tree). is_this_within (Some x) ≡ true) (finished-opened t) e));
-          names = (form.at_nodes n s s' t u a slot named h formed).names;
+          names = (form.at_nodes n s s' t u a slot h formed named).names;
         }
     kept-after (inside {n = n} {s = s} {s' = s'} {k = k} {l = l} {fs = fs} {gs = gs} h) named a up arrow parameter slot head label marks wide f fit g =
         in-node o n up arrow parameter s s' k l fs gs a f fit g
         (fields-after h named k l (is_body k) (λ i. arrow_in o arrow parameter (ancestor k l done i 0)) (λ i. parameter_in parameter (ancestor k l done i 0)) up (finished_fields fs) 0 (λ j e. slot-kind n.above k l (outline fs) j e) (arrow-first k) (marked-in o n arrow parameter marks k l fs) (body-states o arrow parameter k l) wide (edges a k l (finished_fields fs) f) (node-have n a k l fs f) fit.1 g.1)
 
-    fields-after : {c : ℕ → Site} {s s' : Ledger} {fs gs : OpenFields} → FieldsStep R c s fs s' gs → HasText (this_in s) → (k : AstType) (l : Label) (bodies places parameters : ℕ → Bool) (up : List Ancestor) (all : Fields) (i : ℕ) → ((j : ℕ) → is_slot (c j).above ≡ true → is_slot_kind k ≡ true) → ((j : ℕ) → bodies j ≡ true → ArrowField k (i + j)) → ((j : ℕ) → Marked o (c j) (places j) (parameters j)) → ((j : ℕ) → bodies j ≡ true → (places j ≡ true) × (parameters j ≡ false)) →
+    fields-after : {c : ℕ → Site} {s s' : Ledger} {fs gs : OpenFields} → FieldsStep R c s fs s' gs → HasText (this_in s) → (k : AstType) (l : Label) (bodies places parameters : ℕ → Bool) (up : List Ancestor) (all : Fields) (i : ℕ) → ((j : ℕ) → is_slot (c j).above ≡ true → is_slot_kind k ≡ true) → ((j : ℕ) → bodies j ≡ true → ArrowAt k (i + j)) → ((j : ℕ) → Marked o (c j) (places j) (parameters j)) → ((j : ℕ) → bodies j ≡ true → (places j ≡ true) × (parameters j ≡ false)) →
         AreWideFields bodies fs → EdgesIn stands k i (finished_fields fs) → FieldsHave k c bodies (finished_fields fs) → ArrowsFitIn o places parameters (finished_fields fs) → KeepsIn up k l all i (finished_fields fs) → FieldsKept k l up all i (places zero) s s' fs gs
     fields-after (in_first {c = c} {f = x} {g = y} {fs = fs} h) named k l bodies places parameters up all i heads arrows marks states wide stand has fit g =
-        let r = field-after h named k l (bodies zero) (places zero) (parameters zero) up all i (is_last (finished_fields fs)) (heads zero) (at-zero bodies k i arrows) (marks zero) (states zero) wide.0 stand.0 has.0 fit.0 g.0 in
+        let r = field-after h named k l (bodies zero) (places zero) (parameters zero) up all i (is_last (finished_fields fs)) (heads zero) (arrow-zero bodies k i arrows) (marks zero) (states zero) wide.0 stand.0 has.0 fit.0 g.0 in
         record { keeps = (r.keeps, g.1); seen = more r.seen (same-fields k (finished_fields fs)); operand = r.operand; names = r.names }
     fields-after (in_later h) named k l bodies places parameters up all i heads arrows marks states wide stand has fit g =
         let r = fields-after h named k l (λ j. bodies (suc j)) (λ j. places (suc j)) (λ j. parameters (suc j)) up all (suc i) (λ j. heads (suc j)) (arrow-next bodies k i arrows) (λ j. marks (suc j)) (λ j. states (suc j)) wide.1 stand.1 has.1 fit.1 g.1 in
         record { keeps = (g.0, r.keeps); seen = more same_field r.seen; operand = λ e. inl refl; names = r.names }
 
-    field-after : {n : Site} {s s' : Ledger} {f g : OpenField} → FieldStep R n s f s' g → HasText (this_in s) → (k : AstType) (l : Label) (b arrow parameter : Bool) (up : List Ancestor) (all : Fields) (i : ℕ) (last : Bool) → (is_slot n.above ≡ true → is_slot_kind k ≡ true) → (b ≡ true → ArrowField k i) → Marked o n arrow parameter → (b ≡ true → (arrow ≡ true) × (parameter ≡ false)) →
+    field-after : {n : Site} {s s' : Ledger} {f g : OpenField} → FieldStep R n s f s' g → HasText (this_in s) → (k : AstType) (l : Label) (b arrow parameter : Bool) (up : List Ancestor) (all : Fields) (i : ℕ) (last : Bool) → (is_slot n.above ≡ true → is_slot_kind k ≡ true) → (b ≡ true → ArrowAt k i) → Marked o n arrow parameter → (b ≡ true → (arrow ≡ true) × (parameter ≡ false)) →
         IsWideField b f → EdgesBy stands k i last (finished_field f) → FieldHas k n b (finished_field f) → ArrowsFitBy o arrow parameter (finished_field f) → KeepsBy (ancestor k l all i 0 ∷ up) (finished_field f) → FieldKept k (ancestor k l all i 0 ∷ up) arrow s s' f g
     field-after (in_child {n = n} {t = t} {u = u} h) named k l b arrow parameter up all i last head field marks states wide stand has fit g =
         let r = kept-after h named has.sort (ancestor k l all i 0 ∷ up) arrow parameter has.slot (λ e. slot_head k l all i (head e)) (edge-unlabeled k l all i up last (finished t) stand) marks wide has.formed fit g in
-        record { keeps = r.keeps; seen = choose (ChangedField k (one (finished t)) (one (finished u))) r.seen (λ c. child_changed c) (λ e. unseen (slot-hidden k (head e))); operand = r.operand; names = r.names }
+        record { keeps = r.keeps; seen = either (ChangedField true k (one (finished t)) (one (finished u))) r.seen (λ c. child_changed c) (λ e. unseen (slot-hidden k (head e))); operand = r.operand; names = r.names }
     field-after (in_children {ts = ts} {us = us} h) named k l b arrow parameter up all i last head field marks states wide stand has fit g =
         let r = trees-after h named (ancestor k l all i 0 ∷ up) arrow parameter has.no_slot (edges-unlabeled k l all i up (finished_trees ts) stand) marks wide has.trees fit g in
         record { keeps = r.keeps; seen = children_changed r.seen; operand = λ e. absurd (cc e); names = r.names }
@@ -306,7 +252,7 @@ module _ (o : EnvOptions) (R : Site → Ledger → Spot → Ledger → Spot → 
     trees-after : {n : Site} {s s' : Ledger} {ts us : OpenTrees} → TreesStep R n s ts s' us → HasText (this_in s) → (up : List Ancestor) (arrow parameter : Bool) → (is_slot n.above ≡ true → ⊥) → AllUnlabeled up (finished_trees ts) → Marked o n arrow parameter → AreWideTrees ts → TreesHave (finished_trees ts) → ArrowsFitAll o arrow parameter (finished_trees ts) → KeepsAll up (finished_trees ts) → TreesKept up s s' ts us
     trees-after (in_head {t = t} {u = u} {ts = ts} h) named up arrow parameter slot labels marks wide has fit g =
         let r = kept-after h named has.0.sort up arrow parameter (λ e. absurd (slot e)) (λ e. absurd (slot e)) labels.0 marks wide.0 has.0.formed fit.0 g.0 in
-        record { keeps = (r.keeps, g.1); seen = some (choose (Changed (finished t) (finished u)) r.seen (λ c. c) (λ e. absurd (slot e))) (same-trees (finished_trees ts)); names = r.names }
+        record { keeps = (r.keeps, g.1); seen = some (either (Changed true (finished t) (finished u)) r.seen (λ c. c) (λ e. absurd (slot e))) (same-trees (finished_trees ts)); names = r.names }
     trees-after (in_tail h) named up arrow parameter slot labels marks wide has fit g =
         let r = trees-after h named up arrow parameter slot labels.1 marks wide.1 has.1 fit.1 g.1 in
         record { keeps = (g.0, r.keeps); seen = some stays r.seen; names = r.names }

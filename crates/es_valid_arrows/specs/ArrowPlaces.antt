@@ -1,40 +1,26 @@
 -- Which arrows can become functions (ECMA-262, 15.3). A function has a `this` and a `super` of its own, an arrow none: so no `super` may
 -- belong to an arrow (13.3.7.1), nor the `this` of a `delete`, since it becomes a name (13.5.1.1). And where an accessor's value is an
 -- arrow, which no program has (13.2.5), it stays one, since the parameters of a function are asked there (15.4).
-use Rattle.std.specs.Prelude.{◌&&◌, ◌||◌, not, ℕ, zero, suc, Bool, true, false, Option, Some, None, bytes_eq, codes, is_some}
+use Rattle.std.specs.Prelude.{◌&&◌, ◌||◌, not, ℕ, zero, suc, Bool, true, false, bytes_eq, codes, is_some}
 use Rattle.es_tree.specs.Ancestors.{Ancestor, ancestor, is_field_value}
 use Rattle.es_tree.specs.Children.{child_at}
 use Rattle.es_tree.specs.HasForm.{same_type}
 use Rattle.es_tree.specs.Names.{first_text}
-use Rattle.es_tree.specs.Parens.{without_parens}
-use Rattle.es_tree.specs.StaticRules.{is_accessor_word}
-use Rattle.es_tree.specs.Tree.{Tree, node, Label, Fields, done, ◌then◌, Field, missing, one, many, statements, Trees, empty, ◌before◌, kind_of}
+use Rattle.es_tree.specs.Tree.{Tree, node, Label, Fields, done, ◌then◌, Field, missing, one, many, statements, Trees, empty, ◌before◌}
 use Rattle.es_tree.specs.declared.ast_type.AstType.{AstType}
-use Rattle.es_tree.specs.declared.ast_type.AstType.TheVariants.{ArrowFunctionExpression, ObjectProperty, Super, ThisExpression, UnaryExpression}
+use Rattle.es_tree.specs.declared.ast_type.AstType.TheVariants.{ArrowFunctionExpression, Super, UnaryExpression}
 use Rattle.es_tree.specs.declared.options.EnvOptions.{EnvOptions}
 use Rattle.es_steps.specs.Slots.{leads_to_parameter, leads_to_part, leads_to_value}
 use Rattle.es_steps.specs.ThisPlaces.{keeps_this}
+use Rattle.es_valid_steps.specs.ArrowNodes.{is_arrow_accessor, is_this_within}
 
 -- NODES
-
-abbrev pub is_kind_within : AstType → Option Tree → Bool
-is_kind_within k None = false
-is_kind_within k (Some t) = same_type (kind_of t) k
-
-abbrev pub is_this_within : Option Tree → Bool
-is_this_within None = false
-is_this_within (Some t) = same_type (kind_of (without_parens t)) ThisExpression
 
 -- what belongs to what is around an arrow, and can't belong to a function in its place: `super`, and `delete this`, maybe in parentheses
 abbrev pub is_outer : AstType → Label → Fields → Bool
 is_outer Super l fs = true
 is_outer UnaryExpression l fs = bytes_eq (first_text l.texts) (codes "delete") && is_this_within (child_at 0 fs)
 is_outer k l fs = false
-
--- an accessor of a literal whose value is an arrow
-abbrev pub is_arrow_accessor : AstType → Label → Fields → Bool
-is_arrow_accessor ObjectProperty l fs = is_accessor_word (first_text l.texts) && is_kind_within ArrowFunctionExpression (child_at 1 fs)
-is_arrow_accessor k l fs = false
 
 -- PLACES
 
