@@ -1,0 +1,5 @@
+use Rattle.es_valid_using.proofs.UsingLaws.{law_using_outside_proof}
+use Rattle.es_valid_using.proofs.law_using_outside.Goals as goal
+
+pub returns : goal.returns
+returns c = law_using_outside_proof
