@@ -1,0 +1,5 @@
+use Rattle.es_valid_rests.proofs.RestSteps.{law_rest_form_proof}
+use Rattle.es_valid_rests.proofs.law_rest_form.Goals as goal
+
+pub returns : goal.returns
+returns c = law_rest_form_proof

@@ -1,0 +1,5 @@
+use Rattle.es_valid_rests.proofs.RestPrograms.{law_rest_outside_proof}
+use Rattle.es_valid_rests.proofs.law_rest_outside.Goals as goal
+
+pub returns : goal.returns
+returns c = law_rest_outside_proof

@@ -1,0 +1,4 @@
+pub mod RestRules
+pub mod Laws
+pub mod Examples
+pub mod ExportExamples
