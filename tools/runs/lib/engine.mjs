@@ -5,7 +5,7 @@ import { Host } from './host.mjs';
 import { seen } from './seen.mjs';
 import { stack } from './notation.mjs';
 
-/** Milliseconds for a worked run that has no turn left: it may have no end. */
+/** Milliseconds for a run that may have no end, as a worked run that has no turn left. */
 const TIMEOUT = 100;
 
 /**
@@ -25,7 +25,7 @@ export async function runProgram(text, worked) {
     for (const { prototype } of [Number, String, Boolean]) Object.setPrototypeOf(prototype, members);
     Object.setPrototypeOf(globalThis, names);
   }`, context)(host.members(), host.names());
-  const limit = worked.outcome?.is === 'no_turns' ? { timeout: TIMEOUT } : {};
+  const limit = worked.mayBeEndless || worked.outcome?.is === 'no_turns' ? { timeout: TIMEOUT } : {};
   const ending = await endingOf(host, realm, async () => {
     if (worked.module) await evaluateModule(text, context, host, imports, helper);
     else vm.runInContext(text, context, { ...limit, displayErrors: false }); // its value is no concern of the run

@@ -47,9 +47,10 @@ export function helpers(realm, tellStack) {
 /** CopyDataProperties (ECMA-262, 7.3.25). */
 function copy(target, source, excluded) {
   if (source === undefined || source === null) return target;
-  for (const key of Reflect.ownKeys(source)) {
-    if (excluded.includes(key) || !Reflect.getOwnPropertyDescriptor(source, key)?.enumerable) continue;
-    Object.defineProperty(target, key, { value: source[key], writable: true, enumerable: true, configurable: true });
+  const from = typeof source === 'function' ? source : Object(source);
+  for (const key of Reflect.ownKeys(from)) {
+    if (excluded.includes(key) || !Reflect.getOwnPropertyDescriptor(from, key)?.enumerable) continue;
+    Object.defineProperty(target, key, { value: from[key], writable: true, enumerable: true, configurable: true });
   }
   return target;
 }
