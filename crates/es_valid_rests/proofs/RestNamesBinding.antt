@@ -20,7 +20,7 @@ use Rattle.es_resolution.specs.Declarations.{declared, declared_among, declared_
 use Rattle.es_valid_names.proofs.Claims.{above, claims, claims_all, claims_by, claims_in, is_owned, push}
 use Rattle.es_valid_names.proofs.Mute.{Free, by-cases, free-declared, free-exported, free-filter, free-private, is_outer, mute, stands}
 use Rattle.es_valid_names.proofs.StandsFit.{one-zero, two-one}
-use Rattle.es_valid_using.proofs.UsingVars.{AllOk, not-true, ok-left, ok-right}
+use Rattle.es_valid_using.proofs.UsingVars.{AllOk, from-none, later, not-true, ok-left, ok-right}
 
 -- NAMES
 
@@ -171,12 +171,6 @@ pair-names up h l fs b =
     own-names up l fs (pair x) (h.bound x) (λ i. name Parameters 1 x true ∷ name Scope 1 x false ∷ free-filter (exported_names up x) (free-exported up x) i) b
 
 -- PATTERNS
-
-from-none : (j : ℕ) → 0 + j ≡ j
-from-none j = omega arith
-
-later : (i j : ℕ) → suc i + j ≡ i + suc j
-later i j = omega arith
 
 module _ (ok : Text → Bool) where
   counted : (k : AstType) (l : Label) (fs : Fields) → is_binding k ≡ true → (j : ℕ) → (reaches_out false k j ≡ true) × (has_part k j ≡ true → role_at (Binds Parameter) k l fs j ≡ Binds Parameter)

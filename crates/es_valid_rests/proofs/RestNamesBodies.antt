@@ -1,10 +1,9 @@
 -- What a function's body declares, by `var` above all, and names that stand in no other parameter and not in the body.
 use Rattle.std.proofs.Common.{◌≡◌, ℕ, refl, sym, ap, subst, ◌∙◌, List, [], ◌∷◌, ◌++◌}
 use Rattle.std.specs.Prelude.{Bool, true, false, ◌&&◌, bytes_eq}
-use Rattle.std.specs.List.{list_all}
-use Rattle.std.proofs.lemmas.Bool.{and_from, and_parts}
+use Rattle.std.proofs.lemmas.Bool.{and_from}
 use Rattle.es_tree.specs.Ancestors.{Ancestor, scopes}
-use Rattle.es_tree.specs.DeclaredNames.{Name, names_in_scope}
+use Rattle.es_tree.specs.DeclaredNames.{names_in_scope}
 use Rattle.es_tree.specs.HasForm.{trees_form}
 use Rattle.es_tree.specs.Tree.{Tree, node, Label, Fields, Trees, empty, ◌before◌}
 use Rattle.es_tree.specs.Words.{Text}
@@ -19,13 +18,12 @@ use Rattle.es_resolution.specs.Declarations.{Bound, declared, declared_among}
 use Rattle.es_resolution.specs.Resolved.{bound_by}
 use Rattle.es_resolution.proofs.Basics.{bytes_eq-equal}
 use Rattle.es_steps.specs.ParameterPatterns.{lexical_names, var_names}
-use Rattle.es_steps.specs.Patterns.{no_name_of}
 use Rattle.es_steps.proofs.FormLists.{first-formed}
 use Rattle.es_steps.proofs.TopFunctions.{bound-first, bound-later}
 use Rattle.es_valid_names.proofs.Claims.{above, claims, claims_all, is_owned}
 use Rattle.es_valid_names.proofs.Mute.{free-private}
 use Rattle.es_valid_using.proofs.UsingBolder.{is_other}
-use Rattle.es_valid_using.proofs.UsingVars.{AllFine, AllOk, EachFine, Roled, inside-table, not-true, ok-left, ok-right, tree-fine, inside as inside_test}
+use Rattle.es_valid_using.proofs.UsingVars.{AllFine, AllOk, EachFine, Roled, inside-table, not-true, ok-left, ok-right, tree-fine, each-append as fine-append, inside as inside_test}
 use Rattle.es_valid_rests.proofs.RestNamesOrdinary.{EachOrdinary, each-append, ordinary-trees}
 
 -- TESTS that names pass
@@ -33,10 +31,6 @@ use Rattle.es_valid_rests.proofs.RestNamesOrdinary.{EachOrdinary, each-append, o
 pub found-ok : (ok : Text → Bool) (bs : List Bound) → ((y : Text) → bound_by bs y ≡ true → ok y ≡ true) → AllOk ok bs
 found-ok ok [] h = tt
 found-ok ok (b ∷ bs) h = (h b.name (bound-first b bs), found-ok ok bs (λ y e. h y (bound-later b bs y e)))
-
-pub others-ok : (fs bs : List Bound) → list_all (no_name_of fs) bs ≡ true → AllOk (is_other fs) bs
-others-ok fs [] h = tt
-others-ok fs (b ∷ bs) h = let parts = and_parts (no_name_of fs b) (list_all (no_name_of fs) bs) h in (parts.0, others-ok fs bs parts.1)
 
 pub both-ok : (f g : Text → Bool) (bs : List Bound) → AllOk f bs → AllOk g bs → AllOk (λ y. f y && g y) bs
 both-ok f g [] h k = tt
@@ -60,10 +54,6 @@ differ-back bs x z e d = at (bytes_eq z x) refl
 -- BODIES
 
 module _ (ok : Text → Bool) where
-  both-fine : (xs ys : List (List Name)) → EachFine ok xs → EachFine ok ys → EachFine ok (xs ++ ys)
-  both-fine [] ys h k = k
-  both-fine (x ∷ xs) ys h k = (h.0, both-fine xs ys h.1 k)
-
   one-fine : (up : List Ancestor) (r : Role) (t : Tree) → Roled ok up r → Edges inside_test BlockStatement 0 false t → AllOk ok (declared true r t) → EachFine ok (claims is_owned up t)
   one-fine up r (node k l fs) h edges d = tree-fine ok up r (node k l fs) h (not-true _ edges.0) edges.1 d
 
@@ -72,7 +62,7 @@ module _ (ok : Text → Bool) where
   list-fine up r s (t before ts) h fits f d =
       let parts = first-formed s t ts f in
       let edges = edges-tree inside_test inside-table BlockStatement 0 false s t fits parts.0 in
-      both-fine (claims is_owned up t) (claims_all is_owned up ts) (one-fine up r t h edges (ok-left ok (declared true r t) (declared_among true r ts) d)) (list-fine up r s ts h fits parts.1 (ok-right ok (declared true r t) (declared_among true r ts) d))
+      fine-append ok (claims is_owned up t) (claims_all is_owned up ts) (one-fine up r t h edges (ok-left ok (declared true r t) (declared_among true r ts) d)) (list-fine up r s ts h fits parts.1 (ok-right ok (declared true r t) (declared_among true r ts) d))
 
 module _ (vs : List Ancestor) (scoped : scopes vs ≡ 1 ∷ []) (l : Label) (fs : Fields) (ds ts : Trees) (directives : trees_form s-Directive s-Directive ds ≡ true) (formed : trees_form s-Statement s-Statement ts ≡ true) where
   abbrev pub at_directives : List Ancestor
@@ -98,7 +88,7 @@ module _ (vs : List Ancestor) (scoped : scopes vs ≡ 1 ∷ []) (l : Label) (fs 
 
   pub body-fine : EachFine in_body (claims_all is_owned at_directives ds ++ claims_all is_owned at_statements ts)
   body-fine =
-      both-fine in_body (claims_all is_owned at_directives ds) (claims_all is_owned at_statements ts)
+      fine-append in_body (claims_all is_owned at_directives ds) (claims_all is_owned at_statements ts)
       (list-fine in_body at_directives reads s-Directive ds directive-role refl directives (ok-left in_body (declared_among true reads ds) (declared_among true Top ts ++ []) vars-ok))
       (list-fine in_body at_statements Top s-Statement ts statement-role refl formed (ok-left in_body (declared_among true Top ts) [] (ok-right in_body (declared_among true reads ds) (declared_among true Top ts ++ []) vars-ok)))
 

@@ -27,9 +27,10 @@ use Rattle.es_steps.proofs.Apartness.{declared-avoids, declared-avoids-all}
 use Rattle.es_valid_names.proofs.Claims.{Distinct, above, claims, claims_all, is_owned}
 use Rattle.es_valid_names.proofs.Mute.{stands}
 use Rattle.es_valid_using.proofs.UsingBolder.{is_other}
+use Rattle.es_valid_using.proofs.UsingNamesBodies.{all-ok}
 use Rattle.es_valid_using.proofs.UsingVars.{AllOk, EachFine}
 use Rattle.es_valid_rests.proofs.RestNamesBinding.{Declares, Turned, binding-tree, binding-trees, binds_names, bound_inside, let_name, pair, pair-names, silent-tree}
-use Rattle.es_valid_rests.proofs.RestNamesBodies.{body-fine, body-ordinary, body_names, both-ok, differ, differ-back, found-ok, others-ok}
+use Rattle.es_valid_rests.proofs.RestNamesBodies.{body-fine, body-ordinary, body_names, both-ok, differ, differ-back, found-ok}
 use Rattle.es_valid_rests.proofs.RestNamesLate.{moved-late}
 use Rattle.es_valid_rests.proofs.RestNamesOrdinary.{EachOrdinary}
 use Rattle.es_valid_rests.proofs.RestNamesTaken.{joined-lists}
@@ -92,11 +93,11 @@ module _ (w : Whole) (x : Text) (us vs : List Ancestor) (declares : Declares us 
       let own = parameter_names p in
       let body = body_names vs scoped l fs ds all directives formed in
       let ok : Text → Bool = λ y. bound_by own y && is_other body y in
-      let pattern_ok = both-ok (λ y. bound_by own y) (is_other body) own (found-ok (λ y. bound_by own y) own (λ y q. q)) (others-ok body own (declared-avoids body w.in_use w.free_symbol false (Binds Parameter) p may.body)) in
+      let pattern_ok = both-ok (λ y. bound_by own y) (is_other body) own (found-ok (λ y. bound_by own y) own (λ y q. q)) (all-ok body own (declared-avoids body w.in_use w.free_symbol false (Binds Parameter) p may.body)) in
       let s_parts = edges-joined stands k i a (t before c) s in
       let e_parts = edges-joined bound_inside k i a (t before c) e in
-      let earlier = binding-trees (is_other own) us lets k i takes a declares lexical s_parts.0 e_parts.0 (others-ok own (declared_among false (Binds Parameter) a) (declared-avoids-all own w.in_use w.free_symbol false (Binds Parameter) a may.earlier)) in
-      let later = binding-trees (is_other own) us lets k i takes c declares lexical s_parts.1.1 e_parts.1.1 (others-ok own (declared_among false (Binds Parameter) c) (declared-avoids-all own w.in_use w.free_symbol false (Binds Parameter) c may.later)) in
+      let earlier = binding-trees (is_other own) us lets k i takes a declares lexical s_parts.0 e_parts.0 (all-ok own (declared_among false (Binds Parameter) a) (declared-avoids-all own w.in_use w.free_symbol false (Binds Parameter) a may.earlier)) in
+      let later = binding-trees (is_other own) us lets k i takes c declares lexical s_parts.1.1 e_parts.1.1 (all-ok own (declared_among false (Binds Parameter) c) (declared-avoids-all own w.in_use w.free_symbol false (Binds Parameter) c may.later)) in
       let it = held-names ok us lets declares lexical b lp pf t u held k i s_parts.1.0 e_parts.1.0 pattern_ok in
       let ds_lists = claims_all is_owned (above FunctionBody l fs 0 0 ∷ vs) ds in
       let es_lists = claims_all is_owned at es in

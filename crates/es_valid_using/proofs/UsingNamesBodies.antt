@@ -171,7 +171,7 @@ module _ (p : List Ancestor) (t : IsTop p) (scoped : scopes p ≡ 1 ∷ []) (out
         becomes = bolder-more all fs (claims is_owned made_here n) fine r.becomes;
       }
 
-all-ok : (fs bs : List Bound) → list_all (no_name_of fs) bs ≡ true → AllOk (is_other fs) bs
+pub all-ok : (fs bs : List Bound) → list_all (no_name_of fs) bs ≡ true → AllOk (is_other fs) bs
 all-ok fs [] h = tt
 all-ok fs (b ∷ bs) h = let parts = and_parts (no_name_of fs b) (list_all (no_name_of fs) bs) h in (parts.0, all-ok fs bs parts.1)
 

@@ -60,6 +60,14 @@ sealed-function l all i up = record { bound = bound i; declaration = λ x. tt; p
     bound zero x = (refl, (refl, tt))
     bound (suc i) x = let e : bound_names (above FunctionDeclaration l all (suc (suc i)) 0 ∷ up) x ≡ [] = rw (one-zero (suc i), two-one i) in subst (λ (ns : List Name). Free ns) (sym e) tt
 
+-- PLACES among fields
+
+pub from-none : (j : ℕ) → 0 + j ≡ j
+from-none j = omega arith
+
+pub later : (i j : ℕ) → suc i + j ≡ i + suc j
+later i j = omega arith
+
 -- NAMES THAT PASS
 
 module _ (ok : Text → Bool) where
@@ -91,7 +99,7 @@ module _ (ok : Text → Bool) where
   fine-append [] ys h k = k
   fine-append (x ∷ xs) ys h k = (h.0, fine-append xs ys h.1 k)
 
-  each-append : (xs ys : List (List Name)) → EachFine xs → EachFine ys → EachFine (xs ++ ys)
+  pub each-append : (xs ys : List (List Name)) → EachFine xs → EachFine ys → EachFine (xs ++ ys)
   each-append [] ys h k = k
   each-append (x ∷ xs) ys h k = (h.0, each-append xs ys h.1 k)
 
@@ -248,12 +256,6 @@ module _ (ok : Text → Bool) where
   own-fine up r MethodDefinition l fs h d = fine-other _ (used-constructor (λ x. false) up (first_text l.texts))
   own-fine up r ExportDefaultDeclaration l fs h d = (λ s e o. absurd (cc s), tt)
   own-fine up r _ l fs h d = tt
-
-  from-none : (j : ℕ) → 0 + j ≡ j
-  from-none j = omega arith
-
-  later : (i j : ℕ) → suc i + j ≡ i + suc j
-  later i j = omega arith
 
   mutual
     pub tree-fine : (up : List Ancestor) (r : Role) (t : Tree) → Roled up r → is_enclosed (kind_of t) ≡ false → EdgesIn inside (kind_of t) 0 (fields_of t) → AllOk (declared true r t) → EachFine (claims is_owned up t)
