@@ -59,9 +59,6 @@ abbrev mutual
 
 -- KINDS
 
-pub face-kind : (t : Tree) → kind_of (face t) ≡ kind_of t
-face-kind (node k l fs) = refl
-
 pub face-child : (n : ℕ) (fs : Fields) → is_some (child_at n (face_fields fs)) ≡ is_some (child_at n fs)
 face-child n done = refl
 face-child zero (missing then fs) = refl

@@ -203,9 +203,6 @@ module _ {loose : Bool} where
     pub fit-plain : is_class_key (a ∷ []) ≡ false → Fit loose (a ∷ up) (a ∷ vp)
     fit-plain e = fit-with (λ x. plain-private (a ∷ up) (a ∷ vp) e e x)
 
-pub fit-self : {loose : Bool} (up : List Ancestor) → Fit loose up up
-fit-self up = record { module_around = refl; top = refl; clause = refl; hoisted = part-self (looked_at (scopes up)); first = part-self (innermost (scopes up)); bound = λ x. owned-self (bound_names up x); declares = λ x. owned-self (declaration_names up x); private = λ x. owned-self (private_names up x) }
-
 -- where a declarator declares, in declarations of the same word
 abbrev pub declaring : Label → Fields → Label → Fields → List Ancestor → List Ancestor
 declaring l fs m ds up = above VariableDeclarator l fs 0 0 ∷ (above VariableDeclaration m ds 0 0 ∷ up)

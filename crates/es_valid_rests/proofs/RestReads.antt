@@ -41,9 +41,6 @@ pub record SameRead (up : List Ancestor) (t u : Tree) : Type 0 where
   pub star : star_request u ≡ star_request t
   pub exported : exported u ≡ exported t
 
-pub same-read : (up : List Ancestor) (t : Tree) → SameRead up t t
-same-read up t = record { kind = refl; label = refl; bound = refl; declarator = refl; declared = λ e. refl; specifier = refl; request = refl; star = refl; exported = refl }
-
 name-fields : (k : AstType) (l : Label) (fs gs : Fields) → name_text (node k l gs) ≡ name_text (node k l fs)
 name-fields Identifier l fs gs = refl
 name-fields StringLiteral l fs gs = refl

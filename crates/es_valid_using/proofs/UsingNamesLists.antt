@@ -90,10 +90,6 @@ pub moved-apart : {used used' : Text → Bool} {go : Bool} → ((x : Text) → u
 moved-apart {used} {used'} more h d = let r = halves h in still-apart used used' more r.grown (fewer-distinct used [] [] no_name r.fewer d)
 
 -- the last of some lists are apart by themselves
-fewer-none : (ns : List Name) → Fewer ns []
-fewer-none [] = no_name
-fewer-none (n ∷ ns) = lost_name n (fewer-none ns)
-
 fewer-self : (gs : List (List Name)) → FewerLists gs gs
 fewer-self [] = no_lists
 fewer-self (g ∷ gs) = kept g (fewer-self gs)

@@ -1,8 +1,7 @@
 -- The rules of `using` together.
 use Rattle.std.proofs.Common.{inl, inr}
-use Rattle.std.specs.Prelude.{◌⊎◌, Bool, true, false}
+use Rattle.std.specs.Prelude.{◌⊎◌}
 use Rattle.es_steps.specs.AllRules.{UsingRule}
-use Rattle.es_steps.specs.CoreRules.{where_on}
 use Rattle.es_steps.specs.Rules.{either_rule}
 use Rattle.es_steps.specs.Steps.{Ledger, Site, Spot}
 use Rattle.es_steps.specs.Steps.Spot.{at_node}
@@ -29,17 +28,6 @@ both-using {Q} {R} q r = record {
   seen = λ n s s' t u h. pick {A = Q n s (at_node t) s' (at_node u)} {B = R n s (at_node t) s' (at_node u)} (λ g. q.seen n s s' t u g) (λ g. r.seen n s s' t u g) h;
   loops = λ n s s' t u e h. pick {A = Q n s (at_node t) s' (at_node u)} {B = R n s (at_node t) s' (at_node u)} (λ g. q.loops n s s' t u e g) (λ g. r.loops n s s' t u e g) h;
   names = λ n s s' t u e h. pick {A = Q n s (at_node t) s' (at_node u)} {B = R n s (at_node t) s' (at_node u)} (λ g. q.names n s s' t u e g) (λ g. r.names n s s' t u e g) h;
-}
-
-pub on-using : (b : Bool) (U : Site → Ledger → Spot → Ledger → Spot → Type 0) → UsingLawful U → UsingLawful (where_on b U)
-on-using true U h = h
-on-using false U h = record {
-  alone = record { nodes = λ n s s' x y d. absurd d; beside = λ n s s' x y d. absurd d; imports = λ n s s' t u d. absurd d };
-  formed = λ n s s' t u a lets d f. absurd d;
-  keeps = λ n s s' t u a up d f k. absurd d;
-  seen = λ n s s' t u d. absurd d;
-  loops = λ n s s' t u e d. absurd d;
-  names = λ n s s' t u e d. absurd d;
 }
 
 pub all-using : UsingLawful UsingRule
