@@ -131,10 +131,6 @@ pub record Suits (aimed : Role → Bool) (r : Role) (n : Take) (k : AstType) : T
   pub target : n.need.level ≡ a_target → is_name_alone k ≡ true → aimed r ≡ true
   pub pattern : takes_target k ≡ true → aimed r ≡ true
 
-place_told : (b : Bool) → (if b then reads else Nothing) ≡ Nothing → b ≡ false
-place_told true e = absurd (cc e)
-place_told false e = refl
-
 key_told : (b : Bool) → (if b then reads else Nothing) ≡ Nothing → (key_taken b).need.level ≡ no_evaluation
 key_told true e = absurd (cc e)
 key_told false e = refl

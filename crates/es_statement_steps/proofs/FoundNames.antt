@@ -11,7 +11,7 @@ use Rattle.es_tree.specs.Tree.{Tree, node, Label, Fields, done, ◌then◌, Fiel
 use Rattle.es_tree.specs.Walks.{all_nodes}
 use Rattle.es_tree.specs.Words.{Text}
 use Rattle.es_tree.specs.declared.ast_type.AstType.{AstType}
-use Rattle.es_tree.specs.declared.ast_type.AstType.TheVariants.{Program, BlockStatement, StaticBlock, FunctionDeclaration, FunctionExpression, FunctionBody, ArrowFunctionExpression, ClassDeclaration, ClassExpression, ForStatement, ForInStatement, ForOfStatement, SwitchStatement, CatchClause, Identifier}
+use Rattle.es_tree.specs.declared.ast_type.AstType.TheVariants.{Program, StaticBlock, FunctionDeclaration, FunctionExpression, FunctionBody, ArrowFunctionExpression, ClassDeclaration, ClassExpression, SwitchStatement, Identifier}
 use Rattle.es_runs.specs.Core.{Binding, Silent, World, is_free}
 use Rattle.es_runs.specs.Core.Binding.{changeable, constant}
 use Rattle.es_runs.specs.Machine.{Value}
@@ -24,11 +24,10 @@ use Rattle.es_resolution.specs.Declarations.{Bound, declared, declared_among, de
 use Rattle.es_resolution.specs.Resolved.{OwnRight, Place, Resolved, ResolvedAll, ResolvedBy, ResolvedIn, bound_by, frame, has_symbol, nowhere, or_around, place_in, var_frame, within}
 use Rattle.es_statement_runs.specs.BareVars.{names_around}
 use Rattle.es_statement_runs.specs.Helpers.{Supply, entry, silent_names}
-use Rattle.es_statement_runs.specs.Kinds.{found, inside, kind_in}
+use Rattle.es_statement_runs.specs.Kinds.{found, kind_in}
 use Rattle.es_statement_runs.specs.Names.{declared_at_top, own_names, tops}
 use Rattle.es_statement_runs.specs.Programs.{is_statement_kind}
 use Rattle.es_statement_runs.specs.Runs.{program_world, silent_or}
-use Rattle.es_statement_runs.specs.Senses.{Place as Site}
 use Rattle.es_statement_steps.proofs.Below.{Below, BelowField, BelowTrees, both_below, map_below, parts_of}
 use Rattle.es_statement_steps.proofs.DeclaredNames.{declares_append}
 use Rattle.es_statement_steps.proofs.ScopeNames.{scope_names}
@@ -227,23 +226,6 @@ declared_is ds x = ap not (scope_free ds x) ∙ twice (declares ds x)
     twice : (b : Bool) → not (not b) ≡ b
     twice true = refl
     twice false = refl
-
-pub bounds_inside : (ds : List Declared) (q : Site) (k : AstType) (ts : List (Option Text)) (fs : Fields) (ls : List Text) (i : ℕ) → is_statement_kind k ≡ true → is_program k ≡ false → Bounds ds q.world → Bounds (names_around k (own_names k fs) ds i) (inside q k ts (own_names k fs) ls i).world
-bounds_inside ds q BlockStatement ts fs ls i c n b x = entered_free (own_names BlockStatement fs) ds q.world.scope x (b x)
-bounds_inside ds q ForStatement ts fs ls i c n b x = entered_free (own_names ForStatement fs) ds q.world.scope x (b x)
-bounds_inside ds q ForInStatement ts fs ls i c n b x = entered_free (own_names ForInStatement fs) ds q.world.scope x (b x)
-bounds_inside ds q ForOfStatement ts fs ls i c n b x = entered_free (own_names ForOfStatement fs) ds q.world.scope x (b x)
-bounds_inside ds q CatchClause ts fs ls i c n b x = entered_free (own_names CatchClause fs) ds q.world.scope x (b x)
-bounds_inside ds q SwitchStatement ts fs ls zero c n b x = b x
-bounds_inside ds q SwitchStatement ts fs ls (suc i) c n b x = entered_free (own_names SwitchStatement fs) ds q.world.scope x (b x)
-bounds_inside ds q StaticBlock ts fs ls i c n b x = absurd (cc c)
-bounds_inside ds q FunctionDeclaration ts fs ls i c n b x = absurd (cc c)
-bounds_inside ds q FunctionExpression ts fs ls i c n b x = absurd (cc c)
-bounds_inside ds q FunctionBody ts fs ls i c n b x = absurd (cc c)
-bounds_inside ds q ArrowFunctionExpression ts fs ls i c n b x = absurd (cc c)
-bounds_inside ds q ClassDeclaration ts fs ls i c n b x = absurd (cc c)
-bounds_inside ds q ClassExpression ts fs ls i c n b x = absurd (cc c)
-bounds_inside ds q _ ts fs ls i c n b x = b x
 
 -- the names that are used without a question are declared at the top
 abbrev pub SilentDeclared : Supply → Tree → Type 0

@@ -6,16 +6,16 @@ use Rattle.std.specs.Prelude.{Bool, true, false, ◌||◌, ◌+◌, Option, Some
 use Rattle.es_tree.specs.Fresh.{is_among}
 use Rattle.es_tree.specs.Names.{first_text, names_of}
 use Rattle.es_tree.specs.Scopes.{Declared, declares}
-use Rattle.es_tree.specs.Tree.{Tree, node, done, ◌then◌, one, many, statements, Trees, empty, ◌before◌}
+use Rattle.es_tree.specs.Tree.{Tree, node, done, ◌then◌, one, many, Trees, empty, ◌before◌}
 use Rattle.es_tree.specs.Words.{Text}
 use Rattle.es_tree.specs.declared.ast_type.AstType.TheVariants.{ArrayExpression, Identifier, VariableDeclaration, VariableDeclarator}
 use Rattle.es_runs.specs.Core.{Silent}
 use Rattle.es_runs.specs.Core.Silent.{keys_name}
 use Rattle.es_runs.specs.Machine.{Values}
 use Rattle.es_resolution.proofs.Basics.{bytes_eq-equal}
-use Rattle.es_statement_runs.specs.Helpers.{Supply, binds_constant, constant_by, constant_where, constants_by, constants_in, entry, key_places, occurrences, one_where, only_excludes, program_list, texts_of}
+use Rattle.es_statement_runs.specs.Helpers.{Supply, binds_constant, constant_by, constant_where, constants_by, constants_in, entry, key_places, occurrences, one_where, only_excludes, texts_of}
 use Rattle.es_statement_runs.specs.Laws.{is_silent}
-use Rattle.es_statement_runs.specs.Names.{binding_word, declarator_bound, declarators_names, declared_as, declared_at_top, top_in, top_names}
+use Rattle.es_statement_runs.specs.Names.{binding_word, declarator_bound, declarators_names, declared_as, top_in, top_names}
 use Rattle.es_statement_steps.proofs.DeclaredNames.{declares_append}
 
 -- a name that stands nowhere in a list of names stands there no time
@@ -70,11 +70,6 @@ module _ (x : Text) where
     lacks_if : (b : Bool) (es : List (Text × Silent)) → Lacks es → Lacks (if b then es else [])
     lacks_if true es h = h
     lacks_if false es h = refl
-
-    lacks_list : (ts : Trees) → Lacks (constants_in u hs p ts)
-    lacks_list empty = refl
-    lacks_list (node VariableDeclaration l (many ds then fs) before ts) = lacks_append (if binds_constant (first_text l.texts) then constants_by u hs p ds else []) (constants_in u hs p ts) (lacks_if (binds_constant (first_text l.texts)) (constants_by u hs p ds) (lacks_all ds)) (lacks_list ts)
-    lacks_list (t before ts) = lacks_list ts
 
 -- SUCH A NAME IS DECLARED at the top of the program
 
@@ -133,7 +128,3 @@ module _ (x : Text) where
         covers_append (if binds_constant (first_text l.texts) then constants_by u hs p ds else []) (constants_in u hs p ts) (declarators_names word ds) (top_in ts)
         (covers_if (binds_constant (first_text l.texts)) (constants_by u hs p ds) (declarators_names word ds) (covers_all word ds)) (covers_list ts) e
     covers_list (t before ts) e = covers_append [] (constants_in u hs p ts) (top_names t) (top_in ts) (nothing_covers (top_names t)) (covers_list ts) e
-
-listed_tops : (p : Tree) → top_in (program_list p) ≡ declared_at_top p
-listed_tops (node k l (f then (statements ts then fs))) = refl
-listed_tops (node k l _) = refl

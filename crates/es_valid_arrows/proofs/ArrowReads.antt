@@ -16,7 +16,6 @@ use Rattle.es_steps.specs.Arrows.ArrowRule.{by_name, by_new_name, with_body, wit
 use Rattle.es_steps.specs.CoreRules.{where_on}
 use Rattle.es_steps.specs.Laws.{nothing_beside}
 use Rattle.es_steps.specs.NamespaceExports.{NamespaceRule}
-use Rattle.es_steps.specs.NamespaceExports.NamespaceRule.{exports}
 use Rattle.es_steps.specs.Open.{Open, opened, finished}
 use Rattle.es_steps.specs.Rules.{either_rule}
 use Rattle.es_steps.specs.Steps.{Whole, Ledger, Site, Spot, the_program, Step, Steps}

@@ -26,7 +26,7 @@ use Rattle.es_steps.specs.Open.{after_imports, is_import}
 use Rattle.es_valid_names.proofs.Claims.{Stand, above, is_local, specified, stand_in}
 use Rattle.es_valid_names.proofs.Mute.{Free, is_imported, is_parameter, is_part}
 use Rattle.es_valid_steps.specs.ArrowNodes.{is_kind_within}
-use Rattle.es_valid_arrows.proofs.NamedRules.{Unbound, Unlocal}
+use Rattle.es_valid_arrows.proofs.NamedRules.{Unbound}
 
 -- WHERE NO `this` STANDS: what binds a name, the local name of an export, and lists of statements
 
@@ -110,9 +110,6 @@ unlocal st k fs (suc (suc i)) e = third k
     third : (k : AstType) → is_local (stand_in st k fs (suc (suc i))) ≡ false
     third Program = refl
     third _ = refl
-
-pub edge-unlocal : (st : Stand) (k : AstType) (fs : Fields) (i : ℕ) (last : Bool) (t : Tree) → Edges binding k i last t → Unlocal (stand_in st k fs i) t
-edge-unlocal st k fs i last t h e = unlocal st k fs i (this-edge k i last t h e)
 
 -- LISTS of statements
 
