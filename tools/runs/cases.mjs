@@ -5,7 +5,7 @@
 //   cases.mjs [LISTS]     the number of lists for each case, 6 where absent
 import fs from 'node:fs';
 import { readCaseFile } from '../estree/lib/case-files.mjs';
-import { addTo, compareRuns } from './lib/alike.mjs';
+import { addTo, compareRuns, topNames } from './lib/alike.mjs';
 
 const CASES = new URL('../../crates/cases/data/', import.meta.url);
 const lists = Number(process.argv[2] ?? 6);
@@ -25,7 +25,7 @@ async function checkCase(file, { name, source, lowered, input, words = [] }) {
   counts.cases += 1;
   addTo(counts, await compareRuns(source, lowered, {
     lists,
-    names: (input?.body ?? []).flatMap(({ declarations = [] }) => declarations.map(({ id }) => id.name)),
+    names: input ? topNames(input) : [],
     module: input?.sourceType === 'module',
     helpers: words.includes('--helpers=external') ? 'global' : undefined,
     hasAll: !words.includes('--no-document-all'),

@@ -13,7 +13,7 @@ import { hasParser } from '../estree/lib/parsers.mjs';
 import { print } from '../estree/print.mjs';
 import { textToTree } from '../estree/lib/texts.mjs';
 import { lowerAll } from '../valid/lib/tool.mjs';
-import { addTo, compareRuns } from './lib/alike.mjs';
+import { addTo, compareRuns, topNames } from './lib/alike.mjs';
 import { isMeant } from './lib/machine.mjs';
 
 const CASES = new URL('../../crates/cases/data/', import.meta.url);
@@ -73,7 +73,7 @@ async function check({ text, tree }, { status, stdout }) {
   const after = print(read(JSON.parse(stdout)));
   addTo(counts, await compareRuns(text, after, {
     lists: Number(values.lists),
-    names: tree.body.flatMap(({ declarations = [] }) => declarations.map(({ id }) => id.name).filter(Boolean)),
+    names: topNames(tree),
     helpers: 'global',
     hasAll: true,
     mayBeEndless: true,

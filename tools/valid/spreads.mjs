@@ -2,19 +2,16 @@
 // Evaluates random object literals with spreads before and after the tool lowered them, by node itself, with a helper that copies: what is
 // called, in its order, and the properties of each object with their attributes have to be the same.
 //   spreads.mjs [--seed N] [--count N] [--tool PROGRAM]     so many literals, three deep at most
-import { spawnSync } from 'node:child_process';
-import path from 'node:path';
-import { fileURLToPath } from 'node:url';
 import { parseArgs } from 'node:util';
 import { canonicalText, read } from '../estree/lib/form.mjs';
 import { hasParser } from '../estree/lib/parsers.mjs';
 import { textToTree } from '../estree/lib/texts.mjs';
 import { print } from '../estree/print.mjs';
+import { lowerAll } from './lib/tool.mjs';
 
-const TOOL = fileURLToPath(new URL('../../crates/lower_tool/out/lower_tool', import.meta.url));
 const WORDS = ['--rest-spread', '--helpers=external'];
 const { values } = parseArgs({
-  options: { seed: { type: 'string', default: '1' }, count: { type: 'string', default: '300' }, tool: { type: 'string', default: TOOL } },
+  options: { seed: { type: 'string', default: '1' }, count: { type: 'string', default: '300' }, tool: { type: 'string' } },
 });
 let state = Number(values.seed);
 let places = 0;
@@ -68,8 +65,7 @@ function property(depth, hasSpread, take) {
 }
 
 function lowered(source) {
-  const input = canonicalText(textToTree(source, {}));
-  const { status, stdout, stderr } = spawnSync(path.resolve(values.tool), WORDS, { input, encoding: 'utf8', maxBuffer: Infinity });
+  const [{ status, stdout, stderr }] = lowerAll([canonicalText(textToTree(source, {}))], { tool: values.tool, words: WORDS });
   if (status !== 0) throw new Error(`the tool ends with ${status}: ${stderr}`);
   return print(read(JSON.parse(stdout)));
 }

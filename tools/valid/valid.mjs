@@ -9,7 +9,7 @@ import { printedDifference, textToTree, withoutParentheses } from '../estree/lib
 import { print } from '../estree/print.mjs';
 import { V8, earlyErrors, hasJsc } from './lib/engines.mjs';
 import { isStatedAsStricter, knownFault } from './lib/known.mjs';
-import { lowerAll } from './lib/tool.mjs';
+import { isUnproved, lowerAll } from './lib/tool.mjs';
 import { programOf } from './programs.mjs';
 
 const BATCH = 500;
@@ -18,7 +18,6 @@ const MOST_NESTING = 127;
 const { values } = parseArgs({
   options: { seed: { type: 'string', default: '1' }, count: { type: 'string', default: '1000' }, tool: { type: 'string' } },
 });
-const isUnproved = values.tool === undefined && Boolean(process.env.LOWER_UNPROVED);
 const counts = { made: 0, thrownAway: 0, accepted: 0, lowered: 0, changed: 0, failed: 0 };
 const causes = new Map();
 
@@ -29,7 +28,7 @@ function main() {
   if (!hasJsc) console.log('tools/valid: the second parser is left out, jsc isn\'t installed (Debian: libjavascriptcoregtk-4.0-bin)');
   const programs = acceptedPrograms(Number(values.seed), Number(values.count));
   const withTrees = programs.filter(addTree);
-  const ran = lowerAll(withTrees.map(({ tree }) => canonicalText(tree)), { isUnproved, tool: values.tool });
+  const ran = lowerAll(withTrees.map(({ tree }) => canonicalText(tree)), { tool: values.tool });
   const lowered = withTrees.filter((program, index) => addLowered(program, ran[index]));
   compareTexts(lowered);
   const { made, thrownAway, accepted, changed, failed } = counts;
@@ -37,7 +36,7 @@ function main() {
   const last = Number(values.seed) + made - 1;
   console.log(`tools/valid: seeds ${values.seed} to ${last}, ${accepted} programs that ${readers}, ${thrownAway} thrown away`);
   for (const [cause, count] of [...causes].sort(([, left], [, right]) => right - left)) console.log(`tools/valid: passed over, ${count}: ${cause}`);
-  console.log(`tools/valid: ${counts.lowered} lowered, ${changed} of them changed${isUnproved ? ' (by the tool unproved)' : ''}, ${failed} failed`);
+  console.log(`tools/valid: ${counts.lowered} lowered, ${changed} of them changed${isUnproved && values.tool === undefined ? ' (by the tool unproved)' : ''}, ${failed} failed`);
   process.exitCode = failed === 0 ? 0 : 1;
 }
 

@@ -65,7 +65,7 @@ nullish-after b op e none = by (bytes_eq op (codes "||=")) refl e
     by false d h = second (bytes_eq op (codes "&&=")) refl h
 
 -- no expression is a private name
-expression-name : (k : Tree) → has_form s-Expression k ≡ true → is_private_name (kind_of k) ≡ false
+pub expression-name : (k : Tree) → has_form s-Expression k ≡ true → is_private_name (kind_of k) ≡ false
 expression-name (node PrivateIdentifier l fs) h = absurd (true≢false (sym (node_form s-Expression PrivateIdentifier l fs h).sort))
 expression-name (node k l fs) h = refl
 
@@ -103,12 +103,12 @@ module _ (o : EnvOptions) where
       asked : is_private_member (kind_of (without_parens t)) (fields_of (without_parens t)) ≡ false → (o.es2021.logical_assignment_operators && is_logical_assignment AssignmentExpression m (one t then one r then done)) ≡ true
       asked private = and_from o.es2021.logical_assignment_operators (is_logical_assignment AssignmentExpression m (one t then one r then done)) on (and_from _ (not (is_private_member (kind_of (without_parens t)) (fields_of (without_parens t)))) (rw texts logical) (not_from_false (is_private_member (kind_of (without_parens t)) (fields_of (without_parens t))) private))
 
-      member-holds : is_private_member (kind_of (without_parens t)) (fields_of (without_parens t)) ≡ false → is_member_target (one t) ≡ true → holds (is_wrapped_for o) (node AssignmentExpression m (one t then one r then done)) ≡ true
+      pub member-holds : is_private_member (kind_of (without_parens t)) (fields_of (without_parens t)) ≡ false → is_member_target (one t) ≡ true → holds (is_wrapped_for o) (node AssignmentExpression m (one t then one r then done)) ≡ true
       member-holds private member =
           logical-holds o AssignmentExpression m (one t then one r then done) (and_from (o.es2021.logical_assignment_operators && is_logical_assignment AssignmentExpression m (one t then one r then done)) (takes_for_target o m (one t then one r then done)) (asked private) (either-way (is_member_target (one t)) _ member))
 
       -- an assignment to a name that nothing is wrapped for
-      name-none : is_private_member (kind_of (without_parens t)) (fields_of (without_parens t)) ≡ false → holds (is_wrapped_for o) (node AssignmentExpression m (one t then one r then done)) ≡ false → (o.es2020.nullish_coalescing_operator && bytes_eq (without_last op) (codes "??")) ≡ false
+      pub name-none : is_private_member (kind_of (without_parens t)) (fields_of (without_parens t)) ≡ false → holds (is_wrapped_for o) (node AssignmentExpression m (one t then one r then done)) ≡ false → (o.es2020.nullish_coalescing_operator && bytes_eq (without_last op) (codes "??")) ≡ false
       name-none private none =
           let fs = one t then one r then done in
           let node_none = first-of (is_wrapped_for o AssignmentExpression m fs) _ none in
@@ -117,11 +117,11 @@ module _ (o : EnvOptions) where
           let nullish = second-of (is_member_target (one t)) (o.es2020.nullish_coalescing_operator && bytes_eq (first_text m.texts) (codes "??=")) takes_none in
           nullish-after o.es2020.nullish_coalescing_operator op logical (sym (ap (λ ts. o.es2020.nullish_coalescing_operator && bytes_eq (first_text ts) (codes "??=")) texts) ∙ nullish)
 
-    right-none : (m : Label) (t r : Tree) → holds (is_wrapped_for o) (node AssignmentExpression m (one t then one r then done)) ≡ false → holds (is_wrapped_for o) r ≡ false
+    pub right-none : (m : Label) (t r : Tree) → holds (is_wrapped_for o) (node AssignmentExpression m (one t then one r then done)) ≡ false → holds (is_wrapped_for o) r ≡ false
     right-none m t r none = first-of (holds (is_wrapped_for o) r) false (second-of (holds (is_wrapped_for o) t) _ (second-of (is_wrapped_for o AssignmentExpression m (one t then one r then done)) _ none))
 
     -- `x op (x = r)` holds what r does
-    where-holds : (m l : Label) (op : Text) (r : Tree) → (o.es2020.nullish_coalescing_operator && bytes_eq (without_last op) (codes "??")) ≡ false → holds (is_wrapped_for o) r ≡ false → holds (is_wrapped_for o) (assigned_where m op (node Identifier l done) (node Identifier l done) r) ≡ false
+    pub where-holds : (m l : Label) (op : Text) (r : Tree) → (o.es2020.nullish_coalescing_operator && bytes_eq (without_last op) (codes "??")) ≡ false → holds (is_wrapped_for o) r ≡ false → holds (is_wrapped_for o) (assigned_where m op (node Identifier l done) (node Identifier l done) r) ≡ false
     where-holds m l op r nullish none =
         let x = node Identifier l done in
         let at = record (in_place_of m) { texts = Some (without_last op) ∷ [] } in
@@ -129,10 +129,10 @@ module _ (o : EnvOptions) where
         let assign = two-hold-none (is_wrapped_for o AssignmentExpression equals (one x then one r then done)) (holds (is_wrapped_for o) x) (holds (is_wrapped_for o) r) (unwrapped o AssignmentExpression equals (one x then one r then done) (no-nullish o) refl refl refl refl) (name-holds o l) none in
         two-hold-none (is_wrapped_for o LogicalExpression at (one x then one (assign_node x r) then done)) (holds (is_wrapped_for o) x) (holds (is_wrapped_for o) (assign_node x r)) (unwrapped o LogicalExpression at (one x then one (assign_node x r) then done) nullish refl refl refl refl) (name-holds o l) assign
 
-    no-private : (k : Tree) (l : Label) (object : Tree) (t : Tree) → without_parens t ≡ node MemberExpression l (one object then one k then done) → is_private_name (kind_of k) ≡ false → is_private_member (kind_of (without_parens t)) (fields_of (without_parens t)) ≡ false
+    pub no-private : (k : Tree) (l : Label) (object : Tree) (t : Tree) → without_parens t ≡ node MemberExpression l (one object then one k then done) → is_private_name (kind_of k) ≡ false → is_private_member (kind_of (without_parens t)) (fields_of (without_parens t)) ≡ false
     no-private k l object t e d = ap (λ z. is_private_member (kind_of z) (fields_of z)) e ∙ d
 
-    a-member : (k : Tree) (l : Label) (object : Tree) (t : Tree) → without_parens t ≡ node MemberExpression l (one object then one k then done) → is_member_target (one t) ≡ true
+    pub a-member : (k : Tree) (l : Label) (object : Tree) (t : Tree) → without_parens t ≡ node MemberExpression l (one object then one k then done) → is_member_target (one t) ≡ true
     a-member k l object t e = ap (λ z. same_type (kind_of z) MemberExpression) e
 
     -- a row that takes a temporary acts in no open slot, and what it leaves there is wrapped for nothing

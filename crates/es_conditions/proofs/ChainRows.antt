@@ -51,7 +51,7 @@ module _ (o : EnvOptions) where
 
   -- WHAT SLOTS ARE WRAPPED FOR
 
-  inside-holds : o.es2020.optional_chaining ≡ true → (t : Tree) → is_chain_inside t ≡ true → holds (is_wrapped_for o) t ≡ true
+  pub inside-holds : o.es2020.optional_chaining ≡ true → (t : Tree) → is_chain_inside t ≡ true → holds (is_wrapped_for o) t ≡ true
   inside-holds on (node ChainExpression l fs) e = chain-holds o ChainExpression l fs (rw on refl)
   inside-holds on (node ParenthesizedExpression l (one t then fs)) e = or_right (is_wrapped_for o ParenthesizedExpression l (one t then fs)) _ (either-way (holds (is_wrapped_for o) t) _ (inside-holds on t e))
   inside-holds on t e = absurd (true≢false (sym e))

@@ -30,7 +30,7 @@ module _ (o : EnvOptions) where
       made-conditional o s (in_place_of m) (logical_node (codes "&&") (binary_node (codes "!==") begin null_node) (binary_node (codes "!==") again void_zero_node)) again r (part-of o s _ both) ha hr
 
   module _ (on : o.es2020.nullish_coalescing_operator ≡ true) where
-    coalescing-holds : (m : Label) (l r : Tree) → m.texts ≡ Some (codes "??") ∷ [] → holds (is_wrapped_for o) (node LogicalExpression m (one l then one r then done)) ≡ true
+    pub coalescing-holds : (m : Label) (l r : Tree) → m.texts ≡ Some (codes "??") ∷ [] → holds (is_wrapped_for o) (node LogicalExpression m (one l then one r then done)) ≡ true
     coalescing-holds m l r texts = rw (on, texts) refl
 
     row-slot : (n : Site) (w : Whole) (bs : List Bound) (t u : Tree) → NullishCoalescingRule n w bs t u → is_wrapped o n t ≡ true → in_open_slot n.above ≡ false

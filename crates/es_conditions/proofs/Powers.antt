@@ -117,7 +117,7 @@ module _ (o : EnvOptions) where
   -- SLOTS
 
   -- `Math.pow(l, r)` holds what l and r do
-  call-holds : (m : Label) (l r : Tree) → holds (is_wrapped_for o) l ≡ false → holds (is_wrapped_for o) r ≡ false → holds (is_wrapped_for o) (power_at m l r) ≡ false
+  pub call-holds : (m : Label) (l r : Tree) → holds (is_wrapped_for o) l ≡ false → holds (is_wrapped_for o) r ≡ false → holds (is_wrapped_for o) (power_at m l r) ≡ false
   call-holds m l r hl hr =
       let pow = member_node false (word (codes "Math")) (word (codes "pow")) in
       let at = record (in_place_of m) { flags = false ∷ [] } in
@@ -125,7 +125,7 @@ module _ (o : EnvOptions) where
       call-holds-none (is_wrapped_for o CallExpression at fs) (holds (is_wrapped_for o) pow) (holds (is_wrapped_for o) l) (holds (is_wrapped_for o) r) (unwrapped o CallExpression at fs (no-nullish o) refl refl refl refl) (static-holds o (codes "Math") (codes "pow")) hl hr
 
   module _ (on : o.es2016.exponentiation_operator ≡ true) where
-    assignment-holds : (m : Label) (t r : Tree) → m.texts ≡ Some (codes "**=") ∷ [] → is_big_int (kind_of r) ≡ false → holds (is_wrapped_for o) (node AssignmentExpression m (one t then one r then done)) ≡ true
+    pub assignment-holds : (m : Label) (t r : Tree) → m.texts ≡ Some (codes "**=") ∷ [] → is_big_int (kind_of r) ≡ false → holds (is_wrapped_for o) (node AssignmentExpression m (one t then one r then done)) ≡ true
     assignment-holds m t r texts big =
         power-holds o AssignmentExpression m (one t then one r then done) (rw (on, texts, big) refl)
 

@@ -110,7 +110,7 @@ module _ (o : EnvOptions) where
         value = λ on c. absurd (true≢false (sym c));
       }
 
-  arrow-holds : (t : Tree) → holds (is_wrapped_for o) (called_arrow t) ≡ false
+  pub arrow-holds : (t : Tree) → holds (is_wrapped_for o) (called_arrow t) ≡ false
   arrow-holds t =
       rw (unwrapped o ArrowFunctionExpression (made [] []) (many empty then one t then done) (no-nullish o) refl refl refl refl) refl
 

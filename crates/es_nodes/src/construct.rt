@@ -1,11 +1,10 @@
 //! Whether a program has a construct that the options ask to lower.
-ghost use Rattle.std.specs.Prelude.{◌≡◌, ◌||◌, Bool, bytes_eq, codes};
-ghost use Rattle.es_tree.specs.Constructs.{any_kind, field_at, has_enabled_construct, has_member, has_unbuilt_construct, is_arrow, is_big_int, is_chain, is_child, is_enabled_construct, is_enabled_expression, is_enabled_statement, is_exponentiation, is_logical_assignment, is_namespace_export, is_nullish_coalescing, is_object_rest, is_object_spread, is_optional_catch, is_private_member, is_private_name, is_private_target, is_rest, is_spread, is_using, stands};
-ghost use Rattle.es_tree.specs.Tree.{Fields, Label, fields_of, kind_of, label_of, trees};
+ghost use Rattle.std.specs.Prelude.{◌≡◌, ◌||◌, bytes_eq, codes};
+ghost use Rattle.es_tree.specs.Constructs.{any_kind, field_at, has_enabled_construct, has_member, is_arrow, is_big_int, is_chain, is_child, is_enabled_construct, is_enabled_expression, is_enabled_statement, is_exponentiation, is_logical_assignment, is_namespace_export, is_nullish_coalescing, is_object_rest, is_object_spread, is_optional_catch, is_private_member, is_private_name, is_private_target, is_rest, is_spread, is_using, stands};
+ghost use Rattle.es_tree.specs.Tree.{fields_of, kind_of, label_of, trees};
 ghost use Rattle.es_tree.specs.Views.{plain_field};
 ghost use Rattle.es_tree.specs.Walks.{any_in_field, any_node};
 ghost use Rattle.es_tree.specs.Words.{assignment_operator_text, binary_operator_text, logical_operator_text, variable_declaration_kind_text};
-ghost use Rattle.es_tree.specs.declared.ast_type.AstType.{AstType};
 ghost use Rattle.es_nodes.specs.MaybeFields.{maybe_field};
 
 use crate::fields::{field_at, stands};
@@ -24,52 +23,15 @@ pub fn has_enabled_construct(program: &Node, options: &EnvOptions) -> bool
     any_node(program, options)
 }
 
-/// Whether some node of the program is a construct that the options ask to lower and no lowering takes away that is built,
-/// though others of the same option are: an object pattern with a rest. Takes no memory.
-pub fn has_unbuilt_construct(program: &Node, options: &EnvOptions) -> bool
-    ensures { result ≡ has_unbuilt_construct options.now program.now }
-{
-    options.es2018.object_rest_spread.is_some() && any_node(program, &ObjectRest)
-}
-
-/// A test of single nodes.
-trait NodeTest {
-    /// What it says of a node.
-    ghost says: { Self → AstType → Label → Fields → Bool };
-
-    fn passes(&self, node: &Node) -> bool
-        ensures { result ≡ Self.says self.now (kind_of node.now) (label_of node.now) (fields_of node.now) };
-}
-
-/// Whether the options ask to lower the node.
-impl NodeTest for EnvOptions {
-    ghost says = { λ options. is_enabled_construct options };
-
-    fn passes(&self, node: &Node) -> bool {
-        is_enabled_construct(node, self)
-    }
-}
-
-/// Whether the node is an object pattern with a rest.
-struct ObjectRest;
-
-impl NodeTest for ObjectRest {
-    ghost says = { λ _. is_object_rest };
-
-    fn passes(&self, node: &Node) -> bool {
-        is_object_rest(node)
-    }
-}
-
 #[cycle(construct)]
-fn any_node<T: NodeTest>(node: &Node, test: &T) -> bool
-    ensures { result ≡ any_node (T.says test.now) node.now }
+fn any_node(node: &Node, options: &EnvOptions) -> bool
+    ensures { result ≡ any_node (is_enabled_construct options.now) node.now }
 {
-    if test.passes(node) {
+    if is_enabled_construct(node, options) {
         return true;
     }
     for field in &node.fields {
-        if any_in_field(field, test) {
+        if any_in_field(field, options) {
             return true;
         }
     }
@@ -77,15 +39,15 @@ fn any_node<T: NodeTest>(node: &Node, test: &T) -> bool
 }
 
 #[cycle(construct)]
-fn any_in_field<T: NodeTest>(field: &Field, test: &T) -> bool
-    ensures { result ≡ any_in_field (T.says test.now) (plain_field field.now) }
+fn any_in_field(field: &Field, options: &EnvOptions) -> bool
+    ensures { result ≡ any_in_field (is_enabled_construct options.now) (plain_field field.now) }
 {
     match field {
         Field::Missing => false,
-        Field::One(node) => any_node(node, test),
+        Field::One(node) => any_node(node, options),
         Field::Many(nodes) | Field::Statements(nodes) => {
             for node in nodes {
-                if any_node(node, test) {
+                if any_node(node, options) {
                     return true;
                 }
             }

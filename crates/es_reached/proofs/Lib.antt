@@ -3,7 +3,10 @@ pub mod BareNodes
 pub mod BareAncestors
 pub mod BarePlaces
 pub mod StepsByName
+pub mod BuiltRules
 pub mod Results
 pub mod FreeTrees
 pub mod FreeRows
 pub mod FreeSteps
+pub mod WalkTests
+pub mod WalkSteps

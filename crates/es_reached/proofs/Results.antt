@@ -1,5 +1,5 @@
 -- What steps reach from a program is what it becomes.
-use Rattle.std.proofs.Common.{arith, ◌≡◌, refl, sym, subst, ap, ◌∙◌, inl, inr, List, []}
+use Rattle.std.proofs.Common.{arith, ◌≡◌, refl, sym, subst, ap, ◌∙◌, List, []}
 use Rattle.std.specs.Prelude.{Bool, true, false, is_some}
 use Rattle.es_tree.specs.Bare.{bare}
 use Rattle.es_tree.specs.HasForm.{has_form}
@@ -18,19 +18,17 @@ use Rattle.es_runs.proofs.OpenLaws.{law_reached_bindings_proof, law_reached_proo
 use Rattle.es_runs.proofs.StaticMarks.{tidy_source}
 use Rattle.es_resolution.specs.Laws.{source}
 use Rattle.es_resolution.proofs.Forms.{form-placed}
-use Rattle.es_steps.specs.AllRules.{AllRules, RestRule}
+use Rattle.es_steps.specs.AllRules.{AllRules}
 use Rattle.es_steps.specs.CoreBridge.{Reached, first_whole}
-use Rattle.es_steps.specs.CoreRules.{where_on}
-use Rattle.es_steps.specs.Laws.{IsWellBound}
-use Rattle.es_steps.specs.ObjectSpread.{SpreadRule}
+use Rattle.es_steps.specs.Laws.{IsWellBound, nothing_beside}
 use Rattle.es_steps.specs.Open.{opened}
-use Rattle.es_steps.specs.Rules.{Replacing, either_rule}
-use Rattle.es_steps.specs.Steps.{Ledger, Site, Spot}
+use Rattle.es_steps.specs.Steps.{Step, Steps, Whole, the_program}
 use Rattle.es_steps.proofs.BridgeInclusion.{all_under}
 use Rattle.es_steps.proofs.BridgeStart.{law_first_whole_proof, law_reached_by_name_proof}
 use Rattle.es_steps.proofs.Opened.{finished-opened}
 use Rattle.es_steps.proofs.Reached.{law_bindings_proof}
 use Rattle.es_steps.proofs.Start.{law_start_proof}
+use Rattle.es_valid_steps.specs.Laws.{with_further_rules}
 use Rattle.es_valid_steps.proofs.FurtherSteps.{law_further_form_proof}
 use Rattle.es_valid_steps.proofs.Visits.{law_among_proof}
 use Rattle.es_module_names.specs.Laws.{SameOutside}
@@ -38,8 +36,12 @@ use Rattle.es_module_names.proofs.BareNames.{law_outside_bare_proof}
 use Rattle.es_module_names.proofs.ProgramSteps.{law_outside_reached_proof}
 use Rattle.es_valid_names.proofs.BareNames.{law_bare_declared_proof, law_declared_among_proof, law_together_proof}
 use Rattle.es_valid_names.proofs.FurtherNames.{law_further_rules_reached_proof}
+use Rattle.es_valid_arrows.specs.ArrowPlaces.{fits_arrows}
+use Rattle.es_valid_arrows.proofs.FitBare.{law_bare_fits_proof}
+use Rattle.es_valid_arrows.proofs.NamedPrograms.{law_arrows_reached_proof}
 use Rattle.es_reached.specs.Reached.{LawCoreResult, LawFirst, LawResult, built_rules}
 use Rattle.es_reached.proofs.BarePlaces.{law_bare_places_proof}
+use Rattle.es_reached.proofs.BuiltRules.{arrows-off, built-all}
 use Rattle.es_reached.proofs.Sources.{law_bare_source_proof}
 use Rattle.es_reached.proofs.StepsByName.{reached-core}
 
@@ -57,18 +59,6 @@ source-form p h = form-same p (source p) (sym (law_bare_source_proof p)) h
 source-well-bound : (p : Tree) → has_form s-Program p ≡ true → breaks p ≡ [] → IsWellBound (first_whole p) (source p)
 source-well-bound p form right = law_start_proof p (first_whole p) form right (λ x e. rw e refl) (omega arith) (λ s. refl)
 
--- THE BUILT LOWERINGS are among all
-
-on-spread : (b : Bool) (n : Site) (s : Ledger) (x : Spot) (s' : Ledger) (y : Spot) → where_on b (Replacing SpreadRule) n s x s' y → where_on b (either_rule (Replacing SpreadRule) RestRule) n s x s' y
-on-spread true n s x s' y r = inl r
-on-spread false n s x s' y r = absurd r
-
-built-all : (o : EnvOptions) (n : Site) (s : Ledger) (x : Spot) (s' : Ledger) (y : Spot) → built_rules o n s x s' y → AllRules o n s x s' y
-built-all o n s x s' y (inl r) = inl r
-built-all o n s x s' y (inr (inl r)) = inr (inl r)
-built-all o n s x s' y (inr (inr (inl r))) = inr (inr (inl r))
-built-all o n s x s' y (inr (inr (inr r))) = inr (inr (inr (inl (on-spread (is_some o.es2018.object_rest_spread) n s x s' y r))))
-
 -- no static rule asks for ids or marks
 rules-bare : (t u : Tree) → bare t ≡ bare u → breaks t ≡ [] → breaks u ≡ []
 rules-bare t u same h = law_together_proof u (law_bare_places_proof t u same (law_among_proof t h)) (law_bare_declared_proof t u same (law_declared_among_proof t h))
@@ -79,23 +69,40 @@ outside-then a b = record { requests = b.requests ∙ a.requests; stars = b.star
 
 -- EVERY PROGRAM
 
+-- what is reached has form, breaks no static rule, and is alike to other modules
+record IsRight (t r : Tree) : Type 0 where
+  form : has_form s-Program r ≡ true
+  kept : breaks r ≡ []
+  outside : SameOutside t r
+
+right-reached : (o : EnvOptions) (t r : Tree) (w w' : Whole) → has_form s-Program t ≡ true → breaks t ≡ [] → (is_some o.es2015.arrow_function ≡ true → fits_arrows o t ≡ true) → IsWellBound w t → Steps (Step (built_rules o) the_program) (nothing_beside w) (opened t) (nothing_beside w') (opened r) → IsRight t r
+right-reached o t r w w' form right fits bound steps = at (is_some o.es2015.arrow_function) refl
+  where
+    at : (b : Bool) → is_some o.es2015.arrow_function ≡ b → IsRight t r
+    at true e = let k = law_arrows_reached_proof o t r w w' form (fits e) right bound steps in record { form = k.form; kept = k.kept; outside = k.outside }
+    at false e =
+        let others = all_under (built_rules o) (with_further_rules o) (arrows-off o e) steps in
+        record {
+          form = subst (λ (x : Tree). has_form s-Program x ≡ true) (finished-opened r) (law_further_form_proof o t w w' (opened r) form others);
+          kept = law_further_rules_reached_proof o t r w w' form right bound others;
+          outside = law_outside_reached_proof o t r w w' form others;
+        }
+
 pub law_result_proof : LawResult
-law_result_proof o p q r names form right h written =
+law_result_proof o p q r names form right fits h written =
     let w = first_whole p in
+    let same = sym (law_bare_source_proof p) in
     let form_there = source-form p form in
-    let right_there = rules-bare p (source p) (sym (law_bare_source_proof p)) right in
     let bound = source-well-bound p form right in
-    let by_all = all_under (built_rules o) (AllRules o) (built-all o) h.steps in
-    let formed = law_further_form_proof o (source p) w h.whole (opened r) form_there h.steps in
-    let kept = law_further_rules_reached_proof o (source p) r w h.whole form_there right_there bound h.steps in
+    let k = right-reached o (source p) r w h.whole form_there (rules-bare p (source p) same right) (λ e. law_bare_fits_proof o p (source p) same (fits e)) bound h.steps in
     record {
       resolved = r;
       written = written;
       reached = h;
-      bindings = law_bindings_proof o (source p) r w h.whole (program-kind (source p) form_there) bound by_all;
-      form = form-same r q written (subst (λ (t : Tree). has_form s-Program t ≡ true) (finished-opened r) formed);
-      kept = rules-bare r q written kept;
-      outside = outside-then (law_outside_bare_proof p (source p) (sym (law_bare_source_proof p))) (outside-then (law_outside_reached_proof o (source p) r w h.whole form_there h.steps) (law_outside_bare_proof r q written));
+      bindings = law_bindings_proof o (source p) r w h.whole (program-kind (source p) form_there) bound (all_under (built_rules o) (AllRules o) (built-all o) h.steps);
+      form = form-same r q written k.form;
+      kept = rules-bare r q written k.kept;
+      outside = outside-then (law_outside_bare_proof p (source p) same) (outside-then k.outside (law_outside_bare_proof r q written));
     }
 
 -- CORE PROGRAMS

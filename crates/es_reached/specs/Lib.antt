@@ -2,3 +2,4 @@ pub mod BareTrees
 pub mod NoRests
 pub mod Reached
 pub mod Unmade
+pub mod Walks

@@ -1,5 +1,5 @@
 -- What a lowering of a program means, of whatever kind the program is, and what it means besides of a core program.
-use Rattle.std.specs.Prelude.{◌≡◌, ℕ, List, [], true, length}
+use Rattle.std.specs.Prelude.{◌≡◌, ℕ, List, [], true, is_some, length}
 use Rattle.es_tree.specs.Bare.{bare}
 use Rattle.es_tree.specs.Core.{IsCoreProgram}
 use Rattle.es_tree.specs.Fresh.{is_among}
@@ -20,12 +20,13 @@ use Rattle.es_resolution.specs.Laws.{source}
 use Rattle.es_steps.specs.Bindings.{Bindings}
 use Rattle.es_steps.specs.CoreBridge.{Reached, first_whole, is_steady_symbol}
 use Rattle.es_steps.specs.Steps.{Ledger, Site, Spot, Whole}
-use Rattle.es_valid_steps.specs.Laws.{with_further_rules}
 use Rattle.es_module_names.specs.Laws.{SameOutside}
+use Rattle.es_valid_arrows.specs.ArrowPlaces.{fits_arrows}
+use Rattle.es_valid_arrows.specs.Laws.{with_arrows}
 
 -- the rules of the lowerings that are built, as far as options ask for them
 abbrev pub built_rules : EnvOptions → Site → Ledger → Spot → Ledger → Spot → Type 0
-built_rules = with_further_rules
+built_rules = with_arrows
 
 -- What a program p becomes under these options: q, with these made names.
 pub record IsResult (o : EnvOptions) (p q : Tree) (names : List Text) : Type 0 where
@@ -56,9 +57,9 @@ pub record IsCoreResult (o : EnvOptions) (p q : Tree) (names : List Text) : Type
 -- THE LAWS
 
 -- So it is of whatever steps reach from a program that has form and breaks no static rule, at whatever places they are taken and in
--- whatever order.
+-- whatever order; where arrows are lowered each arrow of it can become a function.
 abbrev pub LawResult : Type 0
-LawResult = (o : EnvOptions) (p q r : Tree) (names : List Text) → has_form s-Program p ≡ true → breaks p ≡ [] → Reached (built_rules o) p (first_whole p) names r → bare r ≡ bare q → IsResult o p q names
+LawResult = (o : EnvOptions) (p q r : Tree) (names : List Text) → has_form s-Program p ≡ true → breaks p ≡ [] → (is_some o.es2015.arrow_function ≡ true → fits_arrows o p ≡ true) → Reached (built_rules o) p (first_whole p) names r → bare r ≡ bare q → IsResult o p q names
 
 abbrev pub LawCoreResult : Type 0
 LawCoreResult = (o : EnvOptions) (p q : Tree) (names : List Text) → IsCoreProgram p → breaks p ≡ [] → IsResult o p q names → IsCoreResult o p q names

@@ -1,45 +1,50 @@
 -- Constructs that no row makes, as one test of nodes: those that are sought are found by it.
-use Rattle.std.specs.Prelude.{◌≡◌, List, Bool, true, false, not, ◌&&◌, ◌||◌, bytes_eq, codes}
-use Rattle.es_tree.specs.Constructs.{field_at, has_member}
+use Rattle.std.specs.Prelude.{◌≡◌, List, Bool, true, false, ◌&&◌, ◌||◌, bytes_eq, codes}
+use Rattle.es_tree.specs.Constructs.{is_chain, is_object_rest, is_object_spread, is_using}
 use Rattle.es_tree.specs.Names.{first_text}
 use Rattle.es_tree.specs.Tree.{Tree, Label, Fields}
 use Rattle.es_tree.specs.Walks.{any_node}
 use Rattle.es_tree.specs.Words.{Text}
 use Rattle.es_tree.specs.declared.ast_type.AstType.{AstType}
-use Rattle.es_tree.specs.declared.ast_type.AstType.TheVariants.{AssignmentExpression, BinaryExpression, ChainExpression, ObjectExpression, ObjectPattern, ObjectTarget, RestElement, SpreadElement, TargetRest}
+use Rattle.es_tree.specs.declared.ast_type.AstType.TheVariants.{AssignmentExpression, BinaryExpression}
 use Rattle.es_tree.specs.declared.options.EnvOptions.{EnvOptions}
 use Rattle.es_runs.specs.LogicalAssignment.{is_logical_assignment_operator}
 use Rattle.es_steps.specs.CoreBridge.{Reached, first_whole}
 use Rattle.es_reached.specs.Reached.{built_rules}
 
--- Which of these are sought: object patterns with a rest, object literals with a spread, optional chains, assignments by `||=`, `&&=` and `??=`, and
--- powers by `**` and `**=`.
+-- Which of these are sought: object patterns with a rest, object literals with a spread, optional chains, assignments by `||=`, `&&=` and `??=`,
+-- powers by `**` and `**=`, and declarations by `using`.
 pub record Sought : Type 0 where
   pub rests : Bool
   pub spreads : Bool
   pub chains : Bool
   pub assignments : Bool
   pub powers : Bool
+  pub usings : Bool
 
--- what tells one among the members of a list: a rest, or else a spread
-abbrev pub is_part : Bool → AstType → Bool
-is_part b RestElement = b
-is_part b TargetRest = b
-is_part b SpreadElement = not b
-is_part b _ = false
+-- an assignment by `||=`, `&&=` or `??=`, whatever its target (ECMA-262, 13.15)
+abbrev pub is_any_logical_assignment : AstType → Label → Fields → Bool
+is_any_logical_assignment AssignmentExpression l fs = is_logical_assignment_operator (first_text l.texts)
+is_any_logical_assignment _ l fs = false
+
+-- a power by `**` or `**=`, whatever its operands (13.6, 13.15)
+abbrev pub is_any_power : AstType → Label → Fields → Bool
+is_any_power AssignmentExpression l fs = bytes_eq (first_text l.texts) (codes "**=")
+is_any_power BinaryExpression l fs = bytes_eq (first_text l.texts) (codes "**")
+is_any_power _ l fs = false
 
 abbrev pub is_sought : Sought → AstType → Label → Fields → Bool
-is_sought c ObjectPattern l fs = has_member (is_part true) (field_at 0 fs) && c.rests
-is_sought c ObjectTarget l fs = has_member (is_part true) (field_at 0 fs) && c.rests
-is_sought c ObjectExpression l fs = has_member (is_part false) (field_at 0 fs) && c.spreads
-is_sought c ChainExpression l fs = c.chains
-is_sought c AssignmentExpression l fs = (is_logical_assignment_operator (first_text l.texts) && c.assignments) || (bytes_eq (first_text l.texts) (codes "**=") && c.powers)
-is_sought c BinaryExpression l fs = bytes_eq (first_text l.texts) (codes "**") && c.powers
-is_sought c _ l fs = false
+is_sought c k l fs =
+    (is_object_rest k l fs && c.rests)
+    || (is_object_spread k l fs && c.spreads)
+    || (is_chain k l fs && c.chains)
+    || (is_any_logical_assignment k l fs && c.assignments)
+    || (is_any_power k l fs && c.powers)
+    || (is_using k l fs && c.usings)
 
 -- one of them alone
 abbrev pub nothing_sought : Sought
-nothing_sought = record { rests = false; spreads = false; chains = false; assignments = false; powers = false }
+nothing_sought = record { rests = false; spreads = false; chains = false; assignments = false; powers = false; usings = false }
 
 abbrev pub of_rests : Sought
 of_rests = record nothing_sought { rests = true }
@@ -55,6 +60,9 @@ of_assignments = record nothing_sought { assignments = true }
 
 abbrev pub of_powers : Sought
 of_powers = record nothing_sought { powers = true }
+
+abbrev pub of_usings : Sought
+of_usings = record nothing_sought { usings = true }
 
 -- No step of the built rules makes one of them: what is reached from a program without what is sought is without it too.
 abbrev pub LawNoneMade : Type 0

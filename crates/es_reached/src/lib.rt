@@ -3,13 +3,14 @@
 #![tactic(auto)]
 
 ghost use Rattle.es_reached.specs.BareTrees.{LawBarePlaces, LawBareSeen, LawBareSource};
-ghost use Rattle.es_reached.specs.NoRests.{LawNoRests};
+ghost use Rattle.es_reached.specs.NoRests.{LawNoRests, LawNoUsings};
 ghost use Rattle.es_reached.specs.Reached.{LawCoreResult, LawFirst, LawResult};
 ghost use Rattle.es_reached.specs.Unmade.{LawNoneMade};
+ghost use Rattle.es_reached.specs.Walks.{LawWalkMakesNone};
 
 /// What steps of the built lowerings that options ask for reach from a program that has form and breaks no static rule, with nothing
 /// pending, is what the program becomes, however it is written: names keep their bindings, and the written program has form, breaks no
-/// static rule, and is to other modules what the source is.
+/// static rule, and is to other modules what the source is. Where arrows are lowered each of the program can become a function.
 pub fn law_result()
     ensures { LawResult }
 {}
@@ -44,7 +45,17 @@ pub fn law_no_rests()
     ensures { LawNoRests }
 {}
 
+/// Nor a declaration by `using`.
+pub fn law_no_usings()
+    ensures { LawNoUsings }
+{}
+
 /// Nor an object literal with a spread, an optional chain, a logical assignment or a power: each is as absent as it was.
 pub fn law_none_made()
     ensures { LawNoneMade }
+{}
+
+/// A walk that lowers arrows makes none of the other constructs that options ask to lower.
+pub fn law_walk_makes_none()
+    ensures { LawWalkMakesNone }
 {}

@@ -6,7 +6,7 @@ use Rattle.es_tree.specs.declared.ast_type.AstType.{AstType}
 use Rattle.es_tree.specs.Tree.{Tree, node, Label, Fields, done, ◌then◌, Field, missing, one, many, statements, Trees, empty, ◌before◌, tree_size}
 use Rattle.es_tree.specs.Names.{first_text}
 use Rattle.es_tree.specs.Words.{Text}
-use Rattle.es_tree.specs.declared.ast_type.AstType.TheVariants.{AssignmentExpression, BinaryExpression, CallExpression, ChainExpression, ExportAllDeclaration, LogicalExpression, MemberExpression}
+use Rattle.es_tree.specs.declared.ast_type.AstType.TheVariants.{ArrowFunctionExpression, AssignmentExpression, BinaryExpression, CallExpression, ChainExpression, ExportAllDeclaration, LogicalExpression, MemberExpression}
 use Rattle.es_runs.specs.LogicalAssignment.{is_logical_assignment_operator}
 use Rattle.es_runs.specs.Open.{Pending, Additions, Import}
 use Rattle.es_runs.specs.Rules.{is_marked}
@@ -18,13 +18,14 @@ assignment_weight op = if bytes_eq op (codes "**=") then 44 else (if is_logical_
 
 -- `??` makes eleven nodes, a declarator of two, and a statement: fourteen; `l ** r` makes four. A marked member makes eleven
 -- and one declarator; a marked call sixteen and two; a chain nine at most, the member `bind` and its receiver among them,
--- and one; `export * as n from "m"` six
+-- and one; `export * as n from "m"` six; an arrow makes a body and a `return`, and with it `var _this = this;` of four
 abbrev pub own_weight : AstType → Label → Fields → ℕ
 own_weight LogicalExpression l fs = if bytes_eq (first_text l.texts) (codes "??") then 28 else 0
 own_weight BinaryExpression l fs = if bytes_eq (first_text l.texts) (codes "**") then 8 else 0
 own_weight AssignmentExpression l fs = assignment_weight (first_text l.texts)
 own_weight MemberExpression l fs = if is_marked MemberExpression l.flags then 28 else 0
 own_weight CallExpression l fs = if is_marked CallExpression l.flags then 44 else 0
+own_weight ArrowFunctionExpression l fs = 12
 own_weight ChainExpression l fs = 24
 own_weight ExportAllDeclaration l fs = 12
 own_weight _ l fs = 0

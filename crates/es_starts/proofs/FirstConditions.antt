@@ -1,13 +1,12 @@
 -- The source of a program meets the conditions of a visit by the core lowerings. At each exponentiation that is to be lowered `Math` finds
 -- nothing, and `babelHelpers` at each object literal with a spread, side by side over the program at its places and the source at its sites; chains stand as the static rules have them.
-use Rattle.std.proofs.Common.{◌≡◌, ℕ, zero, suc, ◌+◌, refl, sym, ap, subst, ◌∙◌, List, [], ◌∷◌, ◌++◌}
+use Rattle.std.proofs.Common.{◌≡◌, ℕ, zero, suc, ◌+◌, refl, sym, ap, subst, ◌∙◌, List, [], ◌∷◌}
 use Rattle.std.specs.Prelude.{Bool, true, false, not, ◌&&◌, ◌||◌, Option, Some, None, bytes_eq, is_some, codes, if◌then◌else◌}
-use Rattle.std.specs.Option.{option_or}
 use Rattle.std.proofs.lemmas.Bool.{and_from, and_parts, true≢false}
-use Rattle.es_tree.specs.Constructs.{any_kind, field_at, has_member, is_big_int, is_child, is_exponentiation, is_object_spread, is_spread}
+use Rattle.es_tree.specs.Constructs.{any_kind, field_at, has_member, is_big_int, is_child, is_exponentiation, is_object_rest, is_object_spread, is_spread, is_using}
 use Rattle.es_tree.specs.HasForm.{has_form}
 use Rattle.es_tree.specs.Names.{first_text}
-use Rattle.es_tree.specs.Options.{asks_for_imported_helpers, is_external}
+use Rattle.es_tree.specs.Options.{is_external}
 use Rattle.es_tree.specs.Tree.{Tree, node, Label, Fields, done, ◌then◌, Field, missing, one, many, statements, Trees, empty, ◌before◌, kind_of}
 use Rattle.es_tree.specs.Walks.{any_node}
 use Rattle.es_tree.specs.Words.{Text}
@@ -39,7 +38,9 @@ use Rattle.es_conditions.specs.CoreConditions.{body_site, each_passes, each_pass
 use Rattle.es_conditions.proofs.Inward.{is-known}
 use Rattle.es_conditions.proofs.Marks.{none-where}
 use Rattle.es_unsupported.specs.FirstUnsupported.{first_among, first_unsupported, found_at}
-use Rattle.es_unsupported.specs.Shapes.{is_helper_bound, is_math_bound, shape_at}
+use Rattle.es_unsupported.specs.Shapes.{is_helper_bound, is_math_bound, is_unbuilt, shape_at}
+use Rattle.es_unsupported.proofs.Firsts.{left_none, right_none}
+use Rattle.es_unsupported.proofs.Taken.{each-none, none_found, taken-shapes}
 use Rattle.es_starts.specs.Starts.{LawFirstConditions}
 use Rattle.es_starts.proofs.ChainMarks.{full-bare, full-tree, tidy-tree}
 use Rattle.es_starts.proofs.ChainPlaces.{alike-self, chain_test, passes-bare, placed-tree}
@@ -132,32 +133,14 @@ module _ (F : List Declared) where
 
 -- WHAT IS FOUND AMONG NODES
 
-left-none : {X : Type 0} (a b : Option X) → option_or a b ≡ None → a ≡ None
-left-none None b h = refl
-left-none (Some x) b h = h
-
-right-none : {X : Type 0} (a b : Option X) → option_or a b ≡ None → b ≡ None
-right-none None b h = h
-right-none (Some x) b h = absurd (cc h)
-
 abbrev FindsNone : EnvOptions → List Declared → List Visit → Type 0
 FindsNone o F vs = first_among o F vs ≡ None
 
 found-none : (o : EnvOptions) (F : List Declared) (v : Visit) (vs : List Visit) → FindsNone o F (v ∷ vs) → (shape_at o F v.place.around v.kind v.label v.fields ≡ None) × FindsNone o F vs
 found-none o F v vs h =
     let shape = shape_at o F v.place.around v.kind v.label v.fields in
-    (at shape (left-none (found_at v.label.id shape) (first_among o F vs) h), right-none (found_at v.label.id shape) (first_among o F vs) h)
-  where
-    at : (shape : _) → found_at v.label.id shape ≡ None → shape ≡ None
-    at None e = refl
-    at (Some x) e = absurd (cc e)
-
-both-none : (o : EnvOptions) (F : List Declared) (vs ws : List Visit) → FindsNone o F (vs ++ ws) → FindsNone o F vs × FindsNone o F ws
-both-none o F [] ws h = (refl, h)
-both-none o F (v ∷ vs) ws h =
-    let here = found_at v.label.id (shape_at o F v.place.around v.kind v.label v.fields) in
-    let rest = both-none o F vs ws (right-none here (first_among o F (vs ++ ws)) h) in
-    (ap (λ s. option_or s (first_among o F vs)) (left-none here (first_among o F (vs ++ ws)) h) ∙ rest.0, rest.1)
+    let here = found_at v.label.id shape in
+    (none_found v.label.id shape (left_none here (first_among o F vs) h), right_none here (first_among o F vs) h)
 
 -- no row holds where none is found
 no-row : {X : Type 0} (b : Bool) (x : X) (y : Option X) → (if b then Some x else y) ≡ None → b ≡ false
@@ -168,11 +151,14 @@ no-later-row : {X : Type 0} (b : Bool) (x : X) (y : Option X) → (if b then Som
 no-later-row true x y e = absurd (cc e)
 no-later-row false x y e = e
 
+is-built : (o : EnvOptions) (F : List Declared) (up : List ℕ) (k : AstType) (l : Label) (fs : Fields) → shape_at o F up k l fs ≡ None → is_unbuilt o F up k l fs ≡ false
+is-built o F up k l fs h = no-row (is_unbuilt o F up k l fs) _ _ h
+
 first-unbound : (o : EnvOptions) (F : List Declared) (up : List ℕ) (k : AstType) (l : Label) (fs : Fields) → shape_at o F up k l fs ≡ None → is_math_bound o F up k l fs ≡ false
-first-unbound o F up k l fs h = no-row (is_math_bound o F up k l fs) _ _ h
+first-unbound o F up k l fs h = no-row (is_math_bound o F up k l fs) _ _ (no-later-row (is_unbuilt o F up k l fs) _ _ h)
 
 second-unbound : (o : EnvOptions) (F : List Declared) (up : List ℕ) (k : AstType) (l : Label) (fs : Fields) → shape_at o F up k l fs ≡ None → is_helper_bound o F up k l fs ≡ false
-second-unbound o F up k l fs h = no-row (is_helper_bound o F up k l fs) _ _ (no-later-row (is_math_bound o F up k l fs) _ _ h)
+second-unbound o F up k l fs h = no-row (is_helper_bound o F up k l fs) _ _ (no-later-row (is_math_bound o F up k l fs) _ _ (no-later-row (is_unbuilt o F up k l fs) _ _ h))
 
 -- NAMES THAT ARE ASKED FOR
 
@@ -186,11 +172,16 @@ none-asked : (asked bound : Bool) → (not (asked && false) || bound) ≡ true
 none-asked true bound = refl
 none-asked false bound = refl
 
--- where copies are asked for, their helper is a property of `babelHelpers`
-asked-by-name : (asked external is bound : Bool) → (asked && not external) ≡ false → (asked && external && is && bound) ≡ false → (asked && is && bound) ≡ false
-asked-by-name false external is bound named e = refl
-asked-by-name true true is bound named e = e
-asked-by-name true false is bound named e = absurd (cc named)
+-- where an object literal with a spread is lowered, its helper is a property of `babelHelpers`, since no other is built
+asked-by-name : (asked external is bound : Bool) → (asked && not external && is) ≡ false → (asked && external && is && bound) ≡ false → (asked && is && bound) ≡ false
+asked-by-name false external is bound built e = refl
+asked-by-name true true is bound built e = e
+asked-by-name true false is bound built e = ap (λ b. b && bound) built
+
+second-of-three : (a b c : Bool) → (a || b || c) ≡ false → b ≡ false
+second-of-three a false c e = refl
+second-of-three true true c e = absurd (cc e)
+second-of-three false true c e = absurd (cc e)
 
 abbrev is_unbound_where : Bool → Option ℕ → Bool
 is_unbound_where asked found = not asked || not (is_some found)
@@ -199,7 +190,7 @@ is_unbound_where asked found = not asked || not (is_some found)
 abbrev names_free : EnvOptions → Site → AstType → Label → Fields → Bool
 names_free o n k l fs = is_power_free o n k l fs && is_copy_free o n k l fs
 
-module _ (o : EnvOptions) (named : asks_for_imported_helpers o ≡ false) (F : List Declared) where
+module _ (o : EnvOptions) (F : List Declared) where
   own-free : (p : Place) (n : ℕ) (s m : Site) (k : AstType) (l : Label) (fs : Fields) → FindsAlike F p s → m.names.scope ≡ s.names.scope → shape_at o F p.around k l fs ≡ None →
       names_free o m k (marked l (own_symbols F p n k l fs)) (resolved_in F (place_in p n k l fs) (n + own_scope_count k fs) fs) ≡ true
   own-free p n s m k l fs found same none =
@@ -209,8 +200,10 @@ module _ (o : EnvOptions) (named : asks_for_imported_helpers o ≡ false) (F : L
       let look : (x : Text) → m.names.scope x ≡ find F p.around x = λ x. (λ i. same i x) ∙ found.scope x in
       let power = (λ i. is_unbound_where (o.es2016.exponentiation_operator && power-kept F ps next k l marks fs i) (look (codes "Math") i)) ∙
       not-bound o.es2016.exponentiation_operator (is_exponentiation k l fs) (is_some (find F p.around (codes "Math"))) (first-unbound o F p.around k l fs none) in
+      let built : (is_some o.es2018.object_rest_spread && not (is_external o.helper_loader.mode) && is_object_spread k l fs) ≡ false =
+      second-of-three (is_some o.es2018.object_rest_spread && is_object_rest k l fs) (is_some o.es2018.object_rest_spread && not (is_external o.helper_loader.mode) && is_object_spread k l fs) (o.es2026.explicit_resource_management && is_using k l fs) (is-built o F p.around k l fs none) in
       let copy = (λ i. is_unbound_where (is_some o.es2018.object_rest_spread && spread-kept F ps next k l marks fs i) (look (codes "babelHelpers") i)) ∙
-      not-bound (is_some o.es2018.object_rest_spread) (is_object_spread k l fs) (is_some (find F p.around (codes "babelHelpers"))) (asked-by-name (is_some o.es2018.object_rest_spread) (is_external o.helper_loader.mode) (is_object_spread k l fs) (is_some (find F p.around (codes "babelHelpers"))) named (second-unbound o F p.around k l fs none)) in
+      not-bound (is_some o.es2018.object_rest_spread) (is_object_spread k l fs) (is_some (find F p.around (codes "babelHelpers"))) (asked-by-name (is_some o.es2018.object_rest_spread) (is_external o.helper_loader.mode) (is_object_spread k l fs) (is_some (find F p.around (codes "babelHelpers"))) built (second-unbound o F p.around k l fs none)) in
       and_from (is_power_free o m k (marked l marks) (resolved_in F ps next fs)) (is_copy_free o m k (marked l marks) (resolved_in F ps next fs)) power copy
 
   -- the site of the body of an arrow is near that of its field
@@ -239,7 +232,7 @@ module _ (o : EnvOptions) (named : asks_for_imported_helpers o ≡ false) (F : L
         ((i : ℕ) → bodies i ≡ true → (k ≡ ArrowFunctionExpression) × ((ss i).role ≡ reads)) → FindsNone o F (visits_in_fields ps n fs) → each_passes_in (names_free o) ms bodies (resolved_in F ps n fs) ≡ true
     free-in k ps n ss ms bodies done placed beside near body none = refl
     free-in k ps n ss ms bodies (f then fs) placed beside near body none =
-        let both = both-none o F (visits_in_field (ps zero) n f) (visits_in_fields (λ i. ps (suc i)) (n + scope_count_in_field f) fs) none in
+        let both = each-none o F (visits_in_field (ps zero) n f) (visits_in_fields (λ i. ps (suc i)) (n + scope_count_in_field f) fs) none in
         let gs = resolved_in F (λ i. ps (suc i)) (n + scope_count_in_field f) fs in
         and_from (each_passes_by (names_free o) (ms zero) (bodies zero) (resolved_by F (ps zero) n f)) (each_passes_in (names_free o) (λ i. ms (suc i)) (λ i. bodies (suc i)) gs)
         (free-by k (is_last fs) (ps zero) n (ss zero) (ms zero) (bodies zero) f placed.0 beside.0 (near zero) (body zero) both.0)
@@ -264,16 +257,16 @@ module _ (o : EnvOptions) (named : asks_for_imported_helpers o ≡ false) (F : L
         each_passes_among (names_free o) m (resolved_among F p n ts) ≡ true
     free-all k p n s m empty placed beside near none = refl
     free-all k p n s m (t before ts) placed beside near none =
-        let both = both-none o F (visits p n t) (visits_in_trees p (n + scope_count_in t) ts) none in
+        let both = each-none o F (visits p n t) (visits_in_trees p (n + scope_count_in t) ts) none in
         and_from (each_passes (names_free o) m (resolved_tree F p n t)) (each_passes_among (names_free o) m (resolved_among F p (n + scope_count_in t) ts))
         (free-tree k false p n s m t placed.0 beside.0 (near-any (is_var_scope (kind_of t)) s m near) both.0)
         (free-all k p (n + scope_count_in t) s m ts placed.1 beside.1 near both.1)
 
 -- THE PROGRAM
 
-program-free : (o : EnvOptions) → asks_for_imported_helpers o ≡ false → (l : Label) (fs : Fields) → PlacedIn Program fs → InProgram (FindsAlike (symbols_of (node Program l fs))) (node Program l fs) (resolved (node Program l fs)) → FindsNone o (symbols_of (node Program l fs)) (visits (outermost (node Program l fs)) 1 (node Program l fs)) →
+program-free : (o : EnvOptions) (l : Label) (fs : Fields) → PlacedIn Program fs → InProgram (FindsAlike (symbols_of (node Program l fs))) (node Program l fs) (resolved (node Program l fs)) → FindsNone o (symbols_of (node Program l fs)) (visits (outermost (node Program l fs)) 1 (node Program l fs)) →
     each_passes (names_free o) the_program (resolved (node Program l fs)) ≡ true
-program-free o named l fs placed beside none =
+program-free o l fs placed beside none =
     let p = node Program l fs in
     let F = symbols_of p in
     let ps = place_in (outermost p) 1 Program l fs in
@@ -283,17 +276,17 @@ program-free o named l fs placed beside none =
     let both = found-none o F (record { place = outermost p; next = 1; kind = Program; label = l; fields = fs }) (visits_in_fields ps 1 fs) none in
     and_from (names_free o the_program Program lbl gs) (each_passes_in (names_free o) sites (is_body Program) gs)
     (and_from (is_power_free o the_program Program lbl gs) (is_copy_free o the_program Program lbl gs) (none-asked o.es2016.exponentiation_operator _) (none-asked (is_some o.es2018.object_rest_spread) _))
-    (free-in o named F Program ps 1 sites sites (is_body Program) fs placed beside (λ i. near-self (sites i)) (λ i e. absurd (cc e)) both.1)
+    (free-in o F Program ps 1 sites sites (is_body Program) fs placed beside (λ i. near-self (sites i)) (λ i e. absurd (cc e)) both.1)
 
-resolved-free : (o : EnvOptions) → asks_for_imported_helpers o ≡ false → (p : Tree) → IsWellPlaced p → InProgram (FindsAlike (symbols_of p)) p (resolved p) → FindsNone o (symbols_of p) (visits (outermost p) 1 p) → each_passes (names_free o) the_program (resolved p) ≡ true
-resolved-free o named (node Program l fs) placed beside none = program-free o named l fs placed.1 beside none
-resolved-free o named (node k l fs) placed beside none = absurd (cc (placed.0))
+resolved-free : (o : EnvOptions) (p : Tree) → IsWellPlaced p → InProgram (FindsAlike (symbols_of p)) p (resolved p) → FindsNone o (symbols_of p) (visits (outermost p) 1 p) → each_passes (names_free o) the_program (resolved p) ≡ true
+resolved-free o (node Program l fs) placed beside none = program-free o l fs placed.1 beside none
+resolved-free o (node k l fs) placed beside none = absurd (cc (placed.0))
 
-names-free : (o : EnvOptions) → asks_for_imported_helpers o ≡ false → (p : Tree) → has_form s-Program p ≡ true → first_unsupported o p ≡ None → each_passes (names_free o) the_program (source p) ≡ true
-names-free o named p form none =
+names-free : (o : EnvOptions) (p : Tree) → has_form s-Program p ≡ true → first_unsupported o p ≡ None → each_passes (names_free o) the_program (source p) ≡ true
+names-free o p form none =
     let same = source-resolved p in
     let beside = subst (λ (u : Tree). InProgram (FindsAlike (symbols_of p)) p u) same (law_source_sites_proof p form) in
-    subst (λ (u : Tree). each_passes (names_free o) the_program u ≡ true) (sym same) (resolved-free o named p (form-placed p form) beside none)
+    subst (λ (u : Tree). each_passes (names_free o) the_program u ≡ true) (sym same) (resolved-free o p (form-placed p form) beside (taken-shapes o p none))
 
 -- BOTH TESTS at each node
 
@@ -350,12 +343,12 @@ settled : (o : EnvOptions) (t : Tree) → has_form s-Program t ≡ true → is_s
 settled o (node k l fs) h = subst (λ (k : AstType). is_settled o (node k l fs) ≡ true) (sym (program-kind k l fs h)) (none-where o.es2020.optional_chaining false (λ on. refl))
 
 pub law_first_conditions_proof : LawFirstConditions
-law_first_conditions_proof o p named form right none =
+law_first_conditions_proof o p form right none =
     let u = source p in
     let keeps = (law_places_proof p).to_places (law_among_proof p right) in
     let same = source-bare p in
     let chains = sym (passes-bare o the_program the_program u (alike-self o the_program)) ∙ (ap (each_passes (chain_test o) the_program) same ∙ (passes-bare o the_program the_program p (alike-self o the_program) ∙ placed-tree o s-Program [] the_program p form keeps (λ c. absurd (true≢false (sym c ∙ no-chain p form))))) in
-    let placed = both-pass (names_free o) (chain_test o) the_program u (names-free o named p form none) chains in
+    let placed = both-pass (names_free o) (chain_test o) the_program u (names-free o p form none) chains in
     let tidy = sym (strays-bare false u) ∙ (ap (strays false) same ∙ (strays-bare false p ∙ tidy-tree [] p keeps)) in
     let full = sym (full-bare u) ∙ (ap (any_node is_unmarked_chain) same ∙ (full-bare p ∙ full-tree [] p keeps)) in
     let known = is-known o the_program u (record { placed = placed; marked = record { tidy = λ on. tidy; full = λ on. full }; value = λ on c. absurd (true≢false (sym c ∙ no-chain u (source-form p form))) }) in

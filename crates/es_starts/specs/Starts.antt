@@ -1,10 +1,9 @@
 -- Where a visit of a program begins: its first moment, and that the program's source fits there and meets the conditions of the core
 -- lowerings.
-use Rattle.std.specs.Prelude.{◌≡◌, ℕ, ◌<◌, ◌||◌, [], ◌∷◌, false, true, None, length}
+use Rattle.std.specs.Prelude.{◌≡◌, ℕ, ◌<◌, ◌||◌, [], ◌∷◌, true, None, length}
 use Rattle.es_tree.specs.Fresh.{is_among}
 use Rattle.es_tree.specs.HasForm.{has_form}
 use Rattle.es_tree.specs.Names.{names_of}
-use Rattle.es_tree.specs.Options.{asks_for_imported_helpers}
 use Rattle.es_tree.specs.StaticRules.{breaks}
 use Rattle.es_tree.specs.Tree.{Tree}
 use Rattle.es_tree.specs.Words.{Text}
@@ -41,10 +40,10 @@ pub record IsFirst (p : Tree) (a : Moment) : Type 0 where
 abbrev pub LawFits : Type 0
 LawFits = (p : Tree) (a : Moment) → has_form s-Program p ≡ true → breaks p ≡ [] → IsFirst p a → Fits a the_program (source p)
 
--- Where it breaks no static rule, no node of the program has a shape that a run doesn't take, and no helper has to be imported, its source
--- meets the conditions of a visit by the core lowerings.
+-- Where it breaks no static rule, and no node of the program has a shape that a run doesn't take, its source meets the conditions of a
+-- visit by the core lowerings.
 abbrev pub LawFirstConditions : Type 0
-LawFirstConditions = (o : EnvOptions) (p : Tree) → asks_for_imported_helpers o ≡ false → has_form s-Program p ≡ true → breaks p ≡ [] → first_unsupported o p ≡ None → holds_after (core_conditions o) the_program (source p)
+LawFirstConditions = (o : EnvOptions) (p : Tree) → has_form s-Program p ≡ true → breaks p ≡ [] → first_unsupported o p ≡ None → holds_after (core_conditions o) the_program (source p)
 
 -- The scope table of a program tells its symbols as the first moment has them.
 pub record TellsSymbols (p : Tree) (s : Scoping) : Type 0 where

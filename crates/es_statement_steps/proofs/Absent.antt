@@ -7,7 +7,7 @@ use Rattle.es_tree.specs.Tree.{Tree, node, Label, Fields, done, ◌then◌, Fiel
 use Rattle.es_tree.specs.Walks.{any_node}
 use Rattle.es_tree.specs.Words.{Text}
 use Rattle.es_tree.specs.declared.ast_type.AstType.{AstType}
-use Rattle.es_tree.specs.declared.ast_type.AstType.TheVariants.{ChainExpression, SpreadElement, RestElement, TargetRest}
+use Rattle.es_tree.specs.declared.ast_type.AstType.TheVariants.{ChainExpression}
 use Rattle.es_tree.specs.declared.options.EnvOptions.{EnvOptions}
 use Rattle.es_runs.specs.LogicalAssignment.{is_logical_assignment_operator}
 use Rattle.es_resolution.specs.Declarations.{Bound}
@@ -30,9 +30,9 @@ use Rattle.es_steps.proofs.BridgeInclusion.{step_under}
 use Rattle.es_steps.proofs.FormOpen.{IsProper}
 use Rattle.es_valid_steps.proofs.FurtherSteps.{alone}
 use Rattle.es_reached.specs.Reached.{built_rules}
-use Rattle.es_reached.specs.Unmade.{Sought, is_part, is_sought, of_assignments, of_chains, of_powers, of_spreads}
+use Rattle.es_reached.specs.Unmade.{Sought, is_sought, of_assignments, of_chains, of_powers, of_spreads}
 use Rattle.es_reached.proofs.FreeRows.{built-free}
-use Rattle.es_reached.proofs.FreeSteps.{kept, source-sought}
+use Rattle.es_reached.proofs.FreeSteps.{kept, or-none, source-sought}
 use Rattle.es_reached.proofs.FreeTrees.{Free, FreeAll, FreeBy, FreeIn, LedgerFree, free, inner-free}
 use Rattle.es_statement_steps.proofs.Below.{Below, BelowField, BelowTrees}
 use Rattle.es_statement_steps.proofs.Composition.{Exports}
@@ -45,24 +45,24 @@ use Rattle.es_statement_steps.proofs.Tamed.{Class}
 
 -- what doesn't stand in the program doesn't stand in the tree
 abbrev pub Absent : Tree → Tree → Type 0
-Absent p t = (c : Sought) → any_node (is_sought c) p ≡ false → Free c t
+Absent p t = (c : Sought) → any_node (is_sought c) p ≡ false → Free (is_sought c) t
 
 pub absent-source : (p : Tree) → Absent p (source p)
-absent-source p c e = free c (source p) (sym (source-sought c p) ∙ e)
+absent-source p c e = free (is_sought c) (source p) (sym (source-sought c p) ∙ e)
 
 alone-built : (o : EnvOptions) (n : Site) (s : Ledger) (x : Spot) (s' : Ledger) (y : Spot) → alone o n s x s' y → built_rules o n s x s' y
-alone-built o n s x s' y (inl r) = inl r
-alone-built o n s x s' y (inr (inl r)) = inr (inl r)
-alone-built o n s x s' y (inr (inr r)) = inr (inr (inr r))
+alone-built o n s x s' y (inl r) = inl (inl r)
+alone-built o n s x s' y (inr (inl r)) = inl (inr (inl r))
+alone-built o n s x s' y (inr (inr r)) = inl (inr (inr (inr r)))
 
 exports-built : (o : EnvOptions) (n : Site) (s : Ledger) (x : Spot) (s' : Ledger) (y : Spot) → Exports o n s x s' y → built_rules o n s x s' y
-exports-built o n s x s' y r = inr (inr (inl r))
+exports-built o n s x s' y r = inl (inr (inr (inl r)))
 
-nothing-free : (c : Sought) (s : Ledger) → IsAlone s → LedgerFree c s
-nothing-free c s e = subst (λ (z : Ledger). LedgerFree c z) (sym e) (record { pending = record { vars = tt; lets = tt }; excluded = tt })
+nothing-free : (T : AstType → Label → Fields → Bool) (s : Ledger) → IsAlone s → LedgerFree T s
+nothing-free T s e = subst (λ (z : Ledger). LedgerFree T z) (sym e) (record { pending = record { vars = tt; lets = tt }; excluded = tt })
 
 built-absent : (o : EnvOptions) (p : Tree) {s s' : Ledger} {x y : Open} → Step (built_rules o) the_program s x s' y → IsAlone s → Absent p (finished x) → Absent p (finished y)
-built-absent o p {s = s} h alone a c e = (kept c (built_rules o) (built-free c o) h (nothing-free c s alone) (a c e)).free
+built-absent o p {s = s} h alone a c e = (kept c (built_rules o) (built-free c o) h (nothing-free (is_sought c) s alone) (a c e)).free
 
 pub absent-alone : (o : EnvOptions) (p : Tree) {s s' : Ledger} {x y : Open} → Step (alone o) the_program s x s' y → IsAlone s → Absent p (finished x) → Absent p (finished y)
 absent-alone o p h = built-absent o p (step_under (alone o) (built_rules o) (alone-built o) h)
@@ -72,71 +72,69 @@ absent-exports o p h = built-absent o p (step_under (Exports o) (built_rules o) 
 
 -- WHERE A CONSTRUCT IS ABSENT ITS ROW NEVER ACTS
 
-module _ (c : Sought) where
-  below-trees : (ts : Trees) → FreeAll c ts → BelowTrees (λ t. Free c t) ts
+module _ (T : AstType → Label → Fields → Bool) where
+  below-trees : (ts : Trees) → FreeAll T ts → BelowTrees (λ t. Free T t) ts
   below-trees empty h = tt
   below-trees (t before ts) h = (h.0, below-trees ts h.1)
 
-  below-field : (f : Field) → FreeBy c f → BelowField (λ t. Free c t) f
+  below-field : (f : Field) → FreeBy T f → BelowField (λ t. Free T t) f
   below-field missing h = tt
   below-field (one t) h = h
   below-field (many ts) h = below-trees ts h
   below-field (statements ts) h = below-trees ts h
 
-  below-fields : (fs : Fields) → FreeIn c fs → Below (λ i t. Free c t) fs
+  below-fields : (fs : Fields) → FreeIn T fs → Below (λ i t. Free T t) fs
   below-fields done h = tt
   below-fields (f then fs) h = (below-field f h.0, below-fields fs h.1)
 
   abbrev Here : Premise
-  Here n w t = Free c t
+  Here n w t = Free T t
 
   inwards : Inwards Here
   inwards n w k l fs h = below-fields (finished_fields fs) h.1
 
-  never : (R : Site → Whole → List Bound → Tree → Tree → Type 0) → ((n : Site) (w : Whole) (bs : List Bound) (t u : Tree) → R n w bs t u → Free c t → ⊥) → {s s' : Ledger} {x y : Open} → Step (Replacing R) the_program s x s' y → IsProper x → Class (finished x) → Free c (finished x) → ⊥
+  never : (R : Site → Whole → List Bound → Tree → Tree → Type 0) → ((n : Site) (w : Whole) (bs : List Bound) (t u : Tree) → R n w bs t u → Free T t → ⊥) → {s s' : Ledger} {x y : Open} → Step (Replacing R) the_program s x s' y → IsProper x → Class (finished x) → Free T (finished x) → ⊥
   never R row h proper class f = never-step (With (Replacing R) Here) at (premised (Replacing R) Here inwards h proper class f)
     where
       at : (n : Site) (s : Ledger) (x : Spot) (s' : Ledger) (y : Spot) → With (Replacing R) Here n s x s' y → ⊥
       at n s x s' y (replaces {w = w} {t = t} {u = u} bs d, k) = row n w bs t u d k
 
-spread-part : (k : AstType) → is_part false k ≡ is_spread k
-spread-part SpreadElement = refl
-spread-part RestElement = refl
-spread-part TargetRest = refl
-spread-part _ = refl
-
 no-both : (b : Bool) → b ≡ true → (b && true) ≡ false → ⊥
 no-both true e h = absurd (cc h)
 no-both false e h = absurd (cc e)
 
-no-first : (b c : Bool) → b ≡ true → ((b && true) || c) ≡ false → ⊥
+no-first : (b c : Bool) → b ≡ true → ((b && true) || c || false) ≡ false → ⊥
 no-first true c e h = absurd (cc h)
 no-first false c e h = absurd (cc e)
 
-no-last : (b c : Bool) → c ≡ true → ((b && false) || (c && true)) ≡ false → ⊥
+no-one : (b : Bool) → b ≡ true → ((b && true) || false) ≡ false → ⊥
+no-one true e h = absurd (cc h)
+no-one false e h = absurd (cc e)
+
+no-last : (b c : Bool) → c ≡ true → ((b && false) || (c && true) || false) ≡ false → ⊥
 no-last true true e h = absurd (cc h)
 no-last false true e h = absurd (cc h)
 no-last b false e h = absurd (cc e)
 
-spread-acts : (n : Site) (w : Whole) (bs : List Bound) (t u : Tree) → SpreadRule n w bs t u → Free of_spreads t → ⊥
-spread-acts n w bs t u (spreads {ps = ps} scope used some none made_so) h = no-both (any_kind (is_part false) ps) (ap (λ (q : AstType → Bool). any_kind q ps) (λ i k. spread-part k i) ∙ some) h.0
+spread-acts : (n : Site) (w : Whole) (bs : List Bound) (t u : Tree) → SpreadRule n w bs t u → Free (is_sought of_spreads) t → ⊥
+spread-acts n w bs t u (spreads {ps = ps} scope used some none made_so) h = no-both (any_kind is_spread ps) some (sym (or-none (any_kind is_spread ps && true)) ∙ h.0)
 
-chain-acts : (no_all : Bool) (n : Site) (w : Whole) (bs : List Bound) (t u : Tree) → OptionalChainingRule no_all n w bs t u → Free of_chains t → ⊥
+chain-acts : (no_all : Bool) (n : Site) (w : Whole) (bs : List Bound) (t u : Tree) → OptionalChainingRule no_all n w bs t u → Free (is_sought of_chains) t → ⊥
 chain-acts no_all n w bs t u (by_tests level r some) h = absurd (cc h.0)
 chain-acts no_all n w bs t u (as_callee level r some callee) h = absurd (cc h.0)
-chain-acts no_all n w bs _ u (in_delete {l = l} {t = t} {e = e} texts alone target r some) h = absurd (let inner : Free of_chains (node ChainExpression l (one e then done)) = subst (λ (x : Tree). Free of_chains x) target (inner-free of_chains t h.1.0) in let no : true ≡ false = inner.0 in cc no)
+chain-acts no_all n w bs _ u (in_delete {l = l} {t = t} {e = e} texts alone target r some) h = absurd (let inner : Free (is_sought of_chains) (node ChainExpression l (one e then done)) = subst (λ (x : Tree). Free (is_sought of_chains) x) target (inner-free (is_sought of_chains) t h.1.0) in let no : true ≡ false = inner.0 in cc no)
 
 -- an assignment by such an operator
 assigned-by : (m : Label) (op : Text) → m.texts ≡ Some op ∷ [] → is_logical_assignment_operator op ≡ true → is_logical_assignment_operator (first_text m.texts) ≡ true
 assigned-by m op e h = ap (λ (ts : List (Option Text)). is_logical_assignment_operator (first_text ts)) e ∙ h
 
-assignment-acts : (n : Site) (w : Whole) (bs : List Bound) (t u : Tree) → LogicalAssignmentRule n w bs t u → Free of_assignments t → ⊥
-assignment-acts n w bs t u (to_name {m = m} {op = op} texts operator alone at) h = no-first (is_logical_assignment_operator (first_text m.texts)) _ (assigned-by m op texts operator) h.0
-assignment-acts n w bs t u (to_static_member {m = m} {op = op} texts operator alone at flags object) h = no-first (is_logical_assignment_operator (first_text m.texts)) _ (assigned-by m op texts operator) h.0
-assignment-acts n w bs t u (to_computed_member {m = m} {op = op} texts operator alone at flags object key) h = no-first (is_logical_assignment_operator (first_text m.texts)) _ (assigned-by m op texts operator) h.0
+assignment-acts : (n : Site) (w : Whole) (bs : List Bound) (t u : Tree) → LogicalAssignmentRule n w bs t u → Free (is_sought of_assignments) t → ⊥
+assignment-acts n w bs t u (to_name {m = m} {op = op} texts operator alone at) h = no-first (is_logical_assignment_operator (first_text m.texts)) (bytes_eq (first_text m.texts) (codes "**=") && false) (assigned-by m op texts operator) h.0
+assignment-acts n w bs t u (to_static_member {m = m} {op = op} texts operator alone at flags object) h = no-first (is_logical_assignment_operator (first_text m.texts)) (bytes_eq (first_text m.texts) (codes "**=") && false) (assigned-by m op texts operator) h.0
+assignment-acts n w bs t u (to_computed_member {m = m} {op = op} texts operator alone at flags object key) h = no-first (is_logical_assignment_operator (first_text m.texts)) (bytes_eq (first_text m.texts) (codes "**=") && false) (assigned-by m op texts operator) h.0
 
-power-acts : (n : Site) (w : Whole) (bs : List Bound) (t u : Tree) → ExponentiationRule n w bs t u → Free of_powers t → ⊥
-power-acts n w bs t u (power {m = m} f texts left right) h = no-both (bytes_eq (first_text m.texts) (codes "**")) (ap (λ (ts : List (Option Text)). bytes_eq (first_text ts) (codes "**")) texts) h.0
+power-acts : (n : Site) (w : Whole) (bs : List Bound) (t u : Tree) → ExponentiationRule n w bs t u → Free (is_sought of_powers) t → ⊥
+power-acts n w bs t u (power {m = m} f texts left right) h = no-one (bytes_eq (first_text m.texts) (codes "**")) (ap (λ (ts : List (Option Text)). bytes_eq (first_text ts) (codes "**")) texts) h.0
 power-acts n w bs t u (power_assignment {m = m} f texts right alone twice) h = no-last (is_logical_assignment_operator (first_text m.texts)) (bytes_eq (first_text m.texts) (codes "**=")) (ap (λ (ts : List (Option Text)). bytes_eq (first_text ts) (codes "**=")) texts) h.0
 
 -- no step is one of this rule, where what doesn't stand in the program doesn't stand there either
@@ -144,16 +142,16 @@ abbrev pub Never : Tree → (Site → Ledger → Spot → Ledger → Spot → Ty
 Never p R = (s s' : Ledger) (x y : Open) → Step R the_program s x s' y → IsProper x → Class (finished x) → Absent p (finished x) → ⊥
 
 pub no-spread : (p : Tree) → any_node (is_sought of_spreads) p ≡ false → Never p (Replacing SpreadRule)
-no-spread p e s s' x y h proper class a = never of_spreads SpreadRule spread-acts h proper class (a of_spreads e)
+no-spread p e s s' x y h proper class a = never (is_sought of_spreads) SpreadRule spread-acts h proper class (a of_spreads e)
 
 pub no-chain : (no_all : Bool) (p : Tree) → any_node (is_sought of_chains) p ≡ false → Never p (RowRule (OptionalChainingRule no_all))
-no-chain no_all p e s s' x y h proper class a = never of_chains (OutsideSlots (OptionalChainingRule no_all)) (λ n w bs t u d. chain-acts no_all n w bs t u d.rule) h proper class (a of_chains e)
+no-chain no_all p e s s' x y h proper class a = never (is_sought of_chains) (OutsideSlots (OptionalChainingRule no_all)) (λ n w bs t u d. chain-acts no_all n w bs t u d.rule) h proper class (a of_chains e)
 
 pub no-assignment : (p : Tree) → any_node (is_sought of_assignments) p ≡ false → Never p (RowRule LogicalAssignmentRule)
-no-assignment p e s s' x y h proper class a = never of_assignments (OutsideSlots LogicalAssignmentRule) (λ n w bs t u d. assignment-acts n w bs t u d.rule) h proper class (a of_assignments e)
+no-assignment p e s s' x y h proper class a = never (is_sought of_assignments) (OutsideSlots LogicalAssignmentRule) (λ n w bs t u d. assignment-acts n w bs t u d.rule) h proper class (a of_assignments e)
 
 pub no-power : (p : Tree) → any_node (is_sought of_powers) p ≡ false → Never p (RowRule ExponentiationRule)
-no-power p e s s' x y h proper class a = never of_powers (OutsideSlots ExponentiationRule) (λ n w bs t u d. power-acts n w bs t u d.rule) h proper class (a of_powers e)
+no-power p e s s' x y h proper class a = never (is_sought of_powers) (OutsideSlots ExponentiationRule) (λ n w bs t u d. power-acts n w bs t u d.rule) h proper class (a of_powers e)
 
 -- nor is one where it isn't asked for
 pub not-there : (asked there : Bool) (p : Tree) (R : Site → Ledger → Spot → Ledger → Spot → Type 0) → (asked && there) ≡ false → (there ≡ false → Never p R) → Never p (where_on asked R)

@@ -13,14 +13,13 @@ use Rattle.es_resolution.specs.Declarations.{is_var_scope}
 use Rattle.es_resolution.specs.Named.{Named}
 use Rattle.es_resolution.specs.Resolved.{IsResolved}
 use Rattle.es_resolution.proofs.Forms.{form-placed}
-use Rattle.es_steps.specs.AllRules.{AllRules, RestRule}
+use Rattle.es_steps.specs.AllRules.{AllRules}
 use Rattle.es_steps.specs.CoreRules.{where_on}
 use Rattle.es_steps.specs.Identifiers.{Passes, is_called}
 use Rattle.es_steps.specs.NamespaceExports.{NamespaceRule}
-use Rattle.es_steps.specs.ObjectSpread.{SpreadRule}
 use Rattle.es_steps.specs.Laws.{IsWellBound, nothing_beside}
 use Rattle.es_steps.specs.Open.{Open, finished, opened}
-use Rattle.es_steps.specs.Rules.{Replacing, either_rule}
+use Rattle.es_steps.specs.Rules.{either_rule}
 use Rattle.es_steps.specs.Steps.{Ledger, Site, Spot, Step, Steps, Whole, the_program}
 use Rattle.es_steps.specs.Steps.Steps.{goes, stays}
 use Rattle.es_steps.proofs.BridgeInclusion.{all_under, step_under}
@@ -42,25 +41,18 @@ use Rattle.es_valid_steps.proofs.Spread.{finished-spread, spread}
 use Rattle.es_valid_steps.proofs.SpreadSteps.{SameBoth, Went, spread-step}
 use Rattle.es_valid_steps.proofs.SpreadSteps.Went.{moves, rests, leaves}
 use Rattle.es_valid_names.proofs.FurtherNames.{law_further_rules_proof}
+use Rattle.es_reached.specs.Reached.{built_rules}
+use Rattle.es_reached.proofs.BuiltRules.{built-all}
 use Rattle.es_statement_runs.specs.Helpers.{Supply}
 use Rattle.es_statement_runs.proofs.Composing.{law_then_proof}
+use Rattle.es_statement_steps.proofs.Arrowless.{arrows-apart}
 use Rattle.es_statement_steps.proofs.NothingBeside.{IsAlone, alone-after, one-more}
 use Rattle.es_statement_steps.proofs.RowRuns.{StepAlike, unchanged}
 use Rattle.es_statement_steps.proofs.StandingPrograms.{program_stands}
 use Rattle.es_statement_steps.proofs.StepMoves.{Fine}
 use Rattle.es_statement_steps.proofs.Tamed.{Class}
 
--- THE BUILT LOWERINGS are among all
-
-on-spread : (b : Bool) (n : Site) (s : Ledger) (x : Spot) (s' : Ledger) (y : Spot) → where_on b (Replacing SpreadRule) n s x s' y → where_on b (either_rule (Replacing SpreadRule) RestRule) n s x s' y
-on-spread true n s x s' y r = inl r
-on-spread false n s x s' y r = absurd r
-
-pub built-all : (o : EnvOptions) (n : Site) (s : Ledger) (x : Spot) (s' : Ledger) (y : Spot) → with_further_rules o n s x s' y → AllRules o n s x s' y
-built-all o n s x s' y (inl r) = inl r
-built-all o n s x s' y (inr (inl r)) = inr (inl r)
-built-all o n s x s' y (inr (inr (inl r))) = inr (inr (inl r))
-built-all o n s x s' y (inr (inr (inr r))) = inr (inr (inr (inl (on-spread (is_some o.es2018.object_rest_spread) n s x s' y r))))
+-- THE BUILT LOWERINGS but for arrows
 
 alone-lawful : (o : EnvOptions) → PlaceLawful (alone o)
 alone-lawful o = both-lawful (under-lawful o) (both-lawful (on-lawful o.es2019.optional_catch_binding _ catch-lawful) (on-lawful (is_some o.es2018.object_rest_spread) _ spread-lawful))
@@ -184,12 +176,13 @@ module _ (o : EnvOptions) (no_all : Bool) (u : Supply) (Clean : Whole → Tree �
     rules-there : (s : Ledger) (x : Open) → From s x → IsAlone s → breaks (finished x) ≡ []
     rules-there s x from alone = law_further_rules_proof o source first (whole_in s) x source_form source_rules bound (subst (λ (z : Ledger). From z x) alone from)
 
-    pub composed : (ends : ℕ → Text) {s s' : Ledger} {x x' : Open} → From s x → IsAlone s → Steps (Step (with_further_rules o) the_program) s x s' x' → ((m : ℕ) → m < (whole_in s').free_symbol → ends m ≡ (whole_in s').called m) → is_var_scope (kind_of (finished x)) ≡ true →
+    pub composed : (ends : ℕ → Text) {s s' : Ledger} {x x' : Open} → From s x → IsAlone s → Steps (Step (built_rules o) the_program) s x s' x' → ((m : ℕ) → m < (whole_in s').free_symbol → ends m ≡ (whole_in s').called m) → is_var_scope (kind_of (finished x)) ≡ true →
         Named (whole_in s).in_use (whole_in s).free_symbol reads (finished x) → LedgerPasses (is_called ends) s → Passes (is_called ends) (finished x) → IsResolved (finished x) → IsClean s' → Shaped (spread x) → Clean (whole_in s) (finished x) → StepAlike no_all u (finished x) (finished x')
     composed ends {x = x} from alone stays end kind used beside names resolved last shaped clean = unchanged no_all u (finished x) (finished x) refl
-    composed ends {x = x} {x' = x'} from alone (goes {s = s} {s' = m} {s'' = s'} {u = y} one rest) end kind used beside names resolved last shaped clean =
-        let all = step_under (with_further_rules o) (AllRules o) (built-all o) one in
-        let later = all_under (with_further_rules o) (AllRules o) (built-all o) rest in
+    composed ends {x = x} {x' = x'} from alone (goes {s = s} {s' = m} {s'' = s'} {u = y} step rest) end kind used beside names resolved last shaped clean =
+        let one = arrows-apart o step refl (subst (λ (t : Tree). Class t) (finished-spread x) shaped.class) in
+        let all = step_under (built_rules o) (AllRules o) (built-all o) step in
+        let later = all_under (built_rules o) (AllRules o) (built-all o) rest in
         let lawful = all-rules-lawful o in
         let writes = all-rules-write o in
         let r = recalled (AllRules o) lawful writes all in

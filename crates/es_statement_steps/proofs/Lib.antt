@@ -30,6 +30,7 @@ pub mod Tamed
 pub mod StepSplits
 pub mod Writings
 pub mod NothingBeside
+pub mod Arrowless
 pub mod Composition
 pub mod NoSteps
 pub mod StepRules

@@ -33,17 +33,17 @@ use Rattle.es_steps.proofs.Opened.{finished-opened}
 use Rattle.es_steps.proofs.Passing.{called-passes}
 use Rattle.es_steps.proofs.Start.{law_start_proof}
 use Rattle.es_steps.proofs.StepsKept.{all-recalled, none-beside}
-use Rattle.es_valid_steps.specs.Laws.{with_further_rules}
 use Rattle.es_valid_steps.specs.PlaceRules.{Keeps}
 use Rattle.es_valid_steps.proofs.Spread.{spread, spread-opened}
 use Rattle.es_valid_steps.proofs.Visits.{law_among_proof, law_places_proof}
 use Rattle.es_valid_names.proofs.BareNames.{law_bare_declared_proof, law_declared_among_proof, law_together_proof}
 use Rattle.es_reached.specs.Reached.{built_rules}
 use Rattle.es_reached.proofs.BarePlaces.{law_bare_places_proof}
+use Rattle.es_reached.proofs.BuiltRules.{built-all}
 use Rattle.es_reached.proofs.Sources.{law_bare_source_proof}
 use Rattle.es_statement_runs.specs.Helpers.{Supply, program_list, silent_names}
 use Rattle.es_statement_runs.specs.Programs.{IsStatementProgram, is_statement_node}
-use Rattle.es_statement_steps.proofs.Composition.{AloneRuns, NamespaceRuns, Shaped, built-all, composed}
+use Rattle.es_statement_steps.proofs.Composition.{AloneRuns, NamespaceRuns, Shaped, composed}
 use Rattle.es_statement_steps.proofs.Rooms.{IsProgram, program-fields}
 use Rattle.es_statement_steps.proofs.RowRuns.{StepAlike}
 use Rattle.es_statement_steps.proofs.Sources.{same-but-marks, then-alike}
@@ -160,7 +160,7 @@ reached-runs o no_all u Clean alone exports p q names h silent clean reached =
     let t = source p in
     let form = source-form p h.form in
     let bound : IsWellBound w t = law_start_proof p w h.form h.rules (λ x e. rw e refl) (omega arith) (λ s. refl) in
-    let steps = all_under (with_further_rules o) (AllRules o) (built-all o) reached.steps in
+    let steps = all_under (built_rules o) (AllRules o) (built-all o) reached.steps in
     let r = all-recalled (AllRules o) (all-rules-lawful o) (all-rules-write o) steps in
     let called = called-passes w.called w'.called w.free_symbol r.same w.in_use reads t bound.named bound.called bound.class_names in
     let opens = λ (P : Tree → Type 0) (z : P t). subst P (sym (finished-opened t)) z in

@@ -83,17 +83,17 @@ pub record NodeRule (Q : Site → Ledger → Spot → Ledger → Spot → Type 0
 -- LISTS
 
 -- a list with others written before it
+pub below-joined : (P : Tree → Type 0) (bs ts : Trees) → BelowTrees P (joined_trees bs ts) → BelowTrees P ts
+below-joined P empty ts h = h
+below-joined P (b before bs) ts h = below-joined P bs ts h.1
+
 pub below-after : (P : Tree → Type 0) (bs ts : Trees) → BelowTrees P (after_imports bs ts) → BelowTrees P ts
 below-after P bs empty h = tt
 below-after P bs (t before ts) h = at (is_import t) (λ g. below-after P bs ts g) h
   where
-    rest : (bs : Trees) → BelowTrees P (joined_trees bs (t before ts)) → BelowTrees P (t before ts)
-    rest empty h = h
-    rest (b before bs) h = rest bs h.1
-
     at : (v : Bool) → (BelowTrees P (after_imports bs ts) → BelowTrees P ts) → BelowTrees P (if v then t before after_imports bs ts else joined_trees bs (t before ts)) → BelowTrees P (t before ts)
     at true r g = (g.0, r g.1)
-    at false r g = rest bs g
+    at false r g = below-joined P bs (t before ts) g
 
 pub resolved-after : (r : Role) (p : Place) (bs ts : Trees) → ResolvedAll r p (after_imports bs ts) → ResolvedAll r p ts
 resolved-after r p bs empty h = tt

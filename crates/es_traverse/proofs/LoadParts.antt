@@ -80,11 +80,11 @@ mutual
 
 -- what the fields from this one on may take
 abbrev pub allowance_from : AstType → ℕ → ℕ
-allowance_from PropertyDefinition zero = 8
-allowance_from PropertyDefinition (suc zero) = 8
-allowance_from AssignmentPattern zero = 8
-allowance_from AssignmentPattern (suc zero) = 8
-allowance_from PatternProperty zero = 8
+allowance_from PropertyDefinition zero = 20
+allowance_from PropertyDefinition (suc zero) = 20
+allowance_from AssignmentPattern zero = 20
+allowance_from AssignmentPattern (suc zero) = 20
+allowance_from PatternProperty zero = 20
 allowance_from ArrowFunctionExpression zero = 4
 allowance_from ArrowFunctionExpression (suc zero) = 4
 allowance_from _ i = 0
@@ -110,7 +110,7 @@ later-less ArrowFunctionExpression (suc zero) = omega arith
 later-less ArrowFunctionExpression (suc (suc i)) = omega arith
 later-less _ i = omega arith
 
-slot-room : (k : AstType) (i : ℕ) (computed : Bool) → true ≡ may_be_slot k i computed → 8 + allowance_from k (suc i) ≤ allowance_from k i
+slot-room : (k : AstType) (i : ℕ) (computed : Bool) → true ≡ may_be_slot k i computed → 20 + allowance_from k (suc i) ≤ allowance_from k i
 slot-room PropertyDefinition (suc zero) computed e = omega arith
 slot-room AssignmentPattern (suc zero) computed e = omega arith
 slot-room PatternProperty zero computed e = omega arith

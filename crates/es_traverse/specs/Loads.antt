@@ -14,9 +14,9 @@ use Rattle.es_traverse.specs.declared.site.Site.TheVariants.{ArrowBody, Slot}
 
 -- of a node of this kind: it may have a slot or an arrow's body, or be a spread
 abbrev pub own_allowance : AstType → ℕ
-own_allowance PropertyDefinition = 8
-own_allowance AssignmentPattern = 8
-own_allowance PatternProperty = 8
+own_allowance PropertyDefinition = 20
+own_allowance AssignmentPattern = 20
+own_allowance PatternProperty = 20
 own_allowance ArrowFunctionExpression = 4
 own_allowance SpreadElement = 24
 own_allowance _ = 0
@@ -46,7 +46,7 @@ abbrev mutual
 
 -- what the place of a part may take beside its load: before what stands inside it, and after the body of an arrow
 abbrev pub wrapping : Site → ℕ
-wrapping Slot = 8
+wrapping Slot = 20
 wrapping _ = 0
 
 abbrev pub writing : Site → ℕ
@@ -58,7 +58,7 @@ allowance c = wrapping c + writing c
 
 -- what of it the hook of an expression may take, and the hook after the body of an arrow, of a type that keeps the pairs
 abbrev pub wrapping_by : Bool → Hook → Site → ℕ
-wrapping_by true Expression Slot = 8
+wrapping_by true Expression Slot = 20
 wrapping_by _ h c = 0
 
 abbrev pub writing_by : Bool → ℕ

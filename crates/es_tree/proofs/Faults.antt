@@ -11,7 +11,6 @@ use Rattle.es_tree.specs.declared.error.OptionName.TheVariants.{
   PureGetters,
   ObjectRestNoSymbols,
   IgnoreFunctionLength,
-  NotBuilt,
 }
 use Rattle.es_tree.specs.declared.options.EnvOptions.{EnvOptions}
 
@@ -30,7 +29,6 @@ no_fault o h =
     let getters = passed (asks_for PureGetters o) PureGetters _ generators.1 in
     let symbols = passed (asks_for ObjectRestNoSymbols o) ObjectRestNoSymbols _ getters.1 in
     let lengths = passed (asks_for IgnoreFunctionLength o) IgnoreFunctionLength _ symbols.1 in
-    let unbuilt = passed (asks_for NotBuilt o) NotBuilt _ lengths.1 in
     λ n. elim n as (λ m. asks_for m o ≡ false) [
       | InlineHelpers ↦ inline.0
       | Spec ↦ spec.0
@@ -41,7 +39,6 @@ no_fault o h =
       | PureGetters ↦ getters.0
       | ObjectRestNoSymbols ↦ symbols.0
       | IgnoreFunctionLength ↦ lengths.0
-      | NotBuilt ↦ unbuilt.0
     ]
 
 none_found : {X : Type 0} (p : X → Bool) (xs : List X) → ((x : X) → p x ≡ false) → find p xs ≡ None

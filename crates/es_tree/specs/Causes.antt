@@ -12,7 +12,6 @@ use Rattle.es_tree.specs.declared.error.OptionName.TheVariants.{
   PureGetters as OptionName-PureGetters,
   ObjectRestNoSymbols as OptionName-ObjectRestNoSymbols,
   IgnoreFunctionLength as OptionName-IgnoreFunctionLength,
-  NotBuilt as OptionName-NotBuilt,
 }
 use Rattle.es_tree.specs.declared.error.Rule.{Rule}
 use Rattle.es_tree.specs.declared.error.Rule.TheVariants.{
@@ -38,6 +37,7 @@ use Rattle.es_tree.specs.declared.error.Rule.TheVariants.{
 }
 use Rattle.es_tree.specs.declared.error.UnsupportedKind.{UnsupportedKind}
 use Rattle.es_tree.specs.declared.error.UnsupportedKind.TheVariants.{
+  NotBuilt as UnsupportedKind-NotBuilt,
   MathBound as UnsupportedKind-MathBound,
   HelperName as UnsupportedKind-HelperName,
   RestInArray as UnsupportedKind-RestInArray,
@@ -61,7 +61,6 @@ option_name OptionName-AsyncGeneratorFunctions = codes "AsyncGeneratorFunctions"
 option_name OptionName-PureGetters = codes "PureGetters"
 option_name OptionName-ObjectRestNoSymbols = codes "ObjectRestNoSymbols"
 option_name OptionName-IgnoreFunctionLength = codes "IgnoreFunctionLength"
-option_name OptionName-NotBuilt = codes "NotBuilt"
 
 abbrev pub rule_name : Rule → Text
 rule_name Rule-DuplicateName = codes "DuplicateName"
@@ -85,6 +84,7 @@ rule_name Rule-MisplacedDeclaration = codes "MisplacedDeclaration"
 rule_name Rule-MisplacedMeta = codes "MisplacedMeta"
 
 abbrev pub unsupported_name : UnsupportedKind → Text
+unsupported_name UnsupportedKind-NotBuilt = codes "NotBuilt"
 unsupported_name UnsupportedKind-MathBound = codes "MathBound"
 unsupported_name UnsupportedKind-HelperName = codes "HelperName"
 unsupported_name UnsupportedKind-RestInArray = codes "RestInArray"

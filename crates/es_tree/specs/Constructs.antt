@@ -161,11 +161,6 @@ is_enabled_construct o k l fs = is_enabled_expression o k l fs || is_enabled_sta
 abbrev pub has_enabled_construct : EnvOptions → Tree → Bool
 has_enabled_construct o t = any_node (is_enabled_construct o) t
 
--- whether a construct stands anywhere in the tree that the options ask to lower and no lowering that is built takes away, though
--- others of its options are
-abbrev pub has_unbuilt_construct : EnvOptions → Tree → Bool
-has_unbuilt_construct o t = is_some o.es2018.object_rest_spread && any_node is_object_rest t
-
 -- whether a `??` stands anywhere in the tree
 abbrev pub has_nullish_coalescing : Tree → Bool
 has_nullish_coalescing t = any_node is_nullish_coalescing t

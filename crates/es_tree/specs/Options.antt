@@ -1,5 +1,5 @@
 -- What options ask for that no lowering does.
-use Rattle.std.specs.Prelude.{◌≡◌, List, [], ◌∷◌, Bool, true, false, ◌&&◌, ◌||◌, not, Option, Some, None, find, is_some}
+use Rattle.std.specs.Prelude.{◌≡◌, List, [], ◌∷◌, Bool, true, false, Option, Some, None, find}
 use Rattle.es_tree.specs.declared.error.OptionName.{OptionName}
 use Rattle.es_tree.specs.declared.error.OptionName.TheVariants.{
   InlineHelpers,
@@ -11,7 +11,6 @@ use Rattle.es_tree.specs.declared.error.OptionName.TheVariants.{
   PureGetters,
   ObjectRestNoSymbols,
   IgnoreFunctionLength,
-  NotBuilt,
 }
 use Rattle.es_tree.specs.declared.options.ArrowFunctionsOptions.{ArrowFunctionsOptions}
 use Rattle.es_tree.specs.declared.options.EnvOptions.{EnvOptions}
@@ -39,14 +38,6 @@ abbrev pub uses_built_ins : Option ObjectRestSpreadOptions → Bool
 uses_built_ins (Some o) = o.use_built_ins
 uses_built_ins None = false
 
--- whether the options ask for copies by helpers that the program has to import
-abbrev pub asks_for_imported_helpers : EnvOptions → Bool
-asks_for_imported_helpers o = is_some o.es2018.object_rest_spread && not (is_external o.helper_loader.mode)
-
--- whether the options ask for a lowering that isn't built yet
-abbrev pub asks_for_unbuilt : EnvOptions → Bool
-asks_for_unbuilt o = is_some o.es2015.arrow_function || asks_for_imported_helpers o || o.es2026.explicit_resource_management
-
 -- whether the options ask for this
 abbrev pub asks_for : OptionName → EnvOptions → Bool
 asks_for InlineHelpers o = is_inline o.helper_loader.mode
@@ -58,13 +49,12 @@ asks_for AsyncGeneratorFunctions o = o.es2018.async_generator_functions
 asks_for PureGetters o = o.assumptions.pure_getters
 asks_for ObjectRestNoSymbols o = o.assumptions.object_rest_no_symbols
 asks_for IgnoreFunctionLength o = o.assumptions.ignore_function_length
-asks_for NotBuilt o = asks_for_unbuilt o
 
 -- the names in the order in which they are refused
 abbrev pub option_names : List OptionName
 option_names =
     InlineHelpers ∷ Spec ∷ Loose ∷ UseBuiltIns ∷ AsyncToGenerator ∷ AsyncGeneratorFunctions ∷ PureGetters ∷
-    ObjectRestNoSymbols ∷ IgnoreFunctionLength ∷ NotBuilt ∷ []
+    ObjectRestNoSymbols ∷ IgnoreFunctionLength ∷ []
 
 -- the first that is asked for
 abbrev pub first_fault : EnvOptions → Option OptionName

@@ -22,8 +22,6 @@ pub enum OptionName {
     PureGetters,
     ObjectRestNoSymbols,
     IgnoreFunctionLength,
-    /// A lowering that isn't built yet.
-    NotBuilt,
 }
 
 impl OptionName {
@@ -41,7 +39,6 @@ impl OptionName {
             OptionName::PureGetters => "PureGetters",
             OptionName::ObjectRestNoSymbols => "ObjectRestNoSymbols",
             OptionName::IgnoreFunctionLength => "IgnoreFunctionLength",
-            OptionName::NotBuilt => "NotBuilt",
         }
     }
 }
@@ -122,6 +119,8 @@ impl Rule {
 /// A program that no lowering can rewrite, in the order of the answer at one node.
 #[derive(Clone, Copy, PartialEq, Eq, Debug)]
 pub enum UnsupportedKind {
+    /// A construct that is to be lowered, and whose lowering isn't built yet.
+    NotBuilt,
     /// `**` where the program declares `Math`.
     MathBound,
     /// A helper is needed where the program declares its name.
@@ -152,6 +151,7 @@ impl UnsupportedKind {
         ensures { result.now ≡ unsupported_name self }
     {
         match self {
+            UnsupportedKind::NotBuilt => "NotBuilt",
             UnsupportedKind::MathBound => "MathBound",
             UnsupportedKind::HelperName => "HelperName",
             UnsupportedKind::RestInArray => "RestInArray",

@@ -1,6 +1,6 @@
 //! What a run is asked to lower, and how.
 ghost use Rattle.std.specs.Prelude.{◌≡◌, IfOk, codes, string_bytes};
-ghost use Rattle.es_tree.specs.Options.{asks_for_imported_helpers, asks_for_unbuilt, first_fault, is_external, is_inline, is_loose, is_spec, uses_built_ins};
+ghost use Rattle.es_tree.specs.Options.{first_fault, is_inline, is_loose, is_spec, uses_built_ins};
 
 use crate::error::OptionName;
 use std::alloc::{AllocError, Global};
@@ -168,32 +168,7 @@ pub fn options_fault(options: &EnvOptions) -> Option<OptionName>
     if options.assumptions.ignore_function_length {
         return Some(OptionName::IgnoreFunctionLength);
     }
-    if asks_for_unbuilt(options) {
-        return Some(OptionName::NotBuilt);
-    }
     None
-}
-
-/// Whether the options ask for a lowering that isn't built yet.
-fn asks_for_unbuilt(options: &EnvOptions) -> bool
-    ensures { result ≡ asks_for_unbuilt options.now }
-{
-    options.es2015.arrow_function.is_some()
-        || asks_for_imported_helpers(options)
-        || options.es2026.explicit_resource_management
-}
-
-/// Whether the options ask for copies by helpers that the program has to import.
-fn asks_for_imported_helpers(options: &EnvOptions) -> bool
-    ensures { result ≡ asks_for_imported_helpers options.now }
-{
-    options.es2018.object_rest_spread.is_some() && !is_external(options.helper_loader.mode)
-}
-
-fn is_external(mode: HelperLoaderMode) -> bool
-    ensures { result ≡ is_external mode }
-{
-    matches!(mode, HelperLoaderMode::External)
 }
 
 fn is_inline(mode: HelperLoaderMode) -> bool

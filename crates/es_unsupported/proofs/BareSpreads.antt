@@ -1,21 +1,14 @@
 -- Whether a literal can be copied looks at no mark and no id.
-use Rattle.std.proofs.Common.{◌≡◌, ◌∙◌, ℕ, zero, suc, Bool, ◌&&◌, ◌||◌, not, bytes_eq, codes, if◌then◌else◌, refl, ap}
+use Rattle.std.proofs.Common.{◌≡◌, ◌∙◌, Bool, ◌&&◌, ◌||◌, not, bytes_eq, codes, if◌then◌else◌, refl, ap}
 use Rattle.es_tree.specs.Bare.{bare, bare_field, bare_fields, bare_label, bare_trees}
-use Rattle.es_tree.specs.Constructs.{any_kind, field_at, has_member, is_object_spread, is_spread}
+use Rattle.es_tree.specs.Constructs.{field_at, is_spread}
 use Rattle.es_tree.specs.Names.{first_text, flag_at}
 use Rattle.es_tree.specs.Tree.{Tree, node, Label, Fields, done, ◌then◌, Field, missing, one, many, statements, Trees, empty, ◌before◌, kind_of}
 use Rattle.es_tree.specs.declared.ast_type.AstType.{AstType}
-use Rattle.es_tree.specs.declared.ast_type.AstType.TheVariants.{FunctionDeclaration, FunctionExpression, Identifier, ObjectExpression, ObjectProperty, PropertyDefinition, StaticBlock, StringLiteral, Super}
+use Rattle.es_tree.specs.declared.ast_type.AstType.TheVariants.{FunctionDeclaration, FunctionExpression, Identifier, ObjectProperty, PropertyDefinition, StaticBlock, StringLiteral, Super}
 use Rattle.es_unsupported.specs.SpreadLiterals.{any_among, are_parted, completes, has_super, has_uncopied, holds_super, holds_super_among, holds_super_by, holds_super_in, holds_super_in_key, is_getter, is_method, is_prototype_key, is_prototype_name, is_setter, is_uncopied, no_accessor, sets_prototype, uses_super, with_property}
 use Rattle.es_unsupported.specs.declared.spread_literals.Accessors.{Accessors}
-
-field_at-bare : (i : ℕ) (fs : Fields) → field_at i (bare_fields fs) ≡ bare_field (field_at i fs)
-field_at-bare i done = refl
-field_at-bare zero (f then fs) = refl
-field_at-bare (suc i) (f then fs) = field_at-bare i fs
-
-kind-bare : (t : Tree) → kind_of (bare t) ≡ kind_of t
-kind-bare (node k l fs) = refl
+use Rattle.es_unsupported.proofs.BareNodes.{field_at-bare, kind-bare, object-spread-bare}
 
 -- THE PROTOTYPE
 
@@ -98,20 +91,6 @@ parted-bare a b (t before ts) =
     ∙ ap (λ c. completes a t || c) (parted-bare (if is_spread (kind_of t) then b else a) (with_property t b) ts)
 
 -- THE LITERAL
-
-any-kind-bare : (p : AstType → Bool) (ts : Trees) → any_kind p (bare_trees ts) ≡ any_kind p ts
-any-kind-bare p empty = refl
-any-kind-bare p (t before ts) = λ i. p (kind-bare t i) || any-kind-bare p ts i
-
-member-bare : (p : AstType → Bool) (f : Field) → has_member p (bare_field f) ≡ has_member p f
-member-bare p missing = refl
-member-bare p (one t) = refl
-member-bare p (many ts) = any-kind-bare p ts
-member-bare p (statements ts) = refl
-
-pub object-spread-bare : (k : AstType) (l : Label) (fs : Fields) → is_object_spread k (bare_label l) (bare_fields fs) ≡ is_object_spread k l fs
-object-spread-bare ObjectExpression l fs = ap (has_member is_spread) (field_at-bare 0 fs) ∙ member-bare is_spread (field_at 0 fs)
-object-spread-bare _ l fs = refl
 
 uncopied-bare : (f : Field) → has_uncopied (bare_field f) ≡ has_uncopied f
 uncopied-bare missing = refl

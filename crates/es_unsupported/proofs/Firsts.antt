@@ -3,15 +3,15 @@ use Rattle.std.proofs.Common.{◌≡◌, ℕ, zero, suc, ◌+◌, ◌<◌, List,
 use Rattle.std.specs.Option.{option_or}
 
 module _ {R : Type 0} where
-  neither : (a b : Option R) → a ≡ None → b ≡ None → option_or a b ≡ None
+  pub neither : (a b : Option R) → a ≡ None → b ≡ None → option_or a b ≡ None
   neither None b e d = d
   neither (Some r) b e d = e
 
-  left_none : (a b : Option R) → option_or a b ≡ None → a ≡ None
+  pub left_none : (a b : Option R) → option_or a b ≡ None → a ≡ None
   left_none None b h = refl
   left_none (Some r) b h = h
 
-  right_none : (a b : Option R) → option_or a b ≡ None → b ≡ None
+  pub right_none : (a b : Option R) → option_or a b ≡ None → b ≡ None
   right_none None b h = h
   right_none (Some r) b h = cc
 

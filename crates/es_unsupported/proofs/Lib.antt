@@ -1,6 +1,11 @@
+pub mod BareNodes
 pub mod BareSpreads
+pub mod BareArrows
 pub mod Firsts
 pub mod Parts
 pub mod Unbound
 pub mod MarkedTrees
 pub mod Programs
+pub mod Taken
+pub mod ArrowsTaken
+pub mod Built

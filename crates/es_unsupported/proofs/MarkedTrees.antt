@@ -1,27 +1,36 @@
 -- What a walk over a tree with its marks finds is what is found among the visits of the tree.
-use Rattle.std.proofs.Common.{◌≡◌, ℕ, zero, suc, ◌+◌, ◌-◌, ◌<◌, ◌≤◌, List, [], ◌∷◌, ◌++◌, Bool, true, false, ◌&&◌, ◌||◌, not, ltb, Option, Some, None, is_some, codes, if◌then◌else◌, length, refl, sym, ap, subst, ◌∙◌, arith}
+use Rattle.std.proofs.Common.{◌≡◌, ℕ, zero, suc, ◌+◌, ◌-◌, ◌<◌, ◌≤◌, List, [], ◌∷◌, ◌++◌, Bool, true, false, ◌&&◌, ◌||◌, not, ltb, Option, Some, is_some, codes, if◌then◌else◌, length, refl, sym, ap, subst, ◌∙◌, arith}
 use Rattle.std.specs.List.{All}
 use Rattle.std.specs.Option.{option_or}
-use Rattle.std.proofs.lemmas.Bool.{lt-ltb}
+use Rattle.std.proofs.lemmas.Bool.{and_parts, lt-ltb}
 use Rattle.std.proofs.lemmas.List.Elements.{All-head, All-nil, All-tail, All-cons}
 use Rattle.es_tree.specs.Bare.{bare, bare_field, bare_fields, bare_label, bare_trees}
-use Rattle.es_tree.specs.Constructs.{field_at, is_big_int, is_child, is_exponentiation}
-use Rattle.es_tree.specs.Parens.{without_parens}
-use Rattle.es_tree.specs.Tree.{Tree, node, Label, Fields, done, ◌then◌, Field, missing, one, many, statements, Trees, empty, ◌before◌, kind_of}
+use Rattle.es_tree.specs.Constructs.{field_at, is_using}
+use Rattle.es_tree.specs.HasForm.{same_type}
+use Rattle.es_tree.specs.Names.{first_text}
+use Rattle.es_tree.specs.Options.{is_external}
+use Rattle.es_tree.specs.Tree.{Tree, node, Label, Fields, done, ◌then◌, Field, missing, one, many, statements, Trees, empty, ◌before◌}
+use Rattle.es_tree.specs.Words.{Text}
 use Rattle.es_tree.specs.Walks.{all_in_field, all_in_fields, all_in_trees, all_nodes}
 use Rattle.es_tree.specs.declared.ast_type.AstType.{AstType}
-use Rattle.es_tree.specs.declared.ast_type.AstType.TheVariants.{AssignmentExpression, BinaryExpression, FunctionExpression, Identifier, ParenthesizedExpression, TaggedTemplateExpression}
-use Rattle.es_tree.specs.declared.error.UnsupportedKind.TheVariants.{HelperName, MathBound, SpreadLiteral, TagChain}
+use Rattle.es_tree.specs.declared.ast_type.AstType.TheVariants.{FunctionBody, FunctionExpression, Identifier, TaggedTemplateExpression, VariableDeclaration}
+use Rattle.es_tree.specs.declared.error.UnsupportedKind.TheVariants.{HelperName, MathBound, NotBuilt, SpreadLiteral, TagChain}
 use Rattle.es_tree.specs.declared.options.EnvOptions.{EnvOptions}
 use Rattle.es_scope.specs.declared.scoping.Scoping.{Scoping}
 use Rattle.es_semantic.specs.Places.{Place, Visit, around_in, has_name_scope, is_inside, makes_scope, own_scope, own_scope_count, place_in, scope_count_in, scope_count_in_field, scope_count_in_fields, scope_count_in_trees, visits, visits_in_field, visits_in_fields, visits_in_trees}
-use Rattle.es_semantic.specs.ReferencesOf.{marked_in_field, marked_in_fields, marked_in_trees, marked_tree, own_marks_of, own_reference, references_among}
-use Rattle.es_semantic.specs.SymbolsOf.{Declared, find}
+use Rattle.es_semantic.specs.ReferencesOf.{identifier_marks, marked_in_field, marked_in_fields, marked_in_trees, marked_tree, own_marks_of, own_reference, references_among}
+use Rattle.es_semantic.specs.SymbolsOf.{Declared, find, is_bound}
+use Rattle.es_semantic.specs.declared.place.Role.{Role}
+use Rattle.es_semantic.specs.declared.place.Role.TheVariants.{Nothing, Binds}
 use Rattle.es_semantic.proofs.VisitCounts.{named_makes}
-use Rattle.es_unsupported.specs.FirstUnsupported.{first_among, found_at}
-use Rattle.es_unsupported.specs.MarkedWalk.{FindsFrom, LooksUp, LooksUpInField, LooksUpInFields, LooksUpInTrees, around_marked, first_at, first_in_field, first_in_fields, first_in_trees, has_known_scope, scope_mark}
-use Rattle.es_unsupported.specs.Shapes.{Row, copies_by_name, first_row, has_chain_tag, is_chain_below, is_chain_kind, is_helper_bound, is_math_bound, is_spread_literal, is_tag_chain, rows, shape_at}
-use Rattle.es_unsupported.proofs.BareSpreads.{literal-bare, object-spread-bare}
+use Rattle.es_unsupported.specs.ArrowShapes.{arrow_place_in, arrow_shape, binds_arguments, may_bind_arguments, refers_by}
+use Rattle.es_unsupported.specs.FirstUnsupported.{first_of, first_of_field, first_of_fields, first_of_trees, found_at}
+use Rattle.es_unsupported.specs.MarkedWalk.{FindsFrom, LooksUp, LooksUpInField, LooksUpInFields, LooksUpInTrees, around_marked, first_at, first_in_field, first_in_fields, first_in_trees, has_known_scope, refers_by_mark, scope_mark}
+use Rattle.es_unsupported.specs.Shapes.{Row, copies_by_name, first_row, has_chain_tag, is_chain_below, is_chain_kind, is_helper_bound, is_math_bound, is_spread_literal, is_tag_chain, is_unbuilt, rows, shape_at}
+use Rattle.es_unsupported.specs.declared.arrow_places.ArrowPlace.{ArrowPlace}
+use Rattle.es_unsupported.proofs.BareArrows.{arrow_shape-marked, place-marked}
+use Rattle.es_unsupported.proofs.BareNodes.{exponentiation-bare, kind_within-bare, object-rest-bare, object-spread-bare}
+use Rattle.es_unsupported.proofs.BareSpreads.{literal-bare}
 
 -- MARKS CHANGE NOTHING BUT MARKS
 
@@ -46,31 +55,10 @@ module _ (ds : List Declared) where
 
 -- THE SHAPES LOOK AT NO MARK
 
-big_int-bare : (n : ℕ) (fs : Fields) → is_child is_big_int (field_at n (bare_fields fs)) ≡ is_child is_big_int (field_at n fs)
-big_int-bare n done = refl
-big_int-bare zero (missing then fs) = refl
-big_int-bare zero (one (node k l gs) then fs) = refl
-big_int-bare zero (many ts then fs) = refl
-big_int-bare zero (statements ts then fs) = refl
-big_int-bare (suc n) (f then fs) = big_int-bare n fs
-
-exponentiation-bare : (k : AstType) (l : Label) (fs : Fields) → is_exponentiation k (bare_label l) (bare_fields fs) ≡ is_exponentiation k l fs
-exponentiation-bare BinaryExpression l fs = rw (big_int-bare 0 fs, big_int-bare 1 fs) refl
-exponentiation-bare AssignmentExpression l fs = rw (big_int-bare 1 fs) refl
-exponentiation-bare _ l fs = refl
-
-kind_below-bare : (t : Tree) → kind_of (without_parens (bare t)) ≡ kind_of (without_parens t)
-kind_below-bare (node ParenthesizedExpression l (one t then fs)) = kind_below-bare t
-kind_below-bare (node ParenthesizedExpression l (missing then fs)) = refl
-kind_below-bare (node ParenthesizedExpression l (many ts then fs)) = refl
-kind_below-bare (node ParenthesizedExpression l (statements ts then fs)) = refl
-kind_below-bare (node ParenthesizedExpression l done) = refl
-kind_below-bare (node _ l fs) = refl
-
 chain_below-bare : (fs : Fields) → is_chain_below (field_at 0 (bare_fields fs)) ≡ is_chain_below (field_at 0 fs)
 chain_below-bare done = refl
 chain_below-bare (missing then fs) = refl
-chain_below-bare (one t then fs) = ap is_chain_kind (kind_below-bare t)
+chain_below-bare (one t then fs) = ap is_chain_kind (kind_within-bare t)
 chain_below-bare (many ts then fs) = refl
 chain_below-bare (statements ts then fs) = refl
 
@@ -78,9 +66,19 @@ chain_tag-bare : (k : AstType) (l : Label) (fs : Fields) → has_chain_tag k (ba
 chain_tag-bare TaggedTemplateExpression l fs = chain_below-bare fs
 chain_tag-bare _ l fs = refl
 
+using-bare : (k : AstType) (l : Label) (fs : Fields) → is_using k (bare_label l) (bare_fields fs) ≡ is_using k l fs
+using-bare VariableDeclaration l fs = refl
+using-bare _ l fs = refl
+
 -- A row that looks at no mark: it holds of a node where it does of the bare one.
 abbrev LooksAtNoMark : Row → Type 0
 LooksAtNoMark r = (o : EnvOptions) (ds : List Declared) (up : List ℕ) (k : AstType) (l : Label) (fs : Fields) → r.holds o ds up k (bare_label l) (bare_fields fs) ≡ r.holds o ds up k l fs
+
+unbuilt-bare : LooksAtNoMark (record { shape = NotBuilt; holds = is_unbuilt })
+unbuilt-bare o ds up k l fs = λ i.
+    (is_some o.es2018.object_rest_spread && object-rest-bare k l fs i)
+    || (is_some o.es2018.object_rest_spread && not (is_external o.helper_loader.mode) && object-spread-bare k l fs i)
+    || (o.es2026.explicit_resource_management && using-bare k l fs i)
 
 math_bound-bare : LooksAtNoMark (record { shape = MathBound; holds = is_math_bound })
 math_bound-bare o ds up k l fs = ap (λ b. o.es2016.exponentiation_operator && b && is_some (find ds up (codes "Math"))) (exponentiation-bare k l fs)
@@ -100,7 +98,7 @@ LookAtNoMark (r ∷ rs) = LooksAtNoMark r × LookAtNoMark rs
 
 -- so it is for each row of the table
 rows-bare : LookAtNoMark rows
-rows-bare = (math_bound-bare, (helper_bound-bare, (spread_literal-bare, (tag_chain-bare, tt))))
+rows-bare = (unbuilt-bare, (math_bound-bare, (helper_bound-bare, (spread_literal-bare, (tag_chain-bare, tt)))))
 
 first_row-bare : (rs : List Row) → LookAtNoMark rs → (o : EnvOptions) (ds : List Declared) (up : List ℕ) (k : AstType) (l : Label) (fs : Fields) → first_row rs o ds up k (bare_label l) (bare_fields fs) ≡ first_row rs o ds up k l fs
 first_row-bare [] all o ds up k l fs = refl
@@ -155,50 +153,70 @@ around-marked ds p ps n m n' m' k l fs i =
 
 -- WHAT IS FOUND
 
-or_assoc : {X : Type 0} (a b c : Option X) → option_or (option_or a b) c ≡ option_or a (option_or b c)
-or_assoc None b c = refl
-or_assoc (Some x) b c = refl
+-- an identifier refers by its mark where it does by its role
 
-first_joined : (o : EnvOptions) (ds : List Declared) (vs ws : List Visit) → first_among o ds (vs ++ ws) ≡ option_or (first_among o ds vs) (first_among o ds ws)
-first_joined o ds [] ws = refl
-first_joined o ds (v ∷ vs) ws =
-    let here = found_at v.label.id (shape_at o ds v.place.around v.kind v.label v.fields) in
-    ap (option_or here) (first_joined o ds vs ws) ∙ sym (or_assoc here (first_among o ds vs) (first_among o ds ws))
+refers-marked : (ds : List Declared) (p : Place) (m : ℕ) (r : Role) (x : Text) → refers_by_mark (identifier_marks ds p m r x) ≡ refers_by r
+refers-marked ds p m Nothing x = refl
+refers-marked ds p m (Binds b) x = refl
+refers-marked ds p m _ x = refl
+
+-- no other node asks for that
+reference-marked : (o : EnvOptions) (ds : List Declared) (p : Place) (n m : ℕ) (q : ArrowPlace) (k : AstType) (l : Label) (fs : Fields) →
+    arrow_shape o q (refers_by_mark (own_marks_of ds p n m k l fs)) k l fs ≡ arrow_shape o q (refers_by p.role) k l fs
+reference-marked o ds p n m q Identifier l fs = ap (λ r. arrow_shape o q r Identifier l fs) (refers-marked ds p m p.role (first_text l.texts))
+reference-marked o ds p n m q _ l fs = refl
+
+-- the scope of a node is that of its mark, where it makes one
+where-so : (b : Bool) (f : ℕ → Bool) (x y : ℕ) → (b ≡ true → x ≡ y) → (b && f x) ≡ (b && f y)
+where-so true f x y e = ap f (e refl)
+where-so false f x y e = refl
+
+binds-marked : (ds : List Declared) (p : Place) (n m : ℕ) (k : AstType) (l : Label) (fs : Fields) → binds_arguments ds (scope_mark (own_marks_of ds p n m k l fs)) k ≡ binds_arguments ds (own_scope n k fs) k
+binds-marked ds p n m k l fs = where-so (may_bind_arguments k) (λ s. is_bound ds s (codes "arguments")) (scope_mark (own_marks_of ds p n m k l fs)) (own_scope n k fs) (λ e. own-marked ds p n m k l fs (and_parts (makes_scope k) (not (same_type k FunctionBody)) e).0)
+
+-- what is known of places is the same of fields that differ in marks alone
+abbrev Alike : (qs rs : ℕ → Field → ArrowPlace) → Type 0
+Alike qs rs = (i : ℕ) (f g : Field) → bare_field g ≡ bare_field f → qs i g ≡ rs i f
 
 module _ (o : EnvOptions) (ds : List Declared) where
   mutual
-    pub first-marked : (p : Place) (n m : ℕ) (t : Tree) → first_at o ds p.around (marked_tree ds p n m t) ≡ first_among o ds (visits p n t)
-    first-marked p n m (node k l fs) =
+    pub first-marked : (p : Place) (q : ArrowPlace) (n m : ℕ) (t : Tree) → first_at o ds p.around q (marked_tree ds p n m t) ≡ first_of o ds p q n t
+    first-marked p q n m (node k l fs) =
         let ps = place_in p n k l fs in
         let s = n + own_scope_count k fs in
         let r = m + length (own_reference ds p k l) in
         let gs = marked_in_fields ds ps s r fs in
-        let marks : Label = record l { marks = own_marks_of ds p n m k l fs } in
-        let here : shape_at o ds p.around k marks gs ≡ shape_at o ds p.around k l fs = shape-marked o ds p.around k l (own_marks_of ds p n m k l fs) fs gs (bare-fields ds ps s r fs) in
+        let own = own_marks_of ds p n m k l fs in
+        let marks : Label = record l { marks = own } in
+        let same : bare_fields gs ≡ bare_fields fs = bare-fields ds ps s r fs in
+        let here : shape_at o ds p.around k marks gs ≡ shape_at o ds p.around k l fs = shape-marked o ds p.around k l own fs gs same in
+        let arrow : arrow_shape o q (refers_by_mark own) k marks gs ≡ arrow_shape o q (refers_by p.role) k l fs = arrow_shape-marked o q (refers_by_mark own) k l own fs gs same ∙ reference-marked o ds p n m q k l fs in
         let ups : around_marked p.around k marks gs ≡ (λ i. (ps i).around) = λ j i. around-marked ds p ps n m s r k l fs i j in
-        let inner : first_in_fields o ds (around_marked p.around k marks gs) gs ≡ first_among o ds (visits_in_fields ps s fs) = ap (λ us. first_in_fields o ds us gs) ups ∙ first-marked-fields ps s r fs in
-        λ j. option_or (found_at l.id (here j)) (inner j)
+        let qs : ℕ → Field → ArrowPlace = arrow_place_in o (binds_arguments ds (scope_mark own) k) q k marks gs in
+        let rs : ℕ → Field → ArrowPlace = arrow_place_in o (binds_arguments ds (own_scope n k fs) k) q k l fs in
+        let alike : Alike qs rs = λ i f g e. place-marked o (binds_arguments ds (scope_mark own) k) q k l own fs gs i f g same e ∙ ap (λ b. arrow_place_in o b q k l fs i f) (binds-marked ds p n m k l fs) in
+        let inner : first_in_fields o ds (around_marked p.around k marks gs) qs gs ≡ first_of_fields o ds ps rs s fs = ap (λ us. first_in_fields o ds us qs gs) ups ∙ first-marked-fields ps qs rs alike s r fs in
+        λ j. option_or (found_at l.id (option_or (here j) (arrow j))) (inner j)
 
-    first-marked-fields : (ps : ℕ → Place) (n m : ℕ) (fs : Fields) → first_in_fields o ds (λ i. (ps i).around) (marked_in_fields ds ps n m fs) ≡ first_among o ds (visits_in_fields ps n fs)
-    first-marked-fields ps n m done = refl
-    first-marked-fields ps n m (f then fs) =
-        let qs : ℕ → Place = λ i. ps (suc i) in
+    first-marked-fields : (ps : ℕ → Place) (qs rs : ℕ → Field → ArrowPlace) → Alike qs rs → (n m : ℕ) (fs : Fields) → first_in_fields o ds (λ i. (ps i).around) qs (marked_in_fields ds ps n m fs) ≡ first_of_fields o ds ps rs n fs
+    first-marked-fields ps qs rs alike n m done = refl
+    first-marked-fields ps qs rs alike n m (f then fs) =
+        let g = marked_in_field ds (ps zero) n m f in
         let s = n + scope_count_in_field f in
-        let vs = visits_in_field (ps zero) n f in
-        (λ j. option_or (first-marked-field (ps zero) n m f j) (first-marked-fields qs s (m + length (references_among ds vs)) fs j)) ∙ sym (first_joined o ds vs (visits_in_fields qs s fs))
+        let t = m + length (references_among ds (visits_in_field (ps zero) n f)) in
+        let field : first_in_field o ds (ps zero).around (qs zero g) g ≡ first_of_field o ds (ps zero) (rs zero f) n f = ap (λ q. first_in_field o ds (ps zero).around q g) (alike zero f g (bare-field ds (ps zero) n m f)) ∙ first-marked-field (ps zero) (rs zero f) n m f in
+        λ j. option_or (field j) (first-marked-fields (λ i. ps (suc i)) (λ i. qs (suc i)) (λ i. rs (suc i)) (λ i. alike (suc i)) s t fs j)
 
-    first-marked-field : (p : Place) (n m : ℕ) (f : Field) → first_in_field o ds p.around (marked_in_field ds p n m f) ≡ first_among o ds (visits_in_field p n f)
-    first-marked-field p n m missing = refl
-    first-marked-field p n m (one t) = first-marked p n m t
-    first-marked-field p n m (many ts) = first-marked-trees p n m ts
-    first-marked-field p n m (statements ts) = first-marked-trees p n m ts
+    first-marked-field : (p : Place) (q : ArrowPlace) (n m : ℕ) (f : Field) → first_in_field o ds p.around q (marked_in_field ds p n m f) ≡ first_of_field o ds p q n f
+    first-marked-field p q n m missing = refl
+    first-marked-field p q n m (one t) = first-marked p q n m t
+    first-marked-field p q n m (many ts) = first-marked-trees p q n m ts
+    first-marked-field p q n m (statements ts) = first-marked-trees p q n m ts
 
-    first-marked-trees : (p : Place) (n m : ℕ) (ts : Trees) → first_in_trees o ds p.around (marked_in_trees ds p n m ts) ≡ first_among o ds (visits_in_trees p n ts)
-    first-marked-trees p n m empty = refl
-    first-marked-trees p n m (t before ts) =
-        let s = n + scope_count_in t in
-        let vs = visits p n t in
-        (λ j. option_or (first-marked p n m t j) (first-marked-trees p s (m + length (references_among ds vs)) ts j)) ∙ sym (first_joined o ds vs (visits_in_trees p s ts))
+    first-marked-trees : (p : Place) (q : ArrowPlace) (n m : ℕ) (ts : Trees) → first_in_trees o ds p.around q (marked_in_trees ds p n m ts) ≡ first_of_trees o ds p q n ts
+    first-marked-trees p q n m empty = refl
+    first-marked-trees p q n m (t before ts) =
+        λ j. option_or (first-marked p q n m t j) (first-marked-trees p q (n + scope_count_in t) (m + length (references_among ds (visits p n t))) ts j)
 
 -- LOOK-UP
 

@@ -1,36 +1,41 @@
 -- The walk over a whole program with its marks, and the shapes that are looked for.
-use Rattle.std.proofs.Common.{◌≡◌, ℕ, ◌+◌, ◌≤◌, List, [], ◌∷◌, Bool, true, false, ◌&&◌, ◌||◌, None, is_some, codes, refl, sym, ap, subst, ◌∙◌, arith}
+use Rattle.std.proofs.Common.{◌≡◌, ℕ, zero, suc, ◌+◌, ◌≤◌, List, [], ◌∷◌, Bool, true, false, ◌&&◌, ◌||◌, not, Some, None, is_some, codes, if◌then◌else◌, refl, sym, ap, subst, ◌∙◌, arith}
 use Rattle.std.specs.Option.{option_or}
-use Rattle.es_tree.specs.Constructs.{is_exponentiation, is_object_spread}
+use Rattle.es_tree.specs.Constructs.{is_exponentiation, is_object_rest, is_object_spread, is_using}
 use Rattle.es_tree.specs.Marks.{with_scope}
-use Rattle.es_tree.specs.Tree.{Tree, node, Label, Fields}
+use Rattle.es_tree.specs.Options.{is_external}
+use Rattle.es_tree.specs.Tree.{Tree, node, Label, Fields, done, ◌then◌, Field, missing, one, many, statements, Trees, empty, ◌before◌}
 use Rattle.es_tree.specs.Walks.{all_nodes}
 use Rattle.es_tree.specs.Words.{Text}
 use Rattle.es_tree.specs.declared.ast_type.AstType.{AstType}
 use Rattle.es_tree.specs.declared.ast_type.AstType.TheVariants.{Program}
+use Rattle.es_tree.specs.declared.error.UnsupportedKind.TheVariants.{ArrowOuter}
 use Rattle.es_tree.specs.declared.options.EnvOptions.{EnvOptions}
 use Rattle.es_scope.specs.Tables.{binding_in, scope_count}
 use Rattle.es_scope.specs.declared.scoping.Scoping.{Scoping}
-use Rattle.es_semantic.specs.Places.{Visit, outermost, scope_count_in, visits_of}
+use Rattle.es_semantic.specs.Places.{Place, outermost, own_scope, own_scope_count, place_in, scope_count_in, scope_count_in_field}
 use Rattle.es_semantic.specs.ReferencesOf.{marked_tree}
 use Rattle.es_semantic.specs.SymbolsOf.{Declared, find, symbols_of}
 use Rattle.es_semantic.specs.Walks.{Binds}
 use Rattle.es_semantic.proofs.LookUps.{found-at-place}
 use Rattle.es_semantic.proofs.VisitCounts.{scopes_count}
-use Rattle.es_unsupported.specs.FirstUnsupported.{IsBuilt, first_among, first_unsupported, found_at}
+use Rattle.es_valid_steps.specs.ArrowNodes.{is_arrow_accessor}
+use Rattle.es_unsupported.specs.ArrowShapes.{arrow_place_in, arrow_shape, binds_arguments, inner_shape, outside, refers_by}
+use Rattle.es_unsupported.specs.FirstUnsupported.{IsBuilt, first_of, first_of_field, first_of_fields, first_of_trees, first_unsupported, found_at}
 use Rattle.es_unsupported.specs.MarkedWalk.{LooksUp, first_at, has_known_scope}
 use Rattle.es_unsupported.specs.Shapes.{copies_by_name, has_chain_tag, shape_at}
 use Rattle.es_unsupported.specs.SpreadLiterals.{is_uncopied}
 use Rattle.es_unsupported.specs.Wanted.{IsWanted}
+use Rattle.es_unsupported.specs.declared.arrow_places.ArrowPlace.{ArrowPlace}
 use Rattle.es_unsupported.specs.declared.shapes.Wanted.{Wanted}
 use Rattle.es_unsupported.proofs.MarkedTrees.{first-marked, known-marked, looks-up-marked}
 use Rattle.es_unsupported.proofs.Unbound.{found_nowhere}
 
 -- THE MARK OF THE PROGRAM'S SCOPE
 
-first-scope : (o : EnvOptions) (ds : List Declared) (up : List ℕ) (t : Tree) → first_at o ds up (with_scope t) ≡ first_at o ds up t
-first-scope o ds up (node Program l fs) = refl
-first-scope o ds up (node k l fs) = refl
+first-scope : (o : EnvOptions) (ds : List Declared) (up : List ℕ) (q : ArrowPlace) (t : Tree) → first_at o ds up q (with_scope t) ≡ first_at o ds up q t
+first-scope o ds up q (node Program l fs) = refl
+first-scope o ds up q (node k l fs) = refl
 
 looks-up-scope : (s : Scoping) (ds : List Declared) (up : List ℕ) (t : Tree) → LooksUp s ds up t → LooksUp s ds up (with_scope t)
 looks-up-scope s ds up (node Program l fs) h = h
@@ -43,10 +48,10 @@ known-scope count (node k l fs) h = h
 -- THE PROGRAM
 
 -- what the walk finds is what is found among the visits
-pub program_first : (o : EnvOptions) (p q : Tree) (s : Scoping) → IsBuilt p q s → first_at o (symbols_of p) (0 ∷ []) q ≡ first_unsupported o p
+pub program_first : (o : EnvOptions) (p q : Tree) (s : Scoping) → IsBuilt p q s → first_at o (symbols_of p) (0 ∷ []) outside q ≡ first_unsupported o p
 program_first o p q s built =
     let ds = symbols_of p in
-    ap (first_at o ds (0 ∷ [])) built.marks ∙ (first-scope o ds (0 ∷ []) (marked_tree ds (outermost p) 1 0 p) ∙ first-marked o ds (outermost p) 1 0 p)
+    ap (first_at o ds (0 ∷ []) outside) built.marks ∙ (first-scope o ds (0 ∷ []) outside (marked_tree ds (outermost p) 1 0 p) ∙ first-marked o ds (outermost p) outside 1 0 p)
 
 -- look-up is right at all its nodes
 pub program_looks_up : (p q : Tree) (s : Scoping) → IsBuilt p q s → LooksUp s (symbols_of p) (0 ∷ []) q
@@ -79,28 +84,80 @@ bound_never wanted asked is bound same none = at asked is bound (sym same ∙ ap
 asked_never : (wanted asked is : Bool) → wanted ≡ asked → wanted ≡ false → (asked && is) ≡ false
 asked_never wanted asked is same none = ap (λ b. b && is) (sym same ∙ none)
 
+imported_never : (wanted asked imports is : Bool) → wanted ≡ (asked && imports) → wanted ≡ false → (asked && imports && is) ≡ false
+imported_never wanted true imports is same none = ap (λ b. b && is) (sym same ∙ none)
+imported_never wanted false imports is same none = refl
+
 neither : (a b : Bool) → (a || b) ≡ false → (a ≡ false) × (b ≡ false)
 neither false b e = (refl, e)
 neither true b e = absurd (cc)
 
-none_at : (w : Wanted) (o : EnvOptions) (ds : List Declared) → IsWanted w o ds → (w.math_bound || w.helper_name || w.spread_literal || w.tag_chain) ≡ false → (up : List ℕ) (k : AstType) (l : Label) (fs : Fields) → shape_at o ds up k l fs ≡ None
-none_at w o ds wanted none up k l fs =
-    let three = neither (w.math_bound || w.helper_name || w.spread_literal) w.tag_chain none in
-    let two = neither (w.math_bound || w.helper_name) w.spread_literal three.0 in
-    let one = neither w.math_bound w.helper_name two.0 in
+abbrev pub any_wanted : Wanted → Bool
+any_wanted w = w.object_rest || w.imported_spread || w.using_declaration || w.math_bound || w.helper_name || w.spread_literal || w.tag_chain || w.arrows
+
+-- none of them is looked for
+record IsNone (w : Wanted) : Type 0 where
+  object_rest : w.object_rest ≡ false
+  imported_spread : w.imported_spread ≡ false
+  using_declaration : w.using_declaration ≡ false
+  math_bound : w.math_bound ≡ false
+  helper_name : w.helper_name ≡ false
+  spread_literal : w.spread_literal ≡ false
+  tag_chain : w.tag_chain ≡ false
+  arrows : w.arrows ≡ false
+
+is_none : (w : Wanted) → any_wanted w ≡ false → IsNone w
+is_none w none =
+    let a = neither (w.object_rest || w.imported_spread || w.using_declaration || w.math_bound || w.helper_name || w.spread_literal || w.tag_chain) w.arrows none in
+    let b = neither (w.object_rest || w.imported_spread || w.using_declaration || w.math_bound || w.helper_name || w.spread_literal) w.tag_chain a.0 in
+    let c = neither (w.object_rest || w.imported_spread || w.using_declaration || w.math_bound || w.helper_name) w.spread_literal b.0 in
+    let d = neither (w.object_rest || w.imported_spread || w.using_declaration || w.math_bound) w.helper_name c.0 in
+    let e = neither (w.object_rest || w.imported_spread || w.using_declaration) w.math_bound d.0 in
+    let f = neither (w.object_rest || w.imported_spread) w.using_declaration e.0 in
+    let g = neither w.object_rest w.imported_spread f.0 in
+    record { object_rest = g.0; imported_spread = g.1; using_declaration = f.1; math_bound = e.1; helper_name = d.1; spread_literal = c.1; tag_chain = b.1; arrows = a.1 }
+
+-- WHERE NO NODE HAS A SHAPE
+
+no-arrow-shape : (o : EnvOptions) → is_some o.es2015.arrow_function ≡ false → (q : ArrowPlace) (r : Bool) (k : AstType) (l : Label) (fs : Fields) → arrow_shape o q r k l fs ≡ None
+no-arrow-shape o off q r k l fs = ap (λ b. if not b then None else if is_arrow_accessor k l fs then Some ArrowOuter else if q.in_arrow then inner_shape q r k l fs else None) off
+
+module _ (o : EnvOptions) (ds : List Declared) (none : (up : List ℕ) (k : AstType) (l : Label) (fs : Fields) → shape_at o ds up k l fs ≡ None) (free : (q : ArrowPlace) (r : Bool) (k : AstType) (l : Label) (fs : Fields) → arrow_shape o q r k l fs ≡ None) where
+  mutual
+    none-of : (p : Place) (q : ArrowPlace) (n : ℕ) (t : Tree) → first_of o ds p q n t ≡ None
+    none-of p q n (node k l fs) = λ i. option_or (found_at l.id (option_or (none p.around k l fs i) (free q (refers_by p.role) k l fs i))) (none-of-fields (place_in p n k l fs) (arrow_place_in o (binds_arguments ds (own_scope n k fs) k) q k l fs) (n + own_scope_count k fs) fs i)
+
+    none-of-fields : (ps : ℕ → Place) (qs : ℕ → Field → ArrowPlace) (n : ℕ) (fs : Fields) → first_of_fields o ds ps qs n fs ≡ None
+    none-of-fields ps qs n done = refl
+    none-of-fields ps qs n (f then fs) = λ i. option_or (none-of-field (ps zero) (qs zero f) n f i) (none-of-fields (λ j. ps (suc j)) (λ j. qs (suc j)) (n + scope_count_in_field f) fs i)
+
+    none-of-field : (p : Place) (q : ArrowPlace) (n : ℕ) (f : Field) → first_of_field o ds p q n f ≡ None
+    none-of-field p q n missing = refl
+    none-of-field p q n (one t) = none-of p q n t
+    none-of-field p q n (many ts) = none-of-trees p q n ts
+    none-of-field p q n (statements ts) = none-of-trees p q n ts
+
+    none-of-trees : (p : Place) (q : ArrowPlace) (n : ℕ) (ts : Trees) → first_of_trees o ds p q n ts ≡ None
+    none-of-trees p q n empty = refl
+    none-of-trees p q n (t before ts) = λ i. option_or (none-of p q n t i) (none-of-trees p q (n + scope_count_in t) ts i)
+
+no-shape : (w : Wanted) (o : EnvOptions) (ds : List Declared) → IsWanted w o ds → any_wanted w ≡ false → (up : List ℕ) (k : AstType) (l : Label) (fs : Fields) → shape_at o ds up k l fs ≡ None
+no-shape w o ds wanted none up k l fs =
+    let n = is_none w none in
     rw (
-      bound_never w.math_bound o.es2016.exponentiation_operator (is_exponentiation k l fs) (is_some (find ds up (codes "Math"))) (wanted.math up) one.0,
-      bound_never w.helper_name (copies_by_name o) (is_object_spread k l fs) (is_some (find ds up (codes "babelHelpers"))) (wanted.helpers up) one.1,
-      asked_never w.spread_literal (is_some o.es2018.object_rest_spread) (is_uncopied k l fs) wanted.literals two.1,
-      asked_never w.tag_chain o.es2020.optional_chaining (has_chain_tag k l fs) wanted.chains three.1,
+      asked_never w.object_rest (is_some o.es2018.object_rest_spread) (is_object_rest k l fs) wanted.rests n.object_rest,
+      imported_never w.imported_spread (is_some o.es2018.object_rest_spread) (not (is_external o.helper_loader.mode)) (is_object_spread k l fs) wanted.spreads n.imported_spread,
+      asked_never w.using_declaration o.es2026.explicit_resource_management (is_using k l fs) wanted.declarations n.using_declaration,
+      bound_never w.math_bound o.es2016.exponentiation_operator (is_exponentiation k l fs) (is_some (find ds up (codes "Math"))) (wanted.math up) n.math_bound,
+      bound_never w.helper_name (copies_by_name o) (is_object_spread k l fs) (is_some (find ds up (codes "babelHelpers"))) (wanted.helpers up) n.helper_name,
+      asked_never w.spread_literal (is_some o.es2018.object_rest_spread) (is_uncopied k l fs) wanted.literals n.spread_literal,
+      asked_never w.tag_chain o.es2020.optional_chaining (has_chain_tag k l fs) wanted.chains n.tag_chain,
     ) refl
 
-none_among : (o : EnvOptions) (ds : List Declared) → ((up : List ℕ) (k : AstType) (l : Label) (fs : Fields) → shape_at o ds up k l fs ≡ None) → (vs : List Visit) → first_among o ds vs ≡ None
-none_among o ds none [] = refl
-none_among o ds none (v ∷ vs) = ap (λ s. option_or (found_at v.label.id s) (first_among o ds vs)) (none v.place.around v.kind v.label v.fields) ∙ none_among o ds none vs
-
-pub none_wanted : (w : Wanted) (o : EnvOptions) (p : Tree) → IsWanted w o (symbols_of p) → (w.math_bound || w.helper_name || w.spread_literal || w.tag_chain) ≡ false → first_unsupported o p ≡ None
-none_wanted w o p wanted none = none_among o (symbols_of p) (none_at w o (symbols_of p) wanted none) (visits_of p)
+pub none_wanted : (w : Wanted) (o : EnvOptions) (p : Tree) → IsWanted w o (symbols_of p) → any_wanted w ≡ false → first_unsupported o p ≡ None
+none_wanted w o p wanted none =
+    let ds = symbols_of p in
+    none-of o ds (no-shape w o ds wanted none) (no-arrow-shape o (sym wanted.arrows ∙ (is_none w none).arrows)) (outermost p) outside 1 p
 
 -- where no scope binds a name, it need not be looked up
 pub never_bound : (x : Text) (ds : List Declared) (s : Scoping) (may : Bool) → Binds ds s → (may ≡ false → (n : ℕ) → binding_in s n x ≡ None) → (up : List ℕ) → (may && is_some (find ds up x)) ≡ is_some (find ds up x)

@@ -1,5 +1,5 @@
 -- A walk over a program with its marks, which tell the scopes around each node.
-use Rattle.std.specs.Prelude.{◌≡◌, ℕ, zero, suc, ◌-◌, List, ◌∷◌, Bool, ◌&&◌, ◌||◌, not, ltb, Option, Some, None, if◌then◌else◌}
+use Rattle.std.specs.Prelude.{◌≡◌, ℕ, zero, suc, ◌-◌, List, ◌∷◌, Bool, true, false, ◌&&◌, ◌||◌, not, ltb, Option, Some, None, if◌then◌else◌}
 use Rattle.std.specs.Option.{option_or}
 use Rattle.es_tree.specs.Tree.{Tree, node, Label, Fields, done, ◌then◌, Field, missing, one, many, statements, Trees, empty, ◌before◌}
 use Rattle.es_tree.specs.Words.{Text}
@@ -10,8 +10,10 @@ use Rattle.es_scope.specs.Tables.{Finds}
 use Rattle.es_scope.specs.declared.scoping.Scoping.{Scoping}
 use Rattle.es_semantic.specs.Places.{first, has_name_scope, is_inside, makes_scope}
 use Rattle.es_semantic.specs.SymbolsOf.{Declared, find}
+use Rattle.es_unsupported.specs.ArrowShapes.{arrow_place_in, arrow_shape, binds_arguments}
 use Rattle.es_unsupported.specs.FirstUnsupported.{found_at}
 use Rattle.es_unsupported.specs.Shapes.{shape_at}
+use Rattle.es_unsupported.specs.declared.arrow_places.ArrowPlace.{ArrowPlace}
 use Rattle.es_unsupported.specs.declared.scopes.FieldScopes.{FieldScopes}
 
 -- SCOPES
@@ -37,26 +39,35 @@ scope_at scopes (suc i) = scopes.later.0
 abbrev pub has_known_scope : ℕ → AstType → Label → Fields → Bool
 has_known_scope count k l fs = not (makes_scope k) || ltb (scope_mark l.marks) count
 
+-- REFERENCES
+
+-- whether an identifier refers to its name: the first of its marks is its reference
+abbrev pub refers_by_mark : List (Option ℕ) → Bool
+refers_by_mark (Some n ∷ ms) = true
+refers_by_mark _ = false
+
 -- WHAT IS FOUND
 
 abbrev mutual
-  -- at the first node of a tree, in node order, that has a shape of the table
-  pub first_at : EnvOptions → List Declared → List ℕ → Tree → Option (UnsupportedKind × ℕ)
-  first_at o ds up (node k l fs) = option_or (found_at l.id (shape_at o ds up k l fs)) (first_in_fields o ds (around_marked up k l fs) fs)
+  -- at the first node of a tree, in node order, that has a shape
+  pub first_at : EnvOptions → List Declared → List ℕ → ArrowPlace → Tree → Option (UnsupportedKind × ℕ)
+  first_at o ds up q (node k l fs) =
+      option_or (found_at l.id (option_or (shape_at o ds up k l fs) (arrow_shape o q (refers_by_mark l.marks) k l fs)))
+      (first_in_fields o ds (around_marked up k l fs) (arrow_place_in o (binds_arguments ds (scope_mark l.marks) k) q k l fs) fs)
 
-  pub first_in_fields : EnvOptions → List Declared → (ℕ → List ℕ) → Fields → Option (UnsupportedKind × ℕ)
-  first_in_fields o ds ups done = None
-  first_in_fields o ds ups (f then fs) = option_or (first_in_field o ds (ups zero) f) (first_in_fields o ds (λ i. ups (suc i)) fs)
+  pub first_in_fields : EnvOptions → List Declared → (ℕ → List ℕ) → (ℕ → Field → ArrowPlace) → Fields → Option (UnsupportedKind × ℕ)
+  first_in_fields o ds ups qs done = None
+  first_in_fields o ds ups qs (f then fs) = option_or (first_in_field o ds (ups zero) (qs zero f) f) (first_in_fields o ds (λ i. ups (suc i)) (λ i. qs (suc i)) fs)
 
-  pub first_in_field : EnvOptions → List Declared → List ℕ → Field → Option (UnsupportedKind × ℕ)
-  first_in_field o ds up missing = None
-  first_in_field o ds up (one t) = first_at o ds up t
-  first_in_field o ds up (many ts) = first_in_trees o ds up ts
-  first_in_field o ds up (statements ts) = first_in_trees o ds up ts
+  pub first_in_field : EnvOptions → List Declared → List ℕ → ArrowPlace → Field → Option (UnsupportedKind × ℕ)
+  first_in_field o ds up q missing = None
+  first_in_field o ds up q (one t) = first_at o ds up q t
+  first_in_field o ds up q (many ts) = first_in_trees o ds up q ts
+  first_in_field o ds up q (statements ts) = first_in_trees o ds up q ts
 
-  pub first_in_trees : EnvOptions → List Declared → List ℕ → Trees → Option (UnsupportedKind × ℕ)
-  first_in_trees o ds up empty = None
-  first_in_trees o ds up (t before ts) = option_or (first_at o ds up t) (first_in_trees o ds up ts)
+  pub first_in_trees : EnvOptions → List Declared → List ℕ → ArrowPlace → Trees → Option (UnsupportedKind × ℕ)
+  first_in_trees o ds up q empty = None
+  first_in_trees o ds up q (t before ts) = option_or (first_at o ds up q t) (first_in_trees o ds up q ts)
 
 -- LOOK-UP (ECMA-262, 9.1.2.1)
 

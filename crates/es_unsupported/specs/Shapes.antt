@@ -1,19 +1,30 @@
 -- The shapes that a run doesn't take: one row of a table for each, asked in order at each node.
-use Rattle.std.specs.Prelude.{ℕ, List, [], ◌∷◌, Bool, false, true, ◌&&◌, Option, Some, None, is_some, codes, if◌then◌else◌}
-use Rattle.es_tree.specs.Constructs.{field_at, is_exponentiation, is_object_spread}
+use Rattle.std.specs.Prelude.{ℕ, List, [], ◌∷◌, Bool, false, true, ◌&&◌, ◌||◌, not, Option, Some, None, is_some, codes, if◌then◌else◌}
+use Rattle.es_tree.specs.Constructs.{field_at, is_exponentiation, is_object_rest, is_object_spread, is_using}
 use Rattle.es_tree.specs.Options.{is_external}
 use Rattle.es_tree.specs.Parens.{without_parens}
 use Rattle.es_tree.specs.Tree.{Label, Fields, Field, one, kind_of}
 use Rattle.es_tree.specs.declared.ast_type.AstType.{AstType}
 use Rattle.es_tree.specs.declared.ast_type.AstType.TheVariants.{ChainExpression, TaggedTemplateExpression}
 use Rattle.es_tree.specs.declared.error.UnsupportedKind.{UnsupportedKind}
-use Rattle.es_tree.specs.declared.error.UnsupportedKind.TheVariants.{HelperName, MathBound, SpreadLiteral, TagChain}
+use Rattle.es_tree.specs.declared.error.UnsupportedKind.TheVariants.{HelperName, MathBound, NotBuilt, SpreadLiteral, TagChain}
 use Rattle.es_tree.specs.declared.ids.NodeId.{NodeId}
 use Rattle.es_tree.specs.declared.options.EnvOptions.{EnvOptions}
 use Rattle.es_semantic.specs.SymbolsOf.{Declared, find}
 use Rattle.es_unsupported.specs.SpreadLiterals.{is_uncopied}
 
 -- THE SHAPES, each told by the options, the symbols of the program, the scopes around a node, the innermost first, and the node
+
+-- A construct whose lowering isn't built: an object pattern with a rest (14.3.3, 13.15.5), an object literal with a spread (13.2.5) whose
+-- helper has to be imported, and `using` (14.3, with Explicit Resource Management).
+abbrev pub is_unbuilt_node : EnvOptions → AstType → Label → Fields → Bool
+is_unbuilt_node o k l fs =
+    (is_some o.es2018.object_rest_spread && is_object_rest k l fs)
+    || (is_some o.es2018.object_rest_spread && not (is_external o.helper_loader.mode) && is_object_spread k l fs)
+    || (o.es2026.explicit_resource_management && is_using k l fs)
+
+abbrev pub is_unbuilt : EnvOptions → List Declared → List ℕ → AstType → Label → Fields → Bool
+is_unbuilt o ds up k l fs = is_unbuilt_node o k l fs
 
 -- an exponentiation that is lowered where `Math`, whose `pow` is to be called, finds a binding (ECMA-262, 13.6, 13.15)
 abbrev pub is_math_bound : EnvOptions → List Declared → List ℕ → AstType → Label → Fields → Bool
@@ -57,7 +68,7 @@ pub record Row : Type 0 where
 
 abbrev pub rows : List Row
 rows =
-    record { shape = MathBound; holds = is_math_bound } ∷ record { shape = HelperName; holds = is_helper_bound } ∷
+    record { shape = NotBuilt; holds = is_unbuilt } ∷ record { shape = MathBound; holds = is_math_bound } ∷ record { shape = HelperName; holds = is_helper_bound } ∷
     record { shape = SpreadLiteral; holds = is_spread_literal } ∷ record { shape = TagChain; holds = is_tag_chain } ∷ []
 
 -- the shape of the first of these rows that holds

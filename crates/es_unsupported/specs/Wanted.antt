@@ -1,5 +1,6 @@
 -- The shapes that are looked for.
-use Rattle.std.specs.Prelude.{◌≡◌, ℕ, List, ◌&&◌, Bool, is_some, codes}
+use Rattle.std.specs.Prelude.{◌≡◌, ℕ, List, ◌&&◌, Bool, not, is_some, codes}
+use Rattle.es_tree.specs.Options.{is_external}
 use Rattle.es_tree.specs.Words.{Text}
 use Rattle.es_tree.specs.declared.options.EnvOptions.{EnvOptions}
 use Rattle.es_semantic.specs.SymbolsOf.{Declared, find}
@@ -15,4 +16,8 @@ pub record IsWanted (wanted : Wanted) (o : EnvOptions) (ds : List Declared) : Ty
   pub math : WhereBound ds (codes "Math") wanted.math_bound o.es2016.exponentiation_operator
   pub helpers : WhereBound ds (codes "babelHelpers") wanted.helper_name (copies_by_name o)
   pub literals : wanted.spread_literal ≡ is_some o.es2018.object_rest_spread
+  pub rests : wanted.object_rest ≡ is_some o.es2018.object_rest_spread
+  pub spreads : wanted.imported_spread ≡ (is_some o.es2018.object_rest_spread && not (is_external o.helper_loader.mode))
+  pub declarations : wanted.using_declaration ≡ o.es2026.explicit_resource_management
+  pub arrows : wanted.arrows ≡ is_some o.es2015.arrow_function
   pub chains : wanted.tag_chain ≡ o.es2020.optional_chaining

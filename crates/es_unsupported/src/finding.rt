@@ -1,22 +1,24 @@
 //! The first node of a program that a run doesn't take, and why.
 //!
-//! The shapes are the rows of one table, asked in order at each node. A shape more is a row of `specs/Shapes.antt`, and a
-//! test in `shapes.rt`.
+//! The shapes that a node and its scopes tell are the rows of one table, asked in order at each node. A shape more is a row
+//! of `specs/Shapes.antt`, and a test in `shapes.rt`. After them comes what stands in the way of arrows, which the places
+//! around tell, too (`specs/ArrowShapes.antt`, `arrow_shapes.rt`).
 ghost use Rattle.std.specs.Prelude.{◌≡◌, ℕ, ◌<◌, List, true, option_map};
 ghost use Rattle.es_tree.specs.Tree.{Tree, trees};
 ghost use Rattle.es_tree.specs.Views.{plain_field, plain_fields};
 ghost use Rattle.es_tree.specs.Walks.{all_nodes, all_in_field};
-ghost use Rattle.es_tree.specs.declared.options.EnvOptions.{EnvOptions as PlainOptions};
 ghost use Rattle.es_scope.specs.Tables.{scope_count};
 ghost use Rattle.es_semantic.specs.Places.{first};
 ghost use Rattle.es_semantic.specs.SymbolsOf.{Declared};
+ghost use Rattle.es_semantic.specs.Walks.{Binds};
 ghost use Rattle.es_unsupported.specs.FirstUnsupported.{IsBuilt, first_unsupported};
 ghost use Rattle.es_unsupported.specs.MarkedWalk.{LooksUp, LooksUpInField, first_at, first_in_field, has_known_scope};
 ghost use Rattle.es_unsupported.specs.Shapes.{plain_found};
 ghost use Rattle.es_unsupported.specs.Wanted.{IsWanted};
 
-use crate::scopes::field_scopes;
-use crate::shapes::{Wanted, shape_at};
+use crate::arrow_places::ArrowPlace;
+use crate::scopes::{asked_arguments, field_scopes};
+use crate::shapes::{Wanted, find_shape};
 use es_scope::scoping::Scoping;
 use es_tree::error::UnsupportedKind;
 use es_tree::ids::{NodeId, ScopeId};
@@ -38,51 +40,72 @@ pub fn find_unsupported(
     if !wanted.any() {
         return None;
     }
-    find_in(program, scoping.root_scope_id(), scoping, wanted)
+    let place = ArrowPlace::outside();
+    find_in(
+        program,
+        scoping.root_scope_id(),
+        place,
+        scoping,
+        options,
+        wanted,
+    )
 }
 
-/// The first in a tree that stands in this scope.
+/// The first in a tree that stands in this scope and at this place.
 #[cycle(find)]
 fn find_in(
     node: &Node,
     scope: ScopeId,
+    place: ArrowPlace,
     scoping: &Scoping,
+    options: &EnvOptions,
     wanted: Wanted,
 ) -> Option<(UnsupportedKind, NodeId)>
     requires scope { scope.0 < scope_count scoping.now }
     requires marks { all_nodes (has_known_scope (scope_count scoping.now)) node.now ≡ true }
-    ensures { (o : PlainOptions) (ds : List Declared) (up : List ℕ) → IsWanted wanted o ds → scope.0 ≡ first up → LooksUp scoping.now ds up node.now → option_map plain_found result ≡ first_at o ds up node.now }
+    ensures { (ds : List Declared) (up : List ℕ) → IsWanted wanted options.now ds → Binds ds scoping.now → scope.0 ≡ first up → LooksUp scoping.now ds up node.now → option_map plain_found result ≡ first_at options.now ds up place node.now }
 {
-    if let Some(shape) = shape_at(node, scope, scoping, wanted) {
+    if let Some(shape) = find_shape(node, scope, place, scoping, wanted) {
         return Some((shape, node.id));
     }
     let scopes = field_scopes(node, scope);
+    let binds = asked_arguments(wanted.arrows, node, scoping);
     for (index, field) in node.fields.iter().enumerate() {
-        if let Some(found) = find_in_field(field, scopes.at(index), scoping, wanted) {
+        let inside = place.inside(node, index, field, binds, options);
+        if let Some(found) = find_in_field(
+            field,
+            scopes.at(index),
+            inside,
+            scoping,
+            options,
+            wanted,
+        ) {
             return Some(found);
         }
     }
     None
 }
 
-/// The first in a field of which what stands in it stands in this scope.
+/// The first in a field of which what stands in it stands in this scope and at this place.
 #[cycle(find)]
 fn find_in_field(
     field: &Field,
     scope: ScopeId,
+    place: ArrowPlace,
     scoping: &Scoping,
+    options: &EnvOptions,
     wanted: Wanted,
 ) -> Option<(UnsupportedKind, NodeId)>
     requires scope { scope.0 < scope_count scoping.now }
     requires marks { all_in_field (has_known_scope (scope_count scoping.now)) (plain_field field.now) ≡ true }
-    ensures { (o : PlainOptions) (ds : List Declared) (up : List ℕ) → IsWanted wanted o ds → scope.0 ≡ first up → LooksUpInField scoping.now ds up (plain_field field.now) → option_map plain_found result ≡ first_in_field o ds up (plain_field field.now) }
+    ensures { (ds : List Declared) (up : List ℕ) → IsWanted wanted options.now ds → Binds ds scoping.now → scope.0 ≡ first up → LooksUpInField scoping.now ds up (plain_field field.now) → option_map plain_found result ≡ first_in_field options.now ds up place (plain_field field.now) }
 {
     match field {
         Field::Missing => None,
-        Field::One(node) => find_in(node, scope, scoping, wanted),
+        Field::One(node) => find_in(node, scope, place, scoping, options, wanted),
         Field::Many(nodes) | Field::Statements(nodes) => {
             for node in nodes {
-                if let Some(found) = find_in(node, scope, scoping, wanted) {
+                if let Some(found) = find_in(node, scope, place, scoping, options, wanted) {
                     return Some(found);
                 }
             }

@@ -1,7 +1,11 @@
 //! The shapes that a run doesn't take, in programs of every kind.
 #![tactic(auto)]
 
+mod arrow_places;
+mod arrow_shapes;
+mod edges;
 pub mod finding;
+pub mod laws;
 mod names;
 mod scopes;
 mod shapes;

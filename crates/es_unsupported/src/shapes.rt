@@ -1,5 +1,7 @@
 //! The shapes that a run doesn't take, each told at a node and the scope that the node stands in.
 ghost use Rattle.std.specs.Prelude.{◌≡◌, ℕ, ◌<◌, ◌||◌, List, codes, is_some};
+ghost use Rattle.std.specs.Option.{option_or};
+ghost use Rattle.es_tree.specs.Options.{is_external};
 ghost use Rattle.es_tree.specs.Tree.{fields_of, kind_of, label_of};
 ghost use Rattle.es_tree.specs.declared.options.EnvOptions.{EnvOptions as PlainOptions};
 ghost use Rattle.es_nodes.specs.MaybeFields.{maybe_field};
@@ -7,13 +9,16 @@ ghost use Rattle.es_scope.specs.Tables.{scope_count};
 ghost use Rattle.es_semantic.specs.Places.{first};
 ghost use Rattle.es_semantic.specs.SymbolsOf.{Declared, find};
 ghost use Rattle.es_semantic.specs.Walks.{Binds};
-ghost use Rattle.es_unsupported.specs.MarkedWalk.{FindsFrom};
-ghost use Rattle.es_unsupported.specs.Shapes.{copies_by_name, has_chain_tag, is_chain_below, is_chain_kind, is_helper_bound, is_math_bound, shape_at};
+ghost use Rattle.es_unsupported.specs.ArrowShapes.{arrow_shape};
+ghost use Rattle.es_unsupported.specs.MarkedWalk.{FindsFrom, refers_by_mark};
+ghost use Rattle.es_unsupported.specs.Shapes.{copies_by_name, has_chain_tag, is_chain_below, is_chain_kind, is_helper_bound, is_math_bound, is_spread_literal, is_tag_chain, is_unbuilt, shape_at};
 ghost use Rattle.es_unsupported.specs.Wanted.{IsWanted, WhereBound};
 
+use crate::arrow_places::ArrowPlace;
+use crate::arrow_shapes::arrow_shape;
 use crate::names::may_bind;
 use crate::spread_literals::is_uncopied;
-use es_nodes::construct::{is_exponentiation, is_object_spread};
+use es_nodes::construct::{is_exponentiation, is_object_rest, is_object_spread, is_using};
 use es_nodes::fields::field_at;
 use es_scope::scoping::Scoping;
 use es_tree::error::UnsupportedKind;
@@ -26,10 +31,14 @@ use es_tree::parens::strip_parens;
 /// The shapes that a run doesn't take and the program may have.
 #[derive(Clone, Copy)]
 pub(crate) struct Wanted {
+    pub(crate) object_rest: bool,
+    pub(crate) imported_spread: bool,
+    pub(crate) using_declaration: bool,
     pub(crate) math_bound: bool,
     pub(crate) helper_name: bool,
     pub(crate) spread_literal: bool,
     pub(crate) tag_chain: bool,
+    pub(crate) arrows: bool,
 }
 
 impl Wanted {
@@ -38,19 +47,31 @@ impl Wanted {
     pub(crate) fn of_program(scoping: &Scoping, options: &EnvOptions) -> Wanted
         ensures { (ds : List Declared) → Binds ds scoping.now → IsWanted result options.now ds }
     {
+        let copies = options.es2018.object_rest_spread.is_some();
         Wanted {
+            object_rest: copies,
+            imported_spread: copies && !is_external(options.helper_loader.mode),
+            using_declaration: options.es2026.explicit_resource_management,
             math_bound: where_bound(options.es2016.exponentiation_operator, "Math", scoping),
             helper_name: where_bound(copies_by_name(options), "babelHelpers", scoping),
-            spread_literal: options.es2018.object_rest_spread.is_some(),
+            spread_literal: copies,
             tag_chain: options.es2020.optional_chaining,
+            arrows: options.es2015.arrow_function.is_some(),
         }
     }
 
     /// Whether there is one.
     pub(crate) fn any(self) -> bool
-        ensures { result ≡ (self.math_bound || self.helper_name || self.spread_literal || self.tag_chain) }
+        ensures { result ≡ (self.object_rest || self.imported_spread || self.using_declaration || self.math_bound || self.helper_name || self.spread_literal || self.tag_chain || self.arrows) }
     {
-        self.math_bound || self.helper_name || self.spread_literal || self.tag_chain
+        self.object_rest
+            || self.imported_spread
+            || self.using_declaration
+            || self.math_bound
+            || self.helper_name
+            || self.spread_literal
+            || self.tag_chain
+            || self.arrows
     }
 }
 
@@ -65,12 +86,35 @@ fn where_bound(asked: bool, name: &str, scoping: &Scoping) -> bool
 fn copies_by_name(options: &EnvOptions) -> bool
     ensures { result ≡ copies_by_name options.now }
 {
-    options.es2018.object_rest_spread.is_some()
-        && matches!(options.helper_loader.mode, HelperLoaderMode::External)
+    options.es2018.object_rest_spread.is_some() && is_external(options.helper_loader.mode)
+}
+
+fn is_external(mode: HelperLoaderMode) -> bool
+    ensures { result ≡ is_external mode }
+{
+    matches!(mode, HelperLoaderMode::External)
+}
+
+/// The first shape that a node in this scope and at this place has, of those that are looked for: one of the table, or what
+/// stands in the way of arrows.
+pub(crate) fn find_shape(
+    node: &Node,
+    scope: ScopeId,
+    place: ArrowPlace,
+    scoping: &Scoping,
+    wanted: Wanted,
+) -> Option<UnsupportedKind>
+    requires { scope.0 < scope_count scoping.now }
+    ensures { (o : PlainOptions) (ds : List Declared) (up : List ℕ) → IsWanted wanted o ds → scope.0 ≡ first up → FindsFrom scoping.now ds up → result ≡ option_or (shape_at o ds up (kind_of node.now) (label_of node.now) (fields_of node.now)) (arrow_shape o place (refers_by_mark (label_of node.now).marks) (kind_of node.now) (label_of node.now) (fields_of node.now)) }
+{
+    match shape_at(node, scope, scoping, wanted) {
+        Some(shape) => Some(shape),
+        None => arrow_shape(node, place, wanted.arrows),
+    }
 }
 
 /// The first shape of the table that a node in this scope has, of those that are looked for.
-pub(crate) fn shape_at(
+fn shape_at(
     node: &Node,
     scope: ScopeId,
     scoping: &Scoping,
@@ -79,19 +123,31 @@ pub(crate) fn shape_at(
     requires { scope.0 < scope_count scoping.now }
     ensures { (o : PlainOptions) (ds : List Declared) (up : List ℕ) → IsWanted wanted o ds → scope.0 ≡ first up → FindsFrom scoping.now ds up → result ≡ shape_at o ds up (kind_of node.now) (label_of node.now) (fields_of node.now) }
 {
+    if is_unbuilt(node, wanted) {
+        return Some(UnsupportedKind::NotBuilt);
+    }
     if is_math_bound(node, scope, scoping, wanted) {
         return Some(UnsupportedKind::MathBound);
     }
     if is_helper_bound(node, scope, scoping, wanted) {
         return Some(UnsupportedKind::HelperName);
     }
-    if wanted.spread_literal && is_uncopied(node) {
+    if is_spread_literal(node, wanted) {
         return Some(UnsupportedKind::SpreadLiteral);
     }
-    if wanted.tag_chain && has_chain_tag(node) {
+    if is_tag_chain(node, wanted) {
         return Some(UnsupportedKind::TagChain);
     }
     None
+}
+
+/// Whether the node is a construct whose lowering isn't built.
+fn is_unbuilt(node: &Node, wanted: Wanted) -> bool
+    ensures { (o : PlainOptions) (ds : List Declared) (up : List ℕ) → IsWanted wanted o ds → result ≡ is_unbuilt o ds up (kind_of node.now) (label_of node.now) (fields_of node.now) }
+{
+    (wanted.object_rest && is_object_rest(node))
+        || (wanted.imported_spread && is_object_spread(node))
+        || (wanted.using_declaration && is_using(node))
 }
 
 /// Whether an exponentiation stands where `Math` is bound.
@@ -108,6 +164,20 @@ fn is_helper_bound(node: &Node, scope: ScopeId, scoping: &Scoping, wanted: Wante
     ensures { (o : PlainOptions) (ds : List Declared) (up : List ℕ) → IsWanted wanted o ds → scope.0 ≡ first up → FindsFrom scoping.now ds up → result ≡ is_helper_bound o ds up (kind_of node.now) (label_of node.now) (fields_of node.now) }
 {
     wanted.helper_name && is_object_spread(node) && binds(scoping, scope, "babelHelpers")
+}
+
+/// Whether the node is an object literal with a spread whose properties can't be copied.
+fn is_spread_literal(node: &Node, wanted: Wanted) -> bool
+    ensures { (o : PlainOptions) (ds : List Declared) (up : List ℕ) → IsWanted wanted o ds → result ≡ is_spread_literal o ds up (kind_of node.now) (label_of node.now) (fields_of node.now) }
+{
+    wanted.spread_literal && is_uncopied(node)
+}
+
+/// Whether a chain that is to be lowered is the tag of the template that the node is.
+fn is_tag_chain(node: &Node, wanted: Wanted) -> bool
+    ensures { (o : PlainOptions) (ds : List Declared) (up : List ℕ) → IsWanted wanted o ds → result ≡ is_tag_chain o ds up (kind_of node.now) (label_of node.now) (fields_of node.now) }
+{
+    wanted.tag_chain && has_chain_tag(node)
 }
 
 /// Whether the name finds a binding from this scope outwards.

@@ -87,11 +87,11 @@ module _ (l : Label) (all fs : Fields) (up : List Ancestor) where
 
   -- where no `super` belongs to it
   module _ (o : EnvOptions) where
-    parameters-keep : (parameter : Bool) (ts : Trees) → ArrowsFitAll o true parameter ts → KeepsAll (ancestor ArrowFunctionExpression l all 0 0 ∷ up) ts → KeepsAll (ancestor FunctionExpression l fs 1 0 ∷ up) ts
-    parameters-keep parameter ts f h = out-all o (ancestor FunctionExpression l fs 1 0) (in_constructor up) up ts parameter (function-half l fs 1 up) function-near-first f (parameters-go ts h)
+    parameters-keep : (parameter reaches : Bool) (ts : Trees) → ArrowsFitAll o true parameter reaches ts → KeepsAll (ancestor ArrowFunctionExpression l all 0 0 ∷ up) ts → KeepsAll (ancestor FunctionExpression l fs 1 0 ∷ up) ts
+    parameters-keep parameter reaches ts f h = out-all o (ancestor FunctionExpression l fs 1 0) (in_constructor up) up ts parameter reaches (function-half l fs 1 up) function-near-first f (parameters-go ts h)
 
-    body-keeps : (parameter : Bool) (t : Tree) → ArrowsFit o true parameter t → Keeps (ancestor ArrowFunctionExpression l all 1 0 ∷ up) t → Keeps (ancestor FunctionExpression l fs 2 0 ∷ up) t
-    body-keeps parameter t f h = out-tree o (ancestor FunctionExpression l fs 2 0) (in_constructor up) up t parameter (function-half l fs 2 up) function-near-second f (body-goes t h)
+    body-keeps : (parameter reaches : Bool) (t : Tree) → ArrowsFit o true parameter reaches t → Keeps (ancestor ArrowFunctionExpression l all 1 0 ∷ up) t → Keeps (ancestor FunctionExpression l fs 2 0 ∷ up) t
+    body-keeps parameter reaches t f h = out-tree o (ancestor FunctionExpression l fs 2 0) (in_constructor up) up t parameter reaches (function-half l fs 2 up) function-near-second f (body-goes t h)
 
 -- AN EXPRESSION in the `return` of a body
 
@@ -108,9 +108,9 @@ module _ (l : Label) (all fs bs rs : Fields) (up : List Ancestor) where
   return-half : Half (here ∷ returning (in_constructor up)) (here ∷ returning up)
   return-half = record { labels = refl; loop = λ h. h; breakable = λ h. h; function = λ h. h; targets = λ h. h; in_module = refl; method = λ h. h; constructor = λ h. absurd (cc h); class = λ h. h }
 
-  returned-keeps : (o : EnvOptions) (parameter : Bool) (e : Tree) → ArrowsFit o true parameter e → Keeps (ancestor ArrowFunctionExpression l all 1 0 ∷ up) e → Keeps (here ∷ returning up) e
-  returned-keeps o parameter e f h =
-      out-tree o here (returning (in_constructor up)) (returning up) e parameter return-half (record { place = same_place Other; head = alike-self _; rest = λ t. refl }) f
+  returned-keeps : (o : EnvOptions) (parameter reaches : Bool) (e : Tree) → ArrowsFit o true parameter reaches e → Keeps (ancestor ArrowFunctionExpression l all 1 0 ∷ up) e → Keeps (here ∷ returning up) e
+  returned-keeps o parameter reaches e f h =
+      out-tree o here (returning (in_constructor up)) (returning up) e parameter reaches return-half (record { place = same_place Other; head = alike-self _; rest = λ t. refl }) f
       (goes (ancestor ArrowFunctionExpression l all 1 0 ∷ up) (here ∷ returning (in_constructor up)) (loose l all 1 0 up ArrowFunctionExpression refl) (loose (made [] []) rs 0 0 (returning (in_constructor up)) ReturnStatement refl) true return-offers e
       (super-moved (ancestor ArrowFunctionExpression l all 1 0 ∷ up) (here ∷ returning (in_constructor up)) true return-offers (λ x. absurd (cc x)) (λ x. absurd (cc x)) e) (within (same_place Other)) (λ x. absurd (cc x)) h)
 
@@ -135,21 +135,21 @@ function-place (a ∷ (b ∷ up)) l gs fs h = h
 function-here : (up : List Ancestor) (l : Label) (gs fs : Fields) → KeepsHere up (node ArrowFunctionExpression l gs) → KeepsHere up (node FunctionExpression l fs)
 function-here up l gs fs h = record { jump = refl; label = refl; returned = refl; super_word = refl; target = function-target (place_of up) l gs fs h.target; chain = refl; mark = unmarked (place_of up) FunctionExpression l fs refl; deleted = refl; value = refl; using_word = refl; head = refl; item = refl; accessor = refl; rest = function-place up l gs fs h.rest; declaration = refl; meta = refl }
 
-pub with-body-keeps : (o : EnvOptions) (up : List Ancestor) (l : Label) (ps : Trees) (b : Tree) (arrow parameter : Bool) → ArrowsFit o arrow parameter (node ArrowFunctionExpression l (many ps then one b then done)) → Keeps up (node ArrowFunctionExpression l (many ps then one b then done)) → Keeps up (node FunctionExpression l (missing then many ps then one b then done))
-with-body-keeps o up l ps b arrow parameter f h =
+pub with-body-keeps : (o : EnvOptions) (up : List Ancestor) (l : Label) (ps : Trees) (b : Tree) (arrow parameter reaches : Bool) → ArrowsFit o arrow parameter reaches (node ArrowFunctionExpression l (many ps then one b then done)) → Keeps up (node ArrowFunctionExpression l (many ps then one b then done)) → Keeps up (node FunctionExpression l (missing then many ps then one b then done))
+with-body-keeps o up l ps b arrow parameter reaches f h =
     let old : Fields = many ps then one b then done in
     let new : Fields = missing then many ps then one b then done in
-    (function-here up l old new h.0, (tt, (parameters-keep l old new up o true ps f.1.0 h.1.0, (body-keeps l old new up o false b f.1.1.0 h.1.1.0, tt))))
+    (function-here up l old new h.0, (tt, (parameters-keep l old new up o true reaches ps f.1.0 h.1.0, (body-keeps l old new up o false reaches b f.1.1.0 h.1.1.0, tt))))
 
-pub with-expression-keeps : (o : EnvOptions) (up : List Ancestor) (l : Label) (ps : Trees) (e : Tree) (arrow parameter : Bool) → ArrowsFit o arrow parameter (node ArrowFunctionExpression l (many ps then one e then done)) → Keeps up (node ArrowFunctionExpression l (many ps then one e then done)) → Keeps up (node FunctionExpression l (missing then many ps then one (body_node (return_node e before empty)) then done))
-with-expression-keeps o up l ps e arrow parameter f h =
+pub with-expression-keeps : (o : EnvOptions) (up : List Ancestor) (l : Label) (ps : Trees) (e : Tree) (arrow parameter reaches : Bool) → ArrowsFit o arrow parameter reaches (node ArrowFunctionExpression l (many ps then one e then done)) → Keeps up (node ArrowFunctionExpression l (many ps then one e then done)) → Keeps up (node FunctionExpression l (missing then many ps then one (body_node (return_node e before empty)) then done))
+with-expression-keeps o up l ps e arrow parameter reaches f h =
     let old : Fields = many ps then one e then done in
     let new : Fields = missing then many ps then one (body_node (return_node e before empty)) then done in
     let list : Fields = many empty then statements (return_node e before empty) then done in
     let inside = ancestor FunctionExpression l new 2 0 ∷ up in
     let body : KeepsHere inside (body_node (return_node e before empty)) = record { jump = refl; label = refl; returned = refl; super_word = refl; target = refl; chain = refl; mark = refl; deleted = refl; value = refl; using_word = refl; head = refl; item = refl; accessor = refl; rest = function-rest l new 2 up (body_node (return_node e before empty)); declaration = refl; meta = refl } in
     let returned : KeepsHere (ancestor FunctionBody (made [] []) list 1 0 ∷ inside) (return_node e) = record { jump = refl; label = refl; returned = refl; super_word = refl; target = refl; chain = refl; mark = refl; deleted = refl; value = refl; using_word = refl; head = refl; item = refl; accessor = refl; rest = refl; declaration = refl; meta = refl } in
-    (function-here up l old new h.0, (tt, (parameters-keep l old new up o true ps f.1.0 h.1.0, ((body, (tt, (((returned, (returned-keeps l old new list (one e then done) up o false e f.1.1.0 h.1.1.0, tt)), tt), tt))), tt))))
+    (function-here up l old new h.0, (tt, (parameters-keep l old new up o true reaches ps f.1.0 h.1.0, ((body, (tt, (((returned, (returned-keeps l old new list (one e then done) up o false reaches e f.1.1.0 h.1.1.0, tt)), tt), tt))), tt))))
 
 -- A NAME in the place of `this`, which is no label
 

@@ -1,12 +1,13 @@
 -- Rows leave arrows that can become functions: what a row makes consists of parts of what stood there and of made nodes of other kinds.
 use Rattle.std.proofs.Common.{◌≡◌, ℕ, refl, sym, subst, List, [], ◌∷◌, ◌++◌, true≢false}
-use Rattle.std.specs.Prelude.{◌&&◌, ◌||◌, Bool, true, false, Option, Some, None}
+use Rattle.std.specs.Prelude.{◌&&◌, ◌||◌, not, Bool, true, false, Option, Some, None}
+use Rattle.std.proofs.lemmas.Bool.{and_right, or_from}
 use Rattle.es_tree.specs.Parens.{without_parens}
 use Rattle.es_tree.specs.Tree.{Tree, node, Label, Fields, Trees, trees, kind_of}
 use Rattle.es_tree.specs.declared.ast_type.AstType.{AstType}
-use Rattle.es_tree.specs.declared.ast_type.AstType.TheVariants.{ObjectProperty, Super, UnaryExpression}
+use Rattle.es_tree.specs.declared.ast_type.AstType.TheVariants.{ObjectProperty, Super, ThisExpression, UnaryExpression}
 use Rattle.es_tree.specs.declared.options.EnvOptions.{EnvOptions}
-use Rattle.es_runs.specs.OptionalChaining.{has_tests, joined_by_or, member_at, null_checks, where_short}
+use Rattle.es_runs.specs.OptionalChaining.{has_tests, is_super, is_this_or_super, joined_by_or, member_at, null_checks, where_short}
 use Rattle.es_runs.specs.Rules.{assign_node, tested}
 use Rattle.es_resolution.specs.Declarations.{Bound}
 use Rattle.es_steps.specs.Duplication.{IsDuplicated}
@@ -33,24 +34,26 @@ use Rattle.es_steps.specs.OptionalChaining.Tested.{as_name, in_holder, in_tempor
 use Rattle.es_steps.specs.OptionalChaining.Walked.{base, marked_call, marked_member, plain_call, plain_member}
 use Rattle.es_steps.specs.Steps.{Site, Whole}
 use Rattle.es_valid_steps.specs.ArrowNodes.{is_arrow_accessor, is_this_within}
+use Rattle.es_conditions.proofs.Marks.{first-of}
 use Rattle.es_valid_arrows.specs.ArrowPlaces.{is_outer}
 use Rattle.es_valid_arrows.proofs.Fits.{ArrowsFit, ArrowsFitAll}
 use Rattle.es_valid_arrows.proofs.FitTrees.{appended-fit, inner-fit, is_settled}
 
 -- no test of a node asks where it stood
-own-placed : (m : Label) (k : AstType) (l : Label) (fs : Fields) (b : Bool) → ((is_outer k l fs && b) || is_arrow_accessor k l fs) ≡ false → ((is_outer k (record l { start = m.start; stop = m.stop }) fs && b) || is_arrow_accessor k (record l { start = m.start; stop = m.stop }) fs) ≡ false
-own-placed m Super l fs b h = h
-own-placed m UnaryExpression l fs b h = h
-own-placed m ObjectProperty l fs b h = h
-own-placed m _ l fs b h = refl
+own-placed : (m : Label) (reaches : Bool) (k : AstType) (l : Label) (fs : Fields) (b : Bool) → ((is_outer reaches k l fs && b) || is_arrow_accessor k l fs) ≡ false → ((is_outer reaches k (record l { start = m.start; stop = m.stop }) fs && b) || is_arrow_accessor k (record l { start = m.start; stop = m.stop }) fs) ≡ false
+own-placed m reaches Super l fs b h = h
+own-placed m reaches ThisExpression l fs b h = h
+own-placed m reaches UnaryExpression l fs b h = h
+own-placed m reaches ObjectProperty l fs b h = h
+own-placed m reaches _ l fs b h = refl
 
--- in what belongs to an arrow, or not
-module _ (options : EnvOptions) (arrow : Bool) where
+-- in what belongs to an arrow or not, from where a `this` reaches its target or not
+module _ (options : EnvOptions) (arrow reaches : Bool) where
   abbrev Fit : Tree → Type 0
-  Fit t = ArrowsFit options arrow false t
+  Fit t = ArrowsFit options arrow false reaches t
 
   abbrev FitAll : Trees → Type 0
-  FitAll ts = ArrowsFitAll options arrow false ts
+  FitAll ts = ArrowsFitAll options arrow false reaches ts
 
   -- what a row leaves
   pub record Replaced (u : Tree) : Type 0 where
@@ -62,7 +65,20 @@ module _ (options : EnvOptions) (arrow : Bool) where
 
   -- below parentheses stands a tree of this form
   inner-is : (t u : Tree) → without_parens t ≡ u → Fit t → Fit u
-  inner-is t u e h = subst (λ (x : Tree). Fit x) e (inner-fit options arrow t h)
+  inner-is t u e h = subst (λ (x : Tree). Fit x) e (inner-fit options arrow reaches t h)
+
+  -- where `super` or `this` stands, `this` may
+  abbrev MayStand : Type 0
+  MayStand = (not reaches && arrow) ≡ false
+
+  this-may : (o : Tree) → is_this_or_super o ≡ true → Fit o → MayStand
+  this-may (node ThisExpression l fs) e h = first-of (not reaches && arrow) false h.0
+  this-may (node Super l fs) e h = and_right (not reaches) arrow (first-of arrow false h.0)
+  this-may (node _ l fs) e h = absurd (cc e)
+
+  super-may : (o : Tree) → is_super o ≡ true → Fit o → MayStand
+  super-may (node Super l fs) e h = and_right (not reaches) arrow (first-of arrow false h.0)
+  super-may (node _ l fs) e h = absurd (cc e)
 
   -- NULLISH COALESCING
 
@@ -115,16 +131,16 @@ module _ (options : EnvOptions) (arrow : Bool) where
       record { front = k.0; target = (refl, (k.1, (h.1.1.0, tt))); read = (refl, (k.1, (h.1.1.0, tt))) }
   twice-fit w xs fs t target read (other_key {o = o} {o' = o'} {xs = ys} {fs = gs} e1 e2 held next) h =
       let k = holds-fit _ w ys gs o o' held h.1.0 in
-      record { front = appended-fit options arrow false gs (_ ∷ []) k.0 ((refl, ((refl, tt), (h.1.1.0, tt))), tt); target = (refl, (k.1, ((refl, tt), tt))); read = (refl, (k.1, ((refl, tt), tt))) }
+      record { front = appended-fit options arrow false reaches gs (_ ∷ []) k.0 ((refl, ((refl, tt), (h.1.1.0, tt))), tt); target = (refl, (k.1, ((refl, tt), tt))); read = (refl, (k.1, ((refl, tt), tt))) }
 
   pub raising-fit : RowFit ExponentiationRule
   raising-fit n w bs t u (power f e1 e2 e3) h = record { fit = (refl, ((refl, ((refl, tt), ((refl, tt), tt))), ((h.1.0, (h.1.1.0, tt)), tt))); kind = refl }
   raising-fit n w bs t u (power_assignment {t = left} {target = target} {read = read} {xs = xs} {fs = []} f e1 e2 e3 d) h =
-      let k = twice-fit w xs [] (without_parens left) target read d (inner-fit options arrow left h.1.0) in
+      let k = twice-fit w xs [] (without_parens left) target read d (inner-fit options arrow reaches left h.1.0) in
       record { fit = (refl, (k.target, ((refl, ((refl, ((refl, tt), ((refl, tt), tt))), ((k.read, (h.1.1.0, tt)), tt))), tt))); kind = refl }
   raising-fit n w bs t u (power_assignment {t = left} {target = target} {read = read} {xs = xs} {fs = g ∷ gs} f e1 e2 e3 d) h =
-      let k = twice-fit w xs (g ∷ gs) (without_parens left) target read d (inner-fit options arrow left h.1.0) in
-      record { fit = (refl, (appended-fit options arrow false (g ∷ gs) (_ ∷ []) k.front ((refl, (k.target, ((refl, ((refl, ((refl, tt), ((refl, tt), tt))), ((k.read, (h.1.1.0, tt)), tt))), tt))), tt), tt)); kind = refl }
+      let k = twice-fit w xs (g ∷ gs) (without_parens left) target read d (inner-fit options arrow reaches left h.1.0) in
+      record { fit = (refl, (appended-fit options arrow false reaches (g ∷ gs) (_ ∷ []) k.front ((refl, (k.target, ((refl, ((refl, ((refl, tt), ((refl, tt), tt))), ((k.read, (h.1.1.0, tt)), tt))), tt))), tt), tt)); kind = refl }
 
   -- OPTIONAL CHAINING
 
@@ -138,35 +154,35 @@ module _ (options : EnvOptions) (arrow : Bool) where
 
   -- the tests once this is stored
   stored-fit : (no_all : Bool) (ts : List Tree) (c : Bound) (e : Tree) → FitAll (trees ts) → Fit e → FitAll (trees (ts ++ null_checks no_all (assign_node (identifier c) e) (identifier c)))
-  stored-fit no_all ts c e h k = appended-fit options arrow false ts (null_checks no_all (assign_node (identifier c) e) (identifier c)) h (checks-fit no_all (assign_node (identifier c) e) (identifier c) (refl, ((refl, tt), (k, tt))) (refl, tt))
+  stored-fit no_all ts c e h k = appended-fit options arrow false reaches ts (null_checks no_all (assign_node (identifier c) e) (identifier c)) h (checks-fit no_all (assign_node (identifier c) e) (identifier c) (refl, ((refl, tt), (k, tt))) (refl, tt))
 
-  received-fit : (to_this : Tree → Bool) (w : Whole) (holder : Option Bound) (xs : List Bound) (o o1 r : Tree) → Receives to_this w holder xs o o1 r → Fit o → Fit o1 × Fit r
-  received-fit to_this w holder xs o o1 r (by_this e) h = (h, (refl, tt))
-  received-fit to_this w holder xs o o1 r (by_name e1 e2) h = (h, h)
-  received-fit to_this w holder xs o o1 r (received_by_temporary e1 e2 next) h = ((refl, ((refl, tt), (h, tt))), (refl, tt))
+  received-fit : (to_this : Tree → Bool) → ((o : Tree) → to_this o ≡ true → Fit o → MayStand) → (w : Whole) (holder : Option Bound) (xs : List Bound) (o o1 r : Tree) → Receives to_this w holder xs o o1 r → Fit o → Fit o1 × Fit r
+  received-fit to_this may w holder xs o o1 r (by_this e) h = (h, (or_from (not reaches && arrow) false (may o e h) refl, tt))
+  received-fit to_this may w holder xs o o1 r (by_name e1 e2) h = (h, h)
+  received-fit to_this may w holder xs o o1 r (received_by_temporary e1 e2 next) h = ((refl, ((refl, tt), (h, tt))), (refl, tt))
 
   name-fit : (no_all : Bool) (w : Way) → WayFit w → FitAll (trees (null_checks no_all (without_parens w.current) (without_parens w.current)))
-  name-fit no_all w h = let inner = inner-fit options arrow w.current h.current in checks-fit no_all (without_parens w.current) (without_parens w.current) inner inner
+  name-fit no_all w h = let inner = inner-fit options arrow reaches w.current h.current in checks-fit no_all (without_parens w.current) (without_parens w.current) inner inner
 
   before-fit : (no_all : Bool) (known : Whole) (w u : Way) → Tested no_all known w u → WayFit w → WayFit u
-  before-fit no_all known w u (as_name e1 e2) h = record { tests = name-fit no_all w h; current = inner-fit options arrow w.current h.current }
-  before-fit no_all known w u (in_holder {x = x} e) h = record { tests = stored-fit no_all w.tests x (without_parens w.current) h.tests (inner-fit options arrow w.current h.current); current = (refl, tt) }
-  before-fit no_all known w u (in_temporary {x = x} e1 e2 next) h = record { tests = stored-fit no_all w.tests x (without_parens w.current) h.tests (inner-fit options arrow w.current h.current); current = (refl, tt) }
+  before-fit no_all known w u (as_name e1 e2) h = record { tests = name-fit no_all w h; current = inner-fit options arrow reaches w.current h.current }
+  before-fit no_all known w u (in_holder {x = x} e) h = record { tests = stored-fit no_all w.tests x (without_parens w.current) h.tests (inner-fit options arrow reaches w.current h.current); current = (refl, tt) }
+  before-fit no_all known w u (in_temporary {x = x} e1 e2 next) h = record { tests = stored-fit no_all w.tests x (without_parens w.current) h.tests (inner-fit options arrow reaches w.current h.current); current = (refl, tt) }
 
   -- a callee is stored with its receiver
   method-fit : (no_all : Bool) (l : Label) (arguments : Trees) (w : Way) (names : List Bound) (c : Bound) (callee r : Tree) → WayFit w → Fit callee → Fit r → FitAll arguments → WayFit (stored_call no_all l arguments w names c callee r)
   method-fit no_all l arguments w names c callee r h k m a = record { tests = stored-fit no_all w.tests c callee h.tests k; current = (refl, ((refl, ((refl, tt), ((refl, tt), tt))), ((m, a), tt))) }
 
   called-fit : (no_all : Bool) (known : Whole) (l : Label) (arguments : Trees) (w u : Way) → Called no_all known l arguments w u → FitAll arguments → WayFit w → WayFit u
-  called-fit no_all known l arguments w u (called_by_name e1 e2) a h = record { tests = name-fit no_all w h; current = (refl, (inner-fit options arrow w.current h.current, (a, tt))) }
-  called-fit no_all known l arguments w u (by_value {c = c} e1 e2 next) a h = record { tests = stored-fit no_all w.tests c (without_parens w.current) h.tests (inner-fit options arrow w.current h.current); current = (refl, ((refl, tt), (a, tt))) }
+  called-fit no_all known l arguments w u (called_by_name e1 e2) a h = record { tests = name-fit no_all w h; current = (refl, (inner-fit options arrow reaches w.current h.current, (a, tt))) }
+  called-fit no_all known l arguments w u (by_value {c = c} e1 e2 next) a h = record { tests = stored-fit no_all w.tests c (without_parens w.current) h.tests (inner-fit options arrow reaches w.current h.current); current = (refl, ((refl, tt), (a, tt))) }
   called-fit no_all known l arguments w u (by_first_member {k = k} {computed = computed} {o = o} {o1 = o1} {p = p} {r = r} {c = c} {xs = xs} e1 e2 e3 next received) a h =
       let inner = inner-is w.current _ e2 h.current in
-      let parts = received-fit _ _ w.holder xs o o1 r received inner.1.0 in
+      let parts = received-fit _ this-may _ w.holder xs o o1 r received inner.1.0 in
       method-fit no_all l arguments w (c ∷ xs) c (member_at k computed o1 p) r h (refl, (parts.0, (inner.1.1.0, tt))) parts.1 a
   called-fit no_all known l arguments w u (by_later_member {k = k} {computed = computed} {o = o} {o1 = o1} {p = p} {r = r} {c = c} {xs = xs} e1 e2 e3 received next) a h =
       let inner = inner-is w.current _ e2 h.current in
-      let parts = received-fit _ _ w.holder xs o o1 r received inner.1.0 in
+      let parts = received-fit _ this-may _ w.holder xs o o1 r received inner.1.0 in
       method-fit no_all l arguments w (xs ++ c ∷ []) c (member_at k computed o1 p) r h (refl, (parts.0, (inner.1.1.0, tt))) parts.1 a
 
   mutual
@@ -184,7 +200,7 @@ module _ (options : EnvOptions) (arrow : Bool) where
   bound-fit : (w : Whole) (holder : Option Bound) (xs : List Bound) (e d : Tree) → BoundCallee w holder xs e d → Fit e → Fit d
   bound-fit w holder xs e d (no_member m) h = h
   bound-fit w holder xs e d (to_object {o = o} {o1 = o1} {r = r} flags received) h =
-      let parts = received-fit _ w holder xs o o1 r received h.1.0 in
+      let parts = received-fit _ super-may w holder xs o o1 r received h.1.0 in
       (refl, ((refl, ((refl, (parts.0, (h.1.1.0, tt))), ((refl, tt), tt))), ((parts.1, tt), tt)))
 
   -- what is left of a spine with a test is a member or a call
@@ -240,10 +256,10 @@ module _ (options : EnvOptions) (arrow : Bool) where
   copies-fit : (f : Tree) (c : Option Tree) (ps : List Tree) (ts : Trees) (u : Tree) → Copies f c ps ts u → Fit f → CopyFit c → FitAll (trees ps) → FitAll ts → Replaced u
   copies-fit f c ps ts u no_more hf hc hp h = last-fit f c ps hf hc hp
   copies-fit f c ps ts u (copies {e = e} {ts = rest} d) hf hc hp h = copies-fit f _ [] rest u d hf (copied-fit f c ps e hf hc hp h.0.1.0) tt h.1
-  copies-fit f c ps ts u (keeps {t = t} {ts = rest} other d) hf hc hp h = copies-fit f c (ps ++ t ∷ []) rest u d hf hc (appended-fit options arrow false ps (t ∷ []) hp (h.0, tt)) h.1
+  copies-fit f c ps ts u (keeps {t = t} {ts = rest} other d) hf hc hp h = copies-fit f c (ps ++ t ∷ []) rest u d hf hc (appended-fit options arrow false reaches ps (t ∷ []) hp (h.0, tt)) h.1
 
   placed-fit : (m : Label) (u : Tree) → Replaced u → Replaced (placed m u)
-  placed-fit m (node k l fs) h = record { fit = (own-placed m k l fs arrow h.fit.0, h.fit.1); kind = h.kind }
+  placed-fit m (node k l fs) h = record { fit = (own-placed m reaches k l fs arrow h.fit.0, h.fit.1); kind = h.kind }
 
   pub spreading-fit : RowFit SpreadRule
   spreading-fit n w bs t u (spreads {m = m} {ps = ps} {u = v} unbound used some quiet d) h =

@@ -2,8 +2,12 @@ pub mod Wide
 pub mod ArrowForms
 pub mod ArrowSteps
 pub mod Fits
+pub mod Nested
+pub mod WrappedParts
 pub mod FitTrees
 pub mod FitRows
+pub mod HeldRows
+pub mod HeldTrees
 pub mod FitRules
 pub mod FitSteps
 pub mod FitPrograms
@@ -18,5 +22,8 @@ pub mod NamedRules
 pub mod NamedEdges
 pub mod NamedSteps
 pub mod NamedPrograms
+pub mod BareHolds
 pub mod FitBare
+pub mod ThisRoles
+pub mod ThisReads
 pub mod Examples

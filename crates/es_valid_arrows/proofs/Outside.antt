@@ -11,12 +11,12 @@ use Rattle.es_tree.specs.Tree.{Tree, node, Label, Fields, done, ◌then◌, Fiel
 use Rattle.es_tree.specs.declared.ast_type.AstType.{AstType}
 use Rattle.es_tree.specs.declared.ast_type.AstType.TheVariants.{ArrowFunctionExpression, BreakStatement, ContinueStatement, ExportNamedDeclaration, ForInStatement, Identifier, LabeledStatement, MetaProperty, MethodDefinition, Program, StaticBlock, Super, VariableDeclaration}
 use Rattle.es_tree.specs.declared.options.EnvOptions.{EnvOptions}
-use Rattle.es_steps.specs.Slots.{leads_to_value}
 use Rattle.es_steps.specs.ThisPlaces.{keeps_this}
+use Rattle.es_arrow_steps.specs.ThisFits.{reaches_in}
 use Rattle.es_valid_steps.specs.PlaceRules.{Keeps, KeepsAll, KeepsBy, KeepsHere, KeepsIn}
 use Rattle.es_valid_steps.proofs.Moves.{all-moved, keeps-moved, mark-moved, not-more, return-moved, target-moved, value-moved}
 use Rattle.es_valid_steps.proofs.Offers.{Near, Offers, alike-self, in_derived, near-within}
-use Rattle.es_valid_arrows.specs.ArrowPlaces.{arrow_in, parameter_in, wraps_slots}
+use Rattle.es_valid_arrows.specs.ArrowPlaces.{arrow_in, is_wrapped_slot, parameter_in}
 use Rattle.es_valid_arrows.proofs.Fits.{ArrowsFit, ArrowsFitAll, ArrowsFitBy, ArrowsFitIn}
 
 -- Whatever these ancestors offer, those offer, but for `super`; and what they are to a function in them.
@@ -118,9 +118,9 @@ module _ (up vp : List Ancestor) (h : Half up vp) where
   half-meta (node _ l fs) e = refl
 
   -- no `super` stands here
-  half-super : (o : EnvOptions) (parameter : Bool) (t : Tree) → ArrowsFit o true parameter t → is_misplaced_super vp t ≡ false
-  half-super o parameter (node Super l fs) f = absurd (let no : true ≡ false = f.0 in cc no)
-  half-super o parameter (node _ l fs) f = refl
+  half-super : (o : EnvOptions) (parameter reaches : Bool) (t : Tree) → ArrowsFit o true parameter reaches t → is_misplaced_super vp t ≡ false
+  half-super o parameter reaches (node Super l fs) f = absurd (let no : true ≡ false = f.0 in cc no)
+  half-super o parameter reaches (node _ l fs) f = refl
 
 -- BELOW ONE ANCESTOR, which stands elsewhere
 
@@ -145,12 +145,12 @@ module _ (a : Ancestor) (up vp : List Ancestor) (h : Half (a ∷ up) (a ∷ vp))
   same-head (node VariableDeclaration l fs) = refl
   same-head (node _ l fs) = refl
 
-  out-here : (o : EnvOptions) (parameter : Bool) (t : Tree) → ArrowsFit o true parameter t → KeepsHere (a ∷ up) t → KeepsHere (a ∷ vp) t
-  out-here o parameter t f k = record {
+  out-here : (o : EnvOptions) (parameter reaches : Bool) (t : Tree) → ArrowsFit o true parameter reaches t → KeepsHere (a ∷ up) t → KeepsHere (a ∷ vp) t
+  out-here o parameter reaches t f k = record {
     jump = half-jump (a ∷ up) (a ∷ vp) h t k.jump;
     label = same-label t ∙ k.label;
     returned = return-moved (a ∷ up) (a ∷ vp) t h.function k.returned;
-    super_word = half-super (a ∷ up) (a ∷ vp) h o parameter t f;
+    super_word = half-super (a ∷ up) (a ∷ vp) h o parameter reaches t f;
     target = target-moved (place_of (a ∷ up)) (place_of (a ∷ vp)) n.place t k.target;
     chain = k.chain;
     mark = mark-moved (place_of (a ∷ up)) (place_of (a ∷ vp)) n.place t k.mark;
@@ -167,44 +167,44 @@ module _ (a : Ancestor) (up vp : List Ancestor) (h : Half (a ∷ up) (a ∷ vp))
 
 -- EACH NODE
 
-either-state : (o : EnvOptions) (parameter : Bool) (k : AstType) (l : Label) (fs : Fields) (j : ℕ) → (keeps_this (ancestor k l fs j 0) ≡ true) ⊎ (arrow_in o true parameter (ancestor k l done j 0) ≡ true)
-either-state o parameter k l fs j = at (keeps_this (ancestor k l fs j 0)) refl
+either-state : (o : EnvOptions) (parameter : Bool) (k : AstType) (l : Label) (fs : Fields) (j : ℕ) (f : Field) → (keeps_this (ancestor k l fs j 0) ≡ true) ⊎ (arrow_in o true parameter (ancestor k l done j 0) f ≡ true)
+either-state o parameter k l fs j f = at (keeps_this (ancestor k l fs j 0)) refl
   where
-    still : (s w own : Bool) → (s || (not false && (own || true))) ≡ true
-    still true w own = refl
-    still false w true = refl
-    still false w false = refl
+    still : (s own : Bool) → (s || (not false && (own || true))) ≡ true
+    still true own = refl
+    still false true = refl
+    still false false = refl
 
-    at : (b : Bool) → keeps_this (ancestor k l fs j 0) ≡ b → (b ≡ true) ⊎ (arrow_in o true parameter (ancestor k l done j 0) ≡ true)
+    at : (b : Bool) → keeps_this (ancestor k l fs j 0) ≡ b → (b ≡ true) ⊎ (arrow_in o true parameter (ancestor k l done j 0) f ≡ true)
     at true e = inl refl
-    at false e = inr ((λ i. ((is_field_value (ancestor k l done j 0) || (leads_to_value (ancestor k l done j 0) && parameter)) && wraps_slots o) || (not (e i) && (same_type k ArrowFunctionExpression || true))) ∙ still _ true (same_type k ArrowFunctionExpression))
+    at false e = inr ((λ i. is_wrapped_slot o parameter (ancestor k l done j 0) f || (not (e i) && (same_type k ArrowFunctionExpression || true))) ∙ still _ (same_type k ArrowFunctionExpression))
 
 -- counted from the first field
-first-state : (o : EnvOptions) (parameter : Bool) (k : AstType) (l : Label) (fs : Fields) (j m : ℕ) → m ≡ 0 + j → (keeps_this (ancestor k l fs m 0) ≡ true) ⊎ (arrow_in o true parameter (ancestor k l done j 0) ≡ true)
-first-state o parameter k l fs j m e = subst (λ (i : ℕ). (keeps_this (ancestor k l fs i 0) ≡ true) ⊎ (arrow_in o true parameter (ancestor k l done j 0) ≡ true)) (let d : j ≡ m = omega (arith, e) in d) (either-state o parameter k l fs j)
+first-state : (o : EnvOptions) (parameter : Bool) (k : AstType) (l : Label) (fs : Fields) (j m : ℕ) (f : Field) → m ≡ 0 + j → (keeps_this (ancestor k l fs m 0) ≡ true) ⊎ (arrow_in o true parameter (ancestor k l done j 0) f ≡ true)
+first-state o parameter k l fs j m f e = subst (λ (i : ℕ). (keeps_this (ancestor k l fs i 0) ≡ true) ⊎ (arrow_in o true parameter (ancestor k l done j 0) f ≡ true)) (let d : j ≡ m = omega (arith, e) in d) (either-state o parameter k l fs j f)
 
 module _ (o : EnvOptions) where
   mutual
-    pub out-tree : (a : Ancestor) (up vp : List Ancestor) (t : Tree) (parameter : Bool) → Half (a ∷ up) (a ∷ vp) → Near (a ∷ up) (a ∷ vp) → ArrowsFit o true parameter t → Keeps (a ∷ up) t → Keeps (a ∷ vp) t
-    out-tree a up vp (node k l fs) parameter h n f g =
-        (out-here a up vp h n o parameter (node k l fs) f g.0, out-in a up vp k l fs 0 fs h n (λ i. arrow_in o true parameter (ancestor k l done i 0)) (λ i. parameter_in parameter (ancestor k l done i 0)) (first-state o parameter k l fs) f.1 g.1)
+    pub out-tree : (a : Ancestor) (up vp : List Ancestor) (t : Tree) (parameter reaches : Bool) → Half (a ∷ up) (a ∷ vp) → Near (a ∷ up) (a ∷ vp) → ArrowsFit o true parameter reaches t → Keeps (a ∷ up) t → Keeps (a ∷ vp) t
+    out-tree a up vp (node k l fs) parameter reaches h n f g =
+        (out-here a up vp h n o parameter reaches (node k l fs) f g.0, out-in a up vp k l fs 0 fs h n (λ i f. arrow_in o true parameter (ancestor k l done i 0) f) (λ i. parameter_in parameter (ancestor k l done i 0)) (λ i. reaches_in reaches (ancestor k l done i 0)) (first-state o parameter k l fs) f.1 g.1)
 
-    out-in : (a : Ancestor) (up vp : List Ancestor) (k : AstType) (l : Label) (all : Fields) (i : ℕ) (fs : Fields) → Half (a ∷ up) (a ∷ vp) → Near (a ∷ up) (a ∷ vp) → (arrows parameters : ℕ → Bool) → ((j m : ℕ) → m ≡ i + j → (keeps_this (ancestor k l all m 0) ≡ true) ⊎ (arrows j ≡ true)) → ArrowsFitIn o arrows parameters fs → KeepsIn (a ∷ up) k l all i fs → KeepsIn (a ∷ vp) k l all i fs
-    out-in a up vp k l all i done h n arrows parameters states f g = tt
-    out-in a up vp k l all i (x then fs) h n arrows parameters states f g = (
-      out-by a up vp (ancestor k l all i 0) x h n (arrows zero) (parameters zero) (states 0 i (omega arith)) f.0 g.0,
-      out-in a up vp k l all (suc i) fs h n (λ j. arrows (suc j)) (λ j. parameters (suc j)) (λ j m e. states (suc j) m (omega (arith, e))) f.1 g.1,
+    out-in : (a : Ancestor) (up vp : List Ancestor) (k : AstType) (l : Label) (all : Fields) (i : ℕ) (fs : Fields) → Half (a ∷ up) (a ∷ vp) → Near (a ∷ up) (a ∷ vp) → (arrows : ℕ → Field → Bool) (parameters reaches : ℕ → Bool) → ((j m : ℕ) (f : Field) → m ≡ i + j → (keeps_this (ancestor k l all m 0) ≡ true) ⊎ (arrows j f ≡ true)) → ArrowsFitIn o arrows parameters reaches fs → KeepsIn (a ∷ up) k l all i fs → KeepsIn (a ∷ vp) k l all i fs
+    out-in a up vp k l all i done h n arrows parameters reaches states f g = tt
+    out-in a up vp k l all i (x then fs) h n arrows parameters reaches states f g = (
+      out-by a up vp (ancestor k l all i 0) x h n (arrows zero x) (parameters zero) (reaches zero) (states 0 i x (omega arith)) f.0 g.0,
+      out-in a up vp k l all (suc i) fs h n (λ j. arrows (suc j)) (λ j. parameters (suc j)) (λ j. reaches (suc j)) (λ j m y e. states (suc j) m y (omega (arith, e))) f.1 g.1,
     )
 
-    out-by : (a : Ancestor) (up vp : List Ancestor) (b : Ancestor) (x : Field) → Half (a ∷ up) (a ∷ vp) → Near (a ∷ up) (a ∷ vp) → (arrow parameter : Bool) → (keeps_this b ≡ true) ⊎ (arrow ≡ true) → ArrowsFitBy o arrow parameter x → KeepsBy (b ∷ (a ∷ up)) x → KeepsBy (b ∷ (a ∷ vp)) x
-    out-by a up vp b missing h n arrow parameter state f g = tt
-    out-by a up vp b (one t) h n arrow parameter (inl e) f g = keeps-moved true (b ∷ (a ∷ up)) (b ∷ (a ∷ vp)) t (full-within (a ∷ up) (a ∷ vp) b h e) (near-within (a ∷ up) (a ∷ vp) b b (alike-self b) n) (λ d. absurd (cc d)) g
-    out-by a up vp b (one t) h n arrow parameter (inr e) f g = out-tree b (a ∷ up) (a ∷ vp) t parameter (half-within (a ∷ up) (a ∷ vp) b h) (near-within (a ∷ up) (a ∷ vp) b b (alike-self b) n) (subst (λ (q : Bool). ArrowsFit o q parameter t) e f) g
-    out-by a up vp b (many ts) h n arrow parameter (inl e) f g = all-moved true (b ∷ (a ∷ up)) (b ∷ (a ∷ vp)) ts (full-within (a ∷ up) (a ∷ vp) b h e) (near-within (a ∷ up) (a ∷ vp) b b (alike-self b) n) (λ d. absurd (cc d)) g
-    out-by a up vp b (many ts) h n arrow parameter (inr e) f g = out-all b (a ∷ up) (a ∷ vp) ts parameter (half-within (a ∷ up) (a ∷ vp) b h) (near-within (a ∷ up) (a ∷ vp) b b (alike-self b) n) (subst (λ (q : Bool). ArrowsFitAll o q parameter ts) e f) g
-    out-by a up vp b (statements ts) h n arrow parameter (inl e) f g = all-moved true (b ∷ (a ∷ up)) (b ∷ (a ∷ vp)) ts (full-within (a ∷ up) (a ∷ vp) b h e) (near-within (a ∷ up) (a ∷ vp) b b (alike-self b) n) (λ d. absurd (cc d)) g
-    out-by a up vp b (statements ts) h n arrow parameter (inr e) f g = out-all b (a ∷ up) (a ∷ vp) ts parameter (half-within (a ∷ up) (a ∷ vp) b h) (near-within (a ∷ up) (a ∷ vp) b b (alike-self b) n) (subst (λ (q : Bool). ArrowsFitAll o q parameter ts) e f) g
+    out-by : (a : Ancestor) (up vp : List Ancestor) (b : Ancestor) (x : Field) → Half (a ∷ up) (a ∷ vp) → Near (a ∷ up) (a ∷ vp) → (arrow parameter reaches : Bool) → (keeps_this b ≡ true) ⊎ (arrow ≡ true) → ArrowsFitBy o arrow parameter reaches x → KeepsBy (b ∷ (a ∷ up)) x → KeepsBy (b ∷ (a ∷ vp)) x
+    out-by a up vp b missing h n arrow parameter reaches state f g = tt
+    out-by a up vp b (one t) h n arrow parameter reaches (inl e) f g = keeps-moved true (b ∷ (a ∷ up)) (b ∷ (a ∷ vp)) t (full-within (a ∷ up) (a ∷ vp) b h e) (near-within (a ∷ up) (a ∷ vp) b b (alike-self b) n) (λ d. absurd (cc d)) g
+    out-by a up vp b (one t) h n arrow parameter reaches (inr e) f g = out-tree b (a ∷ up) (a ∷ vp) t parameter reaches (half-within (a ∷ up) (a ∷ vp) b h) (near-within (a ∷ up) (a ∷ vp) b b (alike-self b) n) (subst (λ (q : Bool). ArrowsFit o q parameter reaches t) e f) g
+    out-by a up vp b (many ts) h n arrow parameter reaches (inl e) f g = all-moved true (b ∷ (a ∷ up)) (b ∷ (a ∷ vp)) ts (full-within (a ∷ up) (a ∷ vp) b h e) (near-within (a ∷ up) (a ∷ vp) b b (alike-self b) n) (λ d. absurd (cc d)) g
+    out-by a up vp b (many ts) h n arrow parameter reaches (inr e) f g = out-all b (a ∷ up) (a ∷ vp) ts parameter reaches (half-within (a ∷ up) (a ∷ vp) b h) (near-within (a ∷ up) (a ∷ vp) b b (alike-self b) n) (subst (λ (q : Bool). ArrowsFitAll o q parameter reaches ts) e f) g
+    out-by a up vp b (statements ts) h n arrow parameter reaches (inl e) f g = all-moved true (b ∷ (a ∷ up)) (b ∷ (a ∷ vp)) ts (full-within (a ∷ up) (a ∷ vp) b h e) (near-within (a ∷ up) (a ∷ vp) b b (alike-self b) n) (λ d. absurd (cc d)) g
+    out-by a up vp b (statements ts) h n arrow parameter reaches (inr e) f g = out-all b (a ∷ up) (a ∷ vp) ts parameter reaches (half-within (a ∷ up) (a ∷ vp) b h) (near-within (a ∷ up) (a ∷ vp) b b (alike-self b) n) (subst (λ (q : Bool). ArrowsFitAll o q parameter reaches ts) e f) g
 
-    pub out-all : (a : Ancestor) (up vp : List Ancestor) (ts : Trees) (parameter : Bool) → Half (a ∷ up) (a ∷ vp) → Near (a ∷ up) (a ∷ vp) → ArrowsFitAll o true parameter ts → KeepsAll (a ∷ up) ts → KeepsAll (a ∷ vp) ts
-    out-all a up vp empty parameter h n f g = tt
-    out-all a up vp (t before ts) parameter h n f g = (out-tree a up vp t parameter h n f.0 g.0, out-all a up vp ts parameter h n f.1 g.1)
+    pub out-all : (a : Ancestor) (up vp : List Ancestor) (ts : Trees) (parameter reaches : Bool) → Half (a ∷ up) (a ∷ vp) → Near (a ∷ up) (a ∷ vp) → ArrowsFitAll o true parameter reaches ts → KeepsAll (a ∷ up) ts → KeepsAll (a ∷ vp) ts
+    out-all a up vp empty parameter reaches h n f g = tt
+    out-all a up vp (t before ts) parameter reaches h n f g = (out-tree a up vp t parameter reaches h n f.0 g.0, out-all a up vp ts parameter reaches h n f.1 g.1)

@@ -31,7 +31,7 @@ module _ (o : EnvOptions) where
   one-step {s} {s'} {t} {u} h g f k = at (spread-step (arrows_alone o) NamespaceRule (arrows-wide o).no_flanks (arrows-written o) h)
     where
       at : Went (Step (arrows_alone o) the_program s (spread t) s' (spread u)) (SameBoth s (spread t) s' (spread u)) (Step NamespaceRule the_program s t s' u) → Keeps [] (finished (spread u))
-      at (moves r) = (kept-after o (arrows_alone o) (arrows-wide o) (arrows-fit o) (arrows-turned o) r g.named s-Program [] false false (λ e. absurd (cc e)) (λ e. absurd (cc e)) (λ e. refl) (record { parameter_is = refl; in_slot = λ e w. absurd (cc e); belongs = λ e. absurd (cc e) }) g.wide g.formed f k).keeps
+      at (moves r) = (kept-after o (arrows_alone o) (arrows-wide o) (arrows-fit o) (arrows-turned o) r g.named s-Program [] false false true (λ e. absurd (cc e)) (λ e. absurd (cc e)) (λ e. refl) (record { parameter_is = refl; in_slot = λ e w. absurd (cc e); belongs = λ e. absurd (cc e) }) g.wide g.formed f k).keeps
       at (rests e) = subst (λ (x : Open). Keeps [] (finished x)) e.1 k
       at (leaves r) = (program-wide (program-exported r (subst (λ (x : Tree). has_form s-Program x ≡ true) (finished-spread t) g.formed)) g.wide g.formed).keeps k
 
@@ -44,5 +44,5 @@ module _ (o : EnvOptions) where
 pub law_arrow_places_proof : LawArrowPlaces
 law_arrow_places_proof o t w w' x f fit h steps =
     let all = all_under (with_arrows o) (either_rule (arrows_alone o) NamespaceRule) (arrows-apart o) steps in
-    let kept = in-a-row o all (source-begins t w f) (subst (λ (y : Tree). FitsProgram o y) (sym (same-source t)) (to-fits o false false t fit)) (subst (λ (y : Tree). Keeps [] y) (sym (same-source t)) ((law_places_proof t).to_places h)) in
+    let kept = in-a-row o all (source-begins t w f) (subst (λ (y : Tree). FitsProgram o y) (sym (same-source t)) (to-fits o false false true t fit)) (subst (λ (y : Tree). Keeps [] y) (sym (same-source t)) ((law_places_proof t).to_places h)) in
     (law_places_proof (finished x)).from_places (subst (λ (y : Tree). Keeps [] y) (finished-spread x) kept)

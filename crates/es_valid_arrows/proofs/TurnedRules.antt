@@ -32,20 +32,20 @@ abbrev pub Unlabeled : List Ancestor → Tree → Type 0
 Unlabeled up t = same_type (kind_of t) ThisExpression ≡ true → stands_in LabeledStatement 0 up ≡ false
 
 pub record TurnedLawful (o : EnvOptions) (R : Site → Ledger → Spot → Ledger → Spot → Type 0) : Type 0 where
-  pub at_nodes : (n : Site) (s s' : Ledger) (t u : Tree) (a : Sort) (up : List Ancestor) (arrow parameter : Bool) → (is_slot n.above ≡ true → a ≡ s-Expression) → (is_slot n.above ≡ true → SlotHead up) → Unlabeled up t → R n s (at_node t) s' (at_node u) → has_form a t ≡ true → ArrowsFit o arrow parameter t → Keeps up t → NodeKept true n up t u
+  pub at_nodes : (n : Site) (s s' : Ledger) (t u : Tree) (a : Sort) (up : List Ancestor) (arrow parameter reaches : Bool) → (is_slot n.above ≡ true → a ≡ s-Expression) → (is_slot n.above ≡ true → SlotHead up) → Unlabeled up t → R n s (at_node t) s' (at_node u) → has_form a t ≡ true → ArrowsFit o arrow parameter reaches t → Keeps up t → NodeKept true n up t u
 
 module _ (o : EnvOptions) where
   other-turned : (R : Site → Ledger → Spot → Ledger → Spot → Type 0) → PlaceLawful R → TurnedLawful o R
-  other-turned R law = record { at_nodes = λ n s s' t u a up arrow parameter slot head label h f fit k. law.at_nodes true n s s' t u a up slot head h f k }
+  other-turned R law = record { at_nodes = λ n s s' t u a up arrow parameter reaches slot head label h f fit k. law.at_nodes true n s s' t u a up slot head h f k }
 
   arrow-turned : TurnedLawful o ArrowRule
   arrow-turned = record { at_nodes = nodes }
     where
-      nodes : (n : Site) (s s' : Ledger) (t u : Tree) (a : Sort) (up : List Ancestor) (arrow parameter : Bool) → (is_slot n.above ≡ true → a ≡ s-Expression) → (is_slot n.above ≡ true → SlotHead up) → Unlabeled up t → ArrowRule n s (at_node t) s' (at_node u) → has_form a t ≡ true → ArrowsFit o arrow parameter t → Keeps up t → NodeKept true n up t u
-      nodes n s s' t u a up arrow parameter slot head label (by_name {l = l} {x = x} {s = symbol} reads belongs reaches found used below) f fit k = record { keeps = placed-keeps up l _ (label refl); seen = inl (named refl) }
-      nodes n s s' t u a up arrow parameter slot head label (by_new_name {w = w} {l = l} {x = x} reads belongs reaches fresh) f fit k = record { keeps = placed-keeps up l (next_name w x) (label refl); seen = inl (named refl) }
-      nodes n s s' t u a up arrow parameter slot head label (with_body {l = l} {m = m} {ps = ps} {fs = fs} no_this) f fit k = record { keeps = with-body-keeps o up l ps (node FunctionBody m fs) arrow parameter fit k; seen = inl (function refl) }
-      nodes n s s' t u a up arrow parameter slot head label (with_expression {l = l} {ps = ps} {e = e} expression no_this) f fit k = record { keeps = with-expression-keeps o up l ps e arrow parameter fit k; seen = inl (function refl) }
+      nodes : (n : Site) (s s' : Ledger) (t u : Tree) (a : Sort) (up : List Ancestor) (arrow parameter reaches : Bool) → (is_slot n.above ≡ true → a ≡ s-Expression) → (is_slot n.above ≡ true → SlotHead up) → Unlabeled up t → ArrowRule n s (at_node t) s' (at_node u) → has_form a t ≡ true → ArrowsFit o arrow parameter reaches t → Keeps up t → NodeKept true n up t u
+      nodes n s s' t u a up arrow parameter reaches slot head label (by_name {l = l} {x = x} {s = symbol} reads belongs reached found used below) f fit k = record { keeps = placed-keeps up l _ (label refl); seen = inl (named refl) }
+      nodes n s s' t u a up arrow parameter reaches slot head label (by_new_name {w = w} {l = l} {x = x} reads belongs reached fresh) f fit k = record { keeps = placed-keeps up l (next_name w x) (label refl); seen = inl (named refl) }
+      nodes n s s' t u a up arrow parameter reaches slot head label (with_body {l = l} {m = m} {ps = ps} {fs = fs} no_this) f fit k = record { keeps = with-body-keeps o up l ps (node FunctionBody m fs) arrow parameter reaches fit k; seen = inl (function refl) }
+      nodes n s s' t u a up arrow parameter reaches slot head label (with_expression {l = l} {ps = ps} {e = e} expression no_this) f fit k = record { keeps = with-expression-keeps o up l ps e arrow parameter reaches fit k; seen = inl (function refl) }
 
   pub arrows-turned : TurnedLawful o (arrows_alone o)
   arrows-turned = record { at_nodes = nodes }
@@ -55,8 +55,8 @@ module _ (o : EnvOptions) where
 
       on-turned : (b : Bool) → TurnedLawful o (where_on b ArrowRule)
       on-turned true = arrow-turned
-      on-turned false = record { at_nodes = λ n s s' t u a up arrow parameter slot head label d f fit k. absurd d }
+      on-turned false = record { at_nodes = λ n s s' t u a up arrow parameter reaches slot head label d f fit k. absurd d }
 
-      nodes : (n : Site) (s s' : Ledger) (t u : Tree) (a : Sort) (up : List Ancestor) (arrow parameter : Bool) → (is_slot n.above ≡ true → a ≡ s-Expression) → (is_slot n.above ≡ true → SlotHead up) → Unlabeled up t → arrows_alone o n s (at_node t) s' (at_node u) → has_form a t ≡ true → ArrowsFit o arrow parameter t → Keeps up t → NodeKept true n up t u
-      nodes n s s' t u a up arrow parameter slot head label (inl h) f fit k = others.at_nodes n s s' t u a up arrow parameter slot head label h f fit k
-      nodes n s s' t u a up arrow parameter slot head label (inr h) f fit k = (on-turned (is_some o.es2015.arrow_function)).at_nodes n s s' t u a up arrow parameter slot head label h f fit k
+      nodes : (n : Site) (s s' : Ledger) (t u : Tree) (a : Sort) (up : List Ancestor) (arrow parameter reaches : Bool) → (is_slot n.above ≡ true → a ≡ s-Expression) → (is_slot n.above ≡ true → SlotHead up) → Unlabeled up t → arrows_alone o n s (at_node t) s' (at_node u) → has_form a t ≡ true → ArrowsFit o arrow parameter reaches t → Keeps up t → NodeKept true n up t u
+      nodes n s s' t u a up arrow parameter reaches slot head label (inl h) f fit k = others.at_nodes n s s' t u a up arrow parameter reaches slot head label h f fit k
+      nodes n s s' t u a up arrow parameter reaches slot head label (inr h) f fit k = (on-turned (is_some o.es2015.arrow_function)).at_nodes n s s' t u a up arrow parameter reaches slot head label h f fit k

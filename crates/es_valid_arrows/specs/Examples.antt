@@ -4,7 +4,7 @@ use Rattle.std.specs.Prelude.{◌≡◌, List, [], ◌∷◌, true, false, Some,
 use Rattle.es_tree.specs.CoreStaticRules.{Break}
 use Rattle.es_tree.specs.HasForm.{has_form}
 use Rattle.es_tree.specs.Tree.{Tree, node, done, ◌then◌, missing, one, many, statements, empty, trees}
-use Rattle.es_tree.specs.declared.ast_type.AstType.TheVariants.{ArrowFunctionExpression, AssignmentPattern, ClassDeclaration, FunctionExpression, MemberExpression, MethodDefinition, NumericLiteral, ObjectExpression, ObjectProperty, Program, Super, UnaryExpression}
+use Rattle.es_tree.specs.declared.ast_type.AstType.TheVariants.{ArrowFunctionExpression, AssignmentPattern, ClassDeclaration, FunctionExpression, LogicalExpression, MemberExpression, MethodDefinition, NumericLiteral, ObjectExpression, ObjectProperty, Program, Super, UnaryExpression}
 use Rattle.es_tree.specs.declared.error.Rule.TheVariants.{BadAccessor, DeleteName, MisplacedSuper}
 use Rattle.es_tree.specs.declared.options.EnvOptions.{EnvOptions}
 use Rattle.es_tree.specs.declared.table.Sort.TheVariants.{Program as s-Program}
@@ -17,7 +17,7 @@ use Rattle.es_tree.specs.Fresh.{IsFreshName, text_base}
 use Rattle.es_valid_arrows.specs.Laws.{with_arrows}
 use Rattle.es_steps.specs.Nodes.{identifier, this_statement, arrow_node, body_node, made, return_node, statement_node, this_expression, word}
 use Rattle.es_valid_steps.specs.PlaceRules.{place_breaks}
-use Rattle.es_valid_arrows.specs.ArrowPlaces.{fits_arrows, wraps_slots}
+use Rattle.es_valid_arrows.specs.ArrowPlaces.{fits_arrows}
 
 -- NODES
 
@@ -38,6 +38,17 @@ class_with ps ts =
 abbrev pub super_member : Tree
 super_member = node MemberExpression (made [] (false ∷ false ∷ [])) (one (node Super (made [] []) done) then one (word (codes "x")) then done)
 
+abbrev pub one_number : Tree
+one_number = node NumericLiteral (made (Some (codes "1") ∷ Some (codes "1") ∷ []) []) done
+
+-- `this.b`
+abbrev pub this_member : Tree
+this_member = node MemberExpression (made [] (false ∷ false ∷ [])) (one this_expression then one (word (codes "b")) then done)
+
+-- `e ?? 1`
+abbrev pub or_one : Tree → Tree
+or_one e = node LogicalExpression (made (Some (codes "??") ∷ []) []) (one e then one one_number then done)
+
 -- `delete e`
 abbrev pub deleted : Tree → Tree
 deleted e = node UnaryExpression (made (Some (codes "delete") ∷ []) []) (one e then done)
@@ -54,9 +65,6 @@ getter_of e =
 
 abbrev pub arrow_with : List Tree → Tree → Tree
 arrow_with ps e = node ArrowFunctionExpression (made [] []) (many (trees ps) then one e then done)
-
-abbrev pub one_number : Tree
-one_number = node NumericLiteral (made (Some (codes "1") ∷ Some (codes "1") ∷ []) []) done
 
 -- EXAMPLES
 
@@ -77,11 +85,11 @@ pub record CanNot (p q : Tree) (b : Break) : Type 0 where
   pub formed : has_form s-Program q ≡ true
   pub broken : place_breaks q ≡ b ∷ []
 
--- what stands in a slot may, where options ask for nothing for which slots are wrapped
-pub record InSlots (p : Tree) : Type 0 where
+-- they can where options don't ask for `??`, and can't where they do
+pub record WhereNullishIsKept (p : Tree) : Type 0 where
   pub program : IsProgram p
-  pub fits : (o : EnvOptions) → wraps_slots o ≡ false → fits_arrows o p ≡ true
-  pub unfit : (o : EnvOptions) → wraps_slots o ≡ true → fits_arrows o p ≡ false
+  pub fits : (o : EnvOptions) → o.es2020.nullish_coalescing_operator ≡ false → fits_arrows o p ≡ true
+  pub unfit : (o : EnvOptions) → o.es2020.nullish_coalescing_operator ≡ true → fits_arrows o p ≡ false
 
 -- steps from one program to the other, with nothing pending, and the other breaks no rule of places
 pub record Becomes (o : EnvOptions) (w : Whole) (p q : Tree) : Type 0 where
@@ -121,5 +129,9 @@ pub record LawArrowExamples : Type 0 where
   pub deleted_this : CanNot (script (statement_node (arrow_node (deleted this_expression)) ∷ [])) (script (statement_node (function_of [] (return_node (deleted (word (codes "_this"))) ∷ [])) ∷ [])) (DeleteName, 0)
   -- `({ get g: (a) => 1 });`
   pub accessor : CanNot (script (statement_node (getter_of (arrow_with (word (codes "a") ∷ []) one_number)) ∷ [])) (script (statement_node (getter_of (function_of (word (codes "a") ∷ []) (return_node one_number ∷ []))) ∷ [])) (BadAccessor, 0)
-  -- `class c { m(a = super.x) {} }`
-  pub slot : InSlots (script (class_with (parameter_with super_member ∷ []) [] ∷ []))
+  -- `class c { m(a = super.x) {} }`: no slot is wrapped for that
+  pub slot : CanBe (script (class_with (parameter_with super_member ∷ []) [] ∷ []))
+  -- `class c { m(a = super.x ?? 1) {} }`: an arrow would be around `super`
+  pub wrapped_slot : WhereNullishIsKept (script (class_with (parameter_with (or_one super_member) ∷ []) [] ∷ []))
+  -- `(function (a = this.b ?? 1) {});`: no name of `this` can be declared for it
+  pub wrapped_this : WhereNullishIsKept (script (statement_node (function_of (parameter_with (or_one this_member) ∷ []) []) ∷ []))

@@ -13,6 +13,7 @@ use Rattle.es_steps.specs.Laws.{IsWellBound, nothing_beside}
 use Rattle.es_steps.specs.Open.{Open, opened, finished}
 use Rattle.es_steps.specs.Rules.{either_rule}
 use Rattle.es_steps.specs.Steps.{Whole, Ledger, Site, Spot, the_program, Step, Steps}
+use Rattle.es_arrow_steps.specs.ThisFits.{each_this_fits}
 use Rattle.es_valid_steps.specs.Laws.{with_further_rules}
 use Rattle.es_valid_steps.specs.PlaceRules.{place_breaks}
 use Rattle.es_module_names.specs.Laws.{SameOutside, StepsKeepOutside}
@@ -55,3 +56,7 @@ LawArrowsReached = (o : EnvOptions) (p q : Tree) (w w' : Whole) → has_form s-P
 -- IDS AND MARKS mean nothing to arrows.
 abbrev pub LawBareFits : Type 0
 LawBareFits = (o : EnvOptions) (t u : Tree) → bare t ≡ bare u → fits_arrows o t ≡ true → fits_arrows o u ≡ true
+
+-- EACH `this` that belongs to an arrow is read, and reaches the list of its target, in a program that has form and breaks no rule of places.
+abbrev pub LawThisFits : Type 0
+LawThisFits = (o : EnvOptions) (p : Tree) → has_form s-Program p ≡ true → place_breaks p ≡ [] → fits_arrows o p ≡ true → each_this_fits p ≡ true

@@ -3,7 +3,7 @@
 #![tactic(auto)]
 
 ghost use Rattle.es_valid_arrows.specs.Examples.{LawArrowExamples};
-ghost use Rattle.es_valid_arrows.specs.Laws.{LawArrowForm, LawArrowOutside, LawArrowPlaces, LawArrowRules, LawArrowsFit, LawArrowsReached, LawBareFits};
+ghost use Rattle.es_valid_arrows.specs.Laws.{LawArrowForm, LawArrowOutside, LawArrowPlaces, LawArrowRules, LawArrowsFit, LawArrowsReached, LawBareFits, LawThisFits};
 
 /// Whatever steps of the core rules, of optional catch, namespace exports, object spread and arrows are taken, as options ask for them, from
 /// a program that has form, at whatever places and in whatever order: with all that is pending written it has form.
@@ -40,6 +40,12 @@ pub fn law_arrows_reached()
 /// Of two programs that are equal but for ids and marks the arrows of both can become functions, or of neither.
 pub fn law_bare_fits()
     ensures { LawBareFits }
+{}
+
+/// Where each arrow of a program that breaks no rule of places can become a function, each `this` that belongs to one is read, and reaches
+/// the list where a name for it can be declared.
+pub fn law_this_fits()
+    ensures { LawThisFits }
 {}
 
 /// Programs with an arrow that can become a function, and with one that can't, since a rule is broken where it does.

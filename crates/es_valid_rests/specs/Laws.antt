@@ -1,4 +1,5 @@
--- The laws of object rests: what steps reach, those of rests among them, has form and breaks no static rule of places.
+-- The laws of object rests: what steps reach, those of rests among them, has form and breaks no static rule of places, and where no exported
+-- declaration splits none of all nineteen, and is the same to other modules.
 use Rattle.std.specs.Prelude.{is_some}
 use Rattle.es_tree.specs.declared.options.EnvOptions.{EnvOptions}
 use Rattle.es_steps.specs.CoreRules.{where_on}

@@ -1,20 +1,15 @@
 -- The causes of a refusal and a source that is taken exclude one another.
-use Rattle.std.proofs.Common.{◌≡◌, ℕ, List, [], Some, None, ◌&&◌, if◌then◌else◌, sym, ap, ◌∙◌, subst, arith, ◌++◌, refl, ◌∷◌, true, false, true≢false, inl, inr}
+use Rattle.std.proofs.Common.{◌≡◌, ℕ, List, [], Some, None, sym, ap, ◌∙◌, subst, arith, ◌++◌, refl, ◌∷◌}
 use Rattle.serde_json.specs.Data.{Data}
-use Rattle.es_tree.specs.Constructs.{has_unbuilt_construct, is_exponentiation, is_object_rest, is_object_spread}
 use Rattle.es_tree.specs.CoreStaticRules.{Break}
-use Rattle.es_tree.specs.Options.{first_fault, is_external}
+use Rattle.es_tree.specs.Options.{first_fault}
 use Rattle.es_tree.specs.StaticRules.{breaks, IsFirstBreak}
-use Rattle.es_tree.specs.Tree.{Tree, Label, Fields}
-use Rattle.es_tree.specs.declared.ast_type.AstType.{AstType}
+use Rattle.es_tree.specs.Tree.{Tree}
 use Rattle.es_tree.specs.declared.error.LowerError.{LowerError}
 use Rattle.es_tree.specs.declared.error.LowerError.TheVariants.{Json, Option as e-Option, TooLarge, TooDeep, Shape, Invalid, Unsupported}
-use Rattle.es_tree.specs.Walks.{any_node}
 use Rattle.es_tree.specs.declared.error.OptionName.{OptionName}
-use Rattle.es_tree.specs.declared.error.OptionName.TheVariants.{NotBuilt}
 use Rattle.es_tree.specs.declared.error.Rule.{Rule}
 use Rattle.es_tree.specs.declared.error.UnsupportedKind.{UnsupportedKind}
-use Rattle.es_tree.specs.declared.error.UnsupportedKind.TheVariants.{HelperName, MathBound, SpreadLiteral, TagChain}
 use Rattle.es_tree.specs.declared.ids.NodeId.{NodeId}
 use Rattle.es_tree.specs.declared.options.EnvOptions.{EnvOptions}
 use Rattle.es_tree.specs.declared.table.Sort.TheVariants.{Program as s-Program}
@@ -22,27 +17,16 @@ use Rattle.es_json.specs.Faults.{faults, first_path_of}
 use Rattle.es_json.specs.Programs.{IsProgramForm, IsRefusal}
 use Rattle.es_json.proofs.NoFaults.{no_faults}
 use Rattle.es_json.proofs.OneTree.{one_tree_always}
-use Rattle.std.specs.Prelude.{codes, is_some}
-use Rattle.std.specs.Option.{option_or}
+use Rattle.std.specs.Prelude.{codes}
 use Rattle.std.specs.Fmt.{decimal}
 use Rattle.es_tree.specs.Causes.{rule_name, unsupported_name}
-use Rattle.es_semantic.specs.Places.{Visit, visits_of}
-use Rattle.es_semantic.specs.SymbolsOf.{Declared, find, symbols_of}
-use Rattle.es_unsupported.specs.FirstUnsupported.{first_among, first_unsupported, found_at}
-use Rattle.es_unsupported.specs.Shapes.{has_chain_tag, shape_at}
-use Rattle.es_unsupported.specs.SpreadLiterals.{is_uncopied}
+use Rattle.es_unsupported.specs.FirstUnsupported.{first_unsupported}
 use Rattle.es_json.specs.Pointer.{pointer}
 use Rattle.lower_command.specs.Answer.{line, refusal_text}
-use Rattle.lower_driver.specs.Sources.{IsReading, HasReading, ReadsAs, IsSource, IsBrokenValue, IsUnbuiltValue, IsUnsupportedValue, IsCauseUnder}
+use Rattle.lower_driver.specs.Copies.{IsCopy}
+use Rattle.lower_driver.specs.Sources.{IsReading, HasReading, ReadsAs, IsSource, IsBrokenValue, IsUnsupportedValue, IsCauseUnder}
+use Rattle.lower_driver.proofs.CopiedOptions.{copied-fault, copied-unsupported}
 use Rattle.lower_command.specs.Job.{IsTakenSource}
-
--- the two ask for the same as far as refusals go: what isn't done, and the shapes that aren't taken
-pub record SameRefusals (o q : EnvOptions) : Type 0 where
-  pub fault : first_fault o ≡ first_fault q
-  pub power : o.es2016.exponentiation_operator ≡ q.es2016.exponentiation_operator
-  pub copies : o.es2018.object_rest_spread ≡ q.es2018.object_rest_spread
-  pub mode : o.helper_loader.mode ≡ q.helper_loader.mode
-  pub chaining : o.es2020.optional_chaining ≡ q.es2020.optional_chaining
 
 -- bytes read as one value, and a value is the form of one program
 one_value : (bytes : List ℕ) (v w : Data) → IsReading bytes v → IsReading bytes w → v ≡ w
@@ -67,34 +51,13 @@ no_refusal v p (Shape path) form refused _ =
     cc
 no_refusal v p _ form refused told = absurd told
 
--- which shapes aren't taken hangs on four of the options
-module _ (o q : EnvOptions) (same : SameRefusals o q) where
-  same_shape : (ds : List Declared) (up : List ℕ) (k : AstType) (l : Label) (fs : Fields) → shape_at o ds up k l fs ≡ shape_at q ds up k l fs
-  same_shape ds up k l fs = λ i.
-      if same.power i && is_exponentiation k l fs && is_some (find ds up (codes "Math")) then Some MathBound
-      else if is_some (same.copies i) && is_external (same.mode i) && is_object_spread k l fs && is_some (find ds up (codes "babelHelpers")) then Some HelperName
-      else if is_some (same.copies i) && is_uncopied k l fs then Some SpreadLiteral
-      else if same.chaining i && has_chain_tag k l fs then Some TagChain else None
-
-  -- nor does it on more which constructs no lowering takes away
-  same_unbuilt : (p : Tree) → has_unbuilt_construct o p ≡ has_unbuilt_construct q p
-  same_unbuilt p = λ i. is_some (same.copies i) && any_node is_object_rest p
-
-  same_among : (ds : List Declared) (vs : List Visit) → first_among o ds vs ≡ first_among q ds vs
-  same_among ds [] = refl
-  same_among ds (v ∷ vs) = λ i. option_or (found_at v.label.id (same_shape ds v.place.around v.kind v.label v.fields i)) (same_among ds vs i)
-
-  same_unsupported : (p : Tree) → first_unsupported o p ≡ first_unsupported q p
-  same_unsupported p = same_among (symbols_of p) (visits_of p)
-
-pub taken_as : (o q : EnvOptions) (bytes : List ℕ) → SameRefusals o q → IsTakenSource o bytes → IsTakenSource q bytes
+pub taken_as : (o q : EnvOptions) (bytes : List ℕ) → IsCopy q o → IsTakenSource o bytes → IsTakenSource q bytes
 taken_as o q bytes same source = record {
-  carried = sym same.fault ∙ source.carried;
+  carried = sym (copied-fault q o same) ∙ source.carried;
   program = source.program;
   reads = source.reads;
   kept = source.kept;
-  built = sym (same_unbuilt o q same source.program) ∙ source.built;
-  taken = sym (same_unsupported o q same source.program) ∙ source.taken;
+  taken = sym (copied-unsupported q o same source.program) ∙ source.taken;
 }
 
 -- ONE CAUSE: an input has at most one line
@@ -103,7 +66,6 @@ taken_as o q bytes same source = record {
 data Known (o : EnvOptions) (v : Data) : LowerError → Type 0 where
   unread : {error : LowerError} → IsUnreadError error → IsRefusal v error → Known o v error
   broken : {rule : Rule} {id : NodeId} → IsBrokenValue v (Invalid rule id) → Known o v (Invalid rule id)
-  unbuilt : IsUnbuiltValue o v → Known o v (e-Option NotBuilt)
   unsupported : {kind : UnsupportedKind} {id : NodeId} → IsUnsupportedValue o v kind id → Known o v (Unsupported kind id)
 
 -- or by the bytes that have no reading, or by what the options ask for
@@ -112,42 +74,25 @@ data Told (o : EnvOptions) (bytes : List ℕ) : LowerError → Type 0 where
   uncarried : {name : OptionName} → HasReading bytes → first_fault o ≡ Some name → Told o bytes (e-Option name)
   carried : {error : LowerError} → first_fault o ≡ None → ReadsAs (λ v. Known o v error) bytes → Told o bytes error
 
-told : (o q : EnvOptions) (bytes : List ℕ) (error : LowerError) → SameRefusals o q → IsCauseUnder o bytes error → Told q bytes error
+told : (o q : EnvOptions) (bytes : List ℕ) (error : LowerError) → IsCopy q o → IsCauseUnder o bytes error → Told q bytes error
 told o q bytes Json same cause = no_reading cause
-told o q bytes (e-Option name) same cause = elim cause.holds [
-  | inl first ↦ uncarried (record { value = cause.value; reading = cause.reading }) (sym same.fault ∙ first)
-  | inr h ↦
-      let found = h.2 in
-      carried (sym same.fault ∙ h.0) (record {
-        value = cause.value;
-        reading = cause.reading;
-        holds = subst (λ (n : OptionName). Known q cause.value (e-Option n)) (sym h.1) (unbuilt (record {
-          program = found.program;
-          source = found.source;
-          kept = found.kept;
-          unbuilt = sym (same_unbuilt o q same found.program) ∙ found.unbuilt;
-        }));
-      })
-]
-told o q bytes (TooLarge n) same cause = carried (sym same.fault ∙ cause.holds.0) (record { value = cause.value; reading = cause.reading; holds = unread tt cause.holds.1 })
-told o q bytes (TooDeep n) same cause = carried (sym same.fault ∙ cause.holds.0) (record { value = cause.value; reading = cause.reading; holds = unread tt cause.holds.1 })
-told o q bytes (Shape path) same cause = carried (sym same.fault ∙ cause.holds.0) (record { value = cause.value; reading = cause.reading; holds = unread tt cause.holds.1 })
+told o q bytes (e-Option name) same cause = uncarried (record { value = cause.value; reading = cause.reading }) (sym (copied-fault q o same) ∙ cause.holds)
+told o q bytes (TooLarge n) same cause = carried (sym (copied-fault q o same) ∙ cause.holds.0) (record { value = cause.value; reading = cause.reading; holds = unread tt cause.holds.1 })
+told o q bytes (TooDeep n) same cause = carried (sym (copied-fault q o same) ∙ cause.holds.0) (record { value = cause.value; reading = cause.reading; holds = unread tt cause.holds.1 })
+told o q bytes (Shape path) same cause = carried (sym (copied-fault q o same) ∙ cause.holds.0) (record { value = cause.value; reading = cause.reading; holds = unread tt cause.holds.1 })
 told o q bytes (Unsupported kind id) same cause =
     let shape = cause.holds.1 in
-    carried (sym same.fault ∙ cause.holds.0) (record {
+    carried (sym (copied-fault q o same) ∙ cause.holds.0) (record {
       value = cause.value;
       reading = cause.reading;
       holds = unsupported (record {
         program = shape.program;
         source = shape.source;
         kept = shape.kept;
-        unsupported = record {
-          built = sym (same_unbuilt o q same shape.program) ∙ shape.unsupported.built;
-          first = sym (same_unsupported o q same shape.program) ∙ shape.unsupported.first;
-        };
+        unsupported = sym (copied-unsupported q o same shape.program) ∙ shape.unsupported;
       });
     })
-told o q bytes (Invalid rule id) same cause = carried (sym same.fault ∙ cause.holds.0) (record { value = cause.value; reading = cause.reading; holds = broken cause.holds.1 })
+told o q bytes (Invalid rule id) same cause = carried (sym (copied-fault q o same) ∙ cause.holds.0) (record { value = cause.value; reading = cause.reading; holds = broken cause.holds.1 })
 told o q bytes _ same cause = absurd cause.holds.1
 
 unread_line : (v : Data) (e f : LowerError) → IsUnreadError e → IsUnreadError f → IsRefusal v e → IsRefusal v f → refusal_text e ≡ refusal_text f
@@ -181,13 +126,8 @@ broken_anyway v rule id p b source kept =
 unsupported_anyway : (o : EnvOptions) (v : Data) (kind : UnsupportedKind) (id : NodeId) (p : Tree) → IsUnsupportedValue o v kind id → IsSource v p → first_unsupported o p ≡ None → ⊥
 unsupported_anyway o v kind id p b source taken =
     let same = one_program v b.program p b.source source in
-    let both : Some (kind, id.0) ≡ None = sym (subst (λ t. first_unsupported o t ≡ Some (kind, id.0)) same b.unsupported.first) ∙ taken in
+    let both : Some (kind, id.0) ≡ None = sym (subst (λ t. first_unsupported o t ≡ Some (kind, id.0)) same b.unsupported) ∙ taken in
     cc
-
-unbuilt_anyway : (o : EnvOptions) (v : Data) (p : Tree) → IsUnbuiltValue o v → IsSource v p → has_unbuilt_construct o p ≡ false → ⊥
-unbuilt_anyway o v p b source built =
-    let same = one_program v b.program p b.source source in
-    true≢false (sym (subst (λ t. has_unbuilt_construct o t ≡ true) same b.unbuilt) ∙ built)
 
 unsupported_line : (a b : UnsupportedKind × ℕ) → Some a ≡ Some b
     → line (codes "lower: unsupported " ++ unsupported_name a.0 ++ codes " at node " ++ decimal a.1) ≡ line (codes "lower: unsupported " ++ unsupported_name b.0 ++ codes " at node " ++ decimal b.1)
@@ -199,13 +139,6 @@ one_line : (o : EnvOptions) (v : Data) (e f : LowerError) → Known o v e → Kn
 one_line o v e f (unread told r) (unread also s) = unread_line v e f told also r s
 one_line o v e _ (unread told r) (broken b) = absurd (no_refusal v b.program e b.source.form r told)
 one_line o v e _ (unread told r) (unsupported b) = absurd (no_refusal v b.program e b.source.form r told)
-one_line o v e _ (unread told r) (unbuilt b) = absurd (no_refusal v b.program e b.source.form r told)
-one_line o v _ f (unbuilt b) (unread told r) = absurd (no_refusal v b.program f b.source.form r told)
-one_line o v _ _ (unbuilt b) (unbuilt d) = refl
-one_line o v _ _ (unbuilt b) (broken {rule = r} {id = i} d) = absurd (broken_anyway v r i b.program d b.source b.kept)
-one_line o v _ _ (broken {rule = r} {id = i} b) (unbuilt d) = absurd (broken_anyway v r i d.program b d.source d.kept)
-one_line o v _ _ (unbuilt b) (unsupported d) = absurd (unbuilt_anyway o v d.program b d.source d.unsupported.built)
-one_line o v _ _ (unsupported b) (unbuilt d) = absurd (unbuilt_anyway o v b.program d b.source b.unsupported.built)
 one_line o v _ f (broken b) (unread told r) = absurd (no_refusal v b.program f b.source.form r told)
 one_line o v _ f (unsupported b) (unread told r) = absurd (no_refusal v b.program f b.source.form r told)
 one_line o v _ _ (broken {rule = r} {id = i} b) (broken {rule = s} {id = j} d) =
@@ -215,7 +148,7 @@ one_line o v _ _ (broken {rule = r} {id = i} b) (unsupported d) = absurd (broken
 one_line o v _ _ (unsupported b) (broken {rule = r} {id = i} d) = absurd (broken_anyway v r i b.program d b.source b.kept)
 one_line o v _ _ (unsupported {kind = j} {id = i} b) (unsupported {kind = k} {id = m} d) =
     let same = one_program v b.program d.program b.source d.source in
-    unsupported_line (j, i.0) (k, m.0) (sym (subst (λ p. first_unsupported o p ≡ Some (j, i.0)) same b.unsupported.first) ∙ d.unsupported.first)
+    unsupported_line (j, i.0) (k, m.0) (sym (subst (λ p. first_unsupported o p ≡ Some (j, i.0)) same b.unsupported) ∙ d.unsupported)
 
 -- what is told of the input, or of the options, is told in one line
 told_line : (o : EnvOptions) (bytes : List ℕ) (e f : LowerError) → Told o bytes e → Told o bytes f → refusal_text e ≡ refusal_text f
@@ -235,25 +168,24 @@ told_line o bytes e f (carried _ r) (carried _ s) =
     one_line o s.value e f (subst (λ v. Known o v e) same r.holds) s.holds
 
 -- two causes of one input have one line
-pub one_cause : (o q : EnvOptions) (bytes : List ℕ) (e f : LowerError) → SameRefusals o q → IsCauseUnder q bytes e → IsCauseUnder o bytes f
+pub one_cause : (o q : EnvOptions) (bytes : List ℕ) (e f : LowerError) → IsCopy q o → IsCauseUnder q bytes e → IsCauseUnder o bytes f
     → refusal_text e ≡ refusal_text f
 one_cause o q bytes e f same cause other =
-    told_line q bytes e f (told q q bytes e (record { fault = refl; power = refl; copies = refl; mode = refl; chaining = refl }) cause) (told o q bytes f same other)
+    told_line q bytes e f (told q q bytes e (record { es2015 = refl; es2016 = refl; es2017 = refl; es2018 = refl; es2019 = refl; es2020 = refl; es2021 = refl; es2026 = refl; assumptions = refl; mode = refl; module_name = refl }) cause) (told o q bytes f same other)
 
 -- a source that is taken is refused for no cause
 not_taken : (o : EnvOptions) (v : Data) (error : LowerError) (p : Tree) → Known o v error
-    → IsSource v p → breaks p ≡ [] → has_unbuilt_construct o p ≡ false → first_unsupported o p ≡ None → ⊥
-not_taken o v error p (unread told r) source kept built taken = no_refusal v p error source.form r told
-not_taken o v _ p (unbuilt b) source kept built taken = unbuilt_anyway o v p b source built
-not_taken o v _ p (broken {rule = r} {id = i} b) source kept built taken = broken_anyway v r i p b source kept
-not_taken o v _ p (unsupported {kind = k} {id = i} b) source kept built taken = unsupported_anyway o v k i p b source taken
+    → IsSource v p → breaks p ≡ [] → first_unsupported o p ≡ None → ⊥
+not_taken o v error p (unread told r) source kept taken = no_refusal v p error source.form r told
+not_taken o v _ p (broken {rule = r} {id = i} b) source kept taken = broken_anyway v r i p b source kept
+not_taken o v _ p (unsupported {kind = k} {id = i} b) source kept taken = unsupported_anyway o v k i p b source taken
 
 not_told : (o : EnvOptions) (bytes : List ℕ) (error : LowerError) → Told o bytes error → IsTakenSource o bytes → ⊥
 not_told o bytes _ (no_reading n) source = n (record { value = source.reads.value; reading = source.reads.reading })
 not_told o bytes _ (uncarried {name = name} _ first) source = let both : Some name ≡ None = sym first ∙ source.carried in cc
 not_told o bytes error (carried _ r) source =
     let same = one_value bytes r.value source.reads.value r.reading source.reads.reading in
-    not_taken o source.reads.value error source.program (subst (λ v. Known o v error) same r.holds) source.reads.holds source.kept source.built source.taken
+    not_taken o source.reads.value error source.program (subst (λ v. Known o v error) same r.holds) source.reads.holds source.kept source.taken
 
-pub not_refused : (o q : EnvOptions) (bytes : List ℕ) (error : LowerError) → SameRefusals o q → IsCauseUnder o bytes error → IsTakenSource q bytes → ⊥
+pub not_refused : (o q : EnvOptions) (bytes : List ℕ) (error : LowerError) → IsCopy q o → IsCauseUnder o bytes error → IsTakenSource q bytes → ⊥
 not_refused o q bytes error same cause source = not_told q bytes error (told o q bytes error same cause) source

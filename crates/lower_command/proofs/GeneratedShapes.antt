@@ -1,42 +1,78 @@
--- In the script of any number of statements no construct and no shape stands that isn't taken: it binds no name, and has no template, no object
--- literal and no pattern.
-use Rattle.std.proofs.Common.{◌≡◌, ℕ, zero, suc, ◌+◌, ◌%◌, List, [], ◌∷◌, ◌++◌, map, Bool, true, false, ◌&&◌, ◌||◌, None, refl, ap, ◌∙◌, append_assoc}
-use Rattle.std.proofs.lemmas.Bool.{and_parts}
+-- In the script of any number of statements no shape stands that isn't taken: it binds no name, and has no template, no object literal, no
+-- pattern and no arrow.
+use Rattle.std.proofs.Common.{◌≡◌, ℕ, zero, suc, ◌+◌, ◌%◌, List, [], ◌∷◌, map, Bool, true, false, ◌&&◌, ◌||◌, None, refl, ap, ◌∙◌}
 use Rattle.std.specs.Prelude.{not, is_some, codes}
-use Rattle.std.specs.List.{list_all, range_with_len}
-use Rattle.es_tree.specs.Constructs.{field_at, has_unbuilt_construct, is_exponentiation, is_object_rest, is_object_spread}
-use Rattle.es_tree.specs.Tree.{Label, Fields, trees}
-use Rattle.es_tree.specs.Walks.{any_in_trees, any_node}
+use Rattle.std.specs.List.{range_with_len}
+use Rattle.es_tree.specs.Ancestors.{ancestor}
+use Rattle.es_tree.specs.Constructs.{field_at, is_exponentiation, is_object_rest, is_object_spread, is_using}
+use Rattle.es_tree.specs.HasForm.{same_type}
+use Rattle.es_tree.specs.Options.{is_external}
+use Rattle.es_tree.specs.Tree.{Label, Fields, Field, done, node, trees}
+use Rattle.es_tree.specs.Walks.{any_in_fields, any_in_trees, any_node}
 use Rattle.es_tree.specs.Words.{Text}
 use Rattle.es_tree.specs.declared.ast_type.AstType.{AstType}
-use Rattle.es_tree.specs.declared.ast_type.AstType.TheVariants.{ObjectExpression, TaggedTemplateExpression}
+use Rattle.es_tree.specs.declared.ast_type.AstType.TheVariants.{ArrowFunctionExpression, AssignmentPattern, ObjectExpression, ObjectPattern, ObjectProperty, ObjectTarget, PatternProperty, PropertyDefinition, TaggedTemplateExpression, VariableDeclaration}
 use Rattle.es_tree.specs.declared.options.EnvOptions.{EnvOptions}
-use Rattle.es_semantic.specs.Places.{Place, Visit, scope_count_in, visits, visits_in_trees, visits_of}
+use Rattle.es_runs.proofs.Named.{or_both, or_first}
+use Rattle.es_semantic.specs.Places.{outermost}
 use Rattle.es_semantic.specs.SymbolsOf.{Declared, find, symbols_of}
 use Rattle.es_semantic.proofs.CoreSymbols.{core-symbols}
-use Rattle.es_unsupported.specs.FirstUnsupported.{first_among, first_unsupported}
-use Rattle.es_unsupported.specs.Shapes.{copies_by_name, has_chain_tag, shape_at}
+use Rattle.es_valid_steps.specs.ArrowNodes.{is_arrow_accessor}
+use Rattle.es_valid_arrows.specs.ArrowPlaces.{is_wrapped_slot}
+use Rattle.es_unsupported.specs.ArrowShapes.{outside}
+use Rattle.es_unsupported.specs.FirstUnsupported.{first_of, first_unsupported}
+use Rattle.es_unsupported.specs.Shapes.{copies_by_name, has_chain_tag, is_unbuilt_node, shape_at}
 use Rattle.es_unsupported.specs.SpreadLiterals.{has_uncopied}
+use Rattle.lower_driver.proofs.QuietArrows.{none-of}
 use Rattle.lower_command.specs.Generated.{generated, generated_statement, statement_for, start_of}
 use Rattle.lower_command.proofs.GeneratedFacts.{generated-core, generated-declares}
 
 -- WITHOUT NAMES, TEMPLATES AND LITERALS
 
-abbrev is_asked : AstType → Bool
-is_asked TaggedTemplateExpression = true
-is_asked ObjectExpression = true
-is_asked _ = false
+-- a kind that is asked more than its kind
+abbrev is_asked : AstType → Label → Fields → Bool
+is_asked TaggedTemplateExpression l fs = true
+is_asked ObjectExpression l fs = true
+is_asked ObjectProperty l fs = true
+is_asked ObjectPattern l fs = true
+is_asked ObjectTarget l fs = true
+is_asked PatternProperty l fs = true
+is_asked AssignmentPattern l fs = true
+is_asked PropertyDefinition l fs = true
+is_asked VariableDeclaration l fs = true
+is_asked ArrowFunctionExpression l fs = true
+is_asked _ l fs = false
 
-abbrev is_plain : Visit → Bool
-is_plain v = not (is_asked v.kind)
+no_rest : (k : AstType) (l : Label) (fs : Fields) → is_asked k l fs ≡ false → is_object_rest k l fs ≡ false
+no_rest ObjectPattern l fs h = absurd (cc h)
+no_rest ObjectTarget l fs h = absurd (cc h)
+no_rest _ l fs h = refl
 
-no_literal : (k : AstType) (l : Label) (fs : Fields) → not (is_asked k) ≡ true → is_object_spread k l fs ≡ false
+no_literal : (k : AstType) (l : Label) (fs : Fields) → is_asked k l fs ≡ false → is_object_spread k l fs ≡ false
 no_literal ObjectExpression l fs h = absurd (cc h)
 no_literal _ l fs h = refl
 
-no_tag : (k : AstType) (l : Label) (fs : Fields) → not (is_asked k) ≡ true → has_chain_tag k l fs ≡ false
+no_using : (k : AstType) (l : Label) (fs : Fields) → is_asked k l fs ≡ false → is_using k l fs ≡ false
+no_using VariableDeclaration l fs h = absurd (cc h)
+no_using _ l fs h = refl
+
+no_tag : (k : AstType) (l : Label) (fs : Fields) → is_asked k l fs ≡ false → has_chain_tag k l fs ≡ false
 no_tag TaggedTemplateExpression l fs h = absurd (cc h)
 no_tag _ l fs h = refl
+
+no_accessor : (k : AstType) (l : Label) (fs : Fields) → is_asked k l fs ≡ false → is_arrow_accessor k l fs ≡ false
+no_accessor ObjectProperty l fs h = absurd (cc h)
+no_accessor _ l fs h = refl
+
+no_arrow : (k : AstType) (l : Label) (fs : Fields) → is_asked k l fs ≡ false → same_type k ArrowFunctionExpression ≡ false
+no_arrow ArrowFunctionExpression l fs h = absurd (cc h)
+no_arrow _ l fs h = refl
+
+no_slot : (o : EnvOptions) (k : AstType) (l : Label) (fs : Fields) (parameter : Bool) (i : ℕ) (f : Field) → is_asked k l fs ≡ false → is_wrapped_slot o parameter (ancestor k l done i 0) f ≡ false
+no_slot o PatternProperty l fs parameter i f h = absurd (cc h)
+no_slot o AssignmentPattern l fs parameter i f h = absurd (cc h)
+no_slot o PropertyDefinition l fs parameter i f h = absurd (cc h)
+no_slot o _ l fs parameter i f h = refl
 
 found_nowhere : (up : List ℕ) (x : Text) → find [] up x ≡ None
 found_nowhere [] x = refl
@@ -51,59 +87,50 @@ off : (a : Bool) → (a && false) ≡ false
 off true = refl
 off false = refl
 
+all_off : (a b c : Bool) → ((a && false) || (a && b && false) || (c && false)) ≡ false
+all_off true true c = off c
+all_off true false c = off c
+all_off false b c = off c
+
 module _ (o : EnvOptions) where
-  no_shape : (up : List ℕ) (k : AstType) (l : Label) (fs : Fields) → not (is_asked k) ≡ true → shape_at o [] up k l fs ≡ None
-  no_shape up k l fs h =
+  built : (k : AstType) (l : Label) (fs : Fields) → is_asked k l fs ≡ false → is_unbuilt_node o k l fs ≡ false
+  built k l fs h = rw (no_rest k l fs h, no_literal k l fs h, no_using k l fs h) (all_off (is_some o.es2018.object_rest_spread) (not (is_external o.helper_loader.mode)) o.es2026.explicit_resource_management)
+
+  no_shape : (up : List ℕ) (k : AstType) (l : Label) (fs : Fields) → any_node is_asked (node k l fs) ≡ false → shape_at o [] up k l fs ≡ None
+  no_shape up k l fs g =
+      let h : is_asked k l fs ≡ false = or_first (is_asked k l fs) (any_in_fields is_asked fs) g in
       rw (
+        built k l fs h,
         unbound o.es2016.exponentiation_operator (is_exponentiation k l fs) (is_some (find [] up (codes "Math"))) (ap is_some (found_nowhere up (codes "Math"))),
         unbound (copies_by_name o) (is_object_spread k l fs) (is_some (find [] up (codes "babelHelpers"))) (ap is_some (found_nowhere up (codes "babelHelpers"))),
         ap (λ b. is_some o.es2018.object_rest_spread && (b && has_uncopied (field_at 0 fs))) (no_literal k l fs h) ∙ off (is_some o.es2018.object_rest_spread),
         ap (λ b. o.es2020.optional_chaining && b) (no_tag k l fs h) ∙ off o.es2020.optional_chaining,
       ) refl
 
-  plain_taken : (vs : List Visit) → list_all is_plain vs ≡ true → first_among o [] vs ≡ None
-  plain_taken [] h = refl
-  plain_taken (v ∷ vs) h =
-      let both = and_parts (is_plain v) (list_all is_plain vs) h in
-      rw (no_shape v.place.around v.kind v.label v.fields both.0) (plain_taken vs both.1)
-
 -- ANY NUMBER OF STATEMENTS
 
-plain : (r i id : ℕ) (p : Place) (n : ℕ) (vs : List Visit) → list_all is_plain (visits p n (statement_for r i id) ++ vs) ≡ list_all is_plain vs
-plain zero i id p n vs = refl
-plain (suc zero) i id p n vs = refl
-plain (suc (suc zero)) i id p n vs = refl
-plain (suc (suc (suc r))) i id p n vs = refl
+plain : (r i id : ℕ) → any_node is_asked (statement_for r i id) ≡ false
+plain zero i id = refl
+plain (suc zero) i id = refl
+plain (suc (suc zero)) i id = refl
+plain (suc (suc (suc r))) i id = refl
 
-body_plain : (i m : ℕ) (p : Place) (n : ℕ) (vs : List Visit) → list_all is_plain (visits_in_trees p n (trees (map generated_statement (range_with_len i m))) ++ vs) ≡ list_all is_plain vs
-body_plain i zero p n vs = refl
-body_plain i (suc m) p n vs =
-    let t = generated_statement i in
-    let later = visits_in_trees p (n + scope_count_in t) (trees (map generated_statement (range_with_len (i + 1) m))) in
-    ap (list_all is_plain) (append_assoc (visits p n t) later vs) ∙ plain (i % 4) i (start_of i) p n (later ++ vs) ∙ body_plain (i + 1) m p (n + scope_count_in t) vs
+body_plain : (i m : ℕ) → any_in_trees is_asked (trees (map generated_statement (range_with_len i m))) ≡ false
+body_plain i zero = refl
+body_plain i (suc m) =
+    or_both (any_node is_asked (generated_statement i)) (any_in_trees is_asked (trees (map generated_statement (range_with_len (i + 1) m)))) (plain (i % 4) i (start_of i)) (body_plain (i + 1) m)
 
-generated-plain : (n : ℕ) → list_all is_plain (visits_of (generated n)) ≡ true
-generated-plain n = body_plain 0 n _ _ []
+generated-plain : (n : ℕ) → any_node is_asked (generated n) ≡ false
+generated-plain n = or_both (any_in_trees is_asked (trees (map generated_statement (range_with_len 0 n)))) false (body_plain 0 n) refl
 
 generated-symbols : (n : ℕ) → symbols_of (generated n) ≡ []
 generated-symbols n = rw (generated-declares n) at (core-symbols (generated n) (generated-core n))
 
 pub generated-taken : (o : EnvOptions) (n : ℕ) → first_unsupported o (generated n) ≡ None
 generated-taken o n =
-    let vs = visits_of (generated n) in
-    ap (λ (ds : List Declared). first_among o ds vs) (generated-symbols n) ∙ plain_taken o vs (generated-plain n)
-
--- NO PATTERN stands in it
-
-no_rest : (r i id : ℕ) → any_node is_object_rest (statement_for r i id) ≡ false
-no_rest zero i id = refl
-no_rest (suc zero) i id = refl
-no_rest (suc (suc zero)) i id = refl
-no_rest (suc (suc (suc r))) i id = refl
-
-no_rest_among : (i m : ℕ) → any_in_trees is_object_rest (trees (map generated_statement (range_with_len i m))) ≡ false
-no_rest_among i zero = refl
-no_rest_among i (suc m) = λ j. no_rest (i % 4) i (start_of i) j || no_rest_among (i + 1) m j
-
-pub generated-built : (o : EnvOptions) (n : ℕ) → has_unbuilt_construct o (generated n) ≡ false
-generated-built o n = ap (λ b. is_some o.es2018.object_rest_spread && (b || false)) (no_rest_among 0 n) ∙ off (is_some o.es2018.object_rest_spread)
+    let p = generated n in
+    let none = none-of o [] is_asked (no_shape o)
+        (λ on k l fs g. let h = or_first (is_asked k l fs) (any_in_fields is_asked fs) g in (no_accessor k l fs h, no_arrow k l fs h))
+        (λ k l fs parameter i f h g. no_slot o k l fs parameter i f h)
+        (outermost p) outside 1 p (generated-plain n) (λ on. refl) in
+    ap (λ (ds : List Declared). first_of o ds (outermost p) outside 1 p) (generated-symbols n) ∙ none

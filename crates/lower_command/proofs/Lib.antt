@@ -1,4 +1,4 @@
-pub mod RefusedAlike
+pub mod SameOptions
 pub mod Counts
 pub mod Known
 pub mod Outcome

@@ -19,7 +19,8 @@ use Rattle.lower_driver.specs.Sources.{IsCauseUnder}
 use Rattle.lower_command.specs.Job.{IsTakenSource}
 use Rattle.lower_command.specs.Words.{AreProper, Asks, generate_of, has_flag}
 use Rattle.lower_editions.proofs.Walked.{none_asked}
-use Rattle.lower_command.proofs.RefusedAlike.{same_refusals}
+use Rattle.lower_driver.proofs.CopiedOptions.{copied-fault}
+use Rattle.lower_command.proofs.SameOptions.{same_options}
 use Rattle.lower_command.proofs.Causes.{taken_as, not_refused, one_cause}
 use Rattle.lower_command.specs.Run.{AskForInput, IsGeneratedAnswer, IsJobAnswer, WasWhole, WasAnswered, WasGenerated, IsDue, Took, TookFront, Ends, Gave, Table, HasInput, Causes}
 
@@ -106,7 +107,7 @@ is_refused : (o : EnvOptions) (answer : Answer) (words : List (String Global)) (
     → Asks words o → HasInput words old new bytes → length bytes ≤ 2 ^ 26 → ¬ IsTakenSource o bytes → status_of answer ≡ REFUSED
 is_refused o (Lowered texts) words old new bytes due asked has short other =
     let source = (told_answer (Lowered texts) words old.input new.input bytes has.told due.1).1.0 in
-    absurd (other (taken_as due.1.options o bytes (same_refusals words due.1.options o due.1.asked asked) source))
+    absurd (other (taken_as due.1.options o bytes (same_options words due.1.options o due.1.asked asked) source))
 is_refused o (Generated line) words old new bytes due asked has short other = no_count words due.0.count has.plain due.0.counted
 is_refused o (Refused text) words old new bytes due asked has short other = refl
 is_refused o Words words old new bytes due asked has short other = absurd (due.0 has.proper)
@@ -120,7 +121,7 @@ is_done o (Generated line) words old new bytes due asked has short source = refl
 is_done o (Refused text) words old new bytes due asked has short source =
     let answered = refused_input text words old.input new.input has.plain due in
     let with_line = (told_answer (Refused text) words old.input new.input bytes has.told answered).1 in
-    absurd (not_refused answered.options o bytes with_line.error (same_refusals words answered.options o answered.asked asked) with_line.cause source)
+    absurd (not_refused answered.options o bytes with_line.error (same_options words answered.options o answered.asked asked) with_line.cause source)
 is_done o Words words old new bytes due asked has short source = absurd (due.0 has.proper)
 is_done o ReadFault words old new bytes due asked has short source = absurd (has.no_fault due.1)
 is_done o TooLong words old new bytes due asked has short source = absurd (omega (arith, front_fits old.input.bytes new.input.bytes bytes (2 ^ 26 + 1) has.told due.1))
@@ -131,7 +132,7 @@ is_generated o (Lowered texts) words old new n due asked proper counted carried 
 is_generated o (Generated line) words old new n due asked proper counted carried = refl
 is_generated o (Refused text) words old new n due asked proper counted carried =
     let script = refused_script text words old new n counted due in
-    let both : Some script.gave.name ≡ None = sym script.gave.first ∙ (same_refusals words script.options o script.asked asked).fault ∙ carried in
+    let both : Some script.gave.name ≡ None = sym script.gave.first ∙ copied-fault o script.options (same_options words script.options o script.asked asked) ∙ carried in
     absurd (cc)
 is_generated o Words words old new n due asked proper counted carried = absurd (due.0 proper)
 is_generated o ReadFault words old new n due asked proper counted carried = no_count words n due.0.plain counted
@@ -233,12 +234,12 @@ module _ (words : List (String Global)) (old new : Ends) where
   told_cause : (o : EnvOptions) (answer : Answer) → Gave answer words old new → Asks words o → (bytes : List ℕ) → HasInput words old new bytes → length bytes ≤ 2 ^ 26 → (error : LowerError) → IsCauseUnder o bytes error → (status_of answer ≡ REFUSED) × Took old.notes new.notes (refusal_text error)
   told_cause o (Lowered texts) gave asked bytes has short error cause =
       let due = gave.due.1 in
-      absurd (not_refused o due.options bytes error (same_refusals words o due.options asked due.asked) cause (told_answer (Lowered texts) words old.input new.input bytes has.told due).1.0)
+      absurd (not_refused o due.options bytes error (same_options words o due.options asked due.asked) cause (told_answer (Lowered texts) words old.input new.input bytes has.told due).1.0)
   told_cause o (Generated line) gave asked bytes has short error cause = no_count words gave.due.0.count has.plain gave.due.0.counted
   told_cause o (Refused text) gave asked bytes has short error cause =
       let due = refused_input text words old.input new.input has.plain gave.due in
       let with_line = (told_answer (Refused text) words old.input new.input bytes has.told due).1 in
-      let one = one_cause o due.options bytes with_line.error error (same_refusals words o due.options asked due.asked) with_line.cause cause in
+      let one = one_cause o due.options bytes with_line.error error (same_options words o due.options asked due.asked) with_line.cause cause in
       (refl, subst (Took old.notes new.notes) (with_line.line_is ∙ one) gave.taken.notes)
   told_cause o Words gave asked bytes has short error cause = absurd (gave.due.0 has.proper)
   told_cause o ReadFault gave asked bytes has short error cause = absurd (has.no_fault gave.due.1)
@@ -249,11 +250,11 @@ module _ (words : List (String Global)) (old new : Ends) where
   told_option o (Lowered texts) gave asked n proper counted name first = no_count words n gave.due.0.plain counted
   told_option o (Generated line) gave asked n proper counted name first =
       let script = gave.due.0 in
-      let both : Some name ≡ None = sym first ∙ (same_refusals words o script.options asked script.asked).fault ∙ script.gave.0 in
+      let both : Some name ≡ None = sym first ∙ copied-fault script.options o (same_options words o script.options asked script.asked) ∙ script.gave.0 in
       absurd (cc)
   told_option o (Refused text) gave asked n proper counted name first =
       let script = refused_script text words old.input new.input n counted gave.due in
-      let both : Some script.gave.name ≡ Some name = sym script.gave.first ∙ (same_refusals words script.options o script.asked asked).fault ∙ first in
+      let both : Some script.gave.name ≡ Some name = sym script.gave.first ∙ copied-fault o script.options (same_options words script.options o script.asked asked) ∙ first in
       let same : script.gave.name ≡ name = cc in
       (refl, subst (Took old.notes new.notes) (script.gave.line_is ∙ ap (λ (x : OptionName). refusal_text (e-Option x)) same) gave.taken.notes)
   told_option o Words gave asked n proper counted name first = absurd (gave.due.0 proper)

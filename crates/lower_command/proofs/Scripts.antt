@@ -1,5 +1,5 @@
 -- Of a made script: why it is refused, and its line of counts.
-use Rattle.std.proofs.Common.{◌≡◌, ◌∙◌, ℕ, List, Option, Some, None, inl, inr, refl, sym, true≢false}
+use Rattle.std.proofs.Common.{◌≡◌, ℕ, List, Option, Some, None, refl}
 use Rattle.es_tree.specs.declared.error.LowerError.{LowerError}
 use Rattle.es_tree.specs.declared.error.LowerError.TheVariants.{Option as e-Option, OutOfMemory, Unsupported}
 use Rattle.es_tree.specs.declared.error.UnsupportedKind.{UnsupportedKind}
@@ -10,7 +10,7 @@ use Rattle.lower_command.specs.Answer.{generated_line, refusal_text}
 use Rattle.lower_command.specs.Generated.{generated}
 use Rattle.lower_command.specs.Refusals.{IsNoMemory}
 use Rattle.lower_command.specs.Run.{IsRefusedOption}
-use Rattle.lower_command.proofs.GeneratedShapes.{generated-built, generated-taken}
+use Rattle.lower_command.proofs.GeneratedShapes.{generated-taken}
 
 one_answer : (found : Option (UnsupportedKind × ℕ)) (x : UnsupportedKind × ℕ) → found ≡ Some x → found ≡ None → ⊥
 one_answer found x some none = cc
@@ -18,12 +18,9 @@ one_answer found x some none = cc
 -- options that ask for what isn't done are the one cause
 pub script_refused : (o : EnvOptions) (n : ℕ) (error : LowerError) (text : List ℕ) → IsTreeCauseOrMemory o (generated n) error → text ≡ refusal_text error
     → (IsNoMemory error → ⊥) → IsRefusedOption o text
-script_refused o n (e-Option name) text cause told memory = elim cause [
-  | inl first ↦ record { name = name; first = first; line_is = told }
-  | inr h ↦ absurd (true≢false (sym h.2 ∙ generated-built o n))
-]
+script_refused o n (e-Option name) text cause told memory = record { name = name; first = cause; line_is = told }
 script_refused o n (Unsupported kind id) text cause told memory =
-    absurd (one_answer (first_unsupported o (generated n)) (kind, id.0) cause.1.first (generated-taken o n))
+    absurd (one_answer (first_unsupported o (generated n)) (kind, id.0) cause.1 (generated-taken o n))
 script_refused o n OutOfMemory text cause told memory = absurd (memory tt)
 script_refused o n _ text cause told memory = absurd cause
 

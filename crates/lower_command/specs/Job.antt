@@ -1,7 +1,6 @@
 -- What the job does: from the bytes of an input, or from a made script, to the texts that go out.
-use Rattle.std.specs.Prelude.{◌≡◌, ◌∷◌, ◌++◌, [], None, ℕ, List, false, length}
+use Rattle.std.specs.Prelude.{◌≡◌, ◌∷◌, ◌++◌, [], None, ℕ, List, length}
 use Rattle.serde_json.specs.Written.{compact_text}
-use Rattle.es_tree.specs.Constructs.{has_unbuilt_construct}
 use Rattle.es_tree.specs.Options.{first_fault}
 use Rattle.es_tree.specs.StaticRules.{breaks}
 use Rattle.es_tree.specs.Tree.{Tree, tree_size}
@@ -15,14 +14,13 @@ use Rattle.lower_editions.specs.Warnings.{warnings_of}
 use Rattle.lower_command.specs.Answer.{generated_line, warning_lines}
 use Rattle.lower_command.specs.Generated.{generated}
 
--- The options ask for nothing that isn't done, and the bytes read as a program that keeps the static rules, with no construct that is asked
--- for and no lowering takes away, and no shape that the lowerings of these options don't take.
+-- The options ask for nothing that isn't done, and the bytes read as a program that keeps the static rules, with no shape that the lowerings
+-- of these options don't take.
 pub record IsTakenSource (o : EnvOptions) (bytes : List ℕ) : Type 0 where
   pub carried : first_fault o ≡ None
   pub program : Tree
   pub reads : Reads bytes program
   pub kept : breaks program ≡ []
-  pub built : has_unbuilt_construct o program ≡ false
   pub taken : first_unsupported o program ≡ None
 
 -- For an input of these bytes this text goes out: that of the canonical form of the written program, and a newline; and beside

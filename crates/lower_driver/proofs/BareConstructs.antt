@@ -2,7 +2,7 @@
 use Rattle.std.proofs.Common.{◌≡◌, ℕ, zero, suc, refl, sym, ap, ◌∙◌}
 use Rattle.std.specs.Prelude.{Bool, ◌&&◌, ◌||◌, not, bytes_eq, codes, is_some}
 use Rattle.es_tree.specs.Bare.{bare, bare_field, bare_fields, bare_label, bare_trees}
-use Rattle.es_tree.specs.Constructs.{any_kind, field_at, has_enabled_construct, has_unbuilt_construct, has_member, is_arrow, is_big_int, is_chain, is_child, is_enabled_construct, is_exponentiation, is_logical_assignment, is_namespace_export, is_nullish_coalescing, is_optional_catch, is_private_member, is_private_name, is_object_rest, is_object_spread, is_private_target, is_rest, is_spread, is_using, stands}
+use Rattle.es_tree.specs.Constructs.{any_kind, field_at, has_enabled_construct, has_member, is_arrow, is_big_int, is_chain, is_child, is_enabled_construct, is_exponentiation, is_logical_assignment, is_namespace_export, is_nullish_coalescing, is_optional_catch, is_private_member, is_private_name, is_object_rest, is_object_spread, is_private_target, is_rest, is_spread, is_using, stands}
 use Rattle.es_tree.specs.Names.{first_text}
 use Rattle.es_tree.specs.Parens.{without_parens}
 use Rattle.es_tree.specs.Tree.{Tree, node, Label, Fields, done, ◌then◌, Field, missing, one, many, statements, Trees, empty, ◌before◌, fields_of, kind_of}
@@ -155,5 +155,6 @@ module _ (test : AstType → Label → Fields → Bool) (same : (k : AstType) (l
 pub same-constructs : (o : EnvOptions) (t u : Tree) → bare u ≡ bare t → has_enabled_construct o u ≡ has_enabled_construct o t
 same-constructs o t u e = sym (any-bare (is_enabled_construct o) (enabled-bare o) u) ∙ ap (any_node (is_enabled_construct o)) e ∙ any-bare (is_enabled_construct o) (enabled-bare o) t
 
-pub same-left : (o : EnvOptions) (t u : Tree) → bare u ≡ bare t → has_unbuilt_construct o u ≡ has_unbuilt_construct o t
-same-left o t u e = ap (λ b. is_some o.es2018.object_rest_spread && b) (sym (any-bare is_object_rest rest-bare u) ∙ ap (any_node is_object_rest) e ∙ any-bare is_object_rest rest-bare t)
+-- and the same arrows
+pub same-arrows : (t u : Tree) → bare u ≡ bare t → any_node is_arrow u ≡ any_node is_arrow t
+same-arrows t u e = sym (any-bare is_arrow arrow-bare u) ∙ ap (any_node is_arrow) e ∙ any-bare is_arrow arrow-bare t

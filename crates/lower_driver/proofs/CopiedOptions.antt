@@ -1,14 +1,15 @@
 -- Options that are the same ask for the same.
-use Rattle.std.proofs.Common.{◌≡◌, ℕ, refl, sym, ap, ◌∙◌, subst, List, [], ◌∷◌, inl, inr}
+use Rattle.std.proofs.Common.{◌≡◌, ℕ, suc, ◌+◌, refl, sym, ap, ◌∙◌, subst, List, inl, inr}
 use Rattle.std.specs.Prelude.{Bool, is_some}
 use Rattle.std.specs.Option.{option_or}
-use Rattle.es_tree.specs.Constructs.{has_enabled_construct, has_unbuilt_construct}
-use Rattle.es_tree.specs.Options.{asks_for_unbuilt}
-use Rattle.es_tree.specs.Tree.{Tree, Label, Fields}
+use Rattle.es_tree.specs.Constructs.{has_enabled_construct}
+use Rattle.es_tree.specs.Options.{first_fault}
+use Rattle.es_tree.specs.Tree.{Tree, node, Label, Fields, done, ◌then◌, Field, missing, one, many, statements, Trees, empty, ◌before◌}
 use Rattle.es_tree.specs.declared.ast_type.AstType.{AstType}
 use Rattle.es_tree.specs.declared.options.EnvOptions.{EnvOptions}
-use Rattle.es_semantic.specs.Places.{Visit, visits_of}
+use Rattle.es_semantic.specs.Places.{Place, outermost, own_scope, own_scope_count, place_in, scope_count_in, scope_count_in_field}
 use Rattle.es_semantic.specs.SymbolsOf.{Declared, symbols_of}
+use Rattle.es_steps.specs.Arrows.{ArrowRule}
 use Rattle.es_steps.specs.CoreBridge.{Reached}
 use Rattle.es_steps.specs.CoreRules.{rows_under, rule_under, where_on}
 use Rattle.es_steps.specs.NamespaceExports.{NamespaceRule}
@@ -20,34 +21,63 @@ use Rattle.es_steps.specs.Steps.{Ledger, Site, Spot, Whole}
 use Rattle.es_steps.specs.WrapRule.{WrapRule, is_wrapped_for}
 use Rattle.es_steps.specs.WrapRule.WrapRule.{wraps}
 use Rattle.es_steps.proofs.BridgeInclusion.{all_under}
+use Rattle.es_valid_steps.specs.Laws.{with_further_rules}
 use Rattle.es_reached.specs.Reached.{built_rules}
-use Rattle.es_unsupported.specs.FirstUnsupported.{first_among, first_unsupported, found_at}
+use Rattle.es_unsupported.specs.ArrowShapes.{arrow_place_in, arrow_shape, binds_arguments, outside, refers_by}
+use Rattle.es_unsupported.specs.FirstUnsupported.{first_of, first_of_field, first_of_fields, first_of_trees, first_unsupported, found_at}
 use Rattle.es_unsupported.specs.Shapes.{shape_at}
 use Rattle.lower_driver.specs.Copies.{IsCopy}
+use Rattle.lower_driver.proofs.QuietArrows.{ArrowPlace}
 
 module _ (o c : EnvOptions) (copy : IsCopy o c) where
-  pub copied-unbuilt : asks_for_unbuilt c ≡ asks_for_unbuilt o
-  copied-unbuilt = λ i. asks_for_unbuilt (record c { es2015 = copy.es2015 i; es2018 = copy.es2018 i; es2026 = copy.es2026 i; helper_loader = record c.helper_loader { mode = copy.mode i } })
+  pub copied-fault : first_fault c ≡ first_fault o
+  copied-fault = λ i.
+      first_fault
+      (record c { es2015 = copy.es2015 i; es2017 = copy.es2017 i; es2018 = copy.es2018 i; assumptions = copy.assumptions i; helper_loader = record c.helper_loader { mode = copy.mode i } })
 
   pub copied-enabled : (t : Tree) → has_enabled_construct c t ≡ has_enabled_construct o t
   copied-enabled t = λ i.
       has_enabled_construct
       (record c { es2015 = copy.es2015 i; es2016 = copy.es2016 i; es2018 = copy.es2018 i; es2019 = copy.es2019 i; es2020 = copy.es2020 i; es2021 = copy.es2021 i; es2026 = copy.es2026 i }) t
 
-  pub copied-left : (t : Tree) → has_unbuilt_construct c t ≡ has_unbuilt_construct o t
-  copied-left t = λ i. has_unbuilt_construct (record c { es2018 = copy.es2018 i }) t
-
   -- SHAPES
 
   copied-shape : (ds : List Declared) (up : List ℕ) (k : AstType) (l : Label) (fs : Fields) → shape_at c ds up k l fs ≡ shape_at o ds up k l fs
-  copied-shape ds up k l fs = λ i. shape_at (record c { es2016 = copy.es2016 i; es2018 = copy.es2018 i; es2020 = copy.es2020 i; helper_loader = record c.helper_loader { mode = copy.mode i } }) ds up k l fs
+  copied-shape ds up k l fs = λ i. shape_at (record c { es2016 = copy.es2016 i; es2018 = copy.es2018 i; es2020 = copy.es2020 i; es2026 = copy.es2026 i; helper_loader = record c.helper_loader { mode = copy.mode i } }) ds up k l fs
 
-  copied-among : (ds : List Declared) (vs : List Visit) → first_among c ds vs ≡ first_among o ds vs
-  copied-among ds [] = refl
-  copied-among ds (v ∷ vs) = λ i. option_or (found_at v.label.id (copied-shape ds v.place.around v.kind v.label v.fields i)) (copied-among ds vs i)
+  copied-arrow-shape : (q : ArrowPlace) (refers : Bool) (k : AstType) (l : Label) (fs : Fields) → arrow_shape c q refers k l fs ≡ arrow_shape o q refers k l fs
+  copied-arrow-shape q refers k l fs = λ i. arrow_shape (record c { es2015 = copy.es2015 i }) q refers k l fs
+
+  copied-place : (binds : Bool) (q : ArrowPlace) (k : AstType) (l : Label) (fs : Fields) (i : ℕ) (f : Field) → arrow_place_in c binds q k l fs i f ≡ arrow_place_in o binds q k l fs i f
+  copied-place binds q k l fs j f = λ i. arrow_place_in (record c { es2015 = copy.es2015 i; es2016 = copy.es2016 i; es2018 = copy.es2018 i; es2020 = copy.es2020 i; es2021 = copy.es2021 i }) binds q k l fs j f
+
+  copied-places : (binds : Bool) (q : ArrowPlace) (k : AstType) (l : Label) (fs : Fields) → ◌≡◌ {A = ℕ → Field → ArrowPlace} (arrow_place_in c binds q k l fs) (arrow_place_in o binds q k l fs)
+  copied-places binds q k l fs = λ j i f. copied-place binds q k l fs i f j
+
+  module _ (ds : List Declared) where
+    mutual
+      copied-first : (p : Place) (q : ArrowPlace) (n : ℕ) (t : Tree) → first_of c ds p q n t ≡ first_of o ds p q n t
+      copied-first p q n (node k l fs) =
+          let binds = binds_arguments ds (own_scope n k fs) k in
+          (λ i. option_or (found_at l.id (option_or (copied-shape ds p.around k l fs i) (copied-arrow-shape q (refers_by p.role) k l fs i))) (first_of_fields c ds (place_in p n k l fs) (copied-places binds q k l fs i) (n + own_scope_count k fs) fs))
+          ∙ ap (λ later. option_or (found_at l.id (option_or (shape_at o ds p.around k l fs) (arrow_shape o q (refers_by p.role) k l fs))) later) (copied-first-in (place_in p n k l fs) (arrow_place_in o binds q k l fs) (n + own_scope_count k fs) fs)
+
+      copied-first-in : (ps : ℕ → Place) (qs : ℕ → Field → ArrowPlace) (n : ℕ) (fs : Fields) → first_of_fields c ds ps qs n fs ≡ first_of_fields o ds ps qs n fs
+      copied-first-in ps qs n done = refl
+      copied-first-in ps qs n (f then fs) = λ i. option_or (copied-first-by (ps 0) (qs 0 f) n f i) (copied-first-in (λ j. ps (suc j)) (λ j. qs (suc j)) (n + scope_count_in_field f) fs i)
+
+      copied-first-by : (p : Place) (q : ArrowPlace) (n : ℕ) (f : Field) → first_of_field c ds p q n f ≡ first_of_field o ds p q n f
+      copied-first-by p q n missing = refl
+      copied-first-by p q n (one t) = copied-first p q n t
+      copied-first-by p q n (many ts) = copied-first-among p q n ts
+      copied-first-by p q n (statements ts) = copied-first-among p q n ts
+
+      copied-first-among : (p : Place) (q : ArrowPlace) (n : ℕ) (ts : Trees) → first_of_trees c ds p q n ts ≡ first_of_trees o ds p q n ts
+      copied-first-among p q n empty = refl
+      copied-first-among p q n (t before ts) = λ i. option_or (copied-first p q n t i) (copied-first-among p q (n + scope_count_in t) ts i)
 
   pub copied-unsupported : (p : Tree) → first_unsupported c p ≡ first_unsupported o p
-  copied-unsupported p = copied-among (symbols_of p) (visits_of p)
+  copied-unsupported p = copied-first (symbols_of p) (outermost p) outside 1 p
 
   -- RULES
 
@@ -65,11 +95,15 @@ module _ (o c : EnvOptions) (copy : IsCopy o c) where
   copied-rule n s x s' y (inr (inl w)) = inr (inl (copied-wraps n s s' x y w))
   copied-rule n s x s' y (inr (inr r)) = inr (inr (copied-rows n s s' x y r))
 
+  copied-further : (n : Site) (s : Ledger) (x : Spot) (s' : Ledger) (y : Spot) → with_further_rules c n s x s' y → with_further_rules o n s x s' y
+  copied-further n s x s' y (inl r) = inl (copied-rule n s x s' y r)
+  copied-further n s x s' y (inr (inl h)) = inr (inl (subst (λ (z : Type 0). z) (λ i. where_on (copy.es2019 i).optional_catch_binding CatchRule n s x s' y) h))
+  copied-further n s x s' y (inr (inr (inl h))) = inr (inr (inl (subst (λ (z : Type 0). z) (λ i. where_on (copy.es2020 i).export_namespace_from NamespaceRule n s x s' y) h)))
+  copied-further n s x s' y (inr (inr (inr h))) = inr (inr (inr (subst (λ (z : Type 0). z) (λ i. where_on (is_some (copy.es2018 i).object_rest_spread) (Replacing SpreadRule) n s x s' y) h)))
+
   copied-built : (n : Site) (s : Ledger) (x : Spot) (s' : Ledger) (y : Spot) → built_rules c n s x s' y → built_rules o n s x s' y
-  copied-built n s x s' y (inl r) = inl (copied-rule n s x s' y r)
-  copied-built n s x s' y (inr (inl h)) = inr (inl (subst (λ (z : Type 0). z) (λ i. where_on (copy.es2019 i).optional_catch_binding CatchRule n s x s' y) h))
-  copied-built n s x s' y (inr (inr (inl h))) = inr (inr (inl (subst (λ (z : Type 0). z) (λ i. where_on (copy.es2020 i).export_namespace_from NamespaceRule n s x s' y) h)))
-  copied-built n s x s' y (inr (inr (inr h))) = inr (inr (inr (subst (λ (z : Type 0). z) (λ i. where_on (is_some (copy.es2018 i).object_rest_spread) (Replacing SpreadRule) n s x s' y) h)))
+  copied-built n s x s' y (inl r) = inl (copied-further n s x s' y r)
+  copied-built n s x s' y (inr h) = inr (subst (λ (z : Type 0). z) (λ i. where_on (is_some (copy.es2015 i).arrow_function) ArrowRule n s x s' y) h)
 
   pub copied-reached : (p q : Tree) (w : Whole) (names : List _) → Reached (built_rules c) p w names q → Reached (built_rules o) p w names q
   copied-reached p q w names h = record { whole = h.whole; steps = all_under (built_rules c) (built_rules o) copied-built h.steps; made = h.made }

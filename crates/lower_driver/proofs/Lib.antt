@@ -1,6 +1,8 @@
 pub mod Canonical
 pub mod OpenedProgram
 pub mod Causes
+pub mod EnabledRows
+pub mod QuietArrows
 pub mod NoneUnsupported
 pub mod Untagged
 pub mod BareConstructs

@@ -1,11 +1,11 @@
 -- Where a visit leaves no construct among the statements of a program, none is left: its directives have none, and exports stand in its
 -- own list.
 use Rattle.std.proofs.Common.{◌≡◌, ◌∙◌, [], ap, arith, refl, sym}
-use Rattle.std.specs.Prelude.{Bool, true, false, ◌&&◌, ◌||◌, is_some}
+use Rattle.std.specs.Prelude.{Bool, true, false, ◌&&◌, ◌||◌, not, is_some}
 use Rattle.es_tree.specs.Attributes.{child_entries}
-use Rattle.es_tree.specs.Constructs.{has_enabled_construct, has_unbuilt_construct, is_arrow, is_chain, is_enabled_construct, is_enabled_expression, is_enabled_statement, is_exponentiation, is_logical_assignment, is_namespace_export, is_nullish_coalescing, is_object_rest, is_object_spread, is_optional_catch, is_using}
+use Rattle.es_tree.specs.Constructs.{has_enabled_construct, is_arrow, is_chain, is_enabled_construct, is_enabled_statement, is_exponentiation, is_logical_assignment, is_namespace_export, is_nullish_coalescing, is_object_rest, is_object_spread, is_optional_catch, is_using}
 use Rattle.es_tree.specs.HasForm.{is_of_sort, elements_of, match_option, has_form, elements_form, fields_form, trees_form}
-use Rattle.es_tree.specs.Options.{asks_for_imported_helpers, asks_for_unbuilt}
+use Rattle.es_tree.specs.Options.{is_external}
 use Rattle.es_tree.specs.Tree.{Tree, node, Label, Fields, done, ◌then◌, Field, many, statements, Trees, empty, ◌before◌}
 use Rattle.es_tree.specs.Walks.{any_node, any_in_trees}
 use Rattle.es_tree.specs.declared.ast_type.AstType.{AstType}
@@ -18,78 +18,71 @@ use Rattle.es_valid_steps.specs.PlaceRules.{place_breaks}
 use Rattle.es_valid_steps.proofs.NamespacePlaces.{law_namespace_places_proof}
 use Rattle.es_traverse.specs.Laws.{is_construct}
 use Rattle.es_traverse.specs.Listed.{any_among, any_listed}
+use Rattle.es_unsupported.specs.Shapes.{is_unbuilt_node}
+use Rattle.es_reached.specs.Walks.{is_other_construct}
 use Rattle.lower_driver.specs.Constructs.{is_built_construct, is_lowered_construct, is_lowered_export}
-use Rattle.lower_driver.proofs.EitherTest.{any-where, fewer-in-tree, none-of-tree, rest-of-tree}
+use Rattle.lower_driver.proofs.EitherTest.{any-where, fewer-in-tree, none-of-tree}
 use Rattle.es_runs.proofs.Named.{and_left, and_right, or_both, or_first, or_second}
 
--- BUILT CONSTRUCTS
+-- CONSTRUCTS THAT ARE NO ARROWS: the rows that a visit takes away, exports, and what isn't built
 
--- the six rows in another order, exports, and patterns with a rest, beside settings that are off
-regrouped : (a b c d e x y s r : Bool) → (a || b || c || d || (y && (s || r)) || false || (e || x || false)) ≡ (((d || b || c || e || (y && s) || a) || x) || (y && r))
-regrouped a b c d e x true s r = grind arith
-regrouped a b c d e x false s r = grind arith
+regrouped : (a b c d e x y s r u : Bool) → ((a || b || c || d || (y && (s || r))) || (e || x || u)) ≡ (((d || b || c || e || (y && s) || a) || x) || ((y && r) || u))
+regrouped a b c d e x true s r u = grind arith
+regrouped a b c d e x false s r u = grind arith
 
-module _ (o : EnvOptions) (off : asks_for_unbuilt o ≡ false) where
+module _ (o : EnvOptions) where
   abbrev built_or_export : AstType → Label → Fields → Bool
   built_or_export k l fs = is_built_construct o k l fs || is_lowered_export o k l fs
 
   abbrev rest_pattern : AstType → Label → Fields → Bool
   rest_pattern k l fs = is_some o.es2018.object_rest_spread && is_object_rest k l fs
 
-  built-or-rest : (k : AstType) (l : Label) (fs : Fields) → is_enabled_construct o k l fs ≡ (built_or_export k l fs || rest_pattern k l fs)
-  built-or-rest k l fs =
-      let arrows = is_some o.es2015.arrow_function in
-      let imported = asks_for_imported_helpers o in
-      let using = o.es2026.explicit_resource_management in
-      let no_arrows = or_first arrows imported (or_first (arrows || imported) using off) in
-      let no_using = or_second (arrows || imported) using off in
-      (λ i.
-      (o.es2016.exponentiation_operator && is_exponentiation k l fs)
-      || (o.es2020.nullish_coalescing_operator && is_nullish_coalescing k l fs)
-      || (o.es2020.optional_chaining && is_chain k l fs)
-      || (o.es2021.logical_assignment_operators && is_logical_assignment k l fs)
-      || (is_some o.es2018.object_rest_spread && (is_object_spread k l fs || is_object_rest k l fs))
-      || (no_arrows i && is_arrow k l fs)
-      || ((o.es2019.optional_catch_binding && is_optional_catch k l fs) || (o.es2020.export_namespace_from && is_namespace_export k l fs) || (no_using i && is_using k l fs)))
-      ∙ regrouped (o.es2016.exponentiation_operator && is_exponentiation k l fs) (o.es2020.nullish_coalescing_operator && is_nullish_coalescing k l fs) (o.es2020.optional_chaining && is_chain k l fs)
+  abbrev using_declaration : AstType → Label → Fields → Bool
+  using_declaration k l fs = o.es2026.explicit_resource_management && is_using k l fs
+
+  abbrev unbuilt : AstType → Label → Fields → Bool
+  unbuilt k l fs = rest_pattern k l fs || using_declaration k l fs
+
+  in-rows : (k : AstType) (l : Label) (fs : Fields) → is_other_construct o k l fs ≡ (built_or_export k l fs || unbuilt k l fs)
+  in-rows k l fs =
+      regrouped (o.es2016.exponentiation_operator && is_exponentiation k l fs) (o.es2020.nullish_coalescing_operator && is_nullish_coalescing k l fs) (o.es2020.optional_chaining && is_chain k l fs)
       (o.es2021.logical_assignment_operators && is_logical_assignment k l fs) (o.es2019.optional_catch_binding && is_optional_catch k l fs) (o.es2020.export_namespace_from && is_namespace_export k l fs)
-      (is_some o.es2018.object_rest_spread) (is_object_spread k l fs) (is_object_rest k l fs)
+      (is_some o.es2018.object_rest_spread) (is_object_spread k l fs) (is_object_rest k l fs) (o.es2026.explicit_resource_management && is_using k l fs)
 
-  -- where neither is left, of what the options ask for only patterns with a rest can be
-  pub none-enabled : (t : Tree) → any_node (is_built_construct o) t ≡ false → any_node (is_lowered_export o) t ≡ false → has_enabled_construct o t ≡ has_unbuilt_construct o t
-  none-enabled t built exports =
-      rest-of-tree built_or_export rest_pattern (is_enabled_construct o) built-or-rest t (none-of-tree (is_built_construct o) (is_lowered_export o) built_or_export (λ k l fs. refl) t built exports)
-      ∙ any-where (is_some o.es2018.object_rest_spread) is_object_rest t
+  -- where none of these is left
+  pub none-other : (t : Tree) → any_node (is_built_construct o) t ≡ false → any_node (is_lowered_export o) t ≡ false → (is_some o.es2018.object_rest_spread && any_node is_object_rest t) ≡ false → (o.es2026.explicit_resource_management && any_node is_using t) ≡ false → any_node (is_other_construct o) t ≡ false
+  none-other t built exports rests usings =
+      none-of-tree built_or_export unbuilt (is_other_construct o) in-rows t
+      (none-of-tree (is_built_construct o) (is_lowered_export o) built_or_export (λ k l fs. refl) t built exports)
+      (none-of-tree rest_pattern using_declaration unbuilt (λ k l fs. refl) t (any-where (is_some o.es2018.object_rest_spread) is_object_rest t ∙ rests) (any-where o.es2026.explicit_resource_management is_using t ∙ usings))
 
--- a node that is no construct that the options ask for is no literal with a spread and no pattern with a rest
-pub copy-off : (o : EnvOptions) (k : AstType) (l : Label) (fs : Fields) → is_enabled_construct o k l fs ≡ false → (is_some o.es2018.object_rest_spread && (is_object_spread k l fs || is_object_rest k l fs)) ≡ false
-copy-off o k l fs h =
-    let copies = is_some o.es2018.object_rest_spread && (is_object_spread k l fs || is_object_rest k l fs) in
-    let arrows = is_some o.es2015.arrow_function && is_arrow k l fs in
-    or_second _ copies (or_first _ arrows (or_first (is_enabled_expression o k l fs) (is_enabled_statement o k l fs) h))
+  -- and no arrow, where they are asked for
+  in-all : (k : AstType) (l : Label) (fs : Fields) → is_enabled_construct o k l fs ≡ (is_other_construct o k l fs || (is_some o.es2015.arrow_function && is_arrow k l fs))
+  in-all k l fs =
+      with-arrows (o.es2016.exponentiation_operator && is_exponentiation k l fs) (o.es2020.nullish_coalescing_operator && is_nullish_coalescing k l fs) (o.es2020.optional_chaining && is_chain k l fs)
+      (o.es2021.logical_assignment_operators && is_logical_assignment k l fs) (is_some o.es2018.object_rest_spread && (is_object_spread k l fs || is_object_rest k l fs)) (is_some o.es2015.arrow_function && is_arrow k l fs) (is_enabled_statement o k l fs)
+    where
+      with-arrows : (a b c d e f s : Bool) → ((a || b || c || d || e || f) || s) ≡ (((a || b || c || d || e) || s) || f)
+      with-arrows a b c d e f s = grind arith
 
-pub first-off : (on spread rest : Bool) → (on && (spread || rest)) ≡ false → (on && spread) ≡ false
-first-off true spread rest h = or_first spread rest h
-first-off false spread rest h = refl
+  pub none-enabled : (t : Tree) → any_node (is_other_construct o) t ≡ false → (is_some o.es2015.arrow_function && any_node is_arrow t) ≡ false → has_enabled_construct o t ≡ false
+  none-enabled t other arrows = none-of-tree (is_other_construct o) (λ k l fs. is_some o.es2015.arrow_function && is_arrow k l fs) (is_enabled_construct o) in-all t other (any-where (is_some o.es2015.arrow_function) is_arrow t ∙ arrows)
 
-second-off : (on spread rest : Bool) → (on && (spread || rest)) ≡ false → (on && rest) ≡ false
-second-off true spread rest h = or_second spread rest h
-second-off false spread rest h = refl
+  -- WHERE NOTHING STANDS THAT ISN'T BUILT
 
--- where none is that the options ask for, no pattern with a rest is
-pub none-asked : (o : EnvOptions) (t : Tree) → has_enabled_construct o t ≡ false → has_unbuilt_construct o t ≡ false
-none-asked o t h = sym (any-where (is_some o.es2018.object_rest_spread) is_object_rest t) ∙ fewer-in-tree (λ k l fs. is_some o.es2018.object_rest_spread && is_object_rest k l fs) (is_enabled_construct o) (λ k l fs e. second-off (is_some o.es2018.object_rest_spread) (is_object_spread k l fs) (is_object_rest k l fs) (copy-off o k l fs e)) t h
+  abbrev imported_spread : AstType → Label → Fields → Bool
+  imported_spread k l fs = is_some o.es2018.object_rest_spread && not (is_external o.helper_loader.mode) && is_object_spread k l fs
+
+  pub no-rests : (t : Tree) → any_node (is_unbuilt_node o) t ≡ false → (is_some o.es2018.object_rest_spread && any_node is_object_rest t) ≡ false
+  no-rests t h = sym (any-where (is_some o.es2018.object_rest_spread) is_object_rest t) ∙ fewer-in-tree rest_pattern (is_unbuilt_node o) (λ k l fs e. or_first (rest_pattern k l fs) (imported_spread k l fs) (or_first (rest_pattern k l fs || imported_spread k l fs) (using_declaration k l fs) e)) t h
+
+  pub no-usings : (t : Tree) → any_node (is_unbuilt_node o) t ≡ false → (o.es2026.explicit_resource_management && any_node is_using t) ≡ false
+  no-usings t h = sym (any-where o.es2026.explicit_resource_management is_using t) ∙ fewer-in-tree using_declaration (is_unbuilt_node o) (λ k l fs e. or_second (rest_pattern k l fs || imported_spread k l fs) (using_declaration k l fs) e) t h
 
 -- none comes up where there was none
 pub none-came : (on old new : Bool) → (old ≡ false → new ≡ false) → (on && old) ≡ false → (on && new) ≡ false
 none-came true old new stays h = stays h
 none-came false old new stays h = refl
-
--- where all that the options ask for is built, no helper has to be imported
-pub helpers-named : (o : EnvOptions) → asks_for_unbuilt o ≡ false → asks_for_imported_helpers o ≡ false
-helpers-named o off =
-    let arrows = is_some o.es2015.arrow_function in
-    or_second arrows (asks_for_imported_helpers o) (or_first (arrows || asks_for_imported_helpers o) o.es2026.explicit_resource_management off)
 
 -- EXPORTS stand in the list of the program alone
 

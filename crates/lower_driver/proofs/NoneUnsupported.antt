@@ -1,35 +1,32 @@
 -- A program in which no construct stands that the options ask to lower has no shape that a run doesn't take.
-use Rattle.std.proofs.Common.{◌≡◌, ℕ, suc, ◌+◌, None, Option, Some, refl, ◌∙◌, List, [], ◌∷◌, ◌++◌}
-use Rattle.std.specs.Prelude.{Bool, true, false, ◌&&◌, ◌||◌, is_some, codes}
-use Rattle.std.specs.Option.{option_or}
-use Rattle.es_tree.specs.Constructs.{field_at, has_enabled_construct, is_arrow, is_chain, is_enabled_construct, is_enabled_statement, is_exponentiation, is_logical_assignment, is_nullish_coalescing, is_object_rest, is_object_spread}
+use Rattle.std.proofs.Common.{◌≡◌, ℕ, zero, suc, None, refl, sym, ◌∙◌, List, true≢false}
+use Rattle.std.specs.Prelude.{Bool, true, false, ◌&&◌, ◌||◌, not, is_some, codes}
+use Rattle.es_tree.specs.Children.{child_at}
+use Rattle.es_tree.specs.Constructs.{field_at, has_enabled_construct, is_chain, is_enabled_construct, is_exponentiation, is_logical_assignment, is_nullish_coalescing, is_object_spread}
+use Rattle.es_tree.specs.HasForm.{same_type}
+use Rattle.es_tree.specs.Names.{first_text}
 use Rattle.es_tree.specs.Options.{is_external}
 use Rattle.es_tree.specs.Parens.{without_parens}
+use Rattle.es_tree.specs.StaticRules.{is_accessor_word}
 use Rattle.es_tree.specs.Tree.{Tree, node, Label, Fields, done, ◌then◌, Field, missing, one, many, statements, Trees, empty, ◌before◌, kind_of}
 use Rattle.es_tree.specs.Walks.{any_node, any_in_fields, any_in_field, any_in_trees}
 use Rattle.es_tree.specs.declared.ast_type.AstType.{AstType}
-use Rattle.es_tree.specs.declared.ast_type.AstType.TheVariants.{ChainExpression, ParenthesizedExpression, TaggedTemplateExpression}
-use Rattle.es_tree.specs.declared.error.UnsupportedKind.{UnsupportedKind}
+use Rattle.es_tree.specs.declared.ast_type.AstType.TheVariants.{ArrowFunctionExpression, AssignmentExpression, ChainExpression, ObjectProperty, ObjectTarget, ParenthesizedExpression, TaggedTemplateExpression}
 use Rattle.es_tree.specs.declared.options.EnvOptions.{EnvOptions}
-use Rattle.es_runs.proofs.Named.{or_first, or_second}
-use Rattle.es_semantic.specs.Places.{Place, Visit, outermost, own_scope_count, place_in, scope_count_in, scope_count_in_field, visits, visits_in_field, visits_in_fields, visits_in_trees}
+use Rattle.es_runs.proofs.Named.{or_both, or_first, or_second}
+use Rattle.es_semantic.specs.Places.{outermost}
 use Rattle.es_semantic.specs.SymbolsOf.{Declared, find, symbols_of}
-use Rattle.es_unsupported.specs.FirstUnsupported.{first_among, first_unsupported, found_at}
-use Rattle.es_unsupported.specs.Shapes.{has_chain_tag, is_chain_below, is_chain_kind, shape_at}
+use Rattle.es_steps.specs.Slots.{closes, holds, holds_field, holds_fields, holds_trees}
+use Rattle.es_steps.specs.WrapRule.{is_rest_target, is_wrapped_for, takes_for_target}
+use Rattle.es_valid_steps.specs.ArrowNodes.{is_arrow_accessor, is_kind_within}
+use Rattle.es_unsupported.specs.ArrowShapes.{outside}
+use Rattle.es_unsupported.specs.FirstUnsupported.{first_unsupported}
+use Rattle.es_unsupported.specs.Shapes.{has_chain_tag, is_chain_below, is_chain_kind, is_unbuilt_node, shape_at}
 use Rattle.es_unsupported.specs.SpreadLiterals.{has_uncopied}
-use Rattle.lower_driver.proofs.NoneLeft.{copy-off, first-off}
+use Rattle.lower_driver.proofs.EnabledRows.{none-of-rows}
+use Rattle.lower_driver.proofs.QuietArrows.{none-of}
 
 -- THE SHAPES
-
-first_of : (a b c d e f g : Bool) → (a || b || c || d || e || f || g) ≡ false → a ≡ false
-first_of true b c d e f g h = h
-first_of false b c d e f g h = refl
-
-third_of : (a b c d e f g : Bool) → (a || b || c || d || e || f || g) ≡ false → c ≡ false
-third_of true b c d e f g h = absurd (cc h)
-third_of false true c d e f g h = absurd (cc h)
-third_of false false true d e f g h = h
-third_of false false false d e f g h = refl
 
 -- what is asked with something more holds no more
 with-more : (asked is more : Bool) → (asked && is) ≡ false → (asked && is && more) ≡ false
@@ -47,29 +44,29 @@ in-both true true more h = absurd (cc h)
 in-both true false more h = refl
 in-both false is more h = refl
 
-pub none-then : (here later : Option (UnsupportedKind × ℕ)) → here ≡ None → later ≡ None → option_or here later ≡ None
-none-then here later h g = rw (h, g) refl
-
-pub none-before : (here later : Option (UnsupportedKind × ℕ)) → option_or here later ≡ None → here ≡ None
-none-before None later h = refl
-none-before (Some x) later h = h
-
-pub none-after : (here later : Option (UnsupportedKind × ℕ)) → option_or here later ≡ None → later ≡ None
-none-after None later h = h
-none-after (Some x) later h = absurd (cc h)
-
 off : (b : Bool) → (b && false) ≡ false
 off true = refl
 off false = refl
 
-module _ (o : EnvOptions) where
-  no-power : (k : AstType) (l : Label) (fs : Fields) → is_enabled_construct o k l fs ≡ false → (o.es2016.exponentiation_operator && is_exponentiation k l fs) ≡ false
-  no-power k l fs h = first_of (o.es2016.exponentiation_operator && is_exponentiation k l fs) (o.es2020.nullish_coalescing_operator && is_nullish_coalescing k l fs) (o.es2020.optional_chaining && is_chain k l fs)
-      (o.es2021.logical_assignment_operators && is_logical_assignment k l fs) (is_some o.es2018.object_rest_spread && (is_object_spread k l fs || is_object_rest k l fs)) (is_some o.es2015.arrow_function && is_arrow k l fs) (is_enabled_statement o k l fs) h
+and-true : (b : Bool) → (b && true) ≡ b
+and-true true = refl
+and-true false = refl
 
+with-middle : (asked also is : Bool) → (asked && is) ≡ false → (asked && also && is) ≡ false
+with-middle true true is h = h
+with-middle true false is h = refl
+with-middle false also is h = refl
+
+last-off : (a b : Bool) → b ≡ false → (a && b) ≡ false
+last-off true b h = h
+last-off false b h = refl
+
+wrapped-none : (e power n c g logical assigns takes r target : Bool) → (e && power) ≡ false → n ≡ false → c ≡ false → (g && logical) ≡ false → (r && target) ≡ false → (n || c || (e && assigns && power) || (g && logical && takes) || (r && assigns && target)) ≡ false
+wrapped-none e power n c g logical assigns takes r target h1 h2 h3 h4 h5 = rw (h2, h3, with-middle e assigns power h1, with-more g logical takes h4, with-middle r assigns target h5) refl
+
+module _ (o : EnvOptions) where
   no-chain : (k : AstType) (l : Label) (fs : Fields) → is_enabled_construct o k l fs ≡ false → (o.es2020.optional_chaining && is_chain k l fs) ≡ false
-  no-chain k l fs h = third_of (o.es2016.exponentiation_operator && is_exponentiation k l fs) (o.es2020.nullish_coalescing_operator && is_nullish_coalescing k l fs) (o.es2020.optional_chaining && is_chain k l fs)
-      (o.es2021.logical_assignment_operators && is_logical_assignment k l fs) (is_some o.es2018.object_rest_spread && (is_object_spread k l fs || is_object_rest k l fs)) (is_some o.es2015.arrow_function && is_arrow k l fs) (is_enabled_statement o k l fs) h
+  no-chain k l fs h = (none-of-rows o k l fs h).chain
 
   -- neither is the expression inside its parentheses a chain
   no-chain-inside : (t : Tree) → any_node (is_enabled_construct o) t ≡ false → (o.es2020.optional_chaining && is_chain_kind (kind_of (without_parens t))) ≡ false
@@ -89,51 +86,88 @@ module _ (o : EnvOptions) where
   no-tag TaggedTemplateExpression l fs h = no-chain-below fs h
   no-tag _ l fs h = off o.es2020.optional_chaining
 
+  -- NEITHER ARROWS NOR SLOTS
+
+  no-arrow : is_some o.es2015.arrow_function ≡ true → (k : AstType) (l : Label) (fs : Fields) → is_enabled_construct o k l fs ≡ false → same_type k ArrowFunctionExpression ≡ false
+  no-arrow on ArrowFunctionExpression l fs h = absurd (true≢false (sym on ∙ sym (and-true (is_some o.es2015.arrow_function)) ∙ (none-of-rows o ArrowFunctionExpression l fs h).arrow))
+  no-arrow on k l fs h = refl
+
+  no-arrow-within : is_some o.es2015.arrow_function ≡ true → (fs : Fields) (i : ℕ) → any_in_fields (is_enabled_construct o) fs ≡ false → is_kind_within ArrowFunctionExpression (child_at i fs) ≡ false
+  no-arrow-within on done i h = refl
+  no-arrow-within on (one (node k l gs) then fs) zero h =
+      no-arrow on k l gs (or_first (is_enabled_construct o k l gs) (any_in_fields (is_enabled_construct o) gs) (or_first (any_node (is_enabled_construct o) (node k l gs)) (any_in_fields (is_enabled_construct o) fs) h))
+  no-arrow-within on (missing then fs) zero h = refl
+  no-arrow-within on (many ts then fs) zero h = refl
+  no-arrow-within on (statements ts then fs) zero h = refl
+  no-arrow-within on (f then fs) (suc i) h = no-arrow-within on fs i (or_second (any_in_field (is_enabled_construct o) f) (any_in_fields (is_enabled_construct o) fs) h)
+
+  no-accessor : is_some o.es2015.arrow_function ≡ true → (k : AstType) (l : Label) (fs : Fields) → any_in_fields (is_enabled_construct o) fs ≡ false → is_arrow_accessor k l fs ≡ false
+  no-accessor on ObjectProperty l fs h = last-off (is_accessor_word (first_text l.texts)) (is_kind_within ArrowFunctionExpression (child_at 1 fs)) (no-arrow-within on fs 1 h)
+  no-accessor on k l fs h = refl
+
+  -- what a slot is wrapped for is asked for
+  no-rest-target : (f : Field) → any_in_field (is_enabled_construct o) f ≡ false → (is_some o.es2018.object_rest_spread && is_rest_target f) ≡ false
+  no-rest-target (one (node ObjectTarget l fs)) h =
+      (none-of-rows o ObjectTarget l fs (or_first (is_enabled_construct o ObjectTarget l fs) (any_in_fields (is_enabled_construct o) fs) h)).rest
+  no-rest-target (one (node k l fs)) h = off (is_some o.es2018.object_rest_spread)
+  no-rest-target missing h = off (is_some o.es2018.object_rest_spread)
+  no-rest-target (many ts) h = off (is_some o.es2018.object_rest_spread)
+  no-rest-target (statements ts) h = off (is_some o.es2018.object_rest_spread)
+
+  no-target-in : (fs : Fields) → any_in_fields (is_enabled_construct o) fs ≡ false → (is_some o.es2018.object_rest_spread && is_rest_target (field_at 0 fs)) ≡ false
+  no-target-in done h = off (is_some o.es2018.object_rest_spread)
+  no-target-in (f then fs) h = no-rest-target f (or_first (any_in_field (is_enabled_construct o) f) (any_in_fields (is_enabled_construct o) fs) h)
+
+  not-wrapped : (k : AstType) (l : Label) (fs : Fields) → any_node (is_enabled_construct o) (node k l fs) ≡ false → is_wrapped_for o k l fs ≡ false
+  not-wrapped k l fs h =
+      let own = none-of-rows o k l fs (or_first (is_enabled_construct o k l fs) (any_in_fields (is_enabled_construct o) fs) h) in
+      wrapped-none (o.es2016.exponentiation_operator) (is_exponentiation k l fs) (o.es2020.nullish_coalescing_operator && is_nullish_coalescing k l fs) (o.es2020.optional_chaining && is_chain k l fs) (o.es2021.logical_assignment_operators)
+      (is_logical_assignment k l fs) (same_type k AssignmentExpression) (takes_for_target o l fs) (is_some o.es2018.object_rest_spread) (is_rest_target (field_at 0 fs))
+      own.power own.nullish own.chain own.logical (no-target-in fs (or_second (is_enabled_construct o k l fs) (any_in_fields (is_enabled_construct o) fs) h))
+
+  mutual
+    holds-none : (t : Tree) → any_node (is_enabled_construct o) t ≡ false → holds (is_wrapped_for o) t ≡ false
+    holds-none (node k l fs) h =
+        or_both (is_wrapped_for o k l fs) (holds_fields (is_wrapped_for o) (closes k) fs) (not-wrapped k l fs h) (holds-none-in (closes k) fs (or_second (is_enabled_construct o k l fs) (any_in_fields (is_enabled_construct o) fs) h))
+
+    holds-none-in : (c : ℕ → Bool) (fs : Fields) → any_in_fields (is_enabled_construct o) fs ≡ false → holds_fields (is_wrapped_for o) c fs ≡ false
+    holds-none-in c done h = refl
+    holds-none-in c (f then fs) h =
+        or_both (not (c zero) && holds_field (is_wrapped_for o) f) (holds_fields (is_wrapped_for o) (λ i. c (suc i)) fs)
+        (last-off (not (c zero)) (holds_field (is_wrapped_for o) f) (holds-none-by f (or_first (any_in_field (is_enabled_construct o) f) (any_in_fields (is_enabled_construct o) fs) h)))
+        (holds-none-in (λ i. c (suc i)) fs (or_second (any_in_field (is_enabled_construct o) f) (any_in_fields (is_enabled_construct o) fs) h))
+
+    holds-none-by : (f : Field) → any_in_field (is_enabled_construct o) f ≡ false → holds_field (is_wrapped_for o) f ≡ false
+    holds-none-by missing h = refl
+    holds-none-by (one t) h = holds-none t h
+    holds-none-by (many ts) h = holds-none-among ts h
+    holds-none-by (statements ts) h = holds-none-among ts h
+
+    holds-none-among : (ts : Trees) → any_in_trees (is_enabled_construct o) ts ≡ false → holds_trees (is_wrapped_for o) ts ≡ false
+    holds-none-among empty h = refl
+    holds-none-among (t before ts) h =
+        or_both (holds (is_wrapped_for o) t) (holds_trees (is_wrapped_for o) ts) (holds-none t (or_first (any_node (is_enabled_construct o) t) (any_in_trees (is_enabled_construct o) ts) h))
+        (holds-none-among ts (or_second (any_node (is_enabled_construct o) t) (any_in_trees (is_enabled_construct o) ts) h))
+
   module _ (ds : List Declared) where
     no-shape : (up : List ℕ) (k : AstType) (l : Label) (fs : Fields) → any_node (is_enabled_construct o) (node k l fs) ≡ false → shape_at o ds up k l fs ≡ None
     no-shape up k l fs h =
-        let power = no-power k l fs (or_first (is_enabled_construct o k l fs) (any_in_fields (is_enabled_construct o) fs) h) in
+        let own = none-of-rows o k l fs (or_first (is_enabled_construct o k l fs) (any_in_fields (is_enabled_construct o) fs) h) in
         let tag = no-tag k l fs (or_second (is_enabled_construct o k l fs) (any_in_fields (is_enabled_construct o) fs) h) in
         let copies = is_some o.es2018.object_rest_spread in
-        let copy = first-off copies (is_object_spread k l fs) (is_object_rest k l fs) (copy-off o k l fs (or_first (is_enabled_construct o k l fs) (any_in_fields (is_enabled_construct o) fs) h)) in
+        let built : is_unbuilt_node o k l fs ≡ false = rw (own.rest, with-middle copies (not (is_external o.helper_loader.mode)) (is_object_spread k l fs) own.spread, own.using) refl in
         rw (
-          with-more o.es2016.exponentiation_operator (is_exponentiation k l fs) (is_some (find ds up (codes "Math"))) power,
-          with-less copies (is_external o.helper_loader.mode) (is_object_spread k l fs) (is_some (find ds up (codes "babelHelpers"))) copy,
-          in-both copies (is_object_spread k l fs) (has_uncopied (field_at 0 fs)) copy,
+          built,
+          with-more o.es2016.exponentiation_operator (is_exponentiation k l fs) (is_some (find ds up (codes "Math"))) own.power,
+          with-less copies (is_external o.helper_loader.mode) (is_object_spread k l fs) (is_some (find ds up (codes "babelHelpers"))) own.spread,
+          in-both copies (is_object_spread k l fs) (has_uncopied (field_at 0 fs)) own.spread,
           tag,
         ) refl
 
-    -- WALKS
-
-    both : (vs ws : List Visit) → first_among o ds vs ≡ None → first_among o ds ws ≡ None → first_among o ds (vs ++ ws) ≡ None
-    both [] ws h g = g
-    both (v ∷ vs) ws h g =
-        let here = found_at v.label.id (shape_at o ds v.place.around v.kind v.label v.fields) in
-        none-then here (first_among o ds (vs ++ ws)) (none-before here (first_among o ds vs) h) (both vs ws (none-after here (first_among o ds vs) h) g)
-
-    mutual
-      none-found : (p : Place) (n : ℕ) (t : Tree) → any_node (is_enabled_construct o) t ≡ false → first_among o ds (visits p n t) ≡ None
-      none-found p n (node k l fs) h =
-          let test = is_enabled_construct o in
-          (λ i. option_or (found_at l.id (no-shape p.around k l fs h i)) (first_among o ds (visits_in_fields (place_in p n k l fs) (n + own_scope_count k fs) fs))) ∙ none-in-fields (place_in p n k l fs) (n + own_scope_count k fs) fs (or_second (test k l fs) (any_in_fields test fs) h)
-
-      none-in-fields : (ps : ℕ → Place) (n : ℕ) (fs : Fields) → any_in_fields (is_enabled_construct o) fs ≡ false → first_among o ds (visits_in_fields ps n fs) ≡ None
-      none-in-fields ps n done h = refl
-      none-in-fields ps n (f then fs) h =
-          let test = is_enabled_construct o in
-          both (visits_in_field (ps 0) n f) (visits_in_fields (λ i. ps (suc i)) (n + scope_count_in_field f) fs) (none-in-field (ps 0) n f (or_first (any_in_field test f) (any_in_fields test fs) h)) (none-in-fields (λ i. ps (suc i)) (n + scope_count_in_field f) fs (or_second (any_in_field test f) (any_in_fields test fs) h))
-
-      none-in-field : (p : Place) (n : ℕ) (f : Field) → any_in_field (is_enabled_construct o) f ≡ false → first_among o ds (visits_in_field p n f) ≡ None
-      none-in-field p n missing h = refl
-      none-in-field p n (one t) h = none-found p n t h
-      none-in-field p n (many ts) h = none-in-trees p n ts h
-      none-in-field p n (statements ts) h = none-in-trees p n ts h
-
-      none-in-trees : (p : Place) (n : ℕ) (ts : Trees) → any_in_trees (is_enabled_construct o) ts ≡ false → first_among o ds (visits_in_trees p n ts) ≡ None
-      none-in-trees p n empty h = refl
-      none-in-trees p n (t before ts) h =
-          let test = is_enabled_construct o in
-          both (visits p n t) (visits_in_trees p (n + scope_count_in t) ts) (none-found p n t (or_first (any_node test t) (any_in_trees test ts) h)) (none-in-trees p (n + scope_count_in t) ts (or_second (any_node test t) (any_in_trees test ts) h))
-
 pub none-unsupported : (o : EnvOptions) (p : Tree) → has_enabled_construct o p ≡ false → first_unsupported o p ≡ None
-none-unsupported o p h = none-found o (symbols_of p) (outermost p) 1 p h
+none-unsupported o p h =
+    let test = is_enabled_construct o in
+    none-of o (symbols_of p) test (no-shape o (symbols_of p))
+    (λ on k l fs g. (no-accessor o on k l fs (or_second (test k l fs) (any_in_fields test fs) g), no-arrow o on k l fs (or_first (test k l fs) (any_in_fields test fs) g)))
+    (λ k l fs parameter i f g none. last-off _ (holds_field (is_wrapped_for o) f) (holds-none-by o f none))
+    (outermost p) outside 1 p h (λ on. refl)

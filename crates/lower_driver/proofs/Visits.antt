@@ -1,21 +1,22 @@
 -- From the one visit of a run to what the source becomes.
-use Rattle.std.proofs.Common.{Some, ◌≡◌, ◌+◌, ◌*◌, ◌≤◌, ◌<◌, ◌^◌, ℕ, refl, sym, ap, ◌∙◌, subst, List, [], ◌∷◌, Option, None, inl, inr, arith, true≢false}
+use Rattle.std.proofs.Common.{Some, ◌≡◌, ◌+◌, ◌*◌, ◌≤◌, ◌<◌, ◌^◌, ℕ, zero, suc, length, refl, sym, ap, ◌∙◌, subst, List, [], ◌∷◌, Option, None, inl, inr, arith, true≢false}
 use Rattle.std.specs.Prelude.{Bool, true, false, ◌&&◌, ◌||◌, is_some}
 use Rattle.es_tree.specs.Bare.{bare}
-use Rattle.es_tree.specs.Constructs.{has_enabled_construct, has_unbuilt_construct, is_chain, is_nullish_coalescing, is_object_rest, is_object_spread, is_optional_catch}
+use Rattle.es_tree.specs.Constructs.{has_enabled_construct, is_arrow, is_chain, is_nullish_coalescing, is_object_rest, is_object_spread, is_optional_catch, is_using}
 use Rattle.es_row_laws.proofs.Lawful.{object-spread-under}
 use Rattle.es_row_laws.specs.Laws.{is_lowered_assignment, is_lowered_power}
+use Rattle.es_valid_steps.specs.Laws.{with_further_rules}
 use Rattle.es_valid_steps.specs.PlaceRules.{place_breaks}
 use Rattle.es_valid_steps.proofs.Visits.{law_among_proof, law_places_proof}
 use Rattle.es_tree.specs.HasForm.{has_form}
 use Rattle.es_tree.specs.Fresh.{is_among}
 use Rattle.es_tree.specs.Names.{names_of}
-use Rattle.es_tree.specs.Options.{asks_for_imported_helpers, asks_for_unbuilt}
 use Rattle.es_tree.specs.StaticRules.{breaks}
-use Rattle.es_tree.specs.Tree.{Tree, Label, Fields, done, ◌then◌, many, statements, label_of, tree_size, trees}
+use Rattle.es_tree.specs.Tree.{Tree, node, Label, Fields, done, ◌then◌, many, statements, kind_of, label_of, tree_size, trees}
 use Rattle.es_tree.specs.Walks.{any_in_trees, any_node}
 use Rattle.es_tree.specs.Words.{Text}
 use Rattle.es_tree.specs.declared.ast_type.AstType.{AstType}
+use Rattle.es_tree.specs.declared.ast_type.AstType.TheVariants.{Program as k-Program}
 use Rattle.es_tree.specs.declared.options.EnvOptions.{EnvOptions}
 use Rattle.es_tree.specs.declared.table.Sort.TheVariants.{Program as s-Program}
 use Rattle.es_tree.proofs.BareForm.{has_form-bare, tree_size-bare}
@@ -29,53 +30,90 @@ use Rattle.es_semantic.proofs.MarkedProgram.{bare-marked-program}
 use Rattle.es_statements.specs.ProgramPlain.{plain_program}
 use Rattle.es_statements.specs.declared.program.Program.{Program}
 use Rattle.es_resolution.specs.Laws.{source}
+use Rattle.es_resolution.proofs.Forms.{form-placed}
 use Rattle.es_resolution.specs.Seen.{seen, seen_among}
+use Rattle.es_runs.specs.Weights.{weight}
 use Rattle.es_runs.proofs.Weights.{size-weight}
+use Rattle.es_steps.specs.Arrows.{ArrowRule}
 use Rattle.es_steps.specs.CoreBridge.{Reached, first_whole, is_written_name, names_among}
+use Rattle.es_steps.specs.CoreRules.{where_on}
+use Rattle.es_steps.specs.Rules.{either_rule}
 use Rattle.es_steps.specs.Open.{Pending, nothing_pending, no_additions, opened}
 use Rattle.es_steps.specs.Steps.{Ledger, ledger, Site, Spot, Step, Steps, the_program}
 use Rattle.es_steps.specs.Steps.Steps.{stays}
 use Rattle.es_runs.proofs.Named.{or_first}
 use Rattle.es_steps.proofs.BridgeInclusion.{all_under}
-use Rattle.es_changes.specs.Changes.{HasRoom, heft, open_program}
+use Rattle.es_changes.specs.Changes.{HasRoom, Level, heft, open_program}
 use Rattle.es_changes.specs.Conditions.{holds_after}
 use Rattle.es_changes.specs.Fits.{Fits}
-use Rattle.es_changes.specs.Moments.{top, whole_at}
+use Rattle.es_changes.specs.Moments.{Moment, below, top, whole_at}
+use Rattle.es_changes.proofs.StepRows.{steps-trans}
 use Rattle.es_conditions.specs.CoreConditions.{core_conditions}
 use Rattle.es_traverse.specs.ContextMoments.{bound_names}
-use Rattle.es_traverse.specs.Laws.{KeptVisited, whole_rule}
+use Rattle.es_traverse.specs.Laws.{KeptTree, KeptVisited, whole_rule}
 use Rattle.es_traverse.specs.Listed.{any_listed}
 use Rattle.es_traverse.specs.Loads.{load}
 use Rattle.es_traverse.specs.Visits.{VisitedProgram}
 use Rattle.es_traverse.proofs.LoadParts.{load-size}
 use Rattle.es_visit.specs.declared.hook.Hook.{Hook}
 use Rattle.es_visit.specs.declared.hook.Hook.TheVariants.{CatchClause, Expression}
+use Rattle.es_arrow_steps.specs.ArrowWalks.{ArrowWalkRule}
+use Rattle.es_arrow_steps.specs.ThisFits.{each_this_fits}
+use Rattle.es_arrow_steps.proofs.Converted.{HasArrows}
+use Rattle.es_arrow_steps.proofs.FirstUses.{law_first_uses_proof}
+use Rattle.es_arrow_steps.proofs.Walks.{walks-are-steps}
+use Rattle.es_valid_arrows.specs.ArrowPlaces.{fits_arrows}
+use Rattle.es_valid_arrows.proofs.FitBare.{law_bare_fits_proof}
+use Rattle.es_valid_arrows.proofs.FitPrograms.{law_arrows_fit_proof}
+use Rattle.es_valid_arrows.proofs.ThisReads.{law_this_fits_proof}
 use Rattle.es_unsupported.specs.FirstUnsupported.{first_unsupported}
+use Rattle.es_unsupported.specs.Shapes.{is_unbuilt_node}
+use Rattle.es_unsupported.proofs.ArrowsTaken.{law_arrows_taken_proof}
+use Rattle.es_unsupported.proofs.Built.{law_built_proof}
+use Rattle.es_steps.proofs.Opened.{finished-opened}
+use Rattle.es_steps.proofs.Start.{law_start_proof}
+use Rattle.lower_arrows.specs.Lowered.{ArrowsLowered, walk_rule}
 use Rattle.es_starts.specs.Contexts.{IsNew}
 use Rattle.es_starts.specs.Starts.{IsFirst}
 use Rattle.es_starts.proofs.FirstConditions.{law_first_conditions_proof}
 use Rattle.es_starts.proofs.FirstContext.{first-of-context}
 use Rattle.es_starts.proofs.FirstFits.{law_fits_proof}
 use Rattle.es_starts.proofs.FirstTable.{law_first_of_table_proof}
-use Rattle.es_reached.specs.Reached.{built_rules}
+use Rattle.es_reached.specs.Reached.{IsResult, built_rules}
+use Rattle.es_reached.specs.Walks.{is_other_construct}
+use Rattle.es_reached.proofs.BuiltRules.{built-all}
 use Rattle.es_reached.proofs.Results.{law_core_result_proof, law_first_proof, law_result_proof}
 use Rattle.es_reached.proofs.BarePlaces.{law_bare_places_proof}
-use Rattle.es_reached.proofs.FreeSteps.{law_no_rests_proof}
+use Rattle.es_reached.proofs.FreeSteps.{law_no_rests_proof, law_no_usings_proof}
+use Rattle.es_reached.proofs.WalkSteps.{law_walk_makes_none_proof}
 use Rattle.es_statement_steps.proofs.Results.{law_statement_result_proof}
 use Rattle.es_reached.proofs.Sources.{law_bare_seen_proof, law_bare_source_proof}
 use Rattle.lower_temporaries.specs.Takings.{moment_of, pending_of}
 use Rattle.lower_temporaries.specs.declared.state.TransformState.{TransformState}
 use Rattle.lower_driver.specs.Copies.{IsCopy}
 use Rattle.lower_driver.specs.Lowers.{Lowers}
-use Rattle.lower_driver.specs.Visits.{visit_ending, visit_profile}
-use Rattle.lower_driver.proofs.BareConstructs.{same-constructs, same-left}
-use Rattle.lower_driver.proofs.CopiedOptions.{copied-enabled, copied-left, copied-reached, copied-unbuilt, copied-unsupported}
+use Rattle.lower_driver.specs.Visits.{IsWalked, visit_ending, visit_profile}
+use Rattle.lower_driver.proofs.BareConstructs.{same-arrows, same-constructs}
+use Rattle.lower_driver.proofs.CopiedOptions.{copied-enabled, copied-reached, copied-unsupported}
 use Rattle.lower_driver.specs.Constructs.{is_lowered_construct, is_lowered_export}
 use Rattle.lower_driver.proofs.EitherTest.{none-of-trees}
-use Rattle.lower_driver.proofs.NoneLeft.{no-exports, none-came, none-enabled, none-written}
+use Rattle.lower_driver.proofs.NoneLeft.{no-exports, no-rests, no-usings, none-came, none-enabled, none-other, none-written}
 use Rattle.lower_driver.proofs.NoneUnsupported.{none-unsupported}
 use Rattle.lower_driver.proofs.Settled.{tree-settled}
 use Rattle.lower_driver.proofs.Untagged.{tags-are-no-chains}
+
+-- the program's own list is the only one, and nothing is pending there at the end
+pub alone-pending : (ps qs : List Pending) → Level ps qs → ps ≡ nothing_pending ∷ [] → top qs ≡ nothing_pending → qs ≡ nothing_pending ∷ []
+alone-pending ps [] level start end = absurd (let e : zero ≡ suc zero = level.deep ∙ ap length start in cc e)
+alone-pending ps (q ∷ qs) level start end = λ i. end i ∷ (level.outer ∙ ap below start) i
+
+-- and there is room for a walk after the visit
+pub walk-room : (a b : Moment) (t u : Tree) → KeptVisited 0 a t b u → HasRoom a (load t) → HasRoom b (weight u)
+walk-room a b t u kept room = omega (arith, kept.lighter, room)
+
+-- what stays as it is weighs no more
+kept-itself : (a : Moment) (t : Tree) → KeptTree a t a t
+kept-itself a t = record { level = record { deep = refl; outer = refl }; around = refl; options = refl; counted = omega arith; lighter = omega arith; nodes = omega arith }
 
 -- THE FIRST MOMENT
 
@@ -134,7 +172,7 @@ names-bound free (x ∷ xs) = ap (λ ys. x ∷ ys) (names-bound free xs)
 
 -- RULES
 
-by-options : (o : EnvOptions) (n : Site) (s : Ledger) (x : Spot) (s' : Ledger) (y : Spot) → (visit_profile o).rule n s x s' y → built_rules o n s x s' y
+by-options : (o : EnvOptions) (n : Site) (s : Ledger) (x : Spot) (s' : Ledger) (y : Spot) → (visit_profile o).rule n s x s' y → with_further_rules o n s x s' y
 by-options o n s x s' y (inl (inl w)) = inl (inl w)
 by-options o n s x s' y (inl (inr w)) = inl (inr (inl w))
 by-options o n s x s' y (inr (inl a)) = inl (inr (inr (inl a)))
@@ -145,7 +183,7 @@ by-options o n s x s' y (inr (inr (inr (inr (inl r))))) = object-spread-under o 
 by-options o n s x s' y (inr (inr (inr (inr (inr p))))) = inl (inr (inr (inr (inr p))))
 
 -- and after the program
-whole-options : (o : EnvOptions) (n : Site) (s : Ledger) (x : Spot) (s' : Ledger) (y : Spot) → whole_rule (visit_profile o) (visit_ending o) n s x s' y → built_rules o n s x s' y
+whole-options : (o : EnvOptions) (n : Site) (s : Ledger) (x : Spot) (s' : Ledger) (y : Spot) → whole_rule (visit_profile o) (visit_ending o) n s x s' y → with_further_rules o n s x s' y
 whole-options o n s x s' y (inl r) = by-options o n s x s' y r
 whole-options o n s x s' y (inr (inl never)) = absurd never
 whole-options o n s x s' y (inr (inr (inl never))) = absurd never
@@ -156,6 +194,21 @@ whole-options o n s x s' y (inr (inr (inr (inl (inr (inr w)))))) = inl (inl w)
 whole-options o n s x s' y (inr (inr (inr (inr (inl never))))) = absurd never
 whole-options o n s x s' y (inr (inr (inr (inr (inr (inl never)))))) = absurd never
 whole-options o n s x s' y (inr (inr (inr (inr (inr (inr never)))))) = absurd never
+
+-- they are among those that are built
+among-built : (o : EnvOptions) (n : Site) (s : Ledger) (x : Spot) (s' : Ledger) (y : Spot) → whole_rule (visit_profile o) (visit_ending o) n s x s' y → built_rules o n s x s' y
+among-built o n s x s' y r = inl (whole-options o n s x s' y r)
+
+-- those of a walk over arrows are, or are of the walk
+walk-among : (o : EnvOptions) (n : Site) (s : Ledger) (x : Spot) (s' : Ledger) (y : Spot) → walk_rule n s x s' y → either_rule (built_rules o) ArrowWalkRule n s x s' y
+walk-among o n s x s' y (inl w) = inl (inl (inl (inl w)))
+walk-among o n s x s' y (inr r) = inr r
+
+has-arrows : (o : EnvOptions) → is_some o.es2015.arrow_function ≡ true → HasArrows o (built_rules o)
+has-arrows o on = record {
+  among = λ n s s' x y r. built-all o n s x s' y r;
+  arrows = λ n s s' x y r. inr (subst (λ (b : Bool). where_on b ArrowRule n s x s' y) (sym on) r);
+}
 
 -- what is taken away there
 alone : (b : Bool) → (b || false) ≡ b
@@ -177,13 +230,21 @@ grouped false false false false true false = refl
 grouped false false false false false true = refl
 grouped false false false false false false = refl
 
+-- THE SOURCE, for the walk after the visit
+
+kind-of-program : (t : Tree) → has_form s-Program t ≡ true → kind_of t ≡ k-Program
+kind-of-program (node k l fs) h = (form-placed (node k l fs) h).0
+
+source-formed : (p : Tree) → has_form s-Program p ≡ true → has_form s-Program (source p) ≡ true
+source-formed p form = sym (has_form-bare s-Program (source p)) ∙ ap (has_form s-Program) (law_bare_source_proof p) ∙ has_form-bare s-Program p ∙ form
+
 -- STEPS
 
 module _ (names : ℕ → Text → Option ℕ) where
   opened-there : (x : Program) (q : Pending) → q ≡ nothing_pending → open_program q (seen names (plain_program x)) ≡ opened (seen names (plain_program x))
   opened-there x q e = ap (λ (r : Pending). open_program r (seen names (plain_program x))) e
 
-module _ (c : EnvOptions) (p : Tree) (ctx ctx' : TraverseCtx TransformState) (x y : Program) (new : IsNew p pending_of ctx) (form : has_form s-Program p ≡ true) (right : breaks p ≡ []) (named : asks_for_imported_helpers c ≡ false) (taken : first_unsupported c p ≡ None) (marked : plain_program x ≡ marked_program p) where
+module _ (c : EnvOptions) (p : Tree) (ctx ctx' : TraverseCtx TransformState) (x y : Program) (new : IsNew p pending_of ctx) (form : has_form s-Program p ≡ true) (right : breaks p ≡ []) (taken : first_unsupported c p ≡ None) (marked : plain_program x ≡ marked_program p) where
   abbrev pub names : ℕ → Text → Option ℕ
   names = symbol_in (symbols_of p)
 
@@ -200,7 +261,7 @@ module _ (c : EnvOptions) (p : Tree) (ctx ctx' : TraverseCtx TransformState) (x 
   fits = subst (λ (t : Tree). Fits (moment_of ctx) the_program t) (sym there) (law_fits_proof p (moment_of ctx) form right begun)
 
   known : holds_after (core_conditions c) the_program (seen names (plain_program x))
-  known = subst (λ (t : Tree). holds_after (core_conditions c) the_program t) (sym there) (law_first_conditions_proof c p named form right taken)
+  known = subst (λ (t : Tree). holds_after (core_conditions c) the_program t) (sym there) (law_first_conditions_proof c p form right taken)
 
   visited-reached : VisitedProgram (visit_profile c) (visit_ending c) (moment_of ctx) (seen names (plain_program x)) (moment_of ctx') result → top (moment_of ctx').lists ≡ nothing_pending → Reached (built_rules c) p (first_whole p) (made_of ctx') result
   visited-reached visited finished =
@@ -214,7 +275,7 @@ module _ (c : EnvOptions) (p : Tree) (ctx ctx' : TraverseCtx TransformState) (x 
       let whole = whole-first p ctx new in
       record {
         whole = whole_at b;
-        steps = all_under R (built_rules c) (whole-options c) (subst (λ (z : Type 0). z) (λ i. Steps (Step R the_program) (ledger (whole i) nothing_pending None no_additions) (before i) (ledger (whole_at b) nothing_pending None no_additions) (after i)) steps);
+        steps = all_under R (built_rules c) (among-built c) (subst (λ (z : Type 0). z) (λ i. Steps (Step R the_program) (ledger (whole i) nothing_pending None no_additions) (before i) (ledger (whole_at b) nothing_pending None no_additions) (after i)) steps);
         made = names-bound (whole_at b).free_symbol (made_of ctx');
       }
 
@@ -237,52 +298,121 @@ module _ (c : EnvOptions) (p : Tree) (ctx ctx' : TraverseCtx TransformState) (x 
       (is_some c.es2018.object_rest_spread && is_object_spread k l fs) (c.es2016.exponentiation_operator && is_lowered_power k l fs)
       (c.es2019.optional_catch_binding && is_optional_catch k l fs)) ts (free Expression) (free CatchClause)
 
-  -- what is written has form and keeps the rules of places, so that no target is left that the lowerings don't take, and no export below the
-  -- program's own list
-  none-left : asks_for_unbuilt c ≡ false → has_form s-Program (plain_program y) ≡ true → place_breaks (plain_program y) ≡ [] → VisitedProgram (visit_profile c) (visit_ending c) (moment_of ctx) (seen names (plain_program x)) (moment_of ctx') result → has_enabled_construct c (plain_program y) ≡ has_unbuilt_construct c (plain_program y)
-  none-left unbuilt form' kept visited =
-      let lowered = none-written c (label_of (seen names (plain_program x))) (label_of result) (seen_among names (trees x.directives.items)) (seen_among names (trees y.directives.items)) (seen_among names (trees x.body.items)) (seen_among names (trees y.body.items)) formed visited.directives (free-there visited) in
-      let form'' = sym (has_form-bare s-Program result) ∙ ap (has_form s-Program) written ∙ has_form-bare s-Program (plain_program y) ∙ form' in
-      let kept' = law_bare_places_proof (plain_program y) result (sym written) kept in
-      let keeps = (law_places_proof result).to_places kept' in
-      let start : top (moment_of ctx).lists ≡ nothing_pending = ap top begun.lists in
-      let exports = no-exports c (label_of result) (many (seen_among names (trees y.directives.items))) (seen_among names (trees y.body.items)) form'' kept' (ap (λ test. any_listed test (statements (seen_among names (trees y.body.items)) then done)) (sym (exports-alone c)) ∙ visited.cleared start fits known) in
-      same-constructs c result (plain_program y) (sym written) ∙ none-enabled c unbuilt result (tree-settled c s-Program [] result form'' keeps lowered) exports ∙ same-left c (plain_program y) result written
+  -- AFTER THE VISIT
 
-  size-left : ctx.ast.next ≡ tree_size p → KeptVisited 0 (moment_of ctx) (plain_program x) (moment_of ctx') (plain_program y) → tree_size (plain_program y) ≤ 64 * tree_size p + 64
-  size-left next kept =
-      let h = first-heft p ctx new next in
-      let l = kept.lighter in
-      let w = load-size (plain_program x) in
-      let s : tree_size (plain_program x) ≡ tree_size p = ap tree_size marked ∙ (sym (tree_size-bare (marked_program p)) ∙ ap tree_size (bare-marked-program p) ∙ tree_size-bare p) in
-      let m = size-weight (plain_program y) in
-      omega (arith, h, l, w, s, m)
+  fits_there : is_some c.es2015.arrow_function ≡ true → fits_arrows c p ≡ true
+  fits_there on = law_arrows_taken_proof c p on taken
 
-  -- by the context's own options, which are those of the run
-  pub lowers : (o : EnvOptions) → IsCopy o c → asks_for_unbuilt o ≡ false → has_unbuilt_construct o p ≡ false → has_enabled_construct o p ≡ true → ctx.ast.next ≡ tree_size p → KeptVisited 0 (moment_of ctx) (plain_program x) (moment_of ctx') (plain_program y) →
-      VisitedProgram (visit_profile c) (visit_ending c) (moment_of ctx) (seen names (plain_program x)) (moment_of ctx') result → top (moment_of ctx').lists ≡ nothing_pending → Lowers o p (plain_program y) (made_of ctx')
-  lowers o copy unbuilt built some next kept visited finished =
-      let reached = copied-reached o c copy p result (first_whole p) (made_of ctx') (visited-reached visited finished) in
-      let becomes = law_result_proof o p (plain_program y) result (made_of ctx') form right reached written in
-      let rests = none-came (is_some o.es2018.object_rest_spread) (any_node is_object_rest p) (any_node is_object_rest result) (law_no_rests_proof o p result (made_of ctx') reached) built in
-      record {
-        result = becomes;
-        none = sym (copied-enabled o c copy (plain_program y)) ∙ none-left (copied-unbuilt o c copy ∙ unbuilt) becomes.form (law_among_proof (plain_program y) becomes.kept) visited ∙ copied-left o c copy (plain_program y) ∙ sym (same-left o (plain_program y) result written) ∙ rests;
-        core = λ core. law_core_result_proof o p (plain_program y) (made_of ctx') core right becomes;
-        statements = λ runs. law_statement_result_proof o p (plain_program y) (made_of ctx') runs (tags-are-no-chains o p (sym (copied-unsupported o c copy p) ∙ taken)) becomes;
-        unchanged = λ none. absurd (true≢false (sym some ∙ none));
-        size = size-left next kept;
-      }
+  unbuilt : any_node (is_unbuilt_node c) p ≡ false
+  unbuilt = law_built_proof c p taken
+
+  module _ (visited : VisitedProgram (visit_profile c) (visit_ending c) (moment_of ctx) (seen names (plain_program x)) (moment_of ctx') result) (finished : top (moment_of ctx').lists ≡ nothing_pending) where
+    between : Reached (built_rules c) p (first_whole p) (made_of ctx') result
+    between = visited-reached visited finished
+
+    visited_result : IsResult c p (plain_program y) (made_of ctx')
+    visited_result = law_result_proof c p (plain_program y) result (made_of ctx') form right fits_there between written
+
+    visited_kept : place_breaks (plain_program y) ≡ []
+    visited_kept = law_among_proof (plain_program y) visited_result.kept
+
+    -- no target is left that the lowerings don't take, and no export below the program's own list
+    other_none : any_node (is_other_construct c) result ≡ false
+    other_none =
+        let lowered = none-written c (label_of (seen names (plain_program x))) (label_of result) (seen_among names (trees x.directives.items)) (seen_among names (trees y.directives.items)) (seen_among names (trees x.body.items)) (seen_among names (trees y.body.items)) formed visited.directives (free-there visited) in
+        let form' = sym (has_form-bare s-Program result) ∙ ap (has_form s-Program) written ∙ has_form-bare s-Program (plain_program y) ∙ visited_result.form in
+        let kept' = law_bare_places_proof (plain_program y) result (sym written) visited_kept in
+        let keeps = (law_places_proof result).to_places kept' in
+        let start : top (moment_of ctx).lists ≡ nothing_pending = ap top begun.lists in
+        let exports = no-exports c (label_of result) (many (seen_among names (trees y.directives.items))) (seen_among names (trees y.body.items)) form' kept' (ap (λ test. any_listed test (statements (seen_among names (trees y.body.items)) then done)) (sym (exports-alone c)) ∙ visited.cleared start fits known) in
+        none-other c result (tree-settled c s-Program [] result form' keeps lowered) exports
+        (none-came (is_some c.es2018.object_rest_spread) (any_node is_object_rest p) (any_node is_object_rest result) (law_no_rests_proof c p result (made_of ctx') between) (no-rests c p unbuilt))
+        (none-came c.es2026.explicit_resource_management (any_node is_using p) (any_node is_using result) (law_no_usings_proof c p result (made_of ctx') between) (no-usings c p unbuilt))
+
+    -- THE WALK OVER ARROWS may begin
+
+    pub walk_formed : has_form s-Program (plain_program y) ≡ true
+    walk_formed = visited_result.form
+
+    pub walk_fits : is_some c.es2015.arrow_function ≡ true → each_this_fits (plain_program y) ≡ true
+    walk_fits on =
+        let there_fits = law_bare_fits_proof c p (source p) (sym (law_bare_source_proof p)) (fits_there on) in
+        let after = law_arrows_fit_proof c (source p) (first_whole p) between.whole (opened result) (source-formed p form) there_fits between.steps in
+        law_this_fits_proof c (plain_program y) visited_result.form visited_kept (law_bare_fits_proof c result (plain_program y) written (sym (ap (fits_arrows c) (finished-opened result)) ∙ after))
+
+    -- from what the walk leaves, or the visit where there is none
+    module _ (o : EnvOptions) (copy : IsCopy o c) (some : has_enabled_construct o p ≡ true) (z : Program) (ctx'' : TraverseCtx TransformState) where
+      abbrev last : Tree
+      last = seen names (plain_program z)
+
+      becomes-last : Reached (built_rules c) p (first_whole p) (made_of ctx'') last → any_node (is_other_construct c) last ≡ false → (is_some c.es2015.arrow_function && any_node is_arrow last) ≡ false → tree_size (plain_program z) ≤ 64 * tree_size p + 64 → Lowers o p (plain_program z) (made_of ctx'')
+      becomes-last reached' other arrows size =
+          let reached = copied-reached o c copy p last (first_whole p) (made_of ctx'') reached' in
+          let taken_so : first_unsupported o p ≡ None = sym (copied-unsupported o c copy p) ∙ taken in
+          let becomes = law_result_proof o p (plain_program z) last (made_of ctx'') form right (λ on. law_arrows_taken_proof o p on taken_so) reached (law_bare_seen_proof names (plain_program z)) in
+          record {
+            result = becomes;
+            none = sym (copied-enabled o c copy (plain_program z)) ∙ same-constructs c last (plain_program z) (sym (law_bare_seen_proof names (plain_program z))) ∙ none-enabled c last other arrows;
+            core = λ core. law_core_result_proof o p (plain_program z) (made_of ctx'') core right becomes;
+            statements = λ runs. law_statement_result_proof o p (plain_program z) (made_of ctx'') runs (tags-are-no-chains o p taken_so) becomes;
+            unchanged = λ none. absurd (true≢false (sym some ∙ none));
+            size = size;
+          }
+
+      -- STEPS OF THE WALK
+
+      walked : is_some c.es2015.arrow_function ≡ true → ArrowsLowered (moment_of ctx') result (moment_of ctx'') last → Reached (built_rules c) p (first_whole p) (made_of ctx'') last
+      unfolding between visited-reached
+      walked on steps =
+          let W = either_rule (built_rules c) ArrowWalkRule in
+          let first_steps = all_under (built_rules c) W (λ n s x s' y r. inl r) between.steps in
+          let later_steps = all_under walk_rule W (walk-among c) steps in
+          record {
+            whole = whole_at (moment_of ctx'');
+            steps = walks-are-steps c (built_rules c) (has-arrows c on) (source p) (first_whole p) (whole_at (moment_of ctx'')) (opened last) (kind-of-program (source p) (source-formed p form)) (law_start_proof p (first_whole p) form right (λ x e. rw e refl) (omega arith) (λ s. refl)) (law_first_uses_proof p form right) (steps-trans first_steps later_steps);
+            made = names-bound (whole_at (moment_of ctx'')).free_symbol (made_of ctx'');
+          }
+
+      walked_none : ArrowsLowered (moment_of ctx') result (moment_of ctx'') last → any_node (is_other_construct c) last ≡ false
+      walked_none steps = law_walk_makes_none_proof c result last (whole_at (moment_of ctx')) (whole_at (moment_of ctx'')) steps other_none
+
+      -- what is written is at most so large
+      size-last : ctx.ast.next ≡ tree_size p → KeptVisited 0 (moment_of ctx) (plain_program x) (moment_of ctx') (plain_program y) → KeptTree (moment_of ctx') (plain_program y) (moment_of ctx'') (plain_program z) → tree_size (plain_program z) ≤ 64 * tree_size p + 64
+      size-last next kept then_kept =
+          let h = first-heft p ctx new next in
+          let l = kept.lighter in
+          let m = then_kept.lighter in
+          let w = load-size (plain_program x) in
+          let s : tree_size (plain_program x) ≡ tree_size p = ap tree_size marked ∙ (sym (tree_size-bare (marked_program p)) ∙ ap tree_size (bare-marked-program p) ∙ tree_size-bare p) in
+          let b = size-weight (plain_program z) in
+          omega (arith, h, l, m, w, s, b)
+
+    -- by the context's own options, which are those of the run
+    pub lowers : (o : EnvOptions) → IsCopy o c → has_enabled_construct o p ≡ true → ctx.ast.next ≡ tree_size p → KeptVisited 0 (moment_of ctx) (plain_program x) (moment_of ctx') (plain_program y) → (z : Program) (ctx'' : TraverseCtx TransformState) →
+        IsWalked (is_some c.es2015.arrow_function) ctx' y ctx'' z → Lowers o p (plain_program z) (made_of ctx'')
+    lowers o copy some next kept z ctx'' walk = at (is_some c.es2015.arrow_function) refl
+      where
+        at : (asked : Bool) → is_some c.es2015.arrow_function ≡ asked → Lowers o p (plain_program z) (made_of ctx'')
+        at true on =
+            let steps = walk.lowered on names in
+            let none : (is_some c.es2015.arrow_function && any_node is_arrow (last o copy some z ctx'')) ≡ false = ap (λ b. b && any_node is_arrow (last o copy some z ctx'')) on ∙ same-arrows (plain_program z) (last o copy some z ctx'') (law_bare_seen_proof names (plain_program z)) ∙ walk.none on in
+            becomes-last o copy some z ctx'' (walked o copy some z ctx'' on steps) (walked_none o copy some z ctx'' steps) none (size-last o copy some z ctx'' next kept (walk.kept on))
+        at false off =
+            let none : (is_some c.es2015.arrow_function && any_node is_arrow result) ≡ false = ap (λ b. b && any_node is_arrow result) off in
+            let there = becomes-last o copy some y ctx' between other_none none (size-last o copy some y ctx' next kept (kept-itself (moment_of ctx') (plain_program y))) in
+            let same = walk.same off in
+            subst (λ (w : Program). Lowers o p (plain_program w) (made_of ctx'')) (sym same.0) (subst (λ (e : TraverseCtx TransformState). Lowers o p (plain_program y) (made_of e)) (sym same.1) there)
 
 -- A program in which no construct stands that the options ask to lower becomes itself.
 pub becomes-itself : (o : EnvOptions) (p : Tree) → has_form s-Program p ≡ true → breaks p ≡ [] → has_enabled_construct o p ≡ false → Lowers o p p []
 becomes-itself o p form right none =
-    let becomes = law_result_proof o p p (source p) [] form right (record { whole = first_whole p; steps = stays; made = refl }) (law_bare_source_proof p) in
+    let taken = none-unsupported o p none in
+    let becomes = law_result_proof o p p (source p) [] form right (λ on. law_arrows_taken_proof o p on taken) (record { whole = first_whole p; steps = stays; made = refl }) (law_bare_source_proof p) in
     record {
       result = becomes;
       none = none;
       core = λ core. law_core_result_proof o p p [] core right becomes;
-      statements = λ runs. law_statement_result_proof o p p [] runs (tags-are-no-chains o p (none-unsupported o p none)) becomes;
+      statements = λ runs. law_statement_result_proof o p p [] runs (tags-are-no-chains o p taken) becomes;
       unchanged = λ asked. record { same = refl; no_names = refl };
       size = omega arith;
     }

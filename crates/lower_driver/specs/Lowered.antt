@@ -1,8 +1,7 @@
 -- What a run answers.
-use Rattle.std.specs.Prelude.{◌≡◌, [], None, false, map, string_bytes}
+use Rattle.std.specs.Prelude.{◌≡◌, [], None, map, string_bytes}
 use Rattle.serde_json.specs.Data.{Data}
 use Rattle.serde_json.specs.View.{view}
-use Rattle.es_tree.specs.Constructs.{has_unbuilt_construct}
 use Rattle.es_tree.specs.StaticRules.{breaks}
 use Rattle.es_tree.specs.Tree.{Tree}
 use Rattle.es_tree.specs.declared.options.EnvOptions.{EnvOptions}
@@ -18,8 +17,7 @@ use Rattle.lower_driver.specs.declared.driver.LoweredTree.{LoweredTree}
 pub record IsLoweredTree (o : EnvOptions) (source : Tree) (t : LoweredTree) : Type 0 where
   pub lowers : Lowers o source t.program (map string_bytes t.temporaries.items)
   pub warnings : t.warnings.items ≡ warnings_of o.es2020 source
-  -- no construct stands in the source that is asked for and no lowering takes away, and no shape that the lowerings don't take
-  pub built : has_unbuilt_construct o source ≡ false
+  -- no shape stands in the source that the lowerings don't take
   pub taken : first_unsupported o source ≡ None
 
 -- A run's answer for this value: what the program becomes of which it is the form, and the canonical form of that.

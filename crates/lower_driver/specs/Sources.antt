@@ -1,15 +1,13 @@
 -- What a run is given: a JSON value, or bytes that read as one, and why it is refused.
-use Rattle.std.specs.Prelude.{◌≡◌, ◌⊎◌, ℕ, List, [], Some, None, IsUtf8, true}
+use Rattle.std.specs.Prelude.{◌≡◌, ℕ, List, [], Some, None, IsUtf8}
 use Rattle.serde_json.specs.Data.{Data}
 use Rattle.serde_json.specs.Read.{read}
-use Rattle.es_tree.specs.Constructs.{has_unbuilt_construct}
 use Rattle.es_tree.specs.Tree.{Tree}
 use Rattle.es_tree.specs.Order.{IsNumbered, IsUnmarked}
 use Rattle.es_tree.specs.Options.{first_fault}
 use Rattle.es_tree.specs.StaticRules.{breaks, IsFirstBreak}
 use Rattle.es_tree.specs.declared.error.LowerError.{LowerError}
 use Rattle.es_tree.specs.declared.error.LowerError.TheVariants.{Json, Option as e-Option, TooLarge, TooDeep, Shape, Invalid, Unsupported, OutOfMemory}
-use Rattle.es_tree.specs.declared.error.OptionName.TheVariants.{NotBuilt}
 use Rattle.es_tree.specs.declared.error.UnsupportedKind.{UnsupportedKind}
 use Rattle.es_tree.specs.declared.ids.NodeId.{NodeId}
 use Rattle.es_tree.specs.declared.options.EnvOptions.{EnvOptions}
@@ -30,15 +28,8 @@ pub record IsBrokenValue (v : Data) (error : LowerError) : Type 0 where
   pub source : IsSource v program
   pub first : IsFirstBreak (breaks program) error
 
--- the value is the form of a program that keeps the static rules, with a construct that the options ask to lower and no lowering takes away
-pub record IsUnbuiltValue (o : EnvOptions) (v : Data) : Type 0 where
-  pub program : Tree
-  pub source : IsSource v program
-  pub kept : breaks program ≡ []
-  pub unbuilt : has_unbuilt_construct o program ≡ true
-
--- the value is the form of a program that keeps the static rules and has none, whose first node, in node order, that a run under these
--- options doesn't take is this, for this shape
+-- the value is the form of a program that keeps the static rules, whose first node, in node order, that a run under these options doesn't
+-- take is this, for this shape
 pub record IsUnsupportedValue (o : EnvOptions) (v : Data) (kind : UnsupportedKind) (id : NodeId) : Type 0 where
   pub program : Tree
   pub source : IsSource v program
@@ -54,10 +45,9 @@ IsValueCause v (Shape path) = IsRefusal v (Shape path)
 IsValueCause v (Invalid rule id) = IsBrokenValue v (Invalid rule id)
 IsValueCause v _ = ⊥
 
--- The same where a run has options: what they ask for that isn't done comes first, and what their lowerings don't take last: first of that
--- a construct that none takes away.
+-- The same where a run has options: what they ask for that isn't done comes first, and what their lowerings don't take last.
 abbrev pub IsValueCauseUnder : EnvOptions → Data → LowerError → Type 0
-IsValueCauseUnder o v (e-Option name) = (first_fault o ≡ Some name) ⊎ ((first_fault o ≡ None) × (name ≡ NotBuilt) × IsUnbuiltValue o v)
+IsValueCauseUnder o v (e-Option name) = first_fault o ≡ Some name
 IsValueCauseUnder o v (Unsupported kind id) = (first_fault o ≡ None) × IsUnsupportedValue o v kind id
 IsValueCauseUnder o v error = (first_fault o ≡ None) × IsValueCause v error
 

@@ -1,7 +1,7 @@
 //! One run: a program is read, checked, visited once by the lowerings that its options ask for, and written.
 ghost use Rattle.std.specs.Prelude.{◌≡◌, ◌<◌, ◌∷◌, ◌^◌, [], IfErr, IfOk, None, false, map, string_bytes, true};
 ghost use Rattle.serde_json.specs.View.{view};
-ghost use Rattle.es_tree.specs.Constructs.{has_enabled_construct, has_unbuilt_construct};
+ghost use Rattle.es_tree.specs.Constructs.{has_enabled_construct};
 ghost use Rattle.es_tree.specs.Fresh.{is_among};
 ghost use Rattle.es_tree.specs.HasForm.{has_form};
 ghost use Rattle.es_tree.specs.Names.{names_of};
@@ -22,16 +22,16 @@ ghost use Rattle.lower_driver.specs.UnsupportedPrograms.{IsTreeCauseOrMemory, Is
 
 use crate::copies::copy_options;
 use crate::reading::{read_bytes, read_source};
-use crate::visiting::visit;
+use crate::visiting::{visit, walk};
 use es_json::program::ReadProgram;
 use es_json::writer::write_program;
-use es_nodes::construct::{has_enabled_construct, has_unbuilt_construct};
+use es_nodes::construct::has_enabled_construct;
 use es_scope::context::TraverseCtx;
 use es_scope::scoping::Scoping;
 use es_semantic::building::build_scoping;
 use es_statements::program::Program;
 use es_tree::builder::AstBuilder;
-use es_tree::error::{LowerError, OptionName};
+use es_tree::error::LowerError;
 use es_tree::kind::Kind;
 use es_tree::node::Node;
 use es_tree::operators::SourceType;
@@ -64,19 +64,18 @@ pub struct Lowered {
 }
 
 /// Lowers the program that the value is the form of, as the options ask: its logical assignments, `??`,
-/// optional chains, catch clauses without a parameter, exports of namespaces, spreads in object literals and
-/// exponentiations, in programs of every kind. A program in which no construct stands that they ask to lower comes back as it is. Where they ask
+/// optional chains, catch clauses without a parameter, exports of namespaces, spreads in object literals,
+/// exponentiations and arrow functions, in programs of every kind. A program in which no construct stands that they ask to lower comes back as it is. Where they ask
 /// for warnings, of BigInt literals (ECMA-262, 12.9.3) or of strings that name imports and exports (16.2), it
 /// answers one for each of the source.
 ///
-/// Fails for the first of these causes that holds: `Option` where the options ask for what isn't done, with
-/// the name `NotBuilt` where that is a lowering that isn't built; `TooLarge`, `TooDeep` and `Shape` as
-/// `read_program` has them; `Invalid` as `check_static` has it; `Option(NotBuilt)` where the program has a construct
-/// that they ask to lower and no lowering takes away, an object pattern with a rest; `Unsupported` at the first node
-/// that the lowerings don't take: `MathBound` an exponentiation that would be lowered where `Math` is bound,
-/// `HelperName` an object literal with a spread where `babelHelpers` is bound, `SpreadLiteral` one whose properties
-/// can't be copied one by one, `TagChain` a template whose tag is a chain. It fails with `OutOfMemory` where memory
-/// runs out.
+/// Fails for the first of these causes that holds: `Option` where the options ask for what isn't done; `TooLarge`,
+/// `TooDeep` and `Shape` as `read_program` has them; `Invalid` as `check_static` has it; `Unsupported` at the first node
+/// that the lowerings don't take: `NotBuilt` a construct that they ask to lower and no lowering takes away yet,
+/// `MathBound` an exponentiation that would be lowered where `Math` is bound, `HelperName` an object literal with a
+/// spread where `babelHelpers` is bound, `SpreadLiteral` one whose properties can't be copied one by one, `TagChain` a
+/// template whose tag is a chain, `ArrowOuter` and `ArrowThis` what belongs to what is around an arrow and can't belong
+/// to a function in its place. It fails with `OutOfMemory` where memory runs out.
 pub fn lower(alloc: Global, source: &Value, options: &EnvOptions) -> Result<Lowered, LowerError>
     ensures lowered { IfOk result (λ lowered. IsLoweredValue options.now (view source.now) lowered) }
     ensures options { IfOk result (λ _. first_fault options.now ≡ None) }
@@ -88,8 +87,8 @@ pub fn lower(alloc: Global, source: &Value, options: &EnvOptions) -> Result<Lowe
     Ok(Lowered { tree, value })
 }
 
-/// The same for the bytes of a JSON value. Fails with `Json`, before all other causes, `Option(NotBuilt)`
-/// among them, where the bytes have no reading as one.
+/// The same for the bytes of a JSON value. Fails with `Json`, before all other causes, where the bytes have no
+/// reading as one.
 pub fn lower_bytes(alloc: Global, bytes: &[u8], options: &EnvOptions) -> Result<Lowered, LowerError>
     ensures lowered { IfOk result (λ lowered. ReadsAs (λ v. IsLoweredValue options.now v lowered) bytes.now) }
     ensures options { IfOk result (λ _. first_fault options.now ≡ None) }
@@ -149,9 +148,6 @@ fn lower_program(
             temporaries: Vec::new(alloc),
         });
     }
-    if has_unbuilt_construct(&read.program, options) {
-        return Err(LowerError::Option(OptionName::NotBuilt));
-    }
     let (program, temporaries) = lower_constructs(alloc, read, options)?;
     Ok(LoweredTree {
         program,
@@ -169,7 +165,6 @@ fn lower_constructs(
     requires form { has_form s-Program read.program ≡ true }
     requires kept { breaks read.program ≡ [] }
     requires some { has_enabled_construct options.now read.program ≡ true }
-    requires built { has_unbuilt_construct options.now read.program ≡ false }
     requires size { tree_size read.program < 2 ^ 20 }
     requires next { read.ast.next ≡ tree_size read.program }
     requires carried { first_fault options.now ≡ None }
@@ -188,6 +183,7 @@ fn lower_constructs(
     let mut ctx = new_context(alloc, scoping, &source, ast, options)?;
     let mut program = Program::open(source);
     visit(&mut program, &mut ctx)?;
+    walk(&mut program, &mut ctx)?;
     let program = program.close(alloc)?;
     Ok((program, ctx.into_uids()))
 }

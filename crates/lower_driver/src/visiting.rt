@@ -1,5 +1,8 @@
-//! The one visit of a run.
-ghost use Rattle.std.specs.Prelude.{◌≡◌, ◌<◌, [], OnOk, length};
+//! The one visit of a run, and the walk over arrows after it.
+ghost use Rattle.std.specs.Prelude.{◌≡◌, ◌<◌, ◌∷◌, [], OnOk, is_some, length, true};
+ghost use Rattle.es_tree.specs.HasForm.{has_form};
+ghost use Rattle.es_tree.specs.declared.table.Sort.TheVariants.{Program as s-Program};
+ghost use Rattle.es_arrow_steps.specs.ThisFits.{each_this_fits};
 ghost use Rattle.es_changes.specs.Changes.{HasRoom};
 ghost use Rattle.es_changes.specs.Moments.{top as first_pending};
 ghost use Rattle.es_scope.specs.Contexts.{around_of};
@@ -10,7 +13,8 @@ ghost use Rattle.es_traverse.specs.Laws.{CanVisit, IsReady, KeptVisited, Seen};
 ghost use Rattle.es_traverse.specs.Loads.{load};
 ghost use Rattle.es_traverse.specs.Visits.{VisitedProgram};
 ghost use Rattle.lower_temporaries.specs.Takings.{moment_of};
-ghost use Rattle.lower_driver.specs.Visits.{visit_ending, visit_profile};
+ghost use Rattle.es_runs.specs.Weights.{weight};
+ghost use Rattle.lower_driver.specs.Visits.{IsWalked, visit_ending, visit_profile};
 
 use es_scope::context::TraverseCtx;
 use es_statements::program::Program;
@@ -19,6 +23,7 @@ use es_traverse::lowering::Additions;
 use es_traverse::traverse::Traverse;
 use es_traverse::walk::traverse;
 use es_visit::steps::Steps;
+use lower_arrows::lower_arrows;
 use lower_editions::es2016::ES2016;
 use lower_editions::es2018::ES2018;
 use lower_editions::es2019::ES2019;
@@ -50,6 +55,21 @@ pub fn visit(program: &mut Program, ctx: &mut TraverseCtx<TransformState>) -> Re
     let editions = Both::new(es2021, Both::new(es2020, last));
     let mut all = Both::new(Common::new(), editions);
     visit_by::<_, _, Brand>(&mut all, program, ctx, Blank::new(1))?;
+    Ok(())
+}
+
+/// Makes functions of the arrows of a visited program, where the context's options ask for it. Fails only where memory runs
+/// out; the program is then in no stated shape.
+pub fn walk(program: &mut Program, ctx: &mut TraverseCtx<TransformState>) -> Result<(), AllocError>
+    requires fits { is_some ctx.old.options.es2015.arrow_function ≡ true → each_this_fits (plain_program program.old) ≡ true }
+    requires formed { has_form s-Program (plain_program program.old) ≡ true }
+    requires pending { (moment_of ctx.old).lists ≡ nothing_pending ∷ [] }
+    requires room { HasRoom (moment_of ctx.old) (weight (plain_program program.old)) }
+    ensures walked { OnOk result (IsWalked (is_some ctx.old.options.es2015.arrow_function) ctx.old program.old ctx.new program.new) }
+{
+    if ctx.options.es2015.arrow_function.is_some() {
+        lower_arrows(program, ctx)?;
+    }
     Ok(())
 }
 

@@ -1,6 +1,5 @@
 pub mod SlotPlaces
 pub mod SlotSites
-pub mod Searches
 pub mod SeenWeights
 pub mod SeenTests
 pub mod ImportPlaces

@@ -144,14 +144,14 @@ to-wrap-seen names o up (node k l fs) = λ i. is_slot_at up && not (is_statement
 pub kept-load : (more : ℕ) (a : Moment) (t : Tree) → KeptLoad more a t a t
 kept-load more a t = record { level = record { deep = refl; outer = refl }; around = refl; options = refl; counted = omega arith; lighter = omega arith; nodes = omega arith }
 
-pub slot-allowance : (h : Hook) (c : Site) → is_slot_hook h c ≡ true → wrapping_by true h c ≡ 8
+pub slot-allowance : (h : Hook) (c : Site) → is_slot_hook h c ≡ true → wrapping_by true h c ≡ 20
 slot-allowance Expression Slot e = refl
 slot-allowance _ c e = absurd (true≢false (sym e))
 
 abbrev no_names : ℕ → Text → Option ℕ
 no_names s x = None
 
-kept-called : (a : Moment) (t u : Tree) → IsCallOf t u → KeptLoad 8 a t (with_ids 2 a) u
+kept-called : (a : Moment) (t u : Tree) → IsCallOf t u → KeptLoad 20 a t (with_ids 2 a) u
 kept-called a t u h =
     let l = ap load (h no_names) in
     let s = ap tree_size (h no_names) in

@@ -40,9 +40,9 @@ ghost use Rattle.lower_writing.specs.Writing.{IsBodyOf, after_writing, common_pr
 
 use crate::lists::{imports_before, put_at};
 use crate::slots::is_slot;
-use crate::wrapped::holds;
 use crate::wrapping::called_arrow;
 use es_scope::context::TraverseCtx;
+use es_slots::wrapped::holds;
 use es_statements::control::new_return_statement;
 use es_statements::functions::FunctionBody;
 use es_statements::program::Program;

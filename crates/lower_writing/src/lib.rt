@@ -3,8 +3,6 @@
 #![tactic(auto)]
 
 pub mod common;
-mod constructs;
-mod lists;
+pub mod lists;
 mod slots;
-mod wrapped;
 mod wrapping;

@@ -9,7 +9,7 @@ use es_tree::sorts::Statement;
 use std::alloc::AllocError;
 
 /// How many imports stand before the first statement that is none.
-pub(crate) fn imports_before(statements: &[Node]) -> usize
+pub fn imports_before(statements: &[Node]) -> usize
     ensures { result ≡ imports_before statements.now }
 {
     for (index, statement) in statements.iter().enumerate() {
@@ -27,7 +27,7 @@ fn is_import(statement: &Node) -> bool
 }
 
 /// Puts a statement, if there is one, at this place.
-pub(crate) fn put_at(
+pub fn put_at(
     statements: &mut Vec<Statement>,
     index: usize,
     statement: Option<Statement>,

@@ -8,14 +8,14 @@ const LENGTH = 40;
 /**
  * Runs both texts by each of so many lists. Calls `tell` with the number of the list and both runs where they differ: they are to ask the
  * same, to end alike and to leave these names equal. Returns how many runs were compared with how many questions, how many lists call what
- * isn't callable, how many `isOutside` says of the first run, how many have no end in the time that they are given, and how many differ.
+ * isn't callable, how many `isOutside` says of the first run, in how many neither run ends in the time that it is given, and how many differ.
  */
 export async function compareRuns(before, after, { lists, names, module, helpers, hasAll, mayBeEndless, isOutside = () => false, tell }) {
   const counts = { runs: 0, questions: 0, uncallable: 0, outside: 0, endless: 0, differing: 0 };
   for (let list = 0; list < lists; list += 1) {
     const worked = { moves: randomMoves(list, { hasAll }), module, helpers, mayBeEndless };
     const [first, second] = [await runProgram(before, worked), await runProgram(after, worked)];
-    if ([first, second].some(({ is }) => is === 'endless')) counts.endless += 1;
+    if ([first, second].every(({ is }) => is === 'endless')) counts.endless += 1;
     else if (await callsUncallable(before, worked, first)) counts.uncallable += 1;
     else if (isOutside(first)) counts.outside += 1;
     else {
@@ -28,6 +28,18 @@ export async function compareRuns(before, after, { lists, names, module, helpers
     }
   }
   return counts;
+}
+
+/** The names that the declarations at the top of a tree declare. */
+export function topNames({ body = [] }) {
+  return body.flatMap(({ declarations = [] }) => declarations.flatMap(({ id }) => boundNames(id)));
+}
+
+function boundNames(pattern) {
+  if (pattern === null) return []; // a hole
+  if (pattern.type === 'Identifier') return [pattern.name];
+  const parts = pattern.properties ?? pattern.elements ?? [pattern.value ?? pattern.argument ?? pattern.left];
+  return parts.flatMap(boundNames);
 }
 
 /** Adds what was counted of one pair of texts to the sums. */

@@ -9,9 +9,15 @@ const TOP = fileURLToPath(new URL('../../../', import.meta.url));
 const TOOL = path.join(TOP, 'crates/lower_tool/out/lower_tool');
 const LOWERINGS = ['--nullish', '--chaining', '--logical', '--exponentiation', '--catch', '--namespace'];
 const SPREAD = ['--rest-spread', '--helpers=external'];
+const ARROWS = ['--arrows'];
 
-/** All lowerings that are built, but for that of spreads where a pattern with a rest stands, which isn't taken with it. */
-function wordsFor(tree) { return hasObjectRest(JSON.parse(tree)) ? LOWERINGS : [...LOWERINGS, ...SPREAD]; }
+/**
+ * All lowerings that are built, but for that of spreads where a pattern with a rest stands, which isn't taken with it, and that of arrows
+ * for every second tree, since many are refused with it.
+ */
+function wordsFor(tree) {
+  return [...LOWERINGS, ...hasObjectRest(JSON.parse(tree)) ? [] : SPREAD, ...tree.length % 2 === 0 ? [] : ARROWS];
+}
 
 function hasObjectRest(value) {
   if (typeof value !== 'object' || value === null) return false;
@@ -19,24 +25,31 @@ function hasObjectRest(value) {
   return isRest || Object.values(value).some(hasObjectRest);
 }
 
-/** Of each tree's text the tool's status, its standard output and its line of errors; `tool` is another program to take for it. */
-export function lowerAll(trees, { isUnproved, tool }) {
-  if (tool !== undefined) return trees.map(tree => lowerBy(tool, tree));
-  if (isUnproved) return lowerUnproved(trees);
+/** Whether the tool is taken as its sources stand, before any proof. */
+export const isUnproved = Boolean(process.env.LOWER_UNPROVED);
+
+/**
+ * Of each tree's text the tool's status, its standard output and its line of errors; `tool` is another program to take for it, and `words`
+ * are those that each tree is lowered by, where they aren't all that suit it.
+ */
+export function lowerAll(trees, { tool, words }) {
+  const wordsOf = tree => words ?? wordsFor(tree);
+  if (tool !== undefined) return trees.map(tree => lowerBy(path.resolve(tool), wordsOf(tree), tree));
+  if (isUnproved) return lowerUnproved(trees, wordsOf);
   const { status } = spawnSync(path.join(TOP, 'lower'), LOWERINGS, { input: trees[0], stdio: ['pipe', 'ignore', 'inherit'] });
   if (status === 70) throw new Error('the tool is not built');
-  return trees.map(tree => lowerBy(TOOL, tree));
+  return trees.map(tree => lowerBy(TOOL, wordsOf(tree), tree));
 }
 
-function lowerBy(tool, input) {
-  const { status, signal, error, stdout, stderr } = spawnSync(tool, wordsFor(input), { input, encoding: 'utf8', maxBuffer: Infinity });
+function lowerBy(tool, words, input) {
+  const { status, signal, error, stdout, stderr } = spawnSync(tool, words, { input, encoding: 'utf8', maxBuffer: Infinity });
   if (error && error.code !== 'EPIPE') throw new Error(`the tool ${tool} can't be started: ${error.message}`);
   return { status: status ?? signal, stdout: stdout.trim(), stderr: stderr.trim() };
 }
 
 /** The trees in a batch for each list of words. */
-function lowerUnproved(trees) {
-  const words = trees.map(wordsFor);
+function lowerUnproved(trees, wordsOf) {
+  const words = trees.map(wordsOf);
   const ran = new Array(trees.length);
   for (const key of new Set(words.map(String))) {
     const indices = trees.flatMap((_, index) => (String(words[index]) === key ? [index] : []));

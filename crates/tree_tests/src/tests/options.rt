@@ -41,7 +41,7 @@ pub fn ask(options: &mut EnvOptions, word: &str) {
     }
 }
 
-/// The words of `ask`, those first whose lowerings are built.
+/// The words of `ask`.
 pub static LOWERINGS: [&str; 9] = [
     "exponentiation",
     "nullish",
@@ -71,13 +71,12 @@ fn ask_for_fault(options: &mut EnvOptions, number: usize) {
         5 => options.es2018.async_generator_functions = true,
         6 => options.assumptions.pure_getters = true,
         7 => options.assumptions.object_rest_no_symbols = true,
-        8 => options.assumptions.ignore_function_length = true,
-        _ => options.es2026.explicit_resource_management = true,
+        _ => options.assumptions.ignore_function_length = true,
     }
 }
 
 /// What is told, the first that is asked for.
-static FAULTS: [OptionName; 10] = [
+static FAULTS: [OptionName; 9] = [
     OptionName::InlineHelpers,
     OptionName::Spec,
     OptionName::Loose,
@@ -87,7 +86,6 @@ static FAULTS: [OptionName; 10] = [
     OptionName::PureGetters,
     OptionName::ObjectRestNoSymbols,
     OptionName::IgnoreFunctionLength,
-    OptionName::NotBuilt,
 ];
 
 #[test]
@@ -96,25 +94,15 @@ fn the_first_fault_of_options_is_told(rt: HostRuntime) -> Result<(), Fail> {
     let mut together = no_options(alloc)?;
     together.es2020.big_int = true;
     together.assumptions.no_document_all = true;
-    together.helper_loader.mode = HelperLoaderMode::External;
-    for (number, word) in LOWERINGS.iter().enumerate() {
+    for word in LOWERINGS.iter() {
         let mut options = no_options(alloc)?;
         ask(&mut options, word);
-        let is_built = number < 6;
-        let fault = if is_built {
-            None
-        } else {
-            Some(OptionName::NotBuilt)
-        };
-        assert_eq!(rt; options_fault(&options), fault, "{word}");
-        if is_built {
-            ask(&mut together, word);
-        }
+        assert_eq!(rt; options_fault(&options), None, "{word}");
+        ask(&mut together, word);
     }
-    ask(&mut together, "spread");
     assert_eq!(rt; options_fault(&together), None);
-    together.helper_loader.mode = HelperLoaderMode::Runtime;
-    assert_eq!(rt; options_fault(&together), Some(OptionName::NotBuilt));
+    together.helper_loader.mode = HelperLoaderMode::External;
+    assert_eq!(rt; options_fault(&together), None);
     for (number, name) in FAULTS.iter().enumerate().rev() {
         let mut alone = no_options(alloc)?;
         ask_for_fault(&mut alone, number);

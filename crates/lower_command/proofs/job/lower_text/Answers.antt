@@ -14,7 +14,6 @@ returns-clause-taken c =
       program = found.holds.source;
       reads = record { value = found.value; reading = found.reading; holds = found.holds.is_source };
       kept = found.holds.kept;
-      built = found.holds.lowered.built;
       taken = found.holds.lowered.taken;
     }
 

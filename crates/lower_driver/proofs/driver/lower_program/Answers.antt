@@ -3,7 +3,6 @@ use Rattle.std.specs.Prelude.{string_bytes}
 use Rattle.es_tree.specs.Constructs.{has_enabled_construct}
 use Rattle.std.specs.declared.alloc.Global.{Global}
 use Rattle.lower_driver.specs.Lowers.{Lowers}
-use Rattle.lower_driver.proofs.NoneLeft.{none-asked}
 use Rattle.lower_driver.proofs.NoneUnsupported.{none-unsupported}
 use Rattle.lower_driver.proofs.Visits.{becomes-itself}
 use Rattle.lower_driver.proofs.driver.lower_program.Goals as goal
@@ -16,6 +15,5 @@ returns-then-not-has_enabled_construct-clause-lowered c =
     record {
       lowers = subst (λ (names : List (String Global)). Lowers o p p (map string_bytes names)) (sym c.new.ensures.items) (becomes-itself o p c.requires.form c.requires.kept none);
       warnings = c.in_ok-warnings.ensures;
-      built = none-asked o p none;
       taken = none-unsupported o p none;
     }

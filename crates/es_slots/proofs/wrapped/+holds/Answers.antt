@@ -4,8 +4,8 @@ use Rattle.es_tree.specs.Tree.{trees}
 use Rattle.es_steps.specs.Slots.{closes, holds, holds_trees}
 use Rattle.es_steps.specs.WrapRule.{is_wrapped_for}
 use Rattle.es_nodes.proofs.Anys.{any_passes, none_more, or_true}
-use Rattle.lower_writing.proofs.Searches.{holds_at, holds_of, none-held, one-held}
-use Rattle.lower_writing.proofs.wrapped.+holds.Goals as goal
+use Rattle.es_slots.proofs.Searches.{holds_at, holds_of, none-held, one-held}
+use Rattle.es_slots.proofs.wrapped.+holds.Goals as goal
 
 pub holds-returns-then-holds_in : goal.holds-returns-then-holds_in
 holds-returns-then-holds_in t c =

@@ -3,8 +3,8 @@ use Rattle.es_tree.specs.Heads.{head_of}
 use Rattle.es_tree.specs.Tree.{trees}
 use Rattle.es_steps.specs.Slots.{closes, holds_trees}
 use Rattle.es_steps.specs.WrapRule.{is_wrapped_for}
-use Rattle.lower_writing.proofs.Searches.{holds_of}
-use Rattle.lower_writing.proofs.wrapped.+holds.Given as goal
+use Rattle.es_slots.proofs.Searches.{holds_of}
+use Rattle.es_slots.proofs.wrapped.+holds.Given as goal
 
 -- none of the fields so far holds one
 abbrev pub invariant-holds-loop-index : goal.invariant-holds-loop-index

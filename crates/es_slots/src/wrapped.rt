@@ -21,7 +21,7 @@ use es_tree::options::EnvOptions;
 /// Looks at each such node at most once. It is asked once for each slot, and what stands in a slot inside another one is
 /// closed off by the function or the class between them; so all slots of a program together are searched in one pass.
 #[cycle(holds)]
-pub(crate) fn holds(node: &Node, options: &EnvOptions) -> bool
+pub fn holds(node: &Node, options: &EnvOptions) -> bool
     ensures { result ≡ holds (is_wrapped_for options.now) node.now }
 {
     if is_wrapped_for(node, options) {
@@ -33,6 +33,13 @@ pub(crate) fn holds(node: &Node, options: &EnvOptions) -> bool
         }
     }
     false
+}
+
+/// Whether a tree in the field does.
+pub fn field_holds(field: &Field, options: &EnvOptions) -> bool
+    ensures { result ≡ holds_field (is_wrapped_for options.now) (plain_field field.now) }
+{
+    holds_in(field, false, options)
 }
 
 #[cycle(holds)]

@@ -1,0 +1,2 @@
+pub mod ArrowWalks
+pub mod ThisFits

@@ -1,0 +1,16 @@
+use Rattle.std.proofs.Common.{refl}
+use Rattle.es_unsupported.proofs.laws.law_shape_examples.Goals as goal
+
+pub returns : goal.returns
+returns c = record {
+  this_word = record { formed = refl; first = λ o. refl };
+  deleted_this = record { formed = refl; first = λ o. refl };
+  super_member = record { formed = refl; first = λ o. refl };
+  in_method = record { formed = refl; first = λ o. refl };
+  constructor_this = record { formed = refl; first = λ o. refl };
+  outer_arguments = record { formed = refl; first = λ o. refl };
+  own_arguments = record { formed = refl; first = λ o. refl };
+  in_slot = record { formed = refl; first = λ o. refl };
+  in_parameter = record { formed = refl; first = λ o. refl };
+  object_rest = record { formed = refl; first = λ o. refl };
+}

@@ -1,0 +1,104 @@
+-- What is found in programs, by the numbers of their nodes in node order, the program's 0.
+use Rattle.std.specs.Prelude.{◌≡◌, ℕ, List, [], ◌∷◌, Bool, true, false, Option, Some, None, codes, if◌then◌else◌}
+use Rattle.es_tree.specs.HasForm.{has_form}
+use Rattle.es_tree.specs.Order.{renumber}
+use Rattle.es_tree.specs.Tree.{Tree, node, done, ◌then◌, missing, one, many, statements, empty, trees}
+use Rattle.es_tree.specs.declared.ast_type.AstType.TheVariants.{ArrowFunctionExpression, AssignmentPattern, ClassDeclaration, FunctionDeclaration, FunctionExpression, LogicalExpression, MethodDefinition, ObjectPattern, Program, RestElement, Super, UnaryExpression, VariableDeclaration, VariableDeclarator}
+use Rattle.es_tree.specs.declared.error.UnsupportedKind.{UnsupportedKind}
+use Rattle.es_tree.specs.declared.error.UnsupportedKind.TheVariants.{ArrowOuter, ArrowThis, NotBuilt}
+use Rattle.es_tree.specs.declared.options.EnvOptions.{EnvOptions}
+use Rattle.es_tree.specs.declared.options.HelperLoaderMode.TheVariants.{External}
+use Rattle.es_tree.specs.declared.table.Sort.TheVariants.{Program as s-Program}
+use Rattle.es_steps.specs.Nodes.{arrow_node, body_node, call_node, made, member_node, statement_node, this_expression, word}
+use Rattle.es_unsupported.specs.FirstUnsupported.{first_unsupported}
+
+-- OPTIONS that ask for arrows, for `??` or for object rests and spreads, and for nothing else
+
+abbrev pub asking : Bool → Bool → Bool → EnvOptions → EnvOptions
+asking arrows nullish rests o = record o {
+  es2015 = record { arrow_function = if arrows then Some (record { spec = false }) else None };
+  es2016 = record { exponentiation_operator = false };
+  es2018 = record { object_rest_spread = if rests then Some (record { loose = false; use_built_ins = false }) else None; async_generator_functions = false };
+  es2020 = record o.es2020 { nullish_coalescing_operator = nullish; optional_chaining = false };
+  es2021 = record { logical_assignment_operators = false };
+  es2026 = record { explicit_resource_management = false };
+  helper_loader = record o.helper_loader { mode = External };
+}
+
+-- NODES
+
+abbrev pub script : List Tree → Tree
+script ts = renumber 0 (node Program (made (Some (codes "script") ∷ []) []) (many empty then statements (trees ts) then done))
+
+-- `function (ps) { ts }`, without a name
+abbrev pub method_function : List Tree → List Tree → Tree
+method_function ps ts = node FunctionExpression (made [] []) (missing then many (trees ps) then one (body_node (trees ts)) then done)
+
+-- `function f(ps) { ts }`
+abbrev pub function_node : List Tree → List Tree → Tree
+function_node ps ts = node FunctionDeclaration (made [] []) (one (word (codes "f")) then many (trees ps) then one (body_node (trees ts)) then done)
+
+abbrev pub super_word : Tree
+super_word = node Super (made [] []) done
+
+-- `class A { m() { ts } }`
+abbrev pub class_with : List Tree → Tree
+class_with ts =
+    let method : Tree = node MethodDefinition (made (Some (codes "method") ∷ []) (false ∷ false ∷ [])) (one (word (codes "m")) then one (method_function [] ts) then done) in
+    node ClassDeclaration (made [] []) (one (word (codes "A")) then missing then many (trees (method ∷ [])) then done)
+
+-- `class A extends B { constructor() { super(); ts } }`
+abbrev pub derived_with : List Tree → Tree
+derived_with ts =
+    let method : Tree = node MethodDefinition (made (Some (codes "constructor") ∷ []) (false ∷ false ∷ [])) (one (word (codes "constructor")) then one (method_function [] (statement_node (call_node super_word []) ∷ ts)) then done) in
+    node ClassDeclaration (made [] []) (one (word (codes "A")) then one (word (codes "B")) then many (trees (method ∷ [])) then done)
+
+abbrev pub arrow_with : List Tree → Tree → Tree
+arrow_with ps e = node ArrowFunctionExpression (made [] []) (many (trees ps) then one e then done)
+
+-- `l ?? b`
+abbrev pub coalescing : Tree → Tree
+coalescing l = node LogicalExpression (made (Some (codes "??") ∷ []) []) (one l then one (word (codes "b")) then done)
+
+-- `a = e` as a parameter
+abbrev pub parameter_with : Tree → Tree
+parameter_with e = node AssignmentPattern (made [] []) (one (word (codes "a")) then one e then done)
+
+abbrev pub deleted : Tree → Tree
+deleted e = node UnaryExpression (made (Some (codes "delete") ∷ []) []) (one e then done)
+
+-- `let { ...a } = b;`
+abbrev pub rest_declaration : Tree
+rest_declaration =
+    let rest : Tree = node RestElement (made [] []) (one (word (codes "a")) then done) in
+    let pattern : Tree = node ObjectPattern (made [] []) (many (trees (rest ∷ [])) then done) in
+    let declarator : Tree = node VariableDeclarator (made [] []) (one pattern then one (word (codes "b")) then done) in
+    node VariableDeclaration (made (Some (codes "let") ∷ []) []) (many (trees (declarator ∷ [])) then done)
+
+-- EXAMPLES
+
+-- of a program that has form, where options ask for arrows, for `??` or not, and for object rests or not
+pub record Finds (nullish rests : Bool) (ts : List Tree) (found : Option (UnsupportedKind × ℕ)) : Type 0 where
+  pub formed : has_form s-Program (script ts) ≡ true
+  pub first : (o : EnvOptions) → first_unsupported (asking true nullish rests o) (script ts) ≡ found
+
+pub record LawShapeExamples : Type 0 where
+  -- `() => this;`
+  pub this_word : Finds false false (statement_node (arrow_node this_expression) ∷ []) None
+  -- `() => delete this;`
+  pub deleted_this : Finds false false (statement_node (arrow_node (deleted this_expression)) ∷ []) (Some (ArrowThis, 3))
+  -- `class A { m() { () => super.x; } }`
+  pub super_member : Finds false false (class_with (statement_node (arrow_node (member_node super_word (codes "x"))) ∷ []) ∷ []) (Some (ArrowOuter, 10))
+  -- `class A { m() { super.x; } }`
+  pub in_method : Finds false false (class_with (statement_node (member_node super_word (codes "x")) ∷ []) ∷ []) None
+  -- `class A extends B { constructor() { super(); () => this; } }`
+  pub constructor_this : Finds false false (derived_with (statement_node (arrow_node this_expression) ∷ []) ∷ []) (Some (NotBuilt, 13))
+  -- `function f() { () => arguments; }`
+  pub outer_arguments : Finds false false (function_node [] (statement_node (arrow_node (word (codes "arguments"))) ∷ []) ∷ []) (Some (ArrowOuter, 6))
+  -- `function f() { (arguments) => arguments; }`
+  pub own_arguments : Finds false false (function_node [] (statement_node (arrow_with (word (codes "arguments") ∷ []) (word (codes "arguments"))) ∷ []) ∷ []) None
+  -- `function f(a = this.c ?? b) {}`, where `??` is lowered, and where it isn't
+  pub in_slot : Finds true false (function_node (parameter_with (coalescing (member_node this_expression (codes "c"))) ∷ []) [] ∷ []) (Some (ArrowThis, 7))
+  pub in_parameter : Finds false false (function_node (parameter_with (coalescing (member_node this_expression (codes "c"))) ∷ []) [] ∷ []) None
+  -- `let { ...a } = b;`, where object rests are lowered
+  pub object_rest : Finds false true (rest_declaration ∷ []) (Some (NotBuilt, 3))

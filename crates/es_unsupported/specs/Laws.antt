@@ -1,0 +1,16 @@
+-- The laws of programs that are taken.
+use Rattle.std.specs.Prelude.{◌≡◌, true, false, None, is_some}
+use Rattle.es_tree.specs.Tree.{Tree}
+use Rattle.es_tree.specs.Walks.{any_node}
+use Rattle.es_tree.specs.declared.options.EnvOptions.{EnvOptions}
+use Rattle.es_valid_arrows.specs.ArrowPlaces.{fits_arrows}
+use Rattle.es_unsupported.specs.FirstUnsupported.{first_unsupported}
+use Rattle.es_unsupported.specs.Shapes.{is_unbuilt_node}
+
+-- Where arrows are to become functions, each arrow of such a program can.
+abbrev pub LawArrowsTaken : Type 0
+LawArrowsTaken = (o : EnvOptions) (p : Tree) → is_some o.es2015.arrow_function ≡ true → first_unsupported o p ≡ None → fits_arrows o p ≡ true
+
+-- No construct stands in it whose lowering isn't built.
+abbrev pub LawBuilt : Type 0
+LawBuilt = (o : EnvOptions) (p : Tree) → first_unsupported o p ≡ None → any_node (is_unbuilt_node o) p ≡ false

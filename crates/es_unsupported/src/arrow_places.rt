@@ -1,0 +1,144 @@
+//! What is known of places, as far as arrows that become functions ask (ECMA-262, 15.3). Fields count from 0.
+ghost use Rattle.std.specs.Prelude.{◌≡◌, ◌&&◌, ◌||◌, ◌==◌, bytes_eq, codes, if◌then◌else◌, not};
+ghost use Rattle.es_tree.specs.Ancestors.{ancestor, leads_by};
+ghost use Rattle.es_tree.specs.HasForm.{same_type};
+ghost use Rattle.es_tree.specs.Names.{first_text};
+ghost use Rattle.es_tree.specs.Tree.{done, fields_of, kind_of, label_of};
+ghost use Rattle.es_tree.specs.Views.{plain_field};
+ghost use Rattle.es_tree.specs.declared.ast_type.AstType.TheVariants.{ArrowFunctionExpression, MethodDefinition};
+ghost use Rattle.es_semantic.specs.Places.{is_inside};
+ghost use Rattle.es_steps.specs.ThisPlaces.{keeps_this};
+ghost use Rattle.es_arrow_steps.specs.ThisFits.{reaches_in};
+ghost use Rattle.es_valid_arrows.specs.ArrowPlaces.{is_wrapped_slot, parameter_in};
+ghost use Rattle.es_unsupported.specs.ArrowShapes.{arrow_place_in, outside};
+
+use crate::edges::{
+    is_arrow, is_field_value, keeps_this, leads_to_constructor, leads_to_derived_member,
+    leads_to_parameter, leads_to_part, leads_to_value,
+};
+use crate::scopes::is_inside_at;
+use es_slots::wrapped::field_holds;
+use es_tree::kind::Kind;
+use es_tree::node::{Field, Node};
+use es_tree::options::EnvOptions;
+
+/// What is known of a place.
+#[derive(Clone, Copy)]
+pub(crate) struct ArrowPlace {
+    /// It belongs to an arrow, or to the value of a slot that is wrapped.
+    pub(crate) in_arrow: bool,
+    /// A pattern there is a parameter, or a part of one.
+    pub(crate) parameter: bool,
+    /// A `this` there reaches the list of the statements in which its name would be declared.
+    pub(crate) reaches: bool,
+    /// What stands there is a member of a class that extends another.
+    pub(crate) derived_member: bool,
+    /// It is the function of a constructor of such a class.
+    pub(crate) derived_constructor: bool,
+    /// A `this` there is that of the body of such a constructor.
+    pub(crate) derived_body: bool,
+    /// A scope inside the innermost arrow binds `arguments`.
+    pub(crate) own_arguments: bool,
+}
+
+impl ArrowPlace {
+    /// Of a program.
+    pub(crate) fn outside() -> ArrowPlace
+        ensures { result ≡ outside }
+    {
+        ArrowPlace {
+            in_arrow: false,
+            parameter: false,
+            reaches: true,
+            derived_member: false,
+            derived_constructor: false,
+            derived_body: false,
+            own_arguments: false,
+        }
+    }
+
+    /// Of what stands in this field of a node of which this is known, and whether its scope binds `arguments`. Nothing more
+    /// where no arrow is to become a function.
+    pub(crate) fn inside(
+        self,
+        node: &Node,
+        index: usize,
+        field: &Field,
+        binds: bool,
+        options: &EnvOptions,
+    ) -> ArrowPlace
+        ensures { result ≡ arrow_place_in options.now binds self (kind_of node.now) (label_of node.now) (fields_of node.now) index (plain_field field.now) }
+    {
+        if options.es2015.arrow_function.is_none() {
+            return self;
+        }
+        let wrapped = self.is_wrapped_slot(node, index, field, options);
+        ArrowPlace {
+            in_arrow: self.arrow_in(node, index, wrapped),
+            parameter: self.parameter_in(node, index),
+            reaches: self.reaches_in(node, index),
+            derived_member: leads_to_derived_member(node, index),
+            derived_constructor: self.derived_constructor_in(node, index),
+            derived_body: self.derived_body_in(node, index),
+            own_arguments: self.own_arguments_in(node, index, wrapped, binds),
+        }
+    }
+
+    /// Whether what stands in this field belongs to an arrow.
+    fn arrow_in(self, node: &Node, index: usize, wrapped: bool) -> bool
+        ensures { result ≡ (wrapped || (not (keeps_this (ancestor (kind_of node.now) (label_of node.now) done index 0)) && (same_type (kind_of node.now) ArrowFunctionExpression || self.in_arrow))) }
+    {
+        wrapped || (!keeps_this(node, index) && (is_arrow(node) || self.in_arrow))
+    }
+
+    fn derived_constructor_in(self, node: &Node, index: usize) -> bool
+        ensures { result ≡ (self.derived_member && leads_by MethodDefinition 1 (ancestor (kind_of node.now) (label_of node.now) done index 0) && bytes_eq (first_text (label_of node.now).texts) (codes "constructor")) }
+    {
+        self.derived_member && leads_to_constructor(node, index)
+    }
+
+    fn derived_body_in(self, node: &Node, index: usize) -> bool
+        ensures { result ≡ (if keeps_this (ancestor (kind_of node.now) (label_of node.now) done index 0) then self.derived_constructor && index == 2 else self.derived_body) }
+    {
+        if keeps_this(node, index) {
+            self.derived_constructor && index == 2
+        } else {
+            self.derived_body
+        }
+    }
+
+    /// Whether a scope inside the innermost arrow binds `arguments`.
+    fn own_arguments_in(self, node: &Node, index: usize, wrapped: bool, binds: bool) -> bool
+        ensures { result ≡ ((not (wrapped || same_type (kind_of node.now) ArrowFunctionExpression) && self.own_arguments) || (binds && is_inside (kind_of node.now) index)) }
+    {
+        (!(wrapped || is_arrow(node)) && self.own_arguments)
+            || (binds && is_inside_at(&node.kind, index))
+    }
+
+    /// Whether the field is a slot that holds what it is wrapped for.
+    fn is_wrapped_slot(self, node: &Node, index: usize, field: &Field, options: &EnvOptions) -> bool
+        ensures { result ≡ is_wrapped_slot options.now self.parameter (ancestor (kind_of node.now) (label_of node.now) done index 0) (plain_field field.now) }
+    {
+        (is_field_value(node, index) || (leads_to_value(node, index) && self.parameter))
+            && field_holds(field, options)
+    }
+
+    /// Whether a pattern in this field of a node is a parameter, or a part of one.
+    fn parameter_in(self, node: &Node, index: usize) -> bool
+        ensures { result ≡ parameter_in self.parameter (ancestor (kind_of node.now) (label_of node.now) done index 0) }
+    {
+        leads_to_parameter(node, index) || (leads_to_part(node, index) && self.parameter)
+    }
+
+    /// Whether a `this` in this field of a node reaches its list.
+    fn reaches_in(self, node: &Node, index: usize) -> bool
+        ensures { result ≡ reaches_in self.reaches (ancestor (kind_of node.now) (label_of node.now) done index 0) }
+    {
+        match &node.kind {
+            Kind::FunctionDeclaration { .. } | Kind::FunctionExpression { .. } => index == 2,
+            Kind::StaticBlock { .. } => true,
+            Kind::PropertyDefinition { .. } => index != 1 && self.reaches,
+            _ => self.reaches,
+        }
+    }
+}

@@ -1,0 +1,18 @@
+//! The laws of programs that are taken. The functions do nothing: their contracts are laws over the definitions.
+ghost use Rattle.es_unsupported.specs.Examples.{LawShapeExamples};
+ghost use Rattle.es_unsupported.specs.Laws.{LawArrowsTaken, LawBuilt};
+
+/// Where arrows are to become functions, each arrow of a program that is taken can.
+pub fn law_arrows_taken()
+    ensures { LawArrowsTaken }
+{}
+
+/// No construct stands in a program that is taken whose lowering isn't built.
+pub fn law_built()
+    ensures { LawBuilt }
+{}
+
+/// What is found in programs with arrows, classes, parameters and rests.
+pub fn law_shape_examples()
+    ensures { LawShapeExamples }
+{}

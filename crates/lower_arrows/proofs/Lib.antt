@@ -1,0 +1,15 @@
+pub mod Rows
+pub mod Inward
+pub mod WalkRules
+pub mod BodyRows
+pub mod Nodes
+pub mod Fields
+pub mod Costs
+pub mod SeenFits
+pub mod Programs
+pub mod Loops
+pub mod Seen
+pub mod MadeFunctions
+pub mod This
+pub mod Lists
+pub mod Visits

@@ -1,0 +1,4 @@
+pub mod Lowered
+pub mod Names
+pub mod Functions
+pub mod Walks
