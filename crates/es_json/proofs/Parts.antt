@@ -103,16 +103,6 @@ module _ (k : AstType) (v : Data) (p : ElementsPlace) (is : elements_of (entries
   place_of_array : elements_of (child_entries k) ≡ Some p
   place_of_array = ap elements_of (array_entries (entries k) p is).2 ∙ is
 
-  pub array_parts : (h : Head) (fs : Fields) → h ≡ head k [] [] (no_marks k) → AreElements p.sort p.last (list_of (field_of p.field v)) fs → AreParts k v h fs
-  array_parts h fs same are =
-      let P : Head → Type 0 = λ g. AreParts k v g fs in
-      let T : List Entry → Type 0 = λ es. TextsAre es v [] in
-      let F : List Entry → Type 0 = λ es. FlagsAre es v [] in
-      let C : Option ElementsPlace → Type 0 = λ o. MatchOption o (AreFields v (child_entries k) fs) (λ q. AreElements q.sort q.last (list_of (field_of q.field v)) fs) in
-      let N : List Entry → Type 0 = λ es. NoneStands es v in
-      subst P (sym same)
-      (refl, subst T (sym no_texts_of_array) tt, subst F (sym no_flags_of_array) tt, refl, subst C (sym place_of_array) are, subst N (sym (array_entries (entries k) p is).3) tt, array_agrees k v p is)
-
   pub children_are_elements : (fs : Fields) → AreChildren k v fs → AreElements p.sort p.last (list_of (field_of p.field v)) fs
   children_are_elements fs are =
       let C : Option ElementsPlace → Type 0 = λ o. MatchOption o (AreFields v (child_entries k) fs) (λ q. AreElements q.sort q.last (list_of (field_of q.field v)) fs) in

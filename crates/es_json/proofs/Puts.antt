@@ -74,7 +74,3 @@ pub child_entry : (es : List Entry) (i : ℕ) (e : Entry) (s : Sort) (o : Often)
     → put_entries (drop (i + 1) es) (rest ts bs left (put key v ms)) ≡ put_entries (drop i es) (rest ts bs ds ms)
 child_entry es i e s o ts bs ds left ms key v within h named is after =
     rw (put_entries-drop es i e (rest ts bs ds ms) within, h, named, is, after) refl
-
-pub refused_entry : (es : List Entry) (i : ℕ) (e : Entry) (r : Rest)
-    → i < length es → (get_or es i e).content ≡ c-Refused → put_entries (drop (i + 1) es) r ≡ put_entries (drop i es) r
-refused_entry es i e r within h = rw (put_entries-drop es i e r within, h) refl

@@ -39,9 +39,6 @@ sought-symbols s (b ∷ bs) y e = if_none (bytes_eq b.name y) b.symbol s (sought
 pub none-append : (cs bs : List Bound) (y : Text) → sought cs y ≡ None → sought bs y ≡ None → sought (cs ++ bs) y ≡ None
 none-append cs bs y e d = sought-append cs bs y ∙ (λ i. either_of (e i) (d i))
 
-pub and_both : (a b : Bool) → a ≡ true → b ≡ true → (a && b) ≡ true
-and_both a b e d = rw (e, d)
-
 pub or_true : (a b : Bool) → a ≡ true → (a || b) ≡ true
 or_true a b e = rw e
 

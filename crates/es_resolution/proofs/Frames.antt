@@ -49,10 +49,6 @@ inner-core false true v true o h d e = refl
 inner-core false false true true o h d e = e refl refl
 inner-core false false false true o h d e = refl
 
-if-at : (c : Bool) (f g : Text → Option ℕ) (x : Text) → (if c then f else g) x ≡ (if c then f x else g x)
-if-at true f g x = refl
-if-at false f g x = refl
-
 pub inner-by : (F : List Declared) (a : ℕ) (bs vs : List Bound) (goal : Text → ℕ) (parameters : Text → Bool) (f : Text → Option ℕ) (up : List ℕ) (x : Text) (c p : Bool) → Each (HasSymbol F (λ y. a)) bs → Each (HasSymbol F goal) vs → (c ≡ true → parameters x ≡ p) → (c ≡ true → p ≡ false → goal x ≡ a) →
     is_bound F a x ≡ (bound_by bs x || (c && (not p && bound_by vs x))) → f x ≡ find F up x → within bs (if c then within_vars parameters vs f else f) x ≡ find F (a ∷ up) x
 inner-by F a bs vs goal parameters f up x false p h k q g e d =

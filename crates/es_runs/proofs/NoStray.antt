@@ -401,10 +401,6 @@ module _ (w : World) where
     pub value_uncut : (a : Tree) → strays false a ≡ false → NeverCut (value w (meaning w a))
     value_uncut a h s = back (value w (meaning w a) s) (has_value (meaning w a) (node_sound a false h) s)
 
-    -- nor is its reference
-    pub reference_uncut : (a : Tree) → strays false a ≡ false → NeverCut (meaning w a).reference
-    reference_uncut a h s = back ((meaning w a).reference s) (node_sound a false h s)
-
   -- nor is what is done with a reference
   pub typeof_uncut : (r : Reference) → NeverCut (typeof_value w r)
   typeof_uncut r s = back (typeof_value w r s) (typeof_steady r s)

@@ -32,24 +32,6 @@ module _ {R : Need → Ledger → Spot → Ledger → Spot → Type 0} where
   pub steps_inside : {n : Need} {s s' : Ledger} (k : AstType) (l : Label) {fs gs : OpenFields} → Steps (FieldsStep R (needs n k l.texts l.flags)) s fs s' gs → Steps (Step R n) s (open_node k l fs) s' (open_node k l gs)
   steps_inside k l = map_steps (λ fs. open_node k l fs) (λ s x s' y r. inside r)
 
-  pub steps_in_first : {c : ℕ → Need} {s s' : Ledger} {f g : OpenField} (fs : OpenFields) → Steps (FieldStep R (c zero)) s f s' g → Steps (FieldsStep R c) s (f and fs) s' (g and fs)
-  steps_in_first fs = map_steps (λ f. f and fs) (λ s x s' y r. in_first r)
-
-  pub steps_in_later : {c : ℕ → Need} {s s' : Ledger} {fs gs : OpenFields} (f : OpenField) → Steps (FieldsStep R (λ i. c (suc i))) s fs s' gs → Steps (FieldsStep R c) s (f and fs) s' (f and gs)
-  steps_in_later f = map_steps (λ fs. f and fs) (λ s x s' y r. in_later r)
-
-  pub steps_in_child : {n : Need} {s s' : Ledger} {t u : Open} → Steps (Step R n) s t s' u → Steps (FieldStep R n) s (child t) s' (child u)
-  steps_in_child = map_steps (λ t. child t) (λ s x s' y r. in_child r)
-
-  pub steps_in_children : {n : Need} {s s' : Ledger} {ts us : OpenTrees} → Steps (TreesStep R n) s ts s' us → Steps (FieldStep R n) s (children ts) s' (children us)
-  steps_in_children = map_steps (λ ts. children ts) (λ s x s' y r. in_children r)
-
-  pub steps_in_head : {n : Need} {s s' : Ledger} {t u : Open} (ts : OpenTrees) → Steps (Step R n) s t s' u → Steps (TreesStep R n) s (t next ts) s' (u next ts)
-  steps_in_head ts = map_steps (λ t. t next ts) (λ s x s' y r. in_head r)
-
-  pub steps_in_tail : {n : Need} {s s' : Ledger} {ts us : OpenTrees} (t : Open) → Steps (TreesStep R n) s ts s' us → Steps (TreesStep R n) s (t next ts) s' (t next us)
-  steps_in_tail t = map_steps (λ ts. t next ts) (λ s x s' y r. in_tail r)
-
   one_within : {n : Need} (s s' : Ledger) (o : Pending) {ts us : OpenTrees} → TreesStep R n s ts s' us → FieldStep R n (ledger (whole_in s) o) (list (pending_in s) ts) (ledger (whole_in s') o) (list (pending_in s') us)
   one_within (ledger w p) (ledger w' q) o r = within r
 

@@ -63,10 +63,6 @@ pub no_fields-bare : (fs : Fields) → has_no_fields (bare_fields fs) ≡ has_no
 no_fields-bare done = refl
 no_fields-bare (f then fs) = refl
 
-plain_template-bare : (fs : Fields) → is_plain_template (bare_fields fs) ≡ is_plain_template fs
-plain_template-bare (many (node TemplateElement l done before empty) then (many empty then done)) = refl
-plain_template-bare _ = refl
-
 pub literal_key-bare : (t : Tree) → is_literal_key (bare t) ≡ is_literal_key t
 literal_key-bare (node NullLiteral l fs) = no_fields-bare fs
 literal_key-bare (node BooleanLiteral l fs) = no_fields-bare fs

@@ -219,11 +219,6 @@ counts-stored c e = record { declares = λ v. at v; scopes = λ s. omega arith }
     at true = nil-right (declared true reads e)
     at false = nil-right (declared false reads e)
 
-alone-fields : (a c : Bool) → (a && c) ≡ true → (a ≡ true) × (c ≡ true)
-alone-fields true true e = (refl, refl)
-alone-fields true false e = absurd (cc e)
-alone-fields false c e = absurd (cc e)
-
 pub counts-bare : (r : Role) (t : Tree) → is_alone t ≡ true → Counts r r t (without_parens t)
 counts-bare r (node ParenthesizedExpression l (one t then done)) e = record { declares = λ v. (counts-bare r t e).declares v ∙ at v; scopes = λ s. let h = (counts-bare r t e).scopes s in omega arith }
   where

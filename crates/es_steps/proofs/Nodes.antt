@@ -246,14 +246,6 @@ var-inside FunctionBody i e = refl
 var-inside StaticBlock i e = refl
 var-inside _ i e = absurd (cc e)
 
-not-out : (b : Bool) → not b ≡ true → b ≡ false
-not-out true e = absurd (cc e)
-not-out false e = refl
-
-not-in : (b : Bool) → not b ≡ false → b ≡ true
-not-in true e = refl
-not-in false e = absurd (cc e)
-
 still-lexed : (c : Change) (v out : Bool) → closing c v out ≡ lexed → c ≡ lexed
 still-lexed above v out e = absurd (cc e)
 still-lexed below true out e = absurd (cc e)

@@ -21,9 +21,6 @@ at-most a b m e d = omega arith
 at-most-after : (a b m : ℕ) → b ≤ m → a ≡ 0 → a + b ≤ m
 at-most-after a b m e d = omega arith
 
-limit-lemma : (c : Change) (n : Known) (s a b : ℕ) → a ≤ limit c n s → b ≡ 0 → a + b ≤ limit c n s
-limit-lemma c n s a b e d = omega arith
-
 sees-first : (c : Change) (n : Known) (qs : ℕ → Place) → SeesIn c n zero qs → SeesIf c n (qs zero)
 sees-first above n qs v = v zero
 sees-first below n qs v = v zero

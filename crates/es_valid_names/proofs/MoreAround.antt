@@ -50,9 +50,6 @@ pub record Allows (c d : Around) : Type 0 where
   pub privates : (x : Text) → c.privates x ≡ true → d.privates x ≡ true
   pub top : (x : Text) → c.top x ≡ true → d.top x ≡ true
 
-pub allows-self : (c : Around) → Allows c c
-allows-self c = record { used = λ x e. e; privates = λ x e. e; top = λ x e. e }
-
 either-more : (a b c d : Bool) → (a ≡ true → c ≡ true) → (b ≡ true → d ≡ true) → (a || b) ≡ true → (c || d) ≡ true
 either-more true b c d f g e = λ i. f refl i || d
 either-more false b c d f g e = or-last c d (g e)

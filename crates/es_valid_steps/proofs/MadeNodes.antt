@@ -111,9 +111,6 @@ module _ (up : List Ancestor) where
   pub free-assignment : (l : Label) (t e : Tree) → FreeTarget up t → Free up e → Free up (node AssignmentExpression l (one t then one e then done))
   free-assignment l t e f g = free-node AssignmentExpression l _ refl refl refl (in-assignment l t e f g)
 
-  pub free-conditional : (l : Label) (a b c : Tree) → Free up a → Free up b → Free up c → Free up (node ConditionalExpression l (one a then one b then one c then done))
-  free-conditional l a b c f g h = free-node ConditionalExpression l _ refl refl refl (in-conditional l a b c f g h)
-
   pub free-object : (l : Label) (ts : Trees) → FreeAll up ts → Free up (node ObjectExpression l (many ts then done))
   free-object l ts f = free-node ObjectExpression l (many ts then done) refl refl refl (λ vp u. (f _ (room-in up vp ObjectExpression l (many ts then done) 0 refl u at_other), tt))
 
