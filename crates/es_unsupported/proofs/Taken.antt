@@ -1,4 +1,4 @@
--- Where nothing is found, no node has a shape of the table, and nothing stands in the way of arrows; and back.
+-- Where nothing is found, no node has a shape of the table, and nothing stands in the way of arrows.
 use Rattle.std.proofs.Common.{◌≡◌, ℕ, zero, suc, ◌+◌, List, [], ◌∷◌, ◌++◌, Option, Some, None, refl, ap}
 use Rattle.std.specs.Option.{option_or}
 use Rattle.es_tree.specs.Tree.{Tree, node, Fields, done, ◌then◌, Field, missing, one, many, statements, Trees, empty, ◌before◌}
@@ -114,45 +114,12 @@ module _ (o : EnvOptions) (ds : List Declared) where
         let y = first_of_trees o ds p q m ts in
         (none-in-way p q n t (left_none x y h), none-in-way-among p q m ts (right_none x y h))
 
-  -- AND BACK
-
   pub each-none : (vs ws : List Visit) → first_among o ds (vs ++ ws) ≡ None → (first_among o ds vs ≡ None) × (first_among o ds ws ≡ None)
   each-none [] ws h = (refl, h)
   each-none (v ∷ vs) ws h =
       let here = found_at v.label.id (shape_at o ds v.place.around v.kind v.label v.fields) in
       let rest = each-none vs ws (right_none here (first_among o ds (vs ++ ws)) h) in
       (neither here (first_among o ds vs) (left_none here (first_among o ds (vs ++ ws)) h) rest.0, rest.1)
-
-  mutual
-    none-of-both : (p : Place) (q : ArrowPlace) (n : ℕ) (t : Tree) → first_among o ds (visits p n t) ≡ None → NoneInWay p q n t → first_of o ds p q n t ≡ None
-    none-of-both p q n (node k l fs) h g =
-        let a = shape_at o ds p.around k l fs in
-        let b = arrow_shape o q (refers_by p.role) k l fs in
-        let qs : ℕ → Field → ArrowPlace = arrow_place_in o (binds_arguments ds (own_scope n k fs) k) q k l fs in
-        let m = n + own_scope_count k fs in
-        let ps = place_in p n k l fs in
-        let rest = first_among o ds (visits_in_fields ps m fs) in
-        neither (found_at l.id (option_or a b)) (first_of_fields o ds ps qs m fs) (found_none l.id (option_or a b) (neither a b (none_found l.id a (left_none (found_at l.id a) rest h)) g.0)) (none-of-both-in ps qs m fs (right_none (found_at l.id a) rest h) g.1)
-
-    none-of-both-in : (ps : ℕ → Place) (qs : ℕ → Field → ArrowPlace) (n : ℕ) (fs : Fields) → first_among o ds (visits_in_fields ps n fs) ≡ None → NoneInWayOfFields ps qs n fs → first_of_fields o ds ps qs n fs ≡ None
-    none-of-both-in ps qs n done h g = refl
-    none-of-both-in ps qs n (f then fs) h g =
-        let m = n + scope_count_in_field f in
-        let parts = each-none (visits_in_field (ps zero) n f) (visits_in_fields (λ i. ps (suc i)) m fs) h in
-        neither (first_of_field o ds (ps zero) (qs zero f) n f) (first_of_fields o ds (λ i. ps (suc i)) (λ i. qs (suc i)) m fs) (none-of-both-by (ps zero) (qs zero f) n f parts.0 g.0) (none-of-both-in (λ i. ps (suc i)) (λ i. qs (suc i)) m fs parts.1 g.1)
-
-    none-of-both-by : (p : Place) (q : ArrowPlace) (n : ℕ) (f : Field) → first_among o ds (visits_in_field p n f) ≡ None → NoneInWayOfField p q n f → first_of_field o ds p q n f ≡ None
-    none-of-both-by p q n missing h g = refl
-    none-of-both-by p q n (one t) h g = none-of-both p q n t h g
-    none-of-both-by p q n (many ts) h g = none-of-both-among p q n ts h g
-    none-of-both-by p q n (statements ts) h g = none-of-both-among p q n ts h g
-
-    none-of-both-among : (p : Place) (q : ArrowPlace) (n : ℕ) (ts : Trees) → first_among o ds (visits_in_trees p n ts) ≡ None → NoneInWayOfTrees p q n ts → first_of_trees o ds p q n ts ≡ None
-    none-of-both-among p q n empty h g = refl
-    none-of-both-among p q n (t before ts) h g =
-        let m = n + scope_count_in t in
-        let parts = each-none (visits p n t) (visits_in_trees p m ts) h in
-        neither (first_of o ds p q n t) (first_of_trees o ds p q m ts) (none-of-both p q n t parts.0 g.0) (none-of-both-among p q m ts parts.1 g.1)
 
 -- OF PROGRAMS
 
@@ -165,6 +132,3 @@ NoneInWayOf o p = NoneInWay o (symbols_of p) (outermost p) outside 1 p
 
 pub taken-arrows : (o : EnvOptions) (p : Tree) → first_unsupported o p ≡ None → NoneInWayOf o p
 taken-arrows o p = none-in-way o (symbols_of p) (outermost p) outside 1 p
-
-pub taken-by-both : (o : EnvOptions) (p : Tree) → first_among o (symbols_of p) (visits_of p) ≡ None → NoneInWayOf o p → first_unsupported o p ≡ None
-taken-by-both o p = none-of-both o (symbols_of p) (outermost p) outside 1 p

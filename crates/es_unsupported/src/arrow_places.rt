@@ -24,21 +24,21 @@ use es_tree::options::EnvOptions;
 
 /// What is known of a place.
 #[derive(Clone, Copy)]
-pub(crate) struct ArrowPlace {
+pub struct ArrowPlace {
     /// It belongs to an arrow, or to the value of a slot that is wrapped.
-    pub(crate) in_arrow: bool,
+    pub in_arrow: bool,
     /// A pattern there is a parameter, or a part of one.
-    pub(crate) parameter: bool,
+    pub parameter: bool,
     /// A `this` there reaches the list of the statements in which its name would be declared.
-    pub(crate) reaches: bool,
+    pub reaches: bool,
     /// What stands there is a member of a class that extends another.
-    pub(crate) derived_member: bool,
+    pub derived_member: bool,
     /// It is the function of a constructor of such a class.
-    pub(crate) derived_constructor: bool,
+    pub derived_constructor: bool,
     /// A `this` there is that of the body of such a constructor.
-    pub(crate) derived_body: bool,
+    pub derived_body: bool,
     /// A scope inside the innermost arrow binds `arguments`.
-    pub(crate) own_arguments: bool,
+    pub own_arguments: bool,
 }
 
 impl ArrowPlace {

@@ -1,7 +1,7 @@
 //! The shapes that a run doesn't take, in programs of every kind.
 #![tactic(auto)]
 
-mod arrow_places;
+pub mod arrow_places;
 mod arrow_shapes;
 mod edges;
 pub mod finding;

@@ -27,7 +27,7 @@ use Rattle.es_unsupported.specs.ArrowShapes.{arrow_place_in, arrow_shape, binds_
 use Rattle.es_unsupported.specs.FirstUnsupported.{first_of, first_of_field, first_of_fields, first_of_trees, first_unsupported, found_at}
 use Rattle.es_unsupported.specs.Shapes.{shape_at}
 use Rattle.lower_driver.specs.Copies.{IsCopy}
-use Rattle.lower_driver.proofs.QuietArrows.{ArrowPlace}
+use Rattle.es_unsupported.specs.declared.arrow_places.ArrowPlace.{ArrowPlace}
 
 module _ (o c : EnvOptions) (copy : IsCopy o c) where
   pub copied-fault : first_fault c ≡ first_fault o

@@ -17,16 +17,10 @@ use Rattle.es_semantic.specs.SymbolsOf.{Declared}
 use Rattle.es_steps.specs.ThisPlaces.{keeps_this}
 use Rattle.es_valid_steps.specs.ArrowNodes.{is_arrow_accessor}
 use Rattle.es_valid_arrows.specs.ArrowPlaces.{arrow_in, is_wrapped_slot}
-use Rattle.es_unsupported.specs.ArrowShapes.{arrow_place_in, arrow_shape, binds_arguments, inner_shape, outside, refers_by}
+use Rattle.es_unsupported.specs.ArrowShapes.{arrow_place_in, arrow_shape, binds_arguments, inner_shape, refers_by}
+use Rattle.es_unsupported.specs.declared.arrow_places.ArrowPlace.{ArrowPlace}
 use Rattle.es_unsupported.specs.FirstUnsupported.{first_of, first_of_field, first_of_fields, first_of_trees, found_at}
 use Rattle.es_unsupported.specs.Shapes.{shape_at}
-
-abbrev TypeOf : {A : Type 0} → A → Type 0
-TypeOf {A = A} x = A
-
--- what is known of a place, as it is known of a program
-abbrev pub ArrowPlace : Type 0
-ArrowPlace = TypeOf outside
 
 pub none-then : (here later : Option (UnsupportedKind × ℕ)) → here ≡ None → later ≡ None → option_or here later ≡ None
 none-then here later h g = rw (h, g) refl

@@ -15,7 +15,7 @@ use Rattle.es_unsupported.specs.ArrowShapes.{arrow_place_in, arrow_shape, binds_
 use Rattle.es_unsupported.specs.FirstUnsupported.{first_of, first_of_field, first_of_fields, first_of_trees, first_unsupported, found_at}
 use Rattle.es_unsupported.specs.Shapes.{has_chain_tag, is_helper_bound, is_math_bound, is_spread_literal, is_tag_chain, is_unbuilt, shape_at}
 use Rattle.es_statement_steps.specs.Laws.{TagsAreNoChains, no_chain_tag}
-use Rattle.lower_driver.proofs.QuietArrows.{ArrowPlace}
+use Rattle.es_unsupported.specs.declared.arrow_places.ArrowPlace.{ArrowPlace}
 
 -- the last row doesn't hold where none does
 last-row : (z a b c d : Bool) →
