@@ -1,4 +1,5 @@
-//! One run: a program is read, checked, visited once by the lowerings that its options ask for, and written.
+//! One run: a program is read, checked, visited once by the lowerings that its options ask for, walked for its arrows,
+//! and written.
 ghost use Rattle.std.specs.Prelude.{◌≡◌, ◌<◌, ◌∷◌, ◌^◌, [], IfErr, IfOk, None, false, map, string_bytes, true};
 ghost use Rattle.serde_json.specs.View.{view};
 ghost use Rattle.es_tree.specs.Constructs.{has_enabled_construct};
@@ -65,9 +66,9 @@ pub struct Lowered {
 
 /// Lowers the program that the value is the form of, as the options ask: its logical assignments, `??`,
 /// optional chains, catch clauses without a parameter, exports of namespaces, spreads in object literals,
-/// exponentiations and arrow functions, in programs of every kind. A program in which no construct stands that they ask to lower comes back as it is. Where they ask
-/// for warnings, of BigInt literals (ECMA-262, 12.9.3) or of strings that name imports and exports (16.2), it
-/// answers one for each of the source.
+/// exponentiations and arrow functions, in programs of every kind. A program in which no construct stands that they ask
+/// to lower comes back as it is. Where they ask for warnings, of BigInt literals (ECMA-262, 12.9.3) or of strings that
+/// name imports and exports (16.2), it answers one for each of the source.
 ///
 /// Fails for the first of these causes that holds: `Option` where the options ask for what isn't done; `TooLarge`,
 /// `TooDeep` and `Shape` as `read_program` has them; `Invalid` as `check_static` has it; `Unsupported` at the first node
