@@ -1,13 +1,15 @@
 //! Runs worked cases through the tool, over ends in memory, and tells each that differs.
 //!
 //! Its words are files of cases, read from the folder that it runs in. The cases of the files after the word
-//! `--differing` are wrong on purpose: each says the line that is to tell so. The program fails where a case differs, or
-//! a wrong one isn't told as it says, where a file holds no cases, and where no file is named.
+//! `--differing` are wrong on purpose: each says the line that is to tell so. Those of the files after `--by-pairs` are
+//! programs alone, which are lowered by each flag and by each two. The program fails where a case differs, or a wrong one
+//! isn't told as it says, where a file holds no cases, and where no file is named.
 #![tactic(auto)]
 
 mod case;
 mod comparing;
 mod expected;
+mod flag_pairs;
 mod running;
 
 use case::{CaseFile, read_cases};
@@ -49,6 +51,7 @@ fn run_words(rt: &(impl Env + Files + Print + AllocGlobal)) -> io::Result<Counts
     for word in &words {
         match word.as_str() {
             "--differing" => kind = Kind::Wrong,
+            "--by-pairs" => kind = Kind::ByPairs,
             path => run_file(rt, path, kind, &mut counts)?,
         }
     }

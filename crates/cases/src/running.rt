@@ -2,25 +2,27 @@
 use crate::case::Case;
 use crate::comparing::Differences;
 use crate::expected::{CaseError, canonical_text, expected_of};
+use crate::flag_pairs::differences_by_pairs;
 use lower_command::mem_sink::MemSink;
 use lower_command::mem_source::MemSource;
 use lower_command::run::run_tool;
 use serde_json::Value;
 use std::alloc::{AllocError, Global};
 
-/// Whether a case is right, or wrong on purpose.
+/// Whether a case is right, or wrong on purpose, or a program alone, for each flag and each two.
 #[derive(Clone, Copy, PartialEq, Eq)]
 pub enum Kind {
     Right,
     Wrong,
+    ByPairs,
 }
 
 /// What a run left.
 #[derive(Drop)]
-struct Outcome {
-    status: u8,
-    output: MemSink,
-    notes: MemSink,
+pub struct Outcome {
+    pub status: u8,
+    pub output: MemSink,
+    pub notes: MemSink,
 }
 
 /// The most bytes that a read or a write moves at once, so that names and numbers are cut in two.
@@ -37,11 +39,11 @@ pub fn complaint(
     case: &Case,
     kind: Kind,
 ) -> Result<Option<String>, AllocError> {
-    let line = difference_line(alloc, file, case)?;
+    let line = difference_line(alloc, file, case, kind)?;
     let name = case.name.as_str();
     match (kind, &case.differs) {
-        (Kind::Right, None) => Ok(line),
-        (Kind::Right, Some(_)) => {
+        (Kind::Right | Kind::ByPairs, None) => Ok(line),
+        (Kind::Right | Kind::ByPairs, Some(_)) => {
             let line = format!(in alloc;
                 "{file}: {name}: is wrong on purpose, and its file isn't"
             )?;
@@ -57,9 +59,18 @@ pub fn complaint(
 }
 
 /// The line that tells how a case of this file differs, if it does.
-fn difference_line(alloc: Global, file: &str, case: &Case) -> Result<Option<String>, AllocError> {
+fn difference_line(
+    alloc: Global,
+    file: &str,
+    case: &Case,
+    kind: Kind,
+) -> Result<Option<String>, AllocError> {
     let name = case.name.as_str();
-    match differences_of(alloc, case) {
+    let found = match kind {
+        Kind::ByPairs => differences_by_pairs(alloc, case),
+        Kind::Right | Kind::Wrong => differences_of(alloc, case),
+    };
+    match found {
         Ok(differences) => match differences.told() {
             Some(told) => Ok(Some(format!(in alloc; "{file}: {name}: {told}")?)),
             None => Ok(None),
@@ -104,8 +115,7 @@ fn compare_runs(
     differences.compare_texts("notes", outcome.notes.bytes(), expected.notes.as_bytes())?;
     differences.compare_texts("output", outcome.output.bytes(), output)?;
     if case.again {
-        let input = MemSource::new(output.to_vec(alloc)?, PIECE, Vec::new(alloc));
-        let outcome = run(alloc, words, input)?;
+        let outcome = run(alloc, words, source_of_bytes(alloc, output)?)?;
         differences.compare_texts("again", outcome.output.bytes(), output)?;
     }
     Ok(())
@@ -122,12 +132,17 @@ fn input_of(alloc: Global, case: &Case) -> Result<MemSource, AllocError> {
 }
 
 /// The bytes of a tree as an input.
-fn source_of(alloc: Global, tree: &Value) -> Result<MemSource, AllocError> {
+pub fn source_of(alloc: Global, tree: &Value) -> Result<MemSource, AllocError> {
     Ok(MemSource::new(tree.to_vec(alloc)?, PIECE, Vec::new(alloc)))
 }
 
+/// These bytes as an input.
+pub fn source_of_bytes(alloc: Global, bytes: &[u8]) -> Result<MemSource, AllocError> {
+    Ok(MemSource::new(bytes.to_vec(alloc)?, PIECE, Vec::new(alloc)))
+}
+
 /// Runs the tool on these words and this input.
-fn run(alloc: Global, words: &[String], mut input: MemSource) -> Result<Outcome, AllocError> {
+pub fn run(alloc: Global, words: &[String], mut input: MemSource) -> Result<Outcome, AllocError> {
     let mut output = MemSink::new(alloc, ROOM, PIECE, Vec::new(alloc))?;
     let mut notes = MemSink::new(alloc, ROOM, PIECE, Vec::new(alloc))?;
     let status = run_tool(alloc, words, &mut input, &mut output, &mut notes);
@@ -152,6 +167,6 @@ fn static_rules(alloc: Global, tree: &Value) -> Result<String, CaseError> {
 }
 
 /// The tree that the case has as its input.
-fn input_tree(case: &Case) -> Result<&Value, CaseError> {
+pub fn input_tree(case: &Case) -> Result<&Value, CaseError> {
     case.input.as_ref().ok_or(CaseError::NoInput)
 }
