@@ -130,7 +130,7 @@ pub generated-taken : (o : EnvOptions) (n : ℕ) → first_unsupported o (genera
 generated-taken o n =
     let p = generated n in
     let none = none-of o [] is_asked (no_shape o)
-        (λ on k l fs g. let h = or_first (is_asked k l fs) (any_in_fields is_asked fs) g in (no_accessor k l fs h, no_arrow k l fs h))
-        (λ k l fs parameter i f h g. no_slot o k l fs parameter i f h)
-        (outermost p) outside 1 p (generated-plain n) (λ on. refl) in
+    (λ on k l fs g. let h = or_first (is_asked k l fs) (any_in_fields is_asked fs) g in (no_accessor k l fs h, no_arrow k l fs h))
+    (λ k l fs parameter i f h g. no_slot o k l fs parameter i f h)
+    (outermost p) outside 1 p (generated-plain n) (λ on. refl) in
     ap (λ (ds : List Declared). first_of o ds (outermost p) outside 1 p) (generated-symbols n) ∙ none
