@@ -67,8 +67,8 @@ function addTree(file) {
     file.tree = canonicalText(textToTree(file.text, { module: file.isModule }));
     return true;
   } catch (error) {
-    if (error instanceof NoTree) passOver(`no form in the tree: ${error.message.replace(/^\d+:\d+: /, '')}`);
-    else if (error instanceof NotParsed) passOver(`not parsed: ${error.message.replace(/^\d+:\d+: /, '')}`);
+    if (error instanceof NoTree) passOver(error.message.replace(/^\d+:\d+: \w+: /, ''));
+    else if (error instanceof NotParsed) passOver(`acorn, which makes the tree: ${error.message.replace(/^\d+:\d+: /, '')}`);
     else fails(file, String(error.stack));
     return false;
   }

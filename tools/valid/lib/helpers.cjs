@@ -1,0 +1,16 @@
+// The helper that lowered spreads call, as its name promises: `babelHelpers.objectSpread2`.
+'use strict';
+
+globalThis.babelHelpers = { objectSpread2 };
+
+function objectSpread2(target, ...sources) {
+  for (const source of sources) {
+    if (source === null || source === undefined) continue;
+    const from = Object(source);
+    for (const key of Reflect.ownKeys(from)) {
+      if (!Object.prototype.propertyIsEnumerable.call(from, key)) continue;
+      Object.defineProperty(target, key, { value: from[key], configurable: true, enumerable: true, writable: true });
+    }
+  }
+  return target;
+}
