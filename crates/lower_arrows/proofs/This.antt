@@ -1,13 +1,19 @@
 -- A `this` that became the name of its target.
-use Rattle.std.proofs.Common.{◌≡◌, ◌∙◌, ◌≤◌, ℕ, refl, sym, ap, subst, arith}
+use Rattle.std.proofs.Common.{◌≡◌, ◌∙◌, ◌≤◌, ℕ, List, [], refl, sym, ap, subst, arith}
 use Rattle.std.specs.Prelude.{true, false, Option, Some, None, codes, is_some}
 use Rattle.es_tree.specs.Fresh.{text_base}
 use Rattle.es_tree.specs.HasForm.{same_type}
+use Rattle.es_tree.specs.Heads.{Head, head_of, label}
 use Rattle.es_tree.specs.Names.{first_text}
-use Rattle.es_tree.specs.Tree.{Tree, node, Label, Fields, kind_of, label_of, tree_size}
+use Rattle.es_tree.specs.Tree.{Tree, node, Label, Fields, done, ◌then◌, kind_of, label_of, tree_size}
+use Rattle.es_tree.specs.Views.{plain, plain_fields}
 use Rattle.es_tree.specs.Words.{Text}
 use Rattle.es_tree.specs.declared.ast_type.AstType.{AstType}
 use Rattle.es_tree.specs.declared.ast_type.AstType.TheVariants.{Identifier, ThisExpression}
+use Rattle.es_tree.specs.declared.ids.NodeId.{NodeId}
+use Rattle.es_tree.specs.declared.ids.Span.{Span}
+use Rattle.es_tree.specs.declared.kind.Kind.{Kind as NodeKind}
+use Rattle.es_tree.specs.declared.node.Field.{Field as NodeField}
 use Rattle.es_resolution.specs.Declarations.{Bound}
 use Rattle.es_resolution.specs.Seen.{seen, seen_in}
 use Rattle.es_runs.specs.Weights.{weight}
@@ -36,16 +42,28 @@ name-of (node k l fs) b h = by k l fs (h no_bindings)
     by Identifier l fs e = λ i. record { name = first_text (label_of (e i)).texts; symbol = first_mark (label_of (e i)).marks }
     by _ l fs e = absurd (cc e)
 
--- one node
-pub name-size : (x : Tree) (z : Bound) → IsSeenAs x (identifier z) → tree_size x ≡ 1
-name-size x z h = sym (size-seen no_bindings x) ∙ ap tree_size (h no_bindings)
-
 -- a name that was made
 pub name-made : (x : Option Tree) (u : Tree) (old new : TraverseCtx TransformState) (scope : ℕ) (flags : SymbolFlags) → is_some x ≡ false → TakesBoundName (text_base (codes "this")) scope flags old new u → NameMade x (moment_of old) (Some u) (moment_of new)
 name-made (Some t) u old new scope flags e h = absurd (cc e)
 name-made None u old new scope flags e h =
     let same = name-of u h.name h.stands in
     subst (λ (z : Bound). IsNext (whole_at (moment_of old)) (text_base (codes "this")) z × IsSeenAs u (identifier z) × TakesBound z 1 (moment_of old) (moment_of new)) (sym same) (h.next, h.stands, h.takes)
+
+-- A NAME as it is read in the place of another node
+
+name-placed : (k : AstType) (l m : Label) (fs : Fields) (b : Bound) → seen no_bindings (node k l fs) ≡ identifier b → (names : ℕ → Text → Option ℕ) →
+    seen names (node k (record l { id = m.id; start = m.start; stop = m.stop }) done) ≡ placed m (seen names (node k l fs))
+name-placed Identifier l m done b h names = refl
+name-placed Identifier l m (f then fs) b h names = absurd (cc h)
+name-placed _ l m fs b h names = absurd (cc h)
+
+pub name-read : (i j : NodeId) (p q : Span) (k l r : NodeKind) (fs gs : Fields) (xs : List NodeField) (name target : Tree) → plain i p k fs ≡ name → plain j q l gs ≡ target → IsName (Some name) → head_of r ≡ head_of k → xs ≡ [] → (names : ℕ → Text → Option ℕ) →
+    seen names (plain j q r (plain_fields xs)) ≡ placed (label_of target) (seen names name)
+name-read i j p q k l r fs gs xs name target is at named same none names =
+    let b = bound_of name in
+    let told : seen no_bindings (plain i p k fs) ≡ identifier b = ap (seen no_bindings) is ∙ named no_bindings in
+    let read = name-placed (head_of k).kind (label i p (head_of k)) (label j q (head_of l)) fs b told names in
+    ap (λ (ys : List NodeField). seen names (plain j q r (plain_fields ys))) none ∙ ap (λ (h : Head). seen names (node h.kind (label j q h) done)) same ∙ read ∙ (λ x. placed (label_of (at x)) (seen names (is x)))
 
 or-else : Tree → Option Tree → Tree
 or-else z (Some n) = n
@@ -106,8 +124,8 @@ module _ (a b e : Moment) (x y : Option Tree) (name t u : Tree) (known : IsName 
   made-so : NameMade x a (Some name) b
   made-so = subst (λ (o : Option Tree). NameMade x a o b) is made
 
-  pub small-name : tree_size name ≡ 1
-  small-name = name-size name (bound_of name) (stands-alone a b name x known made-so)
+  pub is-name : IsName (Some name)
+  is-name = stands-alone a b name x known made-so
 
   pub target-named : IsName y
   target-named = subst IsName (sym is) (stands-alone a b name x known made-so)

@@ -15,12 +15,11 @@ ghost use Rattle.lower_arrows.specs.Walks.{Paid, Walked};
 use es_scope::context::TraverseCtx;
 use es_scope::flags::SymbolFlags;
 use es_traverse::site::scope_inside;
-use es_tree::ids::{NodeId, ScopeId};
+use es_tree::ids::ScopeId;
 use es_tree::node::Node;
-use lower_temporaries::readings::read_once_more;
 use lower_temporaries::state::TransformState;
 use lower_temporaries::temporaries::new_bound_name;
-use std::alloc::AllocError;
+use std::alloc::{AllocError, Global};
 
 /// The flags of a name that `var` binds.
 const VARIABLE: SymbolFlags = SymbolFlags {
@@ -56,7 +55,7 @@ pub(crate) fn name_this(
 {
     make_name(target, ctx)?;
     if let Some(name) = &target.name {
-        *node = read_in_place(name, node, ctx)?;
+        *node = read_in_place(name, node, ctx.ast.alloc)?;
     }
     Ok(())
 }
@@ -75,27 +74,17 @@ fn make_name(target: &mut Target, ctx: &mut TraverseCtx<TransformState>) -> Resu
     Ok(())
 }
 
-/// A name, once more, as it is read in the place of a node, whose id and place in the source it takes.
-fn read_in_place(
-    name: &Node,
-    node: &Node,
-    ctx: &mut TraverseCtx<TransformState>,
-) -> Result<Node, AllocError>
-    requires { tree_size name.now ≡ 1 }
-    ensures same { OnOk result (moment_of ctx.new ≡ moment_of ctx.old) }
-    ensures made { IfOk result (λ read. (names : ℕ → Text → Option ℕ) → seen names read ≡ placed (label_of node.now) (seen names name.now)) }
+/// A name, once more, as it is read in the place of a node, whose id and place in the source it takes. It has no reference of its own: no
+/// lowering comes after this walk, so the scope table isn't asked again what refers to a name.
+fn read_in_place(name: &Node, node: &Node, alloc: Global) -> Result<Node, AllocError>
+    requires { IsName (Some name.now) }
+    ensures { IfOk result (λ read. (names : ℕ → Text → Option ℕ) → seen names read ≡ placed (label_of node.now) (seen names name.now)) }
 {
-    let next = ctx.ast.next;
-    ctx.ast.next = id_below(node.id);
-    let mut read = read_once_more(name, ctx)?;
-    ctx.ast.next = next;
-    read.span = node.span;
-    Ok(read)
-}
-
-/// An id, which is one that the builder gives: never the last.
-fn id_below(id: NodeId) -> u32
-    ensures { result < 2 ^ 32 - 1 }
-{
-    if id.0 == u32::MAX { 0 } else { id.0 }
+    let kind = name.kind.clone_kind(alloc)?;
+    Ok(Node {
+        id: node.id,
+        span: node.span,
+        kind,
+        fields: Vec::new(alloc),
+    })
 }
