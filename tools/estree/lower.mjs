@@ -7,18 +7,19 @@ import { fileURLToPath } from 'node:url';
 import { canonicalText, nodes, read } from './lib/form.mjs';
 import { isMain, runMain } from './lib/main.mjs';
 import { place } from './lib/parsers.mjs';
-import { textToTree } from './lib/texts.mjs';
+import { splitHashbang, textToTree } from './lib/texts.mjs';
 import { print } from './print.mjs';
 
 const TOOL = fileURLToPath(new URL('../../lower', import.meta.url));
 
-/** What the tool says of a file: its status, the lowered text and the notes. */
+/** What the tool says of a file: its status, the lowered text and the notes. A hashbang line stays in front. */
 export function lower(path, { module, words }) {
-  const text = fs.readFileSync(path, 'utf8');
+  const { hashbang, text } = splitHashbang(fs.readFileSync(path, 'utf8'));
   const tree = textToTree(text, { module: module || path.endsWith('.mjs'), path });
   const { status, stdout, stderr, error } = spawnSync(TOOL, words, { input: canonicalText(tree), encoding: 'utf8', maxBuffer: Infinity });
   if (error && error.code !== 'EPIPE') throw new Error(`the tool ${TOOL} can't be started: ${error.message}`);
-  const lowered = status === 0 && stdout.startsWith('{') ? print(read(JSON.parse(stdout))) : stdout;
+  const isLowered = status === 0 && stdout.startsWith('{');
+  const lowered = isLowered ? (hashbang && `${hashbang}\n`) + print(read(JSON.parse(stdout))) : stdout;
   return { status, lowered, notes: stderr.replace(/.+/g, note => note + placeOf(note, path, text, tree)) };
 }
 

@@ -9,7 +9,7 @@ import vm from 'node:vm';
 import { parseArgs } from 'node:util';
 import { NoTree, canonicalText, read } from '../estree/lib/form.mjs';
 import { NotParsed, hasParser } from '../estree/lib/parsers.mjs';
-import { printedDifference, textToTree } from '../estree/lib/texts.mjs';
+import { printedDifference, splitHashbang, textToTree } from '../estree/lib/texts.mjs';
 import { print } from '../estree/print.mjs';
 import { lowerAll } from './lib/tool.mjs';
 
@@ -46,9 +46,8 @@ function filesBelow(folder) {
 }
 
 function source(folder, file) {
-  const whole = fs.readFileSync(path.join(folder, file), 'utf8');
-  const [hashbang] = whole.match(/^#!.*\n/) ?? [''];
-  return { file, hashbang, text: whole.slice(hashbang.length), isModule: isModule(folder, file) };
+  const { hashbang, text } = splitHashbang(fs.readFileSync(path.join(folder, file), 'utf8'));
+  return { file, hashbang, text, isModule: isModule(folder, file) };
 }
 
 /** As node tells it: by the file's ending, or by the nearest package.json. */
@@ -61,7 +60,7 @@ function isModule(folder, file) {
   }
 }
 
-/** Adds a file's tree; without one it is counted. A line that begins with `#!` is no part of it. */
+/** Adds a file's tree; without one it is counted. A hashbang line is no part of it. */
 function addTree(file) {
   try {
     file.tree = canonicalText(textToTree(file.text, { module: file.isModule }));
@@ -106,7 +105,7 @@ function check(file, { status, stdout }) {
 
 function copy(from, to, lowered) {
   fs.cpSync(from, to, { recursive: true });
-  for (const { file, hashbang, output } of lowered) fs.writeFileSync(path.join(to, file), hashbang + output);
+  for (const { file, hashbang, output } of lowered) fs.writeFileSync(path.join(to, file), (hashbang && `${hashbang}\n`) + output);
 }
 
 function passOver(cause) {

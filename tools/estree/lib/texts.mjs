@@ -5,6 +5,12 @@ import { parse } from './parsers.mjs';
 import { estreeToTree } from '../estree-to-tree.mjs';
 import { treeToEstree } from '../tree-to-estree.mjs';
 
+/** A hashbang line, if the text has one, and the text with a comment in its place, as it has no form in a tree (ECMA-262, 12.5). */
+export function splitHashbang(text) {
+  const [hashbang] = text.match(/^#!.*/) ?? [''];
+  return { hashbang, text: hashbang === '' ? text : `//${text.slice(2)}` };
+}
+
 /** The tree of a text, with every parenthesis as a node. */
 export function textToTree(text, { module, mayBeInvalid, zero, path } = {}) {
   return estreeToTree(parse(text, { module, mayBeInvalid, path }), text, { zero, path });
