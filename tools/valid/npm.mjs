@@ -9,7 +9,7 @@ import path from 'node:path';
 import { fileURLToPath } from 'node:url';
 
 const NPM = path.join(path.dirname(process.execPath), '../lib/node_modules/npm');
-const HELPERS = fileURLToPath(new URL('lib/helpers.cjs', import.meta.url));
+const HELPERS = fileURLToPath(new URL('../estree/babel-helpers.cjs', import.meta.url));
 const FOLDER = fileURLToPath(new URL('folder.mjs', import.meta.url));
 const COMMANDS = [
   '--version', 'help', 'help-search config', 'completion', 'config list --json', 'get', 'root', 'prefix', 'init -y', 'pkg get', 'pkg set description=x',

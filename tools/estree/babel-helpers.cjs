@@ -1,4 +1,5 @@
-// The helper that lowered spreads call, as its name promises: `babelHelpers.objectSpread2`.
+// The helper that lowered spreads call under `--helpers=external`, as its name promises: `babelHelpers.objectSpread2` copies own enumerable properties.
+//   node -r ./tools/estree/babel-helpers.cjs FILE.js
 'use strict';
 
 globalThis.babelHelpers = { objectSpread2 };
