@@ -1,0 +1,63 @@
+-- Tests of patterns with a rest, as the code has them: each of what stands in a node's fields.
+use Rattle.std.specs.Prelude.{◌&&◌, ◌||◌, Bool, false, not, true}
+use Rattle.es_tree.specs.Tree.{Tree, Trees, Fields, done, ◌then◌, one, many}
+use Rattle.es_rest_shapes.specs.RestShapes.{any_child, any_tree, declares_rest, ends_in_rest, is_misplaced, is_name, is_odd_pattern, is_rest_declarator, is_rest_pattern, is_text_key}
+
+-- one child, of which this holds
+abbrev pub on_one : (Tree → Bool) → Fields → Bool
+on_one P (one t then done) = P t
+on_one P _ = false
+
+-- two children
+abbrev pub on_two : (Tree → Tree → Bool) → Fields → Bool
+on_two P (one t then one u then done) = P t u
+on_two P _ = false
+
+-- one list
+abbrev pub on_list : (Trees → Bool) → Fields → Bool
+on_list P (many ts then done) = P ts
+on_list P _ = false
+
+abbrev pub holds_rest_declarator : Fields → Bool
+holds_rest_declarator (many ds then fs) = any_tree is_rest_declarator ds
+holds_rest_declarator _ = false
+
+-- what is declared and its value, one of which isn't taken
+abbrev pub holds_odd_pair : Fields → Bool
+holds_odd_pair fs = on_two (λ p e. is_odd_pattern p || is_misplaced e) fs
+
+abbrev pub is_pair : Fields → Bool
+is_pair fs = on_two (λ p e. true) fs
+
+abbrev pub is_stray_declarator : Fields → Bool
+is_stray_declarator fs = holds_odd_pair fs || (not (is_pair fs) && any_child is_misplaced fs)
+
+abbrev pub holds_pattern_list : Fields → Bool
+holds_pattern_list fs = on_list (any_tree is_rest_pattern) fs
+
+abbrev pub is_list : Fields → Bool
+is_list fs = on_list (λ ts. true) fs
+
+abbrev pub is_stray_declaration : Fields → Bool
+is_stray_declaration fs = holds_pattern_list fs || (not (is_list fs) && any_child is_misplaced fs)
+
+-- what an export may not hold
+abbrev pub is_exported_rest : Tree → Bool
+is_exported_rest t = is_misplaced t || declares_rest t
+
+abbrev pub declares_pattern : Fields → Bool
+declares_pattern (one p then fs) = is_rest_pattern p
+declares_pattern _ = false
+
+abbrev pub are_plain_parts : Fields → Bool
+are_plain_parts fs = on_list ends_in_rest fs
+
+abbrev pub has_text_key : Fields → Bool
+has_text_key fs = on_two (λ k v. is_text_key k) fs
+
+abbrev pub is_one_name : Fields → Bool
+is_one_name fs = on_one is_name fs
+
+abbrev pub has_no_fields : Fields → Bool
+has_no_fields done = true
+has_no_fields _ = false

@@ -1,0 +1,181 @@
+-- Ids and marks mean nothing to patterns with a rest, whether they are declared or stray.
+use Rattle.std.proofs.Common.{◌≡◌, ◌∙◌, refl, sym, ap}
+use Rattle.std.specs.Prelude.{Bool, ◌||◌, ◌&&◌, not}
+use Rattle.es_tree.specs.Bare.{bare, bare_field, bare_fields, bare_label, bare_trees}
+use Rattle.es_tree.specs.Constructs.{any_kind, field_at, has_member, is_object_rest, is_rest}
+use Rattle.es_tree.specs.Names.{has_computed}
+use Rattle.es_tree.specs.Tree.{Tree, node, Label, Fields, done, ◌then◌, Field, missing, one, many, statements, Trees, empty, ◌before◌}
+use Rattle.es_tree.specs.Walks.{any_in_field, any_in_fields, any_in_trees, any_node}
+use Rattle.es_tree.specs.declared.ast_type.AstType.{AstType}
+use Rattle.es_tree.specs.declared.ast_type.AstType.TheVariants.{ExportNamedDeclaration, Identifier, ObjectPattern, ObjectTarget, PatternProperty, RestElement, StringLiteral, VariableDeclaration, VariableDeclarator}
+use Rattle.es_rest_shapes.specs.Laws.{LawBareRests}
+use Rattle.es_rest_shapes.specs.RestShapes.{any_child, any_child_by, any_tree, declares_rest, ends_in_rest, is_misplaced, is_name, is_named_rest, is_odd_pattern, is_plain_pattern, is_plain_property, is_rest_declaration, is_rest_declarator, is_rest_pattern, is_stray_rest, is_text_key}
+
+-- CHILDREN
+
+module _ (p : Tree → Bool) (same : (t : Tree) → p (bare t) ≡ p t) where
+  trees-bare : (ts : Trees) → any_tree p (bare_trees ts) ≡ any_tree p ts
+  trees-bare empty = refl
+  trees-bare (t before ts) = λ i. same t i || trees-bare ts i
+
+  child-bare : (f : Field) → any_child_by p (bare_field f) ≡ any_child_by p f
+  child-bare missing = refl
+  child-bare (one t) = same t
+  child-bare (many ts) = trees-bare ts
+  child-bare (statements ts) = trees-bare ts
+
+  children-bare : (fs : Fields) → any_child p (bare_fields fs) ≡ any_child p fs
+  children-bare done = refl
+  children-bare (f then fs) = λ i. child-bare f i || children-bare fs i
+
+-- PATTERNS
+
+kinds-bare : (ts : Trees) → any_kind is_rest (bare_trees ts) ≡ any_kind is_rest ts
+kinds-bare empty = refl
+kinds-bare (node k l fs before ts) = ap (λ b. is_rest k || b) (kinds-bare ts)
+
+members-bare : (fs : Fields) → has_member is_rest (field_at 0 (bare_fields fs)) ≡ has_member is_rest (field_at 0 fs)
+members-bare done = refl
+members-bare (missing then fs) = refl
+members-bare (one t then fs) = refl
+members-bare (many ts then fs) = kinds-bare ts
+members-bare (statements ts then fs) = refl
+
+rest-bare : (k : AstType) (l : Label) (fs : Fields) → is_object_rest k (bare_label l) (bare_fields fs) ≡ is_object_rest k l fs
+rest-bare ObjectPattern l fs = members-bare fs
+rest-bare ObjectTarget l fs = members-bare fs
+rest-bare _ l fs = refl
+
+pattern-bare : (t : Tree) → is_rest_pattern (bare t) ≡ is_rest_pattern t
+pattern-bare (node k l fs) = rest-bare k l fs
+
+name-bare : (t : Tree) → is_name (bare t) ≡ is_name t
+name-bare (node Identifier l done) = refl
+name-bare (node Identifier l (f then fs)) = refl
+name-bare (node _ l fs) = refl
+
+key-bare : (t : Tree) → is_text_key (bare t) ≡ is_text_key t
+key-bare (node Identifier l done) = refl
+key-bare (node Identifier l (f then fs)) = refl
+key-bare (node StringLiteral l done) = refl
+key-bare (node StringLiteral l (f then fs)) = refl
+key-bare (node _ l fs) = refl
+
+property-bare : (t : Tree) → is_plain_property (bare t) ≡ is_plain_property t
+property-bare (node PatternProperty l (one k then one v then done)) = ap (λ b. not (has_computed PatternProperty l.flags) && b) (key-bare k)
+property-bare (node PatternProperty l (one k then one v then f then fs)) = refl
+property-bare (node PatternProperty l (one k then missing then fs)) = refl
+property-bare (node PatternProperty l (one k then many ts then fs)) = refl
+property-bare (node PatternProperty l (one k then statements ts then fs)) = refl
+property-bare (node PatternProperty l (one k then done)) = refl
+property-bare (node PatternProperty l (missing then fs)) = refl
+property-bare (node PatternProperty l (many ts then fs)) = refl
+property-bare (node PatternProperty l (statements ts then fs)) = refl
+property-bare (node PatternProperty l done) = refl
+property-bare (node _ l fs) = refl
+
+named-bare : (t : Tree) → is_named_rest (bare t) ≡ is_named_rest t
+named-bare (node RestElement l (one t then done)) = name-bare t
+named-bare (node RestElement l (one t then f then fs)) = refl
+named-bare (node RestElement l (missing then fs)) = refl
+named-bare (node RestElement l (many ts then fs)) = refl
+named-bare (node RestElement l (statements ts then fs)) = refl
+named-bare (node RestElement l done) = refl
+named-bare (node _ l fs) = refl
+
+ends-bare : (ts : Trees) → ends_in_rest (bare_trees ts) ≡ ends_in_rest ts
+ends-bare empty = refl
+ends-bare (t before empty) = named-bare t
+ends-bare (t before u before ts) = λ i. property-bare t i && ends-bare (u before ts) i
+
+plain-bare : (t : Tree) → is_plain_pattern (bare t) ≡ is_plain_pattern t
+plain-bare (node ObjectPattern l (many ps then done)) = ends-bare ps
+plain-bare (node ObjectPattern l (many ps then f then fs)) = refl
+plain-bare (node ObjectPattern l (missing then fs)) = refl
+plain-bare (node ObjectPattern l (one t then fs)) = refl
+plain-bare (node ObjectPattern l (statements ts then fs)) = refl
+plain-bare (node ObjectPattern l done) = refl
+plain-bare (node _ l fs) = refl
+
+-- DECLARATIONS
+
+declarator-bare : (t : Tree) → is_rest_declarator (bare t) ≡ is_rest_declarator t
+declarator-bare (node VariableDeclarator l (one p then fs)) = pattern-bare p
+declarator-bare (node VariableDeclarator l (missing then fs)) = refl
+declarator-bare (node VariableDeclarator l (many ts then fs)) = refl
+declarator-bare (node VariableDeclarator l (statements ts then fs)) = refl
+declarator-bare (node VariableDeclarator l done) = refl
+declarator-bare (node _ l fs) = refl
+
+pub declaration-bare : (k : AstType) (l : Label) (fs : Fields) → is_rest_declaration k (bare_label l) (bare_fields fs) ≡ is_rest_declaration k l fs
+declaration-bare VariableDeclaration l (many ds then fs) = trees-bare is_rest_declarator declarator-bare ds
+declaration-bare VariableDeclaration l (missing then fs) = refl
+declaration-bare VariableDeclaration l (one t then fs) = refl
+declaration-bare VariableDeclaration l (statements ts then fs) = refl
+declaration-bare VariableDeclaration l done = refl
+declaration-bare _ l fs = refl
+
+declares-bare : (t : Tree) → declares_rest (bare t) ≡ declares_rest t
+declares-bare (node k l fs) = declaration-bare k l fs
+
+-- THE OTHERS
+
+misplaced-bare : (t : Tree) → is_misplaced (bare t) ≡ is_misplaced t
+misplaced-bare t = λ i. pattern-bare t i || declarator-bare t i
+
+odd-bare : (t : Tree) → is_odd_pattern (bare t) ≡ is_odd_pattern t
+odd-bare t = λ i. (pattern-bare t i && not (plain-bare t i)) || declarator-bare t i
+
+all-bare : (fs : Fields) → any_child is_misplaced (bare_fields fs) ≡ any_child is_misplaced fs
+all-bare fs = children-bare is_misplaced misplaced-bare fs
+
+pub stray-bare : (k : AstType) (l : Label) (fs : Fields) → is_stray_rest k (bare_label l) (bare_fields fs) ≡ is_stray_rest k l fs
+stray-bare VariableDeclarator l (one p then one e then done) = λ i. odd-bare p i || misplaced-bare e i
+stray-bare VariableDeclarator l (one p then one e then f then fs) = all-bare (one p then one e then f then fs)
+stray-bare VariableDeclarator l (one p then missing then fs) = all-bare (one p then missing then fs)
+stray-bare VariableDeclarator l (one p then many ts then fs) = all-bare (one p then many ts then fs)
+stray-bare VariableDeclarator l (one p then statements ts then fs) = all-bare (one p then statements ts then fs)
+stray-bare VariableDeclarator l (one p then done) = all-bare (one p then done)
+stray-bare VariableDeclarator l (missing then fs) = all-bare (missing then fs)
+stray-bare VariableDeclarator l (many ts then fs) = all-bare (many ts then fs)
+stray-bare VariableDeclarator l (statements ts then fs) = all-bare (statements ts then fs)
+stray-bare VariableDeclarator l done = refl
+stray-bare VariableDeclaration l (many ds then done) = trees-bare is_rest_pattern pattern-bare ds
+stray-bare VariableDeclaration l (many ds then f then fs) = all-bare (many ds then f then fs)
+stray-bare VariableDeclaration l (missing then fs) = all-bare (missing then fs)
+stray-bare VariableDeclaration l (one t then fs) = all-bare (one t then fs)
+stray-bare VariableDeclaration l (statements ts then fs) = all-bare (statements ts then fs)
+stray-bare VariableDeclaration l done = refl
+stray-bare ExportNamedDeclaration l fs = children-bare (λ t. is_misplaced t || declares_rest t) (λ t i. misplaced-bare t i || declares-bare t i) fs
+stray-bare _ l fs = all-bare fs
+
+-- EVERY NODE
+
+module _ (T : AstType → Label → Fields → Bool) (own : (k : AstType) (l : Label) (fs : Fields) → T k (bare_label l) (bare_fields fs) ≡ T k l fs) where
+  mutual
+    nodes-bare : (t : Tree) → any_node T (bare t) ≡ any_node T t
+    nodes-bare (node k l fs) = λ i. own k l fs i || nodes-bare-in fs i
+
+    nodes-bare-in : (fs : Fields) → any_in_fields T (bare_fields fs) ≡ any_in_fields T fs
+    nodes-bare-in done = refl
+    nodes-bare-in (f then fs) = λ i. nodes-bare-by f i || nodes-bare-in fs i
+
+    nodes-bare-by : (f : Field) → any_in_field T (bare_field f) ≡ any_in_field T f
+    nodes-bare-by missing = refl
+    nodes-bare-by (one t) = nodes-bare t
+    nodes-bare-by (many ts) = nodes-bare-all ts
+    nodes-bare-by (statements ts) = nodes-bare-all ts
+
+    nodes-bare-all : (ts : Trees) → any_in_trees T (bare_trees ts) ≡ any_in_trees T ts
+    nodes-bare-all empty = refl
+    nodes-bare-all (t before ts) = λ i. nodes-bare t i || nodes-bare-all ts i
+
+  bare-alike : (t u : Tree) → bare t ≡ bare u → any_node T u ≡ any_node T t
+  bare-alike t u e = sym (nodes-bare u) ∙ ap (λ (x : Tree). any_node T x) (sym e) ∙ nodes-bare t
+
+-- a program as its bare tree has it
+pub strays-bare : (t : Tree) → any_node is_stray_rest (bare t) ≡ any_node is_stray_rest t
+strays-bare t = nodes-bare is_stray_rest stray-bare t
+
+pub law_bare_rests_proof : LawBareRests
+law_bare_rests_proof t u e = record { strays = bare-alike is_stray_rest stray-bare t u e; declared = bare-alike is_rest_declaration declaration-bare t u e }

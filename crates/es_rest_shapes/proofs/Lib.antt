@@ -1,0 +1,4 @@
+pub mod Children
+pub mod NoneLeft
+pub mod BareRests
+pub mod Quiet

@@ -1,0 +1,3 @@
+pub mod RestShapes
+pub mod HelperNames
+pub mod Laws

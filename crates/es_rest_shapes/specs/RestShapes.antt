@@ -1,0 +1,93 @@
+-- Which object patterns with a rest are lowered (ECMA-262, 14.3.3): those that a declarator with a value declares, and that no module exports,
+-- with a name or a text as the key of each property: `const { a, "b": c = 1, ...d } = e`. What stands in the properties holds none itself.
+use Rattle.std.specs.Prelude.{◌&&◌, ◌||◌, not, Bool, true, false}
+use Rattle.es_tree.specs.Constructs.{is_object_rest}
+use Rattle.es_tree.specs.Names.{has_computed}
+use Rattle.es_tree.specs.Tree.{Tree, node, Label, Fields, done, ◌then◌, Field, missing, one, many, statements, Trees, empty, ◌before◌}
+use Rattle.es_tree.specs.declared.ast_type.AstType.{AstType}
+use Rattle.es_tree.specs.declared.ast_type.AstType.TheVariants.{ExportNamedDeclaration, Identifier, ObjectPattern, PatternProperty, RestElement, StringLiteral, VariableDeclaration, VariableDeclarator}
+
+-- PATTERNS
+
+-- an object pattern with a rest, of bindings or of assignment targets
+abbrev pub is_rest_pattern : Tree → Bool
+is_rest_pattern (node k l fs) = is_object_rest k l fs
+
+abbrev pub is_name : Tree → Bool
+is_name (node Identifier l done) = true
+is_name _ = false
+
+-- a name or a text, as a key
+abbrev pub is_text_key : Tree → Bool
+is_text_key (node Identifier l done) = true
+is_text_key (node StringLiteral l done) = true
+is_text_key _ = false
+
+abbrev pub is_plain_property : Tree → Bool
+is_plain_property (node PatternProperty l (one k then one v then done)) = not (has_computed PatternProperty l.flags) && is_text_key k
+is_plain_property _ = false
+
+abbrev pub are_plain : Trees → Bool
+are_plain empty = true
+are_plain (t before ts) = is_plain_property t && are_plain ts
+
+abbrev pub is_named_rest : Tree → Bool
+is_named_rest (node RestElement l (one t then done)) = is_name t
+is_named_rest _ = false
+
+-- such properties, and behind them a rest that is a name
+abbrev pub ends_in_rest : Trees → Bool
+ends_in_rest empty = false
+ends_in_rest (t before empty) = is_named_rest t
+ends_in_rest (t before ts) = is_plain_property t && ends_in_rest ts
+
+abbrev pub is_plain_pattern : Tree → Bool
+is_plain_pattern (node ObjectPattern l (many ps then done)) = ends_in_rest ps
+is_plain_pattern _ = false
+
+-- DECLARATIONS
+
+-- whether one of these nodes passes a test
+abbrev pub any_tree : (Tree → Bool) → Trees → Bool
+any_tree p empty = false
+any_tree p (t before ts) = p t || any_tree p ts
+
+-- whether one that stands in these fields itself does
+abbrev pub any_child_by : (Tree → Bool) → Field → Bool
+any_child_by p missing = false
+any_child_by p (one t) = p t
+any_child_by p (many ts) = any_tree p ts
+any_child_by p (statements ts) = any_tree p ts
+
+abbrev pub any_child : (Tree → Bool) → Fields → Bool
+any_child p done = false
+any_child p (f then fs) = any_child_by p f || any_child p fs
+
+-- a declarator of a pattern with a rest
+abbrev pub is_rest_declarator : Tree → Bool
+is_rest_declarator (node VariableDeclarator l (one p then fs)) = is_rest_pattern p
+is_rest_declarator _ = false
+
+-- a declaration with such a declarator
+abbrev pub is_rest_declaration : AstType → Label → Fields → Bool
+is_rest_declaration VariableDeclaration l (many ds then fs) = any_tree is_rest_declarator ds
+is_rest_declaration _ l fs = false
+
+abbrev pub declares_rest : Tree → Bool
+declares_rest (node k l fs) = is_rest_declaration k l fs
+
+-- THE OTHERS: a node that holds, in one of its fields, a pattern with a rest that isn't lowered there
+
+-- a pattern where no declarator declares it, or a declarator outside a declaration
+abbrev pub is_misplaced : Tree → Bool
+is_misplaced t = is_rest_pattern t || is_rest_declarator t
+
+-- what a declarator with a value declares
+abbrev pub is_odd_pattern : Tree → Bool
+is_odd_pattern p = (is_rest_pattern p && not (is_plain_pattern p)) || is_rest_declarator p
+
+abbrev pub is_stray_rest : AstType → Label → Fields → Bool
+is_stray_rest VariableDeclarator l (one p then one e then done) = is_odd_pattern p || is_misplaced e
+is_stray_rest VariableDeclaration l (many ds then done) = any_tree is_rest_pattern ds
+is_stray_rest ExportNamedDeclaration l fs = any_child (λ t. is_misplaced t || declares_rest t) fs
+is_stray_rest k l fs = any_child is_misplaced fs
