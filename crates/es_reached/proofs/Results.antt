@@ -47,35 +47,35 @@ use Rattle.es_reached.proofs.StepsByName.{reached-core}
 
 -- THE SOURCE
 
-form-same : (t u : Tree) → bare t ≡ bare u → has_form s-Program t ≡ true → has_form s-Program u ≡ true
+pub form-same : (t u : Tree) → bare t ≡ bare u → has_form s-Program t ≡ true → has_form s-Program u ≡ true
 form-same t u same h = sym (has_form-bare s-Program u) ∙ ap (has_form s-Program) (sym same) ∙ has_form-bare s-Program t ∙ h
 
-program-kind : (t : Tree) → has_form s-Program t ≡ true → kind_of t ≡ Program
+pub program-kind : (t : Tree) → has_form s-Program t ≡ true → kind_of t ≡ Program
 program-kind (node k l fs) h = (form-placed (node k l fs) h).0
 
-source-form : (p : Tree) → has_form s-Program p ≡ true → has_form s-Program (source p) ≡ true
+pub source-form : (p : Tree) → has_form s-Program p ≡ true → has_form s-Program (source p) ≡ true
 source-form p h = form-same p (source p) (sym (law_bare_source_proof p)) h
 
-source-well-bound : (p : Tree) → has_form s-Program p ≡ true → breaks p ≡ [] → IsWellBound (first_whole p) (source p)
+pub source-well-bound : (p : Tree) → has_form s-Program p ≡ true → breaks p ≡ [] → IsWellBound (first_whole p) (source p)
 source-well-bound p form right = law_start_proof p (first_whole p) form right (λ x e. rw e refl) (omega arith) (λ s. refl)
 
 -- no static rule asks for ids or marks
-rules-bare : (t u : Tree) → bare t ≡ bare u → breaks t ≡ [] → breaks u ≡ []
+pub rules-bare : (t u : Tree) → bare t ≡ bare u → breaks t ≡ [] → breaks u ≡ []
 rules-bare t u same h = law_together_proof u (law_bare_places_proof t u same (law_among_proof t h)) (law_bare_declared_proof t u same (law_declared_among_proof t h))
 
 -- what two others are alike to is alike itself
-outside-then : {p q r : Tree} → SameOutside p q → SameOutside q r → SameOutside p r
+pub outside-then : {p q r : Tree} → SameOutside p q → SameOutside q r → SameOutside p r
 outside-then a b = record { requests = b.requests ∙ a.requests; stars = b.stars ∙ a.stars; exports = b.exports ∙ a.exports }
 
 -- EVERY PROGRAM
 
 -- what is reached has form, breaks no static rule, and is alike to other modules
-record IsRight (t r : Tree) : Type 0 where
-  form : has_form s-Program r ≡ true
-  kept : breaks r ≡ []
-  outside : SameOutside t r
+pub record IsRight (t r : Tree) : Type 0 where
+  pub form : has_form s-Program r ≡ true
+  pub kept : breaks r ≡ []
+  pub outside : SameOutside t r
 
-right-reached : (o : EnvOptions) (t r : Tree) (w w' : Whole) → has_form s-Program t ≡ true → breaks t ≡ [] → (is_some o.es2015.arrow_function ≡ true → fits_arrows o t ≡ true) → IsWellBound w t → Steps (Step (built_rules o) the_program) (nothing_beside w) (opened t) (nothing_beside w') (opened r) → IsRight t r
+pub right-reached : (o : EnvOptions) (t r : Tree) (w w' : Whole) → has_form s-Program t ≡ true → breaks t ≡ [] → (is_some o.es2015.arrow_function ≡ true → fits_arrows o t ≡ true) → IsWellBound w t → Steps (Step (built_rules o) the_program) (nothing_beside w) (opened t) (nothing_beside w') (opened r) → IsRight t r
 right-reached o t r w w' form right fits bound steps = at (is_some o.es2015.arrow_function) refl
   where
     at : (b : Bool) → is_some o.es2015.arrow_function ≡ b → IsRight t r

@@ -1,12 +1,12 @@
 -- What the tests of constructs ask of a node: nothing that a name in the place of a `this`, or a function in that of an arrow, changes.
 use Rattle.std.proofs.Common.{◌≡◌, ℕ, refl, sym, ◌∙◌}
 use Rattle.std.specs.Prelude.{Bool, true, false, ◌&&◌, ◌||◌, bytes_eq, codes, is_some, not}
-use Rattle.es_tree.specs.Constructs.{field_at, has_member, is_big_int, is_chain, is_child, is_enabled_statement, is_exponentiation, is_logical_assignment, is_namespace_export, is_nullish_coalescing, is_object_rest, is_object_spread, is_optional_catch, is_private_member, is_private_name, is_private_target, is_rest, is_spread, is_using, stands}
+use Rattle.es_tree.specs.Constructs.{field_at, has_member, is_big_int, is_chain, is_child, is_enabled_statement, is_exponentiation, is_logical_assignment, is_namespace_export, is_nullish_coalescing, is_object_spread, is_optional_catch, is_private_member, is_private_name, is_private_target, is_spread, is_using, stands}
 use Rattle.es_tree.specs.Names.{first_text}
 use Rattle.es_tree.specs.Parens.{without_parens}
 use Rattle.es_tree.specs.Tree.{Tree, node, Label, Fields, done, ◌then◌, Field, missing, one, many, statements, kind_of, fields_of}
 use Rattle.es_tree.specs.declared.ast_type.AstType.{AstType}
-use Rattle.es_tree.specs.declared.ast_type.AstType.TheVariants.{ArrowFunctionExpression, AssignmentExpression, BinaryExpression, CatchClause, ChainExpression, ExportAllDeclaration, FunctionExpression, Identifier, LogicalExpression, MemberExpression, ObjectExpression, ObjectPattern, ObjectTarget, ParenthesizedExpression, ThisExpression, VariableDeclaration}
+use Rattle.es_tree.specs.declared.ast_type.AstType.TheVariants.{ArrowFunctionExpression, AssignmentExpression, BinaryExpression, CatchClause, ChainExpression, ExportAllDeclaration, FunctionExpression, Identifier, LogicalExpression, MemberExpression, ObjectExpression, ParenthesizedExpression, ThisExpression, VariableDeclaration}
 use Rattle.es_tree.specs.declared.options.EnvOptions.{EnvOptions}
 use Rattle.es_reached.specs.Walks.{is_other_construct, is_other_expression}
 use Rattle.es_reached.proofs.FreeTrees.{PassesNoMade}
@@ -26,9 +26,6 @@ blind-private = record { name = refl; function = refl }
 
 blind-spread : IsBlind is_spread
 blind-spread = record { name = refl; function = refl }
-
-blind-rest : IsBlind is_rest
-blind-rest = record { name = refl; function = refl }
 
 -- ALIKE
 
@@ -153,19 +150,6 @@ spreads-steady = record { made = made; same = same }
     same ObjectExpression l fs gs a = (a 0).members is_spread blind-spread
     same _ l fs gs a = refl
 
-rests-steady : IsSteady is_object_rest
-rests-steady = record { made = made; same = same }
-  where
-    made : PassesNoMade is_object_rest
-    made ObjectPattern l fs h = absurd (cc h)
-    made ObjectTarget l fs h = absurd (cc h)
-    made _ l fs h = refl
-
-    same : (k : AstType) (l : Label) (fs gs : Fields) → AlikeIn fs gs → is_object_rest k l fs ≡ is_object_rest k l gs
-    same ObjectPattern l fs gs a = (a 0).members is_rest blind-rest
-    same ObjectTarget l fs gs a = (a 0).members is_rest blind-rest
-    same _ l fs gs a = refl
-
 catches-steady : IsSteady is_optional_catch
 catches-steady = record { made = made; same = same }
   where
@@ -213,7 +197,7 @@ expressions-steady o =
     (either-steady _ _ (where-steady o.es2016.exponentiation_operator is_exponentiation powers-steady) (where-steady o.es2020.nullish_coalescing_operator is_nullish_coalescing coalescing-steady))
     (where-steady o.es2020.optional_chaining is_chain chains-steady))
     (where-steady o.es2021.logical_assignment_operators is_logical_assignment assignments-steady))
-    (where-steady (is_some o.es2018.object_rest_spread) (λ k l fs. is_object_spread k l fs || is_object_rest k l fs) (either-steady is_object_spread is_object_rest spreads-steady rests-steady))
+    (where-steady (is_some o.es2018.object_rest_spread) is_object_spread spreads-steady)
 
 statements-steady : (o : EnvOptions) → IsSteady (is_enabled_statement o)
 statements-steady o =

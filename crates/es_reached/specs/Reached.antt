@@ -28,13 +28,13 @@ use Rattle.es_valid_arrows.specs.Laws.{with_arrows}
 abbrev pub built_rules : EnvOptions → Site → Ledger → Spot → Ledger → Spot → Type 0
 built_rules = with_arrows
 
--- What a program p becomes under these options: q, with these made names.
-pub record IsResult (o : EnvOptions) (p q : Tree) (names : List Text) : Type 0 where
+-- What a program p becomes by these rules: q, with these made names.
+pub record IsResultOf (R : Site → Ledger → Spot → Ledger → Spot → Type 0) (p q : Tree) (names : List Text) : Type 0 where
   -- the program with the symbols of its names; written it is equal to this, but for ids and marks
   pub resolved : Tree
   pub written : bare resolved ≡ bare q
-  -- by steps of the rules that the options ask for, from the source with its symbols, with nothing pending at the end
-  pub reached : Reached (built_rules o) p (first_whole p) names resolved
+  -- by steps of the rules, from the source with its symbols, with nothing pending at the end
+  pub reached : Reached R p (first_whole p) names resolved
   -- A name of the source has the symbol that it had, and the others are made; each is bound to what looking it up finds, by one
   -- scope, and one without a symbol is unbound.
   pub bindings : Bindings (source p) resolved (first_whole p) reached.whole
@@ -43,6 +43,10 @@ pub record IsResult (o : EnvOptions) (p q : Tree) (names : List Text) : Type 0 w
   pub kept : breaks q ≡ []
   -- to other modules it is what p is: it asks for the same ones in the same order, and exports under the same names
   pub outside : SameOutside p q
+
+-- by those that the options ask for
+abbrev pub IsResult : EnvOptions → Tree → Tree → List Text → Type 0
+IsResult o p q names = IsResultOf (built_rules o) p q names
 
 -- What a core program becomes besides, since the machine knows its runs.
 pub record IsCoreResult (o : EnvOptions) (p q : Tree) (names : List Text) : Type 0 where

@@ -1,0 +1,116 @@
+-- Where no pattern with a rest stands, no row of object rests has a step.
+use Rattle.std.proofs.Common.{◌≡◌, ◌∙◌, ℕ, List, Option, refl, sym, ap, subst, true≢false}
+use Rattle.std.specs.Prelude.{Bool, true, false, ◌&&◌, ◌||◌}
+use Rattle.es_tree.specs.Constructs.{any_kind, is_object_rest, is_rest}
+use Rattle.es_tree.specs.Tree.{Tree, node, Label, done, ◌then◌, one, many, Trees, empty, ◌before◌, kind_of}
+use Rattle.es_tree.specs.declared.ast_type.AstType.TheVariants.{ObjectPattern, RestElement}
+use Rattle.es_steps.specs.Nodes.{joined_trees}
+use Rattle.es_resolution.specs.Declarations.{Bound}
+use Rattle.es_steps.specs.Open.{Additions, Open, OpenField, OpenFields, OpenTrees, Pending, finished, finished_field, finished_fields, finished_trees, opened}
+use Rattle.es_steps.specs.Steps.{FieldStep, FieldsStep, Ledger, Site, Spot, Step, Steps, TreesStep, Whole, at_beside, at_body, at_list, at_node, the_program}
+use Rattle.es_steps.specs.Steps.Step.{acts, inside}
+use Rattle.es_steps.specs.Steps.FieldsStep.{in_first, in_later}
+use Rattle.es_steps.specs.Steps.FieldStep.{acts_on_body, acts_on_list, in_body, in_child, in_children, in_list, in_program, in_target}
+use Rattle.es_steps.specs.Steps.TreesStep.{acts_on_flanked, after_flanked, flanks, in_flanked, in_head, in_tail}
+use Rattle.es_steps.specs.Steps.Steps.{goes, stays}
+use Rattle.es_steps.specs.Laws.{nothing_beside}
+use Rattle.es_steps.proofs.Opened.{finished-opened}
+use Rattle.es_steps.proofs.Taken.{whole_in}
+use Rattle.es_reached.proofs.FreeTrees.{Free, FreeAll, FreeBy, FreeIn, free, free-body, free-flanks, free-joined, free-whole}
+use Rattle.es_lowered.specs.Lowered.{LawIdle}
+use Rattle.es_rest_rows.specs.RestRows.{RestWalkRow}
+use Rattle.es_rest_rows.specs.RestRows.RowsWhere.{stores, takes}
+use Rattle.es_rest_shapes.specs.RestShapes.{ends_in_rest, is_named_rest, is_plain_pattern, is_plain_property}
+
+-- A PATTERN WITH A REST
+
+named-kind : (t : Tree) → is_named_rest t ≡ true → is_rest (kind_of t) ≡ true
+named-kind (node RestElement l fs) h = refl
+named-kind (node _ l fs) h = absurd (cc h)
+
+or-later : (a b : Bool) → b ≡ true → (a || b) ≡ true
+or-later true b e = refl
+or-later false b e = e
+
+ends-so : (ps : Trees) → ends_in_rest ps ≡ true → any_kind is_rest ps ≡ true
+ends-so empty h = absurd (cc h)
+ends-so (t before empty) h = ap (λ b. b || false) (named-kind t h)
+ends-so (t before (u before ps)) h = or-later (is_rest (kind_of t)) (any_kind is_rest (u before ps)) (ends-so (u before ps) (second (is_plain_property t) (ends_in_rest (u before ps)) h))
+  where
+    second : (a b : Bool) → (a && b) ≡ true → b ≡ true
+    second true b e = e
+    second false b e = absurd (cc e)
+
+plain-rest : (p : Tree) → is_plain_pattern p ≡ true → Free is_object_rest p → ⊥
+plain-rest (node ObjectPattern l (many ps then done)) h f = absurd (true≢false (sym (ends-so ps h) ∙ f.0))
+plain-rest (node _ l fs) h f = absurd (cc h)
+
+joined-rest : (ps : Trees) (l : Label) (t : Tree) → any_kind is_rest (joined_trees ps (node RestElement l (one t then done) before empty)) ≡ true
+joined-rest empty l t = refl
+joined-rest (p before ps) l t = or-later (is_rest (kind_of p)) (any_kind is_rest (joined_trees ps (node RestElement l (one t then done) before empty))) (joined-rest ps l t)
+
+-- NO ROW
+
+idle-row : (n : Site) (s s' : Ledger) (t : Tree) (y : Spot) → RestWalkRow n s (at_node t) s' y → Free is_object_rest t → ⊥
+idle-row n s s' t y (stores m l a c p e x exported declares plain all kept silent fresh) f =
+    plain-rest p plain (free-joined is_object_rest a (node _ l (one p then (one e then done)) before c) f.1.0).1.0.1.0
+idle-row n s s' t y (takes m l lp lr ls a ps c r exported plain name all kept helper used) f =
+    absurd (true≢false (sym (joined-rest ps lr r) ∙ (free-joined is_object_rest a (node _ l (one (node ObjectPattern lp (many (joined_trees ps (node RestElement lr (one r then done) before empty)) then done)) then (one (node _ ls done) then done)) before c) f.1.0).1.0.1.0.0))
+
+not-in-lists : (n : Site) (s s' : Ledger) (p : Pending) (x : Option Bound) (a : Additions) (ts : Trees) (y : Spot) → RestWalkRow n s (at_list p x a ts) s' y → ⊥
+not-in-lists n s s' p x a ts y h = elim h [ ]
+
+not-in-bodies : (n : Site) (s s' : Ledger) (p : Pending) (t : Tree) (y : Spot) → RestWalkRow n s (at_body p t) s' y → ⊥
+not-in-bodies n s s' p t y h = elim h [ ]
+
+not-beside : (n : Site) (s s' : Ledger) (t u : Tree) (bs cs : List Tree) → RestWalkRow n s (at_node t) s' (at_beside bs u cs) → ⊥
+not-beside n s s' t u bs cs h = elim h [ ]
+
+not-flanked : (n : Site) (s s' : Ledger) (bs cs : List Tree) (t : Tree) (y : Spot) → RestWalkRow n s (at_beside bs t cs) s' y → ⊥
+not-flanked n s s' bs cs t y h = elim h [ ]
+
+-- NO STEP
+
+mutual
+  idle : {n : Site} {s s' : Ledger} {t u : Open} → Step RestWalkRow n s t s' u → Free is_object_rest (finished t) → ⊥
+  idle (acts {n = n} {s = s} {s' = s'} t u h) f = idle-row n s s' t (at_node u) h (subst (λ (x : Tree). Free is_object_rest x) (finished-opened t) f)
+  idle (inside h) f = idle-in h f.1
+
+  idle-in : {c : ℕ → Site} {s s' : Ledger} {fs gs : OpenFields} → FieldsStep RestWalkRow c s fs s' gs → FreeIn is_object_rest (finished_fields fs) → ⊥
+  idle-in (in_first h) f = idle-by h f.0
+  idle-in (in_later h) f = idle-in h f.1
+
+  idle-by : {n : Site} {s s' : Ledger} {f g : OpenField} → FieldStep RestWalkRow n s f s' g → FreeBy is_object_rest (finished_field f) → ⊥
+  idle-by (in_child h) f = idle h f
+  idle-by (in_children h) f = idle-all h f
+  idle-by (in_body {p = p} {t = t} e x y h) f = idle h (free-body is_object_rest p.vars p.lets (finished t) f).1
+  idle-by (in_list {p = p} {y = y} {b = b} {ts = ts} e d h) f = idle-all h (free-whole is_object_rest p y b (finished_trees ts) f).all
+  idle-by (in_target {p = p} {y = y} {b = b} {ts = ts} e h) f = idle-all h (free-whole is_object_rest p y b (finished_trees ts) f).all
+  idle-by (in_program {p = p} {y = y} {b = b} {ts = ts} e h) f = idle-all h (free-whole is_object_rest p y b (finished_trees ts) f).all
+  idle-by (acts_on_list {n = n} {s = s} {s' = s'} {p = p} {x = x} {a = a} ts us h) f = not-in-lists n s s' p x a ts _ h
+  idle-by (acts_on_body {n = n} {s = s} {s' = s'} {p = p} t u h) f = not-in-bodies n s s' p t _ h
+
+  idle-all : {n : Site} {s s' : Ledger} {ts us : OpenTrees} → TreesStep RestWalkRow n s ts s' us → FreeAll is_object_rest (finished_trees ts) → ⊥
+  idle-all (in_head h) f = idle h f.0
+  idle-all (in_tail h) f = idle-all h f.1
+  idle-all (in_flanked {bs = bs} {cs = cs} {t = t} {ts = ts} h) f = idle h (free-flanks is_object_rest bs cs (finished t) (finished_trees ts) f).1.0
+  idle-all (after_flanked {bs = bs} {cs = cs} {t = t} {ts = ts} h) f = idle-all h (free-flanks is_object_rest bs cs (finished t) (finished_trees ts) f).1.1
+  idle-all (flanks {n = n} {s = s} {s' = s'} {bs = bs} {cs = cs} t u h) f = not-beside n s s' t u bs cs h
+  idle-all (acts_on_flanked {n = n} {s = s} {s' = s'} {bs = bs} {cs = cs} t us h) f = not-flanked n s s' bs cs t _ h
+
+-- THE LAW
+
+same-whole : (w w' : Whole) → nothing_beside w ≡ nothing_beside w' → w' ≡ w
+same-whole w w' e = sym (ap whole_in e)
+
+same-program : (p q : Tree) → opened p ≡ opened q → q ≡ p
+same-program p q e = sym (finished-opened q) ∙ (ap finished (sym e) ∙ finished-opened p)
+
+row-idle : (s s' : Ledger) (t u : Open) → Steps (Step RestWalkRow the_program) s t s' u → Free is_object_rest (finished t) → (s ≡ s') × (t ≡ u)
+row-idle s s' t u stays f = (refl, refl)
+row-idle s s' t u (goes h rest) f = absurd (idle h f)
+
+pub law_idle_proof : LawIdle
+law_idle_proof p q w w' steps none =
+    let k = row-idle (nothing_beside w) (nothing_beside w') (opened p) (opened q) steps (subst (λ (x : Tree). Free is_object_rest x) (sym (finished-opened p)) (free is_object_rest p none)) in
+    (same-program p q k.1, same-whole w w' k.0)

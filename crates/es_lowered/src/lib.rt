@@ -1,0 +1,20 @@
+//! What a program becomes by all lowerings that are built. The functions do nothing: their contracts are laws over the definitions.
+#![tactic(auto)]
+
+ghost use Rattle.es_lowered.specs.Lowered.{LawIdle, LawLowered, LawLoweredAlone};
+
+/// What the rows of object rests lead to, after the steps of the other lowerings, from a program that has form and breaks no static rule:
+/// names keep their bindings, and the written program has form, breaks no static rule, and is to other modules what the source is.
+pub fn law_lowered()
+    ensures { LawLowered }
+{}
+
+/// Where they take no step, what the others reach is what the program becomes.
+pub fn law_lowered_alone()
+    ensures { LawLoweredAlone }
+{}
+
+/// Where no pattern with a rest stands, a walk that takes them changes nothing.
+pub fn law_idle()
+    ensures { LawIdle }
+{}

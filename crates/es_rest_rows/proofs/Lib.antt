@@ -1,0 +1,13 @@
+pub mod HelperNames
+pub mod HelperSites
+pub mod HelperSteps
+pub mod PlainPatterns
+pub mod RowsAmongRules
+pub mod Changes
+pub mod RestsMakeNone
+pub mod StrayNodes
+pub mod StrayRows
+pub mod WholeLists
+pub mod StrayLikes
+pub mod StrayRules
+pub mod StraySteps

@@ -1,0 +1,251 @@
+-- Steps of a walk that takes rests leave a program without any other construct that was absent.
+use Rattle.std.proofs.Common.{◌≡◌, ◌∙◌, ℕ, zero, suc, refl, sym, ap, subst, List, [], ◌∷◌, true≢false}
+use Rattle.std.specs.Prelude.{Bool, true, false, ◌&&◌, ◌||◌, not, bytes_eq, codes, is_some, map}
+use Rattle.es_tree.specs.Ancestors.{Ancestor}
+use Rattle.es_tree.specs.Constructs.{any_kind, field_at, is_chain, is_enabled_statement, is_exponentiation, is_logical_assignment, is_nullish_coalescing, is_object_spread}
+use Rattle.es_tree.specs.Names.{first_text}
+use Rattle.es_tree.specs.Tree.{Tree, node, Label, Fields, done, ◌then◌, Field, one, many, Trees, empty, ◌before◌, fields, kind_of}
+use Rattle.es_tree.specs.Words.{Text}
+use Rattle.es_tree.specs.declared.ast_type.AstType.{AstType}
+use Rattle.es_tree.specs.declared.ast_type.AstType.TheVariants.{ArrayExpression, ArrowFunctionExpression, AssignmentExpression, BinaryExpression, CallExpression, CatchClause, ChainExpression, ExportAllDeclaration, Identifier, LogicalExpression, MemberExpression, ObjectExpression, ObjectPattern, ObjectTarget, RestElement, StringLiteral, VariableDeclaration, VariableDeclarator}
+use Rattle.es_tree.specs.declared.options.EnvOptions.{EnvOptions}
+use Rattle.es_resolution.specs.Declarations.{Bound}
+use Rattle.es_steps.specs.Nodes.{joined_trees, string_node}
+use Rattle.es_steps.specs.ObjectRest.{rest_value}
+use Rattle.es_steps.specs.Open.{Pending, body_with, opened, with_vars, written_body}
+use Rattle.es_steps.specs.Steps.{Ledger, Site, Spot, Step, Steps, the_program}
+use Rattle.es_steps.specs.Steps.Spot.{at_node}
+use Rattle.es_steps.proofs.FormRules.{AtNodes, no-names}
+use Rattle.es_steps.proofs.Opened.{finished-opened}
+use Rattle.es_reached.proofs.FreeTrees.{Free, FreeAll, FreeBy, FreeIn, PassesNoMade, body-free, free, free-body, free-joined, free-whole, joined-free, joined-kinds, none, vars-free, whole-free}
+use Rattle.es_reached.proofs.WalkTests.{Alike, AlikeBy, AlikeIn, IsBlind, alike-node, by-one, by-same, others-steady}
+use Rattle.es_rest_rows.specs.Laws.{LawRestsMakeNone, is_other_construct}
+use Rattle.es_rest_rows.specs.RestRows.{RestWalkRow, declaring, keys_of}
+use Rattle.es_rest_rows.specs.RestRows.RowsWhere.{stores, takes}
+use Rattle.es_rest_rows.proofs.Changes.{Changed, ChangedAll, ChangedBy, ChangedIn, Grown, in-a-row, nodes-change, opened-proper}
+use Rattle.es_rest_rows.proofs.Changes.Changed.{here, within}
+use Rattle.es_rest_rows.proofs.Changes.ChangedIn.{first, later}
+use Rattle.es_rest_rows.proofs.Changes.ChangedBy.{of_body, of_list, of_many, of_one, same_field}
+use Rattle.es_rest_rows.proofs.Changes.ChangedAll.{beside, head, same_trees, tail}
+
+-- THE TESTS ask nothing of what the rows change
+
+-- kinds of nodes that a row makes, besides those of what is pending
+abbrev is_row_kind : AstType → Bool
+is_row_kind ArrayExpression = true
+is_row_kind CallExpression = true
+is_row_kind MemberExpression = true
+is_row_kind ObjectPattern = true
+is_row_kind _ = false
+
+record IsOther (T : AstType → Label → Fields → Bool) : Type 0 where
+  made : PassesNoMade T
+  rows : (k : AstType) (l : Label) (fs : Fields) → is_row_kind k ≡ true → T k l fs ≡ false
+  same : (k : AstType) (l : Label) (fs gs : Fields) → AlikeIn fs gs → T k l fs ≡ T k l gs
+
+module _ (o : EnvOptions) where
+  abbrev T : AstType → Label → Fields → Bool
+  T = is_other_construct o
+
+  off : (b : Bool) → (b && false) ≡ false
+  off true = refl
+  off false = refl
+
+  all-off : (a b c d e f g h v : Bool) → v ≡ false → ((a && false) || (b && false) || (c && false) || (d && false) || (e && false) || (f && false) || ((g && false) || (h && false) || v)) ≡ false
+  all-off a b c d e f g h v z = λ i. off a i || off b i || off c i || off d i || off e i || off f i || (off g i || off h i || z i)
+
+  nothing-on : (v : Bool) → v ≡ false → ((o.es2016.exponentiation_operator && false) || (o.es2020.nullish_coalescing_operator && false) || (o.es2020.optional_chaining && false) || (o.es2021.logical_assignment_operators && false) || (is_some o.es2018.object_rest_spread && false) || (is_some o.es2015.arrow_function && false) || ((o.es2019.optional_catch_binding && false) || (o.es2020.export_namespace_from && false) || v)) ≡ false
+  nothing-on v z = all-off o.es2016.exponentiation_operator o.es2020.nullish_coalescing_operator o.es2020.optional_chaining o.es2021.logical_assignment_operators (is_some o.es2018.object_rest_spread) (is_some o.es2015.arrow_function) o.es2019.optional_catch_binding o.es2020.export_namespace_from v z
+
+  no-using : (b : Bool) → not b ≡ true → (o.es2026.explicit_resource_management && b) ≡ false
+  no-using true e = absurd (true≢false (sym e))
+  no-using false e = off o.es2026.explicit_resource_management
+
+  made-other : PassesNoMade T
+  made-other ArrowFunctionExpression l fs h = absurd (cc h)
+  made-other AssignmentExpression l fs h = absurd (cc h)
+  made-other BinaryExpression l fs h = absurd (cc h)
+  made-other CatchClause l fs h = absurd (cc h)
+  made-other ChainExpression l fs h = absurd (cc h)
+  made-other ExportAllDeclaration l fs h = absurd (cc h)
+  made-other LogicalExpression l fs h = absurd (cc h)
+  made-other ObjectExpression l fs h = absurd (cc h)
+  made-other VariableDeclaration l fs h = nothing-on (o.es2026.explicit_resource_management && bytes_eq (first_text l.texts) (codes "using")) (no-using (bytes_eq (first_text l.texts) (codes "using")) h)
+  made-other _ l fs h = nothing-on (o.es2026.explicit_resource_management && false) (off o.es2026.explicit_resource_management)
+
+  rows-other : (k : AstType) (l : Label) (fs : Fields) → is_row_kind k ≡ true → T k l fs ≡ false
+  rows-other ArrayExpression l fs h = nothing-on (o.es2026.explicit_resource_management && false) (off o.es2026.explicit_resource_management)
+  rows-other CallExpression l fs h = nothing-on (o.es2026.explicit_resource_management && false) (off o.es2026.explicit_resource_management)
+  rows-other MemberExpression l fs h = nothing-on (o.es2026.explicit_resource_management && false) (off o.es2026.explicit_resource_management)
+  rows-other ObjectPattern l fs h = nothing-on (o.es2026.explicit_resource_management && false) (off o.es2026.explicit_resource_management)
+  rows-other _ l fs h = absurd (cc h)
+
+  -- but for arrows and patterns they are the tests of a walk that lowers arrows
+  as-there : (a s f v p : Bool) → (a || (s && p) || (f && false) || v) ≡ ((a || (s && p)) || v)
+  as-there true s true v p = refl
+  as-there true s false v p = refl
+  as-there false true true true true = refl
+  as-there false true true true false = refl
+  as-there false true true false true = refl
+  as-there false true true false false = refl
+  as-there false true false true true = refl
+  as-there false true false true false = refl
+  as-there false true false false true = refl
+  as-there false true false false false = refl
+  as-there false false true v p = refl
+  as-there false false false v p = refl
+
+  there : (k : AstType) (l : Label) (fs : Fields) → ((o.es2016.exponentiation_operator && is_exponentiation k l fs) || (o.es2020.nullish_coalescing_operator && is_nullish_coalescing k l fs) || (o.es2020.optional_chaining && is_chain k l fs) || (o.es2021.logical_assignment_operators && is_logical_assignment k l fs) || (is_some o.es2018.object_rest_spread && is_object_spread k l fs) || (is_some o.es2015.arrow_function && false) || is_enabled_statement o k l fs) ≡ ((o.es2016.exponentiation_operator && is_exponentiation k l fs) || (o.es2020.nullish_coalescing_operator && is_nullish_coalescing k l fs) || (o.es2020.optional_chaining && is_chain k l fs) || (o.es2021.logical_assignment_operators && is_logical_assignment k l fs) || (is_some o.es2018.object_rest_spread && is_object_spread k l fs) || is_enabled_statement o k l fs)
+  there k l fs = as-there ((o.es2016.exponentiation_operator && is_exponentiation k l fs) || (o.es2020.nullish_coalescing_operator && is_nullish_coalescing k l fs) || (o.es2020.optional_chaining && is_chain k l fs) || (o.es2021.logical_assignment_operators && is_logical_assignment k l fs)) (is_some o.es2018.object_rest_spread) (is_some o.es2015.arrow_function) (is_enabled_statement o k l fs) (is_object_spread k l fs)
+
+  same-other : (k : AstType) (l : Label) (fs gs : Fields) → AlikeIn fs gs → T k l fs ≡ T k l gs
+  same-other ArrowFunctionExpression l fs gs a = refl
+  same-other ObjectPattern l fs gs a = refl
+  same-other ObjectTarget l fs gs a = refl
+  same-other k l fs gs a = there k l fs ∙ (others-steady o).same k l fs gs a ∙ sym (there k l gs)
+
+  others : IsOther T
+  others = record { made = made-other; rows = rows-other; same = same-other }
+
+-- THE ROWS
+
+or-twice : (a b : Bool) → (a || b) ≡ (a || (a || b))
+or-twice true b = refl
+or-twice false b = refl
+
+-- a declarator becomes two
+two-kinds : (q : AstType → Bool) (a c : Trees) (d x y : Tree) → kind_of d ≡ VariableDeclarator → kind_of x ≡ VariableDeclarator → kind_of y ≡ VariableDeclarator → any_kind q (joined_trees a (d before c)) ≡ any_kind q (joined_trees a (x before y before c))
+two-kinds q a c d x y e f g =
+    joined-kinds q a (d before c)
+    ∙ ap (λ v. any_kind q a || v) (ap (λ k. q k || any_kind q c) e ∙ or-twice (q VariableDeclarator) (any_kind q c) ∙ sym (λ i. q (f i) || (q (g i) || any_kind q c)))
+    ∙ sym (joined-kinds q a (x before y before c))
+
+list-alike : (ts us : Trees) → ((q : AstType → Bool) → IsBlind q → any_kind q ts ≡ any_kind q us) → AlikeBy (many ts) (many us)
+list-alike ts us h = record { child = λ q b. refl; target = refl; members = h; there = refl }
+
+first-alike : (f g : Field) (fs : Fields) → AlikeBy f g → AlikeIn (f then fs) (g then fs)
+first-alike f g fs h zero = h
+first-alike f g fs h (suc n) = by-same (field_at n fs)
+
+later-alike : (f : Field) (fs gs : Fields) → AlikeIn fs gs → AlikeIn (f then fs) (f then gs)
+later-alike f fs gs h zero = by-same f
+later-alike f fs gs h (suc n) = h n
+
+module _ (T : AstType → Label → Fields → Bool) (other : IsOther T) where
+  -- WHAT A ROW LEAVES
+
+  record Walked (t u : Tree) : Type 0 where
+    free : Free T t → Free T u
+    alike : Alike t u
+
+  -- a declaration of which a declarator became two
+  two-declared : (m : Label) (a c : Trees) (d x y : Tree) → kind_of d ≡ VariableDeclarator → kind_of x ≡ VariableDeclarator → kind_of y ≡ VariableDeclarator → (Free T d → Free T x × Free T y) → Walked (declaring m (joined_trees a (d before c))) (declaring m (joined_trees a (x before y before c)))
+  two-declared m a c d x y e f g split = record { free = left; alike = record { kind = λ q b. refl; member = refl } }
+    where
+      old : Trees
+      old = joined_trees a (d before c)
+
+      new : Trees
+      new = joined_trees a (x before y before c)
+
+      left : Free T (declaring m old) → Free T (declaring m new)
+      left h =
+          let parts = free-joined T a (d before c) h.1.0 in
+          let both = split parts.1.0 in
+          (sym (other.same VariableDeclaration m (many old then done) (many new then done) (first-alike (many old) (many new) done (list-alike old new (λ q b. two-kinds q a c d x y e f g)))) ∙ h.0, (joined-free T a (x before y before c) parts.0 (both.0, (both.1, parts.1.1)), tt))
+
+  texts-free : (ks : List Text) → FreeIn T (fields (map (λ t. one t) (map string_node ks)))
+  texts-free [] = tt
+  texts-free (k ∷ ks) = ((other.made StringLiteral _ _ refl, tt), texts-free ks)
+
+  value-free : (s : Tree) (ks : List Text) → Free T s → Free T (rest_value s ks)
+  value-free s ks h = (other.rows CallExpression _ _ refl, ((other.rows MemberExpression _ _ refl, ((other.made Identifier _ _ refl, tt), ((other.made Identifier _ _ refl, tt), tt))), ((h, ((other.rows ArrayExpression _ _ refl, texts-free ks), tt)), tt)))
+
+  row-walked : (n : Site) (s s' : Ledger) (t u : Tree) → RestWalkRow n s (at_node t) s' (at_node u) → Walked t u × Grown (λ bs. bs ≡ []) s s'
+  row-walked n s s' t u (stores {q = q} m l a c p e x out declares plain bind kept silent fresh) = (
+    two-declared m a c _ _ _ refl refl refl (λ h. ((other.made VariableDeclarator _ _ refl, ((other.made Identifier _ _ refl, tt), (h.1.1.0, tt))), (other.made VariableDeclarator _ _ refl, (h.1.0, ((other.made Identifier _ _ refl, tt), tt))))),
+    record { names = []; such = refl; pending = no-names q; top = refl },
+  )
+  row-walked n s s' t u (takes {q = q} m l lp lr ls a ps c r out plain name bind kept asked used) = (
+    two-declared m a c _ _ _ refl refl refl (λ h.
+        let parts = free-joined T ps (node RestElement lr (one r then done) before empty) h.1.0.1.0 in
+        ((other.made VariableDeclarator _ _ refl, ((other.rows ObjectPattern _ _ refl, (parts.0, tt)), ((other.made Identifier _ _ refl, tt), tt))), (other.made VariableDeclarator _ _ refl, (parts.1.0.1.0, (value-free _ (keys_of ps) (other.made Identifier _ _ refl, tt), tt))))),
+    record { names = []; such = refl; pending = no-names q; top = refl },
+  )
+
+  -- WHAT A CHANGE KEEPS
+
+  abbrev Rows : List Ancestor → Tree → Tree → Type 0
+  Rows up t u = Walked t u
+
+  abbrev None : Tree → Trees → Type 0
+  None t us = ⊥
+
+  abbrev NoNames : List Bound → Type 0
+  NoNames bs = bs ≡ []
+
+  record WalkedIn (fs gs : Fields) : Type 0 where
+    free : FreeIn T fs → FreeIn T gs
+    alike : AlikeIn fs gs
+
+  record WalkedBy (f g : Field) : Type 0 where
+    free : FreeBy T f → FreeBy T g
+    alike : AlikeBy f g
+
+  record WalkedAll (ts us : Trees) : Type 0 where
+    free : FreeAll T ts → FreeAll T us
+    kinds : (q : AstType → Bool) → IsBlind q → any_kind q ts ≡ any_kind q us
+
+  body-alike : (vs ls : List Tree) (t u : Tree) → Alike t u → Alike (body_with vs ls t) (body_with vs ls u)
+  body-alike [] [] t u h = h
+  body-alike [] (d ∷ ls) t u h = record { kind = λ q b. refl; member = refl }
+  body-alike (v ∷ vs) ls t u h = record { kind = λ q b. refl; member = refl }
+
+  mutual
+    walked : {up : List Ancestor} {t u : Tree} → Changed Rows None NoNames up t u → Walked t u
+    walked (here h) = h
+    walked (within {k = k} {l = l} {fs = fs} {gs = gs} h) =
+        let m = walked-in h in
+        record { free = λ d. (sym (other.same k l fs gs m.alike) ∙ d.0, m.free d.1); alike = alike-node k l fs gs m.alike }
+
+    walked-in : {c : ℕ → List Ancestor} {fs gs : Fields} → ChangedIn Rows None NoNames c fs gs → WalkedIn fs gs
+    walked-in (first {f = f} {g = g} {fs = fs} h) = let m = walked-by h in record { free = λ d. (m.free d.0, d.1); alike = first-alike f g fs m.alike }
+    walked-in (later {f = f} {fs = fs} {gs = gs} h) = let m = walked-in h in record { free = λ d. (d.0, m.free d.1); alike = later-alike f fs gs m.alike }
+
+    walked-by : {up : List Ancestor} {f g : Field} → ChangedBy Rows None NoNames up f g → WalkedBy f g
+    walked-by (of_one h) = let m = walked h in record { free = m.free; alike = by-one m.alike }
+    walked-by (of_many {ts = ts} {us = us} h) = let m = walked-all h in record { free = m.free; alike = list-alike ts us m.kinds }
+    walked-by (of_body {t = t} {u = u} p bs such place h) =
+        let m = walked h in
+        subst (λ (r : Pending). WalkedBy (one (written_body p t)) (one (written_body r u))) (no-names p ∙ ap (λ b. with_vars b p) (sym such))
+        (record {
+          free = λ d. let parts = free-body T p.vars p.lets t d in body-free T other.made p.vars p.lets u parts.0.0 parts.0.1 (m.free parts.1);
+          alike = by-one (body-alike p.vars p.lets t u m.alike);
+        })
+    walked-by (of_list {ts = ts} {us = us} p x y a bs such h) =
+        let m = walked-all h in
+        record {
+          free = λ d. let parts = free-whole T p x a ts d in whole-free T other.made (with_vars bs p) y a us (record { pending = vars-free T other.made bs p parts.pending; excluded = parts.excluded; all = m.free parts.all });
+          alike = record { child = λ q b. refl; target = refl; members = λ q b. refl; there = refl };
+        }
+    walked-by (same_field {f = f}) = record { free = λ d. d; alike = by-same f }
+
+    walked-all : {up : List Ancestor} {ts us : Trees} → ChangedAll Rows None NoNames up ts us → WalkedAll ts us
+    walked-all (head {ts = ts} h) = let m = walked h in record { free = λ d. (m.free d.0, d.1); kinds = λ q b. ap (λ v. v || any_kind q ts) (m.alike.kind q b) }
+    walked-all (tail {t = t} h) = let m = walked-all h in record { free = λ d. (d.0, m.free d.1); kinds = λ q b. ap (λ v. q (kind_of t) || v) (m.kinds q b) }
+    walked-all (beside h) = absurd h
+    walked-all same_trees = record { free = λ d. d; kinds = λ q b. refl }
+
+  walk-nodes : (n : Site) (s s' : Ledger) (x y : Spot) → RestWalkRow n s x s' y → AtNodes x y
+  walk-nodes n s s' x y (stores m l a c p e z out declares plain bind kept silent fresh) = tt
+  walk-nodes n s s' x y (takes m l lp lr ls a ps c r out plain name bind kept asked used) = tt
+
+  all-walked : (s s' : Ledger) (p q : Tree) → Steps (Step RestWalkRow the_program) s (opened p) s' (opened q) → Free T p → Free T q
+  all-walked s s' p q steps d =
+      let end = in-a-row Rows None NoNames refl RestWalkRow (nodes-change Rows None NoNames RestWalkRow walk-nodes row-walked) (λ t. Free T t) (λ t u h e. (walked h).free e) steps (opened-proper Rows None NoNames p) (subst (λ (t : Tree). Free T t) (sym (finished-opened p)) d) in
+      subst (λ (t : Tree). Free T t) (finished-opened q) end
+
+-- THE LAW
+
+pub law_rests_make_none_proof : LawRestsMakeNone
+law_rests_make_none_proof o p q w w' steps e = none (is_other_construct o) q (all-walked (is_other_construct o) (others o) _ _ p q steps (free (is_other_construct o) p e))

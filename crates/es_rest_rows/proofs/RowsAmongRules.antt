@@ -1,0 +1,61 @@
+-- Each row of object rests is a step of their rules.
+use Rattle.std.proofs.Common.{◌≡◌, refl, sym, inl, inr, true≢false}
+use Rattle.std.specs.Prelude.{true, false}
+use Rattle.std.proofs.lemmas.Bool.{and_from, and_parts, or_left, or_right}
+use Rattle.es_tree.specs.Constructs.{any_kind, is_rest}
+use Rattle.es_tree.specs.Tree.{Tree, node, done, ◌then◌, missing, one, many, statements, Trees, empty, ◌before◌, kind_of}
+use Rattle.es_tree.specs.declared.ast_type.AstType.TheVariants.{Identifier, ObjectPattern, RestElement}
+use Rattle.es_steps.specs.Nodes.{declarator_with, identifier, joined_trees}
+use Rattle.es_steps.specs.ObjectRest.SplitRule.{splits}
+use Rattle.es_steps.specs.ObjectRest.SplitsOff.{source}
+use Rattle.es_steps.specs.ObjectRest.TakesRest.{takes_rest}
+use Rattle.es_steps.specs.ObjectRest.{declares_as, pattern_node, rest_value}
+use Rattle.es_steps.specs.Patterns.{holds_rest, some_holds_rest}
+use Rattle.es_steps.specs.Rules.{next_name}
+use Rattle.es_valid_rests.specs.RestRules.{all_declare, is_binding_kind}
+use Rattle.es_rest_rows.specs.Laws.{LawRestRows}
+use Rattle.es_rest_rows.specs.RestRows.RowsWhere.{stores, takes}
+use Rattle.es_rest_rows.specs.RestRows.{keys_of, with_rest}
+use Rattle.es_rest_shapes.specs.RestShapes.{ends_in_rest, is_name, is_named_rest, is_plain_pattern, is_plain_property}
+
+-- A PLAIN PATTERN has a rest
+
+named-kind : (t : Tree) → is_named_rest t ≡ true → is_rest (kind_of t) ≡ true
+named-kind (node RestElement l fs) e = refl
+named-kind (node _ l fs) e = absurd (true≢false (sym e))
+
+some-rest : (ps : Trees) → ends_in_rest ps ≡ true → any_kind is_rest ps ≡ true
+some-rest empty e = absurd (true≢false (sym e))
+some-rest (t before empty) e = or_left (is_rest (kind_of t)) false (named-kind t e)
+some-rest (t before u before ts) e = or_right (is_rest (kind_of t)) (any_kind is_rest (u before ts)) (some-rest (u before ts) (and_parts (is_plain_property t) (ends_in_rest (u before ts)) e).1)
+
+plain-holds : (p : Tree) → is_plain_pattern p ≡ true → holds_rest p ≡ true
+plain-holds (node ObjectPattern l (many ps then done)) e = or_left (any_kind is_rest ps) (some_holds_rest ps) (some-rest ps e)
+plain-holds (node ObjectPattern l (many ps then f then fs)) e = absurd (true≢false (sym e))
+plain-holds (node ObjectPattern l (missing then fs)) e = absurd (true≢false (sym e))
+plain-holds (node ObjectPattern l (one t then fs)) e = absurd (true≢false (sym e))
+plain-holds (node ObjectPattern l (statements ts then fs)) e = absurd (true≢false (sym e))
+plain-holds (node ObjectPattern l done) e = absurd (true≢false (sym e))
+plain-holds (node _ l fs) e = absurd (true≢false (sym e))
+
+-- WHAT IS LEFT declares names and patterns
+
+name-binds : (t : Tree) → is_name t ≡ true → is_binding_kind (kind_of t) ≡ true
+name-binds (node Identifier l fs) e = refl
+name-binds (node _ l fs) e = absurd (true≢false (sym e))
+
+joined-declare : (a c d : Trees) → (all_declare c ≡ true → all_declare d ≡ true) → all_declare (joined_trees a c) ≡ true → all_declare (joined_trees a d) ≡ true
+joined-declare empty c d f e = f e
+joined-declare (t before a) c d f e =
+    let h = and_parts _ (all_declare (joined_trees a c)) e in
+    and_from _ (all_declare (joined_trees a d)) h.0 (joined-declare a c d f h.1)
+
+pub law_rest_rows_proof : LawRestRows
+law_rest_rows_proof n s s' x y (stores {w = w} m l a c p e x1 out declares plain bind kept silent fresh) =
+    let d = declares_as l p e in
+    let es = declarator_with (identifier (next_name w x1)) e before declares_as l p (identifier (next_name w x1)) before empty in
+    inl ((splits m a c d es x1 fresh.free declares (source l p e (plain-holds p plain) fresh silent), joined-declare a (d before c) (joined_trees es c) (λ h. h) bind), out)
+law_rest_rows_proof n s s' x y (takes m l lp lr ls a ps c t out plain name bind kept asked used) =
+    let old = declares_as l (with_rest lp ps lr t) (node Identifier ls done) before c in
+    let new = declarator_with (pattern_node lp ps) (node Identifier ls done) before declarator_with t (rest_value (node Identifier ls done) (keys_of ps)) before c in
+    inr (inl (takes_rest m l lp lr ls a ps c t (keys_of ps) asked used, joined-declare a old new (λ h. and_from (is_binding_kind (kind_of t)) (all_declare c) (name-binds t name) h) bind))

@@ -1,0 +1,2 @@
+pub mod RestRows
+pub mod Laws

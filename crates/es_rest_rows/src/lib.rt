@@ -1,0 +1,29 @@
+//! What becomes of an object rest that is declared. The functions do nothing: their contracts are laws over the definitions.
+#![tactic(auto)]
+
+ghost use Rattle.es_rest_rows.specs.Laws.{LawHelpersUnbound, LawRestRows, LawRestWalks, LawRestsMakeNone, LawStraysNotMade};
+
+/// A step of the rows is one of the rules of object rests.
+pub fn law_rest_rows()
+    ensures { LawRestRows }
+{}
+
+/// No step of the built lowerings brings a pattern with a rest where it isn't lowered.
+pub fn law_strays_not_made()
+    ensures { LawStraysNotMade }
+{}
+
+/// Where a program binds no `babelHelpers`, what the built lowerings reach from it binds none.
+pub fn law_helpers_unbound()
+    ensures { LawHelpersUnbound }
+{}
+
+/// Steps of a walk from a program that binds no `babelHelpers` are steps of the rows.
+pub fn law_rest_walks()
+    ensures { LawRestWalks }
+{}
+
+/// They make no other construct.
+pub fn law_rests_make_none()
+    ensures { LawRestsMakeNone }
+{}
