@@ -1,0 +1,11 @@
+pub mod Composition
+pub mod SeenShapes
+pub mod Steps
+pub mod Costs
+pub mod Declarators
+pub mod PatternShapes
+pub mod Opened
+pub mod Keys
+pub mod KeptSources
+pub mod Taken
+pub mod Whole

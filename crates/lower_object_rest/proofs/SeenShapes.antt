@@ -1,0 +1,139 @@
+-- What is seen of declarators and patterns: the same shapes, the same keys, and as many ids owed.
+use Rattle.std.proofs.Common.{ap, refl, ◌+◌, ◌∷◌, ◌≡◌, [], List, Option, ℕ}
+use Rattle.std.specs.Prelude.{if◌then◌else◌, not, ◌&&◌, ◌||◌}
+use Rattle.es_tree.specs.Constructs.{any_kind, is_rest}
+use Rattle.es_tree.specs.Names.{first_text, has_computed}
+use Rattle.es_tree.specs.Tree.{Field, Fields, Label, Tree, Trees, done, empty, many, missing, node, one, statements, ◌before◌, ◌then◌}
+use Rattle.es_tree.specs.Words.{Text}
+use Rattle.es_tree.specs.declared.ast_type.AstType.{AstType}
+use Rattle.es_tree.specs.declared.ast_type.AstType.TheVariants.{Identifier, ObjectPattern, PatternProperty, RestElement, StringLiteral, VariableDeclarator}
+use Rattle.es_resolution.specs.Seen.{seen, seen_among, seen_by, seen_in, seen_marks}
+use Rattle.es_steps.specs.Nodes.{joined_trees}
+use Rattle.es_steps.specs.ObjectRest.{pattern_node}
+use Rattle.es_rest_rows.specs.RestRows.{keys_of, with_rest}
+use Rattle.es_rest_shapes.specs.RestShapes.{are_plain, ends_in_rest, is_name, is_named_rest, is_plain_pattern, is_plain_property, is_text_key}
+use Rattle.lower_nodes.specs.Nodes.{owed, owed_among, owed_by, owed_in}
+use Rattle.lower_temporaries.proofs.TwoFields.{two-seen}
+use Rattle.lower_object_rest.specs.Profile.{number_of, rest_owes}
+use Rattle.lower_object_rest.specs.Shapes.{is_lowerable}
+
+-- the label of a pattern, as it is seen
+abbrev pub bare_label : Label → Label
+bare_label l = record l { id = 0; marks = [] }
+
+module _ (names : ℕ → Text → Option ℕ) where
+  joined-seen : (xs ys : Trees) → seen_among names (joined_trees xs ys) ≡ joined_trees (seen_among names xs) (seen_among names ys)
+  joined-seen empty ys = refl
+  joined-seen (x before xs) ys = ap (λ us. seen names x before us) (joined-seen xs ys)
+
+  -- SHAPES
+
+  pub name-seen : (t : Tree) → is_name (seen names t) ≡ is_name t
+  name-seen (node Identifier l done) = refl
+  name-seen (node Identifier l (f then fs)) = refl
+  name-seen (node _ l fs) = refl
+
+  key-seen : (t : Tree) → is_text_key (seen names t) ≡ is_text_key t
+  key-seen (node Identifier l done) = refl
+  key-seen (node Identifier l (f then fs)) = refl
+  key-seen (node StringLiteral l done) = refl
+  key-seen (node StringLiteral l (f then fs)) = refl
+  key-seen (node _ l fs) = refl
+
+  property-seen : (t : Tree) → is_plain_property (seen names t) ≡ is_plain_property t
+  property-seen (node PatternProperty l (one k then (one v then done))) = ap (λ b. not (has_computed PatternProperty l.flags) && b) (key-seen k)
+  property-seen (node PatternProperty l done) = refl
+  property-seen (node PatternProperty l (missing then fs)) = refl
+  property-seen (node PatternProperty l (many ts then fs)) = refl
+  property-seen (node PatternProperty l (statements ts then fs)) = refl
+  property-seen (node PatternProperty l (one k then done)) = refl
+  property-seen (node PatternProperty l (one k then (missing then fs))) = refl
+  property-seen (node PatternProperty l (one k then (many ts then fs))) = refl
+  property-seen (node PatternProperty l (one k then (statements ts then fs))) = refl
+  property-seen (node PatternProperty l (one k then (one v then (f then fs)))) = refl
+  property-seen (node _ l fs) = refl
+
+  pub plain-seen : (ts : Trees) → are_plain (seen_among names ts) ≡ are_plain ts
+  plain-seen empty = refl
+  plain-seen (t before ts) = λ i. property-seen t i && plain-seen ts i
+
+  rest-seen : (t : Tree) → is_named_rest (seen names t) ≡ is_named_rest t
+  rest-seen (node RestElement l (one t then done)) = name-seen t
+  rest-seen (node RestElement l done) = refl
+  rest-seen (node RestElement l (missing then fs)) = refl
+  rest-seen (node RestElement l (many ts then fs)) = refl
+  rest-seen (node RestElement l (statements ts then fs)) = refl
+  rest-seen (node RestElement l (one t then (f then fs))) = refl
+  rest-seen (node _ l fs) = refl
+
+  ends-seen : (ts : Trees) → ends_in_rest (seen_among names ts) ≡ ends_in_rest ts
+  ends-seen empty = refl
+  ends-seen (t before empty) = rest-seen t
+  ends-seen (t before (u before us)) = λ i. property-seen t i && ends-seen (u before us) i
+
+  pub pattern-seen : (t : Tree) → is_plain_pattern (seen names t) ≡ is_plain_pattern t
+  pattern-seen (node ObjectPattern l (many ps then done)) = ends-seen ps
+  pattern-seen (node ObjectPattern l done) = refl
+  pattern-seen (node ObjectPattern l (missing then fs)) = refl
+  pattern-seen (node ObjectPattern l (one t then fs)) = refl
+  pattern-seen (node ObjectPattern l (statements ts then fs)) = refl
+  pattern-seen (node ObjectPattern l (many ts then (f then fs))) = refl
+  pattern-seen (node _ l fs) = refl
+
+  pub lowerable-seen : (d : Tree) → is_lowerable (seen names d) ≡ is_lowerable d
+  lowerable-seen (node VariableDeclarator l fs) = two-seen names (λ p e. is_plain_pattern p) (λ p e. pattern-seen p) fs
+  lowerable-seen (node _ l fs) = refl
+
+  -- KEYS
+
+  keys-of-property : (l : Label) (fs : Fields) (ts : Trees) → keys_of (seen_among names ts) ≡ keys_of ts → keys_of (seen names (node PatternProperty l fs) before seen_among names ts) ≡ keys_of (node PatternProperty l fs before ts)
+  keys-of-property l (one (node k j gs) then fs) ts h = ap (λ (ks : List Text). first_text j.texts ∷ ks) h
+  keys-of-property l done ts h = h
+  keys-of-property l (missing then fs) ts h = h
+  keys-of-property l (many us then fs) ts h = h
+  keys-of-property l (statements us then fs) ts h = h
+
+  pub keys-seen : (ts : Trees) → keys_of (seen_among names ts) ≡ keys_of ts
+  keys-seen empty = refl
+  keys-seen (node PatternProperty l fs before ts) = keys-of-property l fs ts (keys-seen ts)
+  keys-seen (node _ l fs before ts) = keys-seen ts
+
+  -- a pattern with its rest
+  pub rest-pattern-seen : (lp lr : Label) (ps : Trees) (t : Tree) → seen names (with_rest lp ps lr t) ≡ with_rest (bare_label lp) (seen_among names ps) (bare_label lr) (seen names t)
+  rest-pattern-seen lp lr ps t = ap (λ us. pattern_node (bare_label lp) us) (joined-seen ps (node RestElement lr (one t then done) before empty))
+
+  -- IDS OWED
+
+  kinds-seen : (ts : Trees) → any_kind is_rest (seen_among names ts) ≡ any_kind is_rest ts
+  kinds-seen empty = refl
+  kinds-seen (node k l fs before ts) = ap (λ b. is_rest k || b) (kinds-seen ts)
+
+  number-seen : (ts : Trees) → number_of (seen_among names ts) ≡ number_of ts
+  number-seen empty = refl
+  number-seen (t before ts) = ap (λ n. 1 + n) (number-seen ts)
+
+  own-seen : (k : AstType) (l m : Label) (fs : Fields) → rest_owes k m (seen_in names fs) ≡ rest_owes k l fs
+  own-seen ObjectPattern l m (many ps then fs) = λ i. if kinds-seen ps i then 10 + number-seen ps i else 0
+  own-seen ObjectPattern l m done = refl
+  own-seen ObjectPattern l m (missing then fs) = refl
+  own-seen ObjectPattern l m (one t then fs) = refl
+  own-seen ObjectPattern l m (statements ts then fs) = refl
+  own-seen _ l m fs = refl
+
+  mutual
+    pub owed-seen : (t : Tree) → owed rest_owes (seen names t) ≡ owed rest_owes t
+    owed-seen (node k l fs) = λ i. own-seen k l (record l { id = 0; marks = seen_marks names k l fs }) fs i + owed-in fs i
+
+    owed-in : (fs : Fields) → owed_in rest_owes (seen_in names fs) ≡ owed_in rest_owes fs
+    owed-in done = refl
+    owed-in (f then fs) = λ i. owed-by f i + owed-in fs i
+
+    owed-by : (f : Field) → owed_by rest_owes (seen_by names f) ≡ owed_by rest_owes f
+    owed-by missing = refl
+    owed-by (one t) = owed-seen t
+    owed-by (many ts) = owed-among ts
+    owed-by (statements ts) = owed-among ts
+
+    owed-among : (ts : Trees) → owed_among rest_owes (seen_among names ts) ≡ owed_among rest_owes ts
+    owed-among empty = refl
+    owed-among (t before ts) = λ i. owed-seen t i + owed-among ts i

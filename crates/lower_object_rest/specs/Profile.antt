@@ -1,0 +1,48 @@
+-- What the lowering of object rests states of itself.
+use Rattle.std.specs.Prelude.{◌&&◌, ◌+◌, Bool, false, if◌then◌else◌, is_some, true, ℕ}
+use Rattle.es_tree.specs.Constructs.{any_kind, is_rest}
+use Rattle.es_tree.specs.Tree.{Fields, Label, Tree, Trees, empty, many, ◌before◌, ◌then◌}
+use Rattle.es_tree.specs.declared.ast_type.AstType.{AstType}
+use Rattle.es_tree.specs.declared.ast_type.AstType.TheVariants.{ExportNamedDeclaration, ObjectPattern, VariableDeclaration}
+use Rattle.es_tree.specs.declared.options.EnvOptions.{EnvOptions}
+use Rattle.es_rest_rows.specs.RestRows.{RestWalkRow}
+use Rattle.es_rest_shapes.specs.RestShapes.{declares_rest, is_rest_declaration, is_stray_rest}
+use Rattle.es_steps.specs.CoreRules.{where_on}
+use Rattle.lower_nodes.specs.Nodes.{NodeProfile}
+
+-- a test of nodes, where the lowering is on
+abbrev pub test_where : Bool → (AstType → Label → Fields → Bool) → AstType → Label → Fields → Bool
+test_where on test k l fs = on && test k l fs
+
+-- no module exports what it lowers
+abbrev pub barred_where : Bool → AstType → ℕ → Tree → Bool
+barred_where on ExportNamedDeclaration i t = on && declares_rest t
+barred_where on _ i t = false
+
+abbrev pub number_of : Trees → ℕ
+number_of empty = 0
+number_of (t before ts) = 1 + number_of ts
+
+-- The nodes that are made for a pattern with a rest: those of its two further declarators, and a text for each property.
+abbrev pub rest_owes : AstType → Label → Fields → ℕ
+rest_owes ObjectPattern l (many ps then fs) = if any_kind is_rest ps then 10 + number_of ps else 0
+rest_owes _ l fs = 0
+
+-- a declaration becomes another
+abbrev pub is_declaration : AstType → Bool
+is_declaration VariableDeclaration = true
+is_declaration _ = false
+
+-- where the lowering is on, and where it isn't
+abbrev pub profile_where : Bool → NodeProfile
+profile_where on = record {
+  rule = where_on on RestWalkRow;
+  constructs = test_where on is_rest_declaration;
+  strays = test_where on is_stray_rest;
+  barred = barred_where on;
+  owes = rest_owes;
+  changes = is_declaration;
+}
+
+abbrev pub object_rest_profile : EnvOptions → NodeProfile
+object_rest_profile o = profile_where (is_some o.es2018.object_rest_spread)

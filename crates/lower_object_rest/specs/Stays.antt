@@ -1,0 +1,240 @@
+-- Shapes of what is alike save in declarations: patterns and declarators are the same ones.
+use Rattle.std.proofs.Common.{ap, refl, ◌+◌, ◌∙◌, ◌≡◌}
+use Rattle.std.proofs.lemmas.Bool.{or_from, or_parts}
+use Rattle.std.specs.Prelude.{Bool, false, if◌then◌else◌, not, true, ◌&&◌, ◌||◌}
+use Rattle.es_tree.specs.Constructs.{any_kind, is_object_rest, is_rest}
+use Rattle.es_tree.specs.Names.{has_computed}
+use Rattle.es_tree.specs.Tree.{Fields, Label, Tree, Trees, node, ◌then◌}
+use Rattle.es_tree.specs.Walks.{any_in_fields, any_in_trees, any_node}
+use Rattle.es_tree.specs.declared.ast_type.AstType.{AstType}
+use Rattle.es_tree.specs.declared.ast_type.AstType.TheVariants.{ExportNamedDeclaration, Identifier, ObjectPattern, ObjectTarget, PatternProperty, RestElement, StringLiteral, VariableDeclaration, VariableDeclarator}
+use Rattle.es_rest_shapes.specs.RestShapes.{any_child, any_tree, declares_rest, ends_in_rest, is_misplaced, is_name, is_named_rest, is_odd_pattern, is_plain_pattern, is_plain_property, is_rest_declaration, is_rest_declarator, is_rest_pattern, is_stray_rest, is_text_key}
+use Rattle.lower_nodes.specs.Nodes.{Alike, AlikeAmong, AlikeIn}
+use Rattle.lower_nodes.specs.Nodes.Alike.{changed, within}
+use Rattle.lower_nodes.specs.Nodes.AlikeIn.{no_fields, fields_alike}
+use Rattle.lower_nodes.specs.Nodes.AlikeBy.{both_missing, one_alike, many_alike, statements_alike}
+use Rattle.lower_nodes.specs.Nodes.AlikeAmong.{no_trees, trees_alike}
+use Rattle.lower_object_rest.specs.Profile.{is_declaration, number_of, rest_owes}
+
+abbrev pub Same : Tree → Tree → Type 0
+Same = Alike is_declaration
+
+abbrev pub SameIn : Fields → Fields → Type 0
+SameIn = AlikeIn is_declaration
+
+abbrev SameAmong : Trees → Trees → Type 0
+SameAmong = AlikeAmong is_declaration
+
+-- what is changed is a declaration
+changed_only : (P : AstType → Type 0) → P VariableDeclaration → (k : AstType) → is_declaration k ≡ true → P k
+changed_only P h VariableDeclaration e = h
+changed_only P h _ e = absurd (cc e)
+
+-- TESTS, of which each node passes as many
+
+module _ (test : Tree → Bool) (same : (t u : Tree) → Same t u → test u ≡ test t) where
+  pub any_alike : {ts us : Trees} → SameAmong ts us → any_tree test us ≡ any_tree test ts
+  any_alike no_trees = refl
+  any_alike (trees_alike {t = t} {u = u} h r) = λ i. same t u h i || any_alike r i
+
+  child_alike : {fs gs : Fields} → SameIn fs gs → any_child test gs ≡ any_child test fs
+  child_alike no_fields = refl
+  child_alike (fields_alike both_missing r) = child_alike r
+  child_alike (fields_alike (one_alike {t = t} {u = u} h) r) = λ i. same t u h i || child_alike r i
+  child_alike (fields_alike (many_alike h) r) = λ i. any_alike h i || child_alike r i
+  child_alike (fields_alike (statements_alike h) r) = λ i. any_alike h i || child_alike r i
+
+-- PATTERNS
+
+kinds_alike : {ts us : Trees} → SameAmong ts us → any_kind is_rest us ≡ any_kind is_rest ts
+kinds_alike no_trees = refl
+kinds_alike (trees_alike (changed {k = k} e) r) = ap (λ b. is_rest k || b) (kinds_alike r)
+kinds_alike (trees_alike (within {k = k} h) r) = ap (λ b. is_rest k || b) (kinds_alike r)
+
+number_alike : {ts us : Trees} → SameAmong ts us → number_of us ≡ number_of ts
+number_alike no_trees = refl
+number_alike (trees_alike h r) = ap (λ n. 1 + n) (number_alike r)
+
+rests_alike : (k : AstType) (l : Label) {fs gs : Fields} → SameIn fs gs → is_object_rest k l gs ≡ is_object_rest k l fs
+rests_alike ObjectPattern l no_fields = refl
+rests_alike ObjectPattern l (fields_alike both_missing r) = refl
+rests_alike ObjectPattern l (fields_alike (one_alike h) r) = refl
+rests_alike ObjectPattern l (fields_alike (many_alike h) r) = kinds_alike h
+rests_alike ObjectPattern l (fields_alike (statements_alike h) r) = refl
+rests_alike ObjectTarget l no_fields = refl
+rests_alike ObjectTarget l (fields_alike both_missing r) = refl
+rests_alike ObjectTarget l (fields_alike (one_alike h) r) = refl
+rests_alike ObjectTarget l (fields_alike (many_alike h) r) = kinds_alike h
+rests_alike ObjectTarget l (fields_alike (statements_alike h) r) = refl
+rests_alike _ l h = refl
+
+rest_pattern_alike : {t u : Tree} → Same t u → is_rest_pattern u ≡ is_rest_pattern t
+rest_pattern_alike (changed {k = k} {l = l} {fs = fs} {gs = gs} e) = changed_only (λ j. is_object_rest j l gs ≡ is_object_rest j l fs) refl k e
+rest_pattern_alike (within {k = k} {l = l} h) = rests_alike k l h
+
+name_within : (k : AstType) (l : Label) {fs gs : Fields} → SameIn fs gs → is_name (node k l gs) ≡ is_name (node k l fs)
+name_within Identifier l no_fields = refl
+name_within Identifier l (fields_alike h r) = refl
+name_within _ l h = refl
+
+name_alike : {t u : Tree} → Same t u → is_name u ≡ is_name t
+name_alike (changed {k = k} {l = l} {fs = fs} {gs = gs} e) = changed_only (λ j. is_name (node j l gs) ≡ is_name (node j l fs)) refl k e
+name_alike (within {k = k} {l = l} h) = name_within k l h
+
+key_within : (k : AstType) (l : Label) {fs gs : Fields} → SameIn fs gs → is_text_key (node k l gs) ≡ is_text_key (node k l fs)
+key_within Identifier l no_fields = refl
+key_within Identifier l (fields_alike h r) = refl
+key_within StringLiteral l no_fields = refl
+key_within StringLiteral l (fields_alike h r) = refl
+key_within _ l h = refl
+
+key_alike : {t u : Tree} → Same t u → is_text_key u ≡ is_text_key t
+key_alike (changed {k = k} {l = l} {fs = fs} {gs = gs} e) = changed_only (λ j. is_text_key (node j l gs) ≡ is_text_key (node j l fs)) refl k e
+key_alike (within {k = k} {l = l} h) = key_within k l h
+
+property_within : (k : AstType) (l : Label) {fs gs : Fields} → SameIn fs gs → is_plain_property (node k l gs) ≡ is_plain_property (node k l fs)
+property_within PatternProperty l (fields_alike (one_alike h) (fields_alike (one_alike v) no_fields)) = ap (λ b. not (has_computed PatternProperty l.flags) && b) (key_alike h)
+property_within PatternProperty l no_fields = refl
+property_within PatternProperty l (fields_alike both_missing r) = refl
+property_within PatternProperty l (fields_alike (many_alike h) r) = refl
+property_within PatternProperty l (fields_alike (statements_alike h) r) = refl
+property_within PatternProperty l (fields_alike (one_alike h) no_fields) = refl
+property_within PatternProperty l (fields_alike (one_alike h) (fields_alike both_missing r)) = refl
+property_within PatternProperty l (fields_alike (one_alike h) (fields_alike (many_alike v) r)) = refl
+property_within PatternProperty l (fields_alike (one_alike h) (fields_alike (statements_alike v) r)) = refl
+property_within PatternProperty l (fields_alike (one_alike h) (fields_alike (one_alike v) (fields_alike w r))) = refl
+property_within _ l h = refl
+
+property_alike : {t u : Tree} → Same t u → is_plain_property u ≡ is_plain_property t
+property_alike (changed {k = k} {l = l} {fs = fs} {gs = gs} e) = changed_only (λ j. is_plain_property (node j l gs) ≡ is_plain_property (node j l fs)) refl k e
+property_alike (within {k = k} {l = l} h) = property_within k l h
+
+rest_within : (k : AstType) (l : Label) {fs gs : Fields} → SameIn fs gs → is_named_rest (node k l gs) ≡ is_named_rest (node k l fs)
+rest_within RestElement l (fields_alike (one_alike h) no_fields) = name_alike h
+rest_within RestElement l no_fields = refl
+rest_within RestElement l (fields_alike both_missing r) = refl
+rest_within RestElement l (fields_alike (many_alike h) r) = refl
+rest_within RestElement l (fields_alike (statements_alike h) r) = refl
+rest_within RestElement l (fields_alike (one_alike h) (fields_alike v r)) = refl
+rest_within _ l h = refl
+
+rest_alike : {t u : Tree} → Same t u → is_named_rest u ≡ is_named_rest t
+rest_alike (changed {k = k} {l = l} {fs = fs} {gs = gs} e) = changed_only (λ j. is_named_rest (node j l gs) ≡ is_named_rest (node j l fs)) refl k e
+rest_alike (within {k = k} {l = l} h) = rest_within k l h
+
+ends_alike : {ts us : Trees} → SameAmong ts us → ends_in_rest us ≡ ends_in_rest ts
+ends_alike no_trees = refl
+ends_alike (trees_alike h no_trees) = rest_alike h
+ends_alike (trees_alike h (trees_alike g r)) = λ i. property_alike h i && ends_alike (trees_alike g r) i
+
+pattern_within : (k : AstType) (l : Label) {fs gs : Fields} → SameIn fs gs → is_plain_pattern (node k l gs) ≡ is_plain_pattern (node k l fs)
+pattern_within ObjectPattern l (fields_alike (many_alike h) no_fields) = ends_alike h
+pattern_within ObjectPattern l no_fields = refl
+pattern_within ObjectPattern l (fields_alike both_missing r) = refl
+pattern_within ObjectPattern l (fields_alike (one_alike h) r) = refl
+pattern_within ObjectPattern l (fields_alike (statements_alike h) r) = refl
+pattern_within ObjectPattern l (fields_alike (many_alike h) (fields_alike v r)) = refl
+pattern_within _ l h = refl
+
+pattern_alike : {t u : Tree} → Same t u → is_plain_pattern u ≡ is_plain_pattern t
+pattern_alike (changed {k = k} {l = l} {fs = fs} {gs = gs} e) = changed_only (λ j. is_plain_pattern (node j l gs) ≡ is_plain_pattern (node j l fs)) refl k e
+pattern_alike (within {k = k} {l = l} h) = pattern_within k l h
+
+-- DECLARATORS
+
+declarator_within : (k : AstType) (l : Label) {fs gs : Fields} → SameIn fs gs → is_rest_declarator (node k l gs) ≡ is_rest_declarator (node k l fs)
+declarator_within VariableDeclarator l (fields_alike (one_alike h) r) = rest_pattern_alike h
+declarator_within VariableDeclarator l no_fields = refl
+declarator_within VariableDeclarator l (fields_alike both_missing r) = refl
+declarator_within VariableDeclarator l (fields_alike (many_alike h) r) = refl
+declarator_within VariableDeclarator l (fields_alike (statements_alike h) r) = refl
+declarator_within _ l h = refl
+
+declarator_alike : {t u : Tree} → Same t u → is_rest_declarator u ≡ is_rest_declarator t
+declarator_alike (changed {k = k} {l = l} {fs = fs} {gs = gs} e) = changed_only (λ j. is_rest_declarator (node j l gs) ≡ is_rest_declarator (node j l fs)) refl k e
+declarator_alike (within {k = k} {l = l} h) = declarator_within k l h
+
+misplaced_alike : {t u : Tree} → Same t u → is_misplaced u ≡ is_misplaced t
+misplaced_alike h = λ i. rest_pattern_alike h i || declarator_alike h i
+
+odd_alike : {t u : Tree} → Same t u → is_odd_pattern u ≡ is_odd_pattern t
+odd_alike h = λ i. (rest_pattern_alike h i && not (pattern_alike h i)) || declarator_alike h i
+
+-- a declaration whose declarators are alike
+pub declaration_alike : (k : AstType) (l : Label) {fs gs : Fields} → SameIn fs gs → is_rest_declaration k l gs ≡ is_rest_declaration k l fs
+declaration_alike VariableDeclaration l (fields_alike (many_alike h) r) = any_alike is_rest_declarator (λ t u. declarator_alike) h
+declaration_alike VariableDeclaration l no_fields = refl
+declaration_alike VariableDeclaration l (fields_alike both_missing r) = refl
+declaration_alike VariableDeclaration l (fields_alike (one_alike h) r) = refl
+declaration_alike VariableDeclaration l (fields_alike (statements_alike h) r) = refl
+declaration_alike _ l h = refl
+
+-- EXPORTS, once no declaration in them is left to lower
+
+abbrev is_exported_rest : Tree → Bool
+is_exported_rest t = is_misplaced t || declares_rest t
+
+-- a node that holds no declaration is none
+none_itself : (t : Tree) → any_node is_rest_declaration t ≡ false → declares_rest t ≡ false
+none_itself (node k l fs) h = (or_parts (is_rest_declaration k l fs) (any_in_fields is_rest_declaration fs) h).0
+
+exported_tree : {t u : Tree} → Same t u → any_node is_rest_declaration u ≡ false → is_exported_rest t ≡ false → is_exported_rest u ≡ false
+exported_tree {t} {u} h none e = or_from (is_misplaced u) (declares_rest u) (misplaced_alike h ∙ (or_parts (is_misplaced t) (declares_rest t) e).0) (none_itself u none)
+
+exported_trees : {ts us : Trees} → SameAmong ts us → any_in_trees is_rest_declaration us ≡ false → any_tree is_exported_rest ts ≡ false → any_tree is_exported_rest us ≡ false
+exported_trees no_trees none e = refl
+exported_trees (trees_alike {t = t} {u = u} {ts = ts} {us = us} h r) none e =
+    let left = or_parts (any_node is_rest_declaration u) (any_in_trees is_rest_declaration us) none in
+    let parts = or_parts (is_exported_rest t) (any_tree is_exported_rest ts) e in
+    or_from (is_exported_rest u) (any_tree is_exported_rest us) (exported_tree h left.0 parts.0) (exported_trees r left.1 parts.1)
+
+exported_fields : {fs gs : Fields} → SameIn fs gs → any_in_fields is_rest_declaration gs ≡ false → any_child is_exported_rest fs ≡ false → any_child is_exported_rest gs ≡ false
+exported_fields no_fields none e = refl
+exported_fields (fields_alike both_missing r) none e = exported_fields r none e
+exported_fields (fields_alike {fs = fs} {gs = gs} (one_alike {t = t} {u = u} h) r) none e =
+    let left = or_parts (any_node is_rest_declaration u) (any_in_fields is_rest_declaration gs) none in
+    let parts = or_parts (is_exported_rest t) (any_child is_exported_rest fs) e in
+    or_from (is_exported_rest u) (any_child is_exported_rest gs) (exported_tree h left.0 parts.0) (exported_fields r left.1 parts.1)
+exported_fields (fields_alike {fs = fs} {gs = gs} (many_alike {ts = ts} {us = us} h) r) none e =
+    let left = or_parts (any_in_trees is_rest_declaration us) (any_in_fields is_rest_declaration gs) none in
+    let parts = or_parts (any_tree is_exported_rest ts) (any_child is_exported_rest fs) e in
+    or_from (any_tree is_exported_rest us) (any_child is_exported_rest gs) (exported_trees h left.0 parts.0) (exported_fields r left.1 parts.1)
+exported_fields (fields_alike {fs = fs} {gs = gs} (statements_alike {ts = ts} {us = us} h) r) none e =
+    let left = or_parts (any_in_trees is_rest_declaration us) (any_in_fields is_rest_declaration gs) none in
+    let parts = or_parts (any_tree is_exported_rest ts) (any_child is_exported_rest fs) e in
+    or_from (any_tree is_exported_rest us) (any_child is_exported_rest gs) (exported_trees h left.0 parts.0) (exported_fields r left.1 parts.1)
+
+-- STRAYS
+
+misplaced_child : {fs gs : Fields} → SameIn fs gs → any_child is_misplaced fs ≡ false → any_child is_misplaced gs ≡ false
+misplaced_child h e = child_alike is_misplaced (λ t u. misplaced_alike) h ∙ e
+
+pub stray_alike : (k : AstType) (l : Label) {fs gs : Fields} → SameIn fs gs → any_in_fields is_rest_declaration gs ≡ false → is_stray_rest k l fs ≡ false → is_stray_rest k l gs ≡ false
+stray_alike VariableDeclarator l (fields_alike (one_alike h) (fields_alike (one_alike g) no_fields)) none e = (λ i. odd_alike h i || misplaced_alike g i) ∙ e
+stray_alike VariableDeclarator l no_fields none e = refl
+stray_alike VariableDeclarator l (fields_alike both_missing r) none e = misplaced_child (fields_alike both_missing r) e
+stray_alike VariableDeclarator l (fields_alike (many_alike h) r) none e = misplaced_child (fields_alike (many_alike h) r) e
+stray_alike VariableDeclarator l (fields_alike (statements_alike h) r) none e = misplaced_child (fields_alike (statements_alike h) r) e
+stray_alike VariableDeclarator l (fields_alike (one_alike h) no_fields) none e = misplaced_child (fields_alike (one_alike h) no_fields) e
+stray_alike VariableDeclarator l (fields_alike (one_alike h) (fields_alike both_missing r)) none e = misplaced_child (fields_alike (one_alike h) (fields_alike both_missing r)) e
+stray_alike VariableDeclarator l (fields_alike (one_alike h) (fields_alike (many_alike g) r)) none e = misplaced_child (fields_alike (one_alike h) (fields_alike (many_alike g) r)) e
+stray_alike VariableDeclarator l (fields_alike (one_alike h) (fields_alike (statements_alike g) r)) none e = misplaced_child (fields_alike (one_alike h) (fields_alike (statements_alike g) r)) e
+stray_alike VariableDeclarator l (fields_alike (one_alike h) (fields_alike (one_alike g) (fields_alike v r))) none e = misplaced_child (fields_alike (one_alike h) (fields_alike (one_alike g) (fields_alike v r))) e
+stray_alike VariableDeclaration l (fields_alike (many_alike h) no_fields) none e = any_alike is_rest_pattern (λ t u. rest_pattern_alike) h ∙ e
+stray_alike VariableDeclaration l no_fields none e = refl
+stray_alike VariableDeclaration l (fields_alike both_missing r) none e = misplaced_child (fields_alike both_missing r) e
+stray_alike VariableDeclaration l (fields_alike (one_alike h) r) none e = misplaced_child (fields_alike (one_alike h) r) e
+stray_alike VariableDeclaration l (fields_alike (statements_alike h) r) none e = misplaced_child (fields_alike (statements_alike h) r) e
+stray_alike VariableDeclaration l (fields_alike (many_alike h) (fields_alike v r)) none e = misplaced_child (fields_alike (many_alike h) (fields_alike v r)) e
+stray_alike ExportNamedDeclaration l h none e = exported_fields h none e
+stray_alike _ l h none e = misplaced_child h e
+
+-- IDS OWED
+
+pub owes_alike : (k : AstType) (l : Label) {fs gs : Fields} → SameIn fs gs → rest_owes k l gs ≡ rest_owes k l fs
+owes_alike ObjectPattern l (fields_alike (many_alike h) r) = λ i. if kinds_alike h i then 10 + number_alike h i else 0
+owes_alike ObjectPattern l no_fields = refl
+owes_alike ObjectPattern l (fields_alike both_missing r) = refl
+owes_alike ObjectPattern l (fields_alike (one_alike h) r) = refl
+owes_alike ObjectPattern l (fields_alike (statements_alike h) r) = refl
+owes_alike _ l h = refl

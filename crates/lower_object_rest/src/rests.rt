@@ -1,0 +1,172 @@
+//! A pattern with a rest, as declarators without one: the rest is what a helper answers that copies all but the keys before.
+ghost use Rattle.std.specs.Prelude.{◌+◌, ◌-◌, ◌<◌, ◌≡◌, ◌^◌, ◌∷◌, IfOk, OnOk, Option, [], length, string_bytes, true, ℕ};
+ghost use Rattle.es_tree.specs.Tree.{node, trees};
+ghost use Rattle.es_tree.specs.Views.{plain_fields};
+ghost use Rattle.es_tree.specs.Words.{Text};
+ghost use Rattle.es_tree.specs.declared.ast_type.AstType.TheVariants.{ArrayExpression};
+ghost use Rattle.es_resolution.specs.Seen.{seen, seen_in};
+ghost use Rattle.es_steps.specs.Nodes.{call_node, made, string_node};
+ghost use Rattle.es_rest_rows.specs.RestRows.{keys_of};
+ghost use Rattle.es_rest_shapes.specs.RestShapes.{are_plain, is_name, is_plain_pattern, is_plain_property, is_text_key};
+ghost use Rattle.lower_object_rest.specs.Parts.{Takes, TakesApart, key_of, key_of_property, members_of, rest_helper, text_elements};
+ghost use Rattle.lower_temporaries.specs.Takings.{ReadsMore};
+
+use es_expressions::composites::new_array_expression;
+use es_expressions::literals::{new_identifier, new_string_literal};
+use es_expressions::members::{new_call_expression, new_member_expression};
+use es_patterns::patterns::{ObjectPattern, RestElement};
+use es_scope::context::TraverseCtx;
+use es_statements::program::new_variable_declarator;
+use es_tree::builder::AstBuilder;
+use es_tree::ids::{NodeId, Span};
+use es_tree::kind::Kind;
+use es_tree::node::{Field, Node};
+use lower_temporaries::declarations::MADE;
+use lower_temporaries::readings::read_once_more;
+use lower_temporaries::state::TransformState;
+use lower_temporaries::temporaries::read_name;
+use std::alloc::{AllocError, Global};
+
+/// A pattern with a rest, taken apart.
+#[derive(Drop)]
+pub(crate) struct RestPattern {
+    pub(crate) id: NodeId,
+    pub(crate) span: Span,
+    /// The properties before the rest.
+    pub(crate) properties: Vec<Node>,
+    /// The name of the rest.
+    pub(crate) target: Node,
+}
+
+/// The declarators `{ a } = s` and `b = babelHelpers.objectWithoutProperties(s, ["a"])` for the pattern `{ a, ...b }` and its source `s`,
+/// which is a name. Fails only for want of memory.
+pub(crate) fn take_rest(
+    pattern: Node,
+    source: Node,
+    ctx: &mut TraverseCtx<TransformState>,
+) -> Result<(Node, Node), AllocError>
+    requires plain { is_plain_pattern pattern ≡ true }
+    requires name { is_name source ≡ true }
+    requires room { ctx.old.ast.next + 7 + members_of pattern < 2 ^ 32 }
+    ensures { IfOk result (λ made. Takes ctx.old ctx.new pattern source made.0 made.1) }
+{
+    let RestPattern {
+        id,
+        span,
+        properties,
+        target,
+    } = open_pattern(pattern);
+    let keys = new_keys(properties.as_slice(), &mut ctx.ast)?;
+    let without = ObjectPattern {
+        id,
+        span,
+        properties,
+    };
+    let pattern = without.close(ctx.ast.alloc)?;
+    let value = new_value(&source, keys, ctx)?;
+    let first = new_variable_declarator(&mut ctx.ast, MADE, pattern, Some(source))?;
+    let last = new_variable_declarator(&mut ctx.ast, MADE, target, Some(value))?;
+    Ok((first, last))
+}
+
+/// Takes a pattern with a rest apart.
+fn open_pattern(pattern: Node) -> RestPattern
+    requires { is_plain_pattern pattern ≡ true }
+    ensures { TakesApart pattern result }
+{
+    let ObjectPattern {
+        id,
+        span,
+        mut properties,
+    } = ObjectPattern::open(pattern);
+    let rest = match properties.pop() {
+        Some(rest) => rest,
+        None => unreachable!(),
+    };
+    let RestElement {
+        id: _id,
+        span: _span,
+        argument,
+    } = RestElement::open(rest);
+    RestPattern {
+        id,
+        span,
+        properties,
+        target: argument,
+    }
+}
+
+/// The keys of these properties, as texts: `"a"` for `a: x` and for `"a": x`.
+fn new_keys(properties: &[Node], ast: &mut AstBuilder) -> Result<Vec<Field>, AllocError>
+    requires plain { are_plain (trees properties.now) ≡ true }
+    requires room { ast.old.next + length properties.now < 2 ^ 32 }
+    ensures made { IfOk result (λ keys. (names : ℕ → Text → Option ℕ) → seen_in names (plain_fields keys.items) ≡ text_elements (keys_of (trees properties.now))) }
+    ensures counted { OnOk result (ast.new.next ≡ ast.old.next + length properties.now) }
+{
+    let mut keys = Vec::new(ast.alloc);
+    for property in properties {
+        let key = new_key(property, ast)?;
+        keys.push(Field::One(key))?;
+    }
+    Ok(keys)
+}
+
+/// The key of a property, as a text.
+fn new_key(property: &Node, ast: &mut AstBuilder) -> Result<Node, AllocError>
+    requires plain { is_plain_property property.now ≡ true }
+    requires room { ast.old.next + 1 < 2 ^ 32 }
+    ensures made { IfOk result (λ key. (names : ℕ → Text → Option ℕ) → seen names key ≡ string_node (key_of_property property.now)) }
+    ensures counted { OnOk result (ast.new.next ≡ ast.old.next + 1) }
+{
+    let key = match property.child_at(0) {
+        Some(key) => key,
+        None => unreachable!(),
+    };
+    let text = key_text(key, ast.alloc)?;
+    let made = new_string_literal(ast, MADE, text)?;
+    Ok(made)
+}
+
+/// The text of a key that is a name or a text.
+fn key_text(key: &Node, alloc: Global) -> Result<String, AllocError>
+    requires { is_text_key key.now ≡ true }
+    ensures { IfOk result (λ text. string_bytes text ≡ key_of key.now) }
+{
+    match &key.kind {
+        Kind::Identifier { name, .. } => String::from_str(alloc, name.as_str()),
+        Kind::StringLiteral { value } => String::from_str(alloc, value.as_str()),
+        _ => unreachable!(),
+    }
+}
+
+/// `babelHelpers.objectWithoutProperties(s, ["a"])` for a source `s` and the texts of these keys.
+fn new_value(
+    source: &Node,
+    keys: Vec<Field>,
+    ctx: &mut TraverseCtx<TransformState>,
+) -> Result<Node, AllocError>
+    requires name { is_name source.now ≡ true }
+    requires room { ctx.old.ast.next + 6 < 2 ^ 32 }
+    ensures made { IfOk result (λ value. (names : ℕ → Text → Option ℕ) → seen names value ≡ call_node rest_helper (seen names source.now ∷ node ArrayExpression (made [] []) (seen_in names (plain_fields keys.items)) ∷ [])) }
+    ensures reads { OnOk result (ReadsMore 6 ctx.old ctx.new) }
+{
+    let callee = new_helper(ctx)?;
+    let again = read_once_more(source, ctx)?;
+    let array = new_array_expression(&mut ctx.ast, MADE, keys)?;
+    let arguments = Vec::from_array(ctx.ast.alloc, [again, array])?;
+    let value = new_call_expression(&mut ctx.ast, MADE, false, callee, arguments)?;
+    Ok(value)
+}
+
+/// `babelHelpers.objectWithoutProperties`.
+fn new_helper(ctx: &mut TraverseCtx<TransformState>) -> Result<Node, AllocError>
+    requires room { ctx.old.ast.next + 3 < 2 ^ 32 }
+    ensures made { IfOk result (λ node. (names : ℕ → Text → Option ℕ) → seen names node ≡ rest_helper) }
+    ensures reads { OnOk result (ReadsMore 3 ctx.old ctx.new) }
+{
+    let object = read_name("babelHelpers", None, ctx)?;
+    let name = String::from_str(ctx.ast.alloc, "objectWithoutProperties")?;
+    let property = new_identifier(&mut ctx.ast, MADE, name)?;
+    let helper = new_member_expression(&mut ctx.ast, MADE, false, false, object, property)?;
+    Ok(helper)
+}
