@@ -3,7 +3,7 @@
 use Rattle.std.proofs.Common.{◌≡◌, ℕ, zero, suc, ◌+◌, refl, sym, ap, subst, ◌∙◌, List, [], ◌∷◌}
 use Rattle.std.specs.Prelude.{Bool, true, false, not, ◌&&◌, ◌||◌, Option, Some, None, bytes_eq, is_some, codes, if◌then◌else◌}
 use Rattle.std.proofs.lemmas.Bool.{and_from, and_parts, true≢false}
-use Rattle.es_tree.specs.Constructs.{any_kind, field_at, has_member, is_big_int, is_child, is_exponentiation, is_object_rest, is_object_spread, is_spread, is_using}
+use Rattle.es_tree.specs.Constructs.{any_kind, field_at, has_member, is_big_int, is_child, is_exponentiation, is_object_spread, is_spread, is_using}
 use Rattle.es_tree.specs.HasForm.{has_form}
 use Rattle.es_tree.specs.Names.{first_text}
 use Rattle.es_tree.specs.Options.{is_external}
@@ -37,8 +37,10 @@ use Rattle.es_valid_steps.proofs.Visits.{law_among_proof, law_places_proof}
 use Rattle.es_conditions.specs.CoreConditions.{body_site, each_passes, each_passes_among, each_passes_by, each_passes_in, holds_none_where, is_chain_inside, is_copy_free, is_known, is_power_free, is_settled, is_unmarked_chain, is_wrapped}
 use Rattle.es_conditions.proofs.Inward.{is-known}
 use Rattle.es_conditions.proofs.Marks.{none-where}
+use Rattle.es_rest_shapes.specs.HelperNames.{binds_helpers}
+use Rattle.es_rest_shapes.specs.RestShapes.{is_rest_declaration, is_stray_rest}
 use Rattle.es_unsupported.specs.FirstUnsupported.{first_among, first_unsupported, found_at}
-use Rattle.es_unsupported.specs.Shapes.{is_helper_bound, is_math_bound, is_unbuilt, shape_at}
+use Rattle.es_unsupported.specs.Shapes.{is_helper_bound, is_math_bound, is_unbuilt, needs_helper, shape_at}
 use Rattle.es_unsupported.proofs.Firsts.{left_none, right_none}
 use Rattle.es_unsupported.proofs.Taken.{each-none, none_found, taken-shapes}
 use Rattle.es_starts.specs.Starts.{LawFirstConditions}
@@ -178,6 +180,20 @@ asked-by-name false external is bound built e = refl
 asked-by-name true true is bound built e = e
 asked-by-name true false is bound built e = ap (λ b. b && bound) built
 
+-- a spread is one of those that need a helper
+spread-built : (asked external spread declared : Bool) → (asked && not external && (spread || declared)) ≡ false → (asked && not external && spread) ≡ false
+spread-built true false false declared e = refl
+spread-built true false true declared e = absurd (cc e)
+spread-built true true spread declared e = refl
+spread-built false external spread declared e = refl
+
+spread-unbound : (asked external spread bound declared binds : Bool) → (asked && external && ((spread && bound) || (declared && binds))) ≡ false → (asked && external && spread && bound) ≡ false
+spread-unbound true true true true declared binds e = absurd (cc e)
+spread-unbound true true true false declared binds e = refl
+spread-unbound true true false bound declared binds e = refl
+spread-unbound true false spread bound declared binds e = refl
+spread-unbound false external spread bound declared binds e = refl
+
 second-of-three : (a b c : Bool) → (a || b || c) ≡ false → b ≡ false
 second-of-three a false c e = refl
 second-of-three true true c e = absurd (cc e)
@@ -200,10 +216,13 @@ module _ (o : EnvOptions) (F : List Declared) where
       let look : (x : Text) → m.names.scope x ≡ find F p.around x = λ x. (λ i. same i x) ∙ found.scope x in
       let power = (λ i. is_unbound_where (o.es2016.exponentiation_operator && power-kept F ps next k l marks fs i) (look (codes "Math") i)) ∙
       not-bound o.es2016.exponentiation_operator (is_exponentiation k l fs) (is_some (find F p.around (codes "Math"))) (first-unbound o F p.around k l fs none) in
-      let built : (is_some o.es2018.object_rest_spread && not (is_external o.helper_loader.mode) && is_object_spread k l fs) ≡ false =
-      second-of-three (is_some o.es2018.object_rest_spread && is_object_rest k l fs) (is_some o.es2018.object_rest_spread && not (is_external o.helper_loader.mode) && is_object_spread k l fs) (o.es2026.explicit_resource_management && is_using k l fs) (is-built o F p.around k l fs none) in
-      let copy = (λ i. is_unbound_where (is_some o.es2018.object_rest_spread && spread-kept F ps next k l marks fs i) (look (codes "babelHelpers") i)) ∙
-      not-bound (is_some o.es2018.object_rest_spread) (is_object_spread k l fs) (is_some (find F p.around (codes "babelHelpers"))) (asked-by-name (is_some o.es2018.object_rest_spread) (is_external o.helper_loader.mode) (is_object_spread k l fs) (is_some (find F p.around (codes "babelHelpers"))) built (second-unbound o F p.around k l fs none)) in
+      let asked = is_some o.es2018.object_rest_spread in
+      let external = is_external o.helper_loader.mode in
+      let bound = is_some (find F p.around (codes "babelHelpers")) in
+      let built = second-of-three (asked && is_stray_rest k l fs) (asked && not external && needs_helper k l fs) (o.es2026.explicit_resource_management && is_using k l fs) (is-built o F p.around k l fs none) in
+      let unbound = asked-by-name asked external (is_object_spread k l fs) bound (spread-built asked external (is_object_spread k l fs) (is_rest_declaration k l fs) built)
+      (spread-unbound asked external (is_object_spread k l fs) bound (is_rest_declaration k l fs) (binds_helpers F) (second-unbound o F p.around k l fs none)) in
+      let copy = (λ i. is_unbound_where (asked && spread-kept F ps next k l marks fs i) (look (codes "babelHelpers") i)) ∙ not-bound asked (is_object_spread k l fs) bound unbound in
       and_from (is_power_free o m k (marked l marks) (resolved_in F ps next fs)) (is_copy_free o m k (marked l marks) (resolved_in F ps next fs)) power copy
 
   -- the site of the body of an arrow is near that of its field

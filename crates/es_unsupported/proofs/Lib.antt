@@ -9,3 +9,4 @@ pub mod Programs
 pub mod Taken
 pub mod ArrowsTaken
 pub mod Built
+pub mod HelpersFree

@@ -1,17 +1,16 @@
 -- The walk over a whole program with its marks, and the shapes that are looked for.
 use Rattle.std.proofs.Common.{◌≡◌, ℕ, zero, suc, ◌+◌, ◌≤◌, List, [], ◌∷◌, Bool, true, false, ◌&&◌, ◌||◌, not, Some, None, is_some, codes, if◌then◌else◌, refl, sym, ap, subst, ◌∙◌, arith}
 use Rattle.std.specs.Option.{option_or}
-use Rattle.es_tree.specs.Constructs.{is_exponentiation, is_object_rest, is_object_spread, is_using}
+use Rattle.es_tree.specs.Constructs.{is_exponentiation, is_object_spread, is_using}
 use Rattle.es_tree.specs.Marks.{with_scope}
 use Rattle.es_tree.specs.Options.{is_external}
 use Rattle.es_tree.specs.Tree.{Tree, node, Label, Fields, done, ◌then◌, Field, missing, one, many, statements, Trees, empty, ◌before◌}
 use Rattle.es_tree.specs.Walks.{all_nodes}
-use Rattle.es_tree.specs.Words.{Text}
 use Rattle.es_tree.specs.declared.ast_type.AstType.{AstType}
 use Rattle.es_tree.specs.declared.ast_type.AstType.TheVariants.{Program}
 use Rattle.es_tree.specs.declared.error.UnsupportedKind.TheVariants.{ArrowOuter}
 use Rattle.es_tree.specs.declared.options.EnvOptions.{EnvOptions}
-use Rattle.es_scope.specs.Tables.{binding_in, scope_count}
+use Rattle.es_scope.specs.Tables.{scope_count}
 use Rattle.es_scope.specs.declared.scoping.Scoping.{Scoping}
 use Rattle.es_semantic.specs.Places.{Place, outermost, own_scope, own_scope_count, place_in, scope_count_in, scope_count_in_field}
 use Rattle.es_semantic.specs.ReferencesOf.{marked_tree}
@@ -20,16 +19,17 @@ use Rattle.es_semantic.specs.Walks.{Binds}
 use Rattle.es_semantic.proofs.LookUps.{found-at-place}
 use Rattle.es_semantic.proofs.VisitCounts.{scopes_count}
 use Rattle.es_valid_steps.specs.ArrowNodes.{is_arrow_accessor}
+use Rattle.es_rest_shapes.specs.HelperNames.{binds_helpers}
+use Rattle.es_rest_shapes.specs.RestShapes.{is_rest_declaration, is_stray_rest}
 use Rattle.es_unsupported.specs.ArrowShapes.{arrow_place_in, arrow_shape, binds_arguments, inner_shape, outside, refers_by}
 use Rattle.es_unsupported.specs.FirstUnsupported.{IsBuilt, first_of, first_of_field, first_of_fields, first_of_trees, first_unsupported, found_at}
 use Rattle.es_unsupported.specs.MarkedWalk.{LooksUp, first_at, has_known_scope}
-use Rattle.es_unsupported.specs.Shapes.{copies_by_name, has_chain_tag, shape_at}
+use Rattle.es_unsupported.specs.Shapes.{copies_by_name, has_chain_tag, needs_helper, shape_at}
 use Rattle.es_unsupported.specs.SpreadLiterals.{is_uncopied}
 use Rattle.es_unsupported.specs.Wanted.{IsWanted}
 use Rattle.es_unsupported.specs.declared.arrow_places.ArrowPlace.{ArrowPlace}
 use Rattle.es_unsupported.specs.declared.shapes.Wanted.{Wanted}
 use Rattle.es_unsupported.proofs.MarkedTrees.{first-marked, known-marked, looks-up-marked}
-use Rattle.es_unsupported.proofs.Unbound.{found_nowhere}
 
 -- THE MARK OF THE PROGRAM'S SCOPE
 
@@ -88,17 +88,38 @@ imported_never : (wanted asked imports is : Bool) → wanted ≡ (asked && impor
 imported_never wanted true imports is same none = ap (λ b. b && is) (sym same ∙ none)
 imported_never wanted false imports is same none = refl
 
+pub helpers_never : (wanted copies spread bound declared binds : Bool) → (wanted && bound) ≡ (copies && bound) → wanted ≡ (copies && binds) → wanted ≡ false → (copies && ((spread && bound) || (declared && binds))) ≡ false
+helpers_never wanted copies spread bound declared binds found named none = at copies spread bound declared binds (sym found ∙ ap (λ b. b && bound) none) (sym named ∙ none)
+  where
+    at : (copies spread bound declared binds : Bool) → (copies && bound) ≡ false → (copies && binds) ≡ false → (copies && ((spread && bound) || (declared && binds))) ≡ false
+    at false spread bound declared binds e h = refl
+    at true spread true declared binds e h = absurd (cc e)
+    at true spread false declared true e h = absurd (cc h)
+    at true true false true false e h = refl
+    at true true false false false e h = refl
+    at true false false true false e h = refl
+    at true false false false false e h = refl
+
+pub helpers_same : (wanted copies spread bound declared binds : Bool) → wanted ≡ (copies && binds) → wanted ≡ true → ((spread && bound) || declared) ≡ (copies && ((spread && bound) || (declared && binds)))
+helpers_same wanted true spread bound declared true named on = ap (λ b. (spread && bound) || b) (and-true declared)
+  where
+    and-true : (a : Bool) → a ≡ (a && true)
+    and-true true = refl
+    and-true false = refl
+helpers_same wanted true spread bound declared false named on = absurd (cc (sym named ∙ on))
+helpers_same wanted false spread bound declared binds named on = absurd (cc (sym named ∙ on))
+
 neither : (a b : Bool) → (a || b) ≡ false → (a ≡ false) × (b ≡ false)
 neither false b e = (refl, e)
 neither true b e = absurd (cc)
 
 abbrev pub any_wanted : Wanted → Bool
-any_wanted w = w.object_rest || w.imported_spread || w.using_declaration || w.math_bound || w.helper_name || w.spread_literal || w.tag_chain || w.arrows
+any_wanted w = w.stray_rest || w.imported_helper || w.using_declaration || w.math_bound || w.helper_name || w.spread_literal || w.tag_chain || w.arrows
 
 -- none of them is looked for
 record IsNone (w : Wanted) : Type 0 where
-  object_rest : w.object_rest ≡ false
-  imported_spread : w.imported_spread ≡ false
+  stray_rest : w.stray_rest ≡ false
+  imported_helper : w.imported_helper ≡ false
   using_declaration : w.using_declaration ≡ false
   math_bound : w.math_bound ≡ false
   helper_name : w.helper_name ≡ false
@@ -108,14 +129,14 @@ record IsNone (w : Wanted) : Type 0 where
 
 is_none : (w : Wanted) → any_wanted w ≡ false → IsNone w
 is_none w none =
-    let a = neither (w.object_rest || w.imported_spread || w.using_declaration || w.math_bound || w.helper_name || w.spread_literal || w.tag_chain) w.arrows none in
-    let b = neither (w.object_rest || w.imported_spread || w.using_declaration || w.math_bound || w.helper_name || w.spread_literal) w.tag_chain a.0 in
-    let c = neither (w.object_rest || w.imported_spread || w.using_declaration || w.math_bound || w.helper_name) w.spread_literal b.0 in
-    let d = neither (w.object_rest || w.imported_spread || w.using_declaration || w.math_bound) w.helper_name c.0 in
-    let e = neither (w.object_rest || w.imported_spread || w.using_declaration) w.math_bound d.0 in
-    let f = neither (w.object_rest || w.imported_spread) w.using_declaration e.0 in
-    let g = neither w.object_rest w.imported_spread f.0 in
-    record { object_rest = g.0; imported_spread = g.1; using_declaration = f.1; math_bound = e.1; helper_name = d.1; spread_literal = c.1; tag_chain = b.1; arrows = a.1 }
+    let a = neither (w.stray_rest || w.imported_helper || w.using_declaration || w.math_bound || w.helper_name || w.spread_literal || w.tag_chain) w.arrows none in
+    let b = neither (w.stray_rest || w.imported_helper || w.using_declaration || w.math_bound || w.helper_name || w.spread_literal) w.tag_chain a.0 in
+    let c = neither (w.stray_rest || w.imported_helper || w.using_declaration || w.math_bound || w.helper_name) w.spread_literal b.0 in
+    let d = neither (w.stray_rest || w.imported_helper || w.using_declaration || w.math_bound) w.helper_name c.0 in
+    let e = neither (w.stray_rest || w.imported_helper || w.using_declaration) w.math_bound d.0 in
+    let f = neither (w.stray_rest || w.imported_helper) w.using_declaration e.0 in
+    let g = neither w.stray_rest w.imported_helper f.0 in
+    record { stray_rest = g.0; imported_helper = g.1; using_declaration = f.1; math_bound = e.1; helper_name = d.1; spread_literal = c.1; tag_chain = b.1; arrows = a.1 }
 
 -- WHERE NO NODE HAS A SHAPE
 
@@ -145,11 +166,11 @@ no-shape : (w : Wanted) (o : EnvOptions) (ds : List Declared) → IsWanted w o d
 no-shape w o ds wanted none up k l fs =
     let n = is_none w none in
     rw (
-      asked_never w.object_rest (is_some o.es2018.object_rest_spread) (is_object_rest k l fs) wanted.rests n.object_rest,
-      imported_never w.imported_spread (is_some o.es2018.object_rest_spread) (not (is_external o.helper_loader.mode)) (is_object_spread k l fs) wanted.spreads n.imported_spread,
+      asked_never w.stray_rest (is_some o.es2018.object_rest_spread) (is_stray_rest k l fs) wanted.rests n.stray_rest,
+      imported_never w.imported_helper (is_some o.es2018.object_rest_spread) (not (is_external o.helper_loader.mode)) (needs_helper k l fs) wanted.imports n.imported_helper,
       asked_never w.using_declaration o.es2026.explicit_resource_management (is_using k l fs) wanted.declarations n.using_declaration,
       bound_never w.math_bound o.es2016.exponentiation_operator (is_exponentiation k l fs) (is_some (find ds up (codes "Math"))) (wanted.math up) n.math_bound,
-      bound_never w.helper_name (copies_by_name o) (is_object_spread k l fs) (is_some (find ds up (codes "babelHelpers"))) (wanted.helpers up) n.helper_name,
+      helpers_never w.helper_name (copies_by_name o) (is_object_spread k l fs) (is_some (find ds up (codes "babelHelpers"))) (is_rest_declaration k l fs) (binds_helpers ds) (wanted.helpers up) wanted.bound_helpers n.helper_name,
       asked_never w.spread_literal (is_some o.es2018.object_rest_spread) (is_uncopied k l fs) wanted.literals n.spread_literal,
       asked_never w.tag_chain o.es2020.optional_chaining (has_chain_tag k l fs) wanted.chains n.tag_chain,
     ) refl
@@ -158,8 +179,3 @@ pub none_wanted : (w : Wanted) (o : EnvOptions) (p : Tree) → IsWanted w o (sym
 none_wanted w o p wanted none =
     let ds = symbols_of p in
     none-of o ds (no-shape w o ds wanted none) (no-arrow-shape o (sym wanted.arrows ∙ (is_none w none).arrows)) (outermost p) outside 1 p
-
--- where no scope binds a name, it need not be looked up
-pub never_bound : (x : Text) (ds : List Declared) (s : Scoping) (may : Bool) → Binds ds s → (may ≡ false → (n : ℕ) → binding_in s n x ≡ None) → (up : List ℕ) → (may && is_some (find ds up x)) ≡ is_some (find ds up x)
-never_bound x ds s true binds none up = refl
-never_bound x ds s false binds none up = sym (ap is_some (found_nowhere ds s x binds (none refl) up))

@@ -3,9 +3,10 @@ use Rattle.std.specs.Prelude.{◌≡◌, ℕ, List, [], ◌∷◌, Bool, true, f
 use Rattle.es_tree.specs.HasForm.{has_form}
 use Rattle.es_tree.specs.Order.{renumber}
 use Rattle.es_tree.specs.Tree.{Tree, node, done, ◌then◌, missing, one, many, statements, empty, trees}
+use Rattle.es_tree.specs.Words.{Text}
 use Rattle.es_tree.specs.declared.ast_type.AstType.TheVariants.{ArrowFunctionExpression, AssignmentPattern, ClassDeclaration, FunctionDeclaration, FunctionExpression, LogicalExpression, MethodDefinition, ObjectPattern, Program, RestElement, Super, UnaryExpression, VariableDeclaration, VariableDeclarator}
 use Rattle.es_tree.specs.declared.error.UnsupportedKind.{UnsupportedKind}
-use Rattle.es_tree.specs.declared.error.UnsupportedKind.TheVariants.{ArrowOuter, ArrowThis, NotBuilt}
+use Rattle.es_tree.specs.declared.error.UnsupportedKind.TheVariants.{ArrowOuter, ArrowThis, HelperName, NotBuilt}
 use Rattle.es_tree.specs.declared.options.EnvOptions.{EnvOptions}
 use Rattle.es_tree.specs.declared.options.HelperLoaderMode.TheVariants.{External}
 use Rattle.es_tree.specs.declared.table.Sort.TheVariants.{Program as s-Program}
@@ -67,12 +68,16 @@ parameter_with e = node AssignmentPattern (made [] []) (one (word (codes "a")) t
 abbrev pub deleted : Tree → Tree
 deleted e = node UnaryExpression (made (Some (codes "delete") ∷ []) []) (one e then done)
 
--- `let { ...a } = b;`
-abbrev pub rest_declaration : Tree
-rest_declaration =
-    let rest : Tree = node RestElement (made [] []) (one (word (codes "a")) then done) in
-    let pattern : Tree = node ObjectPattern (made [] []) (many (trees (rest ∷ [])) then done) in
-    let declarator : Tree = node VariableDeclarator (made [] []) (one pattern then one (word (codes "b")) then done) in
+-- `{ ...x }`
+abbrev pub rest_pattern : Text → Tree
+rest_pattern x =
+    let rest : Tree = node RestElement (made [] []) (one (word x) then done) in
+    node ObjectPattern (made [] []) (many (trees (rest ∷ [])) then done)
+
+-- `let { ...x } = b;`
+abbrev pub rest_declaration : Text → Tree
+rest_declaration x =
+    let declarator : Tree = node VariableDeclarator (made [] []) (one (rest_pattern x) then one (word (codes "b")) then done) in
     node VariableDeclaration (made (Some (codes "let") ∷ []) []) (many (trees (declarator ∷ [])) then done)
 
 -- EXAMPLES
@@ -100,5 +105,7 @@ pub record LawShapeExamples : Type 0 where
   -- `function f(a = this.c ?? b) {}`, where `??` is lowered, and where it isn't
   pub in_slot : Finds true false (function_node (parameter_with (coalescing (member_node this_expression (codes "c"))) ∷ []) [] ∷ []) (Some (ArrowThis, 7))
   pub in_parameter : Finds false false (function_node (parameter_with (coalescing (member_node this_expression (codes "c"))) ∷ []) [] ∷ []) None
-  -- `let { ...a } = b;`, where object rests are lowered
-  pub object_rest : Finds false true (rest_declaration ∷ []) (Some (NotBuilt, 3))
+  -- where object rests are lowered, `let { ...a } = b;`, `function f({ ...a }) {}` and `let { ...babelHelpers } = b;`
+  pub object_rest : Finds false true (rest_declaration (codes "a") ∷ []) None
+  pub rest_parameter : Finds false true (function_node (rest_pattern (codes "a") ∷ []) [] ∷ []) (Some (NotBuilt, 1))
+  pub bound_helper : Finds false true (rest_declaration (codes "babelHelpers") ∷ []) (Some (HelperName, 1))

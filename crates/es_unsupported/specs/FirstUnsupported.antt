@@ -17,7 +17,7 @@ use Rattle.es_unsupported.specs.declared.arrow_places.ArrowPlace.{ArrowPlace}
 abbrev pub found_at : ℕ → Option UnsupportedKind → Option (UnsupportedKind × ℕ)
 found_at id shape = option_map (λ s. (s, id)) shape
 
--- at the first of these nodes that has a shape of the table: where none has, and none stands in the way of arrows, a run takes the program
+-- at the first of these nodes that has a shape of the table
 abbrev pub first_among : EnvOptions → List Declared → List Visit → Option (UnsupportedKind × ℕ)
 first_among o ds [] = None
 first_among o ds (v ∷ vs) = option_or (found_at v.label.id (shape_at o ds v.place.around v.kind v.label v.fields)) (first_among o ds vs)

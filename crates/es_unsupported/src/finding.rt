@@ -3,7 +3,7 @@
 //! The shapes that a node and its scopes tell are the rows of one table, asked in order at each node. A shape more is a row
 //! of `specs/Shapes.antt`, and a test in `shapes.rt`. After them comes what stands in the way of arrows, which the places
 //! around tell, too (`specs/ArrowShapes.antt`, `arrow_shapes.rt`).
-ghost use Rattle.std.specs.Prelude.{◌≡◌, ℕ, ◌<◌, List, true, option_map};
+ghost use Rattle.std.specs.Prelude.{◌≡◌, ℕ, ◌<◌, ◌^◌, List, true, option_map};
 ghost use Rattle.es_tree.specs.Tree.{Tree, trees};
 ghost use Rattle.es_tree.specs.Views.{plain_field, plain_fields};
 ghost use Rattle.es_tree.specs.Walks.{all_nodes, all_in_field};
@@ -34,6 +34,7 @@ pub fn find_unsupported(
     options: &EnvOptions,
 ) -> Option<(UnsupportedKind, NodeId)>
     requires built { (p : Tree) × IsBuilt p program.now scoping.now }
+    requires few { scope_count scoping.now < 2 ^ 32 }
     ensures first { (p : Tree) → IsBuilt p program.now scoping.now → option_map plain_found result ≡ first_unsupported options.now p }
 {
     let wanted = Wanted::of_program(scoping, options);

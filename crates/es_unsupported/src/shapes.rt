@@ -1,5 +1,5 @@
 //! The shapes that a run doesn't take, each told at a node and the scope that the node stands in.
-ghost use Rattle.std.specs.Prelude.{◌≡◌, ℕ, ◌<◌, ◌||◌, List, codes, is_some};
+ghost use Rattle.std.specs.Prelude.{◌≡◌, ℕ, ◌<◌, ◌^◌, ◌&&◌, ◌||◌, List, codes, is_some, not};
 ghost use Rattle.std.specs.Option.{option_or};
 ghost use Rattle.es_tree.specs.Options.{is_external};
 ghost use Rattle.es_tree.specs.Tree.{fields_of, kind_of, label_of};
@@ -9,17 +9,19 @@ ghost use Rattle.es_scope.specs.Tables.{scope_count};
 ghost use Rattle.es_semantic.specs.Places.{first};
 ghost use Rattle.es_semantic.specs.SymbolsOf.{Declared, find};
 ghost use Rattle.es_semantic.specs.Walks.{Binds};
+ghost use Rattle.es_rest_shapes.specs.HelperNames.{binds_name};
 ghost use Rattle.es_unsupported.specs.ArrowShapes.{arrow_shape};
 ghost use Rattle.es_unsupported.specs.MarkedWalk.{FindsFrom, refers_by_mark};
-ghost use Rattle.es_unsupported.specs.Shapes.{copies_by_name, has_chain_tag, is_chain_below, is_chain_kind, is_helper_bound, is_math_bound, is_spread_literal, is_tag_chain, is_unbuilt, shape_at};
+ghost use Rattle.es_unsupported.specs.Shapes.{copies_by_name, finds_helper, has_chain_tag, is_chain_below, is_chain_kind, is_helper_bound, is_math_bound, is_spread_literal, is_tag_chain, is_unbuilt, meets_helpers, needs_helper, shape_at};
 ghost use Rattle.es_unsupported.specs.Wanted.{IsWanted, WhereBound};
 
 use crate::arrow_places::ArrowPlace;
 use crate::arrow_shapes::arrow_shape;
-use crate::names::may_bind;
+use crate::names::binds_anywhere;
 use crate::spread_literals::is_uncopied;
-use es_nodes::construct::{is_exponentiation, is_object_rest, is_object_spread, is_using};
+use es_nodes::construct::{is_exponentiation, is_object_spread, is_using};
 use es_nodes::fields::field_at;
+use es_rest_nodes::strays::{is_rest_declaration, is_stray_rest};
 use es_scope::scoping::Scoping;
 use es_tree::error::UnsupportedKind;
 use es_tree::ids::ScopeId;
@@ -31,8 +33,8 @@ use es_tree::parens::strip_parens;
 /// The shapes that a run doesn't take and the program may have.
 #[derive(Clone, Copy)]
 pub(crate) struct Wanted {
-    pub(crate) object_rest: bool,
-    pub(crate) imported_spread: bool,
+    pub(crate) stray_rest: bool,
+    pub(crate) imported_helper: bool,
     pub(crate) using_declaration: bool,
     pub(crate) math_bound: bool,
     pub(crate) helper_name: bool,
@@ -45,12 +47,13 @@ impl Wanted {
     /// Those that these options ask for, without `MathBound` where no scope binds `Math`, and without `HelperName` where none binds
     /// `babelHelpers`.
     pub(crate) fn of_program(scoping: &Scoping, options: &EnvOptions) -> Wanted
+        requires few { scope_count scoping.now < 2 ^ 32 }
         ensures { (ds : List Declared) → Binds ds scoping.now → IsWanted result options.now ds }
     {
         let copies = options.es2018.object_rest_spread.is_some();
         Wanted {
-            object_rest: copies,
-            imported_spread: copies && !is_external(options.helper_loader.mode),
+            stray_rest: copies,
+            imported_helper: imports_helpers(options),
             using_declaration: options.es2026.explicit_resource_management,
             math_bound: where_bound(options.es2016.exponentiation_operator, "Math", scoping),
             helper_name: where_bound(copies_by_name(options), "babelHelpers", scoping),
@@ -62,10 +65,10 @@ impl Wanted {
 
     /// Whether there is one.
     pub(crate) fn any(self) -> bool
-        ensures { result ≡ (self.object_rest || self.imported_spread || self.using_declaration || self.math_bound || self.helper_name || self.spread_literal || self.tag_chain || self.arrows) }
+        ensures { result ≡ (self.stray_rest || self.imported_helper || self.using_declaration || self.math_bound || self.helper_name || self.spread_literal || self.tag_chain || self.arrows) }
     {
-        self.object_rest
-            || self.imported_spread
+        self.stray_rest
+            || self.imported_helper
             || self.using_declaration
             || self.math_bound
             || self.helper_name
@@ -77,9 +80,11 @@ impl Wanted {
 
 /// What is asked of nodes where a name is bound, unless no scope binds it.
 fn where_bound(asked: bool, name: &str, scoping: &Scoping) -> bool
-    ensures { (ds : List Declared) → Binds ds scoping.now → WhereBound ds name.now result asked }
+    requires few { scope_count scoping.now < 2 ^ 32 }
+    ensures exact { (ds : List Declared) → Binds ds scoping.now → result ≡ (asked && binds_name name.now ds) }
+    ensures found { (ds : List Declared) → Binds ds scoping.now → WhereBound ds name.now result asked }
 {
-    asked && may_bind(scoping, name)
+    asked && binds_anywhere(scoping, name)
 }
 
 /// Whether objects are copied by helpers that are properties of `babelHelpers`.
@@ -87,6 +92,13 @@ fn copies_by_name(options: &EnvOptions) -> bool
     ensures { result ≡ copies_by_name options.now }
 {
     options.es2018.object_rest_spread.is_some() && is_external(options.helper_loader.mode)
+}
+
+/// Whether the helpers that copy objects have to be imported.
+fn imports_helpers(options: &EnvOptions) -> bool
+    ensures { result ≡ (is_some options.now.es2018.object_rest_spread && not (is_external options.now.helper_loader.mode)) }
+{
+    options.es2018.object_rest_spread.is_some() && !is_external(options.helper_loader.mode)
 }
 
 fn is_external(mode: HelperLoaderMode) -> bool
@@ -145,9 +157,16 @@ fn shape_at(
 fn is_unbuilt(node: &Node, wanted: Wanted) -> bool
     ensures { (o : PlainOptions) (ds : List Declared) (up : List ℕ) → IsWanted wanted o ds → result ≡ is_unbuilt o ds up (kind_of node.now) (label_of node.now) (fields_of node.now) }
 {
-    (wanted.object_rest && is_object_rest(node))
-        || (wanted.imported_spread && is_object_spread(node))
+    (wanted.stray_rest && is_stray_rest(node))
+        || (wanted.imported_helper && needs_helper(node))
         || (wanted.using_declaration && is_using(node))
+}
+
+/// Whether a helper copies for the node.
+fn needs_helper(node: &Node) -> bool
+    ensures { result ≡ needs_helper (kind_of node.now) (label_of node.now) (fields_of node.now) }
+{
+    is_object_spread(node) || is_rest_declaration(node)
 }
 
 /// Whether an exponentiation stands where `Math` is bound.
@@ -158,12 +177,28 @@ fn is_math_bound(node: &Node, scope: ScopeId, scoping: &Scoping, wanted: Wanted)
     wanted.math_bound && is_exponentiation(node) && binds(scoping, scope, "Math")
 }
 
-/// Whether an object literal with a spread stands where `babelHelpers` is bound.
+/// Whether an object literal with a spread stands where `babelHelpers` is bound, or a declaration of a rest in a program that binds it.
 fn is_helper_bound(node: &Node, scope: ScopeId, scoping: &Scoping, wanted: Wanted) -> bool
     requires { scope.0 < scope_count scoping.now }
     ensures { (o : PlainOptions) (ds : List Declared) (up : List ℕ) → IsWanted wanted o ds → scope.0 ≡ first up → FindsFrom scoping.now ds up → result ≡ is_helper_bound o ds up (kind_of node.now) (label_of node.now) (fields_of node.now) }
 {
-    wanted.helper_name && is_object_spread(node) && binds(scoping, scope, "babelHelpers")
+    wanted.helper_name && meets_helpers(node, scope, scoping)
+}
+
+/// Whether an object literal with a spread stands where `babelHelpers` is bound, or a rest is declared at all.
+fn meets_helpers(node: &Node, scope: ScopeId, scoping: &Scoping) -> bool
+    requires { scope.0 < scope_count scoping.now }
+    ensures { (ds : List Declared) (up : List ℕ) → scope.0 ≡ first up → FindsFrom scoping.now ds up → result ≡ meets_helpers ds up (kind_of node.now) (label_of node.now) (fields_of node.now) }
+{
+    finds_helper(node, scope, scoping) || is_rest_declaration(node)
+}
+
+/// Whether an object literal with a spread stands where `babelHelpers` is bound.
+fn finds_helper(node: &Node, scope: ScopeId, scoping: &Scoping) -> bool
+    requires { scope.0 < scope_count scoping.now }
+    ensures { (ds : List Declared) (up : List ℕ) → scope.0 ≡ first up → FindsFrom scoping.now ds up → result ≡ finds_helper ds up (kind_of node.now) (label_of node.now) (fields_of node.now) }
+{
+    is_object_spread(node) && binds(scoping, scope, "babelHelpers")
 }
 
 /// Whether the node is an object literal with a spread whose properties can't be copied.

@@ -13,4 +13,6 @@ returns c = record {
   in_slot = record { formed = refl; first = λ o. refl };
   in_parameter = record { formed = refl; first = λ o. refl };
   object_rest = record { formed = refl; first = λ o. refl };
+  rest_parameter = record { formed = refl; first = λ o. refl };
+  bound_helper = record { formed = refl; first = λ o. refl };
 }
