@@ -13,16 +13,21 @@ use Rattle.es_tree.specs.Words.{Text}
 use Rattle.es_tree.specs.declared.ast_type.AstType.{AstType}
 use Rattle.es_tree.specs.declared.ast_type.AstType.TheVariants.{ArrowFunctionExpression, AssignmentPattern, ObjectExpression, ObjectPattern, ObjectProperty, ObjectTarget, PatternProperty, PropertyDefinition, TaggedTemplateExpression, VariableDeclaration}
 use Rattle.es_tree.specs.declared.options.EnvOptions.{EnvOptions}
-use Rattle.es_runs.proofs.Named.{or_both, or_first}
+use Rattle.es_runs.proofs.Named.{or_both, or_first, or_second}
 use Rattle.es_semantic.specs.Places.{outermost}
 use Rattle.es_semantic.specs.SymbolsOf.{Declared, find, symbols_of}
 use Rattle.es_semantic.proofs.CoreSymbols.{core-symbols}
 use Rattle.es_valid_steps.specs.ArrowNodes.{is_arrow_accessor}
 use Rattle.es_valid_arrows.specs.ArrowPlaces.{is_wrapped_slot}
+use Rattle.es_rest_shapes.specs.HelperNames.{binds_helpers}
+use Rattle.es_rest_shapes.specs.RestShapes.{is_rest_declaration}
+use Rattle.es_rest_shapes.proofs.NoneLeft.{declaration-rest}
+use Rattle.es_rest_shapes.proofs.Quiet.{stray-none}
 use Rattle.es_unsupported.specs.ArrowShapes.{outside}
 use Rattle.es_unsupported.specs.FirstUnsupported.{first_of, first_unsupported}
 use Rattle.es_unsupported.specs.Shapes.{copies_by_name, has_chain_tag, is_unbuilt_node, shape_at}
 use Rattle.es_unsupported.specs.SpreadLiterals.{has_uncopied}
+use Rattle.lower_driver.proofs.EitherTest.{fewer-in-fields}
 use Rattle.lower_driver.proofs.QuietArrows.{none-of}
 use Rattle.lower_command.specs.Generated.{generated, generated_statement, statement_for, start_of}
 use Rattle.lower_command.proofs.GeneratedFacts.{generated-core, generated-declares}
@@ -92,17 +97,25 @@ all_off true true c = off c
 all_off true false c = off c
 all_off false b c = off c
 
+-- nor a pattern with a rest inside
+no_rest_inside : (fs : Fields) → any_in_fields is_asked fs ≡ false → any_in_fields is_object_rest fs ≡ false
+no_rest_inside = fewer-in-fields is_object_rest is_asked no_rest
+
+no_helper : (by_name spread bound declared binds : Bool) → spread ≡ false → declared ≡ false → (by_name && ((spread && bound) || (declared && binds))) ≡ false
+no_helper by_name spread bound declared binds h g = rw (h, g) (off by_name)
+
 module _ (o : EnvOptions) where
-  built : (k : AstType) (l : Label) (fs : Fields) → is_asked k l fs ≡ false → is_unbuilt_node o k l fs ≡ false
-  built k l fs h = rw (no_rest k l fs h, no_literal k l fs h, no_using k l fs h) (all_off (is_some o.es2018.object_rest_spread) (not (is_external o.helper_loader.mode)) o.es2026.explicit_resource_management)
+  built : (k : AstType) (l : Label) (fs : Fields) → is_asked k l fs ≡ false → any_in_fields is_object_rest fs ≡ false → is_unbuilt_node o k l fs ≡ false
+  built k l fs h none = rw (stray-none k l fs none, no_literal k l fs h, declaration-rest k l fs none, no_using k l fs h) (all_off (is_some o.es2018.object_rest_spread) (not (is_external o.helper_loader.mode)) o.es2026.explicit_resource_management)
 
   no_shape : (up : List ℕ) (k : AstType) (l : Label) (fs : Fields) → any_node is_asked (node k l fs) ≡ false → shape_at o [] up k l fs ≡ None
   no_shape up k l fs g =
       let h : is_asked k l fs ≡ false = or_first (is_asked k l fs) (any_in_fields is_asked fs) g in
+      let none = no_rest_inside fs (or_second (is_asked k l fs) (any_in_fields is_asked fs) g) in
       rw (
-        built k l fs h,
+        built k l fs h none,
         unbound o.es2016.exponentiation_operator (is_exponentiation k l fs) (is_some (find [] up (codes "Math"))) (ap is_some (found_nowhere up (codes "Math"))),
-        unbound (copies_by_name o) (is_object_spread k l fs) (is_some (find [] up (codes "babelHelpers"))) (ap is_some (found_nowhere up (codes "babelHelpers"))),
+        no_helper (copies_by_name o) (is_object_spread k l fs) (is_some (find [] up (codes "babelHelpers"))) (is_rest_declaration k l fs) (binds_helpers []) (no_literal k l fs h) (declaration-rest k l fs none),
         ap (λ b. is_some o.es2018.object_rest_spread && (b && has_uncopied (field_at 0 fs))) (no_literal k l fs h) ∙ off (is_some o.es2018.object_rest_spread),
         ap (λ b. o.es2020.optional_chaining && b) (no_tag k l fs h) ∙ off o.es2020.optional_chaining,
       ) refl

@@ -101,9 +101,9 @@ module _ (o c : EnvOptions) (copy : IsCopy o c) where
   copied-further n s x s' y (inr (inr (inl h))) = inr (inr (inl (subst (λ (z : Type 0). z) (λ i. where_on (copy.es2020 i).export_namespace_from NamespaceRule n s x s' y) h)))
   copied-further n s x s' y (inr (inr (inr h))) = inr (inr (inr (subst (λ (z : Type 0). z) (λ i. where_on (is_some (copy.es2018 i).object_rest_spread) (Replacing SpreadRule) n s x s' y) h)))
 
-  copied-built : (n : Site) (s : Ledger) (x : Spot) (s' : Ledger) (y : Spot) → built_rules c n s x s' y → built_rules o n s x s' y
+  pub copied-built : (n : Site) (s : Ledger) (x : Spot) (s' : Ledger) (y : Spot) → built_rules c n s x s' y → built_rules o n s x s' y
   copied-built n s x s' y (inl r) = inl (copied-further n s x s' y r)
   copied-built n s x s' y (inr h) = inr (subst (λ (z : Type 0). z) (λ i. where_on (is_some (copy.es2015 i).arrow_function) ArrowRule n s x s' y) h)
 
-  pub copied-reached : (p q : Tree) (w : Whole) (names : List _) → Reached (built_rules c) p w names q → Reached (built_rules o) p w names q
+  abbrev pub copied-reached : (p q : Tree) (w : Whole) (names : List _) → Reached (built_rules c) p w names q → Reached (built_rules o) p w names q
   copied-reached p q w names h = record { whole = h.whole; steps = all_under (built_rules c) (built_rules o) copied-built h.steps; made = h.made }

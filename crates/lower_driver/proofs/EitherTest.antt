@@ -38,7 +38,7 @@ module _ (p r : AstType → Label → Fields → Bool) (fewer : (k : AstType) (l
     pub fewer-in-tree : (t : Tree) → any_node r t ≡ false → any_node p t ≡ false
     fewer-in-tree (node k l fs) h = or_both (p k l fs) (any_in_fields p fs) (fewer k l fs (or_first (r k l fs) (any_in_fields r fs) h)) (fewer-in-fields fs (or_second (r k l fs) (any_in_fields r fs) h))
 
-    fewer-in-fields : (fs : Fields) → any_in_fields r fs ≡ false → any_in_fields p fs ≡ false
+    pub fewer-in-fields : (fs : Fields) → any_in_fields r fs ≡ false → any_in_fields p fs ≡ false
     fewer-in-fields done h = refl
     fewer-in-fields (f then fs) h = or_both (any_in_field p f) (any_in_fields p fs) (fewer-in-field f (or_first (any_in_field r f) (any_in_fields r fs) h)) (fewer-in-fields fs (or_second (any_in_field r f) (any_in_fields r fs) h))
 
@@ -77,3 +77,8 @@ mutual
 pub any-where : (on : Bool) (test : AstType → Label → Fields → Bool) (t : Tree) → any_node (λ k l fs. on && test k l fs) t ≡ (on && any_node test t)
 any-where true test t = refl
 any-where false test t = none-never t
+
+-- the same of fields
+pub any-where-in : (on : Bool) (test : AstType → Label → Fields → Bool) (fs : Fields) → any_in_fields (λ k l gs. on && test k l gs) fs ≡ (on && any_in_fields test fs)
+any-where-in true test fs = refl
+any-where-in false test fs = none-never-in fs

@@ -11,3 +11,5 @@ pub mod NoneLeft
 pub mod Settled
 pub mod Visits
 pub mod EitherTest
+pub mod Becomes
+pub mod FewScopes

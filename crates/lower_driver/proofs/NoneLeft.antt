@@ -18,17 +18,18 @@ use Rattle.es_valid_steps.specs.PlaceRules.{place_breaks}
 use Rattle.es_valid_steps.proofs.NamespacePlaces.{law_namespace_places_proof}
 use Rattle.es_traverse.specs.Laws.{is_construct}
 use Rattle.es_traverse.specs.Listed.{any_among, any_listed}
-use Rattle.es_unsupported.specs.Shapes.{is_unbuilt_node}
+use Rattle.es_rest_shapes.specs.RestShapes.{is_stray_rest}
+use Rattle.es_rest_rows.specs.Laws.{is_other_construct as rest_others}
+use Rattle.es_unsupported.specs.Shapes.{is_unbuilt_node, needs_helper}
 use Rattle.es_reached.specs.Walks.{is_other_construct}
 use Rattle.lower_driver.specs.Constructs.{is_built_construct, is_lowered_construct, is_lowered_export}
 use Rattle.lower_driver.proofs.EitherTest.{any-where, fewer-in-tree, none-of-tree}
 use Rattle.es_runs.proofs.Named.{and_left, and_right, or_both, or_first, or_second}
 
--- CONSTRUCTS THAT ARE NO ARROWS: the rows that a visit takes away, exports, and what isn't built
+-- CONSTRUCTS THAT ARE NEITHER ARROWS NOR RESTS: the rows that a visit takes away, exports, and what isn't built
 
-regrouped : (a b c d e x y s r u : Bool) → ((a || b || c || d || (y && (s || r))) || (e || x || u)) ≡ (((d || b || c || e || (y && s) || a) || x) || ((y && r) || u))
-regrouped a b c d e x true s r u = grind arith
-regrouped a b c d e x false s r u = grind arith
+regrouped : (a b c d e x s r u : Bool) → ((a || b || c || d || (r && s)) || (e || x || u)) ≡ (((d || b || c || e || (r && s) || a) || x) || u)
+regrouped a b c d e x s r u = grind arith
 
 module _ (o : EnvOptions) where
   abbrev built_or_export : AstType → Label → Fields → Bool
@@ -40,44 +41,59 @@ module _ (o : EnvOptions) where
   abbrev using_declaration : AstType → Label → Fields → Bool
   using_declaration k l fs = o.es2026.explicit_resource_management && is_using k l fs
 
-  abbrev unbuilt : AstType → Label → Fields → Bool
-  unbuilt k l fs = rest_pattern k l fs || using_declaration k l fs
+  abbrev arrow_function : AstType → Label → Fields → Bool
+  arrow_function k l fs = is_some o.es2015.arrow_function && is_arrow k l fs
 
-  in-rows : (k : AstType) (l : Label) (fs : Fields) → is_other_construct o k l fs ≡ (built_or_export k l fs || unbuilt k l fs)
+  in-rows : (k : AstType) (l : Label) (fs : Fields) → is_other_construct o k l fs ≡ (built_or_export k l fs || using_declaration k l fs)
   in-rows k l fs =
       regrouped (o.es2016.exponentiation_operator && is_exponentiation k l fs) (o.es2020.nullish_coalescing_operator && is_nullish_coalescing k l fs) (o.es2020.optional_chaining && is_chain k l fs)
       (o.es2021.logical_assignment_operators && is_logical_assignment k l fs) (o.es2019.optional_catch_binding && is_optional_catch k l fs) (o.es2020.export_namespace_from && is_namespace_export k l fs)
-      (is_some o.es2018.object_rest_spread) (is_object_spread k l fs) (is_object_rest k l fs) (o.es2026.explicit_resource_management && is_using k l fs)
+      (is_object_spread k l fs) (is_some o.es2018.object_rest_spread) (o.es2026.explicit_resource_management && is_using k l fs)
 
   -- where none of these is left
-  pub none-other : (t : Tree) → any_node (is_built_construct o) t ≡ false → any_node (is_lowered_export o) t ≡ false → (is_some o.es2018.object_rest_spread && any_node is_object_rest t) ≡ false → (o.es2026.explicit_resource_management && any_node is_using t) ≡ false → any_node (is_other_construct o) t ≡ false
-  none-other t built exports rests usings =
-      none-of-tree built_or_export unbuilt (is_other_construct o) in-rows t
-      (none-of-tree (is_built_construct o) (is_lowered_export o) built_or_export (λ k l fs. refl) t built exports)
-      (none-of-tree rest_pattern using_declaration unbuilt (λ k l fs. refl) t (any-where (is_some o.es2018.object_rest_spread) is_object_rest t ∙ rests) (any-where o.es2026.explicit_resource_management is_using t ∙ usings))
+  pub none-other : (t : Tree) → any_node (is_built_construct o) t ≡ false → any_node (is_lowered_export o) t ≡ false → (o.es2026.explicit_resource_management && any_node is_using t) ≡ false → any_node (is_other_construct o) t ≡ false
+  none-other t built exports usings =
+      none-of-tree built_or_export using_declaration (is_other_construct o) in-rows t (none-of-tree (is_built_construct o) (is_lowered_export o) built_or_export (λ k l fs. refl) t built exports)
+      (any-where o.es2026.explicit_resource_management is_using t ∙ usings)
 
   -- and no arrow, where they are asked for
-  in-all : (k : AstType) (l : Label) (fs : Fields) → is_enabled_construct o k l fs ≡ (is_other_construct o k l fs || (is_some o.es2015.arrow_function && is_arrow k l fs))
-  in-all k l fs =
-      with-arrows (o.es2016.exponentiation_operator && is_exponentiation k l fs) (o.es2020.nullish_coalescing_operator && is_nullish_coalescing k l fs) (o.es2020.optional_chaining && is_chain k l fs)
-      (o.es2021.logical_assignment_operators && is_logical_assignment k l fs) (is_some o.es2018.object_rest_spread && (is_object_spread k l fs || is_object_rest k l fs)) (is_some o.es2015.arrow_function && is_arrow k l fs) (is_enabled_statement o k l fs)
+  beside-rests : (k : AstType) (l : Label) (fs : Fields) → rest_others o k l fs ≡ (is_other_construct o k l fs || arrow_function k l fs)
+  beside-rests k l fs =
+      swapped (o.es2016.exponentiation_operator && is_exponentiation k l fs) (o.es2020.nullish_coalescing_operator && is_nullish_coalescing k l fs) (o.es2020.optional_chaining && is_chain k l fs)
+      (o.es2021.logical_assignment_operators && is_logical_assignment k l fs) (is_some o.es2018.object_rest_spread && is_object_spread k l fs) (arrow_function k l fs) (is_enabled_statement o k l fs)
     where
-      with-arrows : (a b c d e f s : Bool) → ((a || b || c || d || e || f) || s) ≡ (((a || b || c || d || e) || s) || f)
-      with-arrows a b c d e f s = grind arith
+      swapped : (a b c d e f s : Bool) → (a || b || c || d || e || f || s) ≡ (((a || b || c || d || e) || s) || f)
+      swapped a b c d e f s = grind arith
 
-  pub none-enabled : (t : Tree) → any_node (is_other_construct o) t ≡ false → (is_some o.es2015.arrow_function && any_node is_arrow t) ≡ false → has_enabled_construct o t ≡ false
-  none-enabled t other arrows = none-of-tree (is_other_construct o) (λ k l fs. is_some o.es2015.arrow_function && is_arrow k l fs) (is_enabled_construct o) in-all t other (any-where (is_some o.es2015.arrow_function) is_arrow t ∙ arrows)
+  pub none-beside-rests : (t : Tree) → any_node (is_other_construct o) t ≡ false → (is_some o.es2015.arrow_function && any_node is_arrow t) ≡ false → any_node (rest_others o) t ≡ false
+  none-beside-rests t other arrows = none-of-tree (is_other_construct o) arrow_function (rest_others o) beside-rests t other (any-where (is_some o.es2015.arrow_function) is_arrow t ∙ arrows)
+
+  -- and no object rest
+  in-all : (k : AstType) (l : Label) (fs : Fields) → is_enabled_construct o k l fs ≡ (rest_others o k l fs || rest_pattern k l fs)
+  in-all k l fs =
+      with-rests (o.es2016.exponentiation_operator && is_exponentiation k l fs) (o.es2020.nullish_coalescing_operator && is_nullish_coalescing k l fs) (o.es2020.optional_chaining && is_chain k l fs)
+      (o.es2021.logical_assignment_operators && is_logical_assignment k l fs) (is_some o.es2018.object_rest_spread) (is_object_spread k l fs) (is_object_rest k l fs) (arrow_function k l fs) (is_enabled_statement o k l fs)
+    where
+      with-rests : (a b c d e x y f s : Bool) → ((a || b || c || d || (e && (x || y)) || f) || s) ≡ ((a || b || c || d || (e && x) || f || s) || (e && y))
+      with-rests a b c d true x y f s = grind arith
+      with-rests a b c d false x y f s = grind arith
+
+  pub none-with-rests : (t : Tree) → any_node (rest_others o) t ≡ false → (is_some o.es2018.object_rest_spread && any_node is_object_rest t) ≡ false → has_enabled_construct o t ≡ false
+  none-with-rests t others rests = none-of-tree (rest_others o) rest_pattern (is_enabled_construct o) in-all t others (any-where (is_some o.es2018.object_rest_spread) is_object_rest t ∙ rests)
+
+  pub none-enabled : (t : Tree) → any_node (is_other_construct o) t ≡ false → (is_some o.es2018.object_rest_spread && any_node is_object_rest t) ≡ false → (is_some o.es2015.arrow_function && any_node is_arrow t) ≡ false → has_enabled_construct o t ≡ false
+  none-enabled t other rests arrows = none-with-rests t (none-beside-rests t other arrows) rests
 
   -- WHERE NOTHING STANDS THAT ISN'T BUILT
 
-  abbrev imported_spread : AstType → Label → Fields → Bool
-  imported_spread k l fs = is_some o.es2018.object_rest_spread && not (is_external o.helper_loader.mode) && is_object_spread k l fs
+  abbrev stray_rest : AstType → Label → Fields → Bool
+  stray_rest k l fs = is_some o.es2018.object_rest_spread && is_stray_rest k l fs
 
-  pub no-rests : (t : Tree) → any_node (is_unbuilt_node o) t ≡ false → (is_some o.es2018.object_rest_spread && any_node is_object_rest t) ≡ false
-  no-rests t h = sym (any-where (is_some o.es2018.object_rest_spread) is_object_rest t) ∙ fewer-in-tree rest_pattern (is_unbuilt_node o) (λ k l fs e. or_first (rest_pattern k l fs) (imported_spread k l fs) (or_first (rest_pattern k l fs || imported_spread k l fs) (using_declaration k l fs) e)) t h
+  abbrev imported_helper : AstType → Label → Fields → Bool
+  imported_helper k l fs = is_some o.es2018.object_rest_spread && not (is_external o.helper_loader.mode) && needs_helper k l fs
 
   pub no-usings : (t : Tree) → any_node (is_unbuilt_node o) t ≡ false → (o.es2026.explicit_resource_management && any_node is_using t) ≡ false
-  no-usings t h = sym (any-where o.es2026.explicit_resource_management is_using t) ∙ fewer-in-tree using_declaration (is_unbuilt_node o) (λ k l fs e. or_second (rest_pattern k l fs || imported_spread k l fs) (using_declaration k l fs) e) t h
+  no-usings t h = sym (any-where o.es2026.explicit_resource_management is_using t) ∙ fewer-in-tree using_declaration (is_unbuilt_node o) (λ k l fs e. or_second (stray_rest k l fs || imported_helper k l fs) (using_declaration k l fs) e) t h
 
 -- none comes up where there was none
 pub none-came : (on old new : Bool) → (old ≡ false → new ≡ false) → (on && old) ≡ false → (on && new) ≡ false

@@ -1,8 +1,8 @@
 -- From the one visit of a run to what the source becomes.
-use Rattle.std.proofs.Common.{Some, ◌≡◌, ◌+◌, ◌*◌, ◌≤◌, ◌<◌, ◌^◌, ℕ, zero, suc, length, refl, sym, ap, ◌∙◌, subst, List, [], ◌∷◌, Option, None, inl, inr, arith, true≢false}
+use Rattle.std.proofs.Common.{Some, ◌≡◌, ◌*◌, ◌≤◌, ◌<◌, ◌^◌, ℕ, zero, suc, length, refl, sym, ap, ◌∙◌, subst, List, [], ◌∷◌, Option, None, inl, inr, arith}
 use Rattle.std.specs.Prelude.{Bool, true, false, ◌&&◌, ◌||◌, is_some}
 use Rattle.es_tree.specs.Bare.{bare}
-use Rattle.es_tree.specs.Constructs.{has_enabled_construct, is_arrow, is_chain, is_nullish_coalescing, is_object_rest, is_object_spread, is_optional_catch, is_using}
+use Rattle.es_tree.specs.Constructs.{is_arrow, is_chain, is_nullish_coalescing, is_object_spread, is_optional_catch, is_using}
 use Rattle.es_row_laws.proofs.Lawful.{object-spread-under}
 use Rattle.es_row_laws.specs.Laws.{is_lowered_assignment, is_lowered_power}
 use Rattle.es_valid_steps.specs.Laws.{with_further_rules}
@@ -37,13 +37,13 @@ use Rattle.es_runs.proofs.Weights.{size-weight}
 use Rattle.es_steps.specs.Arrows.{ArrowRule}
 use Rattle.es_steps.specs.CoreBridge.{Reached, first_whole, is_written_name, names_among}
 use Rattle.es_steps.specs.CoreRules.{where_on}
+use Rattle.es_steps.specs.Laws.{nothing_beside}
 use Rattle.es_steps.specs.Rules.{either_rule}
 use Rattle.es_steps.specs.Open.{Pending, nothing_pending, no_additions, opened}
-use Rattle.es_steps.specs.Steps.{Ledger, ledger, Site, Spot, Step, Steps, the_program}
-use Rattle.es_steps.specs.Steps.Steps.{stays}
+use Rattle.es_steps.specs.Steps.{Ledger, ledger, Site, Spot, Step, Steps, Whole, the_program}
 use Rattle.es_runs.proofs.Named.{or_first}
 use Rattle.es_steps.proofs.BridgeInclusion.{all_under}
-use Rattle.es_changes.specs.Changes.{HasRoom, Level, heft, open_program}
+use Rattle.es_changes.specs.Changes.{HasRoom, Level, heft, lists_size, open_program}
 use Rattle.es_changes.specs.Conditions.{holds_after}
 use Rattle.es_changes.specs.Fits.{Fits}
 use Rattle.es_changes.specs.Moments.{Moment, below, top, whole_at}
@@ -82,25 +82,19 @@ use Rattle.es_starts.proofs.FirstTable.{law_first_of_table_proof}
 use Rattle.es_reached.specs.Reached.{IsResult, built_rules}
 use Rattle.es_reached.specs.Walks.{is_other_construct}
 use Rattle.es_reached.proofs.BuiltRules.{built-all}
-use Rattle.es_reached.proofs.Results.{law_core_result_proof, law_first_proof, law_result_proof}
+use Rattle.es_reached.proofs.Results.{law_first_proof, law_result_proof}
 use Rattle.es_reached.proofs.BarePlaces.{law_bare_places_proof}
-use Rattle.es_reached.proofs.FreeSteps.{law_no_rests_proof, law_no_usings_proof}
+use Rattle.es_reached.proofs.FreeSteps.{law_no_usings_proof}
 use Rattle.es_reached.proofs.WalkSteps.{law_walk_makes_none_proof}
-use Rattle.es_statement_steps.proofs.Results.{law_statement_result_proof}
 use Rattle.es_reached.proofs.Sources.{law_bare_seen_proof, law_bare_source_proof}
 use Rattle.lower_temporaries.specs.Takings.{moment_of, pending_of}
 use Rattle.lower_temporaries.specs.declared.state.TransformState.{TransformState}
-use Rattle.lower_driver.specs.Copies.{IsCopy}
-use Rattle.lower_driver.specs.Lowers.{Lowers}
 use Rattle.lower_driver.specs.Visits.{IsWalked, visit_ending, visit_profile}
-use Rattle.lower_driver.proofs.BareConstructs.{same-arrows, same-constructs}
-use Rattle.lower_driver.proofs.CopiedOptions.{copied-enabled, copied-reached, copied-unsupported}
+use Rattle.lower_driver.proofs.BareConstructs.{same-arrows}
 use Rattle.lower_driver.specs.Constructs.{is_lowered_construct, is_lowered_export}
 use Rattle.lower_driver.proofs.EitherTest.{none-of-trees}
-use Rattle.lower_driver.proofs.NoneLeft.{no-exports, no-rests, no-usings, none-came, none-enabled, none-other, none-written}
-use Rattle.lower_driver.proofs.NoneUnsupported.{none-unsupported}
+use Rattle.lower_driver.proofs.NoneLeft.{no-exports, no-usings, none-came, none-other, none-written}
 use Rattle.lower_driver.proofs.Settled.{tree-settled}
-use Rattle.lower_driver.proofs.Untagged.{tags-are-no-chains}
 
 -- the program's own list is the only one, and nothing is pending there at the end
 pub alone-pending : (ps qs : List Pending) → Level ps qs → ps ≡ nothing_pending ∷ [] → top qs ≡ nothing_pending → qs ≡ nothing_pending ∷ []
@@ -166,7 +160,7 @@ marked-form p q marks form = sym (has_form-bare s-Program q) ∙ ap (has_form s-
 
 -- NAMES
 
-names-bound : (free : ℕ) (xs : List Text) → names_among (bound_names free xs) ≡ xs
+pub names-bound : (free : ℕ) (xs : List Text) → names_among (bound_names free xs) ≡ xs
 names-bound free [] = refl
 names-bound free (x ∷ xs) = ap (λ ys. x ∷ ys) (names-bound free xs)
 
@@ -237,6 +231,15 @@ kind-of-program (node k l fs) h = (form-placed (node k l fs) h).0
 
 source-formed : (p : Tree) → has_form s-Program p ≡ true → has_form s-Program (source p) ≡ true
 source-formed p form = sym (has_form-bare s-Program (source p)) ∙ ap (has_form s-Program) (law_bare_source_proof p) ∙ has_form-bare s-Program p ∙ form
+
+-- A program that was reached, with no other construct left but object rests, and how large it is.
+pub record Arrived (c : EnvOptions) (p : Tree) (z : Program) (ctx : TraverseCtx TransformState) : Type 0 where
+  pub steps : Steps (Step (built_rules c) the_program) (nothing_beside (first_whole p)) (opened (source p)) (nothing_beside (whole_at (moment_of ctx))) (opened (seen (symbol_in (symbols_of p)) (plain_program z)))
+  pub other : any_node (is_other_construct c) (seen (symbol_in (symbols_of p)) (plain_program z)) ≡ false
+  pub arrows : (is_some c.es2015.arrow_function && any_node is_arrow (seen (symbol_in (symbols_of p)) (plain_program z))) ≡ false
+  pub options : (moment_of ctx).options ≡ c
+  pub size : tree_size (plain_program z) ≤ 31 * tree_size p
+  pub given : (moment_of ctx).next ≤ 62 * tree_size p
 
 -- STEPS
 
@@ -310,13 +313,17 @@ module _ (c : EnvOptions) (p : Tree) (ctx ctx' : TraverseCtx TransformState) (x 
     between : Reached (built_rules c) p (first_whole p) (made_of ctx') result
     between = visited-reached visited finished
 
+    reached_whole : between.whole ≡ whole_at (moment_of ctx')
+    unfolding between visited-reached
+    reached_whole = refl
+
     visited_result : IsResult c p (plain_program y) (made_of ctx')
     visited_result = law_result_proof c p (plain_program y) result (made_of ctx') form right fits_there between written
 
     visited_kept : place_breaks (plain_program y) ≡ []
     visited_kept = law_among_proof (plain_program y) visited_result.kept
 
-    -- no target is left that the lowerings don't take, and no export below the program's own list
+    -- no target is left that the lowerings don't take, and no export below the program's own list; patterns with a rest may be
     other_none : any_node (is_other_construct c) result ≡ false
     other_none =
         let lowered = none-written c (label_of (seen names (plain_program x))) (label_of result) (seen_among names (trees x.directives.items)) (seen_among names (trees y.directives.items)) (seen_among names (trees x.body.items)) (seen_among names (trees y.body.items)) formed visited.directives (free-there visited) in
@@ -326,7 +333,6 @@ module _ (c : EnvOptions) (p : Tree) (ctx ctx' : TraverseCtx TransformState) (x 
         let start : top (moment_of ctx).lists ≡ nothing_pending = ap top begun.lists in
         let exports = no-exports c (label_of result) (many (seen_among names (trees y.directives.items))) (seen_among names (trees y.body.items)) form' kept' (ap (λ test. any_listed test (statements (seen_among names (trees y.body.items)) then done)) (sym (exports-alone c)) ∙ visited.cleared start fits known) in
         none-other c result (tree-settled c s-Program [] result form' keeps lowered) exports
-        (none-came (is_some c.es2018.object_rest_spread) (any_node is_object_rest p) (any_node is_object_rest result) (law_no_rests_proof c p result (made_of ctx') between) (no-rests c p unbuilt))
         (none-came c.es2026.explicit_resource_management (any_node is_using p) (any_node is_using result) (law_no_usings_proof c p result (made_of ctx') between) (no-usings c p unbuilt))
 
     -- THE WALK OVER ARROWS may begin
@@ -340,79 +346,71 @@ module _ (c : EnvOptions) (p : Tree) (ctx ctx' : TraverseCtx TransformState) (x 
         let after = law_arrows_fit_proof c (source p) (first_whole p) between.whole (opened result) (source-formed p form) there_fits between.steps in
         law_this_fits_proof c (plain_program y) visited_result.form visited_kept (law_bare_fits_proof c result (plain_program y) written (sym (ap (fits_arrows c) (finished-opened result)) ∙ after))
 
-    -- from what the walk leaves, or the visit where there is none
-    module _ (o : EnvOptions) (copy : IsCopy o c) (some : has_enabled_construct o p ≡ true) (z : Program) (ctx'' : TraverseCtx TransformState) where
+    -- WHAT THE WALK LEAVES, or the visit where there is none
+
+    module _ (z : Program) (ctx'' : TraverseCtx TransformState) where
       abbrev last : Tree
       last = seen names (plain_program z)
 
-      becomes-last : Reached (built_rules c) p (first_whole p) (made_of ctx'') last → any_node (is_other_construct c) last ≡ false → (is_some c.es2015.arrow_function && any_node is_arrow last) ≡ false → tree_size (plain_program z) ≤ 64 * tree_size p + 64 → Lowers o p (plain_program z) (made_of ctx'')
-      becomes-last reached' other arrows size =
-          let reached = copied-reached o c copy p last (first_whole p) (made_of ctx'') reached' in
-          let taken_so : first_unsupported o p ≡ None = sym (copied-unsupported o c copy p) ∙ taken in
-          let becomes = law_result_proof o p (plain_program z) last (made_of ctx'') form right (λ on. law_arrows_taken_proof o p on taken_so) reached (law_bare_seen_proof names (plain_program z)) in
-          record {
-            result = becomes;
-            none = sym (copied-enabled o c copy (plain_program z)) ∙ same-constructs c last (plain_program z) (sym (law_bare_seen_proof names (plain_program z))) ∙ none-enabled c last other arrows;
-            core = λ core. law_core_result_proof o p (plain_program z) (made_of ctx'') core right becomes;
-            statements = λ runs. law_statement_result_proof o p (plain_program z) (made_of ctx'') runs (tags-are-no-chains o p taken_so) becomes;
-            unchanged = λ none. absurd (true≢false (sym some ∙ none));
-            size = size;
-          }
-
       -- STEPS OF THE WALK
 
-      walked : is_some c.es2015.arrow_function ≡ true → ArrowsLowered (moment_of ctx') result (moment_of ctx'') last → Reached (built_rules c) p (first_whole p) (made_of ctx'') last
+      walked : is_some c.es2015.arrow_function ≡ true → ArrowsLowered (moment_of ctx') result (moment_of ctx'') last → Steps (Step (built_rules c) the_program) (nothing_beside (first_whole p)) (opened (source p)) (nothing_beside (whole_at (moment_of ctx''))) (opened last)
       unfolding between visited-reached
       walked on steps =
           let W = either_rule (built_rules c) ArrowWalkRule in
           let first_steps = all_under (built_rules c) W (λ n s x s' y r. inl r) between.steps in
           let later_steps = all_under walk_rule W (walk-among c) steps in
-          record {
-            whole = whole_at (moment_of ctx'');
-            steps = walks-are-steps c (built_rules c) (has-arrows c on) (source p) (first_whole p) (whole_at (moment_of ctx'')) (opened last) (kind-of-program (source p) (source-formed p form)) (law_start_proof p (first_whole p) form right (λ x e. rw e refl) (omega arith) (λ s. refl)) (law_first_uses_proof p form right) (steps-trans first_steps later_steps);
-            made = names-bound (whole_at (moment_of ctx'')).free_symbol (made_of ctx'');
-          }
+          walks-are-steps c (built_rules c) (has-arrows c on) (source p) (first_whole p) (whole_at (moment_of ctx'')) (opened last) (kind-of-program (source p) (source-formed p form)) (law_start_proof p (first_whole p) form right (λ x e. rw e refl) (omega arith) (λ s. refl)) (law_first_uses_proof p form right) (steps-trans first_steps later_steps)
 
       walked_none : ArrowsLowered (moment_of ctx') result (moment_of ctx'') last → any_node (is_other_construct c) last ≡ false
       walked_none steps = law_walk_makes_none_proof c result last (whole_at (moment_of ctx')) (whole_at (moment_of ctx'')) steps other_none
 
-      -- what is written is at most so large
-      size-last : ctx.ast.next ≡ tree_size p → KeptVisited 0 (moment_of ctx) (plain_program x) (moment_of ctx') (plain_program y) → KeptTree (moment_of ctx') (plain_program y) (moment_of ctx'') (plain_program z) → tree_size (plain_program z) ≤ 64 * tree_size p + 64
-      size-last next kept then_kept =
+      -- what is written is at most so large, and so many ids are given
+      record IsSmall : Type 0 where
+        size : tree_size (plain_program z) ≤ 31 * tree_size p
+        given : (moment_of ctx'').next ≤ 62 * tree_size p
+
+      small-last : ctx.ast.next ≡ tree_size p → KeptVisited 0 (moment_of ctx) (plain_program x) (moment_of ctx') (plain_program y) → KeptTree (moment_of ctx') (plain_program y) (moment_of ctx'') (plain_program z) → IsSmall
+      small-last next kept then_kept =
           let h = first-heft p ctx new next in
           let l = kept.lighter in
           let m = then_kept.lighter in
           let w = load-size (plain_program x) in
           let s : tree_size (plain_program x) ≡ tree_size p = ap tree_size marked ∙ (sym (tree_size-bare (marked_program p)) ∙ ap tree_size (bare-marked-program p) ∙ tree_size-bare p) in
           let b = size-weight (plain_program z) in
-          omega (arith, h, l, m, w, s, b)
+          let more = kept.nodes in
+          let then_more = then_kept.nodes in
+          let none : lists_size (moment_of ctx).lists ≡ 0 = ap lists_size begun.lists in
+          record { size = omega (arith, h, l, m, w, s, b, more, then_more, none, next); given = omega (arith, h, l, m, w, s, next) }
 
-    -- by the context's own options, which are those of the run
-    pub lowers : (o : EnvOptions) → IsCopy o c → has_enabled_construct o p ≡ true → ctx.ast.next ≡ tree_size p → KeptVisited 0 (moment_of ctx) (plain_program x) (moment_of ctx') (plain_program y) → (z : Program) (ctx'' : TraverseCtx TransformState) →
-        IsWalked (is_some c.es2015.arrow_function) ctx' y ctx'' z → Lowers o p (plain_program z) (made_of ctx'')
-    lowers o copy some next kept z ctx'' walk = at (is_some c.es2015.arrow_function) refl
+    -- by the context's own options
+    pub arrives : ctx.ast.next ≡ tree_size p → ctx.options ≡ c → KeptVisited 0 (moment_of ctx) (plain_program x) (moment_of ctx') (plain_program y) → (z : Program) (ctx'' : TraverseCtx TransformState) → IsWalked (is_some c.es2015.arrow_function) ctx' y ctx'' z → Arrived c p z ctx''
+    arrives next own kept z ctx'' walk = at (is_some c.es2015.arrow_function) refl
       where
-        at : (asked : Bool) → is_some c.es2015.arrow_function ≡ asked → Lowers o p (plain_program z) (made_of ctx'')
+        options-there : (moment_of ctx').options ≡ c
+        options-there = kept.options ∙ own
+
+        at : (asked : Bool) → is_some c.es2015.arrow_function ≡ asked → Arrived c p z ctx''
         at true on =
             let steps = walk.lowered on names in
-            let none : (is_some c.es2015.arrow_function && any_node is_arrow (last o copy some z ctx'')) ≡ false = ap (λ b. b && any_node is_arrow (last o copy some z ctx'')) on ∙ same-arrows (plain_program z) (last o copy some z ctx'') (law_bare_seen_proof names (plain_program z)) ∙ walk.none on in
-            becomes-last o copy some z ctx'' (walked o copy some z ctx'' on steps) (walked_none o copy some z ctx'' steps) none (size-last o copy some z ctx'' next kept (walk.kept on))
+            let small = small-last z ctx'' next kept (walk.kept on) in
+            record {
+              steps = walked z ctx'' on steps;
+              other = walked_none z ctx'' steps;
+              arrows = ap (λ b. b && any_node is_arrow (last z ctx'')) on ∙ same-arrows (plain_program z) (last z ctx'') (law_bare_seen_proof names (plain_program z)) ∙ walk.none on;
+              options = (walk.kept on).options ∙ options-there;
+              size = small.size;
+              given = small.given;
+            }
         at false off =
-            let none : (is_some c.es2015.arrow_function && any_node is_arrow result) ≡ false = ap (λ b. b && any_node is_arrow result) off in
-            let there = becomes-last o copy some y ctx' between other_none none (size-last o copy some y ctx' next kept (kept-itself (moment_of ctx') (plain_program y))) in
+            let small = small-last y ctx' next kept (kept-itself (moment_of ctx') (plain_program y)) in
+            let there : Arrived c p y ctx' = record {
+              steps = subst (λ (w : Whole). Steps (Step (built_rules c) the_program) (nothing_beside (first_whole p)) (opened (source p)) (nothing_beside w) (opened result)) reached_whole between.steps;
+              other = other_none;
+              arrows = ap (λ b. b && any_node is_arrow result) off;
+              options = options-there;
+              size = small.size;
+              given = small.given;
+            } in
             let same = walk.same off in
-            subst (λ (w : Program). Lowers o p (plain_program w) (made_of ctx'')) (sym same.0) (subst (λ (e : TraverseCtx TransformState). Lowers o p (plain_program y) (made_of e)) (sym same.1) there)
-
--- A program in which no construct stands that the options ask to lower becomes itself.
-pub becomes-itself : (o : EnvOptions) (p : Tree) → has_form s-Program p ≡ true → breaks p ≡ [] → has_enabled_construct o p ≡ false → Lowers o p p []
-becomes-itself o p form right none =
-    let taken = none-unsupported o p none in
-    let becomes = law_result_proof o p p (source p) [] form right (λ on. law_arrows_taken_proof o p on taken) (record { whole = first_whole p; steps = stays; made = refl }) (law_bare_source_proof p) in
-    record {
-      result = becomes;
-      none = none;
-      core = λ core. law_core_result_proof o p p [] core right becomes;
-      statements = λ runs. law_statement_result_proof o p p [] runs (tags-are-no-chains o p taken) becomes;
-      unchanged = λ asked. record { same = refl; no_names = refl };
-      size = omega arith;
-    }
+            subst (λ (w : Program). Arrived c p w ctx'') (sym same.0) (subst (λ (e : TraverseCtx TransformState). Arrived c p y e) (sym same.1) there)

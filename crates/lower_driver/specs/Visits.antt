@@ -1,4 +1,4 @@
--- What the one visit of a run states of itself, and what the walk over arrows leaves.
+-- What the one visit of a run states of itself, and what the walks over arrows and object rests leave.
 use Rattle.std.specs.Prelude.{◌≡◌, Bool, true, false}
 use Rattle.es_tree.specs.Constructs.{is_arrow}
 use Rattle.es_tree.specs.Walks.{any_node}
@@ -9,6 +9,8 @@ use Rattle.es_statements.specs.declared.program.Program.{Program}
 use Rattle.es_traverse.specs.Laws.{Ending, KeptTree, Profile, Seen, both_endings, both_profile, no_ending}
 use Rattle.lower_arrows.specs.Lowered.{ArrowsLowered}
 use Rattle.lower_editions.specs.Editions.{editions_ending, es2016_profile, es2018_profile, es2019_profile, es2020_profile, es2021_profile}
+use Rattle.lower_nodes.specs.Nodes.{PaidTree, WalkedProgram}
+use Rattle.lower_object_rest.specs.Profile.{profile_where, rest_owes}
 use Rattle.lower_temporaries.specs.Takings.{moment_of}
 use Rattle.lower_temporaries.specs.declared.state.TransformState.{TransformState}
 use Rattle.lower_writing.specs.Writing.{common_profile}
@@ -26,4 +28,10 @@ pub record IsWalked (asked : Bool) (old : TraverseCtx TransformState) (x : Progr
   pub kept : asked ≡ true → KeptTree (moment_of old) (plain_program x) (moment_of new) (plain_program y)
   pub lowered : asked ≡ true → Seen (λ t u. ArrowsLowered (moment_of old) t (moment_of new) u) (plain_program x) (plain_program y)
   pub none : asked ≡ true → any_node is_arrow (plain_program y) ≡ false
+  pub same : asked ≡ false → (y ≡ x) × (new ≡ old)
+
+-- A program whose object rests are taken, where that is asked for, and else the same one.
+pub record AreTaken (asked : Bool) (old : TraverseCtx TransformState) (x : Program) (new : TraverseCtx TransformState) (y : Program) : Type 0 where
+  pub paid : asked ≡ true → PaidTree rest_owes (moment_of old) (plain_program x) (moment_of new) (plain_program y)
+  pub taken : asked ≡ true → Seen (λ t u. WalkedProgram (profile_where true) (moment_of old) t (moment_of new) u) (plain_program x) (plain_program y)
   pub same : asked ≡ false → (y ≡ x) × (new ≡ old)

@@ -1,5 +1,5 @@
-//! One run: a program is read, checked, visited once by the lowerings that its options ask for, walked for its arrows,
-//! and written.
+//! One run: a program is read, checked, visited once by the lowerings that its options ask for, walked for its arrows
+//! and for its object rests, and written.
 ghost use Rattle.std.specs.Prelude.{◌≡◌, ◌<◌, ◌∷◌, ◌^◌, [], IfErr, IfOk, None, false, map, string_bytes, true};
 ghost use Rattle.serde_json.specs.View.{view};
 ghost use Rattle.es_tree.specs.Constructs.{has_enabled_construct};
@@ -23,7 +23,7 @@ ghost use Rattle.lower_driver.specs.UnsupportedPrograms.{IsTreeCauseOrMemory, Is
 
 use crate::copies::copy_options;
 use crate::reading::{read_bytes, read_source};
-use crate::visiting::{visit, walk};
+use crate::visiting::{take_rests, visit, walk};
 use es_json::program::ReadProgram;
 use es_json::writer::write_program;
 use es_nodes::construct::has_enabled_construct;
@@ -66,15 +66,15 @@ pub struct Lowered {
 
 /// Lowers the program that the value is the form of, as the options ask: its logical assignments, `??`,
 /// optional chains, catch clauses without a parameter, exports of namespaces, spreads in object literals,
-/// exponentiations and arrow functions, in programs of every kind. A program in which no construct stands that they ask
-/// to lower comes back as it is. Where they ask for warnings, of BigInt literals (ECMA-262, 12.9.3) or of strings that
+/// object rests that are declared, exponentiations and arrow functions, in programs of every kind. A program in which
+/// no construct stands that they ask to lower comes back as it is. Where they ask for warnings, of BigInt literals (ECMA-262, 12.9.3) or of strings that
 /// name imports and exports (16.2), it answers one for each of the source.
 ///
 /// Fails for the first of these causes that holds: `Option` where the options ask for what isn't done; `TooLarge`,
 /// `TooDeep` and `Shape` as `read_program` has them; `Invalid` as `check_static` has it; `Unsupported` at the first node
 /// that the lowerings don't take: `NotBuilt` a construct that they ask to lower and no lowering takes away yet,
 /// `MathBound` an exponentiation that would be lowered where `Math` is bound, `HelperName` an object literal with a
-/// spread where `babelHelpers` is bound, `SpreadLiteral` one whose properties can't be copied one by one, `TagChain` a
+/// spread where `babelHelpers` is bound, and a declaration of an object rest in a program that binds it, `SpreadLiteral` one whose properties can't be copied one by one, `TagChain` a
 /// template whose tag is a chain, `ArrowOuter` and `ArrowThis` what belongs to what is around an arrow and can't belong
 /// to a function in its place. It fails with `OutOfMemory` where memory runs out.
 pub fn lower(alloc: Global, source: &Value, options: &EnvOptions) -> Result<Lowered, LowerError>
@@ -185,6 +185,7 @@ fn lower_constructs(
     let mut program = Program::open(source);
     visit(&mut program, &mut ctx)?;
     walk(&mut program, &mut ctx)?;
+    take_rests(&mut program, &mut ctx)?;
     let program = program.close(alloc)?;
     Ok((program, ctx.into_uids()))
 }

@@ -1,5 +1,5 @@
-//! The one visit of a run, and the walk over arrows after it.
-ghost use Rattle.std.specs.Prelude.{◌≡◌, ◌<◌, ◌∷◌, [], OnOk, is_some, length, true};
+//! The one visit of a run, and the walks over arrows and over object rests after it.
+ghost use Rattle.std.specs.Prelude.{◌≡◌, ◌+◌, ◌-◌, ◌<◌, ◌^◌, ◌∷◌, [], OnOk, is_some, length, true};
 ghost use Rattle.es_tree.specs.HasForm.{has_form};
 ghost use Rattle.es_tree.specs.declared.table.Sort.TheVariants.{Program as s-Program};
 ghost use Rattle.es_arrow_steps.specs.ThisFits.{each_this_fits};
@@ -14,7 +14,9 @@ ghost use Rattle.es_traverse.specs.Loads.{load};
 ghost use Rattle.es_traverse.specs.Visits.{VisitedProgram};
 ghost use Rattle.lower_temporaries.specs.Takings.{moment_of};
 ghost use Rattle.es_runs.specs.Weights.{weight};
-ghost use Rattle.lower_driver.specs.Visits.{IsWalked, visit_ending, visit_profile};
+ghost use Rattle.lower_nodes.specs.Nodes.{owed};
+ghost use Rattle.lower_object_rest.specs.Profile.{rest_owes};
+ghost use Rattle.lower_driver.specs.Visits.{AreTaken, IsWalked, visit_ending, visit_profile};
 
 use es_scope::context::TraverseCtx;
 use es_statements::program::Program;
@@ -29,6 +31,8 @@ use lower_editions::es2018::ES2018;
 use lower_editions::es2019::ES2019;
 use lower_editions::es2020::ES2020;
 use lower_editions::es2021::ES2021;
+use lower_node_walk::walk_nodes;
+use lower_object_rest::ObjectRest;
 use lower_temporaries::state::TransformState;
 use lower_writing::common::Common;
 use std::alloc::AllocError;
@@ -69,6 +73,23 @@ pub fn walk(program: &mut Program, ctx: &mut TraverseCtx<TransformState>) -> Res
 {
     if ctx.options.es2015.arrow_function.is_some() {
         lower_arrows(program, ctx)?;
+    }
+    Ok(())
+}
+
+/// Takes the object rests of a program in which nothing is pending, where the context's options ask for it. Fails only where memory runs
+/// out; the program is then in no stated shape.
+pub fn take_rests(
+    program: &mut Program,
+    ctx: &mut TraverseCtx<TransformState>,
+) -> Result<(), AllocError>
+    requires formed { has_form s-Program (plain_program program.old) ≡ true }
+    requires room { ctx.old.ast.next + owed rest_owes (plain_program program.old) < 2 ^ 32 - 1 }
+    ensures taken { OnOk result (AreTaken (is_some ctx.old.options.es2018.object_rest_spread) ctx.old program.old ctx.new program.new) }
+{
+    if ctx.options.es2018.object_rest_spread.is_some() {
+        let rests = ObjectRest::new(&ctx.options);
+        walk_nodes(&rests, program, ctx)?;
     }
     Ok(())
 }

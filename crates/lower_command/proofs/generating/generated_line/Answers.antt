@@ -1,3 +1,13 @@
+use Rattle.std.proofs.Common.{◌≡◌, ◌∙◌, ◌+◌, ◌*◌, ◌<◌, ◌≤◌, ◌^◌, ℕ, arith, ap, length, map, string_bytes, subst, sym}
+use Rattle.std.proofs.lemmas.List.{length-map}
+use Rattle.std.specs.Prelude.{Bool, true, false, if◌then◌else◌}
+use Rattle.es_tree.specs.Capped.{capped}
+use Rattle.es_tree.specs.Tree.{Tree, tree_size}
+use Rattle.es_statement_steps.specs.Laws.{rests_there}
+use Rattle.lower_editions.specs.Warnings.{warnings_of}
+use Rattle.lower_driver.specs.Lowered.{IsLoweredTree}
+use Rattle.lower_command.specs.Answer.{generated_line}
+use Rattle.lower_command.specs.Generated.{generated}
 use Rattle.lower_command.proofs.GeneratedFacts.{generated-form, generated-kept, generated-small}
 use Rattle.lower_command.proofs.generating.generated_line.Goals as goal
 
@@ -9,3 +19,30 @@ lower_tree-requires-clause-kept c = rw c.in_ok-read.ensures.tree (generated-kept
 
 pub lower_tree-requires-clause-size : goal.lower_tree-requires-clause-size
 lower_tree-requires-clause-size c = rw c.in_ok-read.ensures.tree (generated-small c.args.count c.requires)
+
+-- 64 BITS hold the counts
+
+uncapped : (n : ℕ) → n < 2 ^ 64 → capped n ≡ n
+uncapped n small = omega (arith, small)
+
+within : (rests : Bool) (n m : ℕ) → m ≤ (if rests then 384 else 64) * n + 64 → n < 2 ^ 20 → m < 2 ^ 64
+within true n m size small = omega (arith, size, small)
+within false n m size small = omega (arith, size, small)
+
+pub returns-clause-line : goal.returns-clause-line
+returns-clause-line c =
+    let o = c.args.options.now in
+    let p = generated c.args.count in
+    let lowered = c.in_ok-lowered.lowered in
+    let is : IsLoweredTree o p lowered = subst (λ (t : Tree). IsLoweredTree o t lowered) c.in_ok-read.ensures.tree c.in_ok-lowered.ensures.lowered in
+    let small = generated-small c.args.count c.requires in
+    let before : c.count_nodes-before.result ≡ tree_size p = c.count_nodes-before.ensures ∙ (ap (λ (t : Tree). capped (tree_size t)) c.in_ok-read.ensures.tree ∙ uncapped (tree_size p) (omega (arith, small))) in
+    let after : capped (tree_size lowered.program) ≡ tree_size lowered.program = uncapped (tree_size lowered.program) (within (rests_there o p) (tree_size p) (tree_size lowered.program) is.lowers.size small) in
+    let names : length lowered.temporaries.items ≡ length (map string_bytes lowered.temporaries.items) = sym (length-map lowered.temporaries.items string_bytes) in
+    let warned : length lowered.warnings.items ≡ length (warnings_of o.es2020 p) = ap length is.warnings in
+    record {
+      written = lowered.program;
+      names = map string_bytes lowered.temporaries.items;
+      lowers = is.lowers;
+      line_is = c.in_ok-line.ensures ∙ (λ i. generated_line c.args.count (before i) (after i) (names i) (warned i));
+    }

@@ -1,4 +1,4 @@
-use Rattle.std.proofs.Common.{◌≡◌, List, None, is_some, sym, ap, ◌∙◌, subst}
+use Rattle.std.proofs.Common.{◌≡◌, List, None, is_some, sym, refl, ap, ◌∙◌, subst}
 use Rattle.es_tree.specs.Bare.{bare}
 use Rattle.es_tree.specs.Tree.{Tree}
 use Rattle.es_tree.specs.Words.{Text}
@@ -14,10 +14,12 @@ use Rattle.es_starts.proofs.BoundNames.{law_binds_names_proof}
 use Rattle.es_unsupported.specs.FirstUnsupported.{first_unsupported}
 use Rattle.lower_temporaries.specs.Takings.{moment_of, pending_of}
 use Rattle.lower_driver.specs.Lowers.{Lowers}
-use Rattle.lower_driver.specs.Visits.{IsWalked}
+use Rattle.lower_driver.specs.Visits.{AreTaken, IsWalked}
+use Rattle.lower_driver.proofs.Becomes.{arrived-form, becomes, owed-room}
 use Rattle.lower_driver.proofs.CopiedOptions.{copied-unsupported}
+use Rattle.lower_driver.proofs.FewScopes.{few-scopes}
 use Rattle.lower_driver.proofs.OpenedProgram.{program_opens}
-use Rattle.lower_driver.proofs.Visits.{alone-pending, first-room, lowers, marked-form, new-context, walk-room, walk_fits, walk_formed}
+use Rattle.lower_driver.proofs.Visits.{Arrived, alone-pending, arrives, first-room, marked-form, new-context, walk-room, walk_fits, walk_formed}
 use Rattle.lower_driver.proofs.driver.lower_constructs.Goals as goal
 
 pub new_context-requires-clause-kind : goal.new_context-requires-clause-kind
@@ -80,6 +82,41 @@ walk-requires-clause-room c =
     let first = first-room p ctx new c.open-program.result (ap bare (c.open-program.ensures ∙ c.in_ok-scoping.ensures.marks) ∙ bare-marked-program p) (ap (λ (a : AstBuilder). a.next) e.ast ∙ c.requires.next) c.requires.size in
     walk-room (moment_of ctx) (moment_of c.visit.new.ctx) (plain_program c.open-program.result) (plain_program c.visit.new.program) c.in_ok-visit.ensures.kept first
 
+-- THE WALK over object rests
+
+pub find_unsupported-requires-clause-few : goal.find_unsupported-requires-clause-few
+find_unsupported-requires-clause-few c = few-scopes c.args.read.program c.in_ok-scoping.scoping c.in_ok-scoping.ensures.table c.requires.size
+
+pub take_rests-requires-clause-formed : goal.take_rests-requires-clause-formed
+take_rests-requires-clause-formed c =
+    let o = c.args.options.now in
+    let p = c.args.read.program in
+    let ctx = c.in_ok-ctx.ctx in
+    let e = c.in_ok-ctx.ensures in
+    let v = c.in_ok-visit.ensures in
+    let new : IsNew p pending_of ctx = new-context p c.build_scoping.new.program c.in_ok-scoping.scoping ctx c.in_ok-scoping.ensures.marks c.in_ok-scoping.ensures.table e.place e.in_use e.none_made e.pending e.table in
+    let taken : first_unsupported ctx.options p ≡ None = copied-unsupported o ctx.options e.options p ∙ sym (c.in_default.ensures.first p (record { marks = c.in_ok-scoping.ensures.marks; table = c.in_ok-scoping.ensures.table })) in
+    let after = c.walk.new.ctx in
+    let z = c.walk.new.program in
+    let walked = subst (λ (a : EnvOptions). IsWalked (is_some a.es2015.arrow_function) c.visit.new.ctx c.visit.new.program after z) v.kept.options c.in_ok-walk.ensures.walked in
+    let arrived : Arrived ctx.options p z after = arrives ctx.options p ctx c.visit.new.ctx c.open-program.result c.visit.new.program new c.requires.form c.requires.kept taken (c.open-program.ensures ∙ c.in_ok-scoping.ensures.marks) (v.visited (symbol_in (symbols_of p))) v.finished (ap (λ (a : AstBuilder). a.next) e.ast ∙ c.requires.next) refl v.kept z after walked in
+    arrived-form o ctx.options e.options p c.requires.form c.requires.kept taken c.requires.some z after arrived
+
+pub take_rests-requires-clause-room : goal.take_rests-requires-clause-room
+take_rests-requires-clause-room c =
+    let o = c.args.options.now in
+    let p = c.args.read.program in
+    let ctx = c.in_ok-ctx.ctx in
+    let e = c.in_ok-ctx.ensures in
+    let v = c.in_ok-visit.ensures in
+    let new : IsNew p pending_of ctx = new-context p c.build_scoping.new.program c.in_ok-scoping.scoping ctx c.in_ok-scoping.ensures.marks c.in_ok-scoping.ensures.table e.place e.in_use e.none_made e.pending e.table in
+    let taken : first_unsupported ctx.options p ≡ None = copied-unsupported o ctx.options e.options p ∙ sym (c.in_default.ensures.first p (record { marks = c.in_ok-scoping.ensures.marks; table = c.in_ok-scoping.ensures.table })) in
+    let after = c.walk.new.ctx in
+    let z = c.walk.new.program in
+    let walked = subst (λ (a : EnvOptions). IsWalked (is_some a.es2015.arrow_function) c.visit.new.ctx c.visit.new.program after z) v.kept.options c.in_ok-walk.ensures.walked in
+    let arrived : Arrived ctx.options p z after = arrives ctx.options p ctx c.visit.new.ctx c.open-program.result c.visit.new.program new c.requires.form c.requires.kept taken (c.open-program.ensures ∙ c.in_ok-scoping.ensures.marks) (v.visited (symbol_in (symbols_of p))) v.finished (ap (λ (a : AstBuilder). a.next) e.ast ∙ c.requires.next) refl v.kept z after walked in
+    owed-room p z after.ast.next arrived.size arrived.given c.requires.size
+
 pub returns-clause-lowers : goal.returns-clause-lowers
 returns-clause-lowers c =
     let o = c.args.options.now in
@@ -91,5 +128,10 @@ returns-clause-lowers c =
     let taken : first_unsupported ctx.options p ≡ None = copied-unsupported o ctx.options e.options p ∙ sym (c.in_default.ensures.first p (record { marks = c.in_ok-scoping.ensures.marks; table = c.in_ok-scoping.ensures.table })) in
     let after = c.walk.new.ctx in
     let z = c.walk.new.program in
-    let made : Lowers o p (plain_program z) (made_of after) = lowers ctx.options p ctx c.visit.new.ctx c.open-program.result c.visit.new.program new c.requires.form c.requires.kept taken (c.open-program.ensures ∙ c.in_ok-scoping.ensures.marks) (v.visited (symbol_in (symbols_of p))) v.finished o e.options c.requires.some (ap (λ (a : AstBuilder). a.next) e.ast ∙ c.requires.next) v.kept z after (subst (λ (a : EnvOptions). IsWalked (is_some a.es2015.arrow_function) c.visit.new.ctx c.visit.new.program after z) v.kept.options c.in_ok-walk.ensures.walked) in
-    subst (λ (names : List Text). Lowers o p c.in_ok-program.program names) (sym c.into_uids.ensures) (subst (λ (t : Tree). Lowers o p t (made_of after)) (sym c.in_ok-program.ensures) made)
+    let walked = subst (λ (a : EnvOptions). IsWalked (is_some a.es2015.arrow_function) c.visit.new.ctx c.visit.new.program after z) v.kept.options c.in_ok-walk.ensures.walked in
+    let arrived : Arrived ctx.options p z after = arrives ctx.options p ctx c.visit.new.ctx c.open-program.result c.visit.new.program new c.requires.form c.requires.kept taken (c.open-program.ensures ∙ c.in_ok-scoping.ensures.marks) (v.visited (symbol_in (symbols_of p))) v.finished (ap (λ (a : AstBuilder). a.next) e.ast ∙ c.requires.next) refl v.kept z after walked in
+    let d = c.take_rests.new.ctx in
+    let u = c.take_rests.new.program in
+    let rests = subst (λ (a : EnvOptions). AreTaken (is_some a.es2018.object_rest_spread) after z d u) arrived.options c.in_ok-take_rests.ensures.taken in
+    let made : Lowers o p (plain_program u) (made_of d) = becomes o ctx.options e.options p c.requires.form c.requires.kept taken c.requires.some z u after d arrived rests in
+    subst (λ (names : List Text). Lowers o p c.in_ok-program.program names) (sym c.into_uids.ensures) (subst (λ (t : Tree). Lowers o p t (made_of d)) (sym c.in_ok-program.ensures) made)

@@ -3,8 +3,8 @@ use Rattle.std.specs.Prelude.{string_bytes}
 use Rattle.es_tree.specs.Constructs.{has_enabled_construct}
 use Rattle.std.specs.declared.alloc.Global.{Global}
 use Rattle.lower_driver.specs.Lowers.{Lowers}
+use Rattle.lower_driver.proofs.Becomes.{becomes-itself}
 use Rattle.lower_driver.proofs.NoneUnsupported.{none-unsupported}
-use Rattle.lower_driver.proofs.Visits.{becomes-itself}
 use Rattle.lower_driver.proofs.driver.lower_program.Goals as goal
 
 pub returns-then-not-has_enabled_construct-clause-lowered : goal.returns-then-not-has_enabled_construct-clause-lowered

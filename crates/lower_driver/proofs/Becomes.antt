@@ -1,0 +1,316 @@
+-- From what the visit and the walk over arrows lead to, to what a source becomes: the walk that takes object rests.
+use Rattle.std.proofs.Common.{◌≡◌, ◌∙◌, ◌+◌, ◌*◌, ◌≤◌, ◌<◌, ◌^◌, ◌-◌, ℕ, [], Option, None, arith, refl, sym, ap, subst, true≢false}
+use Rattle.std.specs.Prelude.{Bool, true, false, ◌&&◌, is_some, if◌then◌else◌}
+use Rattle.es_tree.specs.Bare.{bare}
+use Rattle.es_tree.specs.Constructs.{any_kind, has_enabled_construct, is_arrow, is_object_rest, is_rest}
+use Rattle.es_tree.specs.Core.{is_core_node}
+use Rattle.es_tree.specs.HasForm.{has_form}
+use Rattle.es_tree.specs.StaticRules.{breaks}
+use Rattle.es_tree.specs.Tree.{Tree, node, Label, Fields, done, ◌then◌, Field, missing, one, many, statements, Trees, empty, ◌before◌, fields_size, kind_of, tree_size, trees_size}
+use Rattle.es_tree.specs.Walks.{all_in_field, all_in_fields, all_in_trees, all_nodes, any_in_field, any_in_fields, any_in_trees, any_node}
+use Rattle.es_tree.specs.Words.{Text}
+use Rattle.es_tree.specs.declared.ast_type.AstType.{AstType}
+use Rattle.es_tree.specs.declared.ast_type.AstType.TheVariants.{ObjectPattern, ObjectTarget, Program as k-Program}
+use Rattle.es_tree.specs.declared.options.EnvOptions.{EnvOptions}
+use Rattle.es_tree.specs.declared.table.Sort.TheVariants.{Program as s-Program}
+use Rattle.es_tree.proofs.BareForm.{has_form-bare}
+use Rattle.es_scope.specs.Contexts.{made_of}
+use Rattle.es_scope.specs.declared.context.TraverseCtx.{TraverseCtx}
+use Rattle.es_semantic.specs.SymbolsOf.{symbol_in, symbols_of}
+use Rattle.es_statements.specs.ProgramPlain.{plain_program}
+use Rattle.es_statements.specs.declared.program.Program.{Program}
+use Rattle.es_resolution.specs.Laws.{source}
+use Rattle.es_resolution.specs.Seen.{seen}
+use Rattle.es_runs.proofs.Named.{or_both}
+use Rattle.es_steps.specs.AllRules.{AllRules}
+use Rattle.es_steps.specs.CoreBridge.{Reached, first_whole}
+use Rattle.es_steps.specs.Laws.{IsWellBound, nothing_beside}
+use Rattle.es_steps.specs.Open.{opened}
+use Rattle.es_steps.specs.Steps.{Step, Steps, Whole, the_program}
+use Rattle.es_steps.specs.Steps.Steps.{stays}
+use Rattle.es_steps.proofs.BridgeInclusion.{all_under}
+use Rattle.es_steps.proofs.Laws.{law_reached_proof}
+use Rattle.es_changes.specs.Moments.{whole_at}
+use Rattle.es_reached.specs.Reached.{IsResult, built_rules}
+use Rattle.es_reached.specs.Walks.{is_other_construct}
+use Rattle.es_reached.proofs.BuiltRules.{built-all}
+use Rattle.es_reached.proofs.FreeSteps.{law_no_rests_proof}
+use Rattle.es_reached.proofs.Results.{law_core_result_proof, law_result_proof, program-kind, source-form, source-well-bound}
+use Rattle.es_reached.proofs.Sources.{law_bare_seen_proof, law_bare_source_proof}
+use Rattle.es_rest_shapes.specs.RestShapes.{is_misplaced, is_rest_declaration, is_stray_rest}
+use Rattle.es_rest_shapes.proofs.NoneLeft.{law_none_left_proof}
+use Rattle.es_rest_rows.specs.Laws.{is_other_construct as rest_others}
+use Rattle.es_rest_rows.specs.RestRows.{RestRow, RestWalkRow}
+use Rattle.es_rest_rows.proofs.HelperSteps.{law_helpers_unbound_proof, law_rest_walks_proof}
+use Rattle.es_rest_rows.proofs.RestsMakeNone.{law_rests_make_none_proof}
+use Rattle.es_rest_rows.proofs.StraySteps.{law_strays_not_made_proof}
+use Rattle.es_lowered.specs.Lowered.{IsLowered}
+use Rattle.es_lowered.proofs.Idle.{law_idle_proof}
+use Rattle.es_lowered.proofs.Lowered.{law_lowered_alone_proof, law_lowered_proof}
+use Rattle.es_statement_steps.specs.Laws.{rests_there}
+use Rattle.es_statement_steps.proofs.Results.{law_statement_result_proof}
+use Rattle.es_unsupported.specs.FirstUnsupported.{first_unsupported}
+use Rattle.es_unsupported.proofs.ArrowsTaken.{law_arrows_taken_proof}
+use Rattle.es_unsupported.proofs.Built.{law_strays_taken_proof}
+use Rattle.es_unsupported.proofs.HelpersFree.{law_helpers_free_proof}
+use Rattle.lower_nodes.specs.Nodes.{PaidTree, WalkedProgram, owed, owed_among, owed_in}
+use Rattle.lower_object_rest.specs.Profile.{number_of, profile_where, rest_owes}
+use Rattle.lower_temporaries.proofs.SeenLaws.{size-seen}
+use Rattle.lower_temporaries.specs.Takings.{moment_of}
+use Rattle.lower_temporaries.specs.declared.state.TransformState.{TransformState}
+use Rattle.lower_driver.specs.Copies.{IsCopy}
+use Rattle.lower_driver.specs.Lowers.{Lowers}
+use Rattle.lower_driver.specs.Visits.{AreTaken}
+use Rattle.lower_driver.proofs.BareConstructs.{same-constructs}
+use Rattle.lower_driver.proofs.CopiedOptions.{copied-enabled, copied-reached, copied-unsupported}
+use Rattle.lower_driver.proofs.NoneLeft.{none-beside-rests, none-enabled, none-with-rests}
+use Rattle.lower_driver.proofs.NoneUnsupported.{none-unsupported}
+use Rattle.lower_driver.proofs.Untagged.{tags-are-no-chains}
+use Rattle.lower_driver.proofs.Visits.{Arrived, names-bound}
+
+-- CORE PROGRAMS have no pattern
+
+core-kind : (k : AstType) (l : Label) (fs : Fields) → is_core_node k l fs ≡ true → is_object_rest k l fs ≡ false
+core-kind ObjectPattern l fs h = absurd (cc h)
+core-kind ObjectTarget l fs h = absurd (cc h)
+core-kind k l fs h = refl
+
+and-first : (a b : Bool) → (a && b) ≡ true → a ≡ true
+and-first true b h = refl
+and-first false b h = h
+
+and-second : (a b : Bool) → (a && b) ≡ true → b ≡ true
+and-second true b h = h
+and-second false b h = absurd (true≢false (sym h))
+
+mutual
+  core-none : (t : Tree) → all_nodes is_core_node t ≡ true → any_node is_object_rest t ≡ false
+  core-none (node k l fs) h = or_both (is_object_rest k l fs) (any_in_fields is_object_rest fs) (core-kind k l fs (and-first (is_core_node k l fs) (all_in_fields is_core_node fs) h)) (core-none-in fs (and-second (is_core_node k l fs) (all_in_fields is_core_node fs) h))
+
+  core-none-in : (fs : Fields) → all_in_fields is_core_node fs ≡ true → any_in_fields is_object_rest fs ≡ false
+  core-none-in done h = refl
+  core-none-in (f then fs) h = or_both (any_in_field is_object_rest f) (any_in_fields is_object_rest fs) (core-none-by f (and-first (all_in_field is_core_node f) (all_in_fields is_core_node fs) h)) (core-none-in fs (and-second (all_in_field is_core_node f) (all_in_fields is_core_node fs) h))
+
+  core-none-by : (f : Field) → all_in_field is_core_node f ≡ true → any_in_field is_object_rest f ≡ false
+  core-none-by missing h = refl
+  core-none-by (one t) h = core-none t h
+  core-none-by (many ts) h = core-none-among ts h
+  core-none-by (statements ts) h = core-none-among ts h
+
+  core-none-among : (ts : Trees) → all_in_trees is_core_node ts ≡ true → any_in_trees is_object_rest ts ≡ false
+  core-none-among empty h = refl
+  core-none-among (t before ts) h = or_both (any_node is_object_rest t) (any_in_trees is_object_rest ts) (core-none t (and-first (all_nodes is_core_node t) (all_in_trees is_core_node ts) h)) (core-none-among ts (and-second (all_nodes is_core_node t) (all_in_trees is_core_node ts) h))
+
+-- IDS that a walk may give
+
+-- how many nodes stand in the fields themselves
+abbrev children : Fields → ℕ
+children done = 0
+children (missing then fs) = children fs
+children (one t then fs) = 1 + children fs
+children (many ts then fs) = number_of ts + children fs
+children (statements ts then fs) = number_of ts + children fs
+
+either-owed : (b : Bool) (n m : ℕ) → (if b then 10 + n else 0) ≤ 10 + (n + m)
+either-owed true n m = omega arith
+either-owed false n m = omega arith
+
+own-owed : (k : AstType) (l : Label) (fs : Fields) → rest_owes k l fs ≤ 10 + children fs
+own-owed ObjectPattern l (many ps then fs) = either-owed (any_kind is_rest ps) (number_of ps) (children fs)
+own-owed ObjectPattern l done = omega arith
+own-owed ObjectPattern l (missing then fs) = omega arith
+own-owed ObjectPattern l (one t then fs) = omega arith
+own-owed ObjectPattern l (statements ts then fs) = omega arith
+own-owed k l fs = omega arith
+
+-- at most eleven for each node; what a node may have for those in its fields is one of them
+mutual
+  few-owed : (t : Tree) → owed rest_owes t + 1 ≤ 11 * tree_size t
+  few-owed (node k l fs) = omega (arith, own-owed k l fs, few-owed-in fs)
+
+  few-owed-in : (fs : Fields) → owed_in rest_owes fs + children fs ≤ 11 * fields_size fs
+  few-owed-in done = omega arith
+  few-owed-in (missing then fs) = omega (arith, few-owed-in fs)
+  few-owed-in (one t then fs) = omega (arith, few-owed t, few-owed-in fs)
+  few-owed-in (many ts then fs) = omega (arith, few-owed-among ts, few-owed-in fs)
+  few-owed-in (statements ts then fs) = omega (arith, few-owed-among ts, few-owed-in fs)
+
+  few-owed-among : (ts : Trees) → owed_among rest_owes ts + number_of ts ≤ 11 * trees_size ts
+  few-owed-among empty = omega arith
+  few-owed-among (t before ts) = omega (arith, few-owed t, few-owed-among ts)
+
+pub owed-room : (p : Tree) (z : Program) (next : ℕ) → tree_size (plain_program z) ≤ 31 * tree_size p → next ≤ 62 * tree_size p → tree_size p < 2 ^ 20 → next + owed rest_owes (plain_program z) < 2 ^ 32 - 1
+owed-room p z next size given small = omega (arith, few-owed (plain_program z), size, given, small)
+
+-- WHAT A SOURCE BECOMES
+
+misplaced-program : (t : Tree) → kind_of t ≡ k-Program → is_misplaced t ≡ false
+misplaced-program (node k l fs) e = ap (λ (q : AstType). is_misplaced (node q l fs)) e
+
+form-alike : (t u : Tree) → bare t ≡ bare u → has_form s-Program u ≡ true → has_form s-Program t ≡ true
+form-alike t u same h = sym (has_form-bare s-Program t) ∙ ap (has_form s-Program) same ∙ has_form-bare s-Program u ∙ h
+
+both-on : (a b : Bool) → a ≡ true → b ≡ true → (a && b) ≡ true
+both-on a b e d = rw (e, d) refl
+
+off-first : (a b : Bool) → a ≡ false → (a && b) ≡ false
+off-first a b e = rw e refl
+
+off-second : (a b : Bool) → b ≡ false → (a && b) ≡ false
+off-second true b e = e
+off-second false b e = refl
+
+module _ (o c : EnvOptions) (copy : IsCopy o c) (p : Tree) (form : has_form s-Program p ≡ true) (right : breaks p ≡ []) (taken : first_unsupported c p ≡ None) (some : has_enabled_construct o p ≡ true) where
+  abbrev names : ℕ → Text → Option ℕ
+  names = symbol_in (symbols_of p)
+
+  taken_so : first_unsupported o p ≡ None
+  taken_so = sym (copied-unsupported o c copy p) ∙ taken
+
+  same-on : is_some o.es2018.object_rest_spread ≡ is_some c.es2018.object_rest_spread
+  same-on = λ i. is_some (sym copy.es2018 i).object_rest_spread
+
+  reached-so : (z : Program) (ctx : TraverseCtx TransformState) → Steps (Step (built_rules c) the_program) (nothing_beside (first_whole p)) (opened (source p)) (nothing_beside (whole_at (moment_of ctx))) (opened (seen names (plain_program z))) →
+      Reached (built_rules o) p (first_whole p) (made_of ctx) (seen names (plain_program z))
+  reached-so z ctx steps =
+      copied-reached o c copy p (seen names (plain_program z)) (first_whole p) (made_of ctx) (record { whole = whole_at (moment_of ctx); steps = steps; made = names-bound (whole_at (moment_of ctx)).free_symbol (made_of ctx) })
+
+  result-so : (z : Program) (ctx : TraverseCtx TransformState) → Reached (built_rules o) p (first_whole p) (made_of ctx) (seen names (plain_program z)) → IsResult o p (plain_program z) (made_of ctx)
+  result-so z ctx reached = law_result_proof o p (plain_program z) (seen names (plain_program z)) (made_of ctx) form right (λ on. law_arrows_taken_proof o p on taken_so) reached (law_bare_seen_proof names (plain_program z))
+
+  pub arrived-form : (z : Program) (ctx : TraverseCtx TransformState) → Arrived c p z ctx → has_form s-Program (plain_program z) ≡ true
+  arrived-form z ctx arrived = (result-so z ctx (reached-so z ctx arrived.steps)).form
+
+  -- WHERE NO REST IS TAKEN
+
+  ends : (z : Program) (ctx : TraverseCtx TransformState) → Steps (Step (built_rules c) the_program) (nothing_beside (first_whole p)) (opened (source p)) (nothing_beside (whole_at (moment_of ctx))) (opened (seen names (plain_program z))) →
+      any_node (is_other_construct c) (seen names (plain_program z)) ≡ false → (is_some c.es2015.arrow_function && any_node is_arrow (seen names (plain_program z))) ≡ false → (is_some c.es2018.object_rest_spread && any_node is_object_rest (seen names (plain_program z))) ≡ false →
+      tree_size (plain_program z) ≤ 31 * tree_size p → rests_there o p ≡ false → Lowers o p (plain_program z) (made_of ctx)
+  ends z ctx steps other arrows rests size none =
+      let becomes = result-so z ctx (reached-so z ctx steps) in
+      let there = seen names (plain_program z) in
+      record {
+        result = law_lowered_alone_proof o p (plain_program z) (made_of ctx) becomes;
+        none = sym (copied-enabled o c copy (plain_program z)) ∙ same-constructs c there (plain_program z) (sym (law_bare_seen_proof names (plain_program z))) ∙ none-enabled c there other rests arrows;
+        core = λ core. law_core_result_proof o p (plain_program z) (made_of ctx) core right becomes;
+        statements = λ runs. law_statement_result_proof o p (plain_program z) (made_of ctx) runs (tags-are-no-chains o p taken_so) becomes;
+        unchanged = λ unasked. absurd (true≢false (sym some ∙ unasked));
+        size = rw none (omega (arith, size));
+      }
+
+  module _ (z u : Program) (ctx d : TraverseCtx TransformState) (arrived : Arrived c p z ctx) where
+    abbrev there : Tree
+    there = seen names (plain_program z)
+
+    abbrev last : Tree
+    last = seen names (plain_program u)
+
+    reached : Reached (built_rules o) p (first_whole p) (made_of ctx) there
+    reached = reached-so z ctx arrived.steps
+
+    formed : has_form s-Program there ≡ true
+    formed = form-alike there (plain_program z) (law_bare_seen_proof names (plain_program z)) (arrived-form z ctx arrived)
+
+    -- WHERE RESTS ARE TAKEN
+
+    module _ (on : is_some o.es2018.object_rest_spread ≡ true) (paid : PaidTree rest_owes (moment_of ctx) (plain_program z) (moment_of d) (plain_program u)) (walked : WalkedProgram (profile_where true) (moment_of ctx) there (moment_of d) last) where
+      strays-source : any_node is_stray_rest p ≡ false
+      strays-source = law_strays_taken_proof o p on taken_so
+
+      strays : any_node is_stray_rest there ≡ false
+      strays = law_strays_not_made_proof o p there (made_of ctx) reached strays-source
+
+      walk : Steps (Step RestWalkRow the_program) (nothing_beside (whole_at (moment_of ctx))) (opened there) (nothing_beside (whole_at (moment_of d))) (opened last)
+      walk = walked.steps formed strays
+
+      -- there is none
+      idles : any_node is_object_rest p ≡ false → Lowers o p (plain_program u) (made_of d)
+      idles none =
+          let free = law_no_rests_proof o p there (made_of ctx) reached none in
+          let idle = law_idle_proof there last (whole_at (moment_of ctx)) (whole_at (moment_of d)) walk free in
+          let same : last ≡ there = idle.0 in
+          let size : tree_size (plain_program u) ≡ tree_size (plain_program z) = sym (size-seen names (plain_program u)) ∙ ap tree_size same ∙ size-seen names (plain_program z) in
+          let small = arrived.size in
+          ends u d
+          (subst (λ (t : Tree). Steps (Step (built_rules c) the_program) (nothing_beside (first_whole p)) (opened (source p)) (nothing_beside (whole_at (moment_of d))) (opened t)) (sym same)
+          (subst (λ (w : Whole). Steps (Step (built_rules c) the_program) (nothing_beside (first_whole p)) (opened (source p)) (nothing_beside w) (opened there)) (sym idle.1) arrived.steps))
+          (ap (any_node (is_other_construct c)) same ∙ arrived.other)
+          (ap (λ (t : Tree). is_some c.es2015.arrow_function && any_node is_arrow t) same ∙ arrived.arrows)
+          (off-second (is_some c.es2018.object_rest_spread) (any_node is_object_rest last) (ap (any_node is_object_rest) same ∙ free))
+          (omega (arith, size, small)) (off-second (is_some o.es2018.object_rest_spread) (any_node is_object_rest p) none)
+
+      module _ (has : any_node is_object_rest p ≡ true) where
+        declared : any_node is_rest_declaration p ≡ true
+        declared = at (any_node is_rest_declaration p) refl
+          where
+            at : (b : Bool) → any_node is_rest_declaration p ≡ b → b ≡ true
+            at true e = refl
+            at false e = absurd (true≢false (sym has ∙ law_none_left_proof p (misplaced-program p (program-kind p form)) strays-source e))
+
+        well : IsWellBound (whole_at (moment_of ctx)) there
+        unfolding reached reached-so
+        well = law_reached_proof o (source p) there (first_whole p) (whole_at (moment_of ctx)) (program-kind (source p) (source-form p form)) (source-well-bound p form right) (all_under (built_rules o) (AllRules o) (built-all o) reached.steps)
+
+        rows : Steps (Step RestRow the_program) (nothing_beside (whole_at (moment_of ctx))) (opened there) (nothing_beside (whole_at (moment_of d))) (opened last)
+        rows = law_rest_walks_proof there (whole_at (moment_of ctx)) (whole_at (moment_of d)) (opened last) (program-kind there formed) well (law_helpers_unbound_proof o p there (made_of ctx) form right (law_helpers_free_proof o p on taken_so declared) reached) refl walk
+
+        lowered : IsLowered o p (plain_program u) (made_of d)
+        unfolding reached reached-so
+        lowered =
+            law_lowered_proof o p (plain_program u) there last (made_of ctx) (made_of d) (whole_at (moment_of d)) form right (λ asked. law_arrows_taken_proof o p asked taken_so) on reached rows (names-bound (whole_at (moment_of d)).free_symbol (made_of d)) (law_bare_seen_proof names (plain_program u))
+
+        none-last : any_node is_object_rest last ≡ false
+        none-last = law_none_left_proof last (misplaced-program last (program-kind last (form-alike last (plain_program u) (law_bare_seen_proof names (plain_program u)) lowered.form))) (walked.clear formed strays) (walked.none formed strays)
+
+        others : any_node (rest_others c) last ≡ false
+        others = law_rests_make_none_proof c there last (whole_at (moment_of ctx)) (whole_at (moment_of d)) walk (none-beside-rests c there arrived.other arrived.arrows)
+
+        takes : Lowers o p (plain_program u) (made_of d)
+        takes =
+            let there-is : rests_there o p ≡ true = both-on (is_some o.es2018.object_rest_spread) (any_node is_object_rest p) on has in
+            let small = arrived.size in
+            let few = few-owed (plain_program z) in
+            let light = paid.lighter in
+            let more = paid.nodes in
+            record {
+              result = lowered;
+              none = sym (copied-enabled o c copy (plain_program u)) ∙ same-constructs c last (plain_program u) (sym (law_bare_seen_proof names (plain_program u))) ∙ none-with-rests c last others (off-second (is_some c.es2018.object_rest_spread) (any_node is_object_rest last) none-last);
+              core = λ core. absurd (true≢false (sym has ∙ core-none p core.core));
+              statements = λ runs. absurd (true≢false (sym there-is ∙ runs.rests));
+              unchanged = λ unasked. absurd (true≢false (sym some ∙ unasked));
+              size = rw there-is (omega (arith, small, few, light, more));
+            }
+
+    by-source : (on : is_some o.es2018.object_rest_spread ≡ true) → PaidTree rest_owes (moment_of ctx) (plain_program z) (moment_of d) (plain_program u) → WalkedProgram (profile_where true) (moment_of ctx) there (moment_of d) last → (b : Bool) → any_node is_object_rest p ≡ b →
+        Lowers o p (plain_program u) (made_of d)
+    by-source on paid walked false none = idles on paid walked none
+    by-source on paid walked true has = takes on paid walked has
+
+    pub becomes : AreTaken (is_some c.es2018.object_rest_spread) ctx z d u → Lowers o p (plain_program u) (made_of d)
+    becomes rests = at (is_some c.es2018.object_rest_spread) refl
+      where
+        at : (asked : Bool) → is_some c.es2018.object_rest_spread ≡ asked → Lowers o p (plain_program u) (made_of d)
+        at false off =
+            let same = rests.same off in
+            subst (λ (w : Program). Lowers o p (plain_program w) (made_of d)) (sym same.0)
+            (subst (λ (e : TraverseCtx TransformState). Lowers o p (plain_program z) (made_of e)) (sym same.1)
+            (ends z ctx arrived.steps arrived.other arrived.arrows (off-first (is_some c.es2018.object_rest_spread) (any_node is_object_rest there) off) arrived.size (off-first (is_some o.es2018.object_rest_spread) (any_node is_object_rest p) (same-on ∙ off))))
+        at true on = by-source (same-on ∙ on) (rests.paid on) (rests.taken on names) (any_node is_object_rest p) refl
+
+-- A program in which no construct stands that the options ask to lower becomes itself.
+pub becomes-itself : (o : EnvOptions) (p : Tree) → has_form s-Program p ≡ true → breaks p ≡ [] → has_enabled_construct o p ≡ false → Lowers o p p []
+becomes-itself o p form right none =
+    let taken = none-unsupported o p none in
+    let becomes = law_result_proof o p p (source p) [] form right (λ on. law_arrows_taken_proof o p on taken) (record { whole = first_whole p; steps = stays; made = refl }) (law_bare_source_proof p) in
+    record {
+      result = law_lowered_alone_proof o p p [] becomes;
+      none = none;
+      core = λ core. law_core_result_proof o p p [] core right becomes;
+      statements = λ runs. law_statement_result_proof o p p [] runs (tags-are-no-chains o p taken) becomes;
+      unchanged = λ asked. record { same = refl; no_names = refl };
+      size = at (rests_there o p);
+    }
+  where
+    at : (b : Bool) → tree_size p ≤ (if b then 384 else 64) * tree_size p + 64
+    at true = omega arith
+    at false = omega arith
