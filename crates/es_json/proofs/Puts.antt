@@ -14,7 +14,6 @@ use Rattle.es_tree.specs.declared.table.Content.TheVariants.{
   OptionalText as c-OptionalText,
   Flag as c-Flag,
   RequiredFlag as c-RequiredFlag,
-  Refused as c-Refused,
   Child as c-Child,
 }
 use Rattle.es_json.specs.Canonical.{Rest, rest, text_value, child_value, children_after, put_text, put_flag, put_entry, put_entries}

@@ -1,19 +1,14 @@
 -- Steps in a row: one row after another, and steps of a part as steps of the whole.
-use Rattle.std.proofs.Common.{ℕ, zero, suc}
 use Rattle.es_tree.specs.Tree.{Label}
 use Rattle.es_tree.specs.declared.ast_type.AstType.{AstType}
 use Rattle.es_runs.specs.Alike.{Need, needs}
-use Rattle.es_runs.specs.Open.{Pending, Open, OpenFields, OpenField, OpenTrees}
+use Rattle.es_runs.specs.Open.{Pending, OpenFields, OpenTrees}
 use Rattle.es_runs.specs.Open.Open.{open_node}
-use Rattle.es_runs.specs.Open.OpenFields.{◌and◌}
-use Rattle.es_runs.specs.Open.OpenField.{child, children, list}
-use Rattle.es_runs.specs.Open.OpenTrees.{◌next◌}
+use Rattle.es_runs.specs.Open.OpenField.{list}
 use Rattle.es_runs.specs.OpenSteps.{Whole, Ledger, whole_in, pending_in, Spot, Step, FieldsStep, FieldStep, TreesStep, Steps}
 use Rattle.es_runs.specs.OpenSteps.Ledger.{ledger}
 use Rattle.es_runs.specs.OpenSteps.Step.{inside}
-use Rattle.es_runs.specs.OpenSteps.FieldsStep.{in_first, in_later}
-use Rattle.es_runs.specs.OpenSteps.FieldStep.{in_child, in_children, within}
-use Rattle.es_runs.specs.OpenSteps.TreesStep.{in_head, in_tail}
+use Rattle.es_runs.specs.OpenSteps.FieldStep.{within}
 use Rattle.es_runs.specs.OpenSteps.Steps.{stays, goes}
 
 pub append_steps : {X : Type 0} {S : Ledger → X → Ledger → X → Type 0} {s s' s'' : Ledger} {t u v : X} → Steps S s t s' u → Steps S s' u s'' v → Steps S s t s'' v

@@ -5,8 +5,8 @@ use Rattle.es_tree.specs.Bare.{bare, bare_label, bare_fields, bare_field, bare_t
 use Rattle.es_tree.specs.Fresh.{parts, first_parts, second_parts, field_parts, node_base, or_ref, without_last_digits, first_characters, longest_base, without_underscores, joined}
 use Rattle.es_tree.specs.Parens.{without_parens}
 use Rattle.es_tree.specs.Tree.{Tree, node, Fields, done, ◌then◌, Field, missing, one, many, statements, Trees, empty, ◌before◌, trees}
-use Rattle.es_tree.specs.declared.ast_type.AstType.TheVariants.{Identifier, PrivateIdentifier, ThisExpression, Super, NullLiteral, BooleanLiteral, NumericLiteral, BigIntLiteral, StringLiteral, TemplateElement, MemberExpression, CallExpression, NewExpression, AssignmentExpression, ParenthesizedExpression, ChainExpression}
-use Rattle.es_runs.specs.Duplication.{duplicate_base, has_no_fields, is_plain_template}
+use Rattle.es_tree.specs.declared.ast_type.AstType.TheVariants.{Identifier, PrivateIdentifier, ThisExpression, Super, NullLiteral, BooleanLiteral, NumericLiteral, BigIntLiteral, StringLiteral, MemberExpression, CallExpression, NewExpression, AssignmentExpression, ParenthesizedExpression, ChainExpression}
+use Rattle.es_runs.specs.Duplication.{duplicate_base, has_no_fields}
 use Rattle.es_runs.specs.Exponentiation.{is_literal_key}
 use Rattle.es_runs.specs.Open as plain
 use Rattle.es_steps.specs.CoreBridge.{forgotten, forgotten_field, forgotten_fields, forgotten_trees}

@@ -14,8 +14,8 @@ pub trait Additions {
 }
 
 /// What a type states of itself: under some options its rule, its conditions, its constructs, and what it makes
-/// (`profile`) and what it does after the program besides (`ending`), whether it keeps a pair of lists for each statement list and each arrow body that is an expression
-/// (`keeps`), for which options its own settings are (`suits`), and how often its exit hooks were called at the
+/// (`profile`) and what it does after the program besides (`ending`), whether it keeps a pair of lists for each
+/// statement list and each arrow body that is an expression (`keeps`), for which options its own settings are (`suits`), and how often its exit hooks were called at the
 /// nodes of an id (`tally`) and its enter hooks anywhere (`entries`), as far as it counts.
 pub trait Lowering {
     ghost profile: { Options → Profile };

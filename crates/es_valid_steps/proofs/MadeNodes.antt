@@ -1,6 +1,6 @@
 -- Nodes that rows make of expressions that keep the rules of places wherever there is room.
 use Rattle.std.proofs.Common.{◌≡◌, refl, sym, ap, ◌∙◌, List, [], ◌∷◌}
-use Rattle.std.specs.Prelude.{Bool, true, false, not, ◌&&◌, ◌||◌, codes, Some, if◌then◌else◌}
+use Rattle.std.specs.Prelude.{Bool, true, false, not, ◌&&◌, ◌||◌, codes, Some}
 use Rattle.std.specs.List.{list_any}
 use Rattle.es_tree.specs.Ancestors.{Ancestor, leads_by, place_of}
 use Rattle.es_tree.specs.CoreStaticRules.{is_bad_delete, is_bad_target, is_optional, is_simple_target, link_place}

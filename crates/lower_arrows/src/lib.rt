@@ -18,7 +18,7 @@
 //!
 //! The rule: a `this` in an arrow is that of the nearest function that is no arrow, static block or program around (9.4.4), its target, in
 //! whose list the name is declared, before the first statement that is no import; and a body that is an expression becomes one of
-//! statements, which returns it. Parameters of a function and values of class fields have no arrow around them.
+//! statements, which returns it.
 //!
 //! Its rule is `ArrowWalkRule` of es_arrow_steps.
 #![tactic(auto)]
