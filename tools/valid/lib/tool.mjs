@@ -12,17 +12,31 @@ const SPREAD = ['--rest-spread', '--helpers=external'];
 const ARROWS = ['--arrows'];
 
 /**
- * All lowerings that are built, but for that of spreads where a pattern with a rest stands, which isn't taken with it, and that of arrows
- * for every second tree, since many are refused with it.
+ * All lowerings that are built, but for those of object spreads and rests where a rest stands that isn't lowered, and that of arrows for every
+ * second tree, since many are refused with it.
  */
 function wordsFor(tree) {
-  return [...LOWERINGS, ...hasObjectRest(JSON.parse(tree)) ? [] : SPREAD, ...tree.length % 2 === 0 ? [] : ARROWS];
+  return [...LOWERINGS, ...hasStrayRest(JSON.parse(tree)) ? [] : SPREAD, ...tree.length % 2 === 0 ? [] : ARROWS];
 }
 
-function hasObjectRest(value) {
+/** Whether an object pattern with a rest stands where none is lowered (docs/LOWERINGS.md, "Object rest"). */
+function hasStrayRest(value, isExported = false) {
   if (typeof value !== 'object' || value === null) return false;
-  const isRest = value.type === 'ObjectPattern' && value.properties.some(({ type }) => type === 'RestElement');
-  return isRest || Object.values(value).some(hasObjectRest);
+  if (Array.isArray(value)) return value.some(item => hasStrayRest(item, isExported));
+  if (value.type === 'VariableDeclarator' && value.init && !isExported && isRestPattern(value.id) && hasPlainKeys(value.id)) {
+    return [...value.id.properties, value.init].some(item => hasStrayRest(item));
+  }
+  if (isRestPattern(value)) return true;
+  const below = value.type === 'ExportNamedDeclaration' || (isExported && value.type === 'VariableDeclaration');
+  return Object.values(value).some(item => hasStrayRest(item, below));
+}
+
+function isRestPattern({ type, properties }) {
+  return type === 'ObjectPattern' && properties.some(property => property.type === 'RestElement');
+}
+
+function hasPlainKeys({ properties }) {
+  return properties.every(({ type, computed, key }) => type === 'RestElement' || (!computed && ['Identifier', 'StringLiteral'].includes(key.type)));
 }
 
 /** Whether the tool is taken as its sources stand, before any proof. */
