@@ -6,8 +6,9 @@ use Rattle.es_tree.specs.Tree.{Tree, Trees, node, Label, Fields, done, â—Œthenâ—
 use Rattle.es_tree.specs.Views.{plain_field, plain_fields}
 use Rattle.es_tree.specs.declared.ast_type.AstType.TheVariants.{ObjectPattern, RestElement, VariableDeclaration, VariableDeclarator}
 use Rattle.es_tree.specs.declared.node.Field.{Field as NodeField}
+use Rattle.es_runs.specs.Duplication.{has_no_fields}
 use Rattle.es_rest_shapes.specs.RestShapes.{any_child, any_child_by, any_tree, ends_in_rest, is_misplaced, is_named_rest, is_odd_pattern, is_plain_pattern, is_plain_property, is_rest_declaration, is_rest_declarator, is_rest_pattern, is_stray_rest}
-use Rattle.es_rest_nodes.specs.RestFields.{are_plain_parts, declares_pattern, has_no_fields, holds_rest_declarator, is_one_name, is_stray_declaration, is_stray_declarator, on_list, on_one, on_two}
+use Rattle.es_rest_nodes.specs.RestFields.{are_plain_parts, declares_pattern, holds_rest_declarator, is_one_name, is_stray_declaration, is_stray_declarator, on_list, on_one, on_two}
 
 -- LISTS
 

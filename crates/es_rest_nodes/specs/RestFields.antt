@@ -57,7 +57,3 @@ has_text_key fs = on_two (λ k v. is_text_key k) fs
 
 abbrev pub is_one_name : Fields → Bool
 is_one_name fs = on_one is_name fs
-
-abbrev pub has_no_fields : Fields → Bool
-has_no_fields done = true
-has_no_fields _ = false

@@ -4,22 +4,23 @@ ghost use Rattle.std.specs.Prelude.{◌≡◌};
 ghost use Rattle.std.specs.List.{list_all};
 ghost use Rattle.es_tree.specs.Tree.{trees};
 ghost use Rattle.es_tree.specs.Views.{plain_fields};
+ghost use Rattle.es_runs.specs.Duplication.{has_no_fields};
 ghost use Rattle.es_rest_shapes.specs.RestShapes.{ends_in_rest, is_name, is_named_rest, is_plain_pattern, is_plain_property, is_rest_declarator, is_rest_pattern, is_text_key};
-ghost use Rattle.es_rest_nodes.specs.RestFields.{are_plain_parts, declares_pattern, has_no_fields, has_text_key, is_one_name};
+ghost use Rattle.es_rest_nodes.specs.RestFields.{are_plain_parts, declares_pattern, has_text_key, is_one_name};
 
 use es_nodes::construct::is_object_rest;
 use es_tree::kind::Kind;
 use es_tree::node::{Field, Node};
 
 /// Whether the node is an object pattern with a rest, of bindings or of assignment targets.
-pub fn is_rest_pattern(node: &Node) -> bool
+pub(crate) fn is_rest_pattern(node: &Node) -> bool
     ensures { result ≡ is_rest_pattern node.now }
 {
     is_object_rest(node)
 }
 
 /// Whether the node is a declarator of one.
-pub fn is_rest_declarator(node: &Node) -> bool
+pub(crate) fn is_rest_declarator(node: &Node) -> bool
     ensures { result ≡ is_rest_declarator node.now }
 {
     match &node.kind {
@@ -74,7 +75,7 @@ fn are_plain(properties: &[Node]) -> bool
 }
 
 /// Whether a property has a name or a text as its key.
-pub fn is_plain_property(property: &Node) -> bool
+fn is_plain_property(property: &Node) -> bool
     ensures { result ≡ is_plain_property property.now }
 {
     match &property.kind {
@@ -95,7 +96,7 @@ fn has_text_key(fields: &[Field]) -> bool
 }
 
 /// Whether a key is a name or a text.
-pub fn is_text_key(key: &Node) -> bool
+fn is_text_key(key: &Node) -> bool
     ensures { result ≡ is_text_key key.now }
 {
     match &key.kind {

@@ -1,7 +1,6 @@
 -- The law of steps and runs: what steps of the lowerings reach from a program without functions, arrows and classes runs as the
 -- program does.
 use Rattle.std.specs.Prelude.{◌≡◌, ◌&&◌, ◌||◌, Bool, true, false, not, List, is_some, if◌then◌else◌}
-use Rattle.es_tree.specs.Constructs.{is_object_rest}
 use Rattle.es_tree.specs.Tree.{Fields, Label, Tree}
 use Rattle.es_tree.specs.Walks.{all_nodes, any_node}
 use Rattle.es_tree.specs.Words.{Text}
@@ -29,10 +28,6 @@ assignments_there o p = o.es2021.logical_assignment_operators && any_node (is_so
 
 abbrev pub powers_there : EnvOptions → Tree → Bool
 powers_there o p = o.es2016.exponentiation_operator && any_node (is_sought of_powers) p
-
--- whether an object rest is taken, of which no law is known
-abbrev pub rests_there : EnvOptions → Tree → Bool
-rests_there o p = is_some o.es2018.object_rest_spread && any_node is_object_rest p
 
 -- Object spread has its helper as a member of `babelHelpers`; the other lowerings have none.
 abbrev pub supply_there : EnvOptions → Tree → Supply
@@ -66,7 +61,6 @@ pub record RunsAsStatements (o : EnvOptions) (p : Tree) : Type 0 where
   -- it is valid, and without functions, arrows and classes
   pub class : IsStatementProgram p
   pub rows : mixes_helpers o p ≡ false
-  pub rests : rests_there o p ≡ false
   pub helpers : uses_no_helper (supply_there o p) p ≡ true
 
 -- So it is of what a program becomes (`IsResult`): what is written of it runs as it does.

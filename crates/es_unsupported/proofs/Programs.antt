@@ -30,6 +30,7 @@ use Rattle.es_unsupported.specs.Wanted.{IsWanted}
 use Rattle.es_unsupported.specs.declared.arrow_places.ArrowPlace.{ArrowPlace}
 use Rattle.es_unsupported.specs.declared.shapes.Wanted.{Wanted}
 use Rattle.es_unsupported.proofs.MarkedTrees.{first-marked, known-marked, looks-up-marked}
+use Rattle.es_unsupported.proofs.Unbound.{asked_where}
 
 -- THE MARK OF THE PROGRAM'S SCOPE
 
@@ -73,13 +74,18 @@ program_binds p q s built = built.table.bindings
 
 -- a shape that isn't looked for is that of no node
 
-bound_never : (wanted asked is bound : Bool) → (wanted && bound) ≡ (asked && bound) → wanted ≡ false → (asked && is && bound) ≡ false
+pub bound_never : (wanted asked is bound : Bool) → (wanted && bound) ≡ (asked && bound) → wanted ≡ false → (asked && is && bound) ≡ false
 bound_never wanted asked is bound same none = at asked is bound (sym same ∙ ap (λ b. b && bound) none)
   where
     at : (asked is bound : Bool) → (asked && bound) ≡ false → (asked && is && bound) ≡ false
     at false is bound e = refl
     at true false bound e = refl
     at true true bound e = e
+
+-- and where one is looked for, it is asked for
+pub bound_same : (wanted asked binds is bound : Bool) → wanted ≡ (asked && binds) → wanted ≡ true → (is && bound) ≡ (asked && is && bound)
+bound_same wanted true binds is bound same on = refl
+bound_same wanted false binds is bound same on = absurd (cc (sym same ∙ on))
 
 asked_never : (wanted asked is : Bool) → wanted ≡ asked → wanted ≡ false → (asked && is) ≡ false
 asked_never wanted asked is same none = ap (λ b. b && is) (sym same ∙ none)
@@ -169,8 +175,8 @@ no-shape w o ds wanted none up k l fs =
       asked_never w.stray_rest (is_some o.es2018.object_rest_spread) (is_stray_rest k l fs) wanted.rests n.stray_rest,
       imported_never w.imported_helper (is_some o.es2018.object_rest_spread) (not (is_external o.helper_loader.mode)) (needs_helper k l fs) wanted.imports n.imported_helper,
       asked_never w.using_declaration o.es2026.explicit_resource_management (is_using k l fs) wanted.declarations n.using_declaration,
-      bound_never w.math_bound o.es2016.exponentiation_operator (is_exponentiation k l fs) (is_some (find ds up (codes "Math"))) (wanted.math up) n.math_bound,
-      helpers_never w.helper_name (copies_by_name o) (is_object_spread k l fs) (is_some (find ds up (codes "babelHelpers"))) (is_rest_declaration k l fs) (binds_helpers ds) (wanted.helpers up) wanted.bound_helpers n.helper_name,
+      bound_never w.math_bound o.es2016.exponentiation_operator (is_exponentiation k l fs) (is_some (find ds up (codes "Math"))) (asked_where (codes "Math") ds up w.math_bound o.es2016.exponentiation_operator wanted.math) n.math_bound,
+      helpers_never w.helper_name (copies_by_name o) (is_object_spread k l fs) (is_some (find ds up (codes "babelHelpers"))) (is_rest_declaration k l fs) (binds_helpers ds) (asked_where (codes "babelHelpers") ds up w.helper_name (copies_by_name o) wanted.helpers) wanted.helpers n.helper_name,
       asked_never w.spread_literal (is_some o.es2018.object_rest_spread) (is_uncopied k l fs) wanted.literals n.spread_literal,
       asked_never w.tag_chain o.es2020.optional_chaining (has_chain_tag k l fs) wanted.chains n.tag_chain,
     ) refl

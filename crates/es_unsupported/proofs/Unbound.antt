@@ -28,9 +28,14 @@ found_nowhere ds x none [] = refl
 found_nowhere ds x none (n ∷ up) = rw (unbound ds x none n) (found_nowhere ds x none up)
 
 -- where no symbol has a name, it need not be looked up
-pub never_bound : (x : Text) (ds : List Declared) (may : Bool) → may ≡ binds_name x ds → (up : List ℕ) → (may && is_some (find ds up x)) ≡ is_some (find ds up x)
+never_bound : (x : Text) (ds : List Declared) (may : Bool) → may ≡ binds_name x ds → (up : List ℕ) → (may && is_some (find ds up x)) ≡ is_some (find ds up x)
 never_bound x ds true e up = refl
 never_bound x ds false e up = sym (ap is_some (found_nowhere ds x (sym e) up))
+
+-- so what is asked where it is bound is asked only where a symbol has it
+pub asked_where : (x : Text) (ds : List Declared) (up : List ℕ) (wanted asked : Bool) → wanted ≡ (asked && binds_name x ds) → (wanted && is_some (find ds up x)) ≡ (asked && is_some (find ds up x))
+asked_where x ds up wanted true e = never_bound x ds wanted e up
+asked_where x ds up wanted false e = ap (λ b. b && is_some (find ds up x)) e
 
 -- a symbol in a scope has its name
 pub named_in : (ds : List Declared) (s : ℕ) (x : Text) → is_some (symbol_in ds s x) ≡ true → binds_name x ds ≡ true

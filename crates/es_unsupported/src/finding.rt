@@ -27,7 +27,7 @@ use es_tree::options::EnvOptions;
 
 /// The first node of the program, in node order, that has a shape which a run with these options doesn't take, and that
 /// shape: at one node the first of the table. None where the run takes all. The table and the program's marks are those
-/// that `build_scoping` makes. It takes no memory.
+/// that `build_scoping` makes, and the table has fewer than 2^32 scopes. It takes no memory.
 pub fn find_unsupported(
     program: &Node,
     scoping: &Scoping,

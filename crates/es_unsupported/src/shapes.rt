@@ -1,6 +1,7 @@
 //! The shapes that a run doesn't take, each told at a node and the scope that the node stands in.
 ghost use Rattle.std.specs.Prelude.{◌≡◌, ℕ, ◌<◌, ◌^◌, ◌&&◌, ◌||◌, List, codes, is_some, not};
 ghost use Rattle.std.specs.Option.{option_or};
+ghost use Rattle.es_tree.specs.Constructs.{is_exponentiation};
 ghost use Rattle.es_tree.specs.Options.{is_external};
 ghost use Rattle.es_tree.specs.Tree.{fields_of, kind_of, label_of};
 ghost use Rattle.es_tree.specs.declared.options.EnvOptions.{EnvOptions as PlainOptions};
@@ -13,7 +14,7 @@ ghost use Rattle.es_rest_shapes.specs.HelperNames.{binds_name};
 ghost use Rattle.es_unsupported.specs.ArrowShapes.{arrow_shape};
 ghost use Rattle.es_unsupported.specs.MarkedWalk.{FindsFrom, refers_by_mark};
 ghost use Rattle.es_unsupported.specs.Shapes.{copies_by_name, finds_helper, has_chain_tag, is_chain_below, is_chain_kind, is_helper_bound, is_math_bound, is_spread_literal, is_tag_chain, is_unbuilt, meets_helpers, needs_helper, shape_at};
-ghost use Rattle.es_unsupported.specs.Wanted.{IsWanted, WhereBound};
+ghost use Rattle.es_unsupported.specs.Wanted.{IsWanted};
 
 use crate::arrow_places::ArrowPlace;
 use crate::arrow_shapes::arrow_shape;
@@ -78,11 +79,10 @@ impl Wanted {
     }
 }
 
-/// What is asked of nodes where a name is bound, unless no scope binds it.
+/// Whether a shape of nodes where this name is bound is looked for: it's asked for, and a scope binds the name.
 fn where_bound(asked: bool, name: &str, scoping: &Scoping) -> bool
     requires few { scope_count scoping.now < 2 ^ 32 }
-    ensures exact { (ds : List Declared) → Binds ds scoping.now → result ≡ (asked && binds_name name.now ds) }
-    ensures found { (ds : List Declared) → Binds ds scoping.now → WhereBound ds name.now result asked }
+    ensures { (ds : List Declared) → Binds ds scoping.now → result ≡ (asked && binds_name name.now ds) }
 {
     asked && binds_anywhere(scoping, name)
 }
@@ -169,12 +169,20 @@ fn needs_helper(node: &Node) -> bool
     is_object_spread(node) || is_rest_declaration(node)
 }
 
-/// Whether an exponentiation stands where `Math` is bound.
+/// Whether an exponentiation that is to be lowered stands where `Math` is bound.
 fn is_math_bound(node: &Node, scope: ScopeId, scoping: &Scoping, wanted: Wanted) -> bool
     requires { scope.0 < scope_count scoping.now }
     ensures { (o : PlainOptions) (ds : List Declared) (up : List ℕ) → IsWanted wanted o ds → scope.0 ≡ first up → FindsFrom scoping.now ds up → result ≡ is_math_bound o ds up (kind_of node.now) (label_of node.now) (fields_of node.now) }
 {
-    wanted.math_bound && is_exponentiation(node) && binds(scoping, scope, "Math")
+    wanted.math_bound && finds_math(node, scope, scoping)
+}
+
+/// Whether an exponentiation stands where `Math` is bound.
+fn finds_math(node: &Node, scope: ScopeId, scoping: &Scoping) -> bool
+    requires { scope.0 < scope_count scoping.now }
+    ensures { (ds : List Declared) (up : List ℕ) → scope.0 ≡ first up → FindsFrom scoping.now ds up → result ≡ (is_exponentiation (kind_of node.now) (label_of node.now) (fields_of node.now) && is_some (find ds up (codes "Math"))) }
+{
+    is_exponentiation(node) && binds(scoping, scope, "Math")
 }
 
 /// Whether an object literal with a spread stands where `babelHelpers` is bound, or a declaration of a rest in a program that binds it.
