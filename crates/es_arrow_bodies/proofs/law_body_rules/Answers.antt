@@ -1,0 +1,5 @@
+use Rattle.es_arrow_bodies.proofs.BodyPrograms.{law_body_rules_proof}
+use Rattle.es_arrow_bodies.proofs.law_body_rules.Goals as goal
+
+pub returns : goal.returns
+returns c = law_body_rules_proof

@@ -1,0 +1,3 @@
+pub mod ArrowBodies
+pub mod Laws
+pub mod Examples
