@@ -14,7 +14,7 @@ use Rattle.es_rest_shapes.specs.RestShapes.{any_child, any_child_by, any_tree, d
 -- CHILDREN
 
 module _ (p : Tree → Bool) (same : (t : Tree) → p (bare t) ≡ p t) where
-  trees-bare : (ts : Trees) → any_tree p (bare_trees ts) ≡ any_tree p ts
+  pub trees-bare : (ts : Trees) → any_tree p (bare_trees ts) ≡ any_tree p ts
   trees-bare empty = refl
   trees-bare (t before ts) = λ i. same t i || trees-bare ts i
 
@@ -49,19 +49,19 @@ rest-bare _ l fs = refl
 pattern-bare : (t : Tree) → is_rest_pattern (bare t) ≡ is_rest_pattern t
 pattern-bare (node k l fs) = rest-bare k l fs
 
-name-bare : (t : Tree) → is_name (bare t) ≡ is_name t
+pub name-bare : (t : Tree) → is_name (bare t) ≡ is_name t
 name-bare (node Identifier l done) = refl
 name-bare (node Identifier l (f then fs)) = refl
 name-bare (node _ l fs) = refl
 
-key-bare : (t : Tree) → is_text_key (bare t) ≡ is_text_key t
+pub key-bare : (t : Tree) → is_text_key (bare t) ≡ is_text_key t
 key-bare (node Identifier l done) = refl
 key-bare (node Identifier l (f then fs)) = refl
 key-bare (node StringLiteral l done) = refl
 key-bare (node StringLiteral l (f then fs)) = refl
 key-bare (node _ l fs) = refl
 
-property-bare : (t : Tree) → is_plain_property (bare t) ≡ is_plain_property t
+pub property-bare : (t : Tree) → is_plain_property (bare t) ≡ is_plain_property t
 property-bare (node PatternProperty l (one k then one v then done)) = ap (λ b. not (has_computed PatternProperty l.flags) && b) (key-bare k)
 property-bare (node PatternProperty l (one k then one v then f then fs)) = refl
 property-bare (node PatternProperty l (one k then missing then fs)) = refl
@@ -74,7 +74,7 @@ property-bare (node PatternProperty l (statements ts then fs)) = refl
 property-bare (node PatternProperty l done) = refl
 property-bare (node _ l fs) = refl
 
-named-bare : (t : Tree) → is_named_rest (bare t) ≡ is_named_rest t
+pub named-bare : (t : Tree) → is_named_rest (bare t) ≡ is_named_rest t
 named-bare (node RestElement l (one t then done)) = name-bare t
 named-bare (node RestElement l (one t then f then fs)) = refl
 named-bare (node RestElement l (missing then fs)) = refl
@@ -83,12 +83,12 @@ named-bare (node RestElement l (statements ts then fs)) = refl
 named-bare (node RestElement l done) = refl
 named-bare (node _ l fs) = refl
 
-ends-bare : (ts : Trees) → ends_in_rest (bare_trees ts) ≡ ends_in_rest ts
+pub ends-bare : (ts : Trees) → ends_in_rest (bare_trees ts) ≡ ends_in_rest ts
 ends-bare empty = refl
 ends-bare (t before empty) = named-bare t
 ends-bare (t before u before ts) = λ i. property-bare t i && ends-bare (u before ts) i
 
-plain-bare : (t : Tree) → is_plain_pattern (bare t) ≡ is_plain_pattern t
+pub plain-bare : (t : Tree) → is_plain_pattern (bare t) ≡ is_plain_pattern t
 plain-bare (node ObjectPattern l (many ps then done)) = ends-bare ps
 plain-bare (node ObjectPattern l (many ps then f then fs)) = refl
 plain-bare (node ObjectPattern l (missing then fs)) = refl

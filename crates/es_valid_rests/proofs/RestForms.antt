@@ -92,7 +92,7 @@ catch-rest-form = nodes-only CatchRest catch-rest-only nodes
 
 -- HEADS OF LOOPS
 
-for-each-form : (k : AstType) (a : Sort) (m l l' : Label) (p e b : Tree) (it : Bound) → IsForEach k → IsText it → has_form a (node k m (head_fields l l' p e b)) ≡ true → has_form a (node k m (new_head (first_text l.texts) it p e b)) ≡ true
+pub for-each-form : (k : AstType) (a : Sort) (m l l' : Label) (p e b : Tree) (it : Bound) → IsForEach k → IsText it → has_form a (node k m (head_fields l l' p e b)) ≡ true → has_form a (node k m (new_head (first_text l.texts) it p e b)) ≡ true
 for-each-form k a m l l' p e b it each named h = at k each h
   where
     head : Tree

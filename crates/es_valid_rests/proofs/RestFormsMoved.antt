@@ -72,12 +72,12 @@ moved-form w x ps qs directives ts us named (moves_one a c ds es rest l fs t u h
 -- FUNCTIONS
 
 module _ (s : Sort) (l : Label) (ds ts : Trees) where
-  body-statements : has_form s (node FunctionBody l (body_fields ds ts)) ≡ true → trees_form s-Statement s-Statement ts ≡ true
+  pub body-statements : has_form s (node FunctionBody l (body_fields ds ts)) ≡ true → trees_form s-Statement s-Statement ts ≡ true
   body-statements h =
       let parts = and_parts (trees_form s-Directive s-Directive ds) (trees_form s-Statement s-Statement ts && true) (node_form s FunctionBody l (body_fields ds ts) h).children in
       (and_parts (trees_form s-Statement s-Statement ts) true parts.1).0
 
-  body-with : (us : Trees) → trees_form s-Statement s-Statement us ≡ true → has_form s (node FunctionBody l (body_fields ds ts)) ≡ true → has_form s (node FunctionBody l (body_fields ds us)) ≡ true
+  pub body-with : (us : Trees) → trees_form s-Statement s-Statement us ≡ true → has_form s (node FunctionBody l (body_fields ds ts)) ≡ true → has_form s (node FunctionBody l (body_fields ds us)) ≡ true
   body-with us k h =
       let f = node_form s FunctionBody l (body_fields ds ts) h in
       let parts = and_parts (trees_form s-Directive s-Directive ds) (trees_form s-Statement s-Statement ts && true) f.children in

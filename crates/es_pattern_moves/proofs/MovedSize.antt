@@ -1,0 +1,203 @@
+-- Moving makes a tree no larger than three and a half times as large: what is made for a pattern has five nodes more at most, and a pattern with
+-- a rest has more than one node, which are counted for it alone. A body that is made has two nodes, for which the function spares enough.
+use Rattle.std.proofs.Common.{◌≡◌, ◌≤◌, ℕ, suc, refl, arith, []}
+use Rattle.std.specs.Prelude.{Bool, true, false, ◌+◌, ◌*◌, ◌||◌, not, codes, if◌then◌else◌}
+use Rattle.std.proofs.lemmas.Bool.{and_parts}
+use Rattle.es_tree.specs.Tree.{Tree, node, Label, Fields, done, ◌then◌, Field, missing, one, many, statements, Trees, empty, ◌before◌, field_size, fields_size, tree_size, trees_size}
+use Rattle.es_tree.specs.Words.{Text}
+use Rattle.es_tree.specs.declared.ast_type.AstType.{AstType}
+use Rattle.es_tree.specs.declared.ast_type.AstType.TheVariants.{ArrowFunctionExpression, AssignmentPattern, CatchClause, ForInStatement, ForOfStatement, FunctionBody, FunctionDeclaration, FunctionExpression, ObjectPattern, RestElement, ReturnStatement, VariableDeclaration, VariableDeclarator}
+use Rattle.es_steps.specs.Nodes.{joined_trees}
+use Rattle.es_pattern_moves.specs.Laws.{LawMovedSize}
+use Rattle.es_pattern_moves.specs.Moved.{
+  Makes,
+  all_declared,
+  all_named,
+  count_arrow,
+  count_function,
+  count_here,
+  count_rests,
+  declares,
+  moved,
+  moved_among,
+  moved_arrow,
+  moved_by,
+  moved_catch,
+  moved_fields,
+  moved_function,
+  moved_head,
+  moved_here,
+  moved_in,
+  named,
+  returning,
+  with_declared,
+}
+use Rattle.es_pattern_moves.specs.PatternMoves.{binds_let, is_rest_parameter, is_var, meets, moves_from_catch, moves_from_head, moves_pattern, pattern_of}
+use Rattle.es_rest_shapes.specs.RestShapes.{ends_in_rest, is_named_rest, is_plain_pattern, is_plain_property}
+
+-- WHAT PATTERNS SPARE: of each node two and a half are to be had for what is made, twice as many here; those of patterns and rests are kept until
+-- the pattern moves
+abbrev mutual
+  spare : Tree → ℕ
+  spare (node ObjectPattern l fs) = 5 + spare_in fs
+  spare (node RestElement l fs) = 5
+  spare (node AssignmentPattern l fs) = spare_in fs
+  spare (node VariableDeclaration l fs) = spare_in fs
+  spare (node VariableDeclarator l fs) = spare_in fs
+  spare (node k l fs) = 0
+
+  spare_in : Fields → ℕ
+  spare_in done = 0
+  spare_in (f then fs) = spare_by f + spare_in fs
+
+  spare_by : Field → ℕ
+  spare_by missing = 0
+  spare_by (one t) = spare t
+  spare_by (many ts) = spare_among ts
+  spare_by (statements ts) = spare_among ts
+
+  spare_among : Trees → ℕ
+  spare_among empty = 0
+  spare_among (t before ts) = spare t + spare_among ts
+
+-- a node takes no more from its parts than its own
+spare-node : (k : AstType) (l : Label) (fs : Fields) → spare (node k l fs) ≤ 5 + spare_in fs
+spare-node ObjectPattern l fs = omega arith
+spare-node RestElement l fs = omega arith
+spare-node AssignmentPattern l fs = omega arith
+spare-node VariableDeclaration l fs = omega arith
+spare-node VariableDeclarator l fs = omega arith
+spare-node k l fs = omega arith
+
+-- PATTERNS
+
+rest-spares : (t : Tree) → is_named_rest t ≡ true → 5 ≤ spare t
+rest-spares (node RestElement l fs) h = omega arith
+rest-spares (node _ l fs) h = absurd (cc h)
+
+ends-spare : (ps : Trees) → ends_in_rest ps ≡ true → 5 ≤ spare_among ps
+ends-spare empty h = absurd (cc h)
+ends-spare (t before empty) h = omega (arith, rest-spares t h)
+ends-spare (t before u before ts) h = omega (arith, ends-spare (u before ts) (and_parts (is_plain_property t) (ends_in_rest (u before ts)) h).1)
+
+plain-spares : (p : Tree) → is_plain_pattern p ≡ true → 10 ≤ spare p
+plain-spares (node ObjectPattern l (many ps then done)) h = omega (arith, ends-spare ps h)
+plain-spares (node _ l fs) h = absurd (cc h)
+
+parameter-spares : (t : Tree) → is_rest_parameter t ≡ true → 10 ≤ spare t
+parameter-spares (node AssignmentPattern l (one p then one d then done)) h = omega (arith, plain-spares p h)
+parameter-spares (node ObjectPattern l fs) h = plain-spares (node ObjectPattern l fs) h
+parameter-spares (node _ l fs) h = absurd (cc h)
+
+parameters-spare : (ts : Trees) → 10 * count_rests ts ≤ spare_among ts
+parameters-spare empty = omega arith
+parameters-spare (t before ts) = at (is_rest_parameter t) refl (parameters-spare ts)
+  where
+    at : (b : Bool) → is_rest_parameter t ≡ b → 10 * count_rests ts ≤ spare_among ts → 10 * (if b then suc (count_rests ts) else count_rests ts) ≤ spare t + spare_among ts
+    at true e h = omega (arith, parameter-spares t e)
+    at false e h = omega arith
+
+function-spares : (fs : Fields) → 10 * count_function fs ≤ spare_in fs
+function-spares (f then many ps then fs) = omega (arith, parameters-spare ps)
+function-spares _ = omega arith
+
+arrow-spares : (fs : Fields) → 10 * count_arrow fs ≤ spare_in fs
+arrow-spares (many ps then fs) = omega (arith, parameters-spare ps)
+arrow-spares _ = omega arith
+
+size-joined : (ts us : Trees) → trees_size (joined_trees ts us) ≡ trees_size ts + trees_size us
+size-joined empty us = omega arith
+size-joined (t before ts) us = omega (arith, size-joined ts us)
+
+-- WHAT A NODE BECOMES
+
+module _ (m : Makes) (small : (n : ℕ) (t : Tree) → tree_size (m.name n t) ≡ 1) where
+  declared-size : (kind : Text) (n : ℕ) (p : Tree) → tree_size (declares m kind n p) ≡ 3 + tree_size p
+  declared-size kind n p = omega (arith, small n p)
+
+  one-moved : (kind : Text) (n : ℕ) (t : Tree) → tree_size (named m n t) + tree_size (declares m kind n (pattern_of t)) ≡ 4 + tree_size t
+  one-moved kind n (node AssignmentPattern l (one p then fs)) = omega (arith, small n p)
+  one-moved kind n (node k l fs) = omega (arith, small n (node k l fs))
+
+  all-moved : (n : ℕ) (ts : Trees) → trees_size (all_named m n ts) + trees_size (all_declared m n ts) ≡ 4 * count_rests ts + trees_size ts
+  all-moved n empty = omega arith
+  all-moved n (t before ts) = at (is_rest_parameter t) (all-moved n ts) (all-moved (suc n) ts)
+    where
+      at : (b : Bool) → trees_size (all_named m n ts) + trees_size (all_declared m n ts) ≡ 4 * count_rests ts + trees_size ts → trees_size (all_named m (suc n) ts) + trees_size (all_declared m (suc n) ts) ≡ 4 * count_rests ts + trees_size ts →
+          trees_size (if b then named m n t before all_named m (suc n) ts else t before all_named m n ts) + trees_size (if b then declares m (codes "let") n (pattern_of t) before all_declared m (suc n) ts else all_declared m n ts) ≡ 4 * (if b then suc (count_rests ts) else count_rests ts) + (tree_size t + trees_size ts)
+      at true h g = omega (arith, one-moved (codes "let") n t)
+      at false h g = omega arith
+
+  returning-size : (ds : Trees) (e : Tree) → tree_size (returning m ds e) ≤ 2 + trees_size ds + tree_size e
+  returning-size ds e = omega (arith, size-joined ds (node ReturnStatement (m.label e []) (one e then done) before empty))
+
+  body-size : (n : ℕ) (ps : Trees) (b : Tree) → tree_size (with_declared m n ps b) ≤ 2 + trees_size (all_declared m n ps) + tree_size b
+  body-size n ps (node FunctionBody l (many ds then statements ts then done)) = omega (arith, size-joined (all_declared m n ps) ts)
+  body-size n ps e = returning-size (all_declared m n ps) e
+
+  function-size : (n : ℕ) (fs : Fields) → fields_size (moved_function m n fs) ≤ 2 + 4 * count_function fs + fields_size fs
+  function-size n (f then many ps then one b then done) = omega (arith, all-moved n ps, body-size n ps b)
+  function-size n fs = omega arith
+
+  arrow-size : (n : ℕ) (fs : Fields) → fields_size (moved_arrow m n fs) ≤ 2 + 4 * count_arrow fs + fields_size fs
+  arrow-size n (many ps then one b then done) = omega (arith, all-moved n ps, body-size n ps b)
+  arrow-size n fs = omega arith
+
+  catch-size : (n : ℕ) (fs : Fields) → moves_from_catch fs ≡ true → 2 * fields_size (moved_catch m n fs) ≤ 2 * fields_size fs + spare_in fs
+  catch-size n (one p then one b then done) h = omega (arith, plain-spares p (and_parts (is_plain_pattern p) (not (binds_let p)) h).0, small n p)
+  catch-size n _ h = absurd (cc h)
+
+  head-size : (n : ℕ) (fs : Fields) → moves_from_head fs ≡ true → 2 * fields_size (moved_head m n fs) ≤ 2 * fields_size fs + spare_in fs
+  head-size n (one (node VariableDeclaration l (many (node VariableDeclarator l' (one p then missing then done) before empty) then done)) then one e then one b then done) h =
+      omega (arith, plain-spares p (and_parts (is_plain_pattern p) (is_var l || not (meets p e)) h).0, small n p)
+  head-size n _ h = absurd (cc h)
+
+  -- a node that moves spares nothing more, and takes what is its own
+  record Paid (n : ℕ) (k : AstType) (l : Label) (fs : Fields) : Type 0 where
+    size : 2 * fields_size (moved_fields m n k fs) ≤ 5 + 2 * fields_size fs + spare_in fs
+    none : spare (node k l (moved_fields m n k fs)) ≡ 0
+
+  moving : (n : ℕ) (k : AstType) (l : Label) (fs : Fields) → moves_pattern k l fs ≡ true → Paid n k l fs
+  moving n CatchClause l fs h = record { size = omega (arith, catch-size n fs h); none = refl }
+  moving n ForInStatement l fs h = record { size = omega (arith, head-size n fs h); none = refl }
+  moving n ForOfStatement l fs h = record { size = omega (arith, head-size n fs h); none = refl }
+  moving n FunctionDeclaration l fs h = record { size = omega (arith, function-size n fs, function-spares fs); none = refl }
+  moving n FunctionExpression l fs h = record { size = omega (arith, function-size n fs, function-spares fs); none = refl }
+  moving n ArrowFunctionExpression l fs h = record { size = omega (arith, arrow-size n fs, arrow-spares fs); none = refl }
+  moving n _ l fs h = absurd (cc h)
+
+  -- of what stood in this many nodes under it
+  abbrev PaidFor : ℕ → ℕ × Tree → Type 0
+  PaidFor n r = 2 * tree_size r.1 + spare r.1 ≤ 7 * suc n
+
+  here-size : (n : ℕ) (k : AstType) (l : Label) (fs gs : Fields) → 2 * fields_size gs + spare_in gs ≤ 7 * fields_size fs → PaidFor (fields_size fs) (moved_here m n k l gs)
+  here-size n k l fs gs h = at (moves_pattern k l gs) refl
+    where
+      at : (b : Bool) → moves_pattern k l gs ≡ b → PaidFor (fields_size fs) (if b then (n + count_here k gs, node k l (moved_fields m n k gs)) else (n, node k l gs))
+      at true e = let paid = moving n k l gs e in omega (arith, paid.size, paid.none)
+      at false e = omega (arith, spare-node k l gs)
+
+  -- A TREE
+  mutual
+    tree-moved : (n : ℕ) (t : Tree) → 2 * tree_size (moved m n t).1 + spare (moved m n t).1 ≤ 7 * tree_size t
+    tree-moved n (node k l fs) = here-size (moved_in m n fs).0 k l fs (moved_in m n fs).1 (fields-moved n fs)
+
+    fields-moved : (n : ℕ) (fs : Fields) → 2 * fields_size (moved_in m n fs).1 + spare_in (moved_in m n fs).1 ≤ 7 * fields_size fs
+    fields-moved n done = omega arith
+    fields-moved n (f then fs) = omega (arith, field-moved n f, fields-moved (moved_by m n f).0 fs)
+
+    field-moved : (n : ℕ) (f : Field) → 2 * field_size (moved_by m n f).1 + spare_by (moved_by m n f).1 ≤ 7 * field_size f
+    field-moved n missing = omega arith
+    field-moved n (one t) = tree-moved n t
+    field-moved n (many ts) = trees-moved n ts
+    field-moved n (statements ts) = trees-moved n ts
+
+    trees-moved : (n : ℕ) (ts : Trees) → 2 * trees_size (moved_among m n ts).1 + spare_among (moved_among m n ts).1 ≤ 7 * trees_size ts
+    trees-moved n empty = omega arith
+    trees-moved n (t before ts) = omega (arith, tree-moved n t, trees-moved (moved m n t).0 ts)
+
+  pub moved-size : (n : ℕ) (t : Tree) → 2 * tree_size (moved m n t).1 ≤ 7 * tree_size t
+  moved-size n t = omega (arith, tree-moved n t)
+
+pub law_moved_size_proof : LawMovedSize
+law_moved_size_proof p m small = moved-size m small 0 p

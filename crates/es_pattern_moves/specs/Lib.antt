@@ -1,0 +1,4 @@
+pub mod PatternMoves
+pub mod MoveRows
+pub mod Moved
+pub mod Laws
