@@ -1,0 +1,3 @@
+pub mod MoveShapes
+pub mod MoveTests
+pub mod StandingNames

@@ -1,0 +1,11 @@
+use Rattle.std.proofs.Common.{◌∙◌, arith, sym}
+use Rattle.es_tree.specs.Views.{plain_fields}
+use Rattle.es_rest_nodes.proofs.RestTests.{fewer-than-two, more-than-two}
+use Rattle.es_move_nodes.proofs.MoveShapes.{catch-moves}
+use Rattle.es_move_nodes.proofs.moves.moves_from_catch.Goals as goal
+
+pub returns-in_default : goal.returns-in_default
+returns-in_default c = sym (sym (catch-moves (plain_fields c.args.fields.now)) ∙ fewer-than-two _ c.args.fields.now (omega (arith, c.in_default.len_below)))
+
+pub returns-in_default-4 : goal.returns-in_default-4
+returns-in_default-4 c = sym (sym (catch-moves (plain_fields c.args.fields.now)) ∙ more-than-two _ c.args.fields.now (omega (arith, c.in_default.len_at_least)))

@@ -1,0 +1,2 @@
+pub mod AskedNames
+pub mod MoveFields

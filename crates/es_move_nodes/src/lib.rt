@@ -1,0 +1,9 @@
+//! Which object patterns with a rest move to a declaration of their own, as calls that take no memory.
+#![tactic(auto)]
+
+pub mod bound;
+pub mod declared;
+pub mod heads;
+pub mod moves;
+pub mod parameters;
+pub mod standing;
