@@ -35,7 +35,7 @@ use Rattle.es_valid_rests.proofs.RestPrograms.{law_rest_outside_proof, law_rest_
 use Rattle.es_valid_rests.proofs.RestSteps.{law_rest_form_proof}
 use Rattle.es_lowered.specs.Lowered.{LawLowered, LawLoweredAlone, lowered_rules}
 
-where-asked : (b : Bool) (R : Site → Ledger → Spot → Ledger → Spot → Type 0) (n : Site) (s : Ledger) (x : Spot) (s' : Ledger) (y : Spot) → b ≡ true → R n s x s' y → where_on b R n s x s' y
+pub where-asked : (b : Bool) (R : Site → Ledger → Spot → Ledger → Spot → Type 0) (n : Site) (s : Ledger) (x : Spot) (s' : Ledger) (y : Spot) → b ≡ true → R n s x s' y → where_on b R n s x s' y
 where-asked b R n s x s' y on r = subst (λ (c : Bool). where_on c R n s x s' y) (sym on) r
 
 -- THE ROWS among other rules

@@ -2,6 +2,7 @@
 #![tactic(auto)]
 
 ghost use Rattle.es_lowered.specs.Lowered.{LawIdle, LawLowered, LawLoweredAlone};
+ghost use Rattle.es_lowered.specs.Moved.{LawMoved, LawUnmoved};
 
 /// What the rows of object rests lead to, after the steps of the other lowerings, from a program that has form and breaks no static rule:
 /// names keep their bindings, and the written program has form, breaks no static rule, and is to other modules what the source is.
@@ -17,4 +18,15 @@ pub fn law_lowered_alone()
 /// Where no pattern with a rest stands, a walk that takes them changes nothing.
 pub fn law_idle()
     ensures { LawIdle }
+{}
+
+/// What a program that has form and breaks no static rule becomes as its patterns with a rest move: names keep their bindings, and it has form,
+/// breaks no static rule, and is to other modules what the source is.
+pub fn law_moved()
+    ensures { LawMoved }
+{}
+
+/// So it is of a program that stays as it is.
+pub fn law_unmoved()
+    ensures { LawUnmoved }
 {}
