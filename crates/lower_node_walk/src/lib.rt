@@ -1,9 +1,7 @@
 //! The walk over a program that calls a lowering of nodes at each node, after the parts of the node.
 #![tactic(auto)]
 
-ghost use Rattle.std.specs.Prelude.{◌≡◌, ◌+◌, ◌-◌, ◌<◌, ◌^◌, OnOk, true};
-ghost use Rattle.es_tree.specs.HasForm.{has_form};
-ghost use Rattle.es_tree.specs.declared.table.Sort.TheVariants.{Program as s-Program};
+ghost use Rattle.std.specs.Prelude.{◌+◌, ◌-◌, ◌<◌, ◌^◌, OnOk};
 ghost use Rattle.es_statements.specs.ProgramPlain.{plain_program};
 ghost use Rattle.es_traverse.specs.Laws.{Seen};
 ghost use Rattle.lower_nodes.specs.Nodes.{PaidTree, WalkedProgram, owed};
@@ -26,7 +24,6 @@ pub fn walk_nodes<T: NodeLowering>(
     ctx: &mut TraverseCtx<TransformState>,
 ) -> Result<(), AllocError>
     requires suited { T.suits lowering.now ctx.old.options }
-    requires formed { has_form s-Program (plain_program program.old) ≡ true }
     requires room { ctx.old.ast.next + owed (T.profile ctx.old.options).owes (plain_program program.old) < 2 ^ 32 - 1 }
     ensures paid { OnOk result (PaidTree (T.profile ctx.old.options).owes (moment_of ctx.old) (plain_program program.old) (moment_of ctx.new) (plain_program program.new)) }
     ensures walked { OnOk result (Seen (λ t u. WalkedProgram (T.profile ctx.old.options) (moment_of ctx.old) t (moment_of ctx.new) u) (plain_program program.old) (plain_program program.new)) }

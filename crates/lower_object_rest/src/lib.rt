@@ -17,8 +17,8 @@
 //!     const _settings = settings(), { size } = _settings, others = babelHelpers.objectWithoutProperties(_settings, ["size"]);
 //!
 //! A value that gives the same each time is read where it stands: a name that nothing writes and that the pattern doesn't bind, or a made
-//! name. Any other is evaluated once, and stored. The properties come before the rest, as in the source. `babelHelpers` is bound nowhere
-//! that such a pattern stands.
+//! name. Any other is evaluated once, and stored. The properties come before the rest, as in the source. `babelHelpers` is an unbound name
+//! of the written program, whose meaning is the host's: a run refuses a program that declares such a pattern and binds the name anywhere.
 //!
 //! Its rule is `RestWalkRow` of es_rest_rows.
 #![tactic(auto)]
