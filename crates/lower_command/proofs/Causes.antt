@@ -20,12 +20,13 @@ use Rattle.es_json.proofs.OneTree.{one_tree_always}
 use Rattle.std.specs.Prelude.{codes}
 use Rattle.std.specs.Fmt.{decimal}
 use Rattle.es_tree.specs.Causes.{rule_name, unsupported_name}
-use Rattle.es_unsupported.specs.FirstUnsupported.{first_unsupported}
 use Rattle.es_json.specs.Pointer.{pointer}
 use Rattle.lower_command.specs.Answer.{line, refusal_text}
 use Rattle.lower_driver.specs.Copies.{IsCopy}
 use Rattle.lower_driver.specs.Sources.{IsReading, HasReading, ReadsAs, IsSource, IsBrokenValue, IsUnsupportedValue, IsCauseUnder}
-use Rattle.lower_driver.proofs.CopiedOptions.{copied-fault, copied-unsupported}
+use Rattle.lower_driver.specs.UnsupportedPrograms.{Finds}
+use Rattle.lower_driver.proofs.CopiedOptions.{copied-fault}
+use Rattle.lower_driver.proofs.Moved.{copied-finds, finds-one}
 use Rattle.lower_command.specs.Job.{IsTakenSource}
 
 -- bytes read as one value, and a value is the form of one program
@@ -57,7 +58,7 @@ taken_as o q bytes same source = record {
   program = source.program;
   reads = source.reads;
   kept = source.kept;
-  taken = sym (copied-unsupported q o same source.program) ∙ source.taken;
+  taken = copied-finds q o same source.program None source.taken;
 }
 
 -- ONE CAUSE: an input has at most one line
@@ -89,7 +90,7 @@ told o q bytes (Unsupported kind id) same cause =
         program = shape.program;
         source = shape.source;
         kept = shape.kept;
-        unsupported = sym (copied-unsupported q o same shape.program) ∙ shape.unsupported;
+        unsupported = copied-finds q o same shape.program (Some (kind, id.0)) shape.unsupported;
       });
     })
 told o q bytes (Invalid rule id) same cause = carried (sym (copied-fault q o same) ∙ cause.holds.0) (record { value = cause.value; reading = cause.reading; holds = broken cause.holds.1 })
@@ -123,11 +124,13 @@ broken_anyway v rule id p b source kept =
     let first : IsFirstBreak (breaks p) (Invalid rule id) = subst (λ t. IsFirstBreak (breaks t) (Invalid rule id)) same b.first in
     subst (λ (bs : List Break). IsFirstBreak bs (Invalid rule id)) kept first
 
-unsupported_anyway : (o : EnvOptions) (v : Data) (kind : UnsupportedKind) (id : NodeId) (p : Tree) → IsUnsupportedValue o v kind id → IsSource v p → first_unsupported o p ≡ None → ⊥
+found_none : (a : UnsupportedKind × ℕ) → Some a ≡ None → ⊥
+found_none a both = cc
+
+unsupported_anyway : (o : EnvOptions) (v : Data) (kind : UnsupportedKind) (id : NodeId) (p : Tree) → IsUnsupportedValue o v kind id → IsSource v p → Finds o p None → ⊥
 unsupported_anyway o v kind id p b source taken =
     let same = one_program v b.program p b.source source in
-    let both : Some (kind, id.0) ≡ None = sym (subst (λ t. first_unsupported o t ≡ Some (kind, id.0)) same b.unsupported) ∙ taken in
-    cc
+    found_none (kind, id.0) (finds-one o p (Some (kind, id.0)) None (subst (λ t. Finds o t (Some (kind, id.0))) same b.unsupported) taken)
 
 unsupported_line : (a b : UnsupportedKind × ℕ) → Some a ≡ Some b
     → line (codes "lower: unsupported " ++ unsupported_name a.0 ++ codes " at node " ++ decimal a.1) ≡ line (codes "lower: unsupported " ++ unsupported_name b.0 ++ codes " at node " ++ decimal b.1)
@@ -148,7 +151,7 @@ one_line o v _ _ (broken {rule = r} {id = i} b) (unsupported d) = absurd (broken
 one_line o v _ _ (unsupported b) (broken {rule = r} {id = i} d) = absurd (broken_anyway v r i b.program d b.source b.kept)
 one_line o v _ _ (unsupported {kind = j} {id = i} b) (unsupported {kind = k} {id = m} d) =
     let same = one_program v b.program d.program b.source d.source in
-    unsupported_line (j, i.0) (k, m.0) (sym (subst (λ p. first_unsupported o p ≡ Some (j, i.0)) same b.unsupported) ∙ d.unsupported)
+    unsupported_line (j, i.0) (k, m.0) (finds-one o d.program (Some (j, i.0)) (Some (k, m.0)) (subst (λ p. Finds o p (Some (j, i.0))) same b.unsupported) d.unsupported)
 
 -- what is told of the input, or of the options, is told in one line
 told_line : (o : EnvOptions) (bytes : List ℕ) (e f : LowerError) → Told o bytes e → Told o bytes f → refusal_text e ≡ refusal_text f
@@ -175,7 +178,7 @@ one_cause o q bytes e f same cause other =
 
 -- a source that is taken is refused for no cause
 not_taken : (o : EnvOptions) (v : Data) (error : LowerError) (p : Tree) → Known o v error
-    → IsSource v p → breaks p ≡ [] → first_unsupported o p ≡ None → ⊥
+    → IsSource v p → breaks p ≡ [] → Finds o p None → ⊥
 not_taken o v error p (unread told r) source kept taken = no_refusal v p error source.form r told
 not_taken o v _ p (broken {rule = r} {id = i} b) source kept taken = broken_anyway v r i p b source kept
 not_taken o v _ p (unsupported {kind = k} {id = i} b) source kept taken = unsupported_anyway o v k i p b source taken

@@ -27,7 +27,10 @@ use Rattle.es_unsupported.specs.ArrowShapes.{outside}
 use Rattle.es_unsupported.specs.FirstUnsupported.{first_of, first_unsupported}
 use Rattle.es_unsupported.specs.Shapes.{copies_by_name, has_chain_tag, is_unbuilt_node, shape_at}
 use Rattle.es_unsupported.specs.SpreadLiterals.{has_uncopied}
+use Rattle.lower_driver.specs.UnsupportedPrograms.{Finds}
+use Rattle.lower_driver.proofs.Becomes.{core-none}
 use Rattle.lower_driver.proofs.EitherTest.{fewer-in-fields}
+use Rattle.lower_driver.proofs.Moved.{finds-itself}
 use Rattle.lower_driver.proofs.QuietArrows.{none-of}
 use Rattle.lower_command.specs.Generated.{generated, generated_statement, statement_for, start_of}
 use Rattle.lower_command.proofs.GeneratedFacts.{generated-core, generated-declares}
@@ -139,7 +142,7 @@ generated-plain n = or_both (any_in_trees is_asked (trees (map generated_stateme
 generated-symbols : (n : ℕ) → symbols_of (generated n) ≡ []
 generated-symbols n = rw (generated-declares n) at (core-symbols (generated n) (generated-core n))
 
-pub generated-taken : (o : EnvOptions) (n : ℕ) → first_unsupported o (generated n) ≡ None
+generated-taken : (o : EnvOptions) (n : ℕ) → first_unsupported o (generated n) ≡ None
 generated-taken o n =
     let p = generated n in
     let none = none-of o [] is_asked (no_shape o)
@@ -147,3 +150,13 @@ generated-taken o n =
     (λ k l fs parameter i f h g. no_slot o k l fs parameter i f h)
     (outermost p) outside 1 p (generated-plain n) (λ on. refl) in
     ap (λ (ds : List Declared). first_of o ds (outermost p) outside 1 p) (generated-symbols n) ∙ none
+
+-- and no pattern moves there
+off-anyway : (on b : Bool) → b ≡ false → (on && b) ≡ false
+off-anyway true b e = e
+off-anyway false b e = refl
+
+pub generated-finds : (o : EnvOptions) (n : ℕ) → Finds o (generated n) None
+generated-finds o n =
+    let none = off-anyway (is_some o.es2018.object_rest_spread) (any_node is_object_rest (generated n)) (core-none (generated n) (generated-core n).core) in
+    finds-itself o (generated n) None none (generated-taken o n)

@@ -7,9 +7,9 @@ use Rattle.es_tree.specs.Tree.{Tree, tree_size}
 use Rattle.es_tree.specs.Words.{Text}
 use Rattle.es_tree.specs.declared.options.EnvOptions.{EnvOptions}
 use Rattle.es_json.specs.Canonical.{canonical}
-use Rattle.es_unsupported.specs.FirstUnsupported.{first_unsupported}
 use Rattle.lower_driver.specs.Lowers.{Lowers}
 use Rattle.lower_driver.specs.Sources.{Reads}
+use Rattle.lower_driver.specs.UnsupportedPrograms.{Finds}
 use Rattle.lower_editions.specs.Warnings.{warnings_of}
 use Rattle.lower_command.specs.Answer.{generated_line, warning_lines}
 use Rattle.lower_command.specs.Generated.{generated}
@@ -21,7 +21,7 @@ pub record IsTakenSource (o : EnvOptions) (bytes : List ℕ) : Type 0 where
   pub program : Tree
   pub reads : Reads bytes program
   pub kept : breaks program ≡ []
-  pub taken : first_unsupported o program ≡ None
+  pub taken : Finds o program None
 
 -- For an input of these bytes this text goes out: that of the canonical form of the written program, and a newline; and beside
 -- it these lines of warnings.

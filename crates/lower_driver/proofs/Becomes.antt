@@ -47,7 +47,6 @@ use Rattle.es_rest_rows.proofs.StraySteps.{law_strays_not_made_proof}
 use Rattle.es_lowered.specs.Lowered.{IsLowered}
 use Rattle.es_lowered.proofs.Idle.{law_idle_proof}
 use Rattle.es_lowered.proofs.Lowered.{law_lowered_alone_proof, law_lowered_proof}
-use Rattle.es_statement_steps.specs.Laws.{rests_there}
 use Rattle.es_statement_steps.proofs.Results.{law_statement_result_proof}
 use Rattle.es_unsupported.specs.FirstUnsupported.{first_unsupported}
 use Rattle.es_unsupported.proofs.ArrowsTaken.{law_arrows_taken_proof}
@@ -59,7 +58,7 @@ use Rattle.lower_temporaries.proofs.SeenLaws.{size-seen}
 use Rattle.lower_temporaries.specs.Takings.{moment_of}
 use Rattle.lower_temporaries.specs.declared.state.TransformState.{TransformState}
 use Rattle.lower_driver.specs.Copies.{IsCopy}
-use Rattle.lower_driver.specs.Lowers.{Lowers}
+use Rattle.lower_driver.specs.Lowers.{LowersInPlace, rests_there}
 use Rattle.lower_driver.specs.Visits.{AreTaken}
 use Rattle.lower_driver.proofs.BareConstructs.{same-constructs}
 use Rattle.lower_driver.proofs.CopiedOptions.{copied-enabled, copied-reached, copied-unsupported}
@@ -84,7 +83,7 @@ and-second true b h = h
 and-second false b h = absurd (true≢false (sym h))
 
 mutual
-  core-none : (t : Tree) → all_nodes is_core_node t ≡ true → any_node is_object_rest t ≡ false
+  pub core-none : (t : Tree) → all_nodes is_core_node t ≡ true → any_node is_object_rest t ≡ false
   core-none (node k l fs) h = or_both (is_object_rest k l fs) (any_in_fields is_object_rest fs) (core-kind k l fs (and-first (is_core_node k l fs) (all_in_fields is_core_node fs) h)) (core-none-in fs (and-second (is_core_node k l fs) (all_in_fields is_core_node fs) h))
 
   core-none-in : (fs : Fields) → all_in_fields is_core_node fs ≡ true → any_in_fields is_object_rest fs ≡ false
@@ -139,8 +138,8 @@ mutual
   few-owed-among empty = omega arith
   few-owed-among (t before ts) = omega (arith, few-owed t, few-owed-among ts)
 
-pub owed-room : (p : Tree) (z : Program) (next : ℕ) → tree_size (plain_program z) ≤ 31 * tree_size p → next ≤ 62 * tree_size p → tree_size p < 2 ^ 20 → next + owed rest_owes (plain_program z) < 2 ^ 32 - 1
-owed-room p z next size given small = omega (arith, few-owed (plain_program z), size, given, small)
+pub owed-room : (p : Tree) (z : Program) (next start : ℕ) → tree_size (plain_program z) ≤ 31 * tree_size p → next ≤ 61 * tree_size p + start → start < 2 ^ 20 → tree_size p < 2 ^ 22 → next + owed rest_owes (plain_program z) < 2 ^ 32 - 1
+owed-room p z next start size given first small = omega (arith, few-owed (plain_program z), size, given, first, small)
 
 -- WHAT A SOURCE BECOMES
 
@@ -160,7 +159,7 @@ off-second : (a b : Bool) → b ≡ false → (a && b) ≡ false
 off-second true b e = e
 off-second false b e = refl
 
-module _ (o c : EnvOptions) (copy : IsCopy o c) (p : Tree) (form : has_form s-Program p ≡ true) (right : breaks p ≡ []) (taken : first_unsupported c p ≡ None) (some : has_enabled_construct o p ≡ true) where
+module _ (o c : EnvOptions) (copy : IsCopy o c) (p : Tree) (form : has_form s-Program p ≡ true) (right : breaks p ≡ []) (taken : first_unsupported c p ≡ None) (start : ℕ) where
   abbrev names : ℕ → Text → Option ℕ
   names = symbol_in (symbols_of p)
 
@@ -178,14 +177,14 @@ module _ (o c : EnvOptions) (copy : IsCopy o c) (p : Tree) (form : has_form s-Pr
   result-so : (z : Program) (ctx : TraverseCtx TransformState) → Reached (built_rules o) p (first_whole p) (made_of ctx) (seen names (plain_program z)) → IsResult o p (plain_program z) (made_of ctx)
   result-so z ctx reached = law_result_proof o p (plain_program z) (seen names (plain_program z)) (made_of ctx) form right (λ on. law_arrows_taken_proof o p on taken_so) reached (law_bare_seen_proof names (plain_program z))
 
-  pub arrived-form : (z : Program) (ctx : TraverseCtx TransformState) → Arrived c p z ctx → has_form s-Program (plain_program z) ≡ true
+  arrived-form : (z : Program) (ctx : TraverseCtx TransformState) → Arrived c p start z ctx → has_form s-Program (plain_program z) ≡ true
   arrived-form z ctx arrived = (result-so z ctx (reached-so z ctx arrived.steps)).form
 
   -- WHERE NO REST IS TAKEN
 
   ends : (z : Program) (ctx : TraverseCtx TransformState) → Steps (Step (built_rules c) the_program) (nothing_beside (first_whole p)) (opened (source p)) (nothing_beside (whole_at (moment_of ctx))) (opened (seen names (plain_program z))) →
       any_node (is_other_construct c) (seen names (plain_program z)) ≡ false → (is_some c.es2015.arrow_function && any_node is_arrow (seen names (plain_program z))) ≡ false → (is_some c.es2018.object_rest_spread && any_node is_object_rest (seen names (plain_program z))) ≡ false →
-      tree_size (plain_program z) ≤ 31 * tree_size p → rests_there o p ≡ false → Lowers o p (plain_program z) (made_of ctx)
+      tree_size (plain_program z) ≤ 31 * tree_size p → rests_there o p ≡ false → LowersInPlace o p (plain_program z) (made_of ctx)
   ends z ctx steps other arrows rests size none =
       let becomes = result-so z ctx (reached-so z ctx steps) in
       let there = seen names (plain_program z) in
@@ -193,12 +192,11 @@ module _ (o c : EnvOptions) (copy : IsCopy o c) (p : Tree) (form : has_form s-Pr
         result = law_lowered_alone_proof o p (plain_program z) (made_of ctx) becomes;
         none = sym (copied-enabled o c copy (plain_program z)) ∙ same-constructs c there (plain_program z) (sym (law_bare_seen_proof names (plain_program z))) ∙ none-enabled c there other rests arrows;
         core = λ core. law_core_result_proof o p (plain_program z) (made_of ctx) core right becomes;
-        statements = λ runs. law_statement_result_proof o p (plain_program z) (made_of ctx) runs (tags-are-no-chains o p taken_so) becomes;
-        unchanged = λ unasked. absurd (true≢false (sym some ∙ unasked));
+        statements = λ no_rests runs. law_statement_result_proof o p (plain_program z) (made_of ctx) runs (tags-are-no-chains o p taken_so) becomes;
         size = rw none (omega (arith, size));
       }
 
-  module _ (z u : Program) (ctx d : TraverseCtx TransformState) (arrived : Arrived c p z ctx) where
+  module _ (z u : Program) (ctx d : TraverseCtx TransformState) (arrived : Arrived c p start z ctx) where
     abbrev there : Tree
     there = seen names (plain_program z)
 
@@ -224,7 +222,7 @@ module _ (o c : EnvOptions) (copy : IsCopy o c) (p : Tree) (form : has_form s-Pr
       walk = walked.steps formed strays
 
       -- there is none
-      idles : any_node is_object_rest p ≡ false → Lowers o p (plain_program u) (made_of d)
+      idles : any_node is_object_rest p ≡ false → LowersInPlace o p (plain_program u) (made_of d)
       idles none =
           let free = law_no_rests_proof o p there (made_of ctx) reached none in
           let idle = law_idle_proof there last (whole_at (moment_of ctx)) (whole_at (moment_of d)) walk free in
@@ -265,7 +263,7 @@ module _ (o c : EnvOptions) (copy : IsCopy o c) (p : Tree) (form : has_form s-Pr
         others : any_node (rest_others c) last ≡ false
         others = law_rests_make_none_proof c there last (whole_at (moment_of ctx)) (whole_at (moment_of d)) walk (none-beside-rests c there arrived.other arrived.arrows)
 
-        takes : Lowers o p (plain_program u) (made_of d)
+        takes : LowersInPlace o p (plain_program u) (made_of d)
         takes =
             let there-is : rests_there o p ≡ true = both-on (is_some o.es2018.object_rest_spread) (any_node is_object_rest p) on has in
             let small = arrived.size in
@@ -276,38 +274,36 @@ module _ (o c : EnvOptions) (copy : IsCopy o c) (p : Tree) (form : has_form s-Pr
               result = lowered;
               none = sym (copied-enabled o c copy (plain_program u)) ∙ same-constructs c last (plain_program u) (sym (law_bare_seen_proof names (plain_program u))) ∙ none-with-rests c last others (off-second (is_some c.es2018.object_rest_spread) (any_node is_object_rest last) none-last);
               core = λ core. absurd (true≢false (sym has ∙ core-none p core.core));
-              statements = λ runs. absurd (true≢false (sym there-is ∙ runs.rests));
-              unchanged = λ unasked. absurd (true≢false (sym some ∙ unasked));
+              statements = λ no_rests runs. absurd (true≢false (sym there-is ∙ no_rests));
               size = rw there-is (omega (arith, small, few, light, more));
             }
 
     by-source : (on : is_some o.es2018.object_rest_spread ≡ true) → PaidTree rest_owes (moment_of ctx) (plain_program z) (moment_of d) (plain_program u) → WalkedProgram (profile_where true) (moment_of ctx) there (moment_of d) last → (b : Bool) → any_node is_object_rest p ≡ b →
-        Lowers o p (plain_program u) (made_of d)
+        LowersInPlace o p (plain_program u) (made_of d)
     by-source on paid walked false none = idles on paid walked none
     by-source on paid walked true has = takes on paid walked has
 
-    pub becomes : AreTaken (is_some c.es2018.object_rest_spread) ctx z d u → Lowers o p (plain_program u) (made_of d)
+    pub becomes : AreTaken (is_some c.es2018.object_rest_spread) ctx z d u → LowersInPlace o p (plain_program u) (made_of d)
     becomes rests = at (is_some c.es2018.object_rest_spread) refl
       where
-        at : (asked : Bool) → is_some c.es2018.object_rest_spread ≡ asked → Lowers o p (plain_program u) (made_of d)
+        at : (asked : Bool) → is_some c.es2018.object_rest_spread ≡ asked → LowersInPlace o p (plain_program u) (made_of d)
         at false off =
             let same = rests.same off in
-            subst (λ (w : Program). Lowers o p (plain_program w) (made_of d)) (sym same.0)
-            (subst (λ (e : TraverseCtx TransformState). Lowers o p (plain_program z) (made_of e)) (sym same.1)
+            subst (λ (w : Program). LowersInPlace o p (plain_program w) (made_of d)) (sym same.0)
+            (subst (λ (e : TraverseCtx TransformState). LowersInPlace o p (plain_program z) (made_of e)) (sym same.1)
             (ends z ctx arrived.steps arrived.other arrived.arrows (off-first (is_some c.es2018.object_rest_spread) (any_node is_object_rest there) off) arrived.size (off-first (is_some o.es2018.object_rest_spread) (any_node is_object_rest p) (same-on ∙ off))))
         at true on = by-source (same-on ∙ on) (rests.paid on) (rests.taken on names) (any_node is_object_rest p) refl
 
--- A program in which no construct stands that the options ask to lower becomes itself.
-pub becomes-itself : (o : EnvOptions) (p : Tree) → has_form s-Program p ≡ true → breaks p ≡ [] → has_enabled_construct o p ≡ false → Lowers o p p []
-becomes-itself o p form right none =
+-- A program in which no construct stands that the options ask to lower stays as it is.
+pub stays-in-place : (o : EnvOptions) (p : Tree) → has_form s-Program p ≡ true → breaks p ≡ [] → has_enabled_construct o p ≡ false → LowersInPlace o p p []
+stays-in-place o p form right none =
     let taken = none-unsupported o p none in
     let becomes = law_result_proof o p p (source p) [] form right (λ on. law_arrows_taken_proof o p on taken) (record { whole = first_whole p; steps = stays; made = refl }) (law_bare_source_proof p) in
     record {
       result = law_lowered_alone_proof o p p [] becomes;
       none = none;
       core = λ core. law_core_result_proof o p p [] core right becomes;
-      statements = λ runs. law_statement_result_proof o p p [] runs (tags-are-no-chains o p taken) becomes;
-      unchanged = λ asked. record { same = refl; no_names = refl };
+      statements = λ no_rests runs. law_statement_result_proof o p p [] runs (tags-are-no-chains o p taken) becomes;
       size = at (rests_there o p);
     }
   where

@@ -13,3 +13,4 @@ pub mod Visits
 pub mod EitherTest
 pub mod Becomes
 pub mod FewScopes
+pub mod Moved

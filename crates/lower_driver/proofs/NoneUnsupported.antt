@@ -26,7 +26,7 @@ use Rattle.es_rest_shapes.specs.HelperNames.{binds_helpers}
 use Rattle.es_rest_shapes.specs.RestShapes.{is_rest_declaration, is_stray_rest}
 use Rattle.es_rest_shapes.proofs.NoneLeft.{declaration-rest}
 use Rattle.es_rest_shapes.proofs.Quiet.{stray-none}
-use Rattle.lower_driver.proofs.EitherTest.{any-where-in, fewer-in-fields}
+use Rattle.lower_driver.proofs.EitherTest.{any-where, any-where-in, fewer-in-fields, fewer-in-tree}
 use Rattle.es_unsupported.specs.SpreadLiterals.{has_uncopied}
 use Rattle.lower_driver.proofs.EnabledRows.{none-of-rows}
 use Rattle.lower_driver.proofs.QuietArrows.{none-of}
@@ -170,6 +170,9 @@ module _ (o : EnvOptions) where
   rests-in : (fs : Fields) → any_in_fields (is_enabled_construct o) fs ≡ false → (is_some o.es2018.object_rest_spread && any_in_fields is_object_rest fs) ≡ false
   rests-in fs h =
       sym (any-where-in (is_some o.es2018.object_rest_spread) is_object_rest fs) ∙ fewer-in-fields (λ k l gs. is_some o.es2018.object_rest_spread && is_object_rest k l gs) (is_enabled_construct o) own-rest-off fs h
+
+  pub rests-none : (t : Tree) → any_node (is_enabled_construct o) t ≡ false → (is_some o.es2018.object_rest_spread && any_node is_object_rest t) ≡ false
+  rests-none t h = sym (any-where (is_some o.es2018.object_rest_spread) is_object_rest t) ∙ fewer-in-tree (λ k l gs. is_some o.es2018.object_rest_spread && is_object_rest k l gs) (is_enabled_construct o) own-rest-off t h
 
   module _ (ds : List Declared) where
     no-shape : (up : List ℕ) (k : AstType) (l : Label) (fs : Fields) → any_node (is_enabled_construct o) (node k l fs) ≡ false → shape_at o ds up k l fs ≡ None

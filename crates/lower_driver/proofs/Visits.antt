@@ -1,5 +1,5 @@
 -- From the one visit of a run to what the source becomes.
-use Rattle.std.proofs.Common.{Some, ◌≡◌, ◌*◌, ◌≤◌, ◌<◌, ◌^◌, ℕ, zero, suc, length, refl, sym, ap, ◌∙◌, subst, List, [], ◌∷◌, Option, None, inl, inr, arith}
+use Rattle.std.proofs.Common.{Some, ◌≡◌, ◌+◌, ◌*◌, ◌≤◌, ◌<◌, ◌^◌, ℕ, zero, suc, length, refl, sym, ap, ◌∙◌, subst, List, [], ◌∷◌, Option, None, inl, inr, arith}
 use Rattle.std.specs.Prelude.{Bool, true, false, ◌&&◌, ◌||◌, is_some}
 use Rattle.es_tree.specs.Bare.{bare}
 use Rattle.es_tree.specs.Constructs.{is_arrow, is_chain, is_nullish_coalescing, is_object_spread, is_optional_catch, is_using}
@@ -133,16 +133,16 @@ module _ (p : Tree) (ctx : TraverseCtx TransformState) (new : IsNew p pending_of
         made = first.made;
       })
 
-  pub first-heft : ctx.ast.next ≡ tree_size p → heft (moment_of ctx) ≡ tree_size p
-  first-heft next = rw (first.lists, next) (omega arith)
+  first-heft : heft (moment_of ctx) ≡ ctx.ast.next
+  first-heft = rw first.lists (omega arith)
 
   -- there is room for all that can be made
-  pub first-room : (x : Program) → bare (plain_program x) ≡ bare p → ctx.ast.next ≡ tree_size p → tree_size p < 2 ^ 20 → HasRoom (moment_of ctx) (load (plain_program x))
+  pub first-room : (x : Program) → bare (plain_program x) ≡ bare p → ctx.ast.next < 2 ^ 20 → tree_size p < 2 ^ 22 → HasRoom (moment_of ctx) (load (plain_program x))
   first-room x same next small =
-      let h = first-heft next in
+      let h = first-heft in
       let w = load-size (plain_program x) in
       let s : tree_size (plain_program x) ≡ tree_size p = sym (tree_size-bare (plain_program x)) ∙ ap tree_size same ∙ tree_size-bare p in
-      omega (arith, h, w, s, small)
+      omega (arith, h, w, s, next, small)
 
 -- a context that was made of the table and the program with its marks is new
 pub new-context : (p q : Tree) (s : Scoping) (ctx : TraverseCtx TransformState) → q ≡ marked_program p → IsTableOf p s → around_of ctx ≡ [] → ((x : Text) → uses_of ctx x ≡ is_among (names_of q) x) → made_of ctx ≡ [] → ctx.state.var_declarations ≡ nothing_pending ∷ [] → table_of ctx ≡ s → IsNew p pending_of ctx
@@ -232,14 +232,14 @@ kind-of-program (node k l fs) h = (form-placed (node k l fs) h).0
 source-formed : (p : Tree) → has_form s-Program p ≡ true → has_form s-Program (source p) ≡ true
 source-formed p form = sym (has_form-bare s-Program (source p)) ∙ ap (has_form s-Program) (law_bare_source_proof p) ∙ has_form-bare s-Program p ∙ form
 
--- A program that was reached, with no other construct left but object rests, and how large it is.
-pub record Arrived (c : EnvOptions) (p : Tree) (z : Program) (ctx : TraverseCtx TransformState) : Type 0 where
+-- A program that was reached, with no other construct left but object rests, and how large it is, where the first id to be given was this.
+pub record Arrived (c : EnvOptions) (p : Tree) (start : ℕ) (z : Program) (ctx : TraverseCtx TransformState) : Type 0 where
   pub steps : Steps (Step (built_rules c) the_program) (nothing_beside (first_whole p)) (opened (source p)) (nothing_beside (whole_at (moment_of ctx))) (opened (seen (symbol_in (symbols_of p)) (plain_program z)))
   pub other : any_node (is_other_construct c) (seen (symbol_in (symbols_of p)) (plain_program z)) ≡ false
   pub arrows : (is_some c.es2015.arrow_function && any_node is_arrow (seen (symbol_in (symbols_of p)) (plain_program z))) ≡ false
   pub options : (moment_of ctx).options ≡ c
   pub size : tree_size (plain_program z) ≤ 31 * tree_size p
-  pub given : (moment_of ctx).next ≤ 62 * tree_size p
+  pub given : (moment_of ctx).next ≤ 61 * tree_size p + start
 
 -- STEPS
 
@@ -368,11 +368,11 @@ module _ (c : EnvOptions) (p : Tree) (ctx ctx' : TraverseCtx TransformState) (x 
       -- what is written is at most so large, and so many ids are given
       record IsSmall : Type 0 where
         size : tree_size (plain_program z) ≤ 31 * tree_size p
-        given : (moment_of ctx'').next ≤ 62 * tree_size p
+        given : (moment_of ctx'').next ≤ 61 * tree_size p + ctx.ast.next
 
-      small-last : ctx.ast.next ≡ tree_size p → KeptVisited 0 (moment_of ctx) (plain_program x) (moment_of ctx') (plain_program y) → KeptTree (moment_of ctx') (plain_program y) (moment_of ctx'') (plain_program z) → IsSmall
-      small-last next kept then_kept =
-          let h = first-heft p ctx new next in
+      small-last : KeptVisited 0 (moment_of ctx) (plain_program x) (moment_of ctx') (plain_program y) → KeptTree (moment_of ctx') (plain_program y) (moment_of ctx'') (plain_program z) → IsSmall
+      small-last kept then_kept =
+          let h = first-heft p ctx new in
           let l = kept.lighter in
           let m = then_kept.lighter in
           let w = load-size (plain_program x) in
@@ -381,19 +381,19 @@ module _ (c : EnvOptions) (p : Tree) (ctx ctx' : TraverseCtx TransformState) (x 
           let more = kept.nodes in
           let then_more = then_kept.nodes in
           let none : lists_size (moment_of ctx).lists ≡ 0 = ap lists_size begun.lists in
-          record { size = omega (arith, h, l, m, w, s, b, more, then_more, none, next); given = omega (arith, h, l, m, w, s, next) }
+          record { size = omega (arith, h, l, m, w, s, b, more, then_more, none); given = omega (arith, h, l, m, w, s) }
 
     -- by the context's own options
-    pub arrives : ctx.ast.next ≡ tree_size p → ctx.options ≡ c → KeptVisited 0 (moment_of ctx) (plain_program x) (moment_of ctx') (plain_program y) → (z : Program) (ctx'' : TraverseCtx TransformState) → IsWalked (is_some c.es2015.arrow_function) ctx' y ctx'' z → Arrived c p z ctx''
-    arrives next own kept z ctx'' walk = at (is_some c.es2015.arrow_function) refl
+    pub arrives : ctx.options ≡ c → KeptVisited 0 (moment_of ctx) (plain_program x) (moment_of ctx') (plain_program y) → (z : Program) (ctx'' : TraverseCtx TransformState) → IsWalked (is_some c.es2015.arrow_function) ctx' y ctx'' z → Arrived c p ctx.ast.next z ctx''
+    arrives own kept z ctx'' walk = at (is_some c.es2015.arrow_function) refl
       where
         options-there : (moment_of ctx').options ≡ c
         options-there = kept.options ∙ own
 
-        at : (asked : Bool) → is_some c.es2015.arrow_function ≡ asked → Arrived c p z ctx''
+        at : (asked : Bool) → is_some c.es2015.arrow_function ≡ asked → Arrived c p ctx.ast.next z ctx''
         at true on =
             let steps = walk.lowered on names in
-            let small = small-last z ctx'' next kept (walk.kept on) in
+            let small = small-last z ctx'' kept (walk.kept on) in
             record {
               steps = walked z ctx'' on steps;
               other = walked_none z ctx'' steps;
@@ -403,8 +403,8 @@ module _ (c : EnvOptions) (p : Tree) (ctx ctx' : TraverseCtx TransformState) (x 
               given = small.given;
             }
         at false off =
-            let small = small-last y ctx' next kept (kept-itself (moment_of ctx') (plain_program y)) in
-            let there : Arrived c p y ctx' = record {
+            let small = small-last y ctx' kept (kept-itself (moment_of ctx') (plain_program y)) in
+            let there : Arrived c p ctx.ast.next y ctx' = record {
               steps = subst (λ (w : Whole). Steps (Step (built_rules c) the_program) (nothing_beside (first_whole p)) (opened (source p)) (nothing_beside w) (opened result)) reached_whole between.steps;
               other = other_none;
               arrows = ap (λ b. b && any_node is_arrow result) off;
@@ -413,4 +413,4 @@ module _ (c : EnvOptions) (p : Tree) (ctx ctx' : TraverseCtx TransformState) (x 
               given = small.given;
             } in
             let same = walk.same off in
-            subst (λ (w : Program). Arrived c p w ctx'') (sym same.0) (subst (λ (e : TraverseCtx TransformState). Arrived c p y e) (sym same.1) there)
+            subst (λ (w : Program). Arrived c p ctx.ast.next w ctx'') (sym same.0) (subst (λ (e : TraverseCtx TransformState). Arrived c p ctx.ast.next y e) (sym same.1) there)

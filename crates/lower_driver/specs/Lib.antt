@@ -1,6 +1,7 @@
 pub mod Copies
 pub mod Constructs
 pub mod Lowered
+pub mod Moves
 pub mod Lowers
 pub mod UnsupportedPrograms
 pub mod Sources

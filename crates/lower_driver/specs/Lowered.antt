@@ -8,8 +8,8 @@ use Rattle.es_tree.specs.declared.options.EnvOptions.{EnvOptions}
 use Rattle.es_json.specs.Canonical.{canonical}
 use Rattle.lower_editions.specs.Warnings.{warnings_of}
 use Rattle.lower_driver.specs.Lowers.{Lowers}
-use Rattle.es_unsupported.specs.FirstUnsupported.{first_unsupported}
 use Rattle.lower_driver.specs.Sources.{IsSource}
+use Rattle.lower_driver.specs.UnsupportedPrograms.{Finds}
 use Rattle.lower_driver.specs.declared.driver.Lowered.{Lowered}
 use Rattle.lower_driver.specs.declared.driver.LoweredTree.{LoweredTree}
 
@@ -18,7 +18,7 @@ pub record IsLoweredTree (o : EnvOptions) (source : Tree) (t : LoweredTree) : Ty
   pub lowers : Lowers o source t.program (map string_bytes t.temporaries.items)
   pub warnings : t.warnings.items ≡ warnings_of o.es2020 source
   -- no shape stands in the source that the lowerings don't take
-  pub taken : first_unsupported o source ≡ None
+  pub taken : Finds o source None
 
 -- A run's answer for this value: what the program becomes of which it is the form, and the canonical form of that.
 pub record IsLoweredValue (o : EnvOptions) (v : Data) (l : Lowered) : Type 0 where

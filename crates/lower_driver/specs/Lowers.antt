@@ -1,26 +1,30 @@
 -- What a source becomes.
-use Rattle.std.specs.Prelude.{◌≡◌, ◌≤◌, ◌+◌, ◌*◌, ℕ, List, [], false, if◌then◌else◌}
-use Rattle.es_tree.specs.Constructs.{has_enabled_construct}
+use Rattle.std.specs.Prelude.{◌≡◌, ◌≤◌, ◌+◌, ◌*◌, ◌++◌, ◌&&◌, ℕ, Bool, List, [], false, is_some, if◌then◌else◌}
+use Rattle.es_tree.specs.Constructs.{has_enabled_construct, is_object_rest}
 use Rattle.es_tree.specs.Core.{IsCoreProgram}
 use Rattle.es_tree.specs.Tree.{Tree, tree_size}
+use Rattle.es_tree.specs.Walks.{any_node}
 use Rattle.es_tree.specs.Words.{Text}
 use Rattle.es_tree.specs.declared.options.EnvOptions.{EnvOptions}
 use Rattle.es_json.specs.Canonical.{canonical}
 use Rattle.es_lowered.specs.Lowered.{IsLowered}
+use Rattle.es_lowered.specs.Moved.{IsMoved}
 use Rattle.es_reached.specs.Reached.{IsCoreResult}
 use Rattle.es_statement_runs.specs.Runs.{RunAlike}
-use Rattle.es_statement_steps.specs.Laws.{RunsAsStatements, assumes_no_all, rests_there, supply_there}
+use Rattle.es_statement_steps.specs.Laws.{RunsAsStatements, assumes_no_all, supply_there}
+use Rattle.lower_driver.specs.Moves.{Moves}
 
 -- a source as it is written, with no name made
 pub record IsAsBefore (source written : Tree) (names : List Text) : Type 0 where
   pub same : canonical written ≡ canonical source
   pub no_names : names ≡ []
 
-abbrev pub nodes_for_one : EnvOptions → Tree → ℕ
-nodes_for_one o source = if rests_there o source then 384 else 64
+-- whether an object rest is taken
+abbrev pub rests_there : EnvOptions → Tree → Bool
+rests_there o p = is_some o.es2018.object_rest_spread && any_node is_object_rest p
 
--- What a source of any kind becomes under these options: this program, with these fresh names.
-pub record Lowers (o : EnvOptions) (source written : Tree) (names : List Text) : Type 0 where
+-- WHERE THEY STAND its constructs are lowered: what a program becomes in which no pattern moves any more.
+pub record LowersInPlace (o : EnvOptions) (source written : Tree) (names : List Text) : Type 0 where
   -- By steps of the rules that the options ask for, with nothing pending at the end: each name keeps its binding, what is written
   -- has form and keeps all static rules, and it asks for the same modules and exports the same names.
   pub result : IsLowered o source written names
@@ -28,12 +32,30 @@ pub record Lowers (o : EnvOptions) (source written : Tree) (names : List Text) :
   pub none : has_enabled_construct o written ≡ false
   -- A core program and what it becomes run alike, where the options assume that no value is `document.all` in every run in which none is.
   pub core : IsCoreProgram source → IsCoreResult o source written names
-  -- A program of statements, without functions, arrows and classes, and what it becomes run alike, too: of whatever operands its expressions
-  -- are, where none of its runs is outside; where chains are lowered and the options assume that no value is `document.all`, in every run in
-  -- which none is.
-  pub statements : RunsAsStatements o source → RunAlike (supply_there o source) (assumes_no_all o source) source written
-  -- where the options ask for no construct of the source, nothing is changed
-  pub unchanged : has_enabled_construct o source ≡ false → IsAsBefore source written names
+  -- A program of statements, without functions, arrows and classes, and what it becomes run alike, too, where no object rest is taken, of
+  -- which no law is known: of whatever operands its expressions are, where none of its runs is outside; where chains are lowered and the
+  -- options assume that no value is `document.all`, in every run in which none is.
+  pub statements : rests_there o source ≡ false → RunsAsStatements o source → RunAlike (supply_there o source) (assumes_no_all o source) source written
   -- It has at most so many nodes for each of the source's, and as many more: an object rest makes a text for each property before it, and the
   -- walk that takes rests is the last of three.
-  pub size : tree_size written ≤ nodes_for_one o source * tree_size source + 64
+  pub size : tree_size written ≤ (if rests_there o source then 384 else 64) * tree_size source + 64
+
+-- What a source of any kind becomes under these options: this program, with these fresh names.
+pub record Lowers (o : EnvOptions) (source written : Tree) (names : List Text) : Type 0 where
+  -- First patterns with a rest move to declarations of their own, by steps of the rows that do so: in what they become each name keeps its
+  -- binding, it has form, keeps all static rules, asks for the same modules and exports the same names.
+  pub moved : Tree
+  pub first_names : List Text
+  pub moves : Moves (is_some o.es2018.object_rest_spread) source moved first_names
+  pub is_moved : IsMoved (is_some o.es2018.object_rest_spread) source moved first_names
+  -- then constructs are lowered where they stand
+  pub later_names : List Text
+  pub in_place : LowersInPlace o moved written later_names
+  pub all_names : names ≡ first_names ++ later_names
+  -- In a core program no pattern moves, nor where no object rest is taken: the source itself and what is written run alike (`LowersInPlace`).
+  pub core : IsCoreProgram source → IsCoreResult o source written names
+  pub statements : rests_there o source ≡ false → RunsAsStatements o source → RunAlike (supply_there o source) (assumes_no_all o source) source written
+  -- where the options ask for no construct of the source, nothing is changed
+  pub unchanged : has_enabled_construct o source ≡ false → IsAsBefore source written names
+  -- the nodes of the source and of what is written
+  pub size : tree_size written ≤ (if rests_there o source then 1344 else 64) * tree_size source + 64

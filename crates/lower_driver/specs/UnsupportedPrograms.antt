@@ -1,16 +1,25 @@
--- What a run doesn't take: the first node of a program with a shape that its options' lowerings don't take.
-use Rattle.std.specs.Prelude.{◌≡◌, None, Some}
+-- What a run doesn't take: the first node with a shape that its options' lowerings don't take, of a program whose patterns moved.
+use Rattle.std.specs.Prelude.{◌≡◌, List, None, Option, Some, is_some, ℕ}
 use Rattle.es_tree.specs.Options.{first_fault}
 use Rattle.es_tree.specs.Tree.{Tree}
+use Rattle.es_tree.specs.Words.{Text}
 use Rattle.es_tree.specs.declared.error.LowerError.{LowerError}
 use Rattle.es_tree.specs.declared.error.LowerError.TheVariants.{Option as e-Option, OutOfMemory, Unsupported}
 use Rattle.es_tree.specs.declared.error.UnsupportedKind.{UnsupportedKind}
 use Rattle.es_tree.specs.declared.ids.NodeId.{NodeId}
 use Rattle.es_tree.specs.declared.options.EnvOptions.{EnvOptions}
 use Rattle.es_unsupported.specs.FirstUnsupported.{first_unsupported}
+use Rattle.lower_driver.specs.Moves.{Moves}
+
+-- What is found in a source under these options, once its patterns moved: such a shape and the id of its node, or none.
+pub record Finds (o : EnvOptions) (source : Tree) (found : Option (UnsupportedKind × ℕ)) : Type 0 where
+  pub moved : Tree
+  pub names : List Text
+  pub moves : Moves (is_some o.es2018.object_rest_spread) source moved names
+  pub first : first_unsupported o moved ≡ found
 
 abbrev pub IsUnsupported : EnvOptions → Tree → UnsupportedKind → NodeId → Type 0
-IsUnsupported o p kind id = first_unsupported o p ≡ Some (kind, id.0)
+IsUnsupported o p kind id = Finds o p (Some (kind, id.0))
 
 -- such a node, or want of memory
 abbrev pub IsUnsupportedOrMemory : EnvOptions → Tree → LowerError → Type 0
@@ -24,3 +33,9 @@ IsTreeCauseOrMemory o p (e-Option name) = first_fault o ≡ Some name
 IsTreeCauseOrMemory o p (Unsupported kind id) = (first_fault o ≡ None) × IsUnsupported o p kind id
 IsTreeCauseOrMemory o p OutOfMemory = Unit {0}
 IsTreeCauseOrMemory o p _ = ⊥
+
+-- the same of a program in which no pattern moves any more
+abbrev pub IsFirstOrMemory : EnvOptions → Tree → LowerError → Type 0
+IsFirstOrMemory o p (Unsupported kind id) = first_unsupported o p ≡ Some (kind, id.0)
+IsFirstOrMemory o p OutOfMemory = Unit {0}
+IsFirstOrMemory o p _ = ⊥

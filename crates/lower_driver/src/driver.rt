@@ -17,11 +17,12 @@ ghost use Rattle.es_steps.specs.Open.{nothing_pending};
 ghost use Rattle.es_unsupported.specs.FirstUnsupported.{first_unsupported};
 ghost use Rattle.lower_driver.specs.Copies.{IsCopy};
 ghost use Rattle.lower_driver.specs.Lowered.{IsLoweredTree, IsLoweredValue};
-ghost use Rattle.lower_driver.specs.Lowers.{Lowers};
+ghost use Rattle.lower_driver.specs.Lowers.{Lowers, LowersInPlace};
 ghost use Rattle.lower_driver.specs.Sources.{IsCauseOrMemory, IsValueCauseOrMemory, ReadsAs};
-ghost use Rattle.lower_driver.specs.UnsupportedPrograms.{IsTreeCauseOrMemory, IsUnsupportedOrMemory};
+ghost use Rattle.lower_driver.specs.UnsupportedPrograms.{Finds, IsFirstOrMemory, IsTreeCauseOrMemory, IsUnsupportedOrMemory};
 
 use crate::copies::copy_options;
+use crate::moving::move_patterns;
 use crate::reading::{read_bytes, read_source};
 use crate::visiting::{take_rests, visit, walk};
 use es_json::program::ReadProgram;
@@ -64,19 +65,28 @@ pub struct Lowered {
     pub value: Value,
 }
 
-/// Lowers the program that the value is the form of, as the options ask: its logical assignments, `??`,
-/// optional chains, catch clauses without a parameter, exports of namespaces, spreads in object literals,
-/// object rests that are declared, exponentiations and arrow functions, in programs of every kind. A program in which
-/// no construct stands that they ask to lower comes back as it is. Where they ask for warnings, of BigInt literals (ECMA-262, 12.9.3) or of strings that
-/// name imports and exports (16.2), it answers one for each of the source.
+/// Lowers the program that the value is the form of, as the options ask: its logical assignments, `??`, optional chains,
+/// catch clauses without a parameter, exports of namespaces, spreads in object literals, object rests that are declared,
+/// exponentiations and arrow functions, in programs of every kind. A program in which no construct stands that they ask
+/// to lower comes back as it is. Where they ask for warnings, of BigInt literals (ECMA-262, 12.9.3) or of strings that
+/// name imports and exports (16.2), it answers one for each of these in the source.
 ///
 /// Fails for the first of these causes that holds: `Option` where the options ask for what isn't done; `TooLarge`,
 /// `TooDeep` and `Shape` as `read_program` has them; `Invalid` as `check_static` has it; `Unsupported` at the first node
-/// that the lowerings don't take: `NotBuilt` a construct that they ask to lower and no lowering takes away yet,
-/// `MathBound` an exponentiation that would be lowered where `Math` is bound, `HelperName` an object literal with a
-/// spread where `babelHelpers` is bound, and a declaration of an object rest in a program that binds it, `SpreadLiteral` one whose properties can't be copied one by one, `TagChain` a
-/// template whose tag is a chain, `ArrowOuter` and `ArrowThis` what belongs to what is around an arrow and can't belong
-/// to a function in its place. It fails with `OutOfMemory` where memory runs out.
+/// that the lowerings asked for don't take:
+///
+/// - `NotBuilt`, a construct that no lowering takes away yet: a declaration by `using`, what holds an object rest where
+///   none is lowered, a spread or an object rest whose helper has to be imported, or a `this` in an arrow of a
+///   constructor whose class extends another;
+/// - `MathBound`, an exponentiation where `Math` is bound;
+/// - `HelperName`, an object literal with a spread where `babelHelpers` is bound, or a declaration of an object rest in
+///   a program that binds it anywhere;
+/// - `SpreadLiteral`, an object literal with a spread whose properties can't be copied one by one;
+/// - `TagChain`, a template whose tag is an optional chain;
+/// - `ArrowOuter` and `ArrowThis`, what belongs to what is around an arrow, or around a value that is put into one, and
+///   can't belong to a function in its place; `ArrowOuter` also an accessor whose value is written as an arrow.
+///
+/// It fails with `OutOfMemory` where memory runs out, which may come before any of them.
 pub fn lower(alloc: Global, source: &Value, options: &EnvOptions) -> Result<Lowered, LowerError>
     ensures lowered { IfOk result (λ lowered. IsLoweredValue options.now (view source.now) lowered) }
     ensures options { IfOk result (λ _. first_fault options.now ≡ None) }
@@ -170,8 +180,30 @@ fn lower_constructs(
     requires next { read.ast.next ≡ tree_size read.program }
     requires carried { first_fault options.now ≡ None }
     ensures lowers { IfOk result (λ made. Lowers options.now read.program made.0 (map string_bytes made.1.items)) }
-    ensures taken { IfOk result (λ _. first_unsupported options.now read.program ≡ None) }
+    ensures taken { IfOk result (λ _. Finds options.now read.program None) }
     ensures cause { IfErr result (λ error. IsUnsupportedOrMemory options.now read.program error) }
+{
+    let (moved, mut names) = move_patterns(alloc, read, options)?;
+    let (program, mut later) = lower_in_place(alloc, moved, options)?;
+    names.append(&mut later)?;
+    Ok((program, names))
+}
+
+/// A program in which no pattern moves any more, with its constructs lowered where they stand, and the names that were made. Fails where it
+/// has a shape that the lowerings don't take, and where memory runs out.
+fn lower_in_place(
+    alloc: Global,
+    read: ReadProgram,
+    options: &EnvOptions,
+) -> Result<(Node, Vec<String>), LowerError>
+    requires form { has_form s-Program read.program ≡ true }
+    requires kept { breaks read.program ≡ [] }
+    requires size { tree_size read.program < 2 ^ 22 }
+    requires next { read.ast.next < 2 ^ 20 }
+    requires carried { first_fault options.now ≡ None }
+    ensures lowers { IfOk result (λ made. LowersInPlace options.now read.program made.0 (map string_bytes made.1.items)) }
+    ensures taken { IfOk result (λ _. first_unsupported options.now read.program ≡ None) }
+    ensures cause { IfErr result (λ error. IsFirstOrMemory options.now read.program error) }
 {
     let ReadProgram {
         program: mut source,

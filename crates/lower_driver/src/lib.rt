@@ -3,5 +3,6 @@
 
 mod copies;
 pub mod driver;
+mod moving;
 mod reading;
 mod visiting;

@@ -83,7 +83,6 @@ pub fn take_rests(
     program: &mut Program,
     ctx: &mut TraverseCtx<TransformState>,
 ) -> Result<(), AllocError>
-    requires formed { has_form s-Program (plain_program program.old) ≡ true }
     requires room { ctx.old.ast.next + owed rest_owes (plain_program program.old) < 2 ^ 32 - 1 }
     ensures taken { OnOk result (AreTaken (is_some ctx.old.options.es2018.object_rest_spread) ctx.old program.old ctx.new program.new) }
 {

@@ -3,9 +3,9 @@ use Rattle.std.proofs.lemmas.List.{length-map}
 use Rattle.std.specs.Prelude.{Bool, true, false, if◌then◌else◌}
 use Rattle.es_tree.specs.Capped.{capped}
 use Rattle.es_tree.specs.Tree.{Tree, tree_size}
-use Rattle.es_statement_steps.specs.Laws.{rests_there}
 use Rattle.lower_editions.specs.Warnings.{warnings_of}
 use Rattle.lower_driver.specs.Lowered.{IsLoweredTree}
+use Rattle.lower_driver.specs.Lowers.{rests_there}
 use Rattle.lower_command.specs.Answer.{generated_line}
 use Rattle.lower_command.specs.Generated.{generated}
 use Rattle.lower_command.proofs.GeneratedFacts.{generated-form, generated-kept, generated-small}
@@ -25,7 +25,7 @@ lower_tree-requires-clause-size c = rw c.in_ok-read.ensures.tree (generated-smal
 uncapped : (n : ℕ) → n < 2 ^ 64 → capped n ≡ n
 uncapped n small = omega (arith, small)
 
-within : (rests : Bool) (n m : ℕ) → m ≤ (if rests then 384 else 64) * n + 64 → n < 2 ^ 20 → m < 2 ^ 64
+within : (rests : Bool) (n m : ℕ) → m ≤ (if rests then 1344 else 64) * n + 64 → n < 2 ^ 20 → m < 2 ^ 64
 within true n m size small = omega (arith, size, small)
 within false n m size small = omega (arith, size, small)
 

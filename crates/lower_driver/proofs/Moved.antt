@@ -1,0 +1,185 @@
+-- What a source becomes first: patterns with a rest move, or it stays as it is; there is one such program. And so what a source becomes by all
+-- lowerings.
+use Rattle.std.proofs.Common.{◌≡◌, ◌∙◌, ◌*◌, ◌+◌, ◌≤◌, ◌++◌, List, [], ◌∷◌, Option, ℕ, ap, arith, length, map, refl, subst, sym, true≢false}
+use Rattle.std.specs.Prelude.{Bool, true, false, ◌&&◌, is_some, if◌then◌else◌}
+use Rattle.es_tree.specs.Constructs.{has_enabled_construct, is_object_rest}
+use Rattle.es_tree.specs.Core.{IsCoreProgram}
+use Rattle.es_tree.specs.HasForm.{has_form}
+use Rattle.es_tree.specs.StaticRules.{breaks}
+use Rattle.es_tree.specs.Tree.{Tree, tree_size}
+use Rattle.es_tree.specs.Walks.{any_node}
+use Rattle.es_tree.specs.Words.{Text}
+use Rattle.es_tree.specs.declared.error.LowerError.{LowerError}
+use Rattle.es_tree.specs.declared.error.LowerError.TheVariants.{OutOfMemory, Unsupported}
+use Rattle.es_tree.specs.declared.error.UnsupportedKind.{UnsupportedKind}
+use Rattle.es_tree.specs.declared.options.EnvOptions.{EnvOptions}
+use Rattle.es_tree.specs.declared.table.Sort.TheVariants.{Program as s-Program}
+use Rattle.es_steps.specs.CoreBridge.{first_whole}
+use Rattle.es_pattern_moves.specs.Moved.{MovesTo, plainly}
+use Rattle.es_pattern_moves.specs.PatternMoves.{moves_pattern}
+use Rattle.es_pattern_moves.proofs.MovesAreRests.{law_moves_are_rests_proof}
+use Rattle.es_pattern_moves.proofs.MovedAgree.{law_one_moved_proof}
+use Rattle.es_pattern_moves.proofs.MovedSize.{law_moved_size_proof}
+use Rattle.es_pattern_moves.proofs.MovedStays.{law_stays_proof}
+use Rattle.es_lowered.specs.Moved.{IsMoved}
+use Rattle.es_lowered.proofs.Moved.{law_moved_proof, law_unmoved_proof}
+use Rattle.es_reached.specs.Reached.{IsCoreResult}
+use Rattle.es_statement_runs.specs.Runs.{RunAlike}
+use Rattle.es_statement_steps.specs.Laws.{RunsAsStatements, assumes_no_all, supply_there}
+use Rattle.es_unsupported.specs.FirstUnsupported.{first_unsupported}
+use Rattle.lower_driver.specs.Copies.{IsCopy}
+use Rattle.lower_driver.specs.Lowers.{Lowers, LowersInPlace, rests_there}
+use Rattle.lower_driver.specs.Moves.{Moves}
+use Rattle.lower_driver.specs.UnsupportedPrograms.{Finds, IsFirstOrMemory, IsUnsupportedOrMemory}
+use Rattle.lower_driver.proofs.Becomes.{core-none}
+use Rattle.lower_driver.proofs.CopiedOptions.{copied-unsupported}
+
+-- ONE PROGRAM
+
+pub one-program : (on : Bool) (p q r : Tree) (names others : List Text) → Moves on p q names → Moves on p r others → q ≡ r
+one-program true p q r names others a b = (law_one_moved_proof (first_whole p).in_use p q r names others (a.goes refl) (b.goes refl)).0
+one-program false p q r names others a b = (a.stays refl).0 ∙ sym (b.stays refl).0
+
+-- and so one thing is found in it
+pub finds-one : (o : EnvOptions) (p : Tree) (a b : Option (UnsupportedKind × ℕ)) → Finds o p a → Finds o p b → a ≡ b
+finds-one o p a b f g = sym f.first ∙ ap (first_unsupported o) (one-program (is_some o.es2018.object_rest_spread) p f.moved g.moved f.names g.names f.moves g.moves) ∙ g.first
+
+-- whatever copy of the options it is
+pub copied-finds : (o c : EnvOptions) → IsCopy o c → (p : Tree) (a : Option (UnsupportedKind × ℕ)) → Finds c p a → Finds o p a
+copied-finds o c copy p a f = record {
+  moved = f.moved;
+  names = f.names;
+  moves = subst (λ (b : Bool). Moves b p f.moved f.names) (λ i. is_some (copy.es2018 i).object_rest_spread) f.moves;
+  first = sym (copied-unsupported o c copy f.moved) ∙ f.first;
+}
+
+-- WHERE NO PATTERN MOVES
+
+module _ (on : Bool) (p : Tree) (none : (on && any_node moves_pattern p) ≡ false) where
+  itself : (b : Bool) → on ≡ b → b ≡ true → MovesTo (first_whole p).in_use p p []
+  itself true e _ =
+      let stays = law_stays_proof p (plainly []) (ap (λ b. b && any_node moves_pattern p) (sym e) ∙ none) in
+      record { fresh = tt; count = ap (λ (r : ℕ × Tree). r.0) stays; tree = sym (ap (λ (r : ℕ × Tree). r.1) stays) }
+  itself false e d = absurd (true≢false (sym d))
+
+  pub moves-itself : Moves on p p []
+  moves-itself = record { goes = λ e. itself on refl e; stays = λ e. (refl, refl) }
+
+  no-names : (names : List Text) → 0 ≡ length names → names ≡ []
+  no-names [] e = refl
+  no-names (x ∷ names) e = absurd (cc e)
+
+  stayed : (q : Tree) (names : List Text) (b : Bool) → on ≡ b → Moves on p q names → (q ≡ p) × (names ≡ [])
+  stayed q names true e m =
+      let goes = m.goes e in
+      let stays = law_stays_proof p (plainly names) (ap (λ b. b && any_node moves_pattern p) (sym e) ∙ none) in
+      (goes.tree ∙ ap (λ (r : ℕ × Tree). r.1) stays, no-names names (sym (ap (λ (r : ℕ × Tree). r.0) stays) ∙ goes.count))
+  stayed q names false e m = m.stays e
+
+  pub stays-itself : (q : Tree) (names : List Text) → Moves on p q names → (q ≡ p) × (names ≡ [])
+  stays-itself q names m = stayed q names on refl m
+
+-- where no object rest stands that is taken
+pub no-moves : (on : Bool) (p : Tree) → (on && any_node is_object_rest p) ≡ false → (on && any_node moves_pattern p) ≡ false
+no-moves true p none = law_moves_are_rests_proof p none
+no-moves false p none = refl
+
+off-anyway : (on b : Bool) → b ≡ false → (on && b) ≡ false
+off-anyway true b e = e
+off-anyway false b e = refl
+
+pub finds-itself : (o : EnvOptions) (p : Tree) (a : Option (UnsupportedKind × ℕ)) → (is_some o.es2018.object_rest_spread && any_node is_object_rest p) ≡ false → first_unsupported o p ≡ a → Finds o p a
+finds-itself o p a none first = let on = is_some o.es2018.object_rest_spread in record { moved = p; names = []; moves = moves-itself on p (no-moves on p none); first = first }
+
+-- WHAT IT IS
+
+pub is-moved : (o : EnvOptions) (p q : Tree) (names : List Text) → has_form s-Program p ≡ true → breaks p ≡ [] → Moves (is_some o.es2018.object_rest_spread) p q names → IsMoved (is_some o.es2018.object_rest_spread) p q names
+is-moved o p q names form right m = at (is_some o.es2018.object_rest_spread) refl
+  where
+    at : (b : Bool) → is_some o.es2018.object_rest_spread ≡ b → IsMoved (is_some o.es2018.object_rest_spread) p q names
+    at true e = subst (λ (b : Bool). IsMoved b p q names) (sym e) (law_moved_proof o p q names form right e (m.goes e))
+    at false e =
+        let same = m.stays e in
+        subst (λ (t : Tree). IsMoved (is_some o.es2018.object_rest_spread) p t names) (sym same.0) (subst (λ (xs : List Text). IsMoved (is_some o.es2018.object_rest_spread) p p xs) (sym same.1) (law_unmoved_proof (is_some o.es2018.object_rest_spread) p form right))
+
+pub moved-size : (on : Bool) (p q : Tree) (names : List Text) → Moves on p q names → 2 * tree_size q ≤ 7 * tree_size p
+moved-size true p q names m = let size = law_moved_size_proof p (plainly names) (λ n t. refl) in rw (m.goes refl).tree size
+moved-size false p q names m = rw (m.stays refl).0 (omega arith)
+
+-- WHAT A SOURCE BECOMES
+
+module _ (o : EnvOptions) (p q written : Tree) (names later : List Text) (form : has_form s-Program p ≡ true) (right : breaks p ≡ []) (m : Moves (is_some o.es2018.object_rest_spread) p q names) (in_place : LowersInPlace o q written later) where
+  core-there : IsCoreProgram p → IsCoreResult o p written (names ++ later)
+  core-there core =
+      let on = is_some o.es2018.object_rest_spread in
+      let same = stays-itself on p (no-moves on p (off-anyway on (any_node is_object_rest p) (core-none p core.core))) q names m in
+      subst (λ (xs : List Text). IsCoreResult o p written (xs ++ later)) (sym same.1) (subst (λ (t : Tree). IsCoreResult o t written later) same.0 (in_place.core (subst (λ (t : Tree). IsCoreProgram t) (sym same.0) core)))
+
+  statements-there : rests_there o p ≡ false → RunsAsStatements o p → RunAlike (supply_there o p) (assumes_no_all o p) p written
+  statements-there none runs =
+      let on = is_some o.es2018.object_rest_spread in
+      let same = stays-itself on p (no-moves on p none) q names m in
+      subst (λ (t : Tree). RunAlike (supply_there o t) (assumes_no_all o t) t written) same.0 (in_place.statements (ap (rests_there o) same.0 ∙ none) (subst (λ (t : Tree). RunsAsStatements o t) (sym same.0) runs))
+
+  sized : tree_size written ≤ (if rests_there o p then 1344 else 64) * tree_size p + 64
+  sized = at (rests_there o p) refl
+    where
+      most : (b : Bool) → tree_size written ≤ (if b then 384 else 64) * tree_size q + 64 → tree_size written ≤ 384 * tree_size q + 64
+      most true h = h
+      most false h = omega (arith, h)
+
+      at : (b : Bool) → rests_there o p ≡ b → tree_size written ≤ (if b then 1344 else 64) * tree_size p + 64
+      at true e =
+          let h = most (rests_there o q) in_place.size in
+          let s = moved-size (is_some o.es2018.object_rest_spread) p q names m in
+          omega (arith, h, s)
+      at false e =
+          let on = is_some o.es2018.object_rest_spread in
+          let same : q ≡ p = (stays-itself on p (no-moves on p e) q names m).0 in
+          subst (λ (n : ℕ). tree_size written ≤ n * tree_size p + 64) (ap (λ b. if b then 384 else 64) (ap (rests_there o) same ∙ e)) (subst (λ (t : Tree). tree_size written ≤ (if rests_there o q then 384 else 64) * tree_size t + 64) same in_place.size)
+
+  pub lowers : has_enabled_construct o p ≡ true → Lowers o p written (names ++ later)
+  lowers some = record {
+    moved = q;
+    first_names = names;
+    moves = m;
+    is_moved = is-moved o p q names form right m;
+    later_names = later;
+    in_place = in_place;
+    all_names = refl;
+    core = core-there;
+    statements = statements-there;
+    unchanged = λ unasked. absurd (true≢false (sym some ∙ unasked));
+    size = sized;
+  }
+
+-- A program in which no construct stands that the options ask to lower becomes itself.
+pub becomes-itself : (o : EnvOptions) (p : Tree) → has_form s-Program p ≡ true → breaks p ≡ [] → (is_some o.es2018.object_rest_spread && any_node is_object_rest p) ≡ false → LowersInPlace o p p [] → Lowers o p p []
+becomes-itself o p form right none in_place =
+    let on = is_some o.es2018.object_rest_spread in
+    let m = moves-itself on p (no-moves on p none) in
+    record {
+      moved = p;
+      first_names = [];
+      moves = m;
+      is_moved = is-moved o p p [] form right m;
+      later_names = [];
+      in_place = in_place;
+      all_names = refl;
+      core = in_place.core;
+      statements = in_place.statements;
+      unchanged = λ unasked. record { same = refl; no_names = refl };
+      size = sized o p p p [] [] form right m in_place;
+    }
+
+-- WHY IT IS REFUSED: for what is found in the moved program
+
+pub cause-of : (o : EnvOptions) (p q : Tree) (names : List Text) (error : LowerError) → Moves (is_some o.es2018.object_rest_spread) p q names → IsFirstOrMemory o q error → IsUnsupportedOrMemory o p error
+cause-of o p q names (Unsupported kind id) m h = record { moved = q; names = names; moves = m; first = h }
+cause-of o p q names OutOfMemory m h = tt
+cause-of o p q names _ m h = absurd h
+
+-- names of texts, one list after the other
+pub map-joined : {A B : Type 0} (f : A → B) (xs ys : List A) → map f (xs ++ ys) ≡ map f xs ++ map f ys
+map-joined f [] ys = refl
+map-joined f (x ∷ xs) ys = ap (λ zs. f x ∷ zs) (map-joined f xs ys)
