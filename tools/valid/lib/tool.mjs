@@ -19,16 +19,36 @@ function wordsFor(tree) {
   return [...LOWERINGS, ...hasStrayRest(JSON.parse(tree)) ? [] : SPREAD, ...tree.length % 2 === 0 ? [] : ARROWS];
 }
 
-/** Whether an object pattern with a rest stands where none is lowered (docs/LOWERINGS.md, "Object rest"). */
+/**
+ * Whether an object pattern with a rest stands where none is lowered (docs/LOWERINGS.md, "Object rest"). Of one that may move out of a
+ * parameter or the head of a loop the tool tells itself whether it does.
+ */
 function hasStrayRest(value, isExported = false) {
   if (typeof value !== 'object' || value === null) return false;
   if (Array.isArray(value)) return value.some(item => hasStrayRest(item, isExported));
-  if (value.type === 'VariableDeclarator' && value.init && !isExported && isRestPattern(value.id) && hasPlainKeys(value.id)) {
+  if (value.type === 'VariableDeclarator' && value.init && !isExported && isPlainRest(value.id)) {
     return [...value.id.properties, value.init].some(item => hasStrayRest(item));
+  }
+  if (value.type === 'CatchClause' && value.param && isPlainRest(value.param)) return hasStrayRest([value.param.properties, value.body]);
+  if (['ForInStatement', 'ForOfStatement'].includes(value.type) && value.left.declarations?.every(({ id }) => isPlainRest(id))) {
+    return hasStrayRest([value.left.declarations.map(({ id }) => id.properties), value.right, value.body]);
+  }
+  if (value.params) {
+    return hasStrayRest([value.params.map(withoutRest), value.body]);
   }
   if (isRestPattern(value)) return true;
   const below = value.type === 'ExportNamedDeclaration' || (isExported && value.type === 'VariableDeclaration');
   return Object.values(value).some(item => hasStrayRest(item, below));
+}
+
+/** A parameter, or what stands in its pattern with a rest. */
+function withoutRest(parameter) {
+  if (isPlainRest(parameter)) return parameter.properties;
+  return parameter.type === 'AssignmentPattern' && isPlainRest(parameter.left) ? [parameter.left.properties, parameter.right] : parameter;
+}
+
+function isPlainRest(pattern) {
+  return isRestPattern(pattern) && hasPlainKeys(pattern);
 }
 
 function isRestPattern({ type, properties }) {

@@ -1,0 +1,204 @@
+#!/usr/bin/env node
+// Evaluates random programs with object rests in parameters, catch clauses, heads of loops and declarations before and after the tool lowered
+// them, by node itself: the same properties have to be read in the same order, the same values seen, and the same errors thrown. Names are few,
+// so that patterns, default values, other parameters and bodies meet them. What the tool refuses is counted.
+//   rests.mjs [--seed N] [--count N] [--tool PROGRAM]     so many programs
+import { parseArgs } from 'node:util';
+import '../estree/babel-helpers.cjs';
+import { canonicalText, read } from '../estree/lib/form.mjs';
+import { hasParser } from '../estree/lib/parsers.mjs';
+import { textToTree } from '../estree/lib/texts.mjs';
+import { print } from '../estree/print.mjs';
+import { lowerAll } from './lib/tool.mjs';
+
+const WORDS = ['--rest-spread', '--helpers=external'];
+const NAMES = ['a', 'b', 'c', 'd', 'e', 'g'];
+const { values } = parseArgs({
+  options: { seed: { type: 'string', default: '1' }, count: { type: 'string', default: '300' }, tool: { type: 'string' } },
+});
+let state = Number(values.seed);
+let places = 0;
+/** The names that no pattern or parameter of the program at hand binds yet. */
+let free = [];
+
+if (hasParser) main();
+else console.log('tools/valid: passed over, no parser for trees is installed (Debian: node-acorn)');
+
+function main() {
+  const sources = Array.from({ length: Number(values.count) }, program).filter(isProgram);
+  const runs = lowerAll(sources.map(source => canonicalText(textToTree(source, {}))), { tool: values.tool, words: WORDS });
+  let refused = 0;
+  let differing = 0;
+  let seen = 0;
+  for (const [index, { status, stdout, stderr }] of runs.entries()) {
+    if (status === 1 && stderr.startsWith('lower: unsupported NotBuilt')) {
+      refused += 1;
+      continue;
+    }
+    if (status !== 0) throw new Error(`${sources[index]}\nthe tool ends with ${status}: ${stderr}`);
+    const after = print(read(JSON.parse(stdout)));
+    const [left, right] = [sources[index], after].map(evaluated);
+    seen += left.length;
+    if (left.join() === right.join()) continue;
+    differing += 1;
+    console.log(`${sources[index]}\n  ${left.join(' ')}\n${after}\n  ${right.join(' ')}`);
+  }
+  console.log(`tools/valid: ${runs.length} programs with object rests, ${refused} refused, ${seen} things seen in the others, ${differing} differ`);
+  process.exitCode = differing === 0 ? 0 : 1;
+}
+
+function below(limit) {
+  state = (Math.imul(state, 1103515245) + 12345) >>> 0;
+  return (state >>> 8) % limit;
+}
+
+function place() {
+  places += 1;
+  return places;
+}
+
+function pick(list) {
+  return list[below(list.length)];
+}
+
+/** Some of these programs break a static rule, as a name that is declared twice. */
+function isProgram(source) {
+  try {
+    return Boolean(new Function(source));
+  } catch {
+    return false;
+  }
+}
+
+/** A name to bind, which no other binds as long as there are some. */
+function bound() {
+  if (free.length === 0) return pick(NAMES);
+  return free.splice(below(free.length), 1)[0];
+}
+
+function program() {
+  free = [...NAMES];
+  const made = pick([inFunction, inFunction, inFunction, inCatch, inLoop, inDeclaration])();
+  return `${below(4) === 0 ? '"use strict"; ' : ''}${made}`;
+}
+
+function inFunction() {
+  const rest = below(4) === 0 ? [`...${bound()}`] : [];
+  const parameters = [...Array.from({ length: 1 + below(3) }, parameter), ...rest].join(', ');
+  const handed = Array.from({ length: below(4) }, () => pick([`source(${place()})`, `source(${place()})`, `source(${place()})`, 'undefined', 'null'])).join(', ');
+  const made = pick([
+    () => `function f(${parameters}) { ${body()} } f(${handed});`,
+    () => `(function (${parameters}) { ${body()} })(${handed});`,
+    () => `((${parameters}) => { ${body()} })(${handed});`,
+    () => `((${parameters}) => ${tells()})(${handed});`,
+    () => `((${parameters}) => ${tells()})(${handed});`,
+    () => `({ m(${parameters}) { ${body()} } }).m(${handed});`,
+    () => `new (class { constructor(${parameters}) { ${body()} } })(${handed});`,
+  ]);
+  return made();
+}
+
+function inCatch() {
+  return `try { throw source(${place()}); } catch (${pattern()}) { ${body()} } ${tells()};`;
+}
+
+function inLoop() {
+  const head = `${pick(['const', 'let', 'var'])} ${pattern()}`;
+  const loop = pick([
+    () => `for (${head} of [source(${place()}), ${value()}, source(${place()})]) { ${body()} }`,
+    () => `for (${head} in { x: ${value()}, yz: 1 }) ${tells()};`,
+  ]);
+  return `${loop()} ${tells()};`;
+}
+
+function inDeclaration() {
+  return `${pick(['const', 'let', 'var'])} ${pattern()} = ${value()}, ${pattern()} = source(${place()}); ${body()}`;
+}
+
+function parameter() {
+  const made = pick([
+    bound,
+    () => `${bound()} = ${value()}`,
+    () => `{ ${property()} }`,
+    pattern,
+    pattern,
+    pattern,
+    () => `${pattern()} = ${value()}`,
+  ]);
+  return made();
+}
+
+function pattern() {
+  return `{ ${[...Array.from({ length: below(3) }, property), `...${bound()}`].join(', ')} }`;
+}
+
+function property() {
+  const name = bound();
+  return pick([name, `${name} = ${value()}`, `p${below(3)}: ${name}`, `"p${below(3)}": ${name} = ${value()}`]);
+}
+
+function value() {
+  return pick([`source(${place()})`, `told(${place()})`, pick(NAMES), `() => ${pick(NAMES)}`, `{ a: told(${place()}), p1: ${pick(NAMES)} }`]
+    .map(text => (text.startsWith('{') || text.startsWith('()') ? `(${text})` : text)));
+}
+
+/** Tells what the names are. */
+function tells() {
+  return `see(${place()}, [${NAMES.map(name => `() => ${name}`).join(', ')}])`;
+}
+
+function body() {
+  const name = pick(NAMES);
+  const declared = pick([
+    '', '', '',
+    `var ${name} = told(${place()});`,
+    `let ${name} = told(${place()});`,
+    `{ let ${name} = told(${place()}); }`,
+    `{ function ${name}() {} }`,
+    `if (told(${place()})) { var ${name}; }`,
+    `function ${name}() {}`,
+    `${name} = told(${place()});`,
+  ]);
+  return pick([`${declared} ${tells()};`, `${tells()}; ${declared} ${tells()};`]);
+}
+
+/** What is read, called and seen as the text runs, and how it ends. The names are those of the function around it, where it has no other. */
+function evaluated(text) {
+  const log = [];
+  const symbol = Symbol('symbol');
+  const told = number => { log.push(`told ${number}`); return number; };
+  const source = number => {
+    const made = {};
+    const keys = ['a', 'p0', 'b', 'p1', 'c', symbol, 'g', '0'].filter((_, index) => (number >> index % 4) % 2 === 0 || index > 5);
+    for (const key of keys) {
+      Object.defineProperty(made, key, { enumerable: key !== 'g', get: () => { log.push(`get ${String(key)} of ${number}`); return `${String(key)}${number}`; } });
+    }
+    return made;
+  };
+  const see = (number, names) => { log.push(`${number}:${names.map(name => described(name, 2)).join(';')}`); };
+  const host = { told, source, see };
+  try {
+    const outer = JSON.stringify(NAMES.map(name => `outer ${name}`));
+    new Function(...Object.keys(host), `let [${NAMES.join(', ')}] = ${outer}; (function () { ${text} })();`)(...Object.values(host));
+  } catch (error) {
+    log.push(`throws ${error.constructor.name}`);
+  }
+  return log;
+}
+
+/** What a function gives, or the value itself; of an object its own properties, read as they stand. */
+function described(value, depth) {
+  if (typeof value === 'function' && depth > 0) {
+    try {
+      return `gives ${described(value(), depth - 1)}`;
+    } catch (error) {
+      return `throws ${error.constructor.name}`;
+    }
+  }
+  if (typeof value === 'function') return 'a function';
+  if (typeof value !== 'object' || value === null) return String(value);
+  return `{${Reflect.ownKeys(value).map(key => {
+    const { value: held, get, enumerable } = Object.getOwnPropertyDescriptor(value, key);
+    return `${String(key)}${enumerable ? '' : '!'}=${get ? 'getter' : described(held, 0)}`;
+  }).join()}}`;
+}
