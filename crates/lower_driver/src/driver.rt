@@ -1,5 +1,5 @@
-//! One run: a program is read, checked, visited once by the lowerings that its options ask for, walked for its arrows
-//! and for its object rests, and written.
+//! One run: a program is read and checked, patterns with an object rest move to declarations, it is visited once by the
+//! lowerings that its options ask for, walked for its arrows and for its object rests, and written.
 ghost use Rattle.std.specs.Prelude.{◌≡◌, ◌<◌, ◌∷◌, ◌^◌, [], IfErr, IfOk, None, false, map, string_bytes, true};
 ghost use Rattle.serde_json.specs.View.{view};
 ghost use Rattle.es_tree.specs.Constructs.{has_enabled_construct};
@@ -66,21 +66,23 @@ pub struct Lowered {
 }
 
 /// Lowers the program that the value is the form of, as the options ask: its logical assignments, `??`, optional chains,
-/// catch clauses without a parameter, exports of namespaces, spreads in object literals, object rests that are declared,
-/// exponentiations and arrow functions, in programs of every kind. A program in which no construct stands that they ask
-/// to lower comes back as it is. Where they ask for warnings, of BigInt literals (ECMA-262, 12.9.3) or of strings that
-/// name imports and exports (16.2), it answers one for each of these in the source.
+/// catch clauses without a parameter, exports of namespaces, spreads in object literals, object rests in declarations,
+/// parameters, catch clauses and heads of loops, exponentiations and arrow functions, in programs of every kind. A
+/// program in which no construct stands that they ask to lower comes back as it is. Where they ask for warnings, of
+/// BigInt literals (ECMA-262, 12.9.3) or of strings that name imports and exports (16.2), it answers one for each of
+/// these in the source.
 ///
 /// Fails for the first of these causes that holds: `Option` where the options ask for what isn't done; `TooLarge`,
 /// `TooDeep` and `Shape` as `read_program` has them; `Invalid` as `check_static` has it; `Unsupported` at the first node
-/// that the lowerings asked for don't take:
+/// that the lowerings asked for don't take, of the program whose patterns moved, in which what is made for a pattern
+/// has the pattern's id:
 ///
 /// - `NotBuilt`, a construct that no lowering takes away yet: a declaration by `using`, what holds an object rest where
 ///   none is lowered, a spread or an object rest whose helper has to be imported, or a `this` in an arrow of a
 ///   constructor whose class extends another;
 /// - `MathBound`, an exponentiation where `Math` is bound;
-/// - `HelperName`, an object literal with a spread where `babelHelpers` is bound, or a declaration of an object rest in
-///   a program that binds it anywhere;
+/// - `HelperName`, an object literal with a spread where `babelHelpers` is bound, or a declaration of an object rest, or
+///   a pattern with one that moves to a declaration, in a program that binds it anywhere;
 /// - `SpreadLiteral`, an object literal with a spread whose properties can't be copied one by one;
 /// - `TagChain`, a template whose tag is an optional chain;
 /// - `ArrowOuter` and `ArrowThis`, what belongs to what is around an arrow, or around a value that is put into one, and
