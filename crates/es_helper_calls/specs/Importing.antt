@@ -1,0 +1,46 @@
+-- Whether a program has to import helpers, and why it can't.
+use Rattle.std.specs.Prelude.{ℕ, [], ◌∷◌, Bool, ◌&&◌, ◌||◌, not, Option, None, is_some, bytes_eq, codes, option_map, if◌then◌else◌}
+use Rattle.std.specs.Option.{option_or}
+use Rattle.es_tree.specs.Constructs.{is_object_spread}
+use Rattle.es_tree.specs.Names.{first_text}
+use Rattle.es_tree.specs.Options.{is_external}
+use Rattle.es_tree.specs.Tree.{Tree, Label, Fields, label_of}
+use Rattle.es_tree.specs.Walks.{any_node, first_node}
+use Rattle.es_tree.specs.declared.ast_type.AstType.{AstType}
+use Rattle.es_tree.specs.declared.error.UnsupportedKind.{UnsupportedKind}
+use Rattle.es_tree.specs.declared.error.UnsupportedKind.TheVariants.{HelperName}
+use Rattle.es_tree.specs.declared.options.EnvOptions.{EnvOptions}
+use Rattle.es_semantic.specs.SymbolsOf.{find, symbols_of}
+use Rattle.es_rest_shapes.specs.RestShapes.{is_rest_declaration}
+use Rattle.es_helper_calls.specs.HelperCalls.{called_helper}
+
+-- a node for which a helper copies: an object literal with a spread (ECMA-262, 13.2.5), or a declaration of an object rest (14.3.3)
+abbrev pub needs_helper : AstType → Label → Fields → Bool
+needs_helper k l fs = is_object_spread k l fs || is_rest_declaration k l fs
+
+-- whether one stands that is to be lowered, and helpers are imported
+abbrev pub imports_helpers : EnvOptions → Tree → Bool
+imports_helpers o p = is_some o.es2018.object_rest_spread && not (is_external o.helper_loader.mode) && any_node needs_helper p
+
+-- whether a program is a module (16.2)
+abbrev pub is_module : Tree → Bool
+is_module p = bytes_eq (first_text (label_of p).texts) (codes "module")
+
+-- a script whose own scope binds `require`, by which it would import them
+abbrev pub binds_require : Tree → Bool
+binds_require p = not (is_module p) && is_some (find (symbols_of p) (0 ∷ []) (codes "require"))
+
+-- a call of a helper
+abbrev pub calls_helper : AstType → Label → Fields → Bool
+calls_helper k l fs = is_some (called_helper k l fs)
+
+-- The first node at which a program can't import helpers: one for which a helper copies, where a script binds `require`, or else the first call
+-- of a helper that the source itself makes.
+abbrev pub unimported_where : Bool → Tree → Option ℕ
+unimported_where bound p = option_or (if bound then first_node needs_helper p else None) (first_node calls_helper p)
+
+abbrev pub unimported : EnvOptions → Tree → Option ℕ
+unimported o p = if imports_helpers o p then unimported_where (binds_require p) p else None
+
+abbrev pub first_unimported : EnvOptions → Tree → Option (UnsupportedKind × ℕ)
+first_unimported o p = option_map (λ n. (HelperName, n)) (unimported o p)

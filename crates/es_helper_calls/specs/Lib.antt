@@ -1,0 +1,4 @@
+pub mod HelperCalls
+pub mod CallRows
+pub mod Importing
+pub mod Laws
