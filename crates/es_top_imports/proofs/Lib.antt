@@ -1,0 +1,9 @@
+pub mod TopKept
+pub mod TopRules
+pub mod TopForms
+pub mod TopPlaces
+pub mod TopNames
+pub mod TopStatic
+pub mod TopSteps
+pub mod TopReached
+pub mod ImportsMore

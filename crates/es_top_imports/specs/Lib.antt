@@ -1,0 +1,2 @@
+pub mod TopImports
+pub mod Laws
