@@ -1,0 +1,206 @@
+-- The law that a program which imports its helpers has at most twelve nodes more: at most two helpers are called, and a statement that imports one has
+-- at most six nodes.
+use Rattle.std.proofs.Common.{◌≡◌, ℕ, ◌+◌, ◌*◌, ◌≤◌, refl, sym, ap, ◌∙◌, List, [], ◌∷◌, ◌++◌, length, length-append, arith}
+use Rattle.std.specs.Prelude.{Bool, true, false, ◌&&◌, ◌||◌, Option, Some, None, bytes_eq, codes, map, if◌then◌else◌}
+use Rattle.std.specs.List.{list_any}
+use Rattle.std.proofs.lemmas.List.Folds.{list_any-append}
+use Rattle.es_tree.specs.Helpers.{helper_text}
+use Rattle.es_tree.specs.Names.{first_text, flag_at}
+use Rattle.es_tree.specs.Tree.{Tree, node, Label, Fields, done, ◌then◌, Field, missing, one, many, statements, Trees, empty, ◌before◌, trees, tree_size, fields_size, field_size, trees_size}
+use Rattle.es_tree.specs.Words.{Text}
+use Rattle.es_tree.specs.declared.ast_type.AstType.{AstType}
+use Rattle.es_tree.specs.declared.ast_type.AstType.TheVariants.{CallExpression, Identifier, MemberExpression}
+use Rattle.es_tree.specs.declared.helper.Helper.{Helper}
+use Rattle.es_tree.specs.declared.helper.Helper.TheVariants.{ObjectSpread2, ObjectWithoutProperties}
+use Rattle.es_resolution.specs.Declarations.{Bound}
+use Rattle.es_runs.proofs.Weights.{tree_size-bare}
+use Rattle.es_steps.specs.Nodes.{joined_trees}
+use Rattle.es_steps.specs.Open.{after_imports, is_import}
+use Rattle.es_helper_calls.specs.HelperCalls.{bound_of, called_helper, calling_here, helper_of, helpers_among, helpers_called, helpers_in, helpers_in_field, helpers_in_fields, is_called, is_dotted, is_helper, named_helper, noted, own_helper}
+use Rattle.es_helper_calls.specs.Importing.{is_module}
+use Rattle.es_helper_calls.proofs.CallNodes.{named, now, now_among, now_by, now_in}
+use Rattle.es_top_imports.specs.TopImports.{Import, top_of, with_top}
+use Rattle.es_helper_imports.specs.Imported.{imported_as, imports_of, unmarked}
+use Rattle.es_helper_imports.specs.Laws.{LawImportedSize}
+
+-- WHERE HELPERS ARE CALLED BY NAMES a tree has no more nodes
+
+module _ (c : Helper → Bound) where
+  size-here : (h : Option Helper) (fs : Fields) → fields_size (calling_here (named c) h fs) ≤ fields_size fs
+  size-here None fs = omega arith
+  size-here (Some h) (one (node k l gs) then fs) = omega arith
+  size-here (Some h) _ = omega arith
+
+  mutual
+    size-now : (t : Tree) → tree_size (now c t) ≤ tree_size t
+    size-now (node k l fs) = let here = size-here (called_helper k l fs) (now_in c fs) in let inner = size-now-in fs in omega arith
+
+    size-now-in : (fs : Fields) → fields_size (now_in c fs) ≤ fields_size fs
+    size-now-in done = omega arith
+    size-now-in (f then fs) = let first = size-now-by f in let rest = size-now-in fs in omega arith
+
+    size-now-by : (f : Field) → field_size (now_by c f) ≤ field_size f
+    size-now-by missing = omega arith
+    size-now-by (one t) = size-now t
+    size-now-by (many ts) = size-now-among ts
+    size-now-by (statements ts) = size-now-among ts
+
+    size-now-among : (ts : Trees) → trees_size (now_among c ts) ≤ trees_size ts
+    size-now-among empty = omega arith
+    size-now-among (t before ts) = let first = size-now t in let rest = size-now-among ts in omega arith
+
+-- WHAT IS IMPORTED
+
+size-made : (b : Bool) (m : Import) → tree_size (top_of b m) ≤ 6
+size-made true m = omega arith
+size-made false m = omega arith
+
+size-imported : (b : Bool) (ms : List Import) → trees_size (trees (map (top_of b) ms)) ≤ 6 * length ms
+size-imported b [] = omega arith
+size-imported b (m ∷ ms) = let first = size-made b m in let rest = size-imported b ms in omega arith
+
+-- behind the imports of a list
+
+size-joined : (xs ts : Trees) → trees_size (joined_trees xs ts) ≡ trees_size xs + trees_size ts
+size-joined empty ts = omega arith
+size-joined (x before xs) ts = let rest = size-joined xs ts in omega arith
+
+size-after : (xs ts : Trees) → trees_size (after_imports xs ts) ≡ trees_size xs + trees_size ts
+size-after xs empty = omega arith
+size-after xs (t before ts) = at (is_import t) (size-after xs ts)
+  where
+    at : (v : Bool) → trees_size (after_imports xs ts) ≡ trees_size xs + trees_size ts → trees_size (if v then t before after_imports xs ts else joined_trees xs (t before ts)) ≡ trees_size xs + (tree_size t + trees_size ts)
+    at true rest = omega arith
+    at false rest = size-joined xs (t before ts)
+
+size-top : (xs : Trees) (t : Tree) → tree_size (with_top xs t) ≤ tree_size t + trees_size xs
+size-top xs (node k l (f then (statements ts then fs))) = let more = size-after xs ts in omega arith
+size-top xs _ = omega arith
+
+size-of-imports : (m : Text) (hs : List Helper) (bs : List Bound) → length (imports_of m hs bs) ≤ length hs
+size-of-imports m [] bs = omega arith
+size-of-imports m (h ∷ hs) [] = omega arith
+size-of-imports m (h ∷ hs) (b ∷ bs) = let rest = size-of-imports m hs bs in omega arith
+
+-- HOW MANY HELPERS a program calls
+
+-- one of the two
+data IsMade : Helper → Type 0 where
+  spreads : IsMade ObjectSpread2
+  leaves_out : IsMade ObjectWithoutProperties
+
+abbrev MayBeMade : Option Helper → Type 0
+MayBeMade None = Unit {0}
+MayBeMade (Some h) = IsMade h
+
+abbrev AreMade : List Helper → Type 0
+AreMade [] = Unit {0}
+AreMade (h ∷ hs) = IsMade h × AreMade hs
+
+either-made : (b : Bool) (g h : Option Helper) → MayBeMade g → MayBeMade h → MayBeMade (if b then g else h)
+either-made true g h a b = a
+either-made false g h a b = b
+
+named-made : (x : Text) → MayBeMade (named_helper x)
+named-made x =
+    either-made (bytes_eq (helper_text ObjectSpread2) x) (Some ObjectSpread2) _ spreads (either-made (bytes_eq (helper_text ObjectWithoutProperties) x) (Some ObjectWithoutProperties) None leaves_out tt)
+
+callee-made : (f : Tree) → MayBeMade (helper_of f)
+callee-made (node MemberExpression l (one o then (one (node Identifier m fs) then done))) = either-made (is_dotted l && is_called (codes "babelHelpers") o) (named_helper (first_text m.texts)) None (named-made (first_text m.texts)) tt
+callee-made _ = tt
+
+called-made : (k : AstType) (l : Label) (fs : Fields) → MayBeMade (called_helper k l fs)
+called-made CallExpression l (one f then fs) = either-made (flag_at 0 l.flags) None (helper_of f) tt (callee-made f)
+called-made _ l fs = tt
+
+own-made : (h : Option Helper) → MayBeMade h → AreMade (own_helper h)
+own-made None a = tt
+own-made (Some h) a = (a, tt)
+
+both-made : (gs hs : List Helper) → AreMade gs → AreMade hs → AreMade (gs ++ hs)
+both-made [] hs a b = b
+both-made (g ∷ gs) hs a b = (a.0, both-made gs hs a.1 b)
+
+mutual
+  all-made : (t : Tree) → AreMade (helpers_in t)
+  all-made (node k l fs) = both-made (helpers_in_fields fs) (own_helper (called_helper k l fs)) (all-made-in fs) (own-made (called_helper k l fs) (called-made k l fs))
+
+  all-made-in : (fs : Fields) → AreMade (helpers_in_fields fs)
+  all-made-in done = tt
+  all-made-in (f then fs) = both-made (helpers_in_field f) (helpers_in_fields fs) (all-made-by f) (all-made-in fs)
+
+  all-made-by : (f : Field) → AreMade (helpers_in_field f)
+  all-made-by missing = tt
+  all-made-by (one t) = all-made t
+  all-made-by (many ts) = all-made-among ts
+  all-made-by (statements ts) = all-made-among ts
+
+  all-made-among : (ts : Trees) → AreMade (helpers_among ts)
+  all-made-among empty = tt
+  all-made-among (t before ts) = both-made (helpers_in t) (helpers_among ts) (all-made t) (all-made-among ts)
+
+-- whether a helper is known, and as how many it counts if it isn't
+abbrev knows : List Helper → Helper → Bool
+knows known h = list_any (λ g. is_helper g h) known
+
+abbrev counted : Bool → ℕ
+counted b = if b then 0 else 1
+
+-- how many of the two aren't known
+abbrev unknown : List Helper → ℕ
+unknown known = counted (knows known ObjectSpread2) + counted (knows known ObjectWithoutProperties)
+
+-- with one helper more, each is known that was
+fewer-counted : (b c : Bool) → counted (b || c) ≤ counted b
+fewer-counted true c = omega arith
+fewer-counted false true = omega arith
+fewer-counted false false = omega arith
+
+knows-append : (known : List Helper) (g h : Helper) → knows (known ++ g ∷ []) h ≡ (knows known h || (is_helper g h || false))
+knows-append known g h = list_any-append (λ g. is_helper g h) known (g ∷ [])
+
+no-more : (known : List Helper) (g h : Helper) → counted (knows (known ++ g ∷ []) h) ≤ counted (knows known h)
+no-more known g h = rw (knows-append known g h) (fewer-counted (knows known h) (is_helper g h || false))
+
+-- and that one is, too
+now-known : (known : List Helper) (h : Helper) → is_helper h h ≡ true → knows known h ≡ false → counted (knows (known ++ h ∷ []) h) + 1 ≡ counted (knows known h)
+now-known known h e d = rw (knows-append known h h) (rw d (rw e (omega arith)))
+
+one-fewer : (known : List Helper) (h : Helper) → IsMade h → knows known h ≡ false → unknown (known ++ h ∷ []) + 1 ≤ unknown known
+one-fewer known h spreads d =
+    let a = now-known known ObjectSpread2 refl d in
+    let b = no-more known ObjectSpread2 ObjectWithoutProperties in
+    omega arith
+one-fewer known h leaves_out d =
+    let a = now-known known ObjectWithoutProperties refl d in
+    let b = no-more known ObjectWithoutProperties ObjectSpread2 in
+    omega arith
+
+at-most-two : (known hs : List Helper) → AreMade hs → length known + unknown known ≤ 2 → length (noted known hs) ≤ 2
+at-most-two known [] m e = omega arith
+at-most-two known (h ∷ hs) m e = at (knows known h) refl (λ more. at-most-two more hs m.1)
+  where
+    at : (b : Bool) → knows known h ≡ b → ((more : List Helper) → length more + unknown more ≤ 2 → length (noted more hs) ≤ 2) → length (noted (if b then known else known ++ h ∷ []) hs) ≤ 2
+    at true d rest = rest known e
+    at false d rest =
+        let fewer = one-fewer known h m.0 d in
+        let longer = length-append known (h ∷ []) in
+        rest (known ++ h ∷ []) (omega arith)
+
+pub two-called : (p : Tree) → length (helpers_called p) ≤ 2
+two-called p = at-most-two [] (helpers_in p) (all-made p) (omega arith)
+
+-- THE LAW
+
+pub law_imported_size_proof : LawImportedSize
+law_imported_size_proof in_use m p q names to =
+    let hs = helpers_called p in
+    let bs = unmarked names in
+    let ms = imports_of m hs bs in
+    let same = sym (tree_size-bare q) ∙ ap tree_size to.written ∙ tree_size-bare (imported_as m hs bs p) in
+    let calls = size-now (bound_of hs bs) p in
+    let top = size-top (trees (map (top_of (is_module p)) ms)) (now (bound_of hs bs) p) in
+    let more = size-imported (is_module p) ms in
+    let shorter = size-of-imports m hs bs in
+    let two = two-called p in
+    omega arith
