@@ -1,0 +1,7 @@
+pub mod BareLists
+pub mod DeclaredSymbols
+pub mod RequireFree
+pub mod RootRules
+pub mod RootSteps
+pub mod SameSort
+pub mod SourceList
