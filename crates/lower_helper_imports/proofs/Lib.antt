@@ -1,0 +1,10 @@
+pub mod Helpers
+pub mod CalledNodes
+pub mod Noting
+pub mod Walked
+pub mod FreshNames
+pub mod ImportPlaces
+pub mod PutStatements
+pub mod OpenedProgram
+pub mod BareImports
+pub mod FirstFound

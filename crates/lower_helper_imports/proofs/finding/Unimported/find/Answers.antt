@@ -1,0 +1,19 @@
+use Rattle.std.proofs.Common.{◌∙◌, ◌&&◌, ap, false, sym, true}
+use Rattle.std.specs.Prelude.{not}
+use Rattle.lower_helper_imports.proofs.FirstFound.{found-node, module-free, require-bound}
+use Rattle.lower_helper_imports.proofs.finding.Unimported.find.Goals.{else-not-self-via-then-not-self+else-is_some, else-not-self-via-else-not-self}
+use Rattle.lower_helper_imports.proofs.finding.Unimported.find.Goals as goal
+
+pub returns-then-is_some : goal.returns-then-is_some
+returns-then-is_some c o p tells table =
+    let is = require-bound p c.args.scoping.now c.args.self.is_module c.root_scope_id.result.0 c.get_binding.result table tells.sort c.root_scope_id.ensures.zero c.get_binding.ensures.binding in
+    found-node o p true _ tells.bound ((λ i. sym c.if-not-self.true i && sym (sym c.is_some.ensures ∙ c.if-is_some.true) i) ∙ is)
+
+pub returns-else-not-self : goal.returns-else-not-self
+returns-else-not-self c o p tells table =
+    elim c.else-not-self.branch [
+      | else-not-self-via-then-not-self+else-is_some w ↦
+          let is = require-bound p c.args.scoping.now c.args.self.is_module w.root_scope_id.result.0 w.get_binding.result table tells.sort w.root_scope_id.ensures.zero w.get_binding.ensures.binding in
+          found-node o p false _ tells.unbound ((λ i. sym w.if-not-self.true i && sym (sym w.is_some.ensures ∙ w.if-is_some.false) i) ∙ is)
+      | else-not-self-via-else-not-self w ↦ found-node o p false _ tells.unbound (module-free p (ap not (sym tells.sort) ∙ w.if-not-self.false))
+    ]
