@@ -3,10 +3,9 @@
 use Rattle.std.proofs.Common.{◌≡◌, ℕ, zero, suc, ◌+◌, refl, sym, ap, subst, ◌∙◌, List, [], ◌∷◌}
 use Rattle.std.specs.Prelude.{Bool, true, false, not, ◌&&◌, ◌||◌, Option, Some, None, bytes_eq, is_some, codes, if◌then◌else◌}
 use Rattle.std.proofs.lemmas.Bool.{and_from, and_parts, true≢false}
-use Rattle.es_tree.specs.Constructs.{any_kind, field_at, has_member, is_big_int, is_child, is_exponentiation, is_object_spread, is_spread, is_using}
+use Rattle.es_tree.specs.Constructs.{any_kind, field_at, has_member, is_big_int, is_child, is_exponentiation, is_object_spread, is_spread}
 use Rattle.es_tree.specs.HasForm.{has_form}
 use Rattle.es_tree.specs.Names.{first_text}
-use Rattle.es_tree.specs.Options.{is_external}
 use Rattle.es_tree.specs.Tree.{Tree, node, Label, Fields, done, ◌then◌, Field, missing, one, many, statements, Trees, empty, ◌before◌, kind_of}
 use Rattle.es_tree.specs.Walks.{any_node}
 use Rattle.es_tree.specs.Words.{Text}
@@ -38,9 +37,9 @@ use Rattle.es_conditions.specs.CoreConditions.{body_site, each_passes, each_pass
 use Rattle.es_conditions.proofs.Inward.{is-known}
 use Rattle.es_conditions.proofs.Marks.{none-where}
 use Rattle.es_rest_shapes.specs.HelperNames.{binds_helpers}
-use Rattle.es_rest_shapes.specs.RestShapes.{is_rest_declaration, is_stray_rest}
+use Rattle.es_rest_shapes.specs.RestShapes.{is_rest_declaration}
 use Rattle.es_unsupported.specs.FirstUnsupported.{first_among, first_unsupported, found_at}
-use Rattle.es_unsupported.specs.Shapes.{is_helper_bound, is_math_bound, is_unbuilt, needs_helper, shape_at}
+use Rattle.es_unsupported.specs.Shapes.{is_helper_bound, is_math_bound, is_unbuilt, shape_at}
 use Rattle.es_unsupported.proofs.Firsts.{left_none, right_none}
 use Rattle.es_unsupported.proofs.Taken.{each-none, none_found, taken-shapes}
 use Rattle.es_starts.specs.Starts.{LawFirstConditions}
@@ -153,9 +152,6 @@ no-later-row : {X : Type 0} (b : Bool) (x : X) (y : Option X) → (if b then Som
 no-later-row true x y e = absurd (cc e)
 no-later-row false x y e = e
 
-is-built : (o : EnvOptions) (F : List Declared) (up : List ℕ) (k : AstType) (l : Label) (fs : Fields) → shape_at o F up k l fs ≡ None → is_unbuilt o F up k l fs ≡ false
-is-built o F up k l fs h = no-row (is_unbuilt o F up k l fs) _ _ h
-
 first-unbound : (o : EnvOptions) (F : List Declared) (up : List ℕ) (k : AstType) (l : Label) (fs : Fields) → shape_at o F up k l fs ≡ None → is_math_bound o F up k l fs ≡ false
 first-unbound o F up k l fs h = no-row (is_math_bound o F up k l fs) _ _ (no-later-row (is_unbuilt o F up k l fs) _ _ h)
 
@@ -174,30 +170,12 @@ none-asked : (asked bound : Bool) → (not (asked && false) || bound) ≡ true
 none-asked true bound = refl
 none-asked false bound = refl
 
--- where an object literal with a spread is lowered, its helper is a property of `babelHelpers`, since no other is built
-asked-by-name : (asked external is bound : Bool) → (asked && not external && is) ≡ false → (asked && external && is && bound) ≡ false → (asked && is && bound) ≡ false
-asked-by-name false external is bound built e = refl
-asked-by-name true true is bound built e = e
-asked-by-name true false is bound built e = ap (λ b. b && bound) built
-
--- a spread is one of those that need a helper
-spread-built : (asked external spread declared : Bool) → (asked && not external && (spread || declared)) ≡ false → (asked && not external && spread) ≡ false
-spread-built true false false declared e = refl
-spread-built true false true declared e = absurd (cc e)
-spread-built true true spread declared e = refl
-spread-built false external spread declared e = refl
-
-spread-unbound : (asked external spread bound declared binds : Bool) → (asked && external && ((spread && bound) || (declared && binds))) ≡ false → (asked && external && spread && bound) ≡ false
-spread-unbound true true true true declared binds e = absurd (cc e)
-spread-unbound true true true false declared binds e = refl
-spread-unbound true true false bound declared binds e = refl
-spread-unbound true false spread bound declared binds e = refl
-spread-unbound false external spread bound declared binds e = refl
-
-second-of-three : (a b c : Bool) → (a || b || c) ≡ false → b ≡ false
-second-of-three a false c e = refl
-second-of-three true true c e = absurd (cc e)
-second-of-three false true c e = absurd (cc e)
+-- where an object literal with a spread is lowered, `babelHelpers` finds nothing
+spread-unbound : (asked spread bound declared binds : Bool) → (asked && ((spread && bound) || (declared && binds))) ≡ false → (asked && spread && bound) ≡ false
+spread-unbound true true true declared binds e = absurd (cc e)
+spread-unbound true true false declared binds e = refl
+spread-unbound true false bound declared binds e = refl
+spread-unbound false spread bound declared binds e = refl
 
 abbrev is_unbound_where : Bool → Option ℕ → Bool
 is_unbound_where asked found = not asked || not (is_some found)
@@ -217,11 +195,8 @@ module _ (o : EnvOptions) (F : List Declared) where
       let power = (λ i. is_unbound_where (o.es2016.exponentiation_operator && power-kept F ps next k l marks fs i) (look (codes "Math") i)) ∙
       not-bound o.es2016.exponentiation_operator (is_exponentiation k l fs) (is_some (find F p.around (codes "Math"))) (first-unbound o F p.around k l fs none) in
       let asked = is_some o.es2018.object_rest_spread in
-      let external = is_external o.helper_loader.mode in
       let bound = is_some (find F p.around (codes "babelHelpers")) in
-      let built = second-of-three (asked && is_stray_rest k l fs) (asked && not external && needs_helper k l fs) (o.es2026.explicit_resource_management && is_using k l fs) (is-built o F p.around k l fs none) in
-      let unbound = asked-by-name asked external (is_object_spread k l fs) bound (spread-built asked external (is_object_spread k l fs) (is_rest_declaration k l fs) built)
-      (spread-unbound asked external (is_object_spread k l fs) bound (is_rest_declaration k l fs) (binds_helpers F) (second-unbound o F p.around k l fs none)) in
+      let unbound = spread-unbound asked (is_object_spread k l fs) bound (is_rest_declaration k l fs) (binds_helpers F) (second-unbound o F p.around k l fs none) in
       let copy = (λ i. is_unbound_where (asked && spread-kept F ps next k l marks fs i) (look (codes "babelHelpers") i)) ∙ not-bound asked (is_object_spread k l fs) bound unbound in
       and_from (is_power_free o m k (marked l marks) (resolved_in F ps next fs)) (is_copy_free o m k (marked l marks) (resolved_in F ps next fs)) power copy
 

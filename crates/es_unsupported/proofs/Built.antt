@@ -60,12 +60,12 @@ law_built_proof o p taken = built o (symbols_of p) (outermost p) 1 p (taken-shap
 
 module _ (o : EnvOptions) (on : is_some o.es2018.object_rest_spread ≡ true) where
   no-stray : (k : AstType) (l : Label) (fs : Fields) → is_unbuilt_node o k l fs ≡ false → is_stray_rest k l fs ≡ false
-  no-stray k l fs h = of-first (is_some o.es2018.object_rest_spread) (is_stray_rest k l fs) _ _ on h
+  no-stray k l fs h = of-first (is_some o.es2018.object_rest_spread) (is_stray_rest k l fs) _ on h
     where
-      of-first : (asked is a b : Bool) → asked ≡ true → ((asked && is) || a || b) ≡ false → is ≡ false
-      of-first true false a b e h = refl
-      of-first true true a b e h = absurd (cc h)
-      of-first false is a b e h = absurd (cc e)
+      of-first : (asked is a : Bool) → asked ≡ true → ((asked && is) || a) ≡ false → is ≡ false
+      of-first true false a e h = refl
+      of-first true true a e h = absurd (cc h)
+      of-first false is a e h = absurd (cc e)
 
   mutual
     none-stray : (t : Tree) → any_node (is_unbuilt_node o) t ≡ false → any_node is_stray_rest t ≡ false

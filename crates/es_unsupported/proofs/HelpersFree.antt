@@ -1,9 +1,8 @@
 -- Where nothing is found, and a rest is declared, the program binds no `babelHelpers`.
 use Rattle.std.proofs.Common.{◌≡◌, ℕ, zero, suc, ◌+◌, List, Bool, true, false, Option, Some, None, if◌then◌else◌, refl, true≢false, sym, ◌∙◌}
-use Rattle.std.specs.Prelude.{◌&&◌, ◌||◌, is_some, not}
+use Rattle.std.specs.Prelude.{◌&&◌, ◌||◌, is_some}
 use Rattle.std.proofs.lemmas.Bool.{or_from}
 use Rattle.es_tree.specs.Constructs.{is_object_spread}
-use Rattle.es_tree.specs.Options.{is_external}
 use Rattle.es_tree.specs.Tree.{Tree, node, Label, Fields, done, ◌then◌, Field, missing, one, many, statements, Trees, empty, ◌before◌}
 use Rattle.es_tree.specs.Walks.{any_in_field, any_in_fields, any_in_trees, any_node}
 use Rattle.es_tree.specs.declared.ast_type.AstType.{AstType}
@@ -14,44 +13,33 @@ use Rattle.es_rest_shapes.specs.HelperNames.{binds_helpers}
 use Rattle.es_rest_shapes.specs.RestShapes.{is_rest_declaration}
 use Rattle.es_unsupported.specs.FirstUnsupported.{first_among, found_at}
 use Rattle.es_unsupported.specs.Laws.{LawHelpersFree}
-use Rattle.es_unsupported.specs.Shapes.{is_helper_bound, is_math_bound, is_unbuilt, needs_helper, shape_at}
+use Rattle.es_unsupported.specs.Shapes.{is_helper_bound, is_math_bound, is_unbuilt, shape_at}
 use Rattle.es_unsupported.proofs.Firsts.{left_none, right_none}
 use Rattle.es_unsupported.proofs.Taken.{each-none, none_found, taken-shapes}
 
 -- the rows before, and this one
-third-off : {X : Type 0} (a b c : Bool) (x y z : X) (s : Option X) → (if a then Some x else if b then Some y else if c then Some z else s) ≡ None → (a ≡ false) × (c ≡ false)
+third-off : {X : Type 0} (a b c : Bool) (x y z : X) (s : Option X) → (if a then Some x else if b then Some y else if c then Some z else s) ≡ None → c ≡ false
 third-off true b c x y z s h = absurd (cc h)
 third-off false true c x y z s h = absurd (cc h)
 third-off false false true x y z s h = absurd (cc h)
-third-off false false false x y z s h = (refl, refl)
+third-off false false false x y z s h = refl
 
--- with a helper that has to be imported nothing is built, and else it is a property of `babelHelpers`
-undeclared : (on external needs declared stray using spread binds : Bool) → on ≡ true → binds ≡ true → needs ≡ (spread || declared) → ((on && stray) || (on && not external && needs) || using) ≡ false → (bound : Bool) → ((on && external) && ((spread && bound) || (declared && binds))) ≡ false → declared ≡ false
-undeclared on external needs false stray using spread binds e d n built bound h = refl
-undeclared true true needs true stray using spread true e d n built bound h = absurd (cc (last (spread && bound) h))
+-- where a name that a rest's helper is a property of is bound, no rest is declared
+undeclared : (on declared spread binds bound : Bool) → on ≡ true → binds ≡ true → (on && ((spread && bound) || (declared && binds))) ≡ false → declared ≡ false
+undeclared on false spread binds bound e d h = refl
+undeclared true true spread true bound e d h = absurd (cc (last (spread && bound) h))
   where
     last : (a : Bool) → (a || true) ≡ false → true ≡ false
     last true h = h
     last false h = h
-undeclared true false needs true stray using spread true e d n built bound h = absurd (cc (middle stray using needs (n ∙ or-true spread) built))
-  where
-    or-true : (a : Bool) → (a || true) ≡ true
-    or-true true = refl
-    or-true false = refl
-
-    middle : (stray using needs : Bool) → needs ≡ true → (stray || needs || using) ≡ false → true ≡ false
-    middle true using needs e h = h
-    middle false true true e h = h
-    middle false false true e h = h
-    middle false using false e h = sym e
-undeclared false external needs true stray using spread binds e d n built bound h = absurd (cc e)
-undeclared true external needs true stray using spread false e d n built bound h = absurd (cc d)
+undeclared false true spread binds bound e d h = absurd (cc e)
+undeclared true true spread false bound e d h = absurd (cc d)
 
 module _ (o : EnvOptions) (on : is_some o.es2018.object_rest_spread ≡ true) (ds : List Declared) (binds : binds_helpers ds ≡ true) where
   free-node : (up : List ℕ) (k : AstType) (l : Label) (fs : Fields) → shape_at o ds up k l fs ≡ None → is_rest_declaration k l fs ≡ false
   free-node up k l fs h =
-      let rows = third-off (is_unbuilt o ds up k l fs) (is_math_bound o ds up k l fs) (is_helper_bound o ds up k l fs) _ _ _ _ h in
-      undeclared (is_some o.es2018.object_rest_spread) (is_external o.helper_loader.mode) (needs_helper k l fs) (is_rest_declaration k l fs) _ _ (is_object_spread k l fs) (binds_helpers ds) on binds refl rows.0 _ rows.1
+      let row = third-off (is_unbuilt o ds up k l fs) (is_math_bound o ds up k l fs) (is_helper_bound o ds up k l fs) _ _ _ _ h in
+      undeclared (is_some o.es2018.object_rest_spread) (is_rest_declaration k l fs) (is_object_spread k l fs) (binds_helpers ds) _ on binds row
 
   mutual
     free : (p : Place) (n : ℕ) (t : Tree) → first_among o ds (visits p n t) ≡ None → any_node is_rest_declaration t ≡ false

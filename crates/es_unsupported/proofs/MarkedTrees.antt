@@ -8,7 +8,6 @@ use Rattle.es_tree.specs.Bare.{bare, bare_field, bare_fields, bare_label, bare_t
 use Rattle.es_tree.specs.Constructs.{field_at, is_using}
 use Rattle.es_tree.specs.HasForm.{same_type}
 use Rattle.es_tree.specs.Names.{first_text}
-use Rattle.es_tree.specs.Options.{is_external}
 use Rattle.es_tree.specs.Tree.{Tree, node, Label, Fields, done, ◌then◌, Field, missing, one, many, statements, Trees, empty, ◌before◌}
 use Rattle.es_tree.specs.Words.{Text}
 use Rattle.es_tree.specs.Walks.{all_in_field, all_in_fields, all_in_trees, all_nodes}
@@ -28,7 +27,7 @@ use Rattle.es_rest_shapes.proofs.BareRests.{declaration-bare, stray-bare}
 use Rattle.es_unsupported.specs.ArrowShapes.{arrow_place_in, arrow_shape, binds_arguments, may_bind_arguments, refers_by}
 use Rattle.es_unsupported.specs.FirstUnsupported.{first_of, first_of_field, first_of_fields, first_of_trees, found_at}
 use Rattle.es_unsupported.specs.MarkedWalk.{FindsFrom, LooksUp, LooksUpInField, LooksUpInFields, LooksUpInTrees, around_marked, first_at, first_in_field, first_in_fields, first_in_trees, has_known_scope, refers_by_mark, scope_mark}
-use Rattle.es_unsupported.specs.Shapes.{Row, copies_by_name, first_row, has_chain_tag, is_chain_below, is_chain_kind, is_helper_bound, is_math_bound, is_spread_literal, is_tag_chain, is_unbuilt, rows, shape_at}
+use Rattle.es_unsupported.specs.Shapes.{Row, first_row, has_chain_tag, is_chain_below, is_chain_kind, is_helper_bound, is_math_bound, is_spread_literal, is_tag_chain, is_unbuilt, rows, shape_at}
 use Rattle.es_unsupported.specs.declared.arrow_places.ArrowPlace.{ArrowPlace}
 use Rattle.es_unsupported.proofs.BareArrows.{arrow_shape-marked, place-marked}
 use Rattle.es_unsupported.proofs.BareNodes.{exponentiation-bare, kind_within-bare, object-spread-bare}
@@ -79,14 +78,13 @@ LooksAtNoMark r = (o : EnvOptions) (ds : List Declared) (up : List ℕ) (k : Ast
 unbuilt-bare : LooksAtNoMark (record { shape = NotBuilt; holds = is_unbuilt })
 unbuilt-bare o ds up k l fs = λ i.
     (is_some o.es2018.object_rest_spread && stray-bare k l fs i)
-    || (is_some o.es2018.object_rest_spread && not (is_external o.helper_loader.mode) && (object-spread-bare k l fs i || declaration-bare k l fs i))
     || (o.es2026.explicit_resource_management && using-bare k l fs i)
 
 math_bound-bare : LooksAtNoMark (record { shape = MathBound; holds = is_math_bound })
 math_bound-bare o ds up k l fs = ap (λ b. o.es2016.exponentiation_operator && b && is_some (find ds up (codes "Math"))) (exponentiation-bare k l fs)
 
 helper_bound-bare : LooksAtNoMark (record { shape = HelperName; holds = is_helper_bound })
-helper_bound-bare o ds up k l fs = λ i. copies_by_name o && ((object-spread-bare k l fs i && is_some (find ds up (codes "babelHelpers"))) || (declaration-bare k l fs i && binds_helpers ds))
+helper_bound-bare o ds up k l fs = λ i. is_some o.es2018.object_rest_spread && ((object-spread-bare k l fs i && is_some (find ds up (codes "babelHelpers"))) || (declaration-bare k l fs i && binds_helpers ds))
 
 spread_literal-bare : LooksAtNoMark (record { shape = SpreadLiteral; holds = is_spread_literal })
 spread_literal-bare o ds up k l fs = ap (λ b. is_some o.es2018.object_rest_spread && b) (literal-bare k l fs)

@@ -3,7 +3,6 @@ use Rattle.std.proofs.Common.{◌≡◌, ℕ, zero, suc, ◌+◌, ◌≤◌, Lis
 use Rattle.std.specs.Option.{option_or}
 use Rattle.es_tree.specs.Constructs.{is_exponentiation, is_object_spread, is_using}
 use Rattle.es_tree.specs.Marks.{with_scope}
-use Rattle.es_tree.specs.Options.{is_external}
 use Rattle.es_tree.specs.Tree.{Tree, node, Label, Fields, done, ◌then◌, Field, missing, one, many, statements, Trees, empty, ◌before◌}
 use Rattle.es_tree.specs.Walks.{all_nodes}
 use Rattle.es_tree.specs.declared.ast_type.AstType.{AstType}
@@ -24,7 +23,7 @@ use Rattle.es_rest_shapes.specs.RestShapes.{is_rest_declaration, is_stray_rest}
 use Rattle.es_unsupported.specs.ArrowShapes.{arrow_place_in, arrow_shape, binds_arguments, inner_shape, outside, refers_by}
 use Rattle.es_unsupported.specs.FirstUnsupported.{IsBuilt, first_of, first_of_field, first_of_fields, first_of_trees, first_unsupported, found_at}
 use Rattle.es_unsupported.specs.MarkedWalk.{LooksUp, first_at, has_known_scope}
-use Rattle.es_unsupported.specs.Shapes.{copies_by_name, has_chain_tag, needs_helper, shape_at}
+use Rattle.es_unsupported.specs.Shapes.{has_chain_tag, shape_at}
 use Rattle.es_unsupported.specs.SpreadLiterals.{is_uncopied}
 use Rattle.es_unsupported.specs.Wanted.{IsWanted}
 use Rattle.es_unsupported.specs.declared.arrow_places.ArrowPlace.{ArrowPlace}
@@ -90,10 +89,6 @@ bound_same wanted false binds is bound same on = absurd (cc (sym same ∙ on))
 asked_never : (wanted asked is : Bool) → wanted ≡ asked → wanted ≡ false → (asked && is) ≡ false
 asked_never wanted asked is same none = ap (λ b. b && is) (sym same ∙ none)
 
-imported_never : (wanted asked imports is : Bool) → wanted ≡ (asked && imports) → wanted ≡ false → (asked && imports && is) ≡ false
-imported_never wanted true imports is same none = ap (λ b. b && is) (sym same ∙ none)
-imported_never wanted false imports is same none = refl
-
 pub helpers_never : (wanted copies spread bound declared binds : Bool) → (wanted && bound) ≡ (copies && bound) → wanted ≡ (copies && binds) → wanted ≡ false → (copies && ((spread && bound) || (declared && binds))) ≡ false
 helpers_never wanted copies spread bound declared binds found named none = at copies spread bound declared binds (sym found ∙ ap (λ b. b && bound) none) (sym named ∙ none)
   where
@@ -120,12 +115,11 @@ neither false b e = (refl, e)
 neither true b e = absurd (cc)
 
 abbrev pub any_wanted : Wanted → Bool
-any_wanted w = w.stray_rest || w.imported_helper || w.using_declaration || w.math_bound || w.helper_name || w.spread_literal || w.tag_chain || w.arrows
+any_wanted w = w.stray_rest || w.using_declaration || w.math_bound || w.helper_name || w.spread_literal || w.tag_chain || w.arrows
 
 -- none of them is looked for
 record IsNone (w : Wanted) : Type 0 where
   stray_rest : w.stray_rest ≡ false
-  imported_helper : w.imported_helper ≡ false
   using_declaration : w.using_declaration ≡ false
   math_bound : w.math_bound ≡ false
   helper_name : w.helper_name ≡ false
@@ -135,14 +129,13 @@ record IsNone (w : Wanted) : Type 0 where
 
 is_none : (w : Wanted) → any_wanted w ≡ false → IsNone w
 is_none w none =
-    let a = neither (w.stray_rest || w.imported_helper || w.using_declaration || w.math_bound || w.helper_name || w.spread_literal || w.tag_chain) w.arrows none in
-    let b = neither (w.stray_rest || w.imported_helper || w.using_declaration || w.math_bound || w.helper_name || w.spread_literal) w.tag_chain a.0 in
-    let c = neither (w.stray_rest || w.imported_helper || w.using_declaration || w.math_bound || w.helper_name) w.spread_literal b.0 in
-    let d = neither (w.stray_rest || w.imported_helper || w.using_declaration || w.math_bound) w.helper_name c.0 in
-    let e = neither (w.stray_rest || w.imported_helper || w.using_declaration) w.math_bound d.0 in
-    let f = neither (w.stray_rest || w.imported_helper) w.using_declaration e.0 in
-    let g = neither w.stray_rest w.imported_helper f.0 in
-    record { stray_rest = g.0; imported_helper = g.1; using_declaration = f.1; math_bound = e.1; helper_name = d.1; spread_literal = c.1; tag_chain = b.1; arrows = a.1 }
+    let a = neither (w.stray_rest || w.using_declaration || w.math_bound || w.helper_name || w.spread_literal || w.tag_chain) w.arrows none in
+    let b = neither (w.stray_rest || w.using_declaration || w.math_bound || w.helper_name || w.spread_literal) w.tag_chain a.0 in
+    let c = neither (w.stray_rest || w.using_declaration || w.math_bound || w.helper_name) w.spread_literal b.0 in
+    let d = neither (w.stray_rest || w.using_declaration || w.math_bound) w.helper_name c.0 in
+    let e = neither (w.stray_rest || w.using_declaration) w.math_bound d.0 in
+    let f = neither w.stray_rest w.using_declaration e.0 in
+    record { stray_rest = f.0; using_declaration = f.1; math_bound = e.1; helper_name = d.1; spread_literal = c.1; tag_chain = b.1; arrows = a.1 }
 
 -- WHERE NO NODE HAS A SHAPE
 
@@ -173,10 +166,9 @@ no-shape w o ds wanted none up k l fs =
     let n = is_none w none in
     rw (
       asked_never w.stray_rest (is_some o.es2018.object_rest_spread) (is_stray_rest k l fs) wanted.rests n.stray_rest,
-      imported_never w.imported_helper (is_some o.es2018.object_rest_spread) (not (is_external o.helper_loader.mode)) (needs_helper k l fs) wanted.imports n.imported_helper,
       asked_never w.using_declaration o.es2026.explicit_resource_management (is_using k l fs) wanted.declarations n.using_declaration,
       bound_never w.math_bound o.es2016.exponentiation_operator (is_exponentiation k l fs) (is_some (find ds up (codes "Math"))) (asked_where (codes "Math") ds up w.math_bound o.es2016.exponentiation_operator wanted.math) n.math_bound,
-      helpers_never w.helper_name (copies_by_name o) (is_object_spread k l fs) (is_some (find ds up (codes "babelHelpers"))) (is_rest_declaration k l fs) (binds_helpers ds) (asked_where (codes "babelHelpers") ds up w.helper_name (copies_by_name o) wanted.helpers) wanted.helpers n.helper_name,
+      helpers_never w.helper_name (is_some o.es2018.object_rest_spread) (is_object_spread k l fs) (is_some (find ds up (codes "babelHelpers"))) (is_rest_declaration k l fs) (binds_helpers ds) (asked_where (codes "babelHelpers") ds up w.helper_name (is_some o.es2018.object_rest_spread) wanted.helpers) wanted.helpers n.helper_name,
       asked_never w.spread_literal (is_some o.es2018.object_rest_spread) (is_uncopied k l fs) wanted.literals n.spread_literal,
       asked_never w.tag_chain o.es2020.optional_chaining (has_chain_tag k l fs) wanted.chains n.tag_chain,
     ) refl

@@ -1,7 +1,6 @@
 -- The shapes that a run doesn't take: one row of a table for each, asked in order at each node.
-use Rattle.std.specs.Prelude.{ℕ, List, [], ◌∷◌, Bool, false, true, ◌&&◌, ◌||◌, not, Option, Some, None, is_some, codes, if◌then◌else◌}
+use Rattle.std.specs.Prelude.{ℕ, List, [], ◌∷◌, Bool, false, true, ◌&&◌, ◌||◌, Option, Some, None, is_some, codes, if◌then◌else◌}
 use Rattle.es_tree.specs.Constructs.{field_at, is_exponentiation, is_object_spread, is_using}
-use Rattle.es_tree.specs.Options.{is_external}
 use Rattle.es_tree.specs.Parens.{without_parens}
 use Rattle.es_tree.specs.Tree.{Label, Fields, Field, one, kind_of}
 use Rattle.es_tree.specs.declared.ast_type.AstType.{AstType}
@@ -18,15 +17,10 @@ use Rattle.es_unsupported.specs.SpreadLiterals.{is_uncopied}
 -- THE SHAPES, each told by the options, the symbols of the program, the scopes around a node, the innermost first, and the node
 
 -- A construct whose lowering isn't built: what holds an object pattern with a rest that no declarator with a value declares, that has a rest
--- inside or a key that isn't known, or that is exported (14.3.3, 13.15.5); an object literal with a spread (13.2.5) or a declaration of a
--- rest whose helper has to be imported; and `using` (14.3, with Explicit Resource Management).
-abbrev pub needs_helper : AstType → Label → Fields → Bool
-needs_helper k l fs = is_object_spread k l fs || is_rest_declaration k l fs
-
+-- inside or a key that isn't known, or that is exported (14.3.3, 13.15.5); and `using` (14.3, with Explicit Resource Management).
 abbrev pub is_unbuilt_node : EnvOptions → AstType → Label → Fields → Bool
 is_unbuilt_node o k l fs =
     (is_some o.es2018.object_rest_spread && is_stray_rest k l fs)
-    || (is_some o.es2018.object_rest_spread && not (is_external o.helper_loader.mode) && needs_helper k l fs)
     || (o.es2026.explicit_resource_management && is_using k l fs)
 
 abbrev pub is_unbuilt : EnvOptions → List Declared → List ℕ → AstType → Label → Fields → Bool
@@ -36,11 +30,8 @@ is_unbuilt o ds up k l fs = is_unbuilt_node o k l fs
 abbrev pub is_math_bound : EnvOptions → List Declared → List ℕ → AstType → Label → Fields → Bool
 is_math_bound o ds up k l fs = o.es2016.exponentiation_operator && is_exponentiation k l fs && is_some (find ds up (codes "Math"))
 
--- whether objects are copied by helpers that are properties of `babelHelpers`
-abbrev pub copies_by_name : EnvOptions → Bool
-copies_by_name o = is_some o.es2018.object_rest_spread && is_external o.helper_loader.mode
-
--- an object literal with a spread where `babelHelpers`, of which the helper is a property, finds a binding (13.2.5)
+-- An object literal with a spread where `babelHelpers`, of which the helper is a property, finds a binding (13.2.5); also where helpers are
+-- imported, since it is a property until then.
 abbrev pub finds_helper : List Declared → List ℕ → AstType → Label → Fields → Bool
 finds_helper ds up k l fs = is_object_spread k l fs && is_some (find ds up (codes "babelHelpers"))
 
@@ -53,7 +44,7 @@ abbrev pub meets_helpers : List Declared → List ℕ → AstType → Label → 
 meets_helpers ds up k l fs = finds_helper ds up k l fs || is_rest_declaration k l fs
 
 abbrev pub is_helper_bound : EnvOptions → List Declared → List ℕ → AstType → Label → Fields → Bool
-is_helper_bound o ds up k l fs = copies_by_name o && finds_helpers ds up k l fs
+is_helper_bound o ds up k l fs = is_some o.es2018.object_rest_spread && finds_helpers ds up k l fs
 
 -- one whose properties can't be defined apart and copied
 abbrev pub is_spread_literal : EnvOptions → List Declared → List ℕ → AstType → Label → Fields → Bool

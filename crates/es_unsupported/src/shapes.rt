@@ -1,8 +1,7 @@
 //! The shapes that a run doesn't take, each told at a node and the scope that the node stands in.
-ghost use Rattle.std.specs.Prelude.{◌≡◌, ℕ, ◌<◌, ◌^◌, ◌&&◌, ◌||◌, List, codes, is_some, not};
+ghost use Rattle.std.specs.Prelude.{◌≡◌, ℕ, ◌<◌, ◌^◌, ◌&&◌, ◌||◌, List, codes, is_some};
 ghost use Rattle.std.specs.Option.{option_or};
 ghost use Rattle.es_tree.specs.Constructs.{is_exponentiation};
-ghost use Rattle.es_tree.specs.Options.{is_external};
 ghost use Rattle.es_tree.specs.Tree.{fields_of, kind_of, label_of};
 ghost use Rattle.es_tree.specs.declared.options.EnvOptions.{EnvOptions as PlainOptions};
 ghost use Rattle.es_nodes.specs.MaybeFields.{maybe_field};
@@ -13,7 +12,7 @@ ghost use Rattle.es_semantic.specs.Walks.{Binds};
 ghost use Rattle.es_rest_shapes.specs.HelperNames.{binds_name};
 ghost use Rattle.es_unsupported.specs.ArrowShapes.{arrow_shape};
 ghost use Rattle.es_unsupported.specs.MarkedWalk.{FindsFrom, refers_by_mark};
-ghost use Rattle.es_unsupported.specs.Shapes.{copies_by_name, finds_helper, has_chain_tag, is_chain_below, is_chain_kind, is_helper_bound, is_math_bound, is_spread_literal, is_tag_chain, is_unbuilt, meets_helpers, needs_helper, shape_at};
+ghost use Rattle.es_unsupported.specs.Shapes.{finds_helper, has_chain_tag, is_chain_below, is_chain_kind, is_helper_bound, is_math_bound, is_spread_literal, is_tag_chain, is_unbuilt, meets_helpers, shape_at};
 ghost use Rattle.es_unsupported.specs.Wanted.{IsWanted};
 
 use crate::arrow_places::ArrowPlace;
@@ -28,14 +27,13 @@ use es_tree::error::UnsupportedKind;
 use es_tree::ids::ScopeId;
 use es_tree::kind::Kind;
 use es_tree::node::{Field, Node};
-use es_tree::options::{EnvOptions, HelperLoaderMode};
+use es_tree::options::EnvOptions;
 use es_tree::parens::strip_parens;
 
 /// The shapes that a run doesn't take and the program may have.
 #[derive(Clone, Copy)]
 pub(crate) struct Wanted {
     pub(crate) stray_rest: bool,
-    pub(crate) imported_helper: bool,
     pub(crate) using_declaration: bool,
     pub(crate) math_bound: bool,
     pub(crate) helper_name: bool,
@@ -54,10 +52,9 @@ impl Wanted {
         let copies = options.es2018.object_rest_spread.is_some();
         Wanted {
             stray_rest: copies,
-            imported_helper: imports_helpers(options),
             using_declaration: options.es2026.explicit_resource_management,
             math_bound: where_bound(options.es2016.exponentiation_operator, "Math", scoping),
-            helper_name: where_bound(copies_by_name(options), "babelHelpers", scoping),
+            helper_name: where_bound(copies, "babelHelpers", scoping),
             spread_literal: copies,
             tag_chain: options.es2020.optional_chaining,
             arrows: options.es2015.arrow_function.is_some(),
@@ -66,10 +63,9 @@ impl Wanted {
 
     /// Whether there is one.
     pub(crate) fn any(self) -> bool
-        ensures { result ≡ (self.stray_rest || self.imported_helper || self.using_declaration || self.math_bound || self.helper_name || self.spread_literal || self.tag_chain || self.arrows) }
+        ensures { result ≡ (self.stray_rest || self.using_declaration || self.math_bound || self.helper_name || self.spread_literal || self.tag_chain || self.arrows) }
     {
         self.stray_rest
-            || self.imported_helper
             || self.using_declaration
             || self.math_bound
             || self.helper_name
@@ -85,26 +81,6 @@ fn where_bound(asked: bool, name: &str, scoping: &Scoping) -> bool
     ensures { (ds : List Declared) → Binds ds scoping.now → result ≡ (asked && binds_name name.now ds) }
 {
     asked && binds_anywhere(scoping, name)
-}
-
-/// Whether objects are copied by helpers that are properties of `babelHelpers`.
-fn copies_by_name(options: &EnvOptions) -> bool
-    ensures { result ≡ copies_by_name options.now }
-{
-    options.es2018.object_rest_spread.is_some() && is_external(options.helper_loader.mode)
-}
-
-/// Whether the helpers that copy objects have to be imported.
-fn imports_helpers(options: &EnvOptions) -> bool
-    ensures { result ≡ (is_some options.now.es2018.object_rest_spread && not (is_external options.now.helper_loader.mode)) }
-{
-    options.es2018.object_rest_spread.is_some() && !is_external(options.helper_loader.mode)
-}
-
-fn is_external(mode: HelperLoaderMode) -> bool
-    ensures { result ≡ is_external mode }
-{
-    matches!(mode, HelperLoaderMode::External)
 }
 
 /// The first shape that a node in this scope and at this place has, of those that are looked for: one of the table, or what
@@ -157,16 +133,7 @@ fn shape_at(
 fn is_unbuilt(node: &Node, wanted: Wanted) -> bool
     ensures { (o : PlainOptions) (ds : List Declared) (up : List ℕ) → IsWanted wanted o ds → result ≡ is_unbuilt o ds up (kind_of node.now) (label_of node.now) (fields_of node.now) }
 {
-    (wanted.stray_rest && is_stray_rest(node))
-        || (wanted.imported_helper && needs_helper(node))
-        || (wanted.using_declaration && is_using(node))
-}
-
-/// Whether a helper copies for the node.
-fn needs_helper(node: &Node) -> bool
-    ensures { result ≡ needs_helper (kind_of node.now) (label_of node.now) (fields_of node.now) }
-{
-    is_object_spread(node) || is_rest_declaration(node)
+    (wanted.stray_rest && is_stray_rest(node)) || (wanted.using_declaration && is_using(node))
 }
 
 /// Whether an exponentiation that is to be lowered stands where `Math` is bound.

@@ -6,7 +6,6 @@ use Rattle.std.specs.List.{range_with_len}
 use Rattle.es_tree.specs.Ancestors.{ancestor}
 use Rattle.es_tree.specs.Constructs.{field_at, is_exponentiation, is_object_rest, is_object_spread, is_using}
 use Rattle.es_tree.specs.HasForm.{same_type}
-use Rattle.es_tree.specs.Options.{is_external}
 use Rattle.es_tree.specs.Tree.{Label, Fields, Field, done, node, trees}
 use Rattle.es_tree.specs.Walks.{any_in_fields, any_in_trees, any_node}
 use Rattle.es_tree.specs.Words.{Text}
@@ -25,9 +24,10 @@ use Rattle.es_rest_shapes.proofs.NoneLeft.{declaration-rest}
 use Rattle.es_rest_shapes.proofs.Quiet.{stray-none}
 use Rattle.es_unsupported.specs.ArrowShapes.{outside}
 use Rattle.es_unsupported.specs.FirstUnsupported.{first_of, first_unsupported}
-use Rattle.es_unsupported.specs.Shapes.{copies_by_name, has_chain_tag, is_unbuilt_node, shape_at}
+use Rattle.es_unsupported.specs.Shapes.{has_chain_tag, is_unbuilt_node, shape_at}
 use Rattle.es_unsupported.specs.SpreadLiterals.{has_uncopied}
 use Rattle.lower_driver.specs.UnsupportedPrograms.{Finds}
+use Rattle.lower_driver.proofs.Imported.{core-unimporting, none-refused}
 use Rattle.lower_driver.proofs.Becomes.{core-none}
 use Rattle.lower_driver.proofs.EitherTest.{fewer-in-fields}
 use Rattle.lower_driver.proofs.Moved.{finds-itself}
@@ -95,10 +95,9 @@ off : (a : Bool) → (a && false) ≡ false
 off true = refl
 off false = refl
 
-all_off : (a b c : Bool) → ((a && false) || (a && b && false) || (c && false)) ≡ false
-all_off true true c = off c
-all_off true false c = off c
-all_off false b c = off c
+both_off : (a b : Bool) → ((a && false) || (b && false)) ≡ false
+both_off true b = off b
+both_off false b = off b
 
 -- nor a pattern with a rest inside
 no_rest_inside : (fs : Fields) → any_in_fields is_asked fs ≡ false → any_in_fields is_object_rest fs ≡ false
@@ -109,7 +108,7 @@ no_helper by_name spread bound declared binds h g = rw (h, g) (off by_name)
 
 module _ (o : EnvOptions) where
   built : (k : AstType) (l : Label) (fs : Fields) → is_asked k l fs ≡ false → any_in_fields is_object_rest fs ≡ false → is_unbuilt_node o k l fs ≡ false
-  built k l fs h none = rw (stray-none k l fs none, no_literal k l fs h, declaration-rest k l fs none, no_using k l fs h) (all_off (is_some o.es2018.object_rest_spread) (not (is_external o.helper_loader.mode)) o.es2026.explicit_resource_management)
+  built k l fs h none = rw (stray-none k l fs none, no_using k l fs h) (both_off (is_some o.es2018.object_rest_spread) o.es2026.explicit_resource_management)
 
   no_shape : (up : List ℕ) (k : AstType) (l : Label) (fs : Fields) → any_node is_asked (node k l fs) ≡ false → shape_at o [] up k l fs ≡ None
   no_shape up k l fs g =
@@ -118,7 +117,7 @@ module _ (o : EnvOptions) where
       rw (
         built k l fs h none,
         unbound o.es2016.exponentiation_operator (is_exponentiation k l fs) (is_some (find [] up (codes "Math"))) (ap is_some (found_nowhere up (codes "Math"))),
-        no_helper (copies_by_name o) (is_object_spread k l fs) (is_some (find [] up (codes "babelHelpers"))) (is_rest_declaration k l fs) (binds_helpers []) (no_literal k l fs h) (declaration-rest k l fs none),
+        no_helper (is_some o.es2018.object_rest_spread) (is_object_spread k l fs) (is_some (find [] up (codes "babelHelpers"))) (is_rest_declaration k l fs) (binds_helpers []) (no_literal k l fs h) (declaration-rest k l fs none),
         ap (λ b. is_some o.es2018.object_rest_spread && (b && has_uncopied (field_at 0 fs))) (no_literal k l fs h) ∙ off (is_some o.es2018.object_rest_spread),
         ap (λ b. o.es2020.optional_chaining && b) (no_tag k l fs h) ∙ off o.es2020.optional_chaining,
       ) refl
@@ -151,12 +150,13 @@ generated-taken o n =
     (outermost p) outside 1 p (generated-plain n) (λ on. refl) in
     ap (λ (ds : List Declared). first_of o ds (outermost p) outside 1 p) (generated-symbols n) ∙ none
 
--- and no pattern moves there
+-- and no pattern moves there, nor is a helper imported
 off-anyway : (on b : Bool) → b ≡ false → (on && b) ≡ false
 off-anyway true b e = e
 off-anyway false b e = refl
 
 pub generated-finds : (o : EnvOptions) (n : ℕ) → Finds o (generated n) None
 generated-finds o n =
-    let none = off-anyway (is_some o.es2018.object_rest_spread) (any_node is_object_rest (generated n)) (core-none (generated n) (generated-core n).core) in
-    finds-itself o (generated n) None none (generated-taken o n)
+    let core = (generated-core n).core in
+    let rests = core-none (generated n) core in
+    finds-itself o (generated n) None (off-anyway (is_some o.es2018.object_rest_spread) (any_node is_object_rest (generated n)) rests) (none-refused o (generated n) (generated-taken o n) (core-unimporting o (generated n) core rests))

@@ -26,7 +26,9 @@ use Rattle.es_reached.specs.Reached.{built_rules}
 use Rattle.es_unsupported.specs.ArrowShapes.{arrow_place_in, arrow_shape, binds_arguments, outside, refers_by}
 use Rattle.es_unsupported.specs.FirstUnsupported.{first_of, first_of_field, first_of_fields, first_of_trees, first_unsupported, found_at}
 use Rattle.es_unsupported.specs.Shapes.{shape_at}
+use Rattle.es_helper_calls.specs.Importing.{first_unimported}
 use Rattle.lower_driver.specs.Copies.{IsCopy}
+use Rattle.lower_driver.specs.UnsupportedPrograms.{first_refused}
 use Rattle.es_unsupported.specs.declared.arrow_places.ArrowPlace.{ArrowPlace}
 
 module _ (o c : EnvOptions) (copy : IsCopy o c) where
@@ -78,6 +80,9 @@ module _ (o c : EnvOptions) (copy : IsCopy o c) where
 
   pub copied-unsupported : (p : Tree) → first_unsupported c p ≡ first_unsupported o p
   copied-unsupported p = copied-first (symbols_of p) (outermost p) outside 1 p
+
+  pub copied-refused : (p : Tree) → first_refused c p ≡ first_refused o p
+  copied-refused p = λ i. option_or (copied-unsupported p i) (first_unimported (record c { es2018 = copy.es2018 i; helper_loader = record c.helper_loader { mode = copy.mode i } }) p)
 
   -- RULES
 

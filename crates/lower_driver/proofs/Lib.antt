@@ -13,4 +13,5 @@ pub mod Visits
 pub mod EitherTest
 pub mod Becomes
 pub mod FewScopes
+pub mod Imported
 pub mod Moved

@@ -1,7 +1,7 @@
 -- What a source becomes first: patterns with a rest move, or it stays as it is; there is one such program. And so what a source becomes by all
 -- lowerings.
 use Rattle.std.proofs.Common.{◌≡◌, ◌∙◌, ◌*◌, ◌+◌, ◌≤◌, ◌++◌, List, [], ◌∷◌, Option, ℕ, ap, arith, length, map, refl, subst, sym, true≢false}
-use Rattle.std.specs.Prelude.{Bool, true, false, ◌&&◌, is_some, if◌then◌else◌}
+use Rattle.std.specs.Prelude.{Bool, true, false, ◌&&◌, None, is_some, string_bytes, if◌then◌else◌}
 use Rattle.es_tree.specs.Constructs.{has_enabled_construct, is_object_rest}
 use Rattle.es_tree.specs.Core.{IsCoreProgram}
 use Rattle.es_tree.specs.HasForm.{has_form}
@@ -26,13 +26,15 @@ use Rattle.es_lowered.proofs.Moved.{law_moved_proof, law_unmoved_proof}
 use Rattle.es_reached.specs.Reached.{IsCoreResult}
 use Rattle.es_statement_runs.specs.Runs.{RunAlike}
 use Rattle.es_statement_steps.specs.Laws.{RunsAsStatements, assumes_no_all, supply_there}
-use Rattle.es_unsupported.specs.FirstUnsupported.{first_unsupported}
 use Rattle.lower_driver.specs.Copies.{IsCopy}
 use Rattle.lower_driver.specs.Lowers.{Lowers, LowersInPlace, rests_there}
+use Rattle.lower_driver.specs.Imports.{Imports}
 use Rattle.lower_driver.specs.Moves.{Moves}
-use Rattle.lower_driver.specs.UnsupportedPrograms.{Finds, IsFirstOrMemory, IsUnsupportedOrMemory}
+use Rattle.lower_driver.specs.UnsupportedPrograms.{Finds, IsFirstOrMemory, IsUnsupportedOrMemory, first_refused}
+use Rattle.es_helper_calls.specs.Importing.{imports_helpers}
 use Rattle.lower_driver.proofs.Becomes.{core-none}
-use Rattle.lower_driver.proofs.CopiedOptions.{copied-unsupported}
+use Rattle.lower_driver.proofs.CopiedOptions.{copied-refused}
+use Rattle.lower_driver.proofs.Imported.{core-unimporting, is-imported, none-left, size-after}
 
 -- ONE PROGRAM
 
@@ -42,7 +44,7 @@ one-program false p q r names others a b = (a.stays refl).0 ∙ sym (b.stays ref
 
 -- and so one thing is found in it
 pub finds-one : (o : EnvOptions) (p : Tree) (a b : Option (UnsupportedKind × ℕ)) → Finds o p a → Finds o p b → a ≡ b
-finds-one o p a b f g = sym f.first ∙ ap (first_unsupported o) (one-program (is_some o.es2018.object_rest_spread) p f.moved g.moved f.names g.names f.moves g.moves) ∙ g.first
+finds-one o p a b f g = sym f.first ∙ ap (first_refused o) (one-program (is_some o.es2018.object_rest_spread) p f.moved g.moved f.names g.names f.moves g.moves) ∙ g.first
 
 -- whatever copy of the options it is
 pub copied-finds : (o c : EnvOptions) → IsCopy o c → (p : Tree) (a : Option (UnsupportedKind × ℕ)) → Finds c p a → Finds o p a
@@ -50,7 +52,7 @@ copied-finds o c copy p a f = record {
   moved = f.moved;
   names = f.names;
   moves = subst (λ (b : Bool). Moves b p f.moved f.names) (λ i. is_some (copy.es2018 i).object_rest_spread) f.moves;
-  first = sym (copied-unsupported o c copy f.moved) ∙ f.first;
+  first = sym (copied-refused o c copy f.moved) ∙ f.first;
 }
 
 -- WHERE NO PATTERN MOVES
@@ -88,7 +90,7 @@ off-anyway : (on b : Bool) → b ≡ false → (on && b) ≡ false
 off-anyway true b e = e
 off-anyway false b e = refl
 
-pub finds-itself : (o : EnvOptions) (p : Tree) (a : Option (UnsupportedKind × ℕ)) → (is_some o.es2018.object_rest_spread && any_node is_object_rest p) ≡ false → first_unsupported o p ≡ a → Finds o p a
+pub finds-itself : (o : EnvOptions) (p : Tree) (a : Option (UnsupportedKind × ℕ)) → (is_some o.es2018.object_rest_spread && any_node is_object_rest p) ≡ false → first_refused o p ≡ a → Finds o p a
 finds-itself o p a none first = let on = is_some o.es2018.object_rest_spread in record { moved = p; names = []; moves = moves-itself on p (no-moves on p none); first = first }
 
 -- WHAT IT IS
@@ -108,27 +110,43 @@ moved-size false p q names m = rw (m.stays refl).0 (omega arith)
 
 -- WHAT A SOURCE BECOMES
 
-module _ (o : EnvOptions) (p q written : Tree) (names later : List Text) (form : has_form s-Program p ≡ true) (right : breaks p ≡ []) (m : Moves (is_some o.es2018.object_rest_spread) p q names) (in_place : LowersInPlace o q written later) where
-  core-there : IsCoreProgram p → IsCoreResult o p written (names ++ later)
+none-more : (xs : List Text) → xs ++ [] ≡ xs
+none-more [] = refl
+none-more (x ∷ xs) = ap (λ ys. x ∷ ys) (none-more xs)
+
+module _
+    (o : EnvOptions) (p q lowered written : Tree) (names later last : List Text) (form : has_form s-Program p ≡ true) (right : breaks p ≡ []) (m : Moves (is_some o.es2018.object_rest_spread) p q names) (none : first_refused o q ≡ None) (in_place : LowersInPlace o q lowered later)
+    (imports : Imports (imports_helpers o q) (string_bytes o.helper_loader.module_name) lowered written last) where
+  -- where the moved program is the source and imports no helper, what is lowered in place is what is written
+  as-before : q ≡ p → imports_helpers o p ≡ false → (written ≡ lowered) × (last ≡ [])
+  as-before same off = imports.stays (ap (imports_helpers o) same ∙ off)
+
+  core-there : IsCoreProgram p → IsCoreResult o p written (names ++ later ++ last)
   core-there core =
       let on = is_some o.es2018.object_rest_spread in
-      let same = stays-itself on p (no-moves on p (off-anyway on (any_node is_object_rest p) (core-none p core.core))) q names m in
-      subst (λ (xs : List Text). IsCoreResult o p written (xs ++ later)) (sym same.1) (subst (λ (t : Tree). IsCoreResult o t written later) same.0 (in_place.core (subst (λ (t : Tree). IsCoreProgram t) (sym same.0) core)))
+      let rests = core-none p core.core in
+      let same = stays-itself on p (no-moves on p (off-anyway on (any_node is_object_rest p) rests)) q names m in
+      let stays = as-before same.0 (core-unimporting o p core.core rests) in
+      let there : IsCoreResult o p lowered later = subst (λ (t : Tree). IsCoreResult o t lowered later) same.0 (in_place.core (subst (λ (t : Tree). IsCoreProgram t) (sym same.0) core)) in
+      let named : IsCoreResult o p lowered (names ++ later ++ last) =
+      subst (λ (xs : List Text). IsCoreResult o p lowered (xs ++ later ++ last)) (sym same.1) (subst (λ (xs : List Text). IsCoreResult o p lowered (later ++ xs)) (sym stays.1) (subst (λ (xs : List Text). IsCoreResult o p lowered xs) (sym (none-more later)) there)) in
+      subst (λ (t : Tree). IsCoreResult o p t (names ++ later ++ last)) (sym stays.0) named
 
-  statements-there : rests_there o p ≡ false → RunsAsStatements o p → RunAlike (supply_there o p) (assumes_no_all o p) p written
-  statements-there none runs =
+  statements-there : rests_there o p ≡ false → imports_helpers o p ≡ false → RunsAsStatements o p → RunAlike (supply_there o p) (assumes_no_all o p) p written
+  statements-there no_rests off runs =
       let on = is_some o.es2018.object_rest_spread in
-      let same = stays-itself on p (no-moves on p none) q names m in
-      subst (λ (t : Tree). RunAlike (supply_there o t) (assumes_no_all o t) t written) same.0 (in_place.statements (ap (rests_there o) same.0 ∙ none) (subst (λ (t : Tree). RunsAsStatements o t) (sym same.0) runs))
+      let same = stays-itself on p (no-moves on p no_rests) q names m in
+      let there : RunAlike (supply_there o p) (assumes_no_all o p) p lowered = subst (λ (t : Tree). RunAlike (supply_there o t) (assumes_no_all o t) t lowered) same.0 (in_place.statements (ap (rests_there o) same.0 ∙ no_rests) (subst (λ (t : Tree). RunsAsStatements o t) (sym same.0) runs)) in
+      subst (λ (t : Tree). RunAlike (supply_there o p) (assumes_no_all o p) p t) (sym (as-before same.0 off).0) there
 
-  sized : tree_size written ≤ (if rests_there o p then 1344 else 64) * tree_size p + 64
-  sized = at (rests_there o p) refl
+  lowered-size : tree_size lowered ≤ (if rests_there o p then 1344 else 64) * tree_size p + 64
+  lowered-size = at (rests_there o p) refl
     where
-      most : (b : Bool) → tree_size written ≤ (if b then 384 else 64) * tree_size q + 64 → tree_size written ≤ 384 * tree_size q + 64
+      most : (b : Bool) → tree_size lowered ≤ (if b then 384 else 64) * tree_size q + 64 → tree_size lowered ≤ 384 * tree_size q + 64
       most true h = h
       most false h = omega (arith, h)
 
-      at : (b : Bool) → rests_there o p ≡ b → tree_size written ≤ (if b then 1344 else 64) * tree_size p + 64
+      at : (b : Bool) → rests_there o p ≡ b → tree_size lowered ≤ (if b then 1344 else 64) * tree_size p + 64
       at true e =
           let h = most (rests_there o q) in_place.size in
           let s = moved-size (is_some o.es2018.object_rest_spread) p q names m in
@@ -136,17 +154,29 @@ module _ (o : EnvOptions) (p q written : Tree) (names later : List Text) (form :
       at false e =
           let on = is_some o.es2018.object_rest_spread in
           let same : q ≡ p = (stays-itself on p (no-moves on p e) q names m).0 in
-          subst (λ (n : ℕ). tree_size written ≤ n * tree_size p + 64) (ap (λ b. if b then 384 else 64) (ap (rests_there o) same ∙ e)) (subst (λ (t : Tree). tree_size written ≤ (if rests_there o q then 384 else 64) * tree_size t + 64) same in_place.size)
+          subst (λ (n : ℕ). tree_size lowered ≤ n * tree_size p + 64) (ap (λ b. if b then 384 else 64) (ap (rests_there o) same ∙ e)) (subst (λ (t : Tree). tree_size lowered ≤ (if rests_there o q then 384 else 64) * tree_size t + 64) same in_place.size)
 
-  pub lowers : has_enabled_construct o p ≡ true → Lowers o p written (names ++ later)
+  sized : tree_size written ≤ (if rests_there o p then 1344 else 64) * tree_size p + 76
+  sized =
+      let least = lowered-size in
+      let moved = is-moved o p q names form right m in
+      let more = size-after o q lowered written later last moved.form moved.kept none in_place.result imports in
+      omega (arith, least, more)
+
+  pub lowers : has_enabled_construct o p ≡ true → Lowers o p written (names ++ later ++ last)
   lowers some = record {
     moved = q;
     first_names = names;
     moves = m;
     is_moved = is-moved o p q names form right m;
+    lowered = lowered;
     later_names = later;
     in_place = in_place;
+    last_names = last;
+    imports = imports;
+    is_imported = is-imported o q lowered written later last (is-moved o p q names form right m).form (is-moved o p q names form right m).kept none in_place.result imports;
     all_names = refl;
+    none = none-left o q lowered written later last (is-moved o p q names form right m).form (is-moved o p q names form right m).kept none in_place.result imports in_place.none;
     core = core-there;
     statements = statements-there;
     unchanged = λ unasked. absurd (true≢false (sym some ∙ unasked));
@@ -154,22 +184,28 @@ module _ (o : EnvOptions) (p q written : Tree) (names later : List Text) (form :
   }
 
 -- A program in which no construct stands that the options ask to lower becomes itself.
-pub becomes-itself : (o : EnvOptions) (p : Tree) → has_form s-Program p ≡ true → breaks p ≡ [] → (is_some o.es2018.object_rest_spread && any_node is_object_rest p) ≡ false → LowersInPlace o p p [] → Lowers o p p []
-becomes-itself o p form right none in_place =
+pub becomes-itself : (o : EnvOptions) (p : Tree) → has_form s-Program p ≡ true → breaks p ≡ [] → (is_some o.es2018.object_rest_spread && any_node is_object_rest p) ≡ false → imports_helpers o p ≡ false → first_refused o p ≡ None → LowersInPlace o p p [] → Lowers o p p []
+becomes-itself o p form right rests off none in_place =
     let on = is_some o.es2018.object_rest_spread in
-    let m = moves-itself on p (no-moves on p none) in
+    let m = moves-itself on p (no-moves on p rests) in
+    let imports : Imports (imports_helpers o p) (string_bytes o.helper_loader.module_name) p p [] = record { goes = λ asked. absurd (true≢false (sym asked ∙ off)); stays = λ e. (refl, refl) } in
     record {
       moved = p;
       first_names = [];
       moves = m;
       is_moved = is-moved o p p [] form right m;
+      lowered = p;
       later_names = [];
       in_place = in_place;
+      last_names = [];
+      imports = imports;
+      is_imported = λ asked. absurd (true≢false (sym asked ∙ off));
       all_names = refl;
+      none = in_place.none;
       core = in_place.core;
-      statements = in_place.statements;
+      statements = λ no_rests unasked runs. in_place.statements no_rests runs;
       unchanged = λ unasked. record { same = refl; no_names = refl };
-      size = sized o p p p [] [] form right m in_place;
+      size = sized o p p p p [] [] [] form right m none in_place imports;
     }
 
 -- WHY IT IS REFUSED: for what is found in the moved program
@@ -183,3 +219,7 @@ cause-of o p q names _ m h = absurd h
 pub map-joined : {A B : Type 0} (f : A → B) (xs ys : List A) → map f (xs ++ ys) ≡ map f xs ++ map f ys
 map-joined f [] ys = refl
 map-joined f (x ∷ xs) ys = ap (λ zs. f x ∷ zs) (map-joined f xs ys)
+
+pub append-twice : {A : Type 0} (xs ys zs : List A) → (xs ++ ys) ++ zs ≡ xs ++ ys ++ zs
+append-twice [] ys zs = refl
+append-twice (x ∷ xs) ys zs = ap (λ us. x ∷ us) (append-twice xs ys zs)

@@ -1,11 +1,10 @@
 -- Where a visit leaves no construct among the statements of a program, none is left: its directives have none, and exports stand in its
 -- own list.
 use Rattle.std.proofs.Common.{◌≡◌, ◌∙◌, [], ap, arith, refl, sym}
-use Rattle.std.specs.Prelude.{Bool, true, false, ◌&&◌, ◌||◌, not, is_some}
+use Rattle.std.specs.Prelude.{Bool, true, false, ◌&&◌, ◌||◌, is_some}
 use Rattle.es_tree.specs.Attributes.{child_entries}
 use Rattle.es_tree.specs.Constructs.{has_enabled_construct, is_arrow, is_chain, is_enabled_construct, is_enabled_statement, is_exponentiation, is_logical_assignment, is_namespace_export, is_nullish_coalescing, is_object_rest, is_object_spread, is_optional_catch, is_using}
 use Rattle.es_tree.specs.HasForm.{is_of_sort, elements_of, match_option, has_form, elements_form, fields_form, trees_form}
-use Rattle.es_tree.specs.Options.{is_external}
 use Rattle.es_tree.specs.Tree.{Tree, node, Label, Fields, done, ◌then◌, Field, many, statements, Trees, empty, ◌before◌}
 use Rattle.es_tree.specs.Walks.{any_node, any_in_trees}
 use Rattle.es_tree.specs.declared.ast_type.AstType.{AstType}
@@ -20,7 +19,7 @@ use Rattle.es_traverse.specs.Laws.{is_construct}
 use Rattle.es_traverse.specs.Listed.{any_among, any_listed}
 use Rattle.es_rest_shapes.specs.RestShapes.{is_stray_rest}
 use Rattle.es_rest_rows.specs.Laws.{is_other_construct as rest_others}
-use Rattle.es_unsupported.specs.Shapes.{is_unbuilt_node, needs_helper}
+use Rattle.es_unsupported.specs.Shapes.{is_unbuilt_node}
 use Rattle.es_reached.specs.Walks.{is_other_construct}
 use Rattle.lower_driver.specs.Constructs.{is_built_construct, is_lowered_construct, is_lowered_export}
 use Rattle.lower_driver.proofs.EitherTest.{any-where, fewer-in-tree, none-of-tree}
@@ -89,11 +88,8 @@ module _ (o : EnvOptions) where
   abbrev stray_rest : AstType → Label → Fields → Bool
   stray_rest k l fs = is_some o.es2018.object_rest_spread && is_stray_rest k l fs
 
-  abbrev imported_helper : AstType → Label → Fields → Bool
-  imported_helper k l fs = is_some o.es2018.object_rest_spread && not (is_external o.helper_loader.mode) && needs_helper k l fs
-
   pub no-usings : (t : Tree) → any_node (is_unbuilt_node o) t ≡ false → (o.es2026.explicit_resource_management && any_node is_using t) ≡ false
-  no-usings t h = sym (any-where o.es2026.explicit_resource_management is_using t) ∙ fewer-in-tree using_declaration (is_unbuilt_node o) (λ k l fs e. or_second (stray_rest k l fs || imported_helper k l fs) (using_declaration k l fs) e) t h
+  no-usings t h = sym (any-where o.es2026.explicit_resource_management is_using t) ∙ fewer-in-tree using_declaration (is_unbuilt_node o) (λ k l fs e. or_second (stray_rest k l fs) (using_declaration k l fs) e) t h
 
 -- none comes up where there was none
 pub none-came : (on old new : Bool) → (old ≡ false → new ≡ false) → (on && old) ≡ false → (on && new) ≡ false

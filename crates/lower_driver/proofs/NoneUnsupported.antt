@@ -5,7 +5,6 @@ use Rattle.es_tree.specs.Children.{child_at}
 use Rattle.es_tree.specs.Constructs.{field_at, has_enabled_construct, is_chain, is_enabled_construct, is_exponentiation, is_logical_assignment, is_nullish_coalescing, is_object_rest, is_object_spread}
 use Rattle.es_tree.specs.HasForm.{same_type}
 use Rattle.es_tree.specs.Names.{first_text}
-use Rattle.es_tree.specs.Options.{is_external}
 use Rattle.es_tree.specs.Parens.{without_parens}
 use Rattle.es_tree.specs.StaticRules.{is_accessor_word}
 use Rattle.es_tree.specs.Tree.{Tree, node, Label, Fields, done, ◌then◌, Field, missing, one, many, statements, Trees, empty, ◌before◌, kind_of}
@@ -21,7 +20,7 @@ use Rattle.es_steps.specs.WrapRule.{is_rest_target, is_wrapped_for, takes_for_ta
 use Rattle.es_valid_steps.specs.ArrowNodes.{is_arrow_accessor, is_kind_within}
 use Rattle.es_unsupported.specs.ArrowShapes.{outside}
 use Rattle.es_unsupported.specs.FirstUnsupported.{first_unsupported}
-use Rattle.es_unsupported.specs.Shapes.{has_chain_tag, is_chain_below, is_chain_kind, is_unbuilt_node, needs_helper, shape_at}
+use Rattle.es_unsupported.specs.Shapes.{has_chain_tag, is_chain_below, is_chain_kind, is_unbuilt_node, shape_at}
 use Rattle.es_rest_shapes.specs.HelperNames.{binds_helpers}
 use Rattle.es_rest_shapes.specs.RestShapes.{is_rest_declaration, is_stray_rest}
 use Rattle.es_rest_shapes.proofs.NoneLeft.{declaration-rest}
@@ -65,14 +64,9 @@ quiet-where : (on inside test : Bool) → (on && inside) ≡ false → (inside �
 quiet-where true inside test h f = f h
 quiet-where false inside test h f = refl
 
-either-off : (on a b : Bool) → (on && a) ≡ false → (on && b) ≡ false → (on && (a || b)) ≡ false
-either-off true a b h g = or_both a b h g
-either-off false a b h g = refl
-
-neither-bound : (on external spread bound declared binds : Bool) → (on && spread) ≡ false → (on && declared) ≡ false → ((on && external) && ((spread && bound) || (declared && binds))) ≡ false
-neither-bound true true spread bound declared binds h g = rw (h, g) refl
-neither-bound true false spread bound declared binds h g = refl
-neither-bound false external spread bound declared binds h g = refl
+neither-bound : (on spread bound declared binds : Bool) → (on && spread) ≡ false → (on && declared) ≡ false → (on && ((spread && bound) || (declared && binds))) ≡ false
+neither-bound true spread bound declared binds h g = rw (h, g) refl
+neither-bound false spread bound declared binds h g = refl
 
 wrapped-none : (e power n c g logical assigns takes r target : Bool) → (e && power) ≡ false → n ≡ false → c ≡ false → (g && logical) ≡ false → (r && target) ≡ false → (n || c || (e && assigns && power) || (g && logical && takes) || (r && assigns && target)) ≡ false
 wrapped-none e power n c g logical assigns takes r target h1 h2 h3 h4 h5 = rw (h2, h3, with-middle e assigns power h1, with-more g logical takes h4, with-middle r assigns target h5) refl
@@ -174,6 +168,12 @@ module _ (o : EnvOptions) where
   pub rests-none : (t : Tree) → any_node (is_enabled_construct o) t ≡ false → (is_some o.es2018.object_rest_spread && any_node is_object_rest t) ≡ false
   rests-none t h = sym (any-where (is_some o.es2018.object_rest_spread) is_object_rest t) ∙ fewer-in-tree (λ k l gs. is_some o.es2018.object_rest_spread && is_object_rest k l gs) (is_enabled_construct o) own-rest-off t h
 
+  own-spread-off : (k : AstType) (l : Label) (fs : Fields) → is_enabled_construct o k l fs ≡ false → (is_some o.es2018.object_rest_spread && is_object_spread k l fs) ≡ false
+  own-spread-off k l fs h = (none-of-rows o k l fs h).spread
+
+  pub spreads-none : (t : Tree) → any_node (is_enabled_construct o) t ≡ false → (is_some o.es2018.object_rest_spread && any_node is_object_spread t) ≡ false
+  spreads-none t h = sym (any-where (is_some o.es2018.object_rest_spread) is_object_spread t) ∙ fewer-in-tree (λ k l gs. is_some o.es2018.object_rest_spread && is_object_spread k l gs) (is_enabled_construct o) own-spread-off t h
+
   module _ (ds : List Declared) where
     no-shape : (up : List ℕ) (k : AstType) (l : Label) (fs : Fields) → any_node (is_enabled_construct o) (node k l fs) ≡ false → shape_at o ds up k l fs ≡ None
     no-shape up k l fs h =
@@ -182,12 +182,11 @@ module _ (o : EnvOptions) where
         let copies = is_some o.es2018.object_rest_spread in
         let inside = rests-in fs (or_second (is_enabled_construct o k l fs) (any_in_fields (is_enabled_construct o) fs) h) in
         let declared = quiet-where copies (any_in_fields is_object_rest fs) (is_rest_declaration k l fs) inside (declaration-rest k l fs) in
-        let helper = either-off copies (is_object_spread k l fs) (is_rest_declaration k l fs) own.spread declared in
-        let built : is_unbuilt_node o k l fs ≡ false = rw (quiet-where copies (any_in_fields is_object_rest fs) (is_stray_rest k l fs) inside (stray-none k l fs), with-middle copies (not (is_external o.helper_loader.mode)) (needs_helper k l fs) helper, own.using) refl in
+        let built : is_unbuilt_node o k l fs ≡ false = rw (quiet-where copies (any_in_fields is_object_rest fs) (is_stray_rest k l fs) inside (stray-none k l fs), own.using) refl in
         rw (
           built,
           with-more o.es2016.exponentiation_operator (is_exponentiation k l fs) (is_some (find ds up (codes "Math"))) own.power,
-          neither-bound copies (is_external o.helper_loader.mode) (is_object_spread k l fs) (is_some (find ds up (codes "babelHelpers"))) (is_rest_declaration k l fs) (binds_helpers ds) own.spread declared,
+          neither-bound copies (is_object_spread k l fs) (is_some (find ds up (codes "babelHelpers"))) (is_rest_declaration k l fs) (binds_helpers ds) own.spread declared,
           in-both copies (is_object_spread k l fs) (has_uncopied (field_at 0 fs)) own.spread,
           tag,
         ) refl

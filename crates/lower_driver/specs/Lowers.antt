@@ -1,5 +1,5 @@
 -- What a source becomes.
-use Rattle.std.specs.Prelude.{◌≡◌, ◌≤◌, ◌+◌, ◌*◌, ◌++◌, ◌&&◌, ℕ, Bool, List, [], false, is_some, if◌then◌else◌}
+use Rattle.std.specs.Prelude.{◌≡◌, ◌≤◌, ◌+◌, ◌*◌, ◌++◌, ◌&&◌, Bool, List, [], false, true, is_some, string_bytes, if◌then◌else◌}
 use Rattle.es_tree.specs.Constructs.{has_enabled_construct, is_object_rest}
 use Rattle.es_tree.specs.Core.{IsCoreProgram}
 use Rattle.es_tree.specs.Tree.{Tree, tree_size}
@@ -7,11 +7,14 @@ use Rattle.es_tree.specs.Walks.{any_node}
 use Rattle.es_tree.specs.Words.{Text}
 use Rattle.es_tree.specs.declared.options.EnvOptions.{EnvOptions}
 use Rattle.es_json.specs.Canonical.{canonical}
+use Rattle.es_helper_calls.specs.Importing.{imports_helpers}
+use Rattle.es_helper_imports.specs.Laws.{IsImported}
 use Rattle.es_lowered.specs.Lowered.{IsLowered}
 use Rattle.es_lowered.specs.Moved.{IsMoved}
 use Rattle.es_reached.specs.Reached.{IsCoreResult}
 use Rattle.es_statement_runs.specs.Runs.{RunAlike}
 use Rattle.es_statement_steps.specs.Laws.{RunsAsStatements, assumes_no_all, supply_there}
+use Rattle.lower_driver.specs.Imports.{Imports}
 use Rattle.lower_driver.specs.Moves.{Moves}
 
 -- a source as it is written, with no name made
@@ -48,14 +51,23 @@ pub record Lowers (o : EnvOptions) (source written : Tree) (names : List Text) :
   pub first_names : List Text
   pub moves : Moves (is_some o.es2018.object_rest_spread) source moved first_names
   pub is_moved : IsMoved (is_some o.es2018.object_rest_spread) source moved first_names
-  -- then constructs are lowered where they stand
+  -- Then constructs are lowered where they stand,
+  pub lowered : Tree
   pub later_names : List Text
-  pub in_place : LowersInPlace o moved written later_names
-  pub all_names : names ≡ first_names ++ later_names
-  -- In a core program no pattern moves, nor where no object rest is taken: the source itself and what is written run alike (`LowersInPlace`).
+  pub in_place : LowersInPlace o moved lowered later_names
+  -- and last, where helpers are not properties of `babelHelpers`, the program imports those that it calls: it stays a program that breaks no
+  -- static rule, each name keeps its binding, and it asks for the same modules but for those of the helpers, and exports the same names.
+  pub last_names : List Text
+  pub imports : Imports (imports_helpers o moved) (string_bytes o.helper_loader.module_name) lowered written last_names
+  pub is_imported : imports_helpers o moved ≡ true → IsImported (string_bytes o.helper_loader.module_name) lowered written last_names
+  pub all_names : names ≡ first_names ++ later_names ++ last_names
+  -- no construct is left that the options ask to lower
+  pub none : has_enabled_construct o written ≡ false
+  -- In a core program no pattern moves and no helper is imported, nor where no object rest or spread is taken: the source itself and what is
+  -- written run alike (`LowersInPlace`).
   pub core : IsCoreProgram source → IsCoreResult o source written names
-  pub statements : rests_there o source ≡ false → RunsAsStatements o source → RunAlike (supply_there o source) (assumes_no_all o source) source written
+  pub statements : rests_there o source ≡ false → imports_helpers o source ≡ false → RunsAsStatements o source → RunAlike (supply_there o source) (assumes_no_all o source) source written
   -- where the options ask for no construct of the source, nothing is changed
   pub unchanged : has_enabled_construct o source ≡ false → IsAsBefore source written names
   -- the nodes of the source and of what is written
-  pub size : tree_size written ≤ (if rests_there o source then 1344 else 64) * tree_size source + 64
+  pub size : tree_size written ≤ (if rests_there o source then 1344 else 64) * tree_size source + 76

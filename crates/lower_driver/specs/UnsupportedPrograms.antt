@@ -1,5 +1,7 @@
--- What a run doesn't take: the first node with a shape that its options' lowerings don't take, of a program whose patterns moved.
+-- What a run doesn't take: the first node with a shape that its options' lowerings don't take, of a program whose patterns moved, or else one at
+-- which it can't import helpers.
 use Rattle.std.specs.Prelude.{◌≡◌, List, None, Option, Some, is_some, ℕ}
+use Rattle.std.specs.Option.{option_or}
 use Rattle.es_tree.specs.Options.{first_fault}
 use Rattle.es_tree.specs.Tree.{Tree}
 use Rattle.es_tree.specs.Words.{Text}
@@ -8,15 +10,20 @@ use Rattle.es_tree.specs.declared.error.LowerError.TheVariants.{Option as e-Opti
 use Rattle.es_tree.specs.declared.error.UnsupportedKind.{UnsupportedKind}
 use Rattle.es_tree.specs.declared.ids.NodeId.{NodeId}
 use Rattle.es_tree.specs.declared.options.EnvOptions.{EnvOptions}
+use Rattle.es_helper_calls.specs.Importing.{first_unimported}
 use Rattle.es_unsupported.specs.FirstUnsupported.{first_unsupported}
 use Rattle.lower_driver.specs.Moves.{Moves}
+
+-- of a program in which no pattern moves any more
+abbrev pub first_refused : EnvOptions → Tree → Option (UnsupportedKind × ℕ)
+first_refused o p = option_or (first_unsupported o p) (first_unimported o p)
 
 -- What is found in a source under these options, once its patterns moved: such a shape and the id of its node, or none.
 pub record Finds (o : EnvOptions) (source : Tree) (found : Option (UnsupportedKind × ℕ)) : Type 0 where
   pub moved : Tree
   pub names : List Text
   pub moves : Moves (is_some o.es2018.object_rest_spread) source moved names
-  pub first : first_unsupported o moved ≡ found
+  pub first : first_refused o moved ≡ found
 
 abbrev pub IsUnsupported : EnvOptions → Tree → UnsupportedKind → NodeId → Type 0
 IsUnsupported o p kind id = Finds o p (Some (kind, id.0))
@@ -36,6 +43,6 @@ IsTreeCauseOrMemory o p _ = ⊥
 
 -- the same of a program in which no pattern moves any more
 abbrev pub IsFirstOrMemory : EnvOptions → Tree → LowerError → Type 0
-IsFirstOrMemory o p (Unsupported kind id) = first_unsupported o p ≡ Some (kind, id.0)
+IsFirstOrMemory o p (Unsupported kind id) = first_refused o p ≡ Some (kind, id.0)
 IsFirstOrMemory o p OutOfMemory = Unit {0}
 IsFirstOrMemory o p _ = ⊥

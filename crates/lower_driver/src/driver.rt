@@ -1,5 +1,6 @@
 //! One run: a program is read and checked, patterns with an object rest move to declarations, it is visited once by the
-//! lowerings that its options ask for, walked for its arrows and for its object rests, and written.
+//! lowerings that its options ask for, walked for its arrows and for its object rests, its helpers are imported, and it is
+//! written.
 ghost use Rattle.std.specs.Prelude.{◌≡◌, ◌<◌, ◌∷◌, ◌^◌, [], IfErr, IfOk, None, false, map, string_bytes, true};
 ghost use Rattle.serde_json.specs.View.{view};
 ghost use Rattle.es_tree.specs.Constructs.{has_enabled_construct};
@@ -14,14 +15,14 @@ ghost use Rattle.es_tree.specs.declared.ast_type.AstType.TheVariants.{Program as
 ghost use Rattle.es_tree.specs.declared.table.Sort.TheVariants.{Program as s-Program};
 ghost use Rattle.es_scope.specs.Contexts.{BindsNamesOf, around_of, made_of, table_of, uses_of};
 ghost use Rattle.es_steps.specs.Open.{nothing_pending};
-ghost use Rattle.es_unsupported.specs.FirstUnsupported.{first_unsupported};
 ghost use Rattle.lower_driver.specs.Copies.{IsCopy};
 ghost use Rattle.lower_driver.specs.Lowered.{IsLoweredTree, IsLoweredValue};
 ghost use Rattle.lower_driver.specs.Lowers.{Lowers, LowersInPlace};
 ghost use Rattle.lower_driver.specs.Sources.{IsCauseOrMemory, IsValueCauseOrMemory, ReadsAs};
-ghost use Rattle.lower_driver.specs.UnsupportedPrograms.{Finds, IsFirstOrMemory, IsTreeCauseOrMemory, IsUnsupportedOrMemory};
+ghost use Rattle.lower_driver.specs.UnsupportedPrograms.{Finds, IsFirstOrMemory, IsTreeCauseOrMemory, IsUnsupportedOrMemory, first_refused};
 
 use crate::copies::copy_options;
+use crate::importing::import_helpers;
 use crate::moving::move_patterns;
 use crate::reading::{read_bytes, read_source};
 use crate::visiting::{take_rests, visit, walk};
@@ -33,13 +34,14 @@ use es_scope::scoping::Scoping;
 use es_semantic::building::build_scoping;
 use es_statements::program::Program;
 use es_tree::builder::AstBuilder;
-use es_tree::error::LowerError;
+use es_tree::error::{LowerError, UnsupportedKind};
 use es_tree::kind::Kind;
 use es_tree::node::Node;
 use es_tree::operators::SourceType;
 use es_tree::options::{EnvOptions, options_fault};
 use es_unsupported::finding::find_unsupported;
 use lower_editions::es2020::ES2020;
+use lower_helper_imports::{Unimported, imports_helpers};
 use lower_temporaries::state::TransformState;
 use lower_temporaries::warning::Warning;
 use serde_json::Value;
@@ -78,11 +80,12 @@ pub struct Lowered {
 /// has the pattern's id:
 ///
 /// - `NotBuilt`, a construct that no lowering takes away yet: a declaration by `using`, what holds an object rest where
-///   none is lowered, a spread or an object rest whose helper has to be imported, or a `this` in an arrow of a
-///   constructor whose class extends another;
+///   none is lowered, or a `this` in an arrow of a constructor whose class extends another;
 /// - `MathBound`, an exponentiation where `Math` is bound;
 /// - `HelperName`, an object literal with a spread where `babelHelpers` is bound, or a declaration of an object rest, or
-///   a pattern with one that moves to a declaration, in a program that binds it anywhere;
+///   a pattern with one that moves to a declaration, in a program that binds it anywhere; and after all others, where
+///   helpers have to be imported, the first of these in a script whose own scope binds `require`, or a call of a helper
+///   of `babelHelpers` that the source itself makes;
 /// - `SpreadLiteral`, an object literal with a spread whose properties can't be copied one by one;
 /// - `TagChain`, a template whose tag is an optional chain;
 /// - `ArrowOuter` and `ArrowThis`, what belongs to what is around an arrow, or around a value that is put into one, and
@@ -186,8 +189,11 @@ fn lower_constructs(
     ensures cause { IfErr result (λ error. IsUnsupportedOrMemory options.now read.program error) }
 {
     let (moved, mut names) = move_patterns(alloc, read, options)?;
-    let (program, mut later) = lower_in_place(alloc, moved, options)?;
+    let asked = imports_helpers(&moved.program, options);
+    let (lowered, mut later) = lower_in_place(alloc, moved, options)?;
+    let (program, mut last) = import_helpers(alloc, lowered, options, asked)?;
     names.append(&mut later)?;
+    names.append(&mut last)?;
     Ok((program, names))
 }
 
@@ -204,16 +210,20 @@ fn lower_in_place(
     requires next { read.ast.next < 2 ^ 20 }
     requires carried { first_fault options.now ≡ None }
     ensures lowers { IfOk result (λ made. LowersInPlace options.now read.program made.0 (map string_bytes made.1.items)) }
-    ensures taken { IfOk result (λ _. first_unsupported options.now read.program ≡ None) }
+    ensures taken { IfOk result (λ _. first_refused options.now read.program ≡ None) }
     ensures cause { IfErr result (λ error. IsFirstOrMemory options.now read.program error) }
 {
     let ReadProgram {
         program: mut source,
         ast,
     } = read;
+    let unimported = Unimported::of_program(&source, options);
     let scoping = build_scoping(alloc, &mut source)?;
     if let Some((kind, node)) = find_unsupported(&source, &scoping, options) {
         return Err(LowerError::Unsupported(kind, node));
+    }
+    if let Some(node) = unimported.find(&scoping) {
+        return Err(LowerError::Unsupported(UnsupportedKind::HelperName, node));
     }
     let mut ctx = new_context(alloc, scoping, &source, ast, options)?;
     let mut program = Program::open(source);

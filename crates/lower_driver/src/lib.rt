@@ -3,6 +3,7 @@
 
 mod copies;
 pub mod driver;
+mod importing;
 mod moving;
 mod reading;
 mod visiting;

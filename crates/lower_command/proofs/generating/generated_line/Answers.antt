@@ -25,7 +25,7 @@ lower_tree-requires-clause-size c = rw c.in_ok-read.ensures.tree (generated-smal
 uncapped : (n : ℕ) → n < 2 ^ 64 → capped n ≡ n
 uncapped n small = omega (arith, small)
 
-within : (rests : Bool) (n m : ℕ) → m ≤ (if rests then 1344 else 64) * n + 64 → n < 2 ^ 20 → m < 2 ^ 64
+within : (rests : Bool) (n m : ℕ) → m ≤ (if rests then 1344 else 64) * n + 76 → n < 2 ^ 20 → m < 2 ^ 64
 within true n m size small = omega (arith, size, small)
 within false n m size small = omega (arith, size, small)
 

@@ -5,10 +5,9 @@ use Rattle.es_unsupported.proofs.shapes.Wanted.of_program.Goals as goal
 pub returns : goal.returns
 returns c = λ ds binds. record {
   math = c.where_bound.ensures ds binds;
-  helpers = c.where_bound-2.ensures ds binds ∙ ap (λ b. b && binds_helpers ds) c.copies_by_name.ensures;
+  helpers = c.where_bound-2.ensures ds binds ∙ ap (λ b. b && binds_helpers ds) c.is_some-copies.ensures;
   literals = c.is_some-copies.ensures;
   rests = c.is_some-copies.ensures;
-  imports = c.imports_helpers.ensures;
   declarations = refl;
   arrows = c.is_some.ensures;
   chains = refl;
