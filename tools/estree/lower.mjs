@@ -20,24 +20,16 @@ export function lower(path, { module, words }) {
   if (error && error.code !== 'EPIPE') throw new Error(`the tool ${TOOL} can't be started: ${error.message}`);
   const isLowered = status === 0 && stdout.startsWith('{');
   const lowered = isLowered ? (hashbang && `${hashbang}\n`) + print(read(JSON.parse(stdout))) : stdout;
-  return { status, lowered, notes: stderr.replace(/.+/g, note => note + placeOf(note, path, text, tree, words)) };
+  return { status, lowered, notes: stderr.replace(/.+/g, note => note + placeOf(note, path, text, tree)) };
 }
 
 /** Where in the file a note's node or span stands, in parentheses; nothing for a note without one. */
-function placeOf(note, path, text, tree, words) {
+function placeOf(note, path, text, tree) {
   const [, id] = note.match(/ at node (\d+)$/) ?? [];
   const [, start] = note.match(/ at (\d+)\.\.\d+$/) ?? [];
   const node = id && nodes(tree)[Number(id)];
   if (!node && !start) return '';
-  const hint = node && note.includes(' NotBuilt ') && !words.includes('--helpers=external') && asksForHelper(node);
-  return ` (${place(text, node ? node.start : Number(start), path)}${node ? `, ${node.type}` : ''}${hint ? '; --helpers=external takes it' : ''})`;
-}
-
-/** Whether the node is one that is refused for its helper alone: a literal with a spread, a declaration of an object rest, or its pattern. */
-function asksForHelper({ type, kind, properties = [], declarations = [] }) {
-  const holds = part => properties.some(property => property.type === part);
-  if (type === 'VariableDeclaration') return kind !== 'using' && declarations.some(({ id }) => id.type === 'ObjectPattern' && asksForHelper(id));
-  return (type === 'ObjectExpression' && holds('SpreadElement')) || (type === 'ObjectPattern' && holds('RestElement'));
+  return ` (${place(text, node ? node.start : Number(start), path)}${node ? `, ${node.type}` : ''})`;
 }
 
 if (isMain(import.meta.url)) runMain(() => {

@@ -21,13 +21,19 @@ const alike = `${cases} cases run alike by ${runs} lists of moves with ${questio
 console.log(`tools/runs: ${alike}, ${uncallable} lists call what isn't callable, ${differing} differ`);
 process.exitCode = differing === 0 ? 0 : 1;
 
+/** Who gives a lowered program its helpers: the global `babelHelpers`, or the host's `require`; those of a module are there anyway. */
+function suppliedBy(lowered, words) {
+  if (words.includes('--helpers=external')) return 'global';
+  return lowered.includes('require("@oxc-project/runtime/helpers/') ? 'require' : undefined;
+}
+
 async function checkCase(file, { name, source, lowered, input, words = [] }) {
   counts.cases += 1;
   addTo(counts, await compareRuns(source, lowered, {
     lists,
     names: input ? topNames(input) : [],
     module: input?.sourceType === 'module',
-    helpers: words.includes('--helpers=external') ? 'global' : undefined,
+    helpers: suppliedBy(lowered, words),
     hasAll: !words.includes('--no-document-all'),
     tell: (list, left, right) => console.log(`${file}: ${name}, list ${list}: ${left}\n  and lowered: ${right}`),
   }));

@@ -1,8 +1,9 @@
 #!/usr/bin/env node
 // Lowers the JavaScript files of a folder with all nine flags, and tells what becomes of them: a line for each cause of which files are passed
 // over, and one of counts. What is lowered has to be read by node, to be the text of the tree that the tool wrote, and to stay as it is when
-// it is lowered again. With --into the folder is copied, with each file that was lowered in the place of its source.
-//   folder.mjs FOLDER [--into FOLDER] [--tool PROGRAM]
+// it is lowered again. With --into the folder is copied, with each file that was lowered in the place of its source. Helpers are properties of
+// `babelHelpers`, or with --imported each file imports or requires its own.
+//   folder.mjs FOLDER [--imported] [--into FOLDER] [--tool PROGRAM]
 import fs from 'node:fs';
 import path from 'node:path';
 import vm from 'node:vm';
@@ -13,14 +14,14 @@ import { printedDifference, splitHashbang, textToTree } from '../estree/lib/text
 import { print } from '../estree/print.mjs';
 import { lowerAll } from './lib/tool.mjs';
 
-const WORDS = ['--all', '--helpers=external'];
 const { values, positionals } = parseArgs({
-  options: { into: { type: 'string' }, tool: { type: 'string' } }, allowPositionals: true,
+  options: { imported: { type: 'boolean' }, into: { type: 'string' }, tool: { type: 'string' } }, allowPositionals: true,
 });
+const WORDS = ['--all', ...values.imported ? [] : ['--helpers=external']];
 const causes = new Map();
 const counts = { files: 0, bytes: 0, lowered: 0, changed: 0, failed: 0 };
 
-if (positionals.length !== 1) throw new Error('wanted: FOLDER [--into FOLDER] [--tool PROGRAM]');
+if (positionals.length !== 1) throw new Error('wanted: FOLDER [--imported] [--into FOLDER] [--tool PROGRAM]');
 else if (hasParser) main(positionals[0]);
 else console.log('tools/valid: passed over, no parser for trees is installed (Debian: node-acorn)');
 

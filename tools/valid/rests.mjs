@@ -2,7 +2,7 @@
 // Evaluates random programs with object rests in parameters, catch clauses, heads of loops and declarations before and after the tool lowered
 // them, by node itself: the same properties have to be read in the same order, the same values seen, and the same errors thrown. Names are few,
 // so that patterns, default values, other parameters and bodies meet them. What the tool refuses is counted.
-//   rests.mjs [--seed N] [--count N] [--tool PROGRAM]     so many programs
+//   rests.mjs [--seed N] [--count N] [--imported] [--tool PROGRAM]     so many programs, with helpers of `babelHelpers` or required ones
 import { parseArgs } from 'node:util';
 import '../estree/babel-helpers.cjs';
 import { canonicalText, read } from '../estree/lib/form.mjs';
@@ -11,11 +11,11 @@ import { textToTree } from '../estree/lib/texts.mjs';
 import { print } from '../estree/print.mjs';
 import { lowerAll } from './lib/tool.mjs';
 
-const WORDS = ['--rest-spread', '--helpers=external'];
 const NAMES = ['a', 'b', 'c', 'd', 'e', 'g'];
 const { values } = parseArgs({
-  options: { seed: { type: 'string', default: '1' }, count: { type: 'string', default: '300' }, tool: { type: 'string' } },
+  options: { seed: { type: 'string', default: '1' }, count: { type: 'string', default: '300' }, imported: { type: 'boolean' }, tool: { type: 'string' } },
 });
+const WORDS = ['--rest-spread', ...values.imported ? [] : ['--helpers=external']];
 let state = Number(values.seed);
 let places = 0;
 /** The names that no pattern or parameter of the program at hand binds yet. */
@@ -176,7 +176,7 @@ function evaluated(text) {
     return made;
   };
   const see = (number, names) => { log.push(`${number}:${names.map(name => described(name, 2)).join(';')}`); };
-  const host = { told, source, see };
+  const host = { told, source, see, require: requireHelper };
   try {
     const outer = JSON.stringify(NAMES.map(name => `outer ${name}`));
     new Function(...Object.keys(host), `let [${NAMES.join(', ')}] = ${outer}; (function () { ${text} })();`)(...Object.values(host));
@@ -184,6 +184,12 @@ function evaluated(text) {
     log.push(`throws ${error.constructor.name}`);
   }
   return log;
+}
+
+/** The helper that a script requires of its module. */
+function requireHelper(path) {
+  const [, name] = path.match(/^@oxc-project\/runtime\/helpers\/(\w+)$/);
+  return globalThis.babelHelpers[name];
 }
 
 /** What a function gives, or the value itself; of an object its own properties, read as they stand. */

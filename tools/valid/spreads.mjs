@@ -1,7 +1,8 @@
 #!/usr/bin/env node
 // Evaluates random object literals with spreads before and after the tool lowered them, by node itself, with a helper that copies: what is
 // called, in its order, and the properties of each object with their attributes have to be the same.
-//   spreads.mjs [--seed N] [--count N] [--tool PROGRAM]     so many literals, three deep at most
+//   spreads.mjs [--seed N] [--count N] [--imported] [--tool PROGRAM]     so many literals, three deep at most, with a helper of
+//   `babelHelpers` or one that is required
 import { parseArgs } from 'node:util';
 import { canonicalText, read } from '../estree/lib/form.mjs';
 import { hasParser } from '../estree/lib/parsers.mjs';
@@ -9,10 +10,10 @@ import { textToTree } from '../estree/lib/texts.mjs';
 import { print } from '../estree/print.mjs';
 import { lowerAll } from './lib/tool.mjs';
 
-const WORDS = ['--rest-spread', '--helpers=external'];
 const { values } = parseArgs({
-  options: { seed: { type: 'string', default: '1' }, count: { type: 'string', default: '300' }, tool: { type: 'string' } },
+  options: { seed: { type: 'string', default: '1' }, count: { type: 'string', default: '300' }, imported: { type: 'boolean' }, tool: { type: 'string' } },
 });
+const WORDS = ['--rest-spread', ...values.imported ? [] : ['--helpers=external']];
 let state = Number(values.seed);
 let places = 0;
 
@@ -82,6 +83,7 @@ function evaluated(text) {
     key: number => `p${told('key', number) % 4}`,
     spread: number => operands(told('spread', number), told, symbol)[number % 6],
     babelHelpers: { objectSpread2 },
+    require: path => path === '@oxc-project/runtime/helpers/objectSpread2' && objectSpread2,
   };
   new Function(...Object.keys(host), text)(...Object.values(host));
   return { calls, objects: objects.map(described) };

@@ -8,15 +8,16 @@ import { fileURLToPath } from 'node:url';
 const TOP = fileURLToPath(new URL('../../../', import.meta.url));
 const TOOL = path.join(TOP, 'crates/lower_tool/out/lower_tool');
 const LOWERINGS = ['--nullish', '--chaining', '--logical', '--exponentiation', '--catch', '--namespace'];
-const SPREAD = ['--rest-spread', '--helpers=external'];
+const SPREAD = ['--rest-spread'];
+const EXTERNAL = ['--helpers=external'];
 const ARROWS = ['--arrows'];
 
 /**
- * All lowerings that are built, but for those of object spreads and rests where a rest stands that isn't lowered, and that of arrows for every
- * second tree, since many are refused with it.
+ * All lowerings that are built, but for those of object spreads and rests where a rest stands that isn't lowered, with helpers that are imported
+ * for every third tree, and but for that of arrows for every second one, since many are refused with it.
  */
 function wordsFor(tree) {
-  return [...LOWERINGS, ...hasStrayRest(JSON.parse(tree)) ? [] : SPREAD, ...tree.length % 2 === 0 ? [] : ARROWS];
+  return [...LOWERINGS, ...hasStrayRest(JSON.parse(tree)) ? [] : SPREAD, ...tree.length % 3 === 0 ? [] : EXTERNAL, ...tree.length % 2 === 0 ? [] : ARROWS];
 }
 
 /**
