@@ -15,9 +15,12 @@ pub mod MovedSize
 pub mod MovedAlike
 pub mod MovedCounts
 pub mod MovedAgree
+pub mod RowsInside
+pub mod RowsLead
 pub mod MovedRows
 pub mod MovedInward
 pub mod MovedNames
+pub mod InnerTrees
 pub mod MovedQuiet
 pub mod MovedForms
 pub mod MovedSupply

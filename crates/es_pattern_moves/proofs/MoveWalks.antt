@@ -65,7 +65,7 @@ module _ (Q : AstType → Label → Fields → Type 0) where
   all-joined empty ts h = h
   all-joined (x before xs) ts h = all-joined xs ts h.1
 
-  all-after : (bs ts : Trees) → AllAmong Q (after_imports bs ts) → AllAmong Q ts
+  pub all-after : (bs ts : Trees) → AllAmong Q (after_imports bs ts) → AllAmong Q ts
   all-after bs empty h = tt
   all-after bs (t before ts) h = at (is_import t) (λ k. all-after bs ts k) h
     where
@@ -77,12 +77,12 @@ module _ (Q : AstType → Label → Fields → Type 0) where
   all-declared kind [] ts h = h
   all-declared kind (d ∷ ds) ts h = h.1
 
-  all-body : (vs ls : List Tree) (e : Tree) → All Q (body_with vs ls e) → All Q e
+  pub all-body : (vs ls : List Tree) (e : Tree) → All Q (body_with vs ls e) → All Q e
   all-body [] [] e h = h
   all-body [] (d ∷ ls) e h = h.1.1.0.1.0.1.0
   all-body (v ∷ vs) ls e h = (all-declared (codes "let") ls (return_node e before empty) h.1.1.0.1).0.1.0
 
-  all-flanks : (bs cs : List Tree) (t : Tree) (ts : Trees) → AllAmong Q (flanks_with bs t cs ts) → All Q t × AllAmong Q ts
+  pub all-flanks : (bs cs : List Tree) (t : Tree) (ts : Trees) → AllAmong Q (flanks_with bs t cs ts) → All Q t × AllAmong Q ts
   all-flanks bs cs t ts h = let k = all-joined (trees bs) (t before joined_trees (trees cs) ts) h in (k.0, all-joined (trees cs) ts k.1)
 
 named-flanks : (w : Whole) (r : Role) (bs cs : List Tree) (t : Tree) (ts : Trees) → NamedAll w.in_use w.free_symbol r (flanks_with bs t cs ts) → Named w.in_use w.free_symbol r t × NamedAll w.in_use w.free_symbol r ts

@@ -158,33 +158,40 @@ module _ (in_use : Text → Bool) (base x y : Text) (a : IsFreshName in_use base
       at (inr (inl lt)) = absurd (not-below lt)
       at (inr (inr lt)) = absurd (not-above lt)
 
-fresh-agree : (in_use : Text → Bool) (xs ys : List Text) → AreFresh in_use xs → AreFresh in_use ys → (i : ℕ) → i < length xs → i < length ys → name_of ys i ≡ name_of xs i
-fresh-agree in_use [] ys a b i lt gt = absurd (omega (arith, lt))
-fresh-agree in_use (x ∷ xs) [] a b i lt gt = absurd (omega (arith, gt))
-fresh-agree in_use (x ∷ xs) (y ∷ ys) a b zero lt gt = one-fresh in_use (codes "ref") y x b.0 a.0
-fresh-agree in_use (x ∷ xs) (y ∷ ys) a b (suc i) lt gt =
-    fresh-agree (also x in_use) xs ys a.1 (subst (λ (z : Text). AreFresh (also z in_use) ys) (one-fresh in_use (codes "ref") y x b.0 a.0) b.1) i (omega (arith, lt)) (omega (arith, gt))
+-- lists of such names, in each of which a name counts as in use after it
+module _ (base : Text) (Fresh : (Text → Bool) → List Text → Type 0) (parts : (u : Text → Bool) (x : Text) (xs : List Text) → Fresh u (x ∷ xs) → IsFreshName u base x × Fresh (also x u) xs) where
+  pub fresh-agree : (u : Text → Bool) (xs ys : List Text) → Fresh u xs → Fresh u ys → (i : ℕ) → i < length xs → i < length ys → name_of ys i ≡ name_of xs i
+  fresh-agree u [] ys a b i lt gt = absurd (omega (arith, lt))
+  fresh-agree u (x ∷ xs) [] a b i lt gt = absurd (omega (arith, gt))
+  fresh-agree u (x ∷ xs) (y ∷ ys) a b zero lt gt = one-fresh u base y x (parts u y ys b).0 (parts u x xs a).0
+  fresh-agree u (x ∷ xs) (y ∷ ys) a b (suc i) lt gt =
+      fresh-agree (also x u) xs ys (parts u x xs a).1 (subst (λ (z : Text). Fresh (also z u) ys) (one-fresh u base y x (parts u y ys b).0 (parts u x xs a).0) (parts u y ys b).1) i (omega (arith, lt)) (omega (arith, gt))
 
-same-lists : (xs ys : List Text) → length xs ≡ length ys → ((i : ℕ) → i < length xs → name_of ys i ≡ name_of xs i) → xs ≡ ys
+pub same-lists : (xs ys : List Text) → length xs ≡ length ys → ((i : ℕ) → i < length xs → name_of ys i ≡ name_of xs i) → xs ≡ ys
 same-lists [] [] e h = refl
 same-lists [] (y ∷ ys) e h = absurd (omega (arith, e))
 same-lists (x ∷ xs) [] e h = absurd (omega (arith, e))
 same-lists (x ∷ xs) (y ∷ ys) e h = let rest = same-lists xs ys (omega (arith, e)) (λ i lt. h (suc i) (omega (arith, lt))) in λ i. sym (h 0 (omega arith)) i ∷ rest i
+
+-- of two things that are made with names, the one with no more names may come first
+pub either-first : (Made : Tree → List Text → Type 0) → ((q r : Tree) (names others : List Text) → Made q names → Made r others → length names ≤ length others → (q ≡ r) × (names ≡ others)) →
+    (q r : Tree) (names others : List Text) → Made q names → Made r others → (q ≡ r) × (names ≡ others)
+either-first Made no-longer q r names others a b = at (cases_lt (length names) (length others))
+  where
+    at : (length names < length others) ⊎ (length others ≤ length names) → (q ≡ r) × (names ≡ others)
+    at (inl lt) = no-longer q r names others a b (omega (arith, lt))
+    at (inr le) = let same = no-longer r q others names b a le in (sym same.0, sym same.1)
 
 -- A PROGRAM
 
 module _ (in_use : Text → Bool) (p q r : Tree) (names others : List Text) (a : MovesTo in_use p q names) (b : MovesTo in_use p r others) where
   no-longer : length names ≤ length others → (q ≡ r) × (names ≡ others)
   no-longer le =
-      let agree : (i : ℕ) → i < length names → name_of others i ≡ name_of names i = λ i lt. fresh-agree in_use names others a.fresh b.fresh i lt (omega (arith, lt, le)) in
+      let agree : (i : ℕ) → i < length names → name_of others i ≡ name_of names i = λ i lt. fresh-agree (codes "ref") AreFresh (λ u x xs h. h) in_use names others a.fresh b.fresh i lt (omega (arith, lt, le)) in
       let made : MakeSame (length names) (plainly names) (plainly others) = record { name = λ i t lt. ap (λ x. plain_name x t) (agree i lt); label = λ t texts. refl; block = λ t. refl } in
       let so : moved (plainly others) 0 p ≡ moved (plainly names) 0 p = tree-same (length names) (plainly names) (plainly others) made 0 p (omega (arith, a.count)) in
       let count : length names ≡ length others = sym a.count ∙ sym (ap (λ (z : ℕ × Tree). z.0) so) ∙ b.count in
       (a.tree ∙ sym (ap (λ (z : ℕ × Tree). z.1) so) ∙ sym b.tree, same-lists names others count agree)
 
-one-moved : (in_use : Text → Bool) (p q r : Tree) (names others : List Text) → MovesTo in_use p q names → MovesTo in_use p r others → (length names < length others) ⊎ (length others ≤ length names) → (q ≡ r) × (names ≡ others)
-one-moved in_use p q r names others a b (inl lt) = no-longer in_use p q r names others a b (omega (arith, lt))
-one-moved in_use p q r names others a b (inr le) = let same = no-longer in_use p r q others names b a le in (sym same.0, sym same.1)
-
 pub law_one_moved_proof : LawOneMoved
-law_one_moved_proof in_use p q r names others a b = one-moved in_use p q r names others a b (cases_lt (length names) (length others))
+law_one_moved_proof in_use p q r names others a b = either-first (λ t ts. MovesTo in_use p t ts) (λ q r names others a b le. no-longer in_use p q r names others a b le) q r names others a b

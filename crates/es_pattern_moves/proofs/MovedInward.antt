@@ -145,3 +145,13 @@ module _ (n : Site) (k : AstType) (l : Label) (fs : Fields) where
 
   pub inward : (s : Sort) → has_form s (node k l fs) ≡ true → EachIn FitsAt sites (is_body k) fs
   inward s formed = in-children (elements_of (child_entries k)) refl (node_form s k l fs formed).children
+
+-- WHAT A FIELD with a list asks of the nodes in it
+
+pub each-of : (n : Site) (v : Bool) (ts : Trees) → EachBy FitsAt n v (many ts) → Each FitsAt n ts
+each-of n true ts h = h
+each-of n false ts h = h
+
+pub each-in : (n : Site) (v : Bool) (ts : Trees) → EachBy FitsAt n v (statements ts) → Each FitsAt n ts
+each-in n true ts h = h
+each-in n false ts h = h

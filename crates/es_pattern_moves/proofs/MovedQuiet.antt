@@ -1,101 +1,16 @@
--- What stands in expressions and patterns declares nothing by `var`, outside functions and static blocks: by induction over the table of fields.
-use Rattle.std.proofs.Common.{◌≡◌, refl, sym, ap, ◌∙◌, List, [], ◌∷◌}
-use Rattle.std.specs.Prelude.{Bool, true, false, not, ◌&&◌, ◌||◌, Option, Some, None, if◌then◌else◌}
-use Rattle.std.specs.List.{list_all, list_any}
-use Rattle.std.proofs.lemmas.Bool.{and_parts, or_from}
-use Rattle.es_tree.specs.Attributes.{child_entries}
-use Rattle.es_tree.specs.HasForm.{ElementsPlace, element_form, elements_by, elements_form, elements_of, field_form, fields_form, has_form, is_in, is_computed, is_of_sort, match_option, sort_at, sort_before_fields, sort_before_trees, trees_form}
-use Rattle.es_tree.specs.Table.{kinds_of, rest_sort}
-use Rattle.es_tree.specs.Tree.{Tree, node, Label, Fields, done, ◌then◌, Field, missing, one, many, statements, Trees, empty, ◌before◌}
+-- What stands in expressions and patterns declares nothing by `var`, outside functions and static blocks.
+use Rattle.std.proofs.Common.{◌≡◌, refl}
+use Rattle.std.specs.Prelude.{Bool, true, false, not, ◌&&◌, ◌||◌}
+use Rattle.std.proofs.lemmas.Bool.{or_from}
+use Rattle.es_tree.specs.HasForm.{has_form}
+use Rattle.es_tree.specs.Tree.{Tree, node, Label, Fields}
 use Rattle.es_tree.specs.Words.{Text}
 use Rattle.es_tree.specs.declared.ast_type.AstType.{AstType}
-use Rattle.es_tree.specs.declared.ast_type.AstType.TheVariants.{FunctionDeclaration, Program, VariableDeclaration}
-use Rattle.es_tree.specs.declared.table.Content.{Content}
-use Rattle.es_tree.specs.declared.table.Content.TheVariants.{Child as c-Child}
-use Rattle.es_tree.specs.declared.table.Entry.{Entry}
-use Rattle.es_tree.specs.declared.table.FieldName.{FieldName}
-use Rattle.es_tree.specs.declared.table.Often.TheVariants.{Required, Optional, List as a-List, NonEmptyList, ListWithRest, Statements, Elements, ElementsWithRest}
+use Rattle.es_tree.specs.declared.ast_type.AstType.TheVariants.{FunctionDeclaration, VariableDeclaration}
 use Rattle.es_tree.specs.declared.table.Sort.{Sort}
-use Rattle.es_tree.specs.declared.table.Sort.TheVariants.{ArrowFunctionBody as s-ArrowFunctionBody, BinaryLeft as s-BinaryLeft, ClassElement as s-ClassElement, Expression as s-Expression, MemberProperty as s-MemberProperty, ObjectMember as s-ObjectMember, PatternMemberRest as s-PatternMemberRest, PatternRest as s-PatternRest, PropertyKey as s-PropertyKey, TargetElementRest as s-TargetElementRest, TargetMemberRest as s-TargetMemberRest, TemplateElement as s-TemplateElement}
-use Rattle.es_tree.proofs.CoreBreaks.{among_kinds}
-use Rattle.es_tree.proofs.NodeForm.{node_form}
 use Rattle.es_resolution.specs.Declarations.{is_var_scope}
 use Rattle.es_pattern_moves.specs.PatternMoves.{var_among, var_declares, var_here, var_in_field, var_in_fields}
-
--- KINDS of what stands in expressions, outside statements
-
-abbrev inner_sorts : List Sort
-inner_sorts = s-ArrowFunctionBody ∷ s-BinaryLeft ∷ s-PatternRest ∷ s-PatternMemberRest ∷ s-TargetElementRest ∷ s-TargetMemberRest ∷ s-ClassElement ∷ s-PropertyKey ∷ s-ObjectMember ∷ s-TemplateElement ∷ []
-
-abbrev is_inner : AstType → Bool
-is_inner k = list_any (λ s. is_of_sort s k) inner_sorts
-
--- all kinds of the sort are such
-abbrev pub holds_inner : Sort → Bool
-holds_inner s = list_all is_inner (kinds_of s)
-
-abbrev content_inner : Content → Bool
-content_inner (c-Child s often) = holds_inner s && holds_inner (rest_sort s)
-content_inner c = true
-
-abbrev entries_inner : List Entry → Bool
-entries_inner [] = true
-entries_inner (e ∷ es) = content_inner e.content && entries_inner es
-
--- what stands inside such a kind is such, but for the statements of bodies
-all-inner : (k : AstType) → (is_var_scope k || (not (is_inner k) || entries_inner (child_entries k))) ≡ true
-all-inner Program = refl
-all-inner _ = refl
-
-or-second : (a b : Bool) → (a || b) ≡ true → a ≡ false → b ≡ true
-or-second true b e d = absurd (cc d)
-or-second false b e d = e
-
-not-true : (a : Bool) → a ≡ true → not a ≡ false
-not-true a e = rw e refl
-
-inside-inner : (k : AstType) → is_var_scope k ≡ false → is_inner k ≡ true → entries_inner (child_entries k) ≡ true
-inside-inner k e d = or-second (not (is_inner k)) (entries_inner (child_entries k)) (or-second (is_var_scope k) (not (is_inner k) || entries_inner (child_entries k)) (all-inner k) e) (not-true (is_inner k) d)
-
-sort-inner : (k : AstType) (l : Label) (s : Sort) → holds_inner s ≡ true → holds_inner (sort_at k l s) ≡ true
-sort-inner k l s-PropertyKey h = at (is_computed k l)
-  where
-    at : (b : Bool) → holds_inner (if b then s-Expression else s-PropertyKey) ≡ true
-    at true = refl
-    at false = refl
-sort-inner k l s-MemberProperty h = at (is_computed k l)
-  where
-    at : (b : Bool) → holds_inner (if b then s-Expression else s-MemberProperty) ≡ true
-    at true = refl
-    at false = refl
-sort-inner k l s-BinaryLeft h = at (is_in k l)
-  where
-    at : (b : Bool) → holds_inner (if b then s-BinaryLeft else s-Expression) ≡ true
-    at true = refl
-    at false = refl
-sort-inner k l s h = h
-
-before-trees-inner : (s last : Sort) (ts : Trees) → holds_inner s ≡ true → holds_inner last ≡ true → holds_inner (sort_before_trees s last ts) ≡ true
-before-trees-inner s last empty a b = b
-before-trees-inner s last (t before ts) a b = a
-
-before-fields-inner : (s last : Sort) (fs : Fields) → holds_inner s ≡ true → holds_inner last ≡ true → holds_inner (sort_before_fields s last fs) ≡ true
-before-fields-inner s last done a b = b
-before-fields-inner s last (f then fs) a b = a
-
-place-inner : (f : FieldName) (c : Content) (p : ElementsPlace) → elements_by f c ≡ Some p → content_inner c ≡ true → (holds_inner p.sort ≡ true) × (holds_inner p.last ≡ true)
-place-inner f (c-Child s Elements) p e d =
-    let q = and_parts (holds_inner s) (holds_inner (rest_sort s)) d in
-    (sym (ap (λ o. match_option o true (λ p. holds_inner p.sort)) e) ∙ q.0, sym (ap (λ o. match_option o true (λ p. holds_inner p.last)) e) ∙ q.0)
-place-inner f (c-Child s ElementsWithRest) p e d =
-    let q = and_parts (holds_inner s) (holds_inner (rest_sort s)) d in
-    (sym (ap (λ o. match_option o true (λ p. holds_inner p.sort)) e) ∙ q.0, sym (ap (λ o. match_option o true (λ p. holds_inner p.last)) e) ∙ q.1)
-place-inner f c p e d = absurd (cc e)
-
-elements-inner : (es : List Entry) (p : ElementsPlace) → elements_of es ≡ Some p → entries_inner es ≡ true → (holds_inner p.sort ≡ true) × (holds_inner p.last ≡ true)
-elements-inner [] p e d = absurd (cc e)
-elements-inner (a ∷ []) p e d = place-inner a.field a.content p e (and_parts (content_inner a.content) true d).0
-elements-inner (a ∷ (b ∷ es)) p e d = absurd (cc e)
+use Rattle.es_pattern_moves.proofs.InnerTrees.{holds_inner, is_inner, tree-holds}
 
 module _ (x : Text) where
   here-none : (k : AstType) (l : Label) (fs : Fields) → is_inner k ≡ true → var_here x k l fs ≡ false
@@ -110,53 +25,14 @@ module _ (x : Text) where
       at true h = refl
       at false h = or_from (var_here x k l fs) (var_in_fields x fs) (here-none k l fs e) (h refl)
 
-  children-none : (k : AstType) (l : Label) (fs : Fields) → (entries_inner (child_entries k) ≡ true → fields_form k l (child_entries k) fs ≡ true → var_in_fields x fs ≡ false) →
-      ((s last : Sort) → holds_inner s ≡ true → holds_inner last ≡ true → elements_form s last fs ≡ true → var_in_fields x fs ≡ false) →
-      entries_inner (child_entries k) ≡ true → (o : Option ElementsPlace) → elements_of (child_entries k) ≡ o → match_option o (fields_form k l (child_entries k) fs) (λ p. elements_form p.sort p.last fs) ≡ true → var_in_fields x fs ≡ false
-  children-none k l fs entries elements inner None q h = entries inner h
-  children-none k l fs entries elements inner (Some p) q h = let both = elements-inner (child_entries k) p q inner in elements p.sort p.last both.0 both.1 h
-
-  mutual
-    pub tree-none : (s : Sort) (t : Tree) → holds_inner s ≡ true → has_form s t ≡ true → var_declares x t ≡ false
-    tree-none s (node k l fs) inner h =
-        let f = node_form s k l fs h in
-        let e = among_kinds is_inner k (kinds_of s) f.sort inner in
-        node-none k l fs e (λ b. children-none k l fs (λ i c. entries-none k l (child_entries k) fs i c) (λ a last i j c. elements-none a last fs i j c) (inside-inner k b e) (elements_of (child_entries k)) refl f.children)
-
-    entries-none : (k : AstType) (l : Label) (es : List Entry) (fs : Fields) → entries_inner es ≡ true → fields_form k l es fs ≡ true → var_in_fields x fs ≡ false
-    entries-none k l [] done e h = refl
-    entries-none k l [] (f then fs) e h = absurd (cc h)
-    entries-none k l (y ∷ es) done e h = refl
-    entries-none k l (y ∷ es) (f then fs) e h =
-        let parts = and_parts (field_form k l y.content f) (fields_form k l es fs) h in
-        let inner = and_parts (content_inner y.content) (entries_inner es) e in
-        or_from (var_in_field x f) (var_in_fields x fs) (content-none k l y.content f inner.0 parts.0) (entries-none k l es fs inner.1 parts.1)
-
-    content-none : (k : AstType) (l : Label) (c : Content) (f : Field) → content_inner c ≡ true → field_form k l c f ≡ true → var_in_field x f ≡ false
-    content-none k l (c-Child s Required) (one t) e h = tree-none (sort_at k l s) t (sort-inner k l s (and_parts (holds_inner s) (holds_inner (rest_sort s)) e).0) h
-    content-none k l (c-Child s Optional) missing e h = refl
-    content-none k l (c-Child s Optional) (one t) e h = tree-none (sort_at k l s) t (sort-inner k l s (and_parts (holds_inner s) (holds_inner (rest_sort s)) e).0) h
-    content-none k l (c-Child s a-List) (many ts) e h = let q = and_parts (holds_inner s) (holds_inner (rest_sort s)) e in trees-none s s ts q.0 q.0 h
-    content-none k l (c-Child s NonEmptyList) (many empty) e h = refl
-    content-none k l (c-Child s NonEmptyList) (many (t before ts)) e h = let q = and_parts (holds_inner s) (holds_inner (rest_sort s)) e in trees-none s s (t before ts) q.0 q.0 h
-    content-none k l (c-Child s ListWithRest) (many ts) e h = let q = and_parts (holds_inner s) (holds_inner (rest_sort s)) e in trees-none s (rest_sort s) ts q.0 q.1 h
-    content-none k l (c-Child s Statements) (statements ts) e h = let q = and_parts (holds_inner s) (holds_inner (rest_sort s)) e in trees-none s s ts q.0 q.0 h
-    content-none k l c f e h = absurd (cc h)
-
-    trees-none : (s last : Sort) (ts : Trees) → holds_inner s ≡ true → holds_inner last ≡ true → trees_form s last ts ≡ true → var_among x ts ≡ false
-    trees-none s last empty a b h = refl
-    trees-none s last (t before ts) a b h =
-        let parts = and_parts (has_form (sort_before_trees s last ts) t) (trees_form s last ts) h in
-        or_from (var_declares x t) (var_among x ts) (tree-none (sort_before_trees s last ts) t (before-trees-inner s last ts a b) parts.0) (trees-none s last ts a b parts.1)
-
-    elements-none : (s last : Sort) (fs : Fields) → holds_inner s ≡ true → holds_inner last ≡ true → elements_form s last fs ≡ true → var_in_fields x fs ≡ false
-    elements-none s last done a b h = refl
-    elements-none s last (f then fs) a b h =
-        let parts = and_parts (element_form (sort_before_fields s last fs) f) (elements_form s last fs) h in
-        or_from (var_in_field x f) (var_in_fields x fs) (element-none (sort_before_fields s last fs) f (before-fields-inner s last fs a b) parts.0) (elements-none s last fs a b parts.1)
-
-    element-none : (s : Sort) (f : Field) → holds_inner s ≡ true → element_form s f ≡ true → var_in_field x f ≡ false
-    element-none s missing e h = refl
-    element-none s (one t) e h = tree-none s t e h
-    element-none s (many ts) e h = absurd (cc h)
-    element-none s (statements ts) e h = absurd (cc h)
+  pub tree-none : (s : Sort) (t : Tree) → holds_inner s ≡ true → has_form s t ≡ true → var_declares x t ≡ false
+  tree-none = tree-holds (λ t. var_declares x t ≡ false) (λ bodies fs. var_in_fields x fs ≡ false) (λ b f. var_in_field x f ≡ false) (λ ts. var_among x ts ≡ false) (record {
+    at_node = node-none;
+    at_done = λ bodies. refl;
+    at_then = λ bodies f fs h k. or_from (var_in_field x f) (var_in_fields x fs) h k;
+    at_missing = λ b. refl;
+    at_one = λ b t h. h;
+    at_many = λ b ts h. h;
+    at_empty = refl;
+    at_before = λ t ts h k. or_from (var_declares x t) (var_among x ts) h k;
+  })

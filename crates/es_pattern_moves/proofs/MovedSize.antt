@@ -1,5 +1,5 @@
--- Moving makes a tree no larger than three and a half times as large: what is made for a pattern has five nodes more at most, and a pattern with
--- a rest has more than one node, which are counted for it alone. A body that is made has two nodes, for which the function spares enough.
+-- Moving makes a tree no larger than what it weighs: what is made for a pattern has five nodes more at most, for which the pattern and its rest
+-- weigh enough, and a body that is made has two, for which the function does. And a tree weighs no more than three and a half for each node.
 use Rattle.std.proofs.Common.{◌≡◌, ◌≤◌, ℕ, suc, refl, arith, []}
 use Rattle.std.specs.Prelude.{Bool, true, false, ◌+◌, ◌*◌, ◌||◌, not, codes, if◌then◌else◌}
 use Rattle.std.proofs.lemmas.Bool.{and_parts}
@@ -33,10 +33,10 @@ use Rattle.es_pattern_moves.specs.Moved.{
   with_declared,
 }
 use Rattle.es_pattern_moves.specs.PatternMoves.{binds_let, is_rest_parameter, is_var, meets, moves_from_catch, moves_from_head, moves_pattern, pattern_of}
+use Rattle.es_pattern_moves.specs.Weights.{own_weight, weighed, weighed_among, weighed_by, weighed_in}
 use Rattle.es_rest_shapes.specs.RestShapes.{ends_in_rest, is_named_rest, is_plain_pattern, is_plain_property}
 
--- WHAT PATTERNS SPARE: of each node two and a half are to be had for what is made, twice as many here; those of patterns and rests are kept until
--- the pattern moves
+-- WHAT PATTERNS SPARE: of what a pattern and its rest weigh, all but the node itself is kept until the pattern moves
 abbrev mutual
   spare : Tree → ℕ
   spare (node ObjectPattern l fs) = 5 + spare_in fs
@@ -60,8 +60,8 @@ abbrev mutual
   spare_among empty = 0
   spare_among (t before ts) = spare t + spare_among ts
 
--- a node takes no more from its parts than its own
-spare-node : (k : AstType) (l : Label) (fs : Fields) → spare (node k l fs) ≤ 5 + spare_in fs
+-- a node spares no more than its own and what its parts do
+spare-node : (k : AstType) (l : Label) (fs : Fields) → 2 + spare (node k l fs) ≤ own_weight k + spare_in fs
 spare-node ObjectPattern l fs = omega arith
 spare-node RestElement l fs = omega arith
 spare-node AssignmentPattern l fs = omega arith
@@ -152,9 +152,9 @@ module _ (m : Makes) (small : (n : ℕ) (t : Tree) → tree_size (m.name n t) �
       omega (arith, plain-spares p (and_parts (is_plain_pattern p) (is_var l || not (meets p e)) h).0, small n p)
   head-size n _ h = absurd (cc h)
 
-  -- a node that moves spares nothing more, and takes what is its own
+  -- a node out of which patterns move spares nothing more, and what it becomes is paid for
   record Paid (n : ℕ) (k : AstType) (l : Label) (fs : Fields) : Type 0 where
-    size : 2 * fields_size (moved_fields m n k fs) ≤ 5 + 2 * fields_size fs + spare_in fs
+    size : 2 + 2 * fields_size (moved_fields m n k fs) ≤ own_weight k + 2 * fields_size fs + spare_in fs
     none : spare (node k l (moved_fields m n k fs)) ≡ 0
 
   moving : (n : ℕ) (k : AstType) (l : Label) (fs : Fields) → moves_pattern k l fs ≡ true → Paid n k l fs
@@ -166,38 +166,66 @@ module _ (m : Makes) (small : (n : ℕ) (t : Tree) → tree_size (m.name n t) �
   moving n ArrowFunctionExpression l fs h = record { size = omega (arith, arrow-size n fs, arrow-spares fs); none = refl }
   moving n _ l fs h = absurd (cc h)
 
-  -- of what stood in this many nodes under it
-  abbrev PaidFor : ℕ → ℕ × Tree → Type 0
-  PaidFor n r = 2 * tree_size r.1 + spare r.1 ≤ 7 * suc n
+  -- by this weight
+  abbrev PaidBy : ℕ → ℕ × Tree → Type 0
+  PaidBy w r = 2 * tree_size r.1 + spare r.1 ≤ w
 
-  here-size : (n : ℕ) (k : AstType) (l : Label) (fs gs : Fields) → 2 * fields_size gs + spare_in gs ≤ 7 * fields_size fs → PaidFor (fields_size fs) (moved_here m n k l gs)
-  here-size n k l fs gs h = at (moves_pattern k l gs) refl
+  here-size : (n : ℕ) (k : AstType) (l : Label) (w : ℕ) (gs : Fields) → 2 * fields_size gs + spare_in gs ≤ w → PaidBy (own_weight k + w) (moved_here m n k l gs)
+  here-size n k l w gs h = at (moves_pattern k l gs) refl
     where
-      at : (b : Bool) → moves_pattern k l gs ≡ b → PaidFor (fields_size fs) (if b then (n + count_here k gs, node k l (moved_fields m n k gs)) else (n, node k l gs))
+      at : (b : Bool) → moves_pattern k l gs ≡ b → PaidBy (own_weight k + w) (if b then (n + count_here k gs, node k l (moved_fields m n k gs)) else (n, node k l gs))
       at true e = let paid = moving n k l gs e in omega (arith, paid.size, paid.none)
       at false e = omega (arith, spare-node k l gs)
 
   -- A TREE
   mutual
-    tree-moved : (n : ℕ) (t : Tree) → 2 * tree_size (moved m n t).1 + spare (moved m n t).1 ≤ 7 * tree_size t
-    tree-moved n (node k l fs) = here-size (moved_in m n fs).0 k l fs (moved_in m n fs).1 (fields-moved n fs)
+    tree-moved : (n : ℕ) (t : Tree) → 2 * tree_size (moved m n t).1 + spare (moved m n t).1 ≤ weighed t
+    tree-moved n (node k l fs) = here-size (moved_in m n fs).0 k l (weighed_in fs) (moved_in m n fs).1 (fields-moved n fs)
 
-    fields-moved : (n : ℕ) (fs : Fields) → 2 * fields_size (moved_in m n fs).1 + spare_in (moved_in m n fs).1 ≤ 7 * fields_size fs
+    fields-moved : (n : ℕ) (fs : Fields) → 2 * fields_size (moved_in m n fs).1 + spare_in (moved_in m n fs).1 ≤ weighed_in fs
     fields-moved n done = omega arith
     fields-moved n (f then fs) = omega (arith, field-moved n f, fields-moved (moved_by m n f).0 fs)
 
-    field-moved : (n : ℕ) (f : Field) → 2 * field_size (moved_by m n f).1 + spare_by (moved_by m n f).1 ≤ 7 * field_size f
+    field-moved : (n : ℕ) (f : Field) → 2 * field_size (moved_by m n f).1 + spare_by (moved_by m n f).1 ≤ weighed_by f
     field-moved n missing = omega arith
     field-moved n (one t) = tree-moved n t
     field-moved n (many ts) = trees-moved n ts
     field-moved n (statements ts) = trees-moved n ts
 
-    trees-moved : (n : ℕ) (ts : Trees) → 2 * trees_size (moved_among m n ts).1 + spare_among (moved_among m n ts).1 ≤ 7 * trees_size ts
+    trees-moved : (n : ℕ) (ts : Trees) → 2 * trees_size (moved_among m n ts).1 + spare_among (moved_among m n ts).1 ≤ weighed_among ts
     trees-moved n empty = omega arith
     trees-moved n (t before ts) = omega (arith, tree-moved n t, trees-moved (moved m n t).0 ts)
 
-  pub moved-size : (n : ℕ) (t : Tree) → 2 * tree_size (moved m n t).1 ≤ 7 * tree_size t
+  pub moved-size : (n : ℕ) (t : Tree) → 2 * tree_size (moved m n t).1 ≤ weighed t
   moved-size n t = omega (arith, tree-moved n t)
 
+-- WHAT A TREE WEIGHS
+
+own-most : (k : AstType) → own_weight k ≤ 7
+own-most ObjectPattern = omega arith
+own-most RestElement = omega arith
+own-most FunctionDeclaration = omega arith
+own-most FunctionExpression = omega arith
+own-most ArrowFunctionExpression = omega arith
+own-most _ = omega arith
+
+mutual
+  pub tree-weighs : (t : Tree) → weighed t ≤ 7 * tree_size t
+  tree-weighs (node k l fs) = omega (arith, own-most k, fields-weigh fs)
+
+  fields-weigh : (fs : Fields) → weighed_in fs ≤ 7 * fields_size fs
+  fields-weigh done = omega arith
+  fields-weigh (f then fs) = omega (arith, field-weighs f, fields-weigh fs)
+
+  field-weighs : (f : Field) → weighed_by f ≤ 7 * field_size f
+  field-weighs missing = omega arith
+  field-weighs (one t) = tree-weighs t
+  field-weighs (many ts) = trees-weigh ts
+  field-weighs (statements ts) = trees-weigh ts
+
+  trees-weigh : (ts : Trees) → weighed_among ts ≤ 7 * trees_size ts
+  trees-weigh empty = omega arith
+  trees-weigh (t before ts) = omega (arith, tree-weighs t, trees-weigh ts)
+
 pub law_moved_size_proof : LawMovedSize
-law_moved_size_proof p m small = moved-size m small 0 p
+law_moved_size_proof p m small = (moved-size m small 0 p, tree-weighs p)

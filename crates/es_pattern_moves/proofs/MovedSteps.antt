@@ -23,22 +23,19 @@ use Rattle.es_semantic.specs.declared.place.Role.{Role}
 use Rattle.es_semantic.specs.declared.place.Role.TheVariants.{Binds}
 use Rattle.es_changes.specs.Changes.{AsBody, Each, EachBy, EachIn}
 use Rattle.es_changes.proofs.Expressions.{body-expression, law_expression_proof}
-use Rattle.es_changes.proofs.StepRows.{steps-map, steps-trans}
+use Rattle.es_changes.proofs.StepRows.{steps-trans}
 use Rattle.es_steps.specs.LoopHeads.{IsForEach, head_fields, new_head}
 use Rattle.es_steps.specs.LoopHeads.IsForEach.{for_in, for_of}
 use Rattle.es_steps.specs.Nodes.{block_node, identifier, joined_trees, made, return_node}
-use Rattle.es_steps.specs.Open.{Additions, Pending, body, child, children, is_body, is_statement_body, list, no_additions, nothing_pending, opened, opened_field, opened_fields, opened_trees, ◌and◌, ◌next◌}
+use Rattle.es_steps.specs.Open.{Additions, Pending, is_body, is_statement_body, no_additions, nothing_pending, opened}
 use Rattle.es_steps.specs.ParameterPatterns.{IsFunctionName, body_fields}
 use Rattle.es_steps.specs.ParameterPatterns.IsFunctionName.{named as a-name, nameless}
 use Rattle.es_steps.specs.Patterns.{let_statement}
 use Rattle.es_steps.specs.Rules.{next_name, with_made}
-use Rattle.es_steps.specs.Steps.{FieldStep, FieldsStep, IsExpression, Site, Step, Steps, TreesStep, Whole, is_program_list, is_target, ledger, site_in_body}
-use Rattle.es_steps.specs.Steps.FieldStep.{in_child, in_children}
-use Rattle.es_steps.specs.Steps.FieldsStep.{in_first, in_later}
+use Rattle.es_steps.specs.Steps.{IsExpression, Site, Step, Steps, Whole, ledger, site_in_body}
 use Rattle.es_steps.specs.Steps.Spot.{at_node}
 use Rattle.es_steps.specs.Steps.Step.{acts}
 use Rattle.es_steps.specs.Steps.Steps.{goes, stays}
-use Rattle.es_steps.specs.Steps.TreesStep.{in_head, in_tail}
 use Rattle.es_rest_rows.specs.RestRows.{binds_name}
 use Rattle.es_rest_shapes.specs.RestShapes.{any_tree}
 use Rattle.es_pattern_moves.specs.MoveRows.{MoveWalkRow, MovesOne}
@@ -47,11 +44,14 @@ use Rattle.es_pattern_moves.specs.Moved.{Makes, all_declared, all_named, count_h
 use Rattle.es_pattern_moves.specs.PatternMoves.{all_may_move, all_move, are_later, binds_let, body_declares, declared_later, default_apart, is_rest_parameter, is_value, may_move, meets_among, moves_from_arrow, moves_from_catch, moves_from_function, moves_from_head, moves_pattern, moves_with_body, pattern_of, stands, top_declares, var_declares}
 use Rattle.es_pattern_moves.proofs.MovedCounts.{fields-more, here-more, trees-more}
 use Rattle.es_pattern_moves.proofs.MovedForms.{walk-form}
-use Rattle.es_pattern_moves.proofs.MovedInward.{FitsAt, IsField, are-fields, inward, sites}
+use Rattle.es_pattern_moves.proofs.MovedInward.{FitsAt, IsField, are-fields, each-in, each-of, inward, sites}
 use Rattle.es_pattern_moves.proofs.MovedNames.{among-never, parameter-moved, parameter-named, stands-neither}
 use Rattle.es_pattern_moves.proofs.MovedParameters.{AreReady, SilentDefault, rows}
-use Rattle.es_pattern_moves.proofs.MovedQuiet.{holds_inner, tree-none}
-use Rattle.es_pattern_moves.proofs.MovedRows.{body-row, formed-tree, list-row, program-row, row-inside, same-body, target-row}
+use Rattle.es_pattern_moves.proofs.InnerTrees.{holds_inner}
+use Rattle.es_pattern_moves.proofs.MovedQuiet.{tree-none}
+use Rattle.es_pattern_moves.proofs.MovedRows.{body-row, formed-tree, same-body, walk-local}
+use Rattle.es_pattern_moves.proofs.RowsInside.{row-inside}
+use Rattle.es_pattern_moves.proofs.RowsLead.{LeadAmong, LeadBy, LeadIn, LeadTo, body-by as value-body-by, child-by, many-by, more-among, more-in, none-among, none-by, none-in, statement-body-by, statements-by}
 use Rattle.es_pattern_moves.proofs.MovedSupply.{At, at-next, is-bound, is-fresh, taking}
 
 -- BODIES of arrows that are values
@@ -241,25 +241,12 @@ module _ (names : List Text) (first : ℕ) (base : Text → Bool) (free : ℕ) w
 
   -- WHAT IS LEFT
 
-  pub record LeftTo (n : Site) (w : Whole) (t : Tree) (r : ℕ × Tree) : Type 0 where
-    pub after : Whole
-    pub there : At names first base after r.0
-    pub steps : (q : Pending) (s : Option Bound) (y : Additions) → Steps (Step MoveWalkRow n) (ledger w q s y) (opened t) (ledger after q s y) (opened r.1)
+  -- these names are had there
+  abbrev pub There : Whole → ℕ → Type 0
+  There w i = At names first base w i
 
-  record LeftIn (c : ℕ → Site) (bodies : ℕ → Bool) (w : Whole) (fs : Fields) (r : ℕ × Fields) : Type 0 where
-    after : Whole
-    there : At names first base after r.0
-    steps : (q : Pending) (s : Option Bound) (y : Additions) → Steps (FieldsStep MoveWalkRow c) (ledger w q s y) (opened_fields bodies fs) (ledger after q s y) (opened_fields bodies r.1)
-
-  record LeftBy (n : Site) (inside : Bool) (w : Whole) (f : Field) (r : ℕ × Field) : Type 0 where
-    after : Whole
-    there : At names first base after r.0
-    steps : (q : Pending) (s : Option Bound) (y : Additions) → Steps (FieldStep MoveWalkRow n) (ledger w q s y) (opened_field inside f) (ledger after q s y) (opened_field inside r.1)
-
-  record LeftAmong (n : Site) (w : Whole) (ts : Trees) (r : ℕ × Trees) : Type 0 where
-    after : Whole
-    there : At names first base after r.0
-    steps : (q : Pending) (s : Option Bound) (y : Additions) → Steps (TreesStep MoveWalkRow n) (ledger w q s y) (opened_trees ts) (ledger after q s y) (opened_trees r.1)
+  abbrev pub LeftTo : Site → Whole → Tree → ℕ × Tree → Type 0
+  LeftTo n w t r = LeadTo MoveWalkRow There n w t r
 
   -- A NODE
 
@@ -387,62 +374,18 @@ module _ (names : List Text) (first : ℕ) (base : Text → Bool) (free : ℕ) w
       at true = same-body k l l fs (moved_fields m (moved_in m i fs).0 k (moved_in m i fs).1)
       at false = same-body k l l fs (moved_in m i fs).1
 
-  each-of : (n : Site) (v : Bool) (ts : Trees) → EachBy FitsAt n v (many ts) → Each FitsAt n ts
-  each-of n true ts h = h
-  each-of n false ts h = h
-
-  each-in : (n : Site) (v : Bool) (ts : Trees) → EachBy FitsAt n v (statements ts) → Each FitsAt n ts
-  each-in n true ts h = h
-  each-in n false ts h = h
-
-  none-by : (n : Site) (v : Bool) (i : ℕ) (w : Whole) → At names first base w i → LeftBy n v w missing (i, missing)
-  none-by n v i w here = record { after = w; there = here; steps = λ q s y. stays }
-
-  many-by : (n : Site) (v : Bool) (i : ℕ) (w : Whole) (ts : Trees) → LeftAmong n w ts (moved_among m i ts) → LeftBy n v w (many ts) ((moved_among m i ts).0, many (moved_among m i ts).1)
-  many-by n true i w ts left = record { after = left.after; there = left.there; steps = λ q s y. steps-map children (λ s s' c d r. in_children r) (left.steps q s y) }
-  many-by n false i w ts left = record { after = left.after; there = left.there; steps = λ q s y. steps-map children (λ s s' c d r. in_children r) (left.steps q s y) }
-
-  -- whatever list it is
-  list-steps : (n : Site) (w : Whole) (ts : Trees) (r : ℕ × Trees) (left : LeftAmong n w ts r) (target whole : Bool) → is_target n.above ≡ target → is_program_list n.above ≡ whole → (q : Pending) (s : Option Bound) (y : Additions) →
-      Steps (FieldStep MoveWalkRow n) (ledger w q s y) (list nothing_pending None no_additions (opened_trees ts)) (ledger left.after q s y) (list nothing_pending None no_additions (opened_trees r.1))
-  list-steps n w ts r left true whole e d q s y = target-row n e q s no_additions (left.steps nothing_pending None y)
-  list-steps n w ts r left false true e d q s y = program-row n d q s y (left.steps nothing_pending None no_additions)
-  list-steps n w ts r left false false e d q s y = list-row n e d q None no_additions (left.steps nothing_pending s y)
-
-  statements-by : (n : Site) (v : Bool) (i : ℕ) (w : Whole) (ts : Trees) → LeftAmong n w ts (moved_among m i ts) → LeftBy n v w (statements ts) ((moved_among m i ts).0, statements (moved_among m i ts).1)
-  statements-by n true i w ts left = record { after = left.after; there = left.there; steps = λ q s y. list-steps n w ts (moved_among m i ts) left (is_target n.above) (is_program_list n.above) refl refl q s y }
-  statements-by n false i w ts left = record { after = left.after; there = left.there; steps = λ q s y. list-steps n w ts (moved_among m i ts) left (is_target n.above) (is_program_list n.above) refl refl q s y }
-
-  -- one node
-  child-by : (n : Site) (w : Whole) (t : Tree) (r : ℕ × Tree) (left : LeftTo n w t r) (q : Pending) (s : Option Bound) (y : Additions) → Steps (FieldStep MoveWalkRow n) (ledger w q s y) (child (opened t)) (ledger left.after q s y) (child (opened r.1))
-  child-by n w t r left q s y = steps-map child (λ s s' c d r. in_child r) (left.steps q s y)
-
   -- in a field that may be the body of an arrow
-  body-by : (n : Site) (i : ℕ) (w : Whole) (t : Tree) → IsField true n → (v : Bool) → is_statement_body t ≡ v → AsBody FitsAt n v t → ((c : Site) → FitsAt c t → LeftTo c w t (moved m i t)) → LeftBy n true w (one t) ((moved m i t).0, one (moved m i t).1)
-  body-by n i w t place true e fit walk =
-      let left = walk n fit in
-      record {
-        after = left.after;
-        there = left.there;
-        steps = λ q s y.
-            subst (λ (b : Bool). Steps (FieldStep MoveWalkRow n) (ledger w q s y) (if is_statement_body t then child (opened t) else body nothing_pending (opened t)) (ledger left.after q s y) (if b then child (opened (moved m i t).1) else body nothing_pending (opened (moved m i t).1))) (sym (body-kept i t))
-            (subst (λ (b : Bool). Steps (FieldStep MoveWalkRow n) (ledger w q s y) (if b then child (opened t) else body nothing_pending (opened t)) (ledger left.after q s y) (if b then child (opened (moved m i t).1) else body nothing_pending (opened (moved m i t).1))) (sym e) (child-by n w t (moved m i t) left q s y));
-      }
+  body-by : (n : Site) (i : ℕ) (w : Whole) (t : Tree) → IsField true n → (v : Bool) → is_statement_body t ≡ v → AsBody FitsAt n v t → ((c : Site) → FitsAt c t → LeftTo c w t (moved m i t)) → LeadBy MoveWalkRow There n true w (one t) ((moved m i t).0, one (moved m i t).1)
+  body-by n i w t place true e fit walk = statement-body-by MoveWalkRow There n w t (moved m i t) (body-kept i t) e (walk n fit)
   body-by n i w t place false e fit walk =
       let left = walk (site_in_body n nothing_pending t) fit in
       let sort = fit.arrow place.place in
-      record {
-        after = left.after;
-        there = left.there;
-        steps = λ q s y.
-            subst (λ (b : Bool). Steps (FieldStep MoveWalkRow n) (ledger w q s y) (if is_statement_body t then child (opened t) else body nothing_pending (opened t)) (ledger left.after q s y) (if b then child (opened (moved m i t).1) else body nothing_pending (opened (moved m i t).1))) (sym (body-kept i t))
-            (subst (λ (b : Bool). Steps (FieldStep MoveWalkRow n) (ledger w q s y) (if b then child (opened t) else body nothing_pending (opened t)) (ledger left.after q s y) (if b then child (opened (moved m i t).1) else body nothing_pending (opened (moved m i t).1))) (sym e)
-            (body-row walk-form n (place.role refl) (λ d. sym sort ∙ fit.slot d) q nothing_pending t (moved m i t).1 (subst (λ (a : Sort). has_form a t ≡ true) sort fit.formed) e (left.steps nothing_pending s y)));
-      }
+      value-body-by MoveWalkRow There n w t (moved m i t) (body-kept i t) e left.after left.there
+      (λ q s y. body-row walk-form n (place.role refl) (λ d. sym sort ∙ fit.slot d) q nothing_pending t (moved m i t).1 (subst (λ (a : Sort). has_form a t ≡ true) sort fit.formed) e (left.steps nothing_pending s y))
 
-  one-by : (n : Site) (v : Bool) (i : ℕ) (w : Whole) (t : Tree) → IsField v n → EachBy FitsAt n v (one t) → ((c : Site) → FitsAt c t → LeftTo c w t (moved m i t)) → LeftBy n v w (one t) ((moved m i t).0, one (moved m i t).1)
+  one-by : (n : Site) (v : Bool) (i : ℕ) (w : Whole) (t : Tree) → IsField v n → EachBy FitsAt n v (one t) → ((c : Site) → FitsAt c t → LeftTo c w t (moved m i t)) → LeadBy MoveWalkRow There n v w (one t) ((moved m i t).0, one (moved m i t).1)
   one-by n true i w t place fit walk = body-by n i w t place (is_statement_body t) refl fit walk
-  one-by n false i w t place fit walk = let left = walk n fit in record { after = left.after; there = left.there; steps = λ q s y. child-by n w t (moved m i t) left q s y }
+  one-by n false i w t place fit walk = child-by MoveWalkRow There n w t (moved m i t) (walk n fit)
 
   -- A TREE
   mutual
@@ -451,37 +394,29 @@ module _ (names : List Text) (first : ℕ) (base : Text → Bool) (free : ℕ) w
         let gs : Fields = (moved_in m i fs).1 in
         let j : ℕ = (moved_in m i fs).0 in
         let parts = fields-left (sites n k l fs) (is_body k) (role_at r k l fs) fs i w (are-fields n k l fs) (inward n k l fs fit.sort fit.formed) named.1 here (omega (arith, le, here-more m j k l gs)) in
-        let row : (q : Pending) (s : Option Bound) (y : Additions) → Steps (Step MoveWalkRow n) (ledger w q s y) (opened (node k l fs)) (ledger parts.after q s y) (opened (node k l gs)) = λ q s y. row-inside n k l (parts.steps q s y) in
+        let row : (q : Pending) (s : Option Bound) (y : Additions) → Steps (Step MoveWalkRow n) (ledger w q s y) (opened (node k l fs)) (ledger parts.after q s y) (opened (node k l gs)) = λ q s y. row-inside MoveWalkRow walk-local n k l (parts.steps q s y) in
         let form = formed-tree walk-form fit.sort (node k l fs) (node k l gs) fit.slot (row nothing_pending None no_additions) fit.formed in
         let end = here-left n j parts.after parts.there fit.sort k l gs form (used-in i r k l fs fs named.1) le in
         record { after = end.after; there = end.there; steps = λ q s y. steps-trans (row q s y) (end.steps q s y) }
 
-    fields-left : (c : ℕ → Site) (bodies : ℕ → Bool) (roles : ℕ → Role) (fs : Fields) (i : ℕ) (w : Whole) → ((j : ℕ) → IsField (bodies j) (c j)) → EachIn FitsAt c bodies fs → NamedIn base free roles fs → At names first base w i → (moved_in m i fs).0 ≤ length names → LeftIn c bodies w fs (moved_in m i fs)
-    fields-left c bodies roles done i w places fit named here le = record { after = w; there = here; steps = λ q s y. stays }
+    fields-left : (c : ℕ → Site) (bodies : ℕ → Bool) (roles : ℕ → Role) (fs : Fields) (i : ℕ) (w : Whole) → ((j : ℕ) → IsField (bodies j) (c j)) → EachIn FitsAt c bodies fs → NamedIn base free roles fs → At names first base w i → (moved_in m i fs).0 ≤ length names → LeadIn MoveWalkRow There c bodies w fs (moved_in m i fs)
+    fields-left c bodies roles done i w places fit named here le = none-in MoveWalkRow There c bodies i w here
     fields-left c bodies roles (f then fs) i w places fit named here le =
         let j : ℕ = (moved_by m i f).0 in
         let head = field-left (c zero) (bodies zero) (roles zero) f i w (places zero) fit.0 named.0 here (omega (arith, le, fields-more m j fs)) in
         let tail = fields-left (λ a. c (suc a)) (λ a. bodies (suc a)) (λ a. roles (suc a)) fs j head.after (λ a. places (suc a)) fit.1 named.1 head.there le in
-        record {
-          after = tail.after;
-          there = tail.there;
-          steps = λ q s y. steps-trans (steps-map (λ g. g and opened_fields (λ a. bodies (suc a)) fs) (λ s s' g h r. in_first r) (head.steps q s y)) (steps-map (λ gs. opened_field (bodies zero) (moved_by m i f).1 and gs) (λ s s' g h r. in_later r) (tail.steps q s y));
-        }
+        more-in MoveWalkRow There c bodies w f fs (moved_by m i f) (moved_in m j fs) head tail
 
-    field-left : (n : Site) (v : Bool) (r : Role) (f : Field) (i : ℕ) (w : Whole) → IsField v n → EachBy FitsAt n v f → NamedBy base free r f → At names first base w i → (moved_by m i f).0 ≤ length names → LeftBy n v w f (moved_by m i f)
-    field-left n v r missing i w place fit named here le = none-by n v i w here
+    field-left : (n : Site) (v : Bool) (r : Role) (f : Field) (i : ℕ) (w : Whole) → IsField v n → EachBy FitsAt n v f → NamedBy base free r f → At names first base w i → (moved_by m i f).0 ≤ length names → LeadBy MoveWalkRow There n v w f (moved_by m i f)
+    field-left n v r missing i w place fit named here le = none-by MoveWalkRow There n v i w here
     field-left n v r (one t) i w place fit named here le = one-by n v i w t place fit (λ c d. tree-left c r t i w d named here le)
-    field-left n v r (many ts) i w place fit named here le = many-by n v i w ts (trees-left n r ts i w (each-of n v ts fit) named here le)
-    field-left n v r (statements ts) i w place fit named here le = statements-by n v i w ts (trees-left n r ts i w (each-in n v ts fit) named here le)
+    field-left n v r (many ts) i w place fit named here le = many-by MoveWalkRow There n v w ts (moved_among m i ts) (trees-left n r ts i w (each-of n v ts fit) named here le)
+    field-left n v r (statements ts) i w place fit named here le = statements-by MoveWalkRow There n v w ts (moved_among m i ts) (trees-left n r ts i w (each-in n v ts fit) named here le)
 
-    trees-left : (n : Site) (r : Role) (ts : Trees) (i : ℕ) (w : Whole) → Each FitsAt n ts → NamedAll base free r ts → At names first base w i → (moved_among m i ts).0 ≤ length names → LeftAmong n w ts (moved_among m i ts)
-    trees-left n r empty i w fit named here le = record { after = w; there = here; steps = λ q s y. stays }
+    trees-left : (n : Site) (r : Role) (ts : Trees) (i : ℕ) (w : Whole) → Each FitsAt n ts → NamedAll base free r ts → At names first base w i → (moved_among m i ts).0 ≤ length names → LeadAmong MoveWalkRow There n w ts (moved_among m i ts)
+    trees-left n r empty i w fit named here le = none-among MoveWalkRow There n i w here
     trees-left n r (t before ts) i w fit named here le =
         let j : ℕ = (moved m i t).0 in
         let head = tree-left n r t i w fit.0 named.0 here (omega (arith, le, trees-more m j ts)) in
         let tail = trees-left n r ts j head.after fit.1 named.1 head.there le in
-        record {
-          after = tail.after;
-          there = tail.there;
-          steps = λ q s y. steps-trans (steps-map (λ u. u next opened_trees ts) (λ s s' u v r. in_head r) (head.steps q s y)) (steps-map (λ us. opened (moved m i t).1 next us) (λ s s' us vs r. in_tail r) (tail.steps q s y));
-        }
+        more-among MoveWalkRow There n w t ts (moved m i t) (moved_among m j ts) head tail

@@ -21,13 +21,13 @@ up_to zero xs = []
 up_to (suc n) [] = []
 up_to (suc n) (x ∷ xs) = x ∷ up_to n xs
 
-next-of : (n : ℕ) (xs : List Text) → n < length xs → beyond n xs ≡ name_of xs n ∷ beyond (suc n) xs
+pub next-of : (n : ℕ) (xs : List Text) → n < length xs → beyond n xs ≡ name_of xs n ∷ beyond (suc n) xs
 next-of zero [] lt = absurd (omega (arith, lt))
 next-of zero (x ∷ xs) lt = refl
 next-of (suc n) [] lt = absurd (omega (arith, lt))
 next-of (suc n) (x ∷ xs) lt = next-of n xs (omega (arith, lt))
 
-more-of : (n : ℕ) (xs : List Text) → n < length xs → up_to n xs ++ (name_of xs n ∷ []) ≡ up_to (suc n) xs
+pub more-of : (n : ℕ) (xs : List Text) → n < length xs → up_to n xs ++ (name_of xs n ∷ []) ≡ up_to (suc n) xs
 more-of zero [] lt = absurd (omega (arith, lt))
 more-of zero (x ∷ xs) lt = refl
 more-of (suc n) [] lt = absurd (omega (arith, lt))
@@ -39,7 +39,7 @@ all-of zero (x ∷ xs) e = absurd (omega (arith, e))
 all-of (suc n) [] e = absurd (omega (arith, e))
 all-of (suc n) (x ∷ xs) e = ap (λ ys. x ∷ ys) (all-of n xs (omega (arith, e)))
 
-made-more : (bs : List Bound) (b : Bound) → names_among (bs ++ (b ∷ [])) ≡ names_among bs ++ (b.name ∷ [])
+pub made-more : (bs : List Bound) (b : Bound) → names_among (bs ++ (b ∷ [])) ≡ names_among bs ++ (b.name ∷ [])
 made-more [] b = refl
 made-more (c ∷ bs) b = ap (λ xs. c.name ∷ xs) (made-more bs b)
 

@@ -33,6 +33,7 @@ use Rattle.es_pattern_moves.proofs.FieldShapes.AreTwo.{are_two}
 use Rattle.es_pattern_moves.proofs.FieldShapes.IsMaybe.{not_there, is_there}
 use Rattle.es_pattern_moves.proofs.FieldShapes.IsNode.{is_node}
 use Rattle.es_rest_rows.specs.RestRows.{binds_name}
+use Rattle.es_semantic.proofs.DeclaredRoles.{is_pattern}
 use Rattle.es_rest_shapes.specs.RestShapes.{any_tree}
 
 -- LISTS that don't bind a name
@@ -53,15 +54,6 @@ module _ (y : Text) where
   own-out false b e = refl
 
 -- PATTERNS
-
-abbrev is_pattern : AstType → Bool
-is_pattern Identifier = true
-is_pattern ObjectPattern = true
-is_pattern PatternProperty = true
-is_pattern ArrayPattern = true
-is_pattern AssignmentPattern = true
-is_pattern RestElement = true
-is_pattern _ = false
 
 -- a sort of patterns and what stands in them
 abbrev holds_patterns : Sort → Bool

@@ -18,6 +18,7 @@ use Rattle.es_arrow_bodies.specs.ArrowBodies.{WithBodies}
 use Rattle.es_pattern_moves.specs.MoveRows.{MoveRow, MoveWalkRow}
 use Rattle.es_pattern_moves.specs.Moved.{Makes, MovesTo, moved}
 use Rattle.es_pattern_moves.specs.PatternMoves.{moves_pattern}
+use Rattle.es_pattern_moves.specs.Weights.{weighed}
 
 -- THE ROWS are steps of the rules of object rests and of bodies, of which it is proved that what they leave is a program.
 abbrev pub LawMoveRows : Type 0
@@ -45,9 +46,9 @@ LawOneMoved = (in_use : Text → Bool) (p q r : Tree) (names others : List Text)
 abbrev pub LawStays : Type 0
 LawStays = (p : Tree) (m : Makes) → any_node moves_pattern p ≡ false → moved m 0 p ≡ (0, p)
 
--- It has at most half as many nodes more, and twice.
+-- Each node of it is paid for by what the program weighs, which is three and a half for a node at most.
 abbrev pub LawMovedSize : Type 0
-LawMovedSize = (p : Tree) (m : Makes) → ((n : ℕ) (t : Tree) → tree_size (m.name n t) ≡ 1) → 2 * tree_size (moved m 0 p).1 ≤ 7 * tree_size p
+LawMovedSize = (p : Tree) (m : Makes) → ((n : ℕ) (t : Tree) → tree_size (m.name n t) ≡ 1) → (2 * tree_size (moved m 0 p).1 ≤ weighed p) × (weighed p ≤ 7 * tree_size p)
 
 -- It is reached by steps of a walk: with symbols from the program with symbols, whose names are in use; and as it is read it is the same but for
 -- ids and marks.

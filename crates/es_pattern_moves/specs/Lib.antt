@@ -1,4 +1,5 @@
 pub mod PatternMoves
 pub mod MoveRows
+pub mod Weights
 pub mod Moved
 pub mod Laws

@@ -23,7 +23,7 @@ row-there : (n : Site) (s s' : Ledger) (x y : Spot) → FindsNone n.names → Re
 row-there n s s' x y e (stores m l a c p v z free word plain declares kept silent fresh) = stores m l a c p v z free word plain declares kept silent fresh
 row-there n s s' x y e (takes m l lp lr ls a ps c t free plain name declares kept asked used) = takes m l lp lr ls a ps c t free plain name declares kept e used
 
-body-none : (p : Place) (vs ls : List Tree) (e : Tree) → Passes is_other_name (body_with vs ls e) → FindsNone p → FindsNone (names_in_body p vs ls e)
+pub body-none : (p : Place) (vs ls : List Tree) (e : Tree) → Passes is_other_name (body_with vs ls e) → FindsNone p → FindsNone (names_in_body p vs ls e)
 body-none p [] [] e h f = f
 body-none p [] (d ∷ ls) e h f = place-none p reads FunctionBody (made [] []) (body_fields [] (d ∷ ls) e) h f 1
 body-none p (v ∷ vs) ls e h f = place-none p reads FunctionBody (made [] []) (body_fields (v ∷ vs) ls e) h f 1

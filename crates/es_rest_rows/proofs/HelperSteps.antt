@@ -1,7 +1,7 @@
 -- Steps leave `babelHelpers` unbound: what they move was there, and a name that they make isn't in use before, as that one is.
 use Rattle.std.proofs.Common.{◌≡◌, ℕ, zero, suc, inl, inr, refl, sym, subst, List, [], ◌∷◌}
 use Rattle.std.proofs.lemmas.Bool.{or_parts, or_right}
-use Rattle.std.specs.Prelude.{◌⊎◌, ◌&&◌, Bool, true, false, not, Option, Some, None, bytes_eq}
+use Rattle.std.specs.Prelude.{◌⊎◌, ◌&&◌, Bool, true, false, not, Option, Some, None, bytes_eq, is_some}
 use Rattle.es_tree.specs.Fresh.{is_among}
 use Rattle.es_tree.specs.Names.{names_of}
 use Rattle.es_tree.specs.Tree.{Tree, empty, ◌before◌}
@@ -53,46 +53,46 @@ use Rattle.es_rest_rows.proofs.PlainPatterns.{plain-holds}
 
 -- NEW NAMES
 
-word-other : (x : Text) → is_other_name x None ≡ true
+pub word-other : (x : Text) → is_other_name x None ≡ true
 word-other x = at (bytes_eq x helpers_name)
   where
     at : (v : Bool) → not (v && false) ≡ true
     at true = refl
     at false = refl
 
-name-other : (x : Text) (m : ℕ) → bytes_eq x helpers_name ≡ false → is_other_name x (Some m) ≡ true
-name-other x m e = λ i. not (e i && true)
+pub name-other : (x : Text) (s : Option ℕ) → bytes_eq x helpers_name ≡ false → is_other_name x s ≡ true
+name-other x s e = λ i. not (e i && is_some s)
+
+pub apart : (v : Bool) → v ≡ true → v ≡ false → ⊥
+apart v e d = absurd (cc (e, d))
 
 no-helpers : (w : Whole) (y : Text) → w.in_use helpers_name ≡ true → (w.in_use y ≡ false) ⊎ (y ≡ error_name) → bytes_eq y helpers_name ≡ false
 no-helpers w y used h = at (bytes_eq y helpers_name) refl h
   where
-    apart : (v : Bool) → v ≡ true → v ≡ false → ⊥
-    apart v e d = absurd (cc (e, d))
-
     at : (v : Bool) → bytes_eq y helpers_name ≡ v → (w.in_use y ≡ false) ⊎ (y ≡ error_name) → v ≡ false
     at false e k = refl
     at true e (inl k) = absurd (apart (w.in_use helpers_name) used (subst (λ (z : Text). w.in_use z ≡ false) (bytes_eq-equal y helpers_name e) k))
     at true e (inr k) = absurd (apart (bytes_eq error_name helpers_name) (subst (λ (z : Text). bytes_eq z helpers_name ≡ true) k e) refl)
 
 other-allowed : (w w' : Whole) → Numbers w w' → w.in_use helpers_name ≡ true → Allows is_other_name w w'
-other-allowed w w' h used = record { words = word-other; new = λ m e d. name-other (w'.called m) m (no-helpers w (w'.called m) used (h.new m e d).1) }
+other-allowed w w' h used = record { words = word-other; new = λ m e d. name-other (w'.called m) (Some m) (no-helpers w (w'.called m) used (h.new m e d).1) }
 
 -- STEPS
 
 -- `babelHelpers` is in use, and nowhere bound
-record Unbound (s : Ledger) (t : Open) : Type 0 where
-  used : (whole_in s).in_use helpers_name ≡ true
-  beside : LedgerPasses is_other_name s
-  names : Passes is_other_name (finished t)
+pub record Unbound (s : Ledger) (t : Open) : Type 0 where
+  pub used : (whole_in s).in_use helpers_name ≡ true
+  pub beside : LedgerPasses is_other_name s
+  pub names : Passes is_other_name (finished t)
 
 module _ (R : Site → Ledger → Spot → Ledger → Spot → Type 0) (law : Lawful R) (writes : Writes R) where
-  still-unbound : {n : Site} {s s' : Ledger} {t u : Open} → Numbers (whole_in s) (whole_in s') → Step R n s t s' u → Unbound s t → Unbound s' u
+  pub still-unbound : {n : Site} {s s' : Ledger} {t u : Open} → Numbers (whole_in s) (whole_in s') → Step R n s t s' u → Unbound s t → Unbound s' u
   still-unbound {s = s} {s' = s'} h one k =
       let after = passed R law writes is_other_name one (other-allowed (whole_in s) (whole_in s') h k.used) k.beside k.names in
       record { used = h.more helpers_name k.used; beside = after.1; names = after.0 }
 
 -- from a program
-first-unbound : (w : Whole) (t : Tree) → w.in_use helpers_name ≡ true → Passes is_other_name t → Unbound (nothing_beside w) (opened t)
+pub first-unbound : (w : Whole) (t : Tree) → w.in_use helpers_name ≡ true → Passes is_other_name t → Unbound (nothing_beside w) (opened t)
 first-unbound w t used h = record { used = used; beside = none-beside is_other_name w; names = subst (λ (z : Tree). Passes is_other_name z) (sym (finished-opened t)) h }
 
 -- THE BUILT RULES
@@ -110,7 +110,7 @@ name-none (d ∷ ds) h (suc s) = name-none ds (or_parts (bytes_eq d.name helpers
 
 called-other : (called : ℕ → Text) → ((s : ℕ) → bytes_eq (called s) helpers_name ≡ false) → (x : Text) (s : Option ℕ) → is_called called x s ≡ true → is_other_name x s ≡ true
 called-other called h x None e = word-other x
-called-other called h x (Some m) e = name-other x m (subst (λ (z : Text). bytes_eq z helpers_name ≡ false) (sym (bytes_eq-equal x (called m) e)) (h m))
+called-other called h x (Some m) e = name-other x (Some m) (subst (λ (z : Text). bytes_eq z helpers_name ≡ false) (sym (bytes_eq-equal x (called m) e)) (h m))
 
 pub law_helpers_unbound_proof : LawHelpersUnbound
 law_helpers_unbound_proof o p r names form right none reached =

@@ -1,0 +1,33 @@
+-- What trees weigh: the nodes of a tree, and what moving its patterns may add, in half nodes.
+use Rattle.std.specs.Prelude.{◌+◌, ℕ}
+use Rattle.es_tree.specs.Tree.{Tree, node, Fields, done, ◌then◌, Field, missing, one, many, statements, Trees, empty, ◌before◌}
+use Rattle.es_tree.specs.declared.ast_type.AstType.{AstType}
+use Rattle.es_tree.specs.declared.ast_type.AstType.TheVariants.{ArrowFunctionExpression, FunctionDeclaration, FunctionExpression, ObjectPattern, RestElement}
+
+-- A node weighs two, and seven where something is made for it once patterns move: five more for a pattern and for its rest, and as many for a
+-- function, which may get a body.
+abbrev pub own_weight : AstType → ℕ
+own_weight ObjectPattern = 7
+own_weight RestElement = 7
+own_weight FunctionDeclaration = 7
+own_weight FunctionExpression = 7
+own_weight ArrowFunctionExpression = 7
+own_weight _ = 2
+
+abbrev mutual
+  pub weighed : Tree → ℕ
+  weighed (node k l fs) = own_weight k + weighed_in fs
+
+  pub weighed_in : Fields → ℕ
+  weighed_in done = 0
+  weighed_in (f then fs) = weighed_by f + weighed_in fs
+
+  pub weighed_by : Field → ℕ
+  weighed_by missing = 0
+  weighed_by (one t) = weighed t
+  weighed_by (many ts) = weighed_among ts
+  weighed_by (statements ts) = weighed_among ts
+
+  pub weighed_among : Trees → ℕ
+  weighed_among empty = 0
+  weighed_among (t before ts) = weighed t + weighed_among ts
