@@ -1,3 +1,4 @@
 pub mod Idle
 pub mod Lowered
 pub mod Moved
+pub mod Used

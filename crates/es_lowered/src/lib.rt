@@ -3,6 +3,7 @@
 
 ghost use Rattle.es_lowered.specs.Lowered.{LawIdle, LawLowered, LawLoweredAlone};
 ghost use Rattle.es_lowered.specs.Moved.{LawMoved, LawUnmoved};
+ghost use Rattle.es_lowered.specs.Used.{LawUnused, LawUsed};
 
 /// What the rows of object rests lead to, after the steps of the other lowerings, from a program that has form and breaks no static rule:
 /// names keep their bindings, and the written program has form, breaks no static rule, and is to other modules what the source is.
@@ -29,4 +30,15 @@ pub fn law_moved()
 /// So it is of a program that stays as it is.
 pub fn law_unmoved()
     ensures { LawUnmoved }
+{}
+
+/// What a program that has form and breaks no static rule becomes as its `using` is lowered: names keep their bindings, and it has form, breaks no
+/// static rule, and is to other modules what the source is.
+pub fn law_used()
+    ensures { LawUsed }
+{}
+
+/// So it is of a program that stays as it is.
+pub fn law_unused()
+    ensures { LawUnused }
 {}

@@ -1,0 +1,4 @@
+pub mod UsingPlaces
+pub mod Used
+pub mod UsingRows
+pub mod Laws
