@@ -1,5 +1,5 @@
 //! Names that stand in a tree: those of its bindings and references (ECMA-262, 13.1 and 8.2). Property names and labels are none.
-ghost use Rattle.std.specs.Prelude.{◌≡◌, true};
+ghost use Rattle.std.specs.Prelude.{◌≡◌, bytes_eq, true};
 ghost use Rattle.es_tree.specs.Heads.{head_of, label};
 ghost use Rattle.es_tree.specs.Names.{is_name_place};
 ghost use Rattle.es_tree.specs.Tree.{kind_of, label_of, trees};
@@ -25,6 +25,8 @@ enum Names<'a> {
         parameters: &'a [Node],
         statements: &'a [Node],
     },
+    /// This one.
+    Word(&'a str),
 }
 
 impl Names<'_> {
@@ -38,6 +40,7 @@ impl Names<'_> {
                 parameters,
                 statements,
             } => declared_later(parameters, statements, name),
+            Names::Word(word) => name == *word,
         }
     }
 }
@@ -65,6 +68,13 @@ pub fn meets_declared(parameters: &[Node], statements: &[Node], tree: &Node) -> 
         statements,
     };
     stands_if(&names, tree, true)
+}
+
+/// Whether this name stands in the tree.
+pub fn stands(name: &str, tree: &Node) -> bool
+    ensures { result ≡ stands (λ x. bytes_eq x name.now) tree.now }
+{
+    stands_if(&Names::Word(name), tree, true)
 }
 
 fn stands_among(names: &Names, nodes: &[Node]) -> bool

@@ -1,6 +1,6 @@
 -- A node, once its parts were walked: it stays, or its fields become others.
 use Rattle.std.proofs.Common.{◌≡◌, ◌∙◌, ◌++◌, ◌+◌, List, [], ap, append-nil, length, refl, subst, sym, ℕ}
-use Rattle.std.specs.Prelude.{◌||◌, Bool, false, if◌then◌else◌, true}
+use Rattle.std.specs.Prelude.{Bool, false, if◌then◌else◌, true}
 use Rattle.es_tree.specs.Tree.{Tree, Trees, node, Label, Fields, fields_of, kind_of, label_of, missing, one, many, statements}
 use Rattle.es_tree.specs.declared.ast_type.AstType.{AstType}
 use Rattle.es_tree.specs.Words.{Text}
@@ -54,10 +54,3 @@ moves-to a b in_use p q names e none s is =
       tree = sym (ap (λ r. r.1) start);
     } in
     subst (MovesTo in_use p q) (sym is) there
-
-pub names-used : (a b c d : Bool) → (((a || b) || c) || d) ≡ (a || (b || (c || (d || false))))
-names-used true b c d = refl
-names-used false true c d = refl
-names-used false false true d = refl
-names-used false false false true = refl
-names-used false false false false = refl

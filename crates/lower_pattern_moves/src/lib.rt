@@ -23,9 +23,7 @@
 //! Its rule is `moved` of es_pattern_moves.
 #![tactic(auto)]
 
-ghost use Rattle.std.specs.Prelude.{◌≡◌, [], IfOk, map, string_bytes};
-ghost use Rattle.es_tree.specs.Words.{Text};
-ghost use Rattle.es_scope.specs.Uids.{made, uses};
+ghost use Rattle.std.specs.Prelude.{IfOk, map, string_bytes};
 ghost use Rattle.es_steps.specs.CoreBridge.{first_whole};
 ghost use Rattle.es_pattern_moves.specs.Moved.{MovesTo};
 
@@ -36,8 +34,8 @@ mod parameters;
 mod walk;
 
 use crate::walk::walk_node;
-use es_scope::uids::UidGenerator;
 use es_tree::node::Node;
+use lower_fresh_names::new_generator;
 use std::alloc::{AllocError, Global};
 
 /// The program with its patterns moved, and the fresh names in the order made. Fails only for want of memory.
@@ -48,16 +46,4 @@ pub fn move_patterns(alloc: Global, program: Node) -> Result<(Node, Vec<String>)
     let mut moved = program;
     walk_node(&mut moved, &mut uids, alloc)?;
     Ok((moved, uids.into_made()))
-}
-
-/// A generator of fresh names for the program. The names that the lowerings write of themselves are in use, too.
-fn new_generator(alloc: Global, program: &Node) -> Result<UidGenerator, AllocError>
-    ensures in_use { IfOk result (λ uids. (x : Text) → uses uids x ≡ (first_whole program.now).in_use x) }
-    ensures none_made { IfOk result (λ uids. made uids ≡ []) }
-{
-    let mut uids = UidGenerator::new(alloc, program)?;
-    uids.use_name("Math")?;
-    uids.use_name("babelHelpers")?;
-    uids.use_name("require")?;
-    Ok(uids)
 }

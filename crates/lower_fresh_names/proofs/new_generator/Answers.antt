@@ -2,8 +2,8 @@ use Rattle.std.proofs.Common.{◌∙◌, ap, bytes_eq}
 use Rattle.std.specs.Prelude.{◌||◌, codes}
 use Rattle.es_tree.specs.Fresh.{is_among}
 use Rattle.es_tree.specs.Names.{names_of}
-use Rattle.lower_pattern_moves.proofs.MovedNodes.{names-used}
-use Rattle.lower_pattern_moves.proofs.new_generator.Goals as goal
+use Rattle.lower_fresh_names.proofs.WrittenNames.{names-used}
+use Rattle.lower_fresh_names.proofs.new_generator.Goals as goal
 
 pub returns-clause-in_use : goal.returns-clause-in_use
 returns-clause-in_use c x =
