@@ -1,0 +1,105 @@
+-- Tests of the bodies of functions, as the code makes them and as they are defined.
+use Rattle.std.proofs.Common.{◌≡◌, ◌∙◌, ◌<◌, ◌∷◌, List, [], ap, arith, length, refl, sym}
+use Rattle.std.specs.Prelude.{◌||◌, false, true}
+use Rattle.std.specs.List.{list_any}
+use Rattle.es_tree.specs.Tree.{Tree, Fields, done, ◌then◌, Field, missing, one, many, statements, trees}
+use Rattle.es_tree.specs.Views.{plain_field, plain_fields}
+use Rattle.es_tree.specs.declared.node.Field.{Field as NodeField}
+use Rattle.es_using_rows.specs.UsingPlaces.{has_function, is_function_or_export, uses_in_arrow, uses_in_function}
+use Rattle.lower_using.specs.Parts.{uses_after_directives}
+use Rattle.lower_using.proofs.PlaceTests.{fewer, more}
+
+pub any-function : (ts : List Tree) → list_any is_function_or_export ts ≡ has_function (trees ts)
+any-function [] = refl
+any-function (t ∷ ts) = ap (λ b. is_function_or_export t || b) (any-function ts)
+
+-- DIRECTIVES AND STATEMENTS
+
+directives-alone : (f : Field) → uses_after_directives (f then done) ≡ false
+directives-alone missing = refl
+directives-alone (one t) = refl
+directives-alone (many ts) = refl
+directives-alone (statements ts) = refl
+
+directives-longer : (f g h : Field) (fs : Fields) → uses_after_directives (f then g then h then fs) ≡ false
+directives-longer missing g h fs = refl
+directives-longer (one t) g h fs = refl
+directives-longer (statements ts) g h fs = refl
+directives-longer (many ts) missing h fs = refl
+directives-longer (many ts) (one u) h fs = refl
+directives-longer (many ts) (many us) h fs = refl
+directives-longer (many ts) (statements us) h fs = refl
+
+pub fewer-directives : (fs : List NodeField) → length fs < 2 → uses_after_directives (plain_fields fs) ≡ false
+fewer-directives = fewer uses_after_directives refl directives-alone directives-longer
+
+pub more-directives : (fs : List NodeField) → 2 < length fs → uses_after_directives (plain_fields fs) ≡ false
+more-directives = more uses_after_directives refl directives-alone directives-longer
+
+-- ARROWS
+
+arrow-alone : (f : Field) → uses_in_arrow (f then done) ≡ false
+arrow-alone missing = refl
+arrow-alone (one t) = refl
+arrow-alone (many ts) = refl
+arrow-alone (statements ts) = refl
+
+arrow-longer : (f g h : Field) (fs : Fields) → uses_in_arrow (f then g then h then fs) ≡ false
+arrow-longer missing g h fs = refl
+arrow-longer (one t) g h fs = refl
+arrow-longer (statements ts) g h fs = refl
+arrow-longer (many ts) missing h fs = refl
+arrow-longer (many ts) (one u) h fs = refl
+arrow-longer (many ts) (many us) h fs = refl
+arrow-longer (many ts) (statements us) h fs = refl
+
+pub fewer-arrow : (fs : List NodeField) → length fs < 2 → uses_in_arrow (plain_fields fs) ≡ false
+fewer-arrow = fewer uses_in_arrow refl arrow-alone arrow-longer
+
+pub more-arrow : (fs : List NodeField) → 2 < length fs → uses_in_arrow (plain_fields fs) ≡ false
+more-arrow = more uses_in_arrow refl arrow-alone arrow-longer
+
+-- FUNCTIONS
+
+two-of-function : (f g : Field) → uses_in_function (f then g then done) ≡ false
+two-of-function f missing = refl
+two-of-function f (one t) = refl
+two-of-function f (many ts) = refl
+two-of-function f (statements ts) = refl
+
+four-of-function : (f g h i : Field) (fs : Fields) → uses_in_function (f then g then h then i then fs) ≡ false
+four-of-function f missing h i fs = refl
+four-of-function f (one t) h i fs = refl
+four-of-function f (statements ts) h i fs = refl
+four-of-function f (many ts) missing i fs = refl
+four-of-function f (many ts) (one u) i fs = refl
+four-of-function f (many ts) (many us) i fs = refl
+four-of-function f (many ts) (statements us) i fs = refl
+
+pub fewer-function : (fs : List NodeField) → length fs < 3 → uses_in_function (plain_fields fs) ≡ false
+fewer-function [] l = refl
+fewer-function (f ∷ []) l = refl
+fewer-function (f ∷ g ∷ []) l = two-of-function (plain_field f) (plain_field g)
+fewer-function (f ∷ g ∷ h ∷ fs) l = absurd (omega (arith, l))
+
+pub more-function : (fs : List NodeField) → 3 < length fs → uses_in_function (plain_fields fs) ≡ false
+more-function [] l = absurd (omega (arith, l))
+more-function (f ∷ []) l = absurd (omega (arith, l))
+more-function (f ∷ g ∷ []) l = absurd (omega (arith, l))
+more-function (f ∷ g ∷ h ∷ []) l = absurd (omega (arith, l))
+more-function (f ∷ g ∷ h ∷ i ∷ fs) l = four-of-function (plain_field f) (plain_field g) (plain_field h) (plain_field i) (plain_fields fs)
+
+-- HOW MANY FIELDS there are, where the test is passed
+
+pub arrow-length : (fs : List NodeField) → uses_in_arrow (plain_fields fs) ≡ true → length fs ≡ 2
+arrow-length [] h = absurd (cc h)
+arrow-length (f ∷ []) h = let no : false ≡ true = sym (fewer-arrow (f ∷ []) (omega arith)) ∙ h in absurd (cc no)
+arrow-length (f ∷ g ∷ []) h = refl
+arrow-length (f ∷ g ∷ i ∷ fs) h = let no : false ≡ true = sym (more-arrow (f ∷ g ∷ i ∷ fs) (omega arith)) ∙ h in absurd (cc no)
+
+pub function-length : (fs : List NodeField) → uses_in_function (plain_fields fs) ≡ true → length fs ≡ 3
+function-length [] h = absurd (cc h)
+function-length (f ∷ []) h = absurd (cc h)
+function-length (f ∷ g ∷ []) h = let no : false ≡ true = sym (fewer-function (f ∷ g ∷ []) (omega arith)) ∙ h in absurd (cc no)
+function-length (f ∷ g ∷ i ∷ []) h = refl
+function-length (f ∷ g ∷ i ∷ j ∷ fs) h = let no : false ≡ true = sym (more-function (f ∷ g ∷ i ∷ j ∷ fs) (omega arith)) ∙ h in absurd (cc no)

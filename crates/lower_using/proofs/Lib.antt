@@ -1,0 +1,9 @@
+pub mod Becomes
+pub mod Shapes
+pub mod PlaceTests
+pub mod BodyTests
+pub mod Names
+pub mod Using
+pub mod Lists
+pub mod UsedNodes
+pub mod Made

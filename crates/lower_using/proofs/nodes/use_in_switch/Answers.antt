@@ -1,0 +1,11 @@
+use Rattle.std.proofs.Common.{ap, arith, rules, tests}
+use Rattle.es_tree.specs.Views.{plain_fields}
+use Rattle.lower_using.proofs.Made.{cases-made, switch-length, two-fields}
+use Rattle.lower_using.proofs.nodes.use_in_switch.Goals as goal
+
+pub exactly-requires : goal.exactly-requires
+exactly-requires c = (omega arith, switch-length c.args.fields.items c.requires)
+
+pub returns : goal.returns
+returns c =
+    cases-made c.in_ok-used.used.items (two-fields c.exactly.ensures (switch-length c.args.fields.items c.requires) (search (rules, tests)) (search (rules, tests))) c.into_nodes.ensures (ap plain_fields c.in_ok-used.ensures.items) c.in_ok-made.ensures

@@ -1,0 +1,9 @@
+use Rattle.std.proofs.Common.{arith, sym}
+use Rattle.lower_using.proofs.PlaceTests.{fewer-used, more-used}
+use Rattle.lower_using.proofs.places.holds_used.Goals as goal
+
+pub returns-in_default : goal.returns-in_default
+returns-in_default c = sym (fewer-used c.args.fields.now (omega (arith, c.in_default.len_below)))
+
+pub returns-in_default-3 : goal.returns-in_default-3
+returns-in_default-3 c = sym (more-used c.args.fields.now (omega (arith, c.in_default.len_at_least)))

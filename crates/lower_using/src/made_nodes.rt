@@ -1,0 +1,121 @@
+//! The nodes that are made: names, members, calls, statements and blocks. A made node has no place in the source and no marks, and the id
+//! that is given, so that a refusal that is told at it names a node of the source.
+ghost use Rattle.std.specs.Prelude.{◌≡◌, [], IfOk};
+ghost use Rattle.es_tree.specs.Tree.{label_of, trees};
+ghost use Rattle.es_pattern_moves.specs.Moved.{plain_name};
+ghost use Rattle.es_using_rows.specs.Used.{block, call, member, method, plainly, statement};
+ghost use Rattle.lower_using.specs.Parts.{making, of_id};
+
+use es_expressions::members::{CallExpression, MemberExpression};
+use es_statements::program::{BlockStatement, ExpressionStatement};
+use es_tree::ids::{NodeId, Span};
+use es_tree::kind::Kind;
+use es_tree::node::Node;
+use std::alloc::{AllocError, Global};
+
+/// The place of made nodes.
+pub(crate) const MADE: Span = Span { start: 0, end: 0 };
+
+/// The id of a node.
+pub(crate) fn id_of(node: &Node) -> NodeId
+    ensures { result.0 ≡ (label_of node.now).id }
+{
+    node.id
+}
+
+/// `c.p(args)`
+pub(crate) fn new_method_call(
+    id: NodeId,
+    context: &str,
+    name: &str,
+    arguments: Vec<Node>,
+    alloc: Global,
+) -> Result<Node, AllocError>
+    ensures { IfOk result (λ made. made ≡ method (making context.now) 0 (of_id id.0) name.now (trees arguments.items)) }
+{
+    let object = new_name(id, context, alloc)?;
+    let callee = new_member(id, object, name, alloc)?;
+    new_call(id, callee, arguments, alloc)
+}
+
+/// `f(args)`
+pub(crate) fn new_call(
+    id: NodeId,
+    callee: Node,
+    arguments: Vec<Node>,
+    alloc: Global,
+) -> Result<Node, AllocError>
+    ensures { IfOk result (λ made. made ≡ call (plainly []) (of_id id.0) callee (trees arguments.items)) }
+{
+    let called = CallExpression {
+        id,
+        span: MADE,
+        optional: false,
+        callee,
+        arguments,
+    };
+    called.close(alloc)
+}
+
+/// `o.p`
+pub(crate) fn new_member(
+    id: NodeId,
+    object: Node,
+    name: &str,
+    alloc: Global,
+) -> Result<Node, AllocError>
+    ensures { IfOk result (λ made. made ≡ member (plainly []) (of_id id.0) object name.now) }
+{
+    let property = new_name(id, name, alloc)?;
+    let read = MemberExpression {
+        id,
+        span: MADE,
+        computed: false,
+        optional: false,
+        object,
+        property,
+    };
+    read.close(alloc)
+}
+
+/// `x`
+pub(crate) fn new_name(id: NodeId, text: &str, alloc: Global) -> Result<Node, AllocError>
+    ensures { IfOk result (λ made. made ≡ plain_name text.now (of_id id.0)) }
+{
+    let kind = Kind::Identifier {
+        name: String::from_str(alloc, text)?,
+        reference: None,
+        symbol: None,
+    };
+    Ok(Node {
+        id,
+        span: MADE,
+        kind,
+        fields: Vec::new(alloc),
+    })
+}
+
+/// `e;`
+pub(crate) fn new_statement(id: NodeId, expression: Node, alloc: Global) -> Result<Node, AllocError>
+    ensures { IfOk result (λ made. made ≡ statement (plainly []) (of_id id.0) expression) }
+{
+    let said = ExpressionStatement {
+        id,
+        span: MADE,
+        expression,
+    };
+    said.close(alloc)
+}
+
+/// `{ ts }`
+pub(crate) fn new_block(id: NodeId, body: Vec<Node>, alloc: Global) -> Result<Node, AllocError>
+    ensures { IfOk result (λ made. made ≡ block (plainly []) (of_id id.0) (trees body.items)) }
+{
+    let stood = BlockStatement {
+        id,
+        span: MADE,
+        scope: None,
+        body,
+    };
+    stood.close(alloc)
+}
