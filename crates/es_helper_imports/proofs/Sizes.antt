@@ -1,7 +1,7 @@
--- The law that a program which imports its helpers has at most twelve nodes more: at most two helpers are called, and a statement that imports one has
--- at most six nodes.
+-- The law that a program which imports its helpers has at most eighteen nodes more: at most three helpers are called, and a statement that imports
+-- one has at most six nodes.
 use Rattle.std.proofs.Common.{◌≡◌, ℕ, ◌+◌, ◌*◌, ◌≤◌, refl, sym, ap, ◌∙◌, List, [], ◌∷◌, ◌++◌, length, length-append, arith}
-use Rattle.std.specs.Prelude.{Bool, true, false, ◌&&◌, ◌||◌, Option, Some, None, bytes_eq, codes, map, if◌then◌else◌}
+use Rattle.std.specs.Prelude.{Bool, true, false, ◌&&◌, ◌||◌, Option, Some, None, bytes_eq, codes, find, map, if◌then◌else◌}
 use Rattle.std.specs.List.{list_any}
 use Rattle.std.proofs.lemmas.List.Folds.{list_any-append}
 use Rattle.es_tree.specs.Helpers.{helper_text}
@@ -11,12 +11,12 @@ use Rattle.es_tree.specs.Words.{Text}
 use Rattle.es_tree.specs.declared.ast_type.AstType.{AstType}
 use Rattle.es_tree.specs.declared.ast_type.AstType.TheVariants.{CallExpression, Identifier, MemberExpression}
 use Rattle.es_tree.specs.declared.helper.Helper.{Helper}
-use Rattle.es_tree.specs.declared.helper.Helper.TheVariants.{ObjectSpread2, ObjectWithoutProperties}
 use Rattle.es_resolution.specs.Declarations.{Bound}
+use Rattle.es_resolution.proofs.Basics.{bytes_eq-self}
 use Rattle.es_runs.proofs.Weights.{tree_size-bare}
 use Rattle.es_steps.specs.Nodes.{joined_trees}
 use Rattle.es_steps.specs.Open.{after_imports, is_import}
-use Rattle.es_helper_calls.specs.HelperCalls.{bound_of, called_helper, calling_here, helper_of, helpers_among, helpers_called, helpers_in, helpers_in_field, helpers_in_fields, is_called, is_dotted, is_helper, named_helper, noted, own_helper}
+use Rattle.es_helper_calls.specs.HelperCalls.{bound_of, called_helper, calling_here, helper_of, helpers_among, helpers_called, helpers_in, helpers_in_field, helpers_in_fields, is_called, is_dotted, is_helper, made_helpers, named_helper, noted, own_helper}
 use Rattle.es_helper_calls.specs.Importing.{is_module}
 use Rattle.es_helper_calls.proofs.CallNodes.{named, now, now_among, now_by, now_in}
 use Rattle.es_top_imports.specs.TopImports.{Import, top_of, with_top}
@@ -84,26 +84,40 @@ size-of-imports m (h ∷ hs) (b ∷ bs) = let rest = size-of-imports m hs bs in 
 
 -- HOW MANY HELPERS a program calls
 
--- one of the two
-data IsMade : Helper → Type 0 where
-  spreads : IsMade ObjectSpread2
-  leaves_out : IsMade ObjectWithoutProperties
+-- one of these
+data IsAmong (h : Helper) : List Helper → Type 0 where
+  first : {gs : List Helper} → IsAmong h (h ∷ gs)
+  later : {g : Helper} {gs : List Helper} → IsAmong h gs → IsAmong h (g ∷ gs)
+
+abbrev MayBeAmong : List Helper → Option Helper → Type 0
+MayBeAmong gs None = Unit {0}
+MayBeAmong gs (Some h) = IsAmong h gs
 
 abbrev MayBeMade : Option Helper → Type 0
-MayBeMade None = Unit {0}
-MayBeMade (Some h) = IsMade h
+MayBeMade o = MayBeAmong made_helpers o
 
 abbrev AreMade : List Helper → Type 0
 AreMade [] = Unit {0}
-AreMade (h ∷ hs) = IsMade h × AreMade hs
+AreMade (h ∷ hs) = IsAmong h made_helpers × AreMade hs
+
+found-later : (g : Helper) (gs : List Helper) (o : Option Helper) → MayBeAmong gs o → MayBeAmong (g ∷ gs) o
+found-later g gs None a = tt
+found-later g gs (Some h) a = later a
+
+found-among : (test : Helper → Bool) (gs : List Helper) → MayBeAmong gs (find test gs)
+found-among test [] = tt
+found-among test (g ∷ gs) = at (test g) (found-among test gs)
+  where
+    at : (b : Bool) → MayBeAmong gs (find test gs) → MayBeAmong (g ∷ gs) (if b then Some g else find test gs)
+    at true rest = first
+    at false rest = found-later g gs (find test gs) rest
 
 either-made : (b : Bool) (g h : Option Helper) → MayBeMade g → MayBeMade h → MayBeMade (if b then g else h)
 either-made true g h a b = a
 either-made false g h a b = b
 
 named-made : (x : Text) → MayBeMade (named_helper x)
-named-made x =
-    either-made (bytes_eq (helper_text ObjectSpread2) x) (Some ObjectSpread2) _ spreads (either-made (bytes_eq (helper_text ObjectWithoutProperties) x) (Some ObjectWithoutProperties) None leaves_out tt)
+named-made x = found-among (λ h. bytes_eq (helper_text h) x) made_helpers
 
 callee-made : (f : Tree) → MayBeMade (helper_of f)
 callee-made (node MemberExpression l (one o then (one (node Identifier m fs) then done))) = either-made (is_dotted l && is_called (codes "babelHelpers") o) (named_helper (first_text m.texts)) None (named-made (first_text m.texts)) tt
@@ -146,9 +160,10 @@ knows known h = list_any (λ g. is_helper g h) known
 abbrev counted : Bool → ℕ
 counted b = if b then 0 else 1
 
--- how many of the two aren't known
-abbrev unknown : List Helper → ℕ
-unknown known = counted (knows known ObjectSpread2) + counted (knows known ObjectWithoutProperties)
+-- how many of these aren't known
+abbrev unknown : List Helper → List Helper → ℕ
+unknown known [] = 0
+unknown known (g ∷ gs) = counted (knows known g) + unknown known gs
 
 -- with one helper more, each is known that was
 fewer-counted : (b c : Bool) → counted (b || c) ≤ counted b
@@ -162,33 +177,32 @@ knows-append known g h = list_any-append (λ g. is_helper g h) known (g ∷ [])
 no-more : (known : List Helper) (g h : Helper) → counted (knows (known ++ g ∷ []) h) ≤ counted (knows known h)
 no-more known g h = rw (knows-append known g h) (fewer-counted (knows known h) (is_helper g h || false))
 
+no-more-of : (known : List Helper) (g : Helper) (hs : List Helper) → unknown (known ++ g ∷ []) hs ≤ unknown known hs
+no-more-of known g [] = omega arith
+no-more-of known g (h ∷ hs) = let one = no-more known g h in let rest = no-more-of known g hs in omega arith
+
 -- and that one is, too
-now-known : (known : List Helper) (h : Helper) → is_helper h h ≡ true → knows known h ≡ false → counted (knows (known ++ h ∷ []) h) + 1 ≡ counted (knows known h)
-now-known known h e d = rw (knows-append known h h) (rw d (rw e (omega arith)))
+now-known : (known : List Helper) (h : Helper) → knows known h ≡ false → counted (knows (known ++ h ∷ []) h) + 1 ≡ counted (knows known h)
+now-known known h d = rw (knows-append known h h) (rw d (rw (bytes_eq-self (helper_text h)) (omega arith)))
 
-one-fewer : (known : List Helper) (h : Helper) → IsMade h → knows known h ≡ false → unknown (known ++ h ∷ []) + 1 ≤ unknown known
-one-fewer known h spreads d =
-    let a = now-known known ObjectSpread2 refl d in
-    let b = no-more known ObjectSpread2 ObjectWithoutProperties in
-    omega arith
-one-fewer known h leaves_out d =
-    let a = now-known known ObjectWithoutProperties refl d in
-    let b = no-more known ObjectWithoutProperties ObjectSpread2 in
-    omega arith
+one-fewer : (known : List Helper) (h : Helper) (gs : List Helper) → IsAmong h gs → knows known h ≡ false → unknown (known ++ h ∷ []) gs + 1 ≤ unknown known gs
+one-fewer known h [] a d = elim a [ ]
+one-fewer known h (_ ∷ gs) first d = let one = now-known known h d in let rest = no-more-of known h gs in omega arith
+one-fewer known h (g ∷ gs) (later a) d = let one = no-more known h g in let rest = one-fewer known h gs a d in omega arith
 
-at-most-two : (known hs : List Helper) → AreMade hs → length known + unknown known ≤ 2 → length (noted known hs) ≤ 2
-at-most-two known [] m e = omega arith
-at-most-two known (h ∷ hs) m e = at (knows known h) refl (λ more. at-most-two more hs m.1)
+at-most-all : (known hs : List Helper) → AreMade hs → length known + unknown known made_helpers ≤ length made_helpers → length (noted known hs) ≤ length made_helpers
+at-most-all known [] m e = omega arith
+at-most-all known (h ∷ hs) m e = at (knows known h) refl (λ more. at-most-all more hs m.1)
   where
-    at : (b : Bool) → knows known h ≡ b → ((more : List Helper) → length more + unknown more ≤ 2 → length (noted more hs) ≤ 2) → length (noted (if b then known else known ++ h ∷ []) hs) ≤ 2
+    at : (b : Bool) → knows known h ≡ b → ((more : List Helper) → length more + unknown more made_helpers ≤ length made_helpers → length (noted more hs) ≤ length made_helpers) → length (noted (if b then known else known ++ h ∷ []) hs) ≤ length made_helpers
     at true d rest = rest known e
     at false d rest =
-        let fewer = one-fewer known h m.0 d in
+        let fewer = one-fewer known h made_helpers m.0 d in
         let longer = length-append known (h ∷ []) in
         rest (known ++ h ∷ []) (omega arith)
 
-pub two-called : (p : Tree) → length (helpers_called p) ≤ 2
-two-called p = at-most-two [] (helpers_in p) (all-made p) (omega arith)
+few-called : (p : Tree) → length (helpers_called p) ≤ length made_helpers
+few-called p = at-most-all [] (helpers_in p) (all-made p) (omega arith)
 
 -- THE LAW
 
@@ -202,5 +216,5 @@ law_imported_size_proof in_use m p q names to =
     let top = size-top (trees (map (top_of (is_module p)) ms)) (now (bound_of hs bs) p) in
     let more = size-imported (is_module p) ms in
     let shorter = size-of-imports m hs bs in
-    let two = two-called p in
+    let few = few-called p in
     omega arith

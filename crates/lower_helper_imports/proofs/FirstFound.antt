@@ -1,7 +1,9 @@
--- The first node that is looked for, and where a program can't import its helpers.
+-- The first node that is looked for, and whether a program imports helpers and where it can't.
 use Rattle.std.proofs.Common.{◌≡◌, ◌∙◌, ◌&&◌, ◌||◌, Bool, List, None, Option, Some, [], ◌∷◌, ap, codes, false, is_some, refl, sym, true, ℕ}
+use Rattle.std.specs.Option.{option_or}
 use Rattle.std.specs.Prelude.{if◌then◌else◌, not, option_map}
 use Rattle.es_tree.specs.Heads.{symbol}
+use Rattle.es_tree.specs.Options.{is_external}
 use Rattle.es_tree.specs.Tree.{Tree, node, Label, Fields, done, ◌then◌, Field, missing, one, many, statements, Trees, empty, ◌before◌, fields_of, kind_of, label_of}
 use Rattle.es_tree.specs.Walks.{any_in_field, any_in_fields, any_in_trees, any_node, first_in_field, first_in_fields, first_in_trees, first_node, or_later}
 use Rattle.es_tree.specs.Words.{Text}
@@ -14,8 +16,9 @@ use Rattle.es_scope.specs.declared.scoping.Scoping.{Scoping}
 use Rattle.es_semantic.specs.SymbolsOf.{Declared, find, symbol_in, symbols_of}
 use Rattle.es_semantic.specs.TableOf.{IsTableOf}
 use Rattle.es_semantic.proofs.Chains.{bound_some}
-use Rattle.es_helper_calls.specs.Importing.{binds_require, is_module, unimported}
-use Rattle.lower_helper_imports.specs.Unimporting.{number_of, unimported_if}
+use Rattle.es_helper_calls.specs.Importing.{asks_helper, binds_require, calls_helper, imports_helpers, is_module, unimported, unimported_where}
+use Rattle.lower_helper_imports.specs.HelperImports.{Tells, first_asking, number_of}
+use Rattle.lower_helper_imports.specs.declared.finding.HelperImports.{HelperImports}
 
 abbrev Test : Type 0
 Test = AstType → Label → Fields → Bool
@@ -35,7 +38,7 @@ here-some true n o = refl
 here-some false n o = refl
 
 mutual
-  pub some-node : (p : Test) (t : Tree) → is_some (first_node p t) ≡ any_node p t
+  some-node : (p : Test) (t : Tree) → is_some (first_node p t) ≡ any_node p t
   some-node p (node k l fs) = here-some (p k l fs) l.id (first_in_fields p fs) ∙ ap (λ b. p k l fs || b) (some-fields p fs)
 
   some-fields : (p : Test) (fs : Fields) → is_some (first_in_fields p fs) ≡ any_in_fields p fs
@@ -56,9 +59,6 @@ some-number : (o : Option NodeId) → is_some o ≡ is_some (option_map number_o
 some-number None = refl
 some-number (Some id) = refl
 
-pub found-any : (p : Test) (t : Tree) (o : Option NodeId) → option_map number_of o ≡ first_node p t → is_some o ≡ any_node p t
-found-any p t o e = some-number o ∙ ap is_some e ∙ some-node p t
-
 -- A NAME OF THE OUTERMOST SCOPE, as its table has it
 
 own-or-none : (o : Option ℕ) → (if is_some o then o else None) ≡ o
@@ -78,9 +78,74 @@ require-bound p s m n r table sort first is =
     some-symbol r ∙ ap is_some (is ∙ ap (λ k. binding_in s k (codes "require")) first ∙ table.bindings 0 (codes "require") ∙ sym (found-outside (symbols_of p) (codes "require"))) in
     (λ i. not (sort i) && there i)
 
+-- A TEST THAT NO NODE PASSES finds none
+
+module _ (p : Test) (none : (k : AstType) (l : Label) (fs : Fields) → p k l fs ≡ false) where
+  mutual
+    pub no-node : (t : Tree) → first_node p t ≡ None
+    no-node (node k l fs) = rw (none k l fs) (no-fields fs)
+
+    no-fields : (fs : Fields) → first_in_fields p fs ≡ None
+    no-fields done = refl
+    no-fields (f then fs) = λ i. or_later (no-field f i) (no-fields fs i)
+
+    no-field : (f : Field) → first_in_field p f ≡ None
+    no-field missing = refl
+    no-field (one t) = no-node t
+    no-field (many ts) = no-trees ts
+    no-field (statements ts) = no-trees ts
+
+    no-trees : (ts : Trees) → first_in_trees p ts ≡ None
+    no-trees empty = refl
+    no-trees (t before ts) = λ i. or_later (no-node t i) (no-trees ts i)
+
+-- WHETHER HELPERS ARE IMPORTED
+
+pub asked-where : (o : EnvOptions) (free : Bool) (p : Tree) (a : Option NodeId) → option_map number_of a ≡ first_asking o free p → is_some a ≡ imports_helpers o free p
+asked-where o free p a e = at (is_external o.helper_loader.mode) (some-number a ∙ ap is_some e)
+  where
+    at : (external : Bool) → is_some a ≡ is_some (if external then None else first_node (asks_helper o free) p) → is_some a ≡ (not external && any_node (asks_helper o free) p)
+    at true d = d
+    at false d = d ∙ some-node (asks_helper o free) p
+
+-- WHERE THEY CAN'T BE, by what was found
+
+abbrev pub unimported_if : EnvOptions → Bool → Tree → Bool → Option ℕ
+unimported_if o free p bound = if imports_helpers o free p then unimported_where o free bound p else None
+
+-- the first of two, of which there is none where there isn't the first
+where-first : (free : Bool) (a b : Option ℕ) → option_or a (if is_some a && not free then b else None) ≡ (if is_some a then option_or a (if free then None else b) else None)
+where-first free None b = refl
+where-first free (Some n) b = refl
+
+numbers-or : (a b : Option NodeId) → option_map number_of (option_or a b) ≡ option_or (option_map number_of a) (option_map number_of b)
+numbers-or None b = refl
+numbers-or (Some n) b = refl
+
+module _ (o : EnvOptions) (p : Tree) (free : Bool) where
+  bound-by : (external : Bool) → option_or (if external then None else first_node (asks_helper o free) p) (if (not external && any_node (asks_helper o free) p) && not free then first_node calls_helper p else None) ≡ (if not external && any_node (asks_helper o free) p then unimported_where o free true p else None)
+  bound-by true = refl
+  bound-by false =
+      let asking = first_node (asks_helper o free) p in
+      let calling = first_node calls_helper p in
+      let some = some-node (asks_helper o free) p in
+      (λ i. option_or asking (if sym some i && not free then calling else None)) ∙ where-first free asking calling ∙ (λ i. if some i then option_or asking (if free then None else calling) else None)
+
+  unbound-by : (imports off : Bool) → (if imports && not off then first_node calls_helper p else None) ≡ (if imports then (if off then None else first_node calls_helper p) else None)
+  unbound-by true true = refl
+  unbound-by true false = refl
+  unbound-by false off = refl
+
+  module _ (u : HelperImports) (tells : Tells o free p u) where
+    pub found-bound : option_map number_of (option_or u.asking u.calling) ≡ unimported_if o free p true
+    found-bound = numbers-or u.asking u.calling ∙ (λ i. option_or (tells.asking i) (tells.calling i)) ∙ bound-by (is_external o.helper_loader.mode)
+
+    pub found-unbound : option_map number_of u.calling ≡ unimported_if o free p false
+    found-unbound = tells.calling ∙ unbound-by (imports_helpers o free p) free
+
 -- so the node is that of what was found
-pub found-node : (o : EnvOptions) (p : Tree) (b : Bool) (r : Option ℕ) → r ≡ unimported_if o p b → b ≡ binds_require p → r ≡ unimported o p
-found-node o p b r e is = e ∙ ap (unimported_if o p) is
+pub found-node : (o : EnvOptions) (free : Bool) (p : Tree) (b : Bool) (r : Option ℕ) → r ≡ unimported_if o free p b → b ≡ binds_require p → r ≡ unimported o free p
+found-node o free p b r e is = e ∙ ap (unimported_if o free p) is
 
 -- a module requires nothing
 pub module-free : (p : Tree) → not (is_module p) ≡ false → false ≡ binds_require p

@@ -13,7 +13,11 @@ use es_tree::node::{Field, Node};
 use std::alloc::{AllocError, Global};
 
 /// The helpers that the built lowerings call.
-static MADE_HELPERS: [Helper; 2] = [Helper::ObjectSpread2, Helper::ObjectWithoutProperties];
+static MADE_HELPERS: [Helper; 3] = [
+    Helper::ObjectSpread2,
+    Helper::ObjectWithoutProperties,
+    Helper::UsingCtx,
+];
 
 /// The helpers that a program calls, each once, in the order of their first calls, those in a call's arguments before its own. Fails only for
 /// want of memory.

@@ -1,5 +1,5 @@
-//! Whether a program has to import helpers, and where it can't.
-ghost use Rattle.std.specs.Prelude.{◌≡◌, option_map, true};
+//! Whether a program imports helpers, and where it can't.
+ghost use Rattle.std.specs.Prelude.{◌≡◌, ◌&&◌, Bool, None, if◌then◌else◌, is_some, not, option_map, true};
 ghost use Rattle.es_tree.specs.HasForm.{has_form};
 ghost use Rattle.es_tree.specs.Options.{is_external};
 ghost use Rattle.es_tree.specs.Tree.{Tree, fields_of, kind_of, label_of};
@@ -8,8 +8,8 @@ ghost use Rattle.es_tree.specs.Walks.{first_in_field, first_node};
 ghost use Rattle.es_tree.specs.declared.options.EnvOptions.{EnvOptions as PlainOptions};
 ghost use Rattle.es_tree.specs.declared.table.Sort.TheVariants.{Program as s-Program};
 ghost use Rattle.es_semantic.specs.TableOf.{IsTableOf};
-ghost use Rattle.es_helper_calls.specs.Importing.{imports_helpers, is_module, unimported};
-ghost use Rattle.lower_helper_imports.specs.Unimporting.{Tells, number_of, sought_test};
+ghost use Rattle.es_helper_calls.specs.Importing.{calls_helper, imports_helpers, is_module, needs_helper, unimported};
+ghost use Rattle.lower_helper_imports.specs.HelperImports.{Tells, first_asking, number_of, sought_test};
 
 use crate::calls::called_helper;
 use es_nodes::construct::is_object_spread;
@@ -21,69 +21,89 @@ use es_tree::node::{Field, Node};
 use es_tree::operators::SourceType;
 use es_tree::options::{EnvOptions, HelperLoaderMode};
 
-/// Where a program can't import its helpers: the node where it is a script whose own scope binds `require`, and the node where it isn't.
+/// What a program tells of the helpers that it imports, with no scope table yet.
 #[derive(Clone, Copy)]
-pub struct Unimported {
+pub struct HelperImports {
     is_module: bool,
-    bound: Option<NodeId>,
-    unbound: Option<NodeId>,
+    /// The first node that asks for a helper.
+    asking: Option<NodeId>,
+    /// The first call of a helper that the source itself makes.
+    calling: Option<NodeId>,
 }
 
 /// What is looked for.
 #[derive(Clone, Copy)]
-enum Sought {
-    /// A node for which a helper copies.
-    NeedsHelper,
-    /// A call of a helper.
-    CallsHelper,
+struct Sought {
+    /// Nodes for which a helper copies.
+    copies: bool,
+    /// Calls of helpers.
+    calls: bool,
 }
 
-impl Unimported {
-    /// What a program under these options tells of it, with no scope table yet.
-    pub fn of_program(program: &Node, options: &EnvOptions) -> Unimported
+impl HelperImports {
+    /// What a program under these options tells, whose source names no `babelHelpers` itself (`free`), or does.
+    pub fn of_program(program: &Node, options: &EnvOptions, free: bool) -> HelperImports
         requires { has_form s-Program program.now ≡ true }
-        ensures { Tells options.now program.now result }
+        ensures { Tells options.now free program.now result }
     {
-        let is_module = is_module(program);
-        if !imports_helpers(program, options) {
-            return Unimported {
-                is_module,
-                bound: None,
-                unbound: None,
-            };
-        }
-        let unbound = first_node(program, Sought::CallsHelper);
-        let bound = first_node(program, Sought::NeedsHelper).or(unbound);
-        Unimported {
-            is_module,
-            bound,
-            unbound,
+        let asking = first_asking(program, options, free);
+        HelperImports {
+            is_module: is_module(program),
+            asking,
+            calling: first_calling(program, asking, free),
         }
     }
 
-    /// The node, if there is one, of the program with this scope table.
-    pub fn find(self, scoping: &Scoping) -> Option<NodeId>
-        ensures { (o : PlainOptions) (p : Tree) → Tells o p self → IsTableOf p scoping.now → option_map number_of result ≡ unimported o p }
+    /// Whether the program imports helpers.
+    pub fn are_asked(&self) -> bool
+        ensures { (o : PlainOptions) (free : Bool) (p : Tree) → Tells o free p self.now → result ≡ imports_helpers o free p }
+    {
+        self.asking.is_some()
+    }
+
+    /// The node at which it can't, if there is one, of the program with this scope table.
+    pub fn find_unsupported(self, scoping: &Scoping) -> Option<NodeId>
+        ensures { (o : PlainOptions) (free : Bool) (p : Tree) → Tells o free p self → IsTableOf p scoping.now → option_map number_of result ≡ unimported o free p }
     {
         if !self.is_module
             && scoping
                 .get_binding(scoping.root_scope_id(), "require")
                 .is_some()
         {
-            self.bound
+            self.asking.or(self.calling)
         } else {
-            self.unbound
+            self.calling
         }
     }
 }
 
-/// Whether a program has to import helpers: helpers are to be imported, and one copies for a node that is to be lowered.
-pub fn imports_helpers(program: &Node, options: &EnvOptions) -> bool
-    ensures { result ≡ imports_helpers options.now program.now }
+/// The first node that asks for a helper, where helpers are imported: one for which a helper copies, or a call of a helper that was made, where
+/// the source names no `babelHelpers` itself.
+fn first_asking(program: &Node, options: &EnvOptions, free: bool) -> Option<NodeId>
+    ensures { option_map number_of result ≡ first_asking options.now free program.now }
 {
-    options.es2018.object_rest_spread.is_some()
-        && !is_external(options.helper_loader.mode)
-        && first_node(program, Sought::NeedsHelper).is_some()
+    let sought = Sought {
+        copies: options.es2018.object_rest_spread.is_some(),
+        calls: free,
+    };
+    if is_external(options.helper_loader.mode) || !(sought.copies || sought.calls) {
+        return None;
+    }
+    first_node(program, sought)
+}
+
+/// The first call of a helper that the source itself makes, where a node asks for one.
+fn first_calling(program: &Node, asking: Option<NodeId>, free: bool) -> Option<NodeId>
+    ensures { option_map number_of result ≡ (if is_some asking && not free then first_node calls_helper program.now else None) }
+{
+    if asking.is_none() || free {
+        return None;
+    }
+    let sought = Sought {
+        copies: false,
+        calls: true,
+    };
+    first_node(program, sought)
 }
 
 fn is_external(mode: HelperLoaderMode) -> bool
@@ -140,8 +160,12 @@ fn first_in_field(field: &Field, sought: Sought) -> Option<NodeId>
 fn is_sought(node: &Node, sought: Sought) -> bool
     ensures { result ≡ sought_test sought (kind_of node.now) (label_of node.now) (fields_of node.now) }
 {
-    match sought {
-        Sought::NeedsHelper => is_object_spread(node) || is_rest_declaration(node),
-        Sought::CallsHelper => called_helper(node).is_some(),
-    }
+    (sought.copies && needs_helper(node)) || (sought.calls && called_helper(node).is_some())
+}
+
+/// Whether a helper copies for the node, where it is lowered.
+fn needs_helper(node: &Node) -> bool
+    ensures { result ≡ needs_helper (kind_of node.now) (label_of node.now) (fields_of node.now) }
+{
+    is_object_spread(node) || is_rest_declaration(node)
 }

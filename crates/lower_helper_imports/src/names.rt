@@ -1,14 +1,12 @@
 //! The fresh names by which helpers are called.
-ghost use Rattle.std.specs.Prelude.{◌≡◌, [], IfOk, map, string_bytes};
-ghost use Rattle.es_tree.specs.Words.{Text};
-ghost use Rattle.es_scope.specs.Uids.{made, uses};
+ghost use Rattle.std.specs.Prelude.{◌≡◌, IfOk, map, string_bytes};
 ghost use Rattle.es_steps.specs.CoreBridge.{first_whole};
 ghost use Rattle.es_helper_calls.specs.HelperCalls.{bound_of};
 ghost use Rattle.es_helper_imports.specs.Imported.{AreFresh, unmarked};
 
-use es_scope::uids::UidGenerator;
 use es_tree::helper::Helper;
 use es_tree::node::Node;
+use lower_fresh_names::new_generator;
 use std::alloc::{AllocError, Global};
 
 /// A fresh name for each of these helpers, in their order, of the program. Fails only for want of memory.
@@ -24,18 +22,6 @@ pub(crate) fn fresh_names(
         uids.generate_from_text(helper.name())?;
     }
     Ok(uids.into_made())
-}
-
-/// A generator of fresh names for the program. The names that the lowerings write of themselves are in use, too.
-fn new_generator(alloc: Global, program: &Node) -> Result<UidGenerator, AllocError>
-    ensures in_use { IfOk result (λ uids. (x : Text) → uses uids x ≡ (first_whole program.now).in_use x) }
-    ensures none_made { IfOk result (λ uids. made uids ≡ []) }
-{
-    let mut uids = UidGenerator::new(alloc, program)?;
-    uids.use_name("Math")?;
-    uids.use_name("babelHelpers")?;
-    uids.use_name("require")?;
-    Ok(uids)
 }
 
 /// The name of a helper among these, or none.

@@ -3,7 +3,7 @@ use Rattle.es_tree.specs.Tree.{fields_of, trees}
 use Rattle.es_tree.specs.Views.{plain_field, plain_fields}
 use Rattle.es_tree.specs.Walks.{first_in_field, first_in_fields, first_in_trees, first_node}
 use Rattle.es_nodes.proofs.Firsts.{first_found, none_further}
-use Rattle.lower_helper_imports.specs.Unimporting.{sought_test}
+use Rattle.lower_helper_imports.specs.HelperImports.{sought_test}
 use Rattle.lower_helper_imports.proofs.FirstFound.{below-node}
 use Rattle.lower_helper_imports.proofs.finding.+first.Goals as goal
 

@@ -2,7 +2,7 @@ use Rattle.std.proofs.Common.{◌≡◌, None, take}
 use Rattle.es_tree.specs.Tree.{trees}
 use Rattle.es_tree.specs.Views.{plain_fields}
 use Rattle.es_tree.specs.Walks.{first_in_fields, first_in_trees}
-use Rattle.lower_helper_imports.specs.Unimporting.{sought_test}
+use Rattle.lower_helper_imports.specs.HelperImports.{sought_test}
 use Rattle.lower_helper_imports.proofs.finding.+first.Given as goal
 
 -- none of the fields so far has one
