@@ -26,7 +26,7 @@ use Rattle.lower_driver.specs.Copies.{IsCopy}
 use Rattle.lower_driver.specs.Sources.{IsReading, HasReading, ReadsAs, IsSource, IsBrokenValue, IsUnsupportedValue, IsCauseUnder}
 use Rattle.lower_driver.specs.UnsupportedPrograms.{Finds}
 use Rattle.lower_driver.proofs.CopiedOptions.{copied-fault}
-use Rattle.lower_driver.proofs.Moved.{copied-finds, finds-one}
+use Rattle.lower_driver.proofs.Stages.{copied-finds, finds-one}
 use Rattle.lower_command.specs.Job.{IsTakenSource}
 
 -- bytes read as one value, and a value is the form of one program

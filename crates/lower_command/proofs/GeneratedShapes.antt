@@ -27,11 +27,13 @@ use Rattle.es_unsupported.specs.FirstUnsupported.{first_of, first_unsupported}
 use Rattle.es_unsupported.specs.Shapes.{has_chain_tag, is_unbuilt_node, shape_at}
 use Rattle.es_unsupported.specs.SpreadLiterals.{has_uncopied}
 use Rattle.lower_driver.specs.UnsupportedPrograms.{Finds}
+use Rattle.lower_driver.specs.Uses.{names_helpers}
 use Rattle.lower_driver.proofs.Imported.{core-unimporting, none-refused}
-use Rattle.lower_driver.proofs.Becomes.{core-none}
+use Rattle.lower_driver.proofs.CoreNodes.{no-rest, no-using}
 use Rattle.lower_driver.proofs.EitherTest.{fewer-in-fields}
-use Rattle.lower_driver.proofs.Moved.{finds-itself}
+use Rattle.lower_driver.proofs.Moved.{off-anyway}
 use Rattle.lower_driver.proofs.QuietArrows.{none-of}
+use Rattle.lower_driver.proofs.Stages.{finds-itself}
 use Rattle.lower_command.specs.Generated.{generated, generated_statement, statement_for, start_of}
 use Rattle.lower_command.proofs.GeneratedFacts.{generated-core, generated-declares}
 
@@ -150,13 +152,9 @@ generated-taken o n =
     (outermost p) outside 1 p (generated-plain n) (λ on. refl) in
     ap (λ (ds : List Declared). first_of o ds (outermost p) outside 1 p) (generated-symbols n) ∙ none
 
--- and no pattern moves there, nor is a helper imported
-off-anyway : (on b : Bool) → b ≡ false → (on && b) ≡ false
-off-anyway true b e = e
-off-anyway false b e = refl
-
+-- and no `using` is lowered there, no pattern moves, nor is a helper imported
 pub generated-finds : (o : EnvOptions) (n : ℕ) → Finds o (generated n) None
 generated-finds o n =
     let core = (generated-core n).core in
-    let rests = core-none (generated n) core in
-    finds-itself o (generated n) None (off-anyway (is_some o.es2018.object_rest_spread) (any_node is_object_rest (generated n)) rests) (none-refused o (generated n) (generated-taken o n) (core-unimporting o (generated n) core rests))
+    let rests = no-rest (generated n) core in
+    finds-itself o (generated n) None (off-anyway o.es2026.explicit_resource_management (any_node is_using (generated n)) (no-using (generated n) core)) (off-anyway (is_some o.es2018.object_rest_spread) (any_node is_object_rest (generated n)) rests) (none-refused o (not (names_helpers (generated n))) (generated n) (generated-taken o n) (core-unimporting o (generated n) core rests))

@@ -5,7 +5,7 @@ use Rattle.es_tree.specs.declared.error.LowerError.TheVariants.{Option as e-Opti
 use Rattle.es_tree.specs.declared.error.UnsupportedKind.{UnsupportedKind}
 use Rattle.es_tree.specs.declared.options.EnvOptions.{EnvOptions}
 use Rattle.lower_driver.specs.UnsupportedPrograms.{IsTreeCauseOrMemory}
-use Rattle.lower_driver.proofs.Moved.{finds-one}
+use Rattle.lower_driver.proofs.Stages.{finds-one}
 use Rattle.lower_command.specs.Answer.{generated_line, refusal_text}
 use Rattle.lower_command.specs.Generated.{generated}
 use Rattle.lower_command.specs.Refusals.{IsNoMemory}

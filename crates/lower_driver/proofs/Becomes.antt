@@ -61,44 +61,12 @@ use Rattle.lower_driver.specs.Copies.{IsCopy}
 use Rattle.lower_driver.specs.Lowers.{LowersInPlace, rests_there}
 use Rattle.lower_driver.specs.Visits.{AreTaken}
 use Rattle.lower_driver.proofs.BareConstructs.{same-constructs}
+use Rattle.lower_driver.proofs.CoreNodes.{no-rest}
 use Rattle.lower_driver.proofs.CopiedOptions.{copied-enabled, copied-reached, copied-unsupported}
 use Rattle.lower_driver.proofs.NoneLeft.{none-beside-rests, none-enabled, none-with-rests}
 use Rattle.lower_driver.proofs.NoneUnsupported.{none-unsupported}
 use Rattle.lower_driver.proofs.Untagged.{tags-are-no-chains}
 use Rattle.lower_driver.proofs.Visits.{Arrived, names-bound}
-
--- CORE PROGRAMS have no pattern
-
-core-kind : (k : AstType) (l : Label) (fs : Fields) → is_core_node k l fs ≡ true → is_object_rest k l fs ≡ false
-core-kind ObjectPattern l fs h = absurd (cc h)
-core-kind ObjectTarget l fs h = absurd (cc h)
-core-kind k l fs h = refl
-
-and-first : (a b : Bool) → (a && b) ≡ true → a ≡ true
-and-first true b h = refl
-and-first false b h = h
-
-and-second : (a b : Bool) → (a && b) ≡ true → b ≡ true
-and-second true b h = h
-and-second false b h = absurd (true≢false (sym h))
-
-mutual
-  pub core-none : (t : Tree) → all_nodes is_core_node t ≡ true → any_node is_object_rest t ≡ false
-  core-none (node k l fs) h = or_both (is_object_rest k l fs) (any_in_fields is_object_rest fs) (core-kind k l fs (and-first (is_core_node k l fs) (all_in_fields is_core_node fs) h)) (core-none-in fs (and-second (is_core_node k l fs) (all_in_fields is_core_node fs) h))
-
-  core-none-in : (fs : Fields) → all_in_fields is_core_node fs ≡ true → any_in_fields is_object_rest fs ≡ false
-  core-none-in done h = refl
-  core-none-in (f then fs) h = or_both (any_in_field is_object_rest f) (any_in_fields is_object_rest fs) (core-none-by f (and-first (all_in_field is_core_node f) (all_in_fields is_core_node fs) h)) (core-none-in fs (and-second (all_in_field is_core_node f) (all_in_fields is_core_node fs) h))
-
-  core-none-by : (f : Field) → all_in_field is_core_node f ≡ true → any_in_field is_object_rest f ≡ false
-  core-none-by missing h = refl
-  core-none-by (one t) h = core-none t h
-  core-none-by (many ts) h = core-none-among ts h
-  core-none-by (statements ts) h = core-none-among ts h
-
-  core-none-among : (ts : Trees) → all_in_trees is_core_node ts ≡ true → any_in_trees is_object_rest ts ≡ false
-  core-none-among empty h = refl
-  core-none-among (t before ts) h = or_both (any_node is_object_rest t) (any_in_trees is_object_rest ts) (core-none t (and-first (all_nodes is_core_node t) (all_in_trees is_core_node ts) h)) (core-none-among ts (and-second (all_nodes is_core_node t) (all_in_trees is_core_node ts) h))
 
 -- IDS that a walk may give
 
@@ -138,7 +106,7 @@ mutual
   few-owed-among empty = omega arith
   few-owed-among (t before ts) = omega (arith, few-owed t, few-owed-among ts)
 
-pub owed-room : (p : Tree) (z : Program) (next start : ℕ) → tree_size (plain_program z) ≤ 31 * tree_size p → next ≤ 61 * tree_size p + start → start < 2 ^ 20 → tree_size p < 2 ^ 22 → next + owed rest_owes (plain_program z) < 2 ^ 32 - 1
+pub owed-room : (p : Tree) (z : Program) (next start : ℕ) → tree_size (plain_program z) ≤ 31 * tree_size p → next ≤ 61 * tree_size p + start → start < 2 ^ 20 → tree_size p < 2 ^ 23 → next + owed rest_owes (plain_program z) < 2 ^ 32 - 1
 owed-room p z next start size given first small = omega (arith, few-owed (plain_program z), size, given, first, small)
 
 -- WHAT A SOURCE BECOMES
@@ -273,7 +241,7 @@ module _ (o c : EnvOptions) (copy : IsCopy o c) (p : Tree) (form : has_form s-Pr
             record {
               result = lowered;
               none = sym (copied-enabled o c copy (plain_program u)) ∙ same-constructs c last (plain_program u) (sym (law_bare_seen_proof names (plain_program u))) ∙ none-with-rests c last others (off-second (is_some c.es2018.object_rest_spread) (any_node is_object_rest last) none-last);
-              core = λ core. absurd (true≢false (sym has ∙ core-none p core.core));
+              core = λ core. absurd (true≢false (sym has ∙ no-rest p core.core));
               statements = λ no_rests runs. absurd (true≢false (sym there-is ∙ no_rests));
               size = rw there-is (omega (arith, small, few, light, more));
             }

@@ -19,7 +19,7 @@ use Rattle.es_tree.specs.declared.table.Sort.TheVariants.{Program as s-Program}
 use Rattle.es_runs.proofs.Named.{or_both}
 use Rattle.es_rest_shapes.specs.RestShapes.{is_rest_declaration}
 use Rattle.es_rest_shapes.proofs.NoneLeft.{law_declared_rests_proof}
-use Rattle.es_helper_calls.specs.Importing.{binds_require, calls_helper, first_unimported, imports_helpers, needs_helper, unimported, unimported_where}
+use Rattle.es_helper_calls.specs.Importing.{asks_helper, binds_require, calls_helper, first_unimported, imports_helpers, needs_helper, unimported, unimported_where}
 use Rattle.es_helper_calls.specs.HelperCalls.{helpers_called}
 use Rattle.es_helper_imports.specs.Imported.{imported_as, unmarked}
 use Rattle.es_helper_imports.specs.Laws.{IsImported}
@@ -33,59 +33,41 @@ use Rattle.es_unsupported.specs.FirstUnsupported.{first_unsupported}
 use Rattle.es_unsupported.proofs.Firsts.{left_none, right_none}
 use Rattle.lower_driver.specs.Imports.{Imports}
 use Rattle.lower_driver.specs.UnsupportedPrograms.{first_refused}
+use Rattle.lower_driver.specs.Uses.{names_helpers}
 use Rattle.lower_driver.proofs.BareConstructs.{same-constructs}
-use Rattle.lower_driver.proofs.EitherTest.{none-of-tree}
+use Rattle.lower_driver.proofs.CoreNodes.{no-spread}
+use Rattle.lower_driver.proofs.EitherTest.{any-where, none-of-tree}
+use Rattle.lower_driver.proofs.FreeCalls.{no-calls}
+use Rattle.lower_driver.proofs.Moved.{off-anyway}
 
 -- WHERE NOTHING NEEDS A HELPER
-
-core-spread : (k : AstType) (l : Label) (fs : Fields) → is_core_node k l fs ≡ true → is_object_spread k l fs ≡ false
-core-spread ObjectExpression l fs h = absurd (cc h)
-core-spread k l fs h = refl
-
-mutual
-  core-spreads : (t : Tree) → all_nodes is_core_node t ≡ true → any_node is_object_spread t ≡ false
-  core-spreads (node k l fs) h = let p = and_parts (is_core_node k l fs) (all_in_fields is_core_node fs) h in or_both (is_object_spread k l fs) (any_in_fields is_object_spread fs) (core-spread k l fs p.0) (core-spreads-in fs p.1)
-
-  core-spreads-in : (fs : Fields) → all_in_fields is_core_node fs ≡ true → any_in_fields is_object_spread fs ≡ false
-  core-spreads-in done h = refl
-  core-spreads-in (f then fs) h = let p = and_parts (all_in_field is_core_node f) (all_in_fields is_core_node fs) h in or_both (any_in_field is_object_spread f) (any_in_fields is_object_spread fs) (core-spreads-by f p.0) (core-spreads-in fs p.1)
-
-  core-spreads-by : (f : Field) → all_in_field is_core_node f ≡ true → any_in_field is_object_spread f ≡ false
-  core-spreads-by missing h = refl
-  core-spreads-by (one t) h = core-spreads t h
-  core-spreads-by (many ts) h = core-spreads-among ts h
-  core-spreads-by (statements ts) h = core-spreads-among ts h
-
-  core-spreads-among : (ts : Trees) → all_in_trees is_core_node ts ≡ true → any_in_trees is_object_spread ts ≡ false
-  core-spreads-among empty h = refl
-  core-spreads-among (t before ts) h = let p = and_parts (all_nodes is_core_node t) (all_in_trees is_core_node ts) h in or_both (any_node is_object_spread t) (any_in_trees is_object_spread ts) (core-spreads t p.0) (core-spreads-among ts p.1)
 
 none-needs : (p : Tree) → any_node is_object_spread p ≡ false → any_node is_object_rest p ≡ false → any_node needs_helper p ≡ false
 none-needs p spreads rests = none-of-tree is_object_spread is_rest_declaration needs_helper (λ k l fs. refl) p spreads (law_declared_rests_proof p rests)
 
-unneeded : (a b c : Bool) → c ≡ false → (a && b && c) ≡ false
-unneeded true true c e = e
-unneeded true false c e = refl
-unneeded false b c e = refl
-
--- a core program imports none
-pub core-unimporting : (o : EnvOptions) (p : Tree) → all_nodes is_core_node p ≡ true → any_node is_object_rest p ≡ false → imports_helpers o p ≡ false
-core-unimporting o p core rests = unneeded (is_some o.es2018.object_rest_spread) (not (is_external o.helper_loader.mode)) (any_node needs_helper p) (none-needs p (core-spreads p core) rests)
-
--- nor one in which no object spread or rest is to be lowered
-pub none-unimporting : (o : EnvOptions) (p : Tree) → (is_some o.es2018.object_rest_spread && any_node is_object_spread p) ≡ false → (is_some o.es2018.object_rest_spread && any_node is_object_rest p) ≡ false → imports_helpers o p ≡ false
-none-unimporting o p spreads rests = at (is_some o.es2018.object_rest_spread) spreads rests
+-- a program in which no object spread or rest is to be lowered imports none
+pub none-unimporting : (o : EnvOptions) (p : Tree) → (is_some o.es2018.object_rest_spread && any_node is_object_spread p) ≡ false → (is_some o.es2018.object_rest_spread && any_node is_object_rest p) ≡ false → imports_helpers o (not (names_helpers p)) p ≡ false
+none-unimporting o p spreads rests =
+    let free : Bool = not (names_helpers p) in
+    let copies : any_node (λ k l fs. is_some o.es2018.object_rest_spread && needs_helper k l fs) p ≡ false = any-where (is_some o.es2018.object_rest_spread) needs_helper p ∙ at (is_some o.es2018.object_rest_spread) spreads rests in
+    let calls : any_node (λ k l fs. free && calls_helper k l fs) p ≡ false = any-where free calls_helper p ∙ no-calls p in
+    off-anyway (not (is_external o.helper_loader.mode)) (any_node (asks_helper o free) p)
+    (none-of-tree (λ k l fs. is_some o.es2018.object_rest_spread && needs_helper k l fs) (λ k l fs. free && calls_helper k l fs) (asks_helper o free) (λ k l fs. refl) p copies calls)
   where
-    at : (on : Bool) → (on && any_node is_object_spread p) ≡ false → (on && any_node is_object_rest p) ≡ false → (on && not (is_external o.helper_loader.mode) && any_node needs_helper p) ≡ false
-    at true e d = unneeded true (not (is_external o.helper_loader.mode)) (any_node needs_helper p) (none-needs p e d)
+    at : (on : Bool) → (on && any_node is_object_spread p) ≡ false → (on && any_node is_object_rest p) ≡ false → (on && any_node needs_helper p) ≡ false
+    at true e d = none-needs p e d
     at false e d = refl
 
--- where it imports none, nothing stands in the way
-pub unimporting-none : (o : EnvOptions) (p : Tree) → imports_helpers o p ≡ false → first_unimported o p ≡ None
-unimporting-none o p e = rw e refl
+-- nor does a core program
+pub core-unimporting : (o : EnvOptions) (p : Tree) → all_nodes is_core_node p ≡ true → any_node is_object_rest p ≡ false → imports_helpers o (not (names_helpers p)) p ≡ false
+core-unimporting o p core rests = let on = is_some o.es2018.object_rest_spread in none-unimporting o p (off-anyway on (any_node is_object_spread p) (no-spread p core)) (off-anyway on (any_node is_object_rest p) rests)
 
-pub none-refused : (o : EnvOptions) (p : Tree) → first_unsupported o p ≡ None → imports_helpers o p ≡ false → first_refused o p ≡ None
-none-refused o p e off = rw (e, unimporting-none o p off) refl
+-- where it imports none, nothing stands in the way
+pub unimporting-none : (o : EnvOptions) (free : Bool) (p : Tree) → imports_helpers o free p ≡ false → first_unimported o free p ≡ None
+unimporting-none o free p e = rw e refl
+
+pub none-refused : (o : EnvOptions) (free : Bool) (p : Tree) → first_unsupported o p ≡ None → imports_helpers o free p ≡ false → first_refused o free p ≡ None
+none-refused o free p e off = rw (e, unimporting-none o free p off) refl
 
 -- WHAT STANDS IN THE WAY
 
@@ -122,38 +104,38 @@ named-none None h = refl
 named-none (Some n) h = absurd (cc h)
 
 -- where nothing does, a script binds no `require` at its top
-require-unbound : (o : EnvOptions) (p : Tree) → imports_helpers o p ≡ true → first_unimported o p ≡ None → binds_require p ≡ false
-require-unbound o p on none = at (binds_require p) (ap (λ (b : Bool). if b then unimported_where (binds_require p) p else None) (sym on) ∙ named-none (unimported o p) none)
+require-unbound : (o : EnvOptions) (free : Bool) (p : Tree) → imports_helpers o free p ≡ true → first_unimported o free p ≡ None → binds_require p ≡ false
+require-unbound o free p on none = at (binds_require p) (ap (λ (b : Bool). if b then unimported_where o free (binds_require p) p else None) (sym on) ∙ named-none (unimported o free p) none)
   where
-    at : (bound : Bool) → unimported_where bound p ≡ None → bound ≡ false
+    at : (bound : Bool) → unimported_where o free bound p ≡ None → bound ≡ false
     at false h = refl
     at true h =
-        let needed : any_node needs_helper p ≡ true = (and_parts (is_some o.es2018.object_rest_spread && not (is_external o.helper_loader.mode)) (any_node needs_helper p) on).1 in
-        absurd (true≢false (sym needed ∙ first-none needs_helper p (left_none (first_node needs_helper p) (first_node calls_helper p) h)))
+        let needed : any_node (asks_helper o free) p ≡ true = (and_parts (not (is_external o.helper_loader.mode)) (any_node (asks_helper o free) p) on).1 in
+        absurd (true≢false (sym needed ∙ first-none (asks_helper o free) p (left_none (first_node (asks_helper o free) p) (if free then None else first_node calls_helper p) h)))
 
 -- WHAT IT BECOMES
 
-module _ (o : EnvOptions) (q lowered written : Tree) (later last : List Text) (form : has_form s-Program q ≡ true) (right : breaks q ≡ []) (none : first_refused o q ≡ None) (result : IsLowered o q lowered later) (m : Imports (imports_helpers o q) (string_bytes o.helper_loader.module_name) lowered written last) where
+module _ (o : EnvOptions) (free : Bool) (q lowered written : Tree) (later last : List Text) (form : has_form s-Program q ≡ true) (right : breaks q ≡ []) (none : first_refused o free q ≡ None) (result : IsLowered o q lowered later) (m : Imports (imports_helpers o free q) (string_bytes o.helper_loader.module_name) lowered written last) where
   abbrev module_text : Text
   module_text = string_bytes o.helper_loader.module_name
 
-  pub is-imported : imports_helpers o q ≡ true → IsImported module_text lowered written last
+  pub is-imported : imports_helpers o free q ≡ true → IsImported module_text lowered written last
   is-imported on =
-      let unbound = require-unbound o q on (right_none (first_unsupported o q) (first_unimported o q) none) in
+      let unbound = require-unbound o free q on (right_none (first_unsupported o q) (first_unimported o free q) none) in
       law_imported_proof module_text lowered written last result.form result.kept (λ script. law_require_free_proof o q lowered later form right result unbound script) (m.goes on)
 
   pub none-left : has_enabled_construct o lowered ≡ false → has_enabled_construct o written ≡ false
-  none-left earlier = at (imports_helpers o q) refl
+  none-left earlier = at (imports_helpers o free q) refl
     where
-      at : (b : Bool) → imports_helpers o q ≡ b → has_enabled_construct o written ≡ false
+      at : (b : Bool) → imports_helpers o free q ≡ b → has_enabled_construct o written ≡ false
       at true on =
           let hs = helpers_called lowered in
           same-constructs o (imported_as module_text hs (unmarked last) lowered) written (m.goes on).written ∙ law_no_constructs_proof o module_text hs (unmarked last) lowered earlier
       at false off = ap (has_enabled_construct o) (m.stays off).0 ∙ earlier
 
-  pub size-after : tree_size written ≤ tree_size lowered + 12
-  size-after = at (imports_helpers o q) refl
+  pub size-after : tree_size written ≤ tree_size lowered + (if imports_helpers o free q then 18 else 0)
+  size-after = at (imports_helpers o free q) refl
     where
-      at : (b : Bool) → imports_helpers o q ≡ b → tree_size written ≤ tree_size lowered + 12
+      at : (b : Bool) → imports_helpers o free q ≡ b → tree_size written ≤ tree_size lowered + (if b then 18 else 0)
       at true on = law_imported_size_proof (first_whole lowered).in_use module_text lowered written last (m.goes on)
       at false off = rw (m.stays off).0 (omega arith)

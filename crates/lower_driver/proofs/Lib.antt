@@ -15,3 +15,8 @@ pub mod Becomes
 pub mod FewScopes
 pub mod Imported
 pub mod Moved
+pub mod NamedHelpers
+pub mod Used
+pub mod Stages
+pub mod CoreNodes
+pub mod FreeCalls

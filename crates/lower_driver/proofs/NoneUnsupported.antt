@@ -2,7 +2,7 @@
 use Rattle.std.proofs.Common.{◌≡◌, ℕ, zero, suc, None, refl, sym, ◌∙◌, List, true≢false}
 use Rattle.std.specs.Prelude.{Bool, true, false, ◌&&◌, ◌||◌, not, is_some, codes}
 use Rattle.es_tree.specs.Children.{child_at}
-use Rattle.es_tree.specs.Constructs.{field_at, has_enabled_construct, is_chain, is_enabled_construct, is_exponentiation, is_logical_assignment, is_nullish_coalescing, is_object_rest, is_object_spread}
+use Rattle.es_tree.specs.Constructs.{field_at, has_enabled_construct, is_chain, is_enabled_construct, is_exponentiation, is_logical_assignment, is_nullish_coalescing, is_object_rest, is_object_spread, is_using}
 use Rattle.es_tree.specs.HasForm.{same_type}
 use Rattle.es_tree.specs.Names.{first_text}
 use Rattle.es_tree.specs.Parens.{without_parens}
@@ -173,6 +173,12 @@ module _ (o : EnvOptions) where
 
   pub spreads-none : (t : Tree) → any_node (is_enabled_construct o) t ≡ false → (is_some o.es2018.object_rest_spread && any_node is_object_spread t) ≡ false
   spreads-none t h = sym (any-where (is_some o.es2018.object_rest_spread) is_object_spread t) ∙ fewer-in-tree (λ k l gs. is_some o.es2018.object_rest_spread && is_object_spread k l gs) (is_enabled_construct o) own-spread-off t h
+
+  own-using-off : (k : AstType) (l : Label) (fs : Fields) → is_enabled_construct o k l fs ≡ false → (o.es2026.explicit_resource_management && is_using k l fs) ≡ false
+  own-using-off k l fs h = (none-of-rows o k l fs h).using
+
+  pub using-none : (t : Tree) → any_node (is_enabled_construct o) t ≡ false → (o.es2026.explicit_resource_management && any_node is_using t) ≡ false
+  using-none t h = sym (any-where o.es2026.explicit_resource_management is_using t) ∙ fewer-in-tree (λ k l gs. o.es2026.explicit_resource_management && is_using k l gs) (is_enabled_construct o) own-using-off t h
 
   module _ (ds : List Declared) where
     no-shape : (up : List ℕ) (k : AstType) (l : Label) (fs : Fields) → any_node (is_enabled_construct o) (node k l fs) ≡ false → shape_at o ds up k l fs ≡ None

@@ -2,6 +2,7 @@ pub mod Copies
 pub mod Imports
 pub mod Constructs
 pub mod Lowered
+pub mod Uses
 pub mod Moves
 pub mod Lowers
 pub mod UnsupportedPrograms

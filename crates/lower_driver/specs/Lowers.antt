@@ -1,5 +1,5 @@
 -- What a source becomes.
-use Rattle.std.specs.Prelude.{◌≡◌, ◌≤◌, ◌+◌, ◌*◌, ◌++◌, ◌&&◌, Bool, List, [], false, true, is_some, string_bytes, if◌then◌else◌}
+use Rattle.std.specs.Prelude.{◌≡◌, ◌≤◌, ◌+◌, ◌*◌, ◌++◌, ◌&&◌, Bool, List, [], false, true, is_some, not, string_bytes, if◌then◌else◌, ℕ}
 use Rattle.es_tree.specs.Constructs.{has_enabled_construct, is_object_rest}
 use Rattle.es_tree.specs.Core.{IsCoreProgram}
 use Rattle.es_tree.specs.Tree.{Tree, tree_size}
@@ -11,11 +11,13 @@ use Rattle.es_helper_calls.specs.Importing.{imports_helpers}
 use Rattle.es_helper_imports.specs.Laws.{IsImported}
 use Rattle.es_lowered.specs.Lowered.{IsLowered}
 use Rattle.es_lowered.specs.Moved.{IsMoved}
+use Rattle.es_lowered.specs.Used.{IsUsed}
 use Rattle.es_reached.specs.Reached.{IsCoreResult}
 use Rattle.es_statement_runs.specs.Runs.{RunAlike}
 use Rattle.es_statement_steps.specs.Laws.{RunsAsStatements, assumes_no_all, supply_there}
 use Rattle.lower_driver.specs.Imports.{Imports}
 use Rattle.lower_driver.specs.Moves.{Moves}
+use Rattle.lower_driver.specs.Uses.{Uses, lowers_using, names_helpers, using_there}
 
 -- a source as it is written, with no name made
 pub record IsAsBefore (source written : Tree) (names : List Text) : Type 0 where
@@ -43,14 +45,26 @@ pub record LowersInPlace (o : EnvOptions) (source written : Tree) (names : List 
   -- walk that takes rests is the last of three.
   pub size : tree_size written ≤ (if rests_there o source then 384 else 64) * tree_size source + 64
 
+-- The most nodes that are written for one of the source's, where `using` stands that is asked for, and where an object rest does: lowering `using`
+-- and moving patterns make at most eight of one, and moving patterns alone three and a half.
+abbrev pub most_for_each : Bool → Bool → ℕ
+most_for_each true rests = 3072
+most_for_each false true = 1344
+most_for_each false false = 64
+
 -- What a source of any kind becomes under these options: this program, with these fresh names.
 pub record Lowers (o : EnvOptions) (source written : Tree) (names : List Text) : Type 0 where
-  -- First patterns with a rest move to declarations of their own, by steps of the rows that do so: in what they become each name keeps its
-  -- binding, it has form, keeps all static rules, asks for the same modules and exports the same names.
+  -- First `using` is lowered, by steps of its rules: in what the source becomes each name keeps its binding, it has form, keeps all static
+  -- rules, asks for the same modules and exports the same names.
+  pub used : Tree
+  pub context_names : List Text
+  pub uses : Uses (lowers_using o source) source used context_names
+  pub is_used : IsUsed (lowers_using o source) source used context_names
+  -- Then patterns with a rest move to declarations of their own, by steps of the rows that do so, of which the same holds.
   pub moved : Tree
   pub first_names : List Text
-  pub moves : Moves (is_some o.es2018.object_rest_spread) source moved first_names
-  pub is_moved : IsMoved (is_some o.es2018.object_rest_spread) source moved first_names
+  pub moves : Moves (is_some o.es2018.object_rest_spread) used moved first_names
+  pub is_moved : IsMoved (is_some o.es2018.object_rest_spread) used moved first_names
   -- Then constructs are lowered where they stand,
   pub lowered : Tree
   pub later_names : List Text
@@ -58,16 +72,16 @@ pub record Lowers (o : EnvOptions) (source written : Tree) (names : List Text) :
   -- and last, where helpers are not properties of `babelHelpers`, the program imports those that it calls: it stays a program that breaks no
   -- static rule, each name keeps its binding, and it asks for the same modules but for those of the helpers, and exports the same names.
   pub last_names : List Text
-  pub imports : Imports (imports_helpers o moved) (string_bytes o.helper_loader.module_name) lowered written last_names
-  pub is_imported : imports_helpers o moved ≡ true → IsImported (string_bytes o.helper_loader.module_name) lowered written last_names
-  pub all_names : names ≡ first_names ++ later_names ++ last_names
+  pub imports : Imports (imports_helpers o (not (names_helpers source)) moved) (string_bytes o.helper_loader.module_name) lowered written last_names
+  pub is_imported : imports_helpers o (not (names_helpers source)) moved ≡ true → IsImported (string_bytes o.helper_loader.module_name) lowered written last_names
+  pub all_names : names ≡ context_names ++ first_names ++ later_names ++ last_names
   -- no construct is left that the options ask to lower
   pub none : has_enabled_construct o written ≡ false
-  -- In a core program no pattern moves and no helper is imported, nor where no object rest or spread is taken: the source itself and what is
-  -- written run alike (`LowersInPlace`).
+  -- In a core program no `using` stands, no pattern moves and no helper is imported, nor where neither `using` nor an object rest or spread is
+  -- taken: the source itself and what is written run alike (`LowersInPlace`).
   pub core : IsCoreProgram source → IsCoreResult o source written names
-  pub statements : rests_there o source ≡ false → imports_helpers o source ≡ false → RunsAsStatements o source → RunAlike (supply_there o source) (assumes_no_all o source) source written
+  pub statements : using_there o source ≡ false → rests_there o source ≡ false → imports_helpers o (not (names_helpers source)) source ≡ false → RunsAsStatements o source → RunAlike (supply_there o source) (assumes_no_all o source) source written
   -- where the options ask for no construct of the source, nothing is changed
   pub unchanged : has_enabled_construct o source ≡ false → IsAsBefore source written names
-  -- the nodes of the source and of what is written
-  pub size : tree_size written ≤ (if rests_there o source then 1344 else 64) * tree_size source + 76
+  -- the nodes of the source and of what is written, with those of the imports
+  pub size : tree_size written ≤ most_for_each (using_there o source) (rests_there o source) * tree_size source + (if imports_helpers o (not (names_helpers source)) moved then 82 else 64)

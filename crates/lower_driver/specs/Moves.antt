@@ -1,4 +1,4 @@
--- What a source becomes first, before its constructs are lowered where they stand.
+-- What a source becomes once its `using` is lowered, and before its constructs are lowered where they stand.
 use Rattle.std.specs.Prelude.{◌≡◌, Bool, List, [], false, true}
 use Rattle.es_tree.specs.Tree.{Tree}
 use Rattle.es_tree.specs.Words.{Text}

@@ -1,6 +1,6 @@
--- What a run doesn't take: the first node with a shape that its options' lowerings don't take, of a program whose patterns moved, or else one at
--- which it can't import helpers.
-use Rattle.std.specs.Prelude.{◌≡◌, List, None, Option, Some, is_some, ℕ}
+-- What a run doesn't take: the first node with a shape that its options' lowerings don't take, of a program whose `using` was lowered
+-- and whose patterns moved, or else one at which it can't import helpers.
+use Rattle.std.specs.Prelude.{◌≡◌, Bool, List, None, Option, Some, is_some, not, ℕ}
 use Rattle.std.specs.Option.{option_or}
 use Rattle.es_tree.specs.Options.{first_fault}
 use Rattle.es_tree.specs.Tree.{Tree}
@@ -13,17 +13,21 @@ use Rattle.es_tree.specs.declared.options.EnvOptions.{EnvOptions}
 use Rattle.es_helper_calls.specs.Importing.{first_unimported}
 use Rattle.es_unsupported.specs.FirstUnsupported.{first_unsupported}
 use Rattle.lower_driver.specs.Moves.{Moves}
+use Rattle.lower_driver.specs.Uses.{Uses, lowers_using, names_helpers}
 
--- of a program in which no pattern moves any more
-abbrev pub first_refused : EnvOptions → Tree → Option (UnsupportedKind × ℕ)
-first_refused o p = option_or (first_unsupported o p) (first_unimported o p)
+-- of a program in which no pattern moves any more, where the source names no `babelHelpers` itself, or does
+abbrev pub first_refused : EnvOptions → Bool → Tree → Option (UnsupportedKind × ℕ)
+first_refused o free p = option_or (first_unsupported o p) (first_unimported o free p)
 
--- What is found in a source under these options, once its patterns moved: such a shape and the id of its node, or none.
+-- What is found in a source under these options, once its `using` was lowered and its patterns moved: such a shape and the id of its node, or none.
 pub record Finds (o : EnvOptions) (source : Tree) (found : Option (UnsupportedKind × ℕ)) : Type 0 where
+  pub used : Tree
+  pub context_names : List Text
+  pub uses : Uses (lowers_using o source) source used context_names
   pub moved : Tree
   pub names : List Text
-  pub moves : Moves (is_some o.es2018.object_rest_spread) source moved names
-  pub first : first_refused o moved ≡ found
+  pub moves : Moves (is_some o.es2018.object_rest_spread) used moved names
+  pub first : first_refused o (not (names_helpers source)) moved ≡ found
 
 abbrev pub IsUnsupported : EnvOptions → Tree → UnsupportedKind → NodeId → Type 0
 IsUnsupported o p kind id = Finds o p (Some (kind, id.0))
@@ -42,7 +46,7 @@ IsTreeCauseOrMemory o p OutOfMemory = Unit {0}
 IsTreeCauseOrMemory o p _ = ⊥
 
 -- the same of a program in which no pattern moves any more
-abbrev pub IsFirstOrMemory : EnvOptions → Tree → LowerError → Type 0
-IsFirstOrMemory o p (Unsupported kind id) = first_refused o p ≡ Some (kind, id.0)
-IsFirstOrMemory o p OutOfMemory = Unit {0}
-IsFirstOrMemory o p _ = ⊥
+abbrev pub IsFirstOrMemory : EnvOptions → Bool → Tree → LowerError → Type 0
+IsFirstOrMemory o free p (Unsupported kind id) = first_refused o free p ≡ Some (kind, id.0)
+IsFirstOrMemory o free p OutOfMemory = Unit {0}
+IsFirstOrMemory o free p _ = ⊥

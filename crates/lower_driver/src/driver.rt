@@ -1,6 +1,6 @@
-//! One run: a program is read and checked, patterns with an object rest move to declarations, it is visited once by the
-//! lowerings that its options ask for, walked for its arrows and for its object rests, its helpers are imported, and it is
-//! written.
+//! One run: a program is read and checked, its `using` is lowered, patterns with an object rest move to declarations, it is
+//! visited once by the lowerings that its options ask for, walked for its arrows and for its object rests, its helpers are
+//! imported, and it is written.
 ghost use Rattle.std.specs.Prelude.{◌≡◌, ◌<◌, ◌∷◌, ◌^◌, [], IfErr, IfOk, None, false, map, string_bytes, true};
 ghost use Rattle.serde_json.specs.View.{view};
 ghost use Rattle.es_tree.specs.Constructs.{has_enabled_construct};
@@ -15,6 +15,7 @@ ghost use Rattle.es_tree.specs.declared.ast_type.AstType.TheVariants.{Program as
 ghost use Rattle.es_tree.specs.declared.table.Sort.TheVariants.{Program as s-Program};
 ghost use Rattle.es_scope.specs.Contexts.{BindsNamesOf, around_of, made_of, table_of, uses_of};
 ghost use Rattle.es_steps.specs.Open.{nothing_pending};
+ghost use Rattle.lower_helper_imports.specs.HelperImports.{Tells};
 ghost use Rattle.lower_driver.specs.Copies.{IsCopy};
 ghost use Rattle.lower_driver.specs.Lowered.{IsLoweredTree, IsLoweredValue};
 ghost use Rattle.lower_driver.specs.Lowers.{Lowers, LowersInPlace};
@@ -25,6 +26,7 @@ use crate::copies::copy_options;
 use crate::importing::import_helpers;
 use crate::moving::move_patterns;
 use crate::reading::{read_bytes, read_source};
+use crate::resources::{lower_using, names_no_helpers};
 use crate::visiting::{take_rests, visit, walk};
 use es_json::program::ReadProgram;
 use es_json::writer::write_program;
@@ -41,7 +43,7 @@ use es_tree::operators::SourceType;
 use es_tree::options::{EnvOptions, options_fault};
 use es_unsupported::finding::find_unsupported;
 use lower_editions::es2020::ES2020;
-use lower_helper_imports::{Unimported, imports_helpers};
+use lower_helper_imports::HelperImports;
 use lower_temporaries::state::TransformState;
 use lower_temporaries::warning::Warning;
 use serde_json::Value;
@@ -69,18 +71,19 @@ pub struct Lowered {
 
 /// Lowers the program that the value is the form of, as the options ask: its logical assignments, `??`, optional chains,
 /// catch clauses without a parameter, exports of namespaces, spreads in object literals, object rests in declarations,
-/// parameters, catch clauses and heads of loops, exponentiations and arrow functions, in programs of every kind. A
-/// program in which no construct stands that they ask to lower comes back as it is. Where they ask for warnings, of
+/// parameters, catch clauses and heads of loops, `using` in bodies, blocks, `switch` and the heads of `for`, exponentiations and
+/// arrow functions, in programs of every kind. A program in which no construct stands that they ask to lower comes back as it is. Where they ask for warnings, of
 /// BigInt literals (ECMA-262, 12.9.3) or of strings that name imports and exports (16.2), it answers one for each of
 /// these in the source.
 ///
 /// Fails for the first of these causes that holds: `Option` where the options ask for what isn't done; `TooLarge`,
 /// `TooDeep` and `Shape` as `read_program` has them; `Invalid` as `check_static` has it; `Unsupported` at the first node
-/// that the lowerings asked for don't take, of the program whose patterns moved, in which what is made for a pattern
-/// has the pattern's id:
+/// that the lowerings asked for don't take, of the program whose `using` was lowered and whose patterns moved, in which
+/// what is made has the id of the node that it is made for:
 ///
-/// - `NotBuilt`, a construct that no lowering takes away yet: a declaration by `using`, what holds an object rest where
-///   none is lowered, or a `this` in an arrow of a constructor whose class extends another;
+/// - `NotBuilt`, a construct that no lowering takes away yet: a declaration by `using` where none is lowered (at the top of
+///   a module, directly in a static block or in a body with a function at its top, in the head of a `for-of`, and in a
+///   program that names `babelHelpers`), what holds an object rest where none is lowered, or a `this` in an arrow of a constructor whose class extends another;
 /// - `MathBound`, an exponentiation where `Math` is bound;
 /// - `HelperName`, an object literal with a spread where `babelHelpers` is bound, or a declaration of an object rest, or
 ///   a pattern with one that moves to a declaration, in a program that binds it anywhere; and after all others, where
@@ -188,41 +191,47 @@ fn lower_constructs(
     ensures taken { IfOk result (λ _. Finds options.now read.program None) }
     ensures cause { IfErr result (λ error. IsUnsupportedOrMemory options.now read.program error) }
 {
-    let (moved, mut names) = move_patterns(alloc, read, options)?;
-    let asked = imports_helpers(&moved.program, options);
-    let (lowered, mut later) = lower_in_place(alloc, moved, options)?;
-    let (program, mut last) = import_helpers(alloc, lowered, options, asked)?;
+    let free = names_no_helpers(&read.program);
+    let (used, mut names) = lower_using(alloc, read, options, free)?;
+    let (moved, mut first) = move_patterns(alloc, used, options)?;
+    let imports = HelperImports::of_program(&moved.program, options, free);
+    let (lowered, mut later) = lower_in_place(alloc, moved, options, free, imports)?;
+    let (program, mut last) = import_helpers(alloc, lowered, options, imports.are_asked())?;
+    names.append(&mut first)?;
     names.append(&mut later)?;
     names.append(&mut last)?;
     Ok((program, names))
 }
 
-/// A program in which no pattern moves any more, with its constructs lowered where they stand, and the names that were made. Fails where it
-/// has a shape that the lowerings don't take, and where memory runs out.
+/// A program in which no pattern moves any more, with its constructs lowered where they stand, and the names that were made, where its source
+/// names no `babelHelpers` itself, or does, and `imports` tells of its helpers. Fails where it has a shape that the lowerings don't take, and
+/// where memory runs out.
 fn lower_in_place(
     alloc: Global,
     read: ReadProgram,
     options: &EnvOptions,
+    free: bool,
+    imports: HelperImports,
 ) -> Result<(Node, Vec<String>), LowerError>
     requires form { has_form s-Program read.program ≡ true }
     requires kept { breaks read.program ≡ [] }
-    requires size { tree_size read.program < 2 ^ 22 }
+    requires size { tree_size read.program < 2 ^ 23 }
     requires next { read.ast.next < 2 ^ 20 }
     requires carried { first_fault options.now ≡ None }
+    requires told { Tells options.now free read.program imports }
     ensures lowers { IfOk result (λ made. LowersInPlace options.now read.program made.0 (map string_bytes made.1.items)) }
-    ensures taken { IfOk result (λ _. first_refused options.now read.program ≡ None) }
-    ensures cause { IfErr result (λ error. IsFirstOrMemory options.now read.program error) }
+    ensures taken { IfOk result (λ _. first_refused options.now free read.program ≡ None) }
+    ensures cause { IfErr result (λ error. IsFirstOrMemory options.now free read.program error) }
 {
     let ReadProgram {
         program: mut source,
         ast,
     } = read;
-    let unimported = Unimported::of_program(&source, options);
     let scoping = build_scoping(alloc, &mut source)?;
     if let Some((kind, node)) = find_unsupported(&source, &scoping, options) {
         return Err(LowerError::Unsupported(kind, node));
     }
-    if let Some(node) = unimported.find(&scoping) {
+    if let Some(node) = imports.find_unsupported(&scoping) {
         return Err(LowerError::Unsupported(UnsupportedKind::HelperName, node));
     }
     let mut ctx = new_context(alloc, scoping, &source, ast, options)?;

@@ -6,4 +6,5 @@ pub mod driver;
 mod importing;
 mod moving;
 mod reading;
+mod resources;
 mod visiting;

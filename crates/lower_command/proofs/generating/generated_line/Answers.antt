@@ -1,11 +1,13 @@
 use Rattle.std.proofs.Common.{◌≡◌, ◌∙◌, ◌+◌, ◌*◌, ◌<◌, ◌≤◌, ◌^◌, ℕ, arith, ap, length, map, string_bytes, subst, sym}
 use Rattle.std.proofs.lemmas.List.{length-map}
-use Rattle.std.specs.Prelude.{Bool, true, false, if◌then◌else◌}
+use Rattle.std.specs.Prelude.{Bool, true, false, not, if◌then◌else◌}
 use Rattle.es_tree.specs.Capped.{capped}
 use Rattle.es_tree.specs.Tree.{Tree, tree_size}
 use Rattle.lower_editions.specs.Warnings.{warnings_of}
+use Rattle.es_helper_calls.specs.Importing.{imports_helpers}
 use Rattle.lower_driver.specs.Lowered.{IsLoweredTree}
-use Rattle.lower_driver.specs.Lowers.{rests_there}
+use Rattle.lower_driver.specs.Lowers.{most_for_each, rests_there}
+use Rattle.lower_driver.specs.Uses.{names_helpers, using_there}
 use Rattle.lower_command.specs.Answer.{generated_line}
 use Rattle.lower_command.specs.Generated.{generated}
 use Rattle.lower_command.proofs.GeneratedFacts.{generated-form, generated-kept, generated-small}
@@ -25,9 +27,14 @@ lower_tree-requires-clause-size c = rw c.in_ok-read.ensures.tree (generated-smal
 uncapped : (n : ℕ) → n < 2 ^ 64 → capped n ≡ n
 uncapped n small = omega (arith, small)
 
-within : (rests : Bool) (n m : ℕ) → m ≤ (if rests then 1344 else 64) * n + 76 → n < 2 ^ 20 → m < 2 ^ 64
-within true n m size small = omega (arith, size, small)
-within false n m size small = omega (arith, size, small)
+more-at-most : (imports : Bool) → (if imports then 82 else 64) ≤ 82
+more-at-most true = omega arith
+more-at-most false = omega arith
+
+within : (using rests imports : Bool) (n m : ℕ) → m ≤ most_for_each using rests * n + (if imports then 82 else 64) → n < 2 ^ 20 → m < 2 ^ 64
+within true rests imports n m size small = let more = more-at-most imports in omega (arith, size, small, more)
+within false true imports n m size small = let more = more-at-most imports in omega (arith, size, small, more)
+within false false imports n m size small = let more = more-at-most imports in omega (arith, size, small, more)
 
 pub returns-clause-line : goal.returns-clause-line
 returns-clause-line c =
@@ -37,7 +44,7 @@ returns-clause-line c =
     let is : IsLoweredTree o p lowered = subst (λ (t : Tree). IsLoweredTree o t lowered) c.in_ok-read.ensures.tree c.in_ok-lowered.ensures.lowered in
     let small = generated-small c.args.count c.requires in
     let before : c.count_nodes-before.result ≡ tree_size p = c.count_nodes-before.ensures ∙ (ap (λ (t : Tree). capped (tree_size t)) c.in_ok-read.ensures.tree ∙ uncapped (tree_size p) (omega (arith, small))) in
-    let after : capped (tree_size lowered.program) ≡ tree_size lowered.program = uncapped (tree_size lowered.program) (within (rests_there o p) (tree_size p) (tree_size lowered.program) is.lowers.size small) in
+    let after : capped (tree_size lowered.program) ≡ tree_size lowered.program = uncapped (tree_size lowered.program) (within (using_there o p) (rests_there o p) (imports_helpers o (not (names_helpers p)) is.lowers.moved) (tree_size p) (tree_size lowered.program) is.lowers.size small) in
     let names : length lowered.temporaries.items ≡ length (map string_bytes lowered.temporaries.items) = sym (length-map lowered.temporaries.items string_bytes) in
     let warned : length lowered.warnings.items ≡ length (warnings_of o.es2020 p) = ap length is.warnings in
     record {

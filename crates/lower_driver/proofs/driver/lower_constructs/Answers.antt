@@ -1,30 +1,49 @@
-use Rattle.std.proofs.Common.{◌∙◌, ◌++◌, List, ap, arith, is_some, map, subst, sym}
-use Rattle.std.specs.Prelude.{Bool, string_bytes}
+use Rattle.std.proofs.Common.{◌≡◌, ◌∙◌, ◌++◌, List, None, ap, arith, is_some, map, subst, sym}
+use Rattle.std.specs.Prelude.{Bool, not, string_bytes}
 use Rattle.es_tree.specs.Words.{Text}
 use Rattle.es_helper_calls.specs.Importing.{imports_helpers}
 use Rattle.lower_driver.specs.Imports.{Imports}
 use Rattle.lower_driver.specs.Lowers.{Lowers}
-use Rattle.lower_driver.proofs.Moved.{append-twice, is-moved, lowers, map-joined, moved-size}
+use Rattle.lower_driver.specs.UnsupportedPrograms.{first_refused}
+use Rattle.lower_driver.specs.Uses.{names_helpers}
+use Rattle.lower_driver.proofs.Moved.{is-moved, map-joined}
+use Rattle.lower_driver.proofs.Stages.{lowers, used-and-moved-size}
+use Rattle.lower_driver.proofs.Used.{is-used}
 use Rattle.lower_driver.proofs.driver.lower_constructs.Goals as goal
+
+pub move_patterns-requires : goal.move_patterns-requires
+move_patterns-requires c = record {
+  form = (is-used c.args.options.now c.args.read.program c.in_ok-used.used.program (map string_bytes c.in_ok-used.names.items) c.requires.form c.requires.kept c.in_ok-used.ensures.uses).form;
+}
 
 pub lower_in_place-requires-clause-form : goal.lower_in_place-requires-clause-form
 lower_in_place-requires-clause-form c =
-    (is-moved c.args.options.now c.args.read.program c.in_ok-moved.moved.program (map string_bytes c.in_ok-moved.names.items) c.requires.form c.requires.kept c.in_ok-moved.ensures.moves).form
+    let o = c.args.options.now in
+    let used = is-used o c.args.read.program c.in_ok-used.used.program (map string_bytes c.in_ok-used.names.items) c.requires.form c.requires.kept c.in_ok-used.ensures.uses in
+    (is-moved o c.in_ok-used.used.program c.in_ok-moved.moved.program (map string_bytes c.in_ok-moved.first.items) used.form used.kept c.in_ok-moved.ensures.moves).form
 
 pub lower_in_place-requires-clause-kept : goal.lower_in_place-requires-clause-kept
 lower_in_place-requires-clause-kept c =
-    (is-moved c.args.options.now c.args.read.program c.in_ok-moved.moved.program (map string_bytes c.in_ok-moved.names.items) c.requires.form c.requires.kept c.in_ok-moved.ensures.moves).kept
+    let o = c.args.options.now in
+    let used = is-used o c.args.read.program c.in_ok-used.used.program (map string_bytes c.in_ok-used.names.items) c.requires.form c.requires.kept c.in_ok-used.ensures.uses in
+    (is-moved o c.in_ok-used.used.program c.in_ok-moved.moved.program (map string_bytes c.in_ok-moved.first.items) used.form used.kept c.in_ok-moved.ensures.moves).kept
 
 pub lower_in_place-requires-clause-size : goal.lower_in_place-requires-clause-size
 lower_in_place-requires-clause-size c =
-    let size = moved-size (is_some c.args.options.now.es2018.object_rest_spread) c.args.read.program c.in_ok-moved.moved.program (map string_bytes c.in_ok-moved.names.items) c.in_ok-moved.ensures.moves in
+    let size = used-and-moved-size c.args.options.now c.args.read.program c.in_ok-used.used.program c.in_ok-moved.moved.program (map string_bytes c.in_ok-used.names.items) (map string_bytes c.in_ok-moved.first.items) c.requires.form c.in_ok-used.ensures.uses c.in_ok-moved.ensures.moves in
     omega (arith, size, c.requires.size)
 
 pub lower_in_place-requires-clause-next : goal.lower_in_place-requires-clause-next
-lower_in_place-requires-clause-next c = omega (arith, c.in_ok-moved.ensures.next, c.requires.next, c.requires.size)
+lower_in_place-requires-clause-next c = omega (arith, c.in_ok-moved.ensures.next, c.in_ok-used.ensures.next, c.requires.next, c.requires.size)
 
 pub import_helpers-requires : goal.import_helpers-requires
 import_helpers-requires c = record { form = c.in_ok-lowered.ensures.lowers.result.form }
+
+pub of_program-imports-requires : goal.of_program-imports-requires
+of_program-imports-requires c =
+    let o = c.args.options.now in
+    let used = is-used o c.args.read.program c.in_ok-used.used.program (map string_bytes c.in_ok-used.names.items) c.requires.form c.requires.kept c.in_ok-used.ensures.uses in
+    (is-moved o c.in_ok-used.used.program c.in_ok-moved.moved.program (map string_bytes c.in_ok-moved.first.items) used.form used.kept c.in_ok-moved.ensures.moves).form
 
 pub returns-clause-lowers : goal.returns-clause-lowers
 returns-clause-lowers c =
@@ -32,20 +51,29 @@ returns-clause-lowers c =
     let p = c.args.read.program in
     let q = c.in_ok-moved.moved.program in
     let written = c.in_ok-program.program in
-    let first = c.in_ok-moved.names.items in
+    let contexts = c.in_ok-used.names.items in
+    let first = c.in_ok-moved.first.items in
     let later = c.in_ok-lowered.later.items in
     let last = c.in_ok-program.last.items in
-    let imports : Imports (imports_helpers o q) (string_bytes o.helper_loader.module_name) c.in_ok-lowered.lowered written (map string_bytes last) =
-    subst (λ (on : Bool). Imports on (string_bytes o.helper_loader.module_name) c.in_ok-lowered.lowered written (map string_bytes last)) c.imports_helpers-asked.ensures c.in_ok-program.ensures.imports in
-    let made : Lowers o p written (map string_bytes first ++ map string_bytes later ++ map string_bytes last) =
-    lowers o p q c.in_ok-lowered.lowered written (map string_bytes first) (map string_bytes later) (map string_bytes last) c.requires.form c.requires.kept c.in_ok-moved.ensures.moves c.in_ok-lowered.ensures.taken c.in_ok-lowered.ensures.lowers imports c.requires.some in
-    let joined = ap (map string_bytes) (c.in_ok-append-2.ensures.items ∙ ap (λ xs. xs ++ last) c.in_ok-append.ensures.items) ∙ map-joined string_bytes (first ++ later) last ∙ ap (λ xs. xs ++ map string_bytes last) (map-joined string_bytes first later) ∙ append-twice (map string_bytes first) (map string_bytes later) (map string_bytes last) in
+    let free = c.names_no_helpers-free.ensures in
+    let asked = c.are_asked.ensures o c.names_no_helpers-free.result q c.of_program-imports.ensures ∙ ap (λ b. imports_helpers o b q) free in
+    let imports : Imports (imports_helpers o (not (names_helpers p)) q) (string_bytes o.helper_loader.module_name) c.in_ok-lowered.lowered written (map string_bytes last) =
+    subst (λ (on : Bool). Imports on (string_bytes o.helper_loader.module_name) c.in_ok-lowered.lowered written (map string_bytes last)) asked c.in_ok-program.ensures.imports in
+    let none : first_refused o (not (names_helpers p)) q ≡ None = subst (λ (b : Bool). first_refused o b q ≡ None) free c.in_ok-lowered.ensures.taken in
+    let made : Lowers o p written (map string_bytes contexts ++ map string_bytes first ++ map string_bytes later ++ map string_bytes last) =
+    lowers o p c.in_ok-used.used.program q c.in_ok-lowered.lowered written (map string_bytes contexts) (map string_bytes first) (map string_bytes later) (map string_bytes last) c.requires.form c.requires.kept c.in_ok-used.ensures.uses c.in_ok-moved.ensures.moves none c.in_ok-lowered.ensures.lowers imports c.requires.some in
+    let joined =
+    ap (map string_bytes) (c.in_ok-append-3.ensures.items ∙ ap (λ xs. xs ++ last) (c.in_ok-append-2.ensures.items ∙ ap (λ xs. xs ++ later) c.in_ok-append.ensures.items)) ∙ map-joined string_bytes ((contexts ++ first) ++ later) last
+    ∙ ap (λ xs. xs ++ map string_bytes last) (map-joined string_bytes (contexts ++ first) later ∙ ap (λ xs. xs ++ map string_bytes later) (map-joined string_bytes contexts first)) in
     subst (λ (names : List Text). Lowers o p written names) (sym joined) made
 
 pub returns-clause-taken : goal.returns-clause-taken
 returns-clause-taken c = record {
+  used = c.in_ok-used.used.program;
+  context_names = map string_bytes c.in_ok-used.names.items;
+  uses = c.in_ok-used.ensures.uses;
   moved = c.in_ok-moved.moved.program;
-  names = map string_bytes c.in_ok-moved.names.items;
+  names = map string_bytes c.in_ok-moved.first.items;
   moves = c.in_ok-moved.ensures.moves;
-  first = c.in_ok-lowered.ensures.taken;
+  first = subst (λ (b : Bool). first_refused c.args.options.now b c.in_ok-moved.moved.program ≡ None) c.names_no_helpers-free.ensures c.in_ok-lowered.ensures.taken;
 }

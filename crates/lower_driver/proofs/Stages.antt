@@ -1,0 +1,223 @@
+-- What a source becomes by all lowerings, stage after stage: its `using` is lowered, patterns with a rest move, constructs are lowered where they
+-- stand, and helpers are imported. And why it is refused: for what is found in it before constructs are lowered where they stand.
+use Rattle.std.proofs.Common.{◌≡◌, ◌∙◌, ◌*◌, ◌+◌, ◌≤◌, ◌++◌, List, [], ◌∷◌, Option, ℕ, ap, arith, refl, subst, sym, true≢false}
+use Rattle.std.specs.Prelude.{Bool, true, false, ◌&&◌, None, is_some, not, string_bytes, if◌then◌else◌}
+use Rattle.es_tree.specs.Constructs.{has_enabled_construct, is_object_rest, is_using}
+use Rattle.es_tree.specs.Core.{IsCoreProgram}
+use Rattle.es_tree.specs.HasForm.{has_form}
+use Rattle.es_tree.specs.StaticRules.{breaks}
+use Rattle.es_tree.specs.Tree.{Tree, tree_size}
+use Rattle.es_tree.specs.Walks.{any_node}
+use Rattle.es_tree.specs.Words.{Text}
+use Rattle.es_tree.specs.declared.error.LowerError.{LowerError}
+use Rattle.es_tree.specs.declared.error.LowerError.TheVariants.{OutOfMemory, Unsupported}
+use Rattle.es_tree.specs.declared.error.UnsupportedKind.{UnsupportedKind}
+use Rattle.es_tree.specs.declared.options.EnvOptions.{EnvOptions}
+use Rattle.es_tree.specs.declared.table.Sort.TheVariants.{Program as s-Program}
+use Rattle.es_pattern_moves.specs.Moved.{plainly}
+use Rattle.es_pattern_moves.specs.Weights.{weighed}
+use Rattle.es_pattern_moves.proofs.MovedSize.{law_moved_size_proof}
+use Rattle.es_lowered.specs.Moved.{IsMoved}
+use Rattle.es_lowered.specs.Used.{IsUsed}
+use Rattle.es_reached.specs.Reached.{IsCoreResult}
+use Rattle.es_statement_runs.specs.Runs.{RunAlike}
+use Rattle.es_statement_steps.specs.Laws.{RunsAsStatements, assumes_no_all, supply_there}
+use Rattle.es_helper_calls.specs.Importing.{imports_helpers}
+use Rattle.lower_driver.specs.Copies.{IsCopy}
+use Rattle.lower_driver.specs.Imports.{Imports}
+use Rattle.lower_driver.specs.Lowers.{Lowers, LowersInPlace, most_for_each, rests_there}
+use Rattle.lower_driver.specs.Moves.{Moves}
+use Rattle.lower_driver.specs.Uses.{Uses, lowers_using, names_helpers, using_there}
+use Rattle.lower_driver.specs.UnsupportedPrograms.{Finds, IsFirstOrMemory, IsUnsupportedOrMemory, first_refused}
+use Rattle.lower_driver.proofs.CopiedOptions.{copied-refused}
+use Rattle.lower_driver.proofs.CoreNodes.{no-rest, no-using}
+use Rattle.lower_driver.proofs.Imported.{core-unimporting, is-imported, none-left, size-after}
+use Rattle.lower_driver.proofs.Moved.{is-moved, moved-weight, moves-itself, no-moves, off-anyway, one-program, stays-itself}
+use Rattle.lower_driver.proofs.Used.{is-used, one-used, unasked-off, unasked-stays, used-weight, uses-itself}
+
+-- ONE THING IS FOUND in a source
+
+pub finds-one : (o : EnvOptions) (p : Tree) (a b : Option (UnsupportedKind × ℕ)) → Finds o p a → Finds o p b → a ≡ b
+finds-one o p a b f g =
+    let same : f.used ≡ g.used = one-used (lowers_using o p) p f.used g.used f.context_names g.context_names f.uses g.uses in
+    let there = subst (λ (t : Tree). Moves (is_some o.es2018.object_rest_spread) t f.moved f.names) same f.moves in
+    sym f.first ∙ ap (first_refused o (not (names_helpers p))) (one-program (is_some o.es2018.object_rest_spread) g.used f.moved g.moved f.names g.names there g.moves) ∙ g.first
+
+-- whatever copy of the options it is
+copied-lowers : (o c : EnvOptions) → IsCopy o c → (p : Tree) → lowers_using c p ≡ lowers_using o p
+copied-lowers o c copy p = λ i. (copy.es2026 i).explicit_resource_management && not (names_helpers p)
+
+pub copied-finds : (o c : EnvOptions) → IsCopy o c → (p : Tree) (a : Option (UnsupportedKind × ℕ)) → Finds c p a → Finds o p a
+copied-finds o c copy p a f = record {
+  used = f.used;
+  context_names = f.context_names;
+  uses = subst (λ (b : Bool). Uses b p f.used f.context_names) (copied-lowers o c copy p) f.uses;
+  moved = f.moved;
+  names = f.names;
+  moves = subst (λ (b : Bool). Moves b f.used f.moved f.names) (λ i. is_some (copy.es2018 i).object_rest_spread) f.moves;
+  first = sym (copied-refused o c copy (not (names_helpers p)) f.moved) ∙ f.first;
+}
+
+-- in which neither `using` nor an object rest stands that is asked for
+pub finds-itself : (o : EnvOptions) (p : Tree) (a : Option (UnsupportedKind × ℕ)) → using_there o p ≡ false → (is_some o.es2018.object_rest_spread && any_node is_object_rest p) ≡ false → first_refused o (not (names_helpers p)) p ≡ a → Finds o p a
+finds-itself o p a none rests first =
+    let on = is_some o.es2018.object_rest_spread in
+    record { used = p; context_names = []; uses = uses-itself (lowers_using o p) p (unasked-off o p none); moved = p; names = []; moves = moves-itself on p (no-moves on p rests); first = first }
+
+-- HOW LARGE THE FIRST TWO STAGES MAKE IT
+
+light : (p : Tree) → weighed p ≤ 7 * tree_size p
+light p = (law_moved_size_proof p (plainly []) (λ n t. refl)).1
+
+pub used-and-moved-size : (o : EnvOptions) (p v q : Tree) (contexts names : List Text) → has_form s-Program p ≡ true → Uses (lowers_using o p) p v contexts → Moves (is_some o.es2018.object_rest_spread) v q names → tree_size q ≤ 8 * tree_size p
+used-and-moved-size o p v q contexts names form u m =
+    let heavy = used-weight (lowers_using o p) p v contexts form (light p) u in
+    let paid = moved-weight (is_some o.es2018.object_rest_spread) v q names m in
+    omega (arith, heavy, paid)
+
+-- WHAT A SOURCE BECOMES
+
+none-more : (xs : List Text) → xs ++ [] ≡ xs
+none-more [] = refl
+none-more (x ∷ xs) = ap (λ ys. x ∷ ys) (none-more xs)
+
+module _
+    (o : EnvOptions) (p v q lowered written : Tree) (contexts names later last : List Text) (form : has_form s-Program p ≡ true) (right : breaks p ≡ []) (u : Uses (lowers_using o p) p v contexts) (m : Moves (is_some o.es2018.object_rest_spread) v q names) (none : first_refused o (not (names_helpers p)) q ≡ None) (in_place : LowersInPlace o q lowered later)
+    (imports : Imports (imports_helpers o (not (names_helpers p)) q) (string_bytes o.helper_loader.module_name) lowered written last) where
+  abbrev on : Bool
+  on = is_some o.es2018.object_rest_spread
+
+  abbrev free : Bool
+  free = not (names_helpers p)
+
+  abbrev all_names : List Text
+  all_names = contexts ++ names ++ later ++ last
+
+  used_there : IsUsed (lowers_using o p) p v contexts
+  used_there = is-used o p v contexts form right u
+
+  moved_there : IsMoved on v q names
+  moved_there = is-moved o v q names used_there.form used_there.kept m
+
+  -- where neither `using` nor a rest is taken the first two stages leave the source as it is
+  record Same : Type 0 where
+    used : v ≡ p
+    moved : q ≡ p
+    contexts_none : contexts ≡ []
+    names_none : names ≡ []
+
+  same-there : using_there o p ≡ false → rests_there o p ≡ false → Same
+  same-there none_used none_moved =
+      let first = unasked-stays o p v contexts none_used u in
+      let rests : (on && any_node is_object_rest v) ≡ false = ap (λ (t : Tree). on && any_node is_object_rest t) first.0 ∙ none_moved in
+      let second = stays-itself on v (no-moves on v rests) q names m in
+      record { used = first.0; moved = second.0 ∙ first.0; contexts_none = first.1; names_none = second.1 }
+
+  -- where it imports no helper, either, what is lowered in place is what is written
+  as-before : Same → imports_helpers o free p ≡ false → (written ≡ lowered) × (last ≡ [])
+  as-before same off = imports.stays (ap (imports_helpers o free) same.moved ∙ off)
+
+  core-there : IsCoreProgram p → IsCoreResult o p written all_names
+  core-there core =
+      let rests = no-rest p core.core in
+      let same = same-there (off-anyway o.es2026.explicit_resource_management (any_node is_using p) (no-using p core.core)) (off-anyway on (any_node is_object_rest p) rests) in
+      let stays = as-before same (core-unimporting o p core.core rests) in
+      let there : IsCoreResult o p lowered later = subst (λ (t : Tree). IsCoreResult o t lowered later) same.moved (in_place.core (subst (λ (t : Tree). IsCoreProgram t) (sym same.moved) core)) in
+      let named : all_names ≡ later = ap (λ (xs : List Text). xs ++ names ++ later ++ last) same.contexts_none ∙ ap (λ (xs : List Text). xs ++ later ++ last) same.names_none ∙ ap (λ (xs : List Text). later ++ xs) stays.1 ∙ none-more later in
+      subst (λ (xs : List Text). IsCoreResult o p written xs) (sym named) (subst (λ (t : Tree). IsCoreResult o p t later) (sym stays.0) there)
+
+  statements-there : using_there o p ≡ false → rests_there o p ≡ false → imports_helpers o free p ≡ false → RunsAsStatements o p → RunAlike (supply_there o p) (assumes_no_all o p) p written
+  statements-there no_using no_rests off runs =
+      let same = same-there no_using no_rests in
+      let there : RunAlike (supply_there o p) (assumes_no_all o p) p lowered = subst (λ (t : Tree). RunAlike (supply_there o t) (assumes_no_all o t) t lowered) same.moved (in_place.statements (ap (rests_there o) same.moved ∙ no_rests) (subst (λ (t : Tree). RunsAsStatements o t) (sym same.moved) runs)) in
+      subst (λ (t : Tree). RunAlike (supply_there o p) (assumes_no_all o p) p t) (sym (as-before same off).0) there
+
+  -- SIZE
+
+  moved-size : v ≡ p → 2 * tree_size q ≤ 7 * tree_size p
+  moved-size same =
+      let paid : 2 * tree_size q ≤ weighed p = subst (λ (t : Tree). 2 * tree_size q ≤ weighed t) same (moved-weight on v q names m) in
+      let weight = light p in
+      omega (arith, paid, weight)
+
+  most : (b : Bool) → tree_size lowered ≤ (if b then 384 else 64) * tree_size q + 64 → tree_size lowered ≤ 384 * tree_size q + 64
+  most true h = h
+  most false h = omega (arith, h)
+
+  lowered-size : tree_size lowered ≤ most_for_each (using_there o p) (rests_there o p) * tree_size p + 64
+  lowered-size = at (using_there o p) (rests_there o p) refl refl
+    where
+      at : (a b : Bool) → using_there o p ≡ a → rests_there o p ≡ b → tree_size lowered ≤ most_for_each a b * tree_size p + 64
+      at true b e d = let h = most (rests_there o q) in_place.size in let s = used-and-moved-size o p v q contexts names form u m in omega (arith, h, s)
+      at false true e d = let h = most (rests_there o q) in_place.size in let s = moved-size (unasked-stays o p v contexts e u).0 in omega (arith, h, s)
+      at false false e d =
+          let same = same-there e d in
+          subst (λ (n : ℕ). tree_size lowered ≤ n * tree_size p + 64) (ap (λ b. if b then 384 else 64) (ap (rests_there o) same.moved ∙ d)) (subst (λ (t : Tree). tree_size lowered ≤ (if rests_there o q then 384 else 64) * tree_size t + 64) same.moved in_place.size)
+
+  sized : tree_size written ≤ most_for_each (using_there o p) (rests_there o p) * tree_size p + (if imports_helpers o free q then 82 else 64)
+  sized = at (imports_helpers o free q) (size-after o free q lowered written later last moved_there.form moved_there.kept none in_place.result imports)
+    where
+      at : (b : Bool) → tree_size written ≤ tree_size lowered + (if b then 18 else 0) → tree_size written ≤ most_for_each (using_there o p) (rests_there o p) * tree_size p + (if b then 82 else 64)
+      at true more = let least = lowered-size in omega (arith, least, more)
+      at false more = let least = lowered-size in omega (arith, least, more)
+
+  pub lowers : has_enabled_construct o p ≡ true → Lowers o p written all_names
+  lowers some = record {
+    used = v;
+    context_names = contexts;
+    uses = u;
+    is_used = used_there;
+    moved = q;
+    first_names = names;
+    moves = m;
+    is_moved = moved_there;
+    lowered = lowered;
+    later_names = later;
+    in_place = in_place;
+    last_names = last;
+    imports = imports;
+    is_imported = is-imported o free q lowered written later last moved_there.form moved_there.kept none in_place.result imports;
+    all_names = refl;
+    none = none-left o free q lowered written later last moved_there.form moved_there.kept none in_place.result imports in_place.none;
+    core = core-there;
+    statements = statements-there;
+    unchanged = λ unasked. absurd (true≢false (sym some ∙ unasked));
+    size = sized;
+  }
+
+-- A program in which no construct stands that the options ask to lower becomes itself.
+pub becomes-itself : (o : EnvOptions) (p : Tree) → has_form s-Program p ≡ true → breaks p ≡ [] → using_there o p ≡ false → (is_some o.es2018.object_rest_spread && any_node is_object_rest p) ≡ false → imports_helpers o (not (names_helpers p)) p ≡ false → first_refused o (not (names_helpers p)) p ≡ None → LowersInPlace o p p [] → Lowers o p p []
+becomes-itself o p form right unused rests off none in_place =
+    let on = is_some o.es2018.object_rest_spread in
+    let u = uses-itself (lowers_using o p) p (unasked-off o p unused) in
+    let m = moves-itself on p (no-moves on p rests) in
+    let imports : Imports (imports_helpers o (not (names_helpers p)) p) (string_bytes o.helper_loader.module_name) p p [] = record { goes = λ asked. absurd (true≢false (sym asked ∙ off)); stays = λ e. (refl, refl) } in
+    record {
+      used = p;
+      context_names = [];
+      uses = u;
+      is_used = is-used o p p [] form right u;
+      moved = p;
+      first_names = [];
+      moves = m;
+      is_moved = is-moved o p p [] form right m;
+      lowered = p;
+      later_names = [];
+      in_place = in_place;
+      last_names = [];
+      imports = imports;
+      is_imported = λ asked. absurd (true≢false (sym asked ∙ off));
+      all_names = refl;
+      none = in_place.none;
+      core = in_place.core;
+      statements = λ no_using no_rests unasked runs. in_place.statements no_rests runs;
+      unchanged = λ unasked. record { same = refl; no_names = refl };
+      size = sized o p p p p p [] [] [] [] form right u m none in_place imports;
+    }
+
+-- WHY IT IS REFUSED
+
+pub cause-of : (o : EnvOptions) (p v q : Tree) (contexts names : List Text) (error : LowerError) → Uses (lowers_using o p) p v contexts → Moves (is_some o.es2018.object_rest_spread) v q names → IsFirstOrMemory o (not (names_helpers p)) q error → IsUnsupportedOrMemory o p error
+cause-of o p v q contexts names (Unsupported kind id) u m h = record { used = v; context_names = contexts; uses = u; moved = q; names = names; moves = m; first = h }
+cause-of o p v q contexts names OutOfMemory u m h = tt
+cause-of o p v q contexts names _ u m h = absurd h
