@@ -1,9 +1,10 @@
 // The helpers that a lowered program calls under `--helpers=external`, as their names promise: `babelHelpers.objectSpread2` copies own
-// enumerable properties, and `babelHelpers.objectWithoutProperties` those of an object but for some names.
+// enumerable properties, `babelHelpers.objectWithoutProperties` those of an object but for some names, and `babelHelpers.usingCtx` makes
+// the context of a `try` in which resources are used.
 //   node -r ./tools/estree/babel-helpers.cjs FILE.js
 'use strict';
 
-globalThis.babelHelpers = { objectSpread2, objectWithoutProperties };
+globalThis.babelHelpers = { objectSpread2, objectWithoutProperties, usingCtx };
 
 function objectSpread2(target, ...sources) {
   for (const source of sources) copy(target, source, []);
@@ -24,4 +25,41 @@ function copy(target, source, excluded) {
     Object.defineProperty(target, key, { value: from[key], configurable: true, enumerable: true, writable: true });
   }
   return target;
+}
+
+/**
+ * A context, whose `u` takes a resource into use, or null or undefined, and whose `d` disposes of those taken, the last first. What the `try`
+ * threw is set as its `e`, and thrown again by `d`, in a SuppressedError if a disposal throws, too.
+ */
+function usingCtx() {
+  const none = {};
+  const resources = [];
+  return {
+    e: none,
+    u(value) {
+      if (value === null || value === undefined) return value;
+      const dispose = value[Symbol.dispose];
+      if (typeof dispose !== 'function') throw new TypeError('a value that is used has no method Symbol.dispose');
+      resources.push({ value, dispose });
+      return value;
+    },
+    d() {
+      let error = this.e;
+      while (resources.length > 0) {
+        const { value, dispose } = resources.pop();
+        try {
+          dispose.call(value);
+        } catch (thrown) {
+          error = error === none ? thrown : suppressedError(thrown, error);
+        }
+      }
+      if (error !== none) throw error;
+    },
+  };
+}
+
+function suppressedError(error, suppressed) {
+  const message = 'An error was suppressed during disposal.';
+  if (typeof SuppressedError === 'function') return new SuppressedError(error, suppressed, message);
+  return Object.assign(new Error(message), { name: 'SuppressedError', error, suppressed });
 }

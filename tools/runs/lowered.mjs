@@ -1,8 +1,8 @@
 #!/usr/bin/env node
 // Runs programs of statements before and after the tool lowered them, with all lowerings that are built, by this engine under the same host:
 // the lines of programs.js, each by itself and in statements around it, and the texts of the worked cases. Both are to ask the same, to end
-// alike and to leave the names of the source's top equal. A line for each that differs, and one of counts. The built tool and the parser of
-// tools/estree are needed.
+// alike and to leave the names of the source's top equal. A line for each that differs, and one of counts; what this engine doesn't read is
+// passed over. The built tool and the parser of tools/estree are needed.
 //   lowered.mjs [--lists N] [--tool PROGRAM]     the number of lists for each program, 6 where absent
 import fs from 'node:fs';
 import { fileURLToPath } from 'node:url';
@@ -36,9 +36,9 @@ async function checkAll() {
   const taken = texts.flatMap((text, index) => trees[index] && isMeant(trees[index]) ? [{ text, tree: trees[index] }] : []);
   const lowered = lowerAll(taken.map(({ tree }) => canonicalText(tree)), { tool: values.tool });
   for (const [index, program] of taken.entries()) await check(program, lowered[index]);
-  const { programs, refused, runs, questions, uncallable, outside, endless, differing } = counts;
-  const alike = `${programs} programs run alike as they are lowered, by ${runs} lists of moves with ${questions} questions`;
-  const passed = `${uncallable} lists call what isn't callable, ${outside} read or write what isn't set, or write a constant, ${endless} have no end`;
+  const { programs, refused, runs, questions, uncallable, outside, endless, unread, differing } = counts;
+  const alike = `${programs - unread} programs run alike as they are lowered, by ${runs} lists of moves with ${questions} questions`;
+  const passed = `${uncallable} lists call what isn't callable, ${outside} read or write what isn't set, or write a constant, ${endless} have no end, ${unread} programs aren't read by this engine`;
   console.log(`tools/runs: ${alike}, ${passed}, ${refused} programs are refused, ${differing} differ`);
   process.exitCode = differing === 0 ? 0 : 1;
 }
@@ -74,7 +74,7 @@ async function check({ text, tree }, { status, stdout }) {
   addTo(counts, await compareRuns(text, after, {
     lists: Number(values.lists),
     names: topNames(tree),
-    helpers: 'global',
+    helpers: after.includes('require("@oxc-project/runtime/helpers/') ? 'require' : 'global',
     hasAll: true,
     mayBeEndless: true,
     isOutside: ({ is, name, message }) => is === 'error' && (name === 'ReferenceError' || /constant variable/.test(message)),

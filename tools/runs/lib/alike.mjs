@@ -8,13 +8,16 @@ const LENGTH = 40;
 /**
  * Runs both texts by each of so many lists. Calls `tell` with the number of the list and both runs where they differ: they are to ask the
  * same, to end alike and to leave these names equal. Returns how many runs were compared with how many questions, how many lists call what
- * isn't callable, how many `isOutside` says of the first run, in how many neither run ends in the time that it is given, and how many differ.
+ * isn't callable, how many `isOutside` says of the first run, in how many neither run ends in the time that it is given, and how many differ;
+ * `unread` is 1 where this engine doesn't read the first text, and then neither is run.
  */
-export async function compareRuns(before, after, { lists, names, module, helpers, hasAll, mayBeEndless, isOutside = () => false, tell }) {
-  const counts = { runs: 0, questions: 0, uncallable: 0, outside: 0, endless: 0, differing: 0 };
+export async function compareRuns(before, after, { lists, names, module, helpers, hasAll, mayBeEndless, asksModules, isOutside = () => false, tell }) {
+  const counts = { runs: 0, questions: 0, uncallable: 0, outside: 0, endless: 0, unread: 0, differing: 0 };
   for (let list = 0; list < lists; list += 1) {
-    const worked = { moves: randomMoves(list, { hasAll }), module, helpers, mayBeEndless };
-    const [first, second] = [await runProgram(before, worked), await runProgram(after, worked)];
+    const worked = { moves: randomMoves(list, { hasAll }), module, helpers, mayBeEndless, asksModules };
+    const first = await runProgram(before, worked);
+    if (first.is === 'unread') return { ...counts, unread: 1 };
+    const second = await runProgram(after, worked);
     if ([first, second].every(({ is }) => is === 'endless')) counts.endless += 1;
     else if (await callsUncallable(before, worked, first)) counts.uncallable += 1;
     else if (isOutside(first)) counts.outside += 1;
@@ -33,6 +36,17 @@ export async function compareRuns(before, after, { lists, names, module, helpers
 /** The names that the declarations at the top of a tree declare. */
 export function topNames({ body = [] }) {
   return body.flatMap(({ declarations = [] }) => declarations.flatMap(({ id }) => boundNames(id)));
+}
+
+/** The names that a tree asks of other modules, each with the module's. */
+export function namesOfModules({ body = [] }) {
+  return body.filter(({ source }) => source).flatMap(({ source, specifiers }) => (specifiers ?? [])
+    .filter(({ type }) => type !== 'ImportNamespaceSpecifier')
+    .map(({ type, imported, local }) => ({ source: source.value, name: type === 'ImportDefaultSpecifier' ? 'default' : textOf(imported ?? local) })));
+}
+
+function textOf({ name, value }) {
+  return name ?? value;
 }
 
 function boundNames(pattern) {
