@@ -2,7 +2,7 @@
 use Rattle.std.proofs.Common.{◌≡◌, ◌∙◌, ◌<◌, ℕ, zero, suc, refl, ap, arith, List, [], ◌∷◌, Bool, true, false, get_or, length, take}
 use Rattle.std.specs.Prelude.{◌||◌, ◌&&◌}
 use Rattle.std.specs.List.{list_all, list_any}
-use Rattle.es_tree.specs.Tree.{Tree, Trees, node, Label, Fields, done, ◌then◌, Field, missing, one, many, statements, ◌before◌, trees}
+use Rattle.es_tree.specs.Tree.{Tree, Trees, node, Label, Fields, done, ◌then◌, Field, missing, one, many, statements, trees}
 use Rattle.es_tree.specs.Views.{plain_field, plain_fields}
 use Rattle.es_tree.specs.declared.ast_type.AstType.TheVariants.{ObjectPattern, RestElement, VariableDeclaration, VariableDeclarator}
 use Rattle.es_tree.specs.declared.node.Field.{Field as NodeField}

@@ -1,7 +1,7 @@
 -- Tests of patterns with a rest, as the code has them: each of what stands in a node's fields.
 use Rattle.std.specs.Prelude.{◌&&◌, ◌||◌, Bool, false, not, true}
 use Rattle.es_tree.specs.Tree.{Tree, Trees, Fields, done, ◌then◌, one, many}
-use Rattle.es_rest_shapes.specs.RestShapes.{any_child, any_tree, declares_rest, ends_in_rest, is_misplaced, is_name, is_odd_pattern, is_rest_declarator, is_rest_pattern, is_text_key}
+use Rattle.es_rest_shapes.specs.RestShapes.{any_child, any_tree, declares_rest, ends_in_rest, is_misplaced, is_name, is_odd_pattern, is_plain_key, is_rest_declarator, is_rest_pattern}
 
 -- one child, of which this holds
 abbrev pub on_one : (Tree → Bool) → Fields → Bool
@@ -52,8 +52,8 @@ declares_pattern _ = false
 abbrev pub are_plain_parts : Fields → Bool
 are_plain_parts fs = on_list ends_in_rest fs
 
-abbrev pub has_text_key : Fields → Bool
-has_text_key fs = on_two (λ k v. is_text_key k) fs
+abbrev pub has_plain_key : Bool → Fields → Bool
+has_plain_key computed fs = on_two (λ k v. is_plain_key computed k) fs
 
 abbrev pub is_one_name : Fields → Bool
 is_one_name fs = on_one is_name fs

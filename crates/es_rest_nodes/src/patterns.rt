@@ -1,12 +1,12 @@
-//! Patterns with a rest (ECMA-262, 14.3.3), and which of them are plain: a name or a text as the key of each property, and a rest that is
-//! a name at the end.
+//! Patterns with a rest (ECMA-262, 14.3.3), and which of them are plain: the text of each property's key stands in the program, and the
+//! rest at the end is a name.
 ghost use Rattle.std.specs.Prelude.{◌≡◌};
 ghost use Rattle.std.specs.List.{list_all};
 ghost use Rattle.es_tree.specs.Tree.{trees};
 ghost use Rattle.es_tree.specs.Views.{plain_fields};
 ghost use Rattle.es_runs.specs.Duplication.{has_no_fields};
-ghost use Rattle.es_rest_shapes.specs.RestShapes.{ends_in_rest, is_name, is_named_rest, is_plain_pattern, is_plain_property, is_rest_declarator, is_rest_pattern, is_text_key};
-ghost use Rattle.es_rest_nodes.specs.RestFields.{are_plain_parts, declares_pattern, has_text_key, is_one_name};
+ghost use Rattle.es_rest_shapes.specs.RestShapes.{ends_in_rest, is_known_key, is_literal_key, is_name, is_named_rest, is_plain_pattern, is_plain_property, is_rest_declarator, is_rest_pattern};
+ghost use Rattle.es_rest_nodes.specs.RestFields.{are_plain_parts, declares_pattern, has_plain_key, is_one_name};
 
 use es_nodes::construct::is_object_rest;
 use es_tree::kind::Kind;
@@ -38,7 +38,7 @@ fn declares_pattern(fields: &[Field]) -> bool
     }
 }
 
-/// Whether the node is a pattern of plain properties, and a rest that is a name at its end: `{ a, "b": c = 1, ...d }`.
+/// Whether the node is a pattern of plain properties, and a rest that is a name at its end: `{ a, "b": c = 1, [2]: d, ...e }`.
 pub fn is_plain_pattern(node: &Node) -> bool
     ensures { result ≡ is_plain_pattern node.now }
 {
@@ -74,33 +74,43 @@ fn are_plain(properties: &[Node]) -> bool
         .all(|property| is_plain_property(property))
 }
 
-/// Whether a property has a name or a text as its key.
+/// Whether the text of a property's key stands in the program: a key that is computed is a text or a number, and another may also be a name.
 fn is_plain_property(property: &Node) -> bool
     ensures { result ≡ is_plain_property property.now }
 {
     match &property.kind {
         Kind::PatternProperty { computed, .. } => {
-            !*computed && has_text_key(property.fields.as_slice())
+            has_plain_key(*computed, property.fields.as_slice())
         }
         _ => false,
     }
 }
 
-fn has_text_key(fields: &[Field]) -> bool
-    ensures { result ≡ has_text_key (plain_fields fields.now) }
+fn has_plain_key(computed: bool, fields: &[Field]) -> bool
+    ensures { result ≡ has_plain_key computed (plain_fields fields.now) }
 {
     match fields {
-        [Field::One(key), Field::One(..)] => is_text_key(key),
+        [Field::One(key), Field::One(..)] => match computed {
+            true => is_literal_key(key),
+            false => is_known_key(key),
+        },
         _ => false,
     }
 }
 
-/// Whether a key is a name or a text.
-fn is_text_key(key: &Node) -> bool
-    ensures { result ≡ is_text_key key.now }
+/// Whether a key is a name, a text or a number.
+fn is_known_key(key: &Node) -> bool
+    ensures { result ≡ is_known_key key.now }
+{
+    is_name(key) || is_literal_key(key)
+}
+
+/// Whether a key is a text or a number.
+fn is_literal_key(key: &Node) -> bool
+    ensures { result ≡ is_literal_key key.now }
 {
     match &key.kind {
-        Kind::Identifier { .. } | Kind::StringLiteral { .. } => {
+        Kind::BigIntLiteral { .. } | Kind::NumericLiteral { .. } | Kind::StringLiteral { .. } => {
             has_no_fields(key.fields.as_slice())
         }
         _ => false,

@@ -1,5 +1,5 @@
--- What the nodes around see of a tree in which something changed: no pattern with a rest where none was, and what is plain is still so. Where
--- the tree stands in a slot it may be wrapped, whatever it is.
+-- What the nodes around see of a tree in which something changed: no pattern with a rest where none was, and what is plain is still so, outside
+-- parameters. Where the tree stands in a slot it may be wrapped, whatever it is: also a key of a parameter that is computed.
 use Rattle.std.proofs.Common.{◌≡◌, ◌∙◌, ℕ, zero, suc, refl, sym, ap, true≢false, List, ◌∷◌}
 use Rattle.std.specs.Prelude.{Bool, true, false, ◌&&◌, ◌||◌, not}
 use Rattle.std.proofs.lemmas.Bool.{and_from, and_left, and_parts, and_right, or_from, or_parts}
@@ -8,28 +8,28 @@ use Rattle.es_tree.specs.Constructs.{any_kind, field_at, has_member, is_object_r
 use Rattle.es_tree.specs.Names.{has_computed}
 use Rattle.es_tree.specs.Tree.{Tree, node, Label, Fields, done, ◌then◌, Field, missing, one, many, statements, Trees, empty, ◌before◌, kind_of}
 use Rattle.es_tree.specs.declared.ast_type.AstType.{AstType}
-use Rattle.es_tree.specs.declared.ast_type.AstType.TheVariants.{ExportNamedDeclaration, Identifier, ObjectPattern, ObjectTarget, PatternProperty, RestElement, StringLiteral, VariableDeclaration, VariableDeclarator}
+use Rattle.es_tree.specs.declared.ast_type.AstType.TheVariants.{BigIntLiteral, ExportNamedDeclaration, Identifier, NumericLiteral, ObjectPattern, ObjectTarget, PatternProperty, RestElement, StringLiteral, VariableDeclaration, VariableDeclarator}
 use Rattle.es_steps.specs.Nodes.{joined_trees}
 use Rattle.es_steps.specs.Open.{is_body}
 use Rattle.es_steps.specs.Slots.{is_in_parameter, is_slot}
 use Rattle.es_reached.proofs.FreeTrees.{Free, FreeAll, neither}
-use Rattle.es_rest_shapes.specs.RestShapes.{any_child, any_child_by, any_tree, declares_rest, ends_in_rest, is_misplaced, is_name, is_named_rest, is_odd_pattern, is_plain_pattern, is_plain_property, is_rest_declaration, is_rest_declarator, is_rest_pattern, is_stray_rest, is_text_key}
+use Rattle.es_rest_shapes.specs.RestShapes.{any_child, any_child_by, any_tree, declares_rest, ends_in_rest, is_known_key, is_literal_key, is_misplaced, is_name, is_named_rest, is_odd_pattern, is_plain_key, is_plain_pattern, is_plain_property, is_rest_declaration, is_rest_declarator, is_rest_pattern, is_stray_rest}
 use Rattle.es_rest_rows.proofs.StrayNodes.{Mark, passes, is_acting, acting-named, acting-property}
 use Rattle.es_rest_rows.proofs.StrayNodes.Mark.{a_declaration, a_declarator, a_pattern, a_rest, a_stray, an_export}
 use Rattle.es_rest_rows.proofs.WholeLists.{joined-none}
 
--- ALIKE, where the tree stands alone in a field, in a slot or not
+-- ALIKE, where the tree stands alone in a field
 
-pub record LikeOne (b : Bool) (t u : Tree) : Type 0 where
+pub record LikeOne (up : List Ancestor) (t u : Tree) : Type 0 where
   pub marks : (m : Mark) → passes m t ≡ false → passes m u ≡ false
-  pub odd : is_odd_pattern t ≡ false → is_odd_pattern u ≡ false
-  pub fixed : b ≡ false → is_text_key t ≡ false
+  pub odd : is_in_parameter up ≡ false → is_odd_pattern t ≡ false → is_odd_pattern u ≡ false
+  pub fixed : is_slot up ≡ false → is_known_key t ≡ false
 
 -- and where it stands in a list
-pub record Like (b : Bool) (t u : Tree) : Type 0 where
-  pub alone : LikeOne b t u
-  pub property : b ≡ false → is_plain_property t ≡ true → is_plain_property u ≡ true
-  pub named : b ≡ false → is_named_rest t ≡ true → is_named_rest u ≡ true
+pub record Like (up : List Ancestor) (t u : Tree) : Type 0 where
+  pub alone : LikeOne up t u
+  pub property : is_slot up ≡ false → is_in_parameter up ≡ false → is_plain_property t ≡ true → is_plain_property u ≡ true
+  pub named : is_slot up ≡ false → is_named_rest t ≡ true → is_named_rest u ≡ true
 
 -- what comes for a node with others beside it
 pub record Besides (t : Tree) (us : Trees) : Type 0 where
@@ -37,37 +37,37 @@ pub record Besides (t : Tree) (us : Trees) : Type 0 where
   pub free : Free is_stray_rest t → FreeAll is_stray_rest us
   pub marks : (m : Mark) → any_tree (passes m) us ≡ false
 
-pub data LikeAll (b : Bool) : Trees → Trees → Type 0 where
-  head_like : {t u : Tree} {ts : Trees} → Like b t u → LikeAll b (t before ts) (u before ts)
-  tail_like : {t : Tree} {ts us : Trees} → LikeAll b ts us → LikeAll b (t before ts) (t before us)
-  beside_like : {t : Tree} {us ts : Trees} → Besides t us → LikeAll b (t before ts) (joined_trees us ts)
-  equal_trees : {ts : Trees} → LikeAll b ts ts
+pub data LikeAll (up : List Ancestor) : Trees → Trees → Type 0 where
+  head_like : {t u : Tree} {ts : Trees} → Like up t u → LikeAll up (t before ts) (u before ts)
+  tail_like : {t : Tree} {ts us : Trees} → LikeAll up ts us → LikeAll up (t before ts) (t before us)
+  beside_like : {t : Tree} {us ts : Trees} → Besides t us → LikeAll up (t before ts) (joined_trees us ts)
+  equal_trees : {ts : Trees} → LikeAll up ts ts
 
-pub data LikeBy (b : Bool) : Field → Field → Type 0 where
-  one_like : {t u : Tree} → LikeOne b t u → LikeBy b (one t) (one u)
-  many_like : {ts us : Trees} → LikeAll b ts us → LikeBy b (many ts) (many us)
-  statements_like : {ts us : Trees} → ((m : Mark) → any_tree (passes m) ts ≡ false → any_tree (passes m) us ≡ false) → LikeBy b (statements ts) (statements us)
-  equal_field : {f : Field} → LikeBy b f f
+pub data LikeBy (up : List Ancestor) : Field → Field → Type 0 where
+  one_like : {t u : Tree} → LikeOne up t u → LikeBy up (one t) (one u)
+  many_like : {ts us : Trees} → LikeAll up ts us → LikeBy up (many ts) (many us)
+  statements_like : {ts us : Trees} → ((m : Mark) → any_tree (passes m) ts ≡ false → any_tree (passes m) us ≡ false) → LikeBy up (statements ts) (statements us)
+  equal_field : {f : Field} → LikeBy up f f
 
-pub data LikeIn : (ℕ → Bool) → Fields → Fields → Type 0 where
-  first_like : {slots : ℕ → Bool} {f g : Field} {fs : Fields} → LikeBy (slots zero) f g → LikeIn slots (f then fs) (g then fs)
-  later_like : {slots : ℕ → Bool} {f : Field} {fs gs : Fields} → LikeIn (λ i. slots (suc i)) fs gs → LikeIn slots (f then fs) (f then gs)
+pub data LikeIn : (ℕ → List Ancestor) → Fields → Fields → Type 0 where
+  first_like : {c : ℕ → List Ancestor} {f g : Field} {fs : Fields} → LikeBy (c zero) f g → LikeIn c (f then fs) (g then fs)
+  later_like : {c : ℕ → List Ancestor} {f : Field} {fs gs : Fields} → LikeIn (λ i. c (suc i)) fs gs → LikeIn c (f then fs) (f then gs)
 
 -- CHILDREN
 
-pub all-marks : {b : Bool} (m : Mark) {ts us : Trees} → LikeAll b ts us → any_tree (passes m) ts ≡ false → any_tree (passes m) us ≡ false
+pub all-marks : {up : List Ancestor} (m : Mark) {ts us : Trees} → LikeAll up ts us → any_tree (passes m) ts ≡ false → any_tree (passes m) us ≡ false
 all-marks m (head_like {t = t} {u = u} {ts = ts} h) e = neither (passes m t) (any_tree (passes m) ts) (passes m u) (any_tree (passes m) ts) (h.alone.marks m) (λ x. x) e
 all-marks m (tail_like {t = t} {ts = ts} {us = us} h) e = neither (passes m t) (any_tree (passes m) ts) (passes m t) (any_tree (passes m) us) (λ x. x) (all-marks m h) e
 all-marks m (beside_like {t = t} {us = us} {ts = ts} h) e = joined-none (passes m) us ts (h.marks m) (or_parts (passes m t) (any_tree (passes m) ts) e).1
 all-marks m equal_trees e = e
 
-by-marks : {b : Bool} (m : Mark) {f g : Field} → LikeBy b f g → any_child_by (passes m) f ≡ false → any_child_by (passes m) g ≡ false
+by-marks : {up : List Ancestor} (m : Mark) {f g : Field} → LikeBy up f g → any_child_by (passes m) f ≡ false → any_child_by (passes m) g ≡ false
 by-marks m (one_like h) e = h.marks m e
 by-marks m (many_like h) e = all-marks m h e
 by-marks m (statements_like h) e = h m e
 by-marks m equal_field e = e
 
-in-marks : {slots : ℕ → Bool} (m : Mark) {fs gs : Fields} → LikeIn slots fs gs → any_child (passes m) fs ≡ false → any_child (passes m) gs ≡ false
+in-marks : {c : ℕ → List Ancestor} (m : Mark) {fs gs : Fields} → LikeIn c fs gs → any_child (passes m) fs ≡ false → any_child (passes m) gs ≡ false
 in-marks m (first_like {f = f} {g = g} {fs = fs} h) e = neither (any_child_by (passes m) f) (any_child (passes m) fs) (any_child_by (passes m) g) (any_child (passes m) fs) (by-marks m h) (λ x. x) e
 in-marks m (later_like {f = f} {fs = fs} {gs = gs} h) e = neither (any_child_by (passes m) f) (any_child (passes m) fs) (any_child_by (passes m) f) (any_child (passes m) gs) (λ x. x) (in-marks m h) e
 
@@ -77,14 +77,14 @@ ends-more : (t : Tree) (us : Trees) → is_plain_property t ≡ true → ends_in
 ends-more t empty e f = absurd (true≢false (sym f))
 ends-more t (u before us) e f = and_from (is_plain_property t) (ends_in_rest (u before us)) e f
 
-all-ends : {b : Bool} {ts us : Trees} → b ≡ false → LikeAll b ts us → ends_in_rest ts ≡ true → ends_in_rest us ≡ true
-all-ends out (head_like {ts = empty} h) e = h.named out e
-all-ends out (head_like {t = t} {u = u} {ts = x before xs} h) e = let k = and_parts (is_plain_property t) (ends_in_rest (x before xs)) e in and_from (is_plain_property u) (ends_in_rest (x before xs)) (h.property out k.0) k.1
-all-ends out (tail_like {ts = empty} equal_trees) e = e
-all-ends out (tail_like {t = t} {ts = x before xs} {us = us} h) e = let k = and_parts (is_plain_property t) (ends_in_rest (x before xs)) e in ends-more t us k.0 (all-ends out h k.1)
-all-ends out (beside_like {t = t} {ts = empty} h) e = absurd (true≢false (sym e ∙ acting-named t h.source))
-all-ends out (beside_like {t = t} {ts = x before xs} h) e = absurd (true≢false (sym (and_parts (is_plain_property t) (ends_in_rest (x before xs)) e).0 ∙ acting-property t h.source))
-all-ends out equal_trees e = e
+all-ends : {up : List Ancestor} {ts us : Trees} → is_slot up ≡ false → is_in_parameter up ≡ false → LikeAll up ts us → ends_in_rest ts ≡ true → ends_in_rest us ≡ true
+all-ends out free (head_like {ts = empty} h) e = h.named out e
+all-ends out free (head_like {t = t} {u = u} {ts = x before xs} h) e = let k = and_parts (is_plain_property t) (ends_in_rest (x before xs)) e in and_from (is_plain_property u) (ends_in_rest (x before xs)) (h.property out free k.0) k.1
+all-ends out free (tail_like {ts = empty} equal_trees) e = e
+all-ends out free (tail_like {t = t} {ts = x before xs} {us = us} h) e = let k = and_parts (is_plain_property t) (ends_in_rest (x before xs)) e in ends-more t us k.0 (all-ends out free h k.1)
+all-ends out free (beside_like {t = t} {ts = empty} h) e = absurd (true≢false (sym e ∙ acting-named t h.source))
+all-ends out free (beside_like {t = t} {ts = x before xs} h) e = absurd (true≢false (sym (and_parts (is_plain_property t) (ends_in_rest (x before xs)) e).0 ∙ acting-property t h.source))
+all-ends out free equal_trees e = e
 
 -- MARKS of a node in whose fields something changed
 
@@ -92,19 +92,19 @@ kinds-as : (ts : Trees) → any_kind is_rest ts ≡ any_tree (passes a_rest) ts
 kinds-as empty = refl
 kinds-as (t before ts) = ap (λ b. is_rest (kind_of t) || b) (kinds-as ts)
 
-members-like : {slots : ℕ → Bool} {fs gs : Fields} → LikeIn slots fs gs → has_member is_rest (field_at 0 fs) ≡ false → has_member is_rest (field_at 0 gs) ≡ false
+members-like : {c : ℕ → List Ancestor} {fs gs : Fields} → LikeIn c fs gs → has_member is_rest (field_at 0 fs) ≡ false → has_member is_rest (field_at 0 gs) ≡ false
 members-like (first_like (one_like h)) e = refl
 members-like (first_like (many_like {ts = ts} {us = us} h)) e = kinds-as us ∙ all-marks a_rest h (sym (kinds-as ts) ∙ e)
 members-like (first_like (statements_like h)) e = refl
 members-like (first_like equal_field) e = e
 members-like (later_like h) e = e
 
-pattern-like : {slots : ℕ → Bool} (k : AstType) (l : Label) {fs gs : Fields} → LikeIn slots fs gs → is_object_rest k l fs ≡ false → is_object_rest k l gs ≡ false
+pattern-like : {c : ℕ → List Ancestor} (k : AstType) (l : Label) {fs gs : Fields} → LikeIn c fs gs → is_object_rest k l fs ≡ false → is_object_rest k l gs ≡ false
 pattern-like ObjectPattern l h e = members-like h e
 pattern-like ObjectTarget l h e = members-like h e
 pattern-like _ l h e = refl
 
-first-pattern : {slots : ℕ → Bool} (l : Label) {fs gs : Fields} → LikeIn slots fs gs → is_rest_declarator (node VariableDeclarator l fs) ≡ false → is_rest_declarator (node VariableDeclarator l gs) ≡ false
+first-pattern : {c : ℕ → List Ancestor} (l : Label) {fs gs : Fields} → LikeIn c fs gs → is_rest_declarator (node VariableDeclarator l fs) ≡ false → is_rest_declarator (node VariableDeclarator l gs) ≡ false
 first-pattern l (first_like (one_like h)) e = h.marks a_pattern e
 first-pattern l (first_like (many_like h)) e = refl
 first-pattern l (first_like (statements_like h)) e = refl
@@ -114,11 +114,11 @@ first-pattern l (later_like {f = missing} h) e = refl
 first-pattern l (later_like {f = many ts} h) e = refl
 first-pattern l (later_like {f = statements ts} h) e = refl
 
-declarator-like : {slots : ℕ → Bool} (k : AstType) (l : Label) {fs gs : Fields} → LikeIn slots fs gs → is_rest_declarator (node k l fs) ≡ false → is_rest_declarator (node k l gs) ≡ false
+declarator-like : {c : ℕ → List Ancestor} (k : AstType) (l : Label) {fs gs : Fields} → LikeIn c fs gs → is_rest_declarator (node k l fs) ≡ false → is_rest_declarator (node k l gs) ≡ false
 declarator-like VariableDeclarator l h e = first-pattern l h e
 declarator-like _ l h e = refl
 
-first-declarators : {slots : ℕ → Bool} (l : Label) {fs gs : Fields} → LikeIn slots fs gs → is_rest_declaration VariableDeclaration l fs ≡ false → is_rest_declaration VariableDeclaration l gs ≡ false
+first-declarators : {c : ℕ → List Ancestor} (l : Label) {fs gs : Fields} → LikeIn c fs gs → is_rest_declaration VariableDeclaration l fs ≡ false → is_rest_declaration VariableDeclaration l gs ≡ false
 first-declarators l (first_like (one_like h)) e = refl
 first-declarators l (first_like (many_like h)) e = all-marks a_declarator h e
 first-declarators l (first_like (statements_like h)) e = refl
@@ -128,14 +128,14 @@ first-declarators l (later_like {f = missing} h) e = refl
 first-declarators l (later_like {f = one t} h) e = refl
 first-declarators l (later_like {f = statements ts} h) e = refl
 
-declaration-like : {slots : ℕ → Bool} (k : AstType) (l : Label) {fs gs : Fields} → LikeIn slots fs gs → is_rest_declaration k l fs ≡ false → is_rest_declaration k l gs ≡ false
+declaration-like : {c : ℕ → List Ancestor} (k : AstType) (l : Label) {fs gs : Fields} → LikeIn c fs gs → is_rest_declaration k l fs ≡ false → is_rest_declaration k l gs ≡ false
 declaration-like VariableDeclaration l h e = first-declarators l h e
 declaration-like _ l h e = refl
 
-stray-mark : {slots : ℕ → Bool} (k : AstType) (l : Label) {fs gs : Fields} → LikeIn slots fs gs → is_misplaced (node k l fs) ≡ false → is_misplaced (node k l gs) ≡ false
+stray-mark : {c : ℕ → List Ancestor} (k : AstType) (l : Label) {fs gs : Fields} → LikeIn c fs gs → is_misplaced (node k l fs) ≡ false → is_misplaced (node k l gs) ≡ false
 stray-mark k l {fs} {gs} h e = neither (is_rest_pattern (node k l fs)) (is_rest_declarator (node k l fs)) (is_rest_pattern (node k l gs)) (is_rest_declarator (node k l gs)) (pattern-like k l h) (declarator-like k l h) e
 
-node-marks : {slots : ℕ → Bool} (k : AstType) (l : Label) {fs gs : Fields} → LikeIn slots fs gs → (m : Mark) → passes m (node k l fs) ≡ false → passes m (node k l gs) ≡ false
+node-marks : {c : ℕ → List Ancestor} (k : AstType) (l : Label) {fs gs : Fields} → LikeIn c fs gs → (m : Mark) → passes m (node k l fs) ≡ false → passes m (node k l gs) ≡ false
 node-marks k l h a_pattern e = pattern-like k l h e
 node-marks k l h a_declarator e = declarator-like k l h e
 node-marks k l h a_declaration e = declaration-like k l h e
@@ -145,52 +145,61 @@ node-marks k l {fs} {gs} h an_export e = neither (is_misplaced (node k l fs)) (d
 
 -- WHAT IS PLAIN
 
-key-of : (k : AstType) (l : Label) (f : Field) (fs : Fields) → is_text_key (node k l (f then fs)) ≡ false
+key-of : (k : AstType) (l : Label) (f : Field) (fs : Fields) → is_known_key (node k l (f then fs)) ≡ false
+key-of BigIntLiteral l f fs = refl
 key-of Identifier l f fs = refl
+key-of NumericLiteral l f fs = refl
 key-of StringLiteral l f fs = refl
 key-of _ l f fs = refl
 
-no-key : {slots : ℕ → Bool} (k : AstType) (l : Label) {fs gs : Fields} → LikeIn slots fs gs → is_text_key (node k l fs) ≡ false
+no-key : {c : ℕ → List Ancestor} (k : AstType) (l : Label) {fs gs : Fields} → LikeIn c fs gs → is_known_key (node k l fs) ≡ false
 no-key k l (first_like {f = f} {fs = fs} h) = key-of k l f fs
 no-key k l (later_like {f = f} {fs = fs} h) = key-of k l f fs
 
-name-key : (t : Tree) → is_name t ≡ true → is_text_key t ≡ true
+name-key : (t : Tree) → is_name t ≡ true → is_known_key t ≡ true
 name-key (node Identifier l done) e = refl
 name-key (node Identifier l (f then fs)) e = absurd (true≢false (sym e))
 name-key (node _ l fs) e = absurd (true≢false (sym e))
 
-not-so : (b : Bool) → not b ≡ true → b ≡ false
-not-so true e = absurd (true≢false (sym e))
-not-so false e = refl
+literal-known : (k : Tree) → is_literal_key k ≡ true → is_known_key k ≡ true
+literal-known (node Identifier l fs) e = absurd (true≢false (sym e))
+literal-known (node BigIntLiteral l fs) e = e
+literal-known (node NumericLiteral l fs) e = e
+literal-known (node StringLiteral l fs) e = e
+literal-known (node _ l fs) e = absurd (true≢false (sym e))
+
+plain-known : (computed : Bool) (k : Tree) → is_plain_key computed k ≡ true → is_known_key k ≡ true
+plain-known true k e = literal-known k e
+plain-known false k e = e
 
 so : (b : Bool) → not b ≡ false → b ≡ true
 so true e = refl
 so false e = absurd (true≢false e)
 
 module _ (all : Fields) (up : List Ancestor) where
-  -- whether the field of this number is a slot of a node
-  abbrev slots : AstType → Label → ℕ → Bool
-  slots k l i = is_slot (ancestor k l all i 0 ∷ up)
+  -- what is around the field of this number
+  abbrev places : AstType → Label → ℕ → List Ancestor
+  places k l i = ancestor k l all i 0 ∷ up
 
-  property-like : (l : Label) (fs gs : Fields) → LikeIn (slots PatternProperty l) fs gs → is_plain_property (node PatternProperty l fs) ≡ true → is_plain_property (node PatternProperty l gs) ≡ true
-  property-like l (one k then one v then done) gs (first_like (one_like h)) e =
-      let parts = and_parts (not (has_computed PatternProperty l.flags)) (is_text_key k) e in
-      absurd (true≢false (sym parts.1 ∙ h.fixed (and_left (has_computed PatternProperty l.flags) (is_in_parameter up) (not-so (has_computed PatternProperty l.flags) parts.0))))
-  property-like l (one k then one v then done) gs (first_like equal_field) e = e
-  property-like l (one k then one v then done) gs (later_like (first_like (one_like h))) e = e
-  property-like l (one k then one v then done) gs (later_like (first_like equal_field)) e = e
-  property-like l (one k then one v then done) gs (later_like (later_like h)) e = elim h [ ]
-  property-like l (one k then one v then f then fs) gs h e = absurd (true≢false (sym e))
-  property-like l (one k then missing then fs) gs h e = absurd (true≢false (sym e))
-  property-like l (one k then many ts then fs) gs h e = absurd (true≢false (sym e))
-  property-like l (one k then statements ts then fs) gs h e = absurd (true≢false (sym e))
-  property-like l (one k then done) gs h e = absurd (true≢false (sym e))
-  property-like l (missing then fs) gs h e = absurd (true≢false (sym e))
-  property-like l (many ts then fs) gs h e = absurd (true≢false (sym e))
-  property-like l (statements ts then fs) gs h e = absurd (true≢false (sym e))
-  property-like l done gs h e = absurd (true≢false (sym e))
+  property-like : (l : Label) (fs gs : Fields) → LikeIn (places PatternProperty l) fs gs → is_in_parameter up ≡ false → is_plain_property (node PatternProperty l fs) ≡ true → is_plain_property (node PatternProperty l gs) ≡ true
+  property-like l (one k then one v then done) gs (first_like (one_like h)) out e =
+      let computed = has_computed PatternProperty l.flags in
+      absurd (true≢false (sym (plain-known computed k e) ∙ h.fixed (and_right computed (is_in_parameter up) out)))
+  property-like l (one k then one v then done) gs (first_like equal_field) out e = e
+  property-like l (one k then one v then done) gs (later_like (first_like (one_like h))) out e = e
+  property-like l (one k then one v then done) gs (later_like (first_like equal_field)) out e = e
+  property-like l (one k then one v then done) gs (later_like (later_like h)) out e = elim h [ ]
+  property-like l (one k then one v then f then fs) gs h out e = absurd (true≢false (sym e))
+  property-like l (one k then missing then fs) gs h out e = absurd (true≢false (sym e))
+  property-like l (one k then many ts then fs) gs h out e = absurd (true≢false (sym e))
+  property-like l (one k then statements ts then fs) gs h out e = absurd (true≢false (sym e))
+  property-like l (one k then done) gs h out e = absurd (true≢false (sym e))
+  property-like l (missing then fs) gs h out e = absurd (true≢false (sym e))
+  property-like l (many ts then fs) gs h out e = absurd (true≢false (sym e))
+  property-like l (statements ts then fs) gs h out e = absurd (true≢false (sym e))
+  property-like l done gs h out e = absurd (true≢false (sym e))
 
-  named-like : (l : Label) (fs gs : Fields) → LikeIn (slots RestElement l) fs gs → is_named_rest (node RestElement l fs) ≡ true → is_named_rest (node RestElement l gs) ≡ true
+  named-like : (l : Label) (fs gs : Fields) → LikeIn (places RestElement l) fs gs → is_named_rest (node RestElement l fs) ≡ true → is_named_rest (node RestElement l gs) ≡ true
   named-like l (one t then done) gs (first_like (one_like h)) e = absurd (true≢false (sym (name-key t e) ∙ h.fixed refl))
   named-like l (one t then done) gs (first_like equal_field) e = e
   named-like l (one t then done) gs (later_like h) e = elim h [ ]
@@ -200,25 +209,25 @@ module _ (all : Fields) (up : List Ancestor) where
   named-like l (statements ts then fs) gs h e = absurd (true≢false (sym e))
   named-like l done gs h e = absurd (true≢false (sym e))
 
-  plain-like : (l : Label) (fs gs : Fields) → LikeIn (slots ObjectPattern l) fs gs → is_plain_pattern (node ObjectPattern l fs) ≡ true → is_plain_pattern (node ObjectPattern l gs) ≡ true
-  plain-like l (many ps then done) gs (first_like (many_like h)) e = all-ends refl h e
-  plain-like l (many ps then done) gs (first_like equal_field) e = e
-  plain-like l (many ps then done) gs (later_like h) e = elim h [ ]
-  plain-like l (many ps then f then fs) gs h e = absurd (true≢false (sym e))
-  plain-like l (missing then fs) gs h e = absurd (true≢false (sym e))
-  plain-like l (one t then fs) gs h e = absurd (true≢false (sym e))
-  plain-like l (statements ts then fs) gs h e = absurd (true≢false (sym e))
-  plain-like l done gs h e = absurd (true≢false (sym e))
+  plain-like : (l : Label) (fs gs : Fields) → LikeIn (places ObjectPattern l) fs gs → is_in_parameter up ≡ false → is_plain_pattern (node ObjectPattern l fs) ≡ true → is_plain_pattern (node ObjectPattern l gs) ≡ true
+  plain-like l (many ps then done) gs (first_like (many_like h)) out e = all-ends refl out h e
+  plain-like l (many ps then done) gs (first_like equal_field) out e = e
+  plain-like l (many ps then done) gs (later_like h) out e = elim h [ ]
+  plain-like l (many ps then f then fs) gs h out e = absurd (true≢false (sym e))
+  plain-like l (missing then fs) gs h out e = absurd (true≢false (sym e))
+  plain-like l (one t then fs) gs h out e = absurd (true≢false (sym e))
+  plain-like l (statements ts then fs) gs h out e = absurd (true≢false (sym e))
+  plain-like l done gs h out e = absurd (true≢false (sym e))
 
-  plain-node : (k : AstType) (l : Label) (fs gs : Fields) → LikeIn (slots k l) fs gs → is_plain_pattern (node k l fs) ≡ true → is_plain_pattern (node k l gs) ≡ true
-  plain-node ObjectPattern l fs gs h e = plain-like l fs gs h e
-  plain-node _ l fs gs h e = absurd (true≢false (sym e))
+  plain-node : (k : AstType) (l : Label) (fs gs : Fields) → LikeIn (places k l) fs gs → is_in_parameter up ≡ false → is_plain_pattern (node k l fs) ≡ true → is_plain_pattern (node k l gs) ≡ true
+  plain-node ObjectPattern l fs gs h out e = plain-like l fs gs h out e
+  plain-node _ l fs gs h out e = absurd (true≢false (sym e))
 
-  property-node : (k : AstType) (l : Label) (fs gs : Fields) → LikeIn (slots k l) fs gs → is_plain_property (node k l fs) ≡ true → is_plain_property (node k l gs) ≡ true
-  property-node PatternProperty l fs gs h e = property-like l fs gs h e
-  property-node _ l fs gs h e = absurd (true≢false (sym e))
+  property-node : (k : AstType) (l : Label) (fs gs : Fields) → LikeIn (places k l) fs gs → is_in_parameter up ≡ false → is_plain_property (node k l fs) ≡ true → is_plain_property (node k l gs) ≡ true
+  property-node PatternProperty l fs gs h out e = property-like l fs gs h out e
+  property-node _ l fs gs h out e = absurd (true≢false (sym e))
 
-  named-node : (k : AstType) (l : Label) (fs gs : Fields) → LikeIn (slots k l) fs gs → is_named_rest (node k l fs) ≡ true → is_named_rest (node k l gs) ≡ true
+  named-node : (k : AstType) (l : Label) (fs gs : Fields) → LikeIn (places k l) fs gs → is_named_rest (node k l fs) ≡ true → is_named_rest (node k l gs) ≡ true
   named-node RestElement l fs gs h e = named-like l fs gs h e
   named-node _ l fs gs h e = absurd (true≢false (sym e))
 
@@ -227,11 +236,11 @@ module _ (all : Fields) (up : List Ancestor) where
   odd-bools true p d x y z f g h e = let k = or_parts (not p) d e in or_from (x && not y) z (and_right x (not y) (ap (λ v. not v) (g (so p k.0)))) (h k.1)
 
   -- A NODE in whose fields something changed is alike, wherever it stands
-  pub node-like : (b : Bool) (k : AstType) (l : Label) (fs gs : Fields) → LikeIn (slots k l) fs gs → Like b (node k l fs) (node k l gs)
-  node-like b k l fs gs h = record {
+  pub node-like : (k : AstType) (l : Label) (fs gs : Fields) → LikeIn (places k l) fs gs → Like up (node k l fs) (node k l gs)
+  node-like k l fs gs h = record {
     alone = record {
       marks = node-marks k l h;
-      odd = odd-bools (is_rest_pattern (node k l fs)) (is_plain_pattern (node k l fs)) (is_rest_declarator (node k l fs)) (is_rest_pattern (node k l gs)) (is_plain_pattern (node k l gs)) (is_rest_declarator (node k l gs)) (pattern-like k l h) (plain-node k l fs gs h) (declarator-like k l h);
+      odd = λ out. odd-bools (is_rest_pattern (node k l fs)) (is_plain_pattern (node k l fs)) (is_rest_declarator (node k l fs)) (is_rest_pattern (node k l gs)) (is_plain_pattern (node k l gs)) (is_rest_declarator (node k l gs)) (pattern-like k l h) (plain-node k l fs gs h out) (declarator-like k l h);
       fixed = λ out. no-key k l h;
     };
     property = λ out. property-node k l fs gs h;
@@ -240,47 +249,48 @@ module _ (all : Fields) (up : List Ancestor) where
 
 -- STRAYS: a node that held none holds none
 
-declarator-stray : {slots : ℕ → Bool} (l : Label) {fs gs : Fields} → LikeIn slots fs gs → (any_child is_misplaced fs ≡ false → any_child is_misplaced gs ≡ false) → is_stray_rest VariableDeclarator l fs ≡ false → is_stray_rest VariableDeclarator l gs ≡ false
-declarator-stray l (first_like {fs = one v then done} (one_like {t = t} {u = u} h)) k e = neither (is_odd_pattern t) (is_misplaced v) (is_odd_pattern u) (is_misplaced v) h.odd (λ x. x) e
-declarator-stray l (first_like {fs = one v then f then fs} (one_like h)) k e = k e
-declarator-stray l (first_like {fs = missing then fs} (one_like h)) k e = k e
-declarator-stray l (first_like {fs = many ts then fs} (one_like h)) k e = k e
-declarator-stray l (first_like {fs = statements ts then fs} (one_like h)) k e = k e
-declarator-stray l (first_like {fs = done} (one_like h)) k e = k e
-declarator-stray l (first_like (many_like h)) k e = k e
-declarator-stray l (first_like (statements_like h)) k e = k e
-declarator-stray l (first_like equal_field) k e = e
-declarator-stray l (later_like {f = one p} (first_like {fs = done} (one_like {t = t} {u = u} h))) k e = neither (is_odd_pattern p) (is_misplaced t) (is_odd_pattern p) (is_misplaced u) (λ x. x) (h.marks a_stray) e
-declarator-stray l (later_like {f = one p} (first_like {fs = f then fs} (one_like h))) k e = k e
-declarator-stray l (later_like {f = one p} (first_like (many_like h))) k e = k e
-declarator-stray l (later_like {f = one p} (first_like (statements_like h))) k e = k e
-declarator-stray l (later_like {f = one p} (first_like equal_field)) k e = e
-declarator-stray l (later_like {f = one p} (later_like {f = one v} (first_like h))) k e = k e
-declarator-stray l (later_like {f = one p} (later_like {f = one v} (later_like h))) k e = k e
-declarator-stray l (later_like {f = one p} (later_like {f = missing} h)) k e = k e
-declarator-stray l (later_like {f = one p} (later_like {f = many ts} h)) k e = k e
-declarator-stray l (later_like {f = one p} (later_like {f = statements ts} h)) k e = k e
-declarator-stray l (later_like {f = missing} h) k e = k e
-declarator-stray l (later_like {f = many ts} h) k e = k e
-declarator-stray l (later_like {f = statements ts} h) k e = k e
+module _ (all : Fields) (up : List Ancestor) where
+  declarator-stray : (l : Label) {fs gs : Fields} → LikeIn (places all up VariableDeclarator l) fs gs → (any_child is_misplaced fs ≡ false → any_child is_misplaced gs ≡ false) → is_stray_rest VariableDeclarator l fs ≡ false → is_stray_rest VariableDeclarator l gs ≡ false
+  declarator-stray l (first_like {fs = one v then done} (one_like {t = t} {u = u} h)) k e = neither (is_odd_pattern t) (is_misplaced v) (is_odd_pattern u) (is_misplaced v) (h.odd refl) (λ x. x) e
+  declarator-stray l (first_like {fs = one v then f then fs} (one_like h)) k e = k e
+  declarator-stray l (first_like {fs = missing then fs} (one_like h)) k e = k e
+  declarator-stray l (first_like {fs = many ts then fs} (one_like h)) k e = k e
+  declarator-stray l (first_like {fs = statements ts then fs} (one_like h)) k e = k e
+  declarator-stray l (first_like {fs = done} (one_like h)) k e = k e
+  declarator-stray l (first_like (many_like h)) k e = k e
+  declarator-stray l (first_like (statements_like h)) k e = k e
+  declarator-stray l (first_like equal_field) k e = e
+  declarator-stray l (later_like {f = one p} (first_like {fs = done} (one_like {t = t} {u = u} h))) k e = neither (is_odd_pattern p) (is_misplaced t) (is_odd_pattern p) (is_misplaced u) (λ x. x) (h.marks a_stray) e
+  declarator-stray l (later_like {f = one p} (first_like {fs = f then fs} (one_like h))) k e = k e
+  declarator-stray l (later_like {f = one p} (first_like (many_like h))) k e = k e
+  declarator-stray l (later_like {f = one p} (first_like (statements_like h))) k e = k e
+  declarator-stray l (later_like {f = one p} (first_like equal_field)) k e = e
+  declarator-stray l (later_like {f = one p} (later_like {f = one v} (first_like h))) k e = k e
+  declarator-stray l (later_like {f = one p} (later_like {f = one v} (later_like h))) k e = k e
+  declarator-stray l (later_like {f = one p} (later_like {f = missing} h)) k e = k e
+  declarator-stray l (later_like {f = one p} (later_like {f = many ts} h)) k e = k e
+  declarator-stray l (later_like {f = one p} (later_like {f = statements ts} h)) k e = k e
+  declarator-stray l (later_like {f = missing} h) k e = k e
+  declarator-stray l (later_like {f = many ts} h) k e = k e
+  declarator-stray l (later_like {f = statements ts} h) k e = k e
 
-declaration-stray : {slots : ℕ → Bool} (l : Label) {fs gs : Fields} → LikeIn slots fs gs → (any_child is_misplaced fs ≡ false → any_child is_misplaced gs ≡ false) → is_stray_rest VariableDeclaration l fs ≡ false → is_stray_rest VariableDeclaration l gs ≡ false
-declaration-stray l (first_like {fs = done} (many_like h)) k e = all-marks a_pattern h e
-declaration-stray l (first_like {fs = f then fs} (many_like h)) k e = k e
-declaration-stray l (first_like (one_like h)) k e = k e
-declaration-stray l (first_like (statements_like h)) k e = k e
-declaration-stray l (first_like equal_field) k e = e
-declaration-stray l (later_like {f = many ds} (first_like h)) k e = k e
-declaration-stray l (later_like {f = many ds} (later_like h)) k e = k e
-declaration-stray l (later_like {f = missing} h) k e = k e
-declaration-stray l (later_like {f = one t} h) k e = k e
-declaration-stray l (later_like {f = statements ts} h) k e = k e
+  declaration-stray : {c : ℕ → List Ancestor} (l : Label) {fs gs : Fields} → LikeIn c fs gs → (any_child is_misplaced fs ≡ false → any_child is_misplaced gs ≡ false) → is_stray_rest VariableDeclaration l fs ≡ false → is_stray_rest VariableDeclaration l gs ≡ false
+  declaration-stray l (first_like {fs = done} (many_like h)) k e = all-marks a_pattern h e
+  declaration-stray l (first_like {fs = f then fs} (many_like h)) k e = k e
+  declaration-stray l (first_like (one_like h)) k e = k e
+  declaration-stray l (first_like (statements_like h)) k e = k e
+  declaration-stray l (first_like equal_field) k e = e
+  declaration-stray l (later_like {f = many ds} (first_like h)) k e = k e
+  declaration-stray l (later_like {f = many ds} (later_like h)) k e = k e
+  declaration-stray l (later_like {f = missing} h) k e = k e
+  declaration-stray l (later_like {f = one t} h) k e = k e
+  declaration-stray l (later_like {f = statements ts} h) k e = k e
 
-pub stray-like : {slots : ℕ → Bool} (k : AstType) (l : Label) {fs gs : Fields} → LikeIn slots fs gs → is_stray_rest k l fs ≡ false → is_stray_rest k l gs ≡ false
-stray-like VariableDeclarator l h e = declarator-stray l h (in-marks a_stray h) e
-stray-like VariableDeclaration l h e = declaration-stray l h (in-marks a_stray h) e
-stray-like ExportNamedDeclaration l h e = in-marks an_export h e
-stray-like _ l h e = in-marks a_stray h e
+  pub stray-like : (k : AstType) (l : Label) {fs gs : Fields} → LikeIn (places all up k l) fs gs → is_stray_rest k l fs ≡ false → is_stray_rest k l gs ≡ false
+  stray-like VariableDeclarator l h e = declarator-stray l h (in-marks a_stray h) e
+  stray-like VariableDeclaration l h e = declaration-stray l h (in-marks a_stray h) e
+  stray-like ExportNamedDeclaration l h e = in-marks an_export h e
+  stray-like _ l h e = in-marks a_stray h e
 
 -- what stands in a slot, or as the body of an arrow, is at its place
 pub inside-placed : (all : Fields) (up : List Ancestor) (k : AstType) (l : Label) (fs : Fields) (i : ℕ) → (is_slot (ancestor k l all i 0 ∷ up) || is_body k i) ≡ true → is_stray_rest k l fs ≡ false → any_child is_misplaced fs ≡ false

@@ -6,10 +6,10 @@ use Rattle.es_tree.specs.Constructs.{is_rest}
 use Rattle.es_tree.specs.Parens.{without_parens}
 use Rattle.es_tree.specs.Tree.{Tree, node, Label, Fields, done, ◌then◌, Field, missing, one, many, statements, Trees, empty, ◌before◌, kind_of, trees}
 use Rattle.es_tree.specs.declared.ast_type.AstType.{AstType}
-use Rattle.es_tree.specs.declared.ast_type.AstType.TheVariants.{ExportNamedDeclaration, Identifier, ObjectPattern, ObjectTarget, ParenthesizedExpression, PatternProperty, RestElement, StringLiteral, TargetRest, VariableDeclaration, VariableDeclarator}
+use Rattle.es_tree.specs.declared.ast_type.AstType.TheVariants.{BigIntLiteral, ExportNamedDeclaration, Identifier, NumericLiteral, ObjectPattern, ObjectTarget, ParenthesizedExpression, PatternProperty, RestElement, StringLiteral, TargetRest, VariableDeclaration, VariableDeclarator}
 use Rattle.es_steps.specs.Nodes.{placed}
 use Rattle.es_reached.proofs.FreeTrees.{Free, FreeAll, FreeBy, FreeIn}
-use Rattle.es_rest_shapes.specs.RestShapes.{any_child, any_child_by, any_tree, declares_rest, is_misplaced, is_named_rest, is_plain_property, is_rest_declarator, is_rest_pattern, is_stray_rest, is_text_key}
+use Rattle.es_rest_shapes.specs.RestShapes.{any_child, any_child_by, any_tree, declares_rest, is_known_key, is_misplaced, is_named_rest, is_plain_property, is_rest_declarator, is_rest_pattern, is_stray_rest}
 
 -- MARKS: what a node may be, as far as those around it see
 
@@ -65,14 +65,18 @@ ordinary-stray _ l fs e = refl
 
 -- kinds of nodes on which rows act: no key, property or rest among them
 abbrev pub is_acting : AstType → Bool
+is_acting BigIntLiteral = false
 is_acting Identifier = false
+is_acting NumericLiteral = false
 is_acting PatternProperty = false
 is_acting RestElement = false
 is_acting StringLiteral = false
 is_acting _ = true
 
-pub acting-key : (t : Tree) → is_acting (kind_of t) ≡ true → is_text_key t ≡ false
+pub acting-key : (t : Tree) → is_acting (kind_of t) ≡ true → is_known_key t ≡ false
+acting-key (node BigIntLiteral l fs) e = absurd (cc e)
 acting-key (node Identifier l fs) e = absurd (cc e)
+acting-key (node NumericLiteral l fs) e = absurd (cc e)
 acting-key (node StringLiteral l fs) e = absurd (cc e)
 acting-key (node _ l fs) e = refl
 

@@ -14,7 +14,7 @@ use Rattle.es_steps.proofs.Opened.{finished-opened}
 use Rattle.es_reached.specs.Reached.{built_rules}
 use Rattle.es_reached.proofs.FreeTrees.{Free, FreeAll, FreeBy, FreeIn, append-free, free, joined-free, none}
 use Rattle.es_reached.proofs.Sources.{law_bare_source_proof}
-use Rattle.es_rest_shapes.specs.RestShapes.{any_child, any_child_by, any_tree, is_misplaced, is_plain_pattern, is_rest_declarator, is_rest_pattern, is_stray_rest, is_text_key}
+use Rattle.es_rest_shapes.specs.RestShapes.{any_child, any_child_by, any_tree, is_known_key, is_misplaced, is_plain_pattern, is_rest_declarator, is_rest_pattern, is_stray_rest}
 use Rattle.es_rest_shapes.proofs.BareRests.{law_bare_rests_proof}
 use Rattle.es_rest_rows.specs.Laws.{LawStraysNotMade}
 use Rattle.es_rest_rows.proofs.Changes.{Changed, ChangedAll, ChangedBy, ChangedIn, in-a-row, is_body_place, opened-proper}
@@ -119,11 +119,11 @@ body-free [] (x ∷ ls) [] t u k h d = sound-body (body_statements [] (x ∷ ls)
 body-free [] (x ∷ ls) (b ∷ bs) t u k h d = sound-body (body_statements (map declarator (b ∷ bs)) (x ∷ ls) u) (body-each Sound sound-grows [] (x ∷ ls) (b ∷ bs) (return_node t before empty) (return_node u before empty) (λ e. returned u h) (body-sound (body_statements [] (x ∷ ls) t) d))
 body-free (v ∷ vs) ls bs t u k h d = sound-body (body_statements ((v ∷ vs) ++ map declarator bs) ls u) (body-each Sound sound-grows (v ∷ vs) ls bs (return_node t before empty) (return_node u before empty) (λ e. returned u h) (body-sound (body_statements (v ∷ vs) ls t) d))
 
-module _ {b : Bool} where
-  whole-body : (t : Tree) (l : Label) (fs : Fields) → (b ≡ false → is_text_key t ≡ false) → LikeOne b t (node FunctionBody l fs)
-  whole-body t l fs f = record { marks = λ m e. ordinary-marks m FunctionBody l fs refl; odd = λ e. refl; fixed = f }
+module _ {up : List Ancestor} where
+  whole-body : (t : Tree) (l : Label) (fs : Fields) → (is_slot up ≡ false → is_known_key t ≡ false) → LikeOne up t (node FunctionBody l fs)
+  whole-body t l fs f = record { marks = λ m e. ordinary-marks m FunctionBody l fs refl; odd = λ out e. refl; fixed = f }
 
-  body-like : (vs ls : List Tree) (bs : List Bound) (t u : Tree) → LikeOne b t u → LikeOne b (body_with vs ls t) (body_with (vs ++ map declarator bs) ls u)
+  body-like : (vs ls : List Tree) (bs : List Bound) (t u : Tree) → LikeOne up t u → LikeOne up (body_with vs ls t) (body_with (vs ++ map declarator bs) ls u)
   body-like [] [] [] t u h = h
   body-like [] [] (x ∷ bs) t u h = whole-body t _ _ h.fixed
   body-like [] (d ∷ ls) [] t u h = whole-body _ _ _ (λ e. refl)
@@ -134,19 +134,19 @@ module _ {b : Bool} where
 
 record Kept (up : List Ancestor) (t u : Tree) : Type 0 where
   free : Free is_stray_rest u
-  like : Like (is_slot up) t u
+  like : Like up t u
 
 record KeptIn (c : ℕ → List Ancestor) (fs gs : Fields) : Type 0 where
   free : FreeIn is_stray_rest gs
-  like : LikeIn (λ i. is_slot (c i)) fs gs
+  like : LikeIn c fs gs
 
 record KeptBy (up : List Ancestor) (f g : Field) : Type 0 where
   free : FreeBy is_stray_rest g
-  like : LikeBy (is_slot up) f g
+  like : LikeBy up f g
 
 record KeptAll (up : List Ancestor) (ts us : Trees) : Type 0 where
   free : FreeAll is_stray_rest us
-  like : LikeAll (is_slot up) ts us
+  like : LikeAll up ts us
 
 -- a row leaves a node of an ordinary kind
 replaced-marks : (u : Tree) → Replaced u → (m : Mark) → passes m u ≡ false
@@ -158,10 +158,10 @@ acted up t u a r = record {
   like = record {
     alone = record {
       marks = λ m e. replaced-marks u r m;
-      odd = λ e. or_from (is_rest_pattern u && not (is_plain_pattern u)) (is_rest_declarator u) (and_left (is_rest_pattern u) (not (is_plain_pattern u)) (replaced-marks u r a_pattern)) (replaced-marks u r a_declarator);
+      odd = λ out e. or_from (is_rest_pattern u && not (is_plain_pattern u)) (is_rest_declarator u) (and_left (is_rest_pattern u) (not (is_plain_pattern u)) (replaced-marks u r a_pattern)) (replaced-marks u r a_declarator);
       fixed = λ out. acting-key t (a.source out);
     };
-    property = λ out e. absurd (true≢false (sym e ∙ acting-property t (a.source out)));
+    property = λ out free e. absurd (true≢false (sym e ∙ acting-property t (a.source out)));
     named = λ out e. absurd (true≢false (sym e ∙ acting-named t (a.source out)));
   };
 }
@@ -177,7 +177,7 @@ mutual
   kept (here {up = up} {t = t} {u = u} a) d p = acted up t u a (a.leaves (record { nodes = d }) (λ slot. p (ap (λ v. v || is_body_place up) slot)))
   kept (within {up = up} {k = k} {l = l} {all = all} {fs = fs} {gs = gs} h) d p =
       let m = kept-in h d.1 (λ i e. inside-placed all up k l fs i e d.0) in
-      record { free = (stray-like k l m.like d.0, m.free); like = node-like all up (is_slot up) k l fs gs m.like }
+      record { free = (stray-like all up k l m.like d.0, m.free); like = node-like all up k l fs gs m.like }
 
   kept-in : {c : ℕ → List Ancestor} {fs gs : Fields} → ChangedIn Acted Besides (λ bs. Unit {0}) c fs gs → FreeIn is_stray_rest fs → ((i : ℕ) → is_inside (c i) ≡ true → any_child is_misplaced fs ≡ false) → KeptIn c fs gs
   kept-in (first {f = f} {fs = fs} h) d p = let m = kept-by h d.0 (λ e. (or_parts (any_child_by is_misplaced f) (any_child is_misplaced fs) (p zero e)).0) in record { free = (m.free, d.1); like = first_like m.like }

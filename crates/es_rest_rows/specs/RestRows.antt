@@ -22,12 +22,12 @@ use Rattle.es_tree.specs.Tree.{Tree, node, Label, done, ◌then◌, one, many, T
 use Rattle.es_tree.specs.Words.{Text}
 use Rattle.es_tree.specs.declared.ast_type.AstType.TheVariants.{ExportNamedDeclaration, Identifier, PatternProperty, RestElement, VariableDeclaration}
 use Rattle.es_valid_rests.specs.RestRules.{all_declare}
-use Rattle.es_rest_shapes.specs.RestShapes.{are_plain, is_name, is_plain_pattern}
+use Rattle.es_rest_shapes.specs.RestShapes.{are_plain, is_name, is_plain_pattern, key_text}
 
 -- the keys of these properties, as texts
 abbrev pub keys_of : Trees → List Text
 keys_of empty = []
-keys_of (node PatternProperty l (one k then fs) before ts) = first_text (label_of k).texts ∷ keys_of ts
+keys_of (node PatternProperty l (one k then fs) before ts) = key_text k ∷ keys_of ts
 keys_of (t before ts) = keys_of ts
 
 -- whether a pattern binds this name

@@ -1,15 +1,15 @@
 -- Ids and marks mean nothing to patterns with a rest, whether they are declared or stray.
 use Rattle.std.proofs.Common.{◌≡◌, ◌∙◌, refl, sym, ap}
-use Rattle.std.specs.Prelude.{Bool, ◌||◌, ◌&&◌, not}
+use Rattle.std.specs.Prelude.{Bool, false, true, ◌||◌, ◌&&◌, not}
 use Rattle.es_tree.specs.Bare.{bare, bare_field, bare_fields, bare_label, bare_trees}
 use Rattle.es_tree.specs.Constructs.{any_kind, field_at, has_member, is_object_rest, is_rest}
 use Rattle.es_tree.specs.Names.{has_computed}
 use Rattle.es_tree.specs.Tree.{Tree, node, Label, Fields, done, ◌then◌, Field, missing, one, many, statements, Trees, empty, ◌before◌}
 use Rattle.es_tree.specs.Walks.{any_in_field, any_in_fields, any_in_trees, any_node}
 use Rattle.es_tree.specs.declared.ast_type.AstType.{AstType}
-use Rattle.es_tree.specs.declared.ast_type.AstType.TheVariants.{ExportNamedDeclaration, Identifier, ObjectPattern, ObjectTarget, PatternProperty, RestElement, StringLiteral, VariableDeclaration, VariableDeclarator}
+use Rattle.es_tree.specs.declared.ast_type.AstType.TheVariants.{BigIntLiteral, ExportNamedDeclaration, Identifier, NumericLiteral, ObjectPattern, ObjectTarget, PatternProperty, RestElement, StringLiteral, VariableDeclaration, VariableDeclarator}
 use Rattle.es_rest_shapes.specs.Laws.{LawBareRests}
-use Rattle.es_rest_shapes.specs.RestShapes.{any_child, any_child_by, any_tree, declares_rest, ends_in_rest, is_misplaced, is_name, is_named_rest, is_odd_pattern, is_plain_pattern, is_plain_property, is_rest_declaration, is_rest_declarator, is_rest_pattern, is_stray_rest, is_text_key}
+use Rattle.es_rest_shapes.specs.RestShapes.{any_child, any_child_by, any_tree, declares_rest, ends_in_rest, is_known_key, is_literal_key, is_misplaced, is_name, is_named_rest, is_odd_pattern, is_plain_key, is_plain_pattern, is_plain_property, is_rest_declaration, is_rest_declarator, is_rest_pattern, is_stray_rest}
 
 -- CHILDREN
 
@@ -54,15 +54,29 @@ name-bare (node Identifier l done) = refl
 name-bare (node Identifier l (f then fs)) = refl
 name-bare (node _ l fs) = refl
 
-pub key-bare : (t : Tree) → is_text_key (bare t) ≡ is_text_key t
-key-bare (node Identifier l done) = refl
-key-bare (node Identifier l (f then fs)) = refl
-key-bare (node StringLiteral l done) = refl
-key-bare (node StringLiteral l (f then fs)) = refl
-key-bare (node _ l fs) = refl
+literal-bare : (t : Tree) → is_literal_key (bare t) ≡ is_literal_key t
+literal-bare (node BigIntLiteral l done) = refl
+literal-bare (node BigIntLiteral l (f then fs)) = refl
+literal-bare (node NumericLiteral l done) = refl
+literal-bare (node NumericLiteral l (f then fs)) = refl
+literal-bare (node StringLiteral l done) = refl
+literal-bare (node StringLiteral l (f then fs)) = refl
+literal-bare (node _ l fs) = refl
+
+known-bare : (t : Tree) → is_known_key (bare t) ≡ is_known_key t
+known-bare (node Identifier l done) = refl
+known-bare (node Identifier l (f then fs)) = refl
+known-bare (node BigIntLiteral l fs) = literal-bare (node BigIntLiteral l fs)
+known-bare (node NumericLiteral l fs) = literal-bare (node NumericLiteral l fs)
+known-bare (node StringLiteral l fs) = literal-bare (node StringLiteral l fs)
+known-bare (node _ l fs) = refl
+
+pub key-bare : (b : Bool) (t : Tree) → is_plain_key b (bare t) ≡ is_plain_key b t
+key-bare true t = literal-bare t
+key-bare false t = known-bare t
 
 pub property-bare : (t : Tree) → is_plain_property (bare t) ≡ is_plain_property t
-property-bare (node PatternProperty l (one k then one v then done)) = ap (λ b. not (has_computed PatternProperty l.flags) && b) (key-bare k)
+property-bare (node PatternProperty l (one k then one v then done)) = key-bare (has_computed PatternProperty l.flags) k
 property-bare (node PatternProperty l (one k then one v then f then fs)) = refl
 property-bare (node PatternProperty l (one k then missing then fs)) = refl
 property-bare (node PatternProperty l (one k then many ts then fs)) = refl

@@ -1,6 +1,6 @@
 -- What holds no pattern with a rest holds none that isn't lowered.
 use Rattle.std.proofs.Common.{◌≡◌, refl}
-use Rattle.std.specs.Prelude.{false, ◌||◌, ◌&&◌, not, Bool, true}
+use Rattle.std.specs.Prelude.{false, ◌||◌, ◌&&◌, not, Bool}
 use Rattle.std.proofs.lemmas.Bool.{or_from, or_parts}
 use Rattle.es_tree.specs.Constructs.{is_object_rest}
 use Rattle.es_tree.specs.Tree.{Tree, node, Label, Fields, done, ◌then◌, Field, missing, one, many, statements, Trees, empty, ◌before◌}

@@ -1,11 +1,13 @@
 -- Which object patterns with a rest are lowered (ECMA-262, 14.3.3): those that a declarator with a value declares, and that no module exports,
--- with a name or a text as the key of each property: `const { a, "b": c = 1, ...d } = e`. What stands in the properties holds none itself.
-use Rattle.std.specs.Prelude.{◌&&◌, ◌||◌, not, Bool, true, false}
+-- where the text of each property's key stands in the program: `const { a, "b": c = 1, [2]: d, ...e } = f`. What stands in the properties holds
+-- none itself.
+use Rattle.std.specs.Prelude.{◌&&◌, ◌||◌, not, Bool, true, false, List, [], ◌∷◌, Option}
 use Rattle.es_tree.specs.Constructs.{is_object_rest}
-use Rattle.es_tree.specs.Names.{has_computed}
+use Rattle.es_tree.specs.Names.{first_text, has_computed}
 use Rattle.es_tree.specs.Tree.{Tree, node, Label, Fields, done, ◌then◌, Field, missing, one, many, statements, Trees, empty, ◌before◌}
+use Rattle.es_tree.specs.Words.{Text}
 use Rattle.es_tree.specs.declared.ast_type.AstType.{AstType}
-use Rattle.es_tree.specs.declared.ast_type.AstType.TheVariants.{ExportNamedDeclaration, Identifier, ObjectPattern, PatternProperty, RestElement, StringLiteral, VariableDeclaration, VariableDeclarator}
+use Rattle.es_tree.specs.declared.ast_type.AstType.TheVariants.{BigIntLiteral, ExportNamedDeclaration, Identifier, NumericLiteral, ObjectPattern, PatternProperty, RestElement, StringLiteral, VariableDeclaration, VariableDeclarator}
 
 -- PATTERNS
 
@@ -17,14 +19,35 @@ abbrev pub is_name : Tree → Bool
 is_name (node Identifier l done) = true
 is_name _ = false
 
--- a name or a text, as a key
-abbrev pub is_text_key : Tree → Bool
-is_text_key (node Identifier l done) = true
-is_text_key (node StringLiteral l done) = true
-is_text_key _ = false
+-- a text or a number, as a key: where it is computed, it is evaluated without an effect, and gives the same key (13.2.5)
+abbrev pub is_literal_key : Tree → Bool
+is_literal_key (node BigIntLiteral l done) = true
+is_literal_key (node NumericLiteral l done) = true
+is_literal_key (node StringLiteral l done) = true
+is_literal_key _ = false
+
+-- a key, not computed, whose text stands in the program: a name, a text or a number
+abbrev pub is_known_key : Tree → Bool
+is_known_key (node Identifier l done) = true
+is_known_key k = is_literal_key k
+
+-- the same for a key that is computed, or isn't: a computed name is read, and may be any key
+abbrev pub is_plain_key : Bool → Tree → Bool
+is_plain_key true k = is_literal_key k
+is_plain_key false k = is_known_key k
+
+abbrev pub second_text : List (Option Text) → Text
+second_text [] = []
+second_text (t ∷ ts) = first_text ts
+
+-- The text of such a key. A number has two texts: as it stands in the source, and as a key (docs/TREE.md).
+abbrev pub key_text : Tree → Text
+key_text (node BigIntLiteral l fs) = second_text l.texts
+key_text (node NumericLiteral l fs) = second_text l.texts
+key_text (node k l fs) = first_text l.texts
 
 abbrev pub is_plain_property : Tree → Bool
-is_plain_property (node PatternProperty l (one k then one v then done)) = not (has_computed PatternProperty l.flags) && is_text_key k
+is_plain_property (node PatternProperty l (one k then one v then done)) = is_plain_key (has_computed PatternProperty l.flags) k
 is_plain_property _ = false
 
 abbrev pub are_plain : Trees → Bool

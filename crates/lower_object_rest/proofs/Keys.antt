@@ -1,20 +1,19 @@
 -- The keys of properties as the elements of an array, one after another.
 use Rattle.std.proofs.Common.{ap, get_or, length, refl, sym, take, ◌+◌, ◌++◌, ◌<◌, ◌∙◌, ◌∷◌, ◌≡◌, [], List, Option, ℕ}
-use Rattle.std.proofs.lemmas.Bool.{and_parts}
 use Rattle.std.proofs.lemmas.List.{take_all, take_more}
-use Rattle.std.specs.Prelude.{Some, not, true, ◌≤◌}
+use Rattle.std.specs.Prelude.{Bool, Some, false, true, ◌≤◌}
 use Rattle.es_tree.specs.Children.{child_at}
 use Rattle.es_tree.specs.Names.{has_computed}
 use Rattle.es_tree.specs.Tree.{Field, Fields, Tree, done, fields_of, many, missing, node, one, statements, trees, ◌then◌}
 use Rattle.es_tree.specs.Views.{plain_field, plain_fields}
 use Rattle.es_tree.specs.Words.{Text}
-use Rattle.es_tree.specs.declared.ast_type.AstType.TheVariants.{PatternProperty}
+use Rattle.es_tree.specs.declared.ast_type.AstType.TheVariants.{BigIntLiteral, Identifier, NumericLiteral, PatternProperty, StringLiteral}
 use Rattle.es_tree.specs.declared.node.Field.{Field as NodeField}
 use Rattle.es_tree.specs.declared.node.Field.TheVariants.{One}
 use Rattle.es_resolution.specs.Seen.{seen, seen_by, seen_in}
 use Rattle.es_steps.specs.Nodes.{string_node}
 use Rattle.es_rest_rows.specs.RestRows.{keys_of}
-use Rattle.es_rest_shapes.specs.RestShapes.{is_plain_property, is_text_key}
+use Rattle.es_rest_shapes.specs.RestShapes.{is_known_key, is_literal_key, is_plain_key, is_plain_property}
 use Rattle.lower_object_rest.specs.Parts.{key_of_property, text_elements}
 
 -- a field more
@@ -73,11 +72,22 @@ keys-none names ps fs e = record { elements = ap (λ hs. seen_in names (plain_fi
 pub keys-all : (names : ℕ → Text → Option ℕ) (ps : List Tree) (i : ℕ) (fs : List NodeField) → length ps ≤ i → KeysMade names ps i fs → seen_in names (plain_fields fs) ≡ text_elements (keys_of (trees ps))
 keys-all names ps i fs h made = made.elements ∙ ap (λ qs. text_elements (keys_of (trees qs))) (take_all i ps h)
 
--- the key of a plain property is a name or a text
-pub plain-key : (t k : Tree) → Some k ≡ child_at 0 (fields_of t) → is_plain_property t ≡ true → is_text_key k ≡ true
+literal-known : (k : Tree) → is_literal_key k ≡ true → is_known_key k ≡ true
+literal-known (node Identifier l fs) h = absurd (cc h)
+literal-known (node BigIntLiteral l fs) h = h
+literal-known (node NumericLiteral l fs) h = h
+literal-known (node StringLiteral l fs) h = h
+literal-known (node _ l fs) h = absurd (cc h)
+
+known : (computed : Bool) (k : Tree) → is_plain_key computed k ≡ true → is_known_key k ≡ true
+known true k h = literal-known k h
+known false k h = h
+
+-- the key of a plain property is a name, a text or a number
+pub plain-key : (t k : Tree) → Some k ≡ child_at 0 (fields_of t) → is_plain_property t ≡ true → is_known_key k ≡ true
 plain-key (node PatternProperty l (one j then (one v then done))) k e h =
     let same : k ≡ j = cc in
-    ap is_text_key same ∙ (and_parts (not (has_computed PatternProperty l.flags)) (is_text_key j) h).1
+    ap is_known_key same ∙ known (has_computed PatternProperty l.flags) j h
 plain-key (node PatternProperty l done) k e h = absurd (cc h)
 plain-key (node PatternProperty l (missing then fs)) k e h = absurd (cc h)
 plain-key (node PatternProperty l (many ts then fs)) k e h = absurd (cc h)

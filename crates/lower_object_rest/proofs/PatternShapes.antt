@@ -1,5 +1,5 @@
 -- The members of patterns.
-use Rattle.std.proofs.Common.{ap, arith, get_or, length, refl, suc, zero, ◌+◌, ◌++◌, ◌<◌, ◌∙◌, ◌∷◌, ◌≡◌, [], List, ℕ}
+use Rattle.std.proofs.Common.{ap, arith, get_or, length, refl, suc, zero, ◌++◌, ◌<◌, ◌∙◌, ◌∷◌, ◌≡◌, [], List, ℕ}
 use Rattle.std.proofs.lemmas.Bool.{and_parts}
 use Rattle.std.specs.Prelude.{Bool, false, true, ◌&&◌}
 use Rattle.es_tree.specs.Tree.{Tree, trees}

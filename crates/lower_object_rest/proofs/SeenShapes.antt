@@ -1,17 +1,17 @@
 -- What is seen of declarators and patterns: the same shapes, the same keys, and as many ids owed.
-use Rattle.std.proofs.Common.{ap, refl, ◌+◌, ◌∷◌, ◌≡◌, [], List, Option, ℕ}
-use Rattle.std.specs.Prelude.{if◌then◌else◌, not, ◌&&◌, ◌||◌}
+use Rattle.std.proofs.Common.{ap, refl, ◌+◌, ◌∷◌, ◌≡◌, [], Option, ℕ}
+use Rattle.std.specs.Prelude.{Bool, false, true, if◌then◌else◌, ◌&&◌, ◌||◌}
 use Rattle.es_tree.specs.Constructs.{any_kind, is_rest}
-use Rattle.es_tree.specs.Names.{first_text, has_computed}
+use Rattle.es_tree.specs.Names.{has_computed}
 use Rattle.es_tree.specs.Tree.{Field, Fields, Label, Tree, Trees, done, empty, many, missing, node, one, statements, ◌before◌, ◌then◌}
 use Rattle.es_tree.specs.Words.{Text}
 use Rattle.es_tree.specs.declared.ast_type.AstType.{AstType}
-use Rattle.es_tree.specs.declared.ast_type.AstType.TheVariants.{Identifier, ObjectPattern, PatternProperty, RestElement, StringLiteral, VariableDeclarator}
+use Rattle.es_tree.specs.declared.ast_type.AstType.TheVariants.{BigIntLiteral, Identifier, NumericLiteral, ObjectPattern, PatternProperty, RestElement, StringLiteral, VariableDeclarator}
 use Rattle.es_resolution.specs.Seen.{seen, seen_among, seen_by, seen_in, seen_marks}
 use Rattle.es_steps.specs.Nodes.{joined_trees}
 use Rattle.es_steps.specs.ObjectRest.{pattern_node}
 use Rattle.es_rest_rows.specs.RestRows.{keys_of, with_rest}
-use Rattle.es_rest_shapes.specs.RestShapes.{are_plain, ends_in_rest, is_name, is_named_rest, is_plain_pattern, is_plain_property, is_text_key}
+use Rattle.es_rest_shapes.specs.RestShapes.{are_plain, ends_in_rest, is_known_key, is_literal_key, is_name, is_named_rest, is_plain_key, is_plain_pattern, is_plain_property, key_text}
 use Rattle.lower_nodes.specs.Nodes.{owed, owed_among, owed_by, owed_in}
 use Rattle.lower_temporaries.proofs.TwoFields.{two-seen}
 use Rattle.lower_object_rest.specs.Profile.{number_of, rest_owes}
@@ -33,15 +33,29 @@ module _ (names : ℕ → Text → Option ℕ) where
   name-seen (node Identifier l (f then fs)) = refl
   name-seen (node _ l fs) = refl
 
-  key-seen : (t : Tree) → is_text_key (seen names t) ≡ is_text_key t
-  key-seen (node Identifier l done) = refl
-  key-seen (node Identifier l (f then fs)) = refl
-  key-seen (node StringLiteral l done) = refl
-  key-seen (node StringLiteral l (f then fs)) = refl
-  key-seen (node _ l fs) = refl
+  literal-seen : (t : Tree) → is_literal_key (seen names t) ≡ is_literal_key t
+  literal-seen (node BigIntLiteral l done) = refl
+  literal-seen (node BigIntLiteral l (f then fs)) = refl
+  literal-seen (node NumericLiteral l done) = refl
+  literal-seen (node NumericLiteral l (f then fs)) = refl
+  literal-seen (node StringLiteral l done) = refl
+  literal-seen (node StringLiteral l (f then fs)) = refl
+  literal-seen (node _ l fs) = refl
+
+  known-seen : (t : Tree) → is_known_key (seen names t) ≡ is_known_key t
+  known-seen (node Identifier l done) = refl
+  known-seen (node Identifier l (f then fs)) = refl
+  known-seen (node BigIntLiteral l fs) = literal-seen (node BigIntLiteral l fs)
+  known-seen (node NumericLiteral l fs) = literal-seen (node NumericLiteral l fs)
+  known-seen (node StringLiteral l fs) = literal-seen (node StringLiteral l fs)
+  known-seen (node _ l fs) = refl
+
+  key-seen : (computed : Bool) (t : Tree) → is_plain_key computed (seen names t) ≡ is_plain_key computed t
+  key-seen true t = literal-seen t
+  key-seen false t = known-seen t
 
   property-seen : (t : Tree) → is_plain_property (seen names t) ≡ is_plain_property t
-  property-seen (node PatternProperty l (one k then (one v then done))) = ap (λ b. not (has_computed PatternProperty l.flags) && b) (key-seen k)
+  property-seen (node PatternProperty l (one k then (one v then done))) = key-seen (has_computed PatternProperty l.flags) k
   property-seen (node PatternProperty l done) = refl
   property-seen (node PatternProperty l (missing then fs)) = refl
   property-seen (node PatternProperty l (many ts then fs)) = refl
@@ -86,8 +100,13 @@ module _ (names : ℕ → Text → Option ℕ) where
 
   -- KEYS
 
+  key-text-seen : (t : Tree) → key_text (seen names t) ≡ key_text t
+  key-text-seen (node BigIntLiteral l fs) = refl
+  key-text-seen (node NumericLiteral l fs) = refl
+  key-text-seen (node _ l fs) = refl
+
   keys-of-property : (l : Label) (fs : Fields) (ts : Trees) → keys_of (seen_among names ts) ≡ keys_of ts → keys_of (seen names (node PatternProperty l fs) before seen_among names ts) ≡ keys_of (node PatternProperty l fs before ts)
-  keys-of-property l (one (node k j gs) then fs) ts h = ap (λ (ks : List Text). first_text j.texts ∷ ks) h
+  keys-of-property l (one k then fs) ts h = λ i. key-text-seen k i ∷ h i
   keys-of-property l done ts h = h
   keys-of-property l (missing then fs) ts h = h
   keys-of-property l (many us then fs) ts h = h

@@ -1,6 +1,6 @@
 -- The declarators that are made of a pattern and its source.
 use Rattle.std.proofs.Common.{ap, arith, length, subst, ◌+◌, ◌∙◌, ◌∷◌, ◌≡◌, [], List, Option, ℕ}
-use Rattle.es_tree.specs.Tree.{Label, Tree, node, trees, ◌then◌}
+use Rattle.es_tree.specs.Tree.{Label, Tree, node, trees}
 use Rattle.es_tree.specs.Views.{plain_fields}
 use Rattle.es_tree.specs.Words.{Text}
 use Rattle.es_tree.specs.declared.ast_type.AstType.TheVariants.{ArrayExpression}

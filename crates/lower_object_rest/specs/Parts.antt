@@ -5,7 +5,7 @@ use Rattle.es_tree.specs.BoundNames.{bound_identifiers}
 use Rattle.es_tree.specs.Fresh.{node_base}
 use Rattle.es_tree.specs.Heads.{head_of, label}
 use Rattle.es_tree.specs.Names.{first_text}
-use Rattle.es_tree.specs.Tree.{Fields, Label, Tree, fields, fields_of, label_of, many, node, one, trees, ◌then◌}
+use Rattle.es_tree.specs.Tree.{Fields, Label, Tree, fields, fields_of, many, node, one, trees, ◌then◌}
 use Rattle.es_tree.specs.Words.{Text}
 use Rattle.es_tree.specs.declared.ast_type.AstType.TheVariants.{Identifier}
 use Rattle.es_tree.specs.declared.kind.Kind.TheVariants.{ObjectPattern as k-ObjectPattern}
@@ -17,7 +17,7 @@ use Rattle.es_steps.specs.Nodes.{declarator_with, identifier, string_node}
 use Rattle.es_steps.specs.ObjectRest.{helper_node, pattern_node, rest_value}
 use Rattle.es_changes.specs.Moments.{whole_at}
 use Rattle.es_rest_rows.specs.RestRows.{keys_of, with_rest}
-use Rattle.es_rest_shapes.specs.RestShapes.{are_plain, is_name}
+use Rattle.es_rest_shapes.specs.RestShapes.{are_plain, is_name, key_text}
 use Rattle.lower_temporaries.specs.SeenTrees.{IsSeenAs}
 use Rattle.lower_temporaries.specs.Takings.{ReadsMore, TakesBound, moment_of}
 use Rattle.lower_temporaries.specs.declared.state.TransformState.{TransformState}
@@ -32,12 +32,9 @@ rest_helper = helper_node (codes "objectWithoutProperties")
 abbrev pub text_elements : List Text → Fields
 text_elements ks = fields (map one (map string_node ks))
 
--- the text of a key, and of that of a property
-abbrev pub key_of : Tree → Text
-key_of k = first_text (label_of k).texts
-
+-- the text of a property's key
 abbrev pub first_key : Fields → Text
-first_key (one k then fs) = key_of k
+first_key (one k then fs) = key_text k
 first_key _ = []
 
 abbrev pub key_of_property : Tree → Text

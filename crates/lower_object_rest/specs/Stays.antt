@@ -7,8 +7,8 @@ use Rattle.es_tree.specs.Names.{has_computed}
 use Rattle.es_tree.specs.Tree.{Fields, Label, Tree, Trees, node, ◌then◌}
 use Rattle.es_tree.specs.Walks.{any_in_fields, any_in_trees, any_node}
 use Rattle.es_tree.specs.declared.ast_type.AstType.{AstType}
-use Rattle.es_tree.specs.declared.ast_type.AstType.TheVariants.{ExportNamedDeclaration, Identifier, ObjectPattern, ObjectTarget, PatternProperty, RestElement, StringLiteral, VariableDeclaration, VariableDeclarator}
-use Rattle.es_rest_shapes.specs.RestShapes.{any_child, any_tree, declares_rest, ends_in_rest, is_misplaced, is_name, is_named_rest, is_odd_pattern, is_plain_pattern, is_plain_property, is_rest_declaration, is_rest_declarator, is_rest_pattern, is_stray_rest, is_text_key}
+use Rattle.es_tree.specs.declared.ast_type.AstType.TheVariants.{BigIntLiteral, ExportNamedDeclaration, Identifier, NumericLiteral, ObjectPattern, ObjectTarget, PatternProperty, RestElement, StringLiteral, VariableDeclaration, VariableDeclarator}
+use Rattle.es_rest_shapes.specs.RestShapes.{any_child, any_tree, declares_rest, ends_in_rest, is_known_key, is_literal_key, is_misplaced, is_name, is_named_rest, is_odd_pattern, is_plain_key, is_plain_pattern, is_plain_property, is_rest_declaration, is_rest_declarator, is_rest_pattern, is_stray_rest}
 use Rattle.lower_nodes.specs.Nodes.{Alike, AlikeAmong, AlikeIn}
 use Rattle.lower_nodes.specs.Nodes.Alike.{changed, within}
 use Rattle.lower_nodes.specs.Nodes.AlikeIn.{no_fields, fields_alike}
@@ -81,19 +81,34 @@ name_alike : {t u : Tree} → Same t u → is_name u ≡ is_name t
 name_alike (changed {k = k} {l = l} {fs = fs} {gs = gs} e) = changed_only (λ j. is_name (node j l gs) ≡ is_name (node j l fs)) refl k e
 name_alike (within {k = k} {l = l} h) = name_within k l h
 
-key_within : (k : AstType) (l : Label) {fs gs : Fields} → SameIn fs gs → is_text_key (node k l gs) ≡ is_text_key (node k l fs)
-key_within Identifier l no_fields = refl
-key_within Identifier l (fields_alike h r) = refl
-key_within StringLiteral l no_fields = refl
-key_within StringLiteral l (fields_alike h r) = refl
-key_within _ l h = refl
+literal_within : (k : AstType) (l : Label) {fs gs : Fields} → SameIn fs gs → is_literal_key (node k l gs) ≡ is_literal_key (node k l fs)
+literal_within BigIntLiteral l no_fields = refl
+literal_within BigIntLiteral l (fields_alike h r) = refl
+literal_within NumericLiteral l no_fields = refl
+literal_within NumericLiteral l (fields_alike h r) = refl
+literal_within StringLiteral l no_fields = refl
+literal_within StringLiteral l (fields_alike h r) = refl
+literal_within _ l h = refl
 
-key_alike : {t u : Tree} → Same t u → is_text_key u ≡ is_text_key t
-key_alike (changed {k = k} {l = l} {fs = fs} {gs = gs} e) = changed_only (λ j. is_text_key (node j l gs) ≡ is_text_key (node j l fs)) refl k e
-key_alike (within {k = k} {l = l} h) = key_within k l h
+known_within : (k : AstType) (l : Label) {fs gs : Fields} → SameIn fs gs → is_known_key (node k l gs) ≡ is_known_key (node k l fs)
+known_within Identifier l no_fields = refl
+known_within Identifier l (fields_alike h r) = refl
+known_within BigIntLiteral l h = literal_within BigIntLiteral l h
+known_within NumericLiteral l h = literal_within NumericLiteral l h
+known_within StringLiteral l h = literal_within StringLiteral l h
+known_within _ l h = refl
+
+key_within : (computed : Bool) (k : AstType) (l : Label) {fs gs : Fields} → SameIn fs gs → is_plain_key computed (node k l gs) ≡ is_plain_key computed (node k l fs)
+key_within true k l h = literal_within k l h
+key_within false k l h = known_within k l h
+
+key_alike : (computed : Bool) {t u : Tree} → Same t u → is_plain_key computed u ≡ is_plain_key computed t
+key_alike true (changed {k = k} {l = l} {fs = fs} {gs = gs} e) = changed_only (λ j. is_literal_key (node j l gs) ≡ is_literal_key (node j l fs)) refl k e
+key_alike false (changed {k = k} {l = l} {fs = fs} {gs = gs} e) = changed_only (λ j. is_known_key (node j l gs) ≡ is_known_key (node j l fs)) refl k e
+key_alike computed (within {k = k} {l = l} h) = key_within computed k l h
 
 property_within : (k : AstType) (l : Label) {fs gs : Fields} → SameIn fs gs → is_plain_property (node k l gs) ≡ is_plain_property (node k l fs)
-property_within PatternProperty l (fields_alike (one_alike h) (fields_alike (one_alike v) no_fields)) = ap (λ b. not (has_computed PatternProperty l.flags) && b) (key_alike h)
+property_within PatternProperty l (fields_alike (one_alike h) (fields_alike (one_alike v) no_fields)) = key_alike (has_computed PatternProperty l.flags) h
 property_within PatternProperty l no_fields = refl
 property_within PatternProperty l (fields_alike both_missing r) = refl
 property_within PatternProperty l (fields_alike (many_alike h) r) = refl

@@ -6,6 +6,7 @@
 //! | `const { a, ...b } = c;` | `const { a } = c, b = babelHelpers.objectWithoutProperties(c, ["a"]);` |
 //! | `const { a, ...b } = f();` | `const _f = f(), { a } = _f, b = babelHelpers.objectWithoutProperties(_f, ["a"]);` |
 //! | `const { "a": x = 1, ...b } = c, d = 2;` | `const { "a": x = 1 } = c, b = babelHelpers.objectWithoutProperties(c, ["a"]), d = 2;` |
+//! | `const { 0x10: x, ["a"]: y, ...b } = c;` | `const { 0x10: x, ["a"]: y } = c, b = babelHelpers.objectWithoutProperties(c, ["16", "a"]);` |
 //! | `var { ...a } = a;` | `var _a = a, {} = _a, a = babelHelpers.objectWithoutProperties(_a, []);` |
 //!
 //! Before:

@@ -7,8 +7,8 @@ ghost use Rattle.es_tree.specs.declared.ast_type.AstType.TheVariants.{ArrayExpre
 ghost use Rattle.es_resolution.specs.Seen.{seen, seen_in};
 ghost use Rattle.es_steps.specs.Nodes.{call_node, made, string_node};
 ghost use Rattle.es_rest_rows.specs.RestRows.{keys_of};
-ghost use Rattle.es_rest_shapes.specs.RestShapes.{are_plain, is_name, is_plain_pattern, is_plain_property, is_text_key};
-ghost use Rattle.lower_object_rest.specs.Parts.{Takes, TakesApart, key_of, key_of_property, members_of, rest_helper, text_elements};
+ghost use Rattle.es_rest_shapes.specs.RestShapes.{are_plain, is_known_key, is_name, is_plain_pattern, is_plain_property, key_text};
+ghost use Rattle.lower_object_rest.specs.Parts.{Takes, TakesApart, key_of_property, members_of, rest_helper, text_elements};
 ghost use Rattle.lower_temporaries.specs.Takings.{ReadsMore};
 
 use es_expressions::composites::new_array_expression;
@@ -96,7 +96,7 @@ fn open_pattern(pattern: Node) -> RestPattern
     }
 }
 
-/// The keys of these properties, as texts: `"a"` for `a: x` and for `"a": x`.
+/// The keys of these properties, as texts: `"a"` for `a: x`, `"a": x` and `["a"]: x`, and `"16"` for `0x10: x`.
 fn new_keys(properties: &[Node], ast: &mut AstBuilder) -> Result<Vec<Field>, AllocError>
     requires plain { are_plain (trees properties.now) ≡ true }
     requires room { ast.old.next + length properties.now < 2 ^ 32 }
@@ -127,14 +127,16 @@ fn new_key(property: &Node, ast: &mut AstBuilder) -> Result<Node, AllocError>
     Ok(made)
 }
 
-/// The text of a key that is a name or a text.
-fn key_text(key: &Node, alloc: Global) -> Result<String, AllocError>
-    requires { is_text_key key.now ≡ true }
-    ensures { IfOk result (λ text. string_bytes text ≡ key_of key.now) }
+/// The text of a key that is a name, a text or a number.
+fn key_text(node: &Node, alloc: Global) -> Result<String, AllocError>
+    requires { is_known_key node.now ≡ true }
+    ensures { IfOk result (λ text. string_bytes text ≡ key_text node.now) }
 {
-    match &key.kind {
+    match &node.kind {
         Kind::Identifier { name, .. } => String::from_str(alloc, name.as_str()),
         Kind::StringLiteral { value } => String::from_str(alloc, value.as_str()),
+        Kind::NumericLiteral { key, .. } => String::from_str(alloc, key.as_str()),
+        Kind::BigIntLiteral { key, .. } => String::from_str(alloc, key.as_str()),
         _ => unreachable!(),
     }
 }
