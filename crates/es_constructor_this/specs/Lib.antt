@@ -1,0 +1,3 @@
+pub mod ConstructorThis
+pub mod Laws
+pub mod Examples

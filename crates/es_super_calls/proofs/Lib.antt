@@ -1,0 +1,2 @@
+pub mod CallTests
+pub mod BareCalls

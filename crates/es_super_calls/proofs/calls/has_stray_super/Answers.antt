@@ -1,0 +1,11 @@
+use Rattle.std.proofs.Common.{ap, arith, length, sym}
+use Rattle.es_super_calls.proofs.CallTests.{function-fewer, function-more}
+use Rattle.es_super_calls.proofs.calls.has_stray_super.Goals as goal
+
+pub returns-in_default : goal.returns-in_default
+returns-in_default c =
+    rw (← c.function.view_is) (sym (function-fewer c.function.inside.fields.items (omega (arith, c.in_default.len_below, ap length c.as_slice.ensures.value))))
+
+pub returns-in_default-3 : goal.returns-in_default-3
+returns-in_default-3 c =
+    rw (← c.function.view_is) (sym (function-more c.function.inside.fields.items (omega (arith, c.in_default.len_at_least, ap length c.as_slice.ensures.value))))

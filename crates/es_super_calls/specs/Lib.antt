@@ -1,0 +1,2 @@
+pub mod SuperCalls
+pub mod Constructors
