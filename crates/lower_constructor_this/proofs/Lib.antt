@@ -1,0 +1,4 @@
+pub mod Walked
+pub mod Told
+pub mod Taken
+pub mod Settings
