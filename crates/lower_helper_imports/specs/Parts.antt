@@ -12,9 +12,10 @@ use Rattle.es_steps.specs.Nodes.{made}
 use Rattle.es_steps.specs.Open.{is_import}
 use Rattle.es_helper_calls.specs.HelperCalls.{bound_of, is_called, named_helper}
 use Rattle.es_helper_imports.specs.Imported.{helper_source, unmarked}
+use Rattle.lower_fresh_names.specs.Names.{name_with}
 
 abbrev pub name_node : Text → Tree
-name_node x = node Identifier (record (made (Some x ∷ []) []) { marks = None ∷ None ∷ [] }) done
+name_node x = name_with 0 x
 
 -- the helper of this name, where it is one of `babelHelpers`
 abbrev pub property_helper : Tree → Tree → Option Helper

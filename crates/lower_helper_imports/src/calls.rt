@@ -3,14 +3,18 @@ ghost use Rattle.std.specs.Prelude.{◌≡◌, ◌∷◌, [], IfOk, OnOk};
 ghost use Rattle.es_tree.specs.Tree.{fields_of, kind_of, label_of, trees};
 ghost use Rattle.es_tree.specs.Views.{plain_field, plain_fields};
 ghost use Rattle.es_helper_calls.specs.HelperCalls.{called_helper, calling, calling_among, calling_by, calling_in, helper_of, helpers_called, helpers_in, helpers_in_field, is_called, named_helper, noted};
-ghost use Rattle.lower_helper_imports.specs.Parts.{callee_of, name_node, property_helper};
+ghost use Rattle.lower_helper_imports.specs.Parts.{callee_of, property_helper};
 
 use crate::names::name_of;
 use es_tree::helper::Helper;
-use es_tree::ids::{NodeId, Span};
+use es_tree::ids::NodeId;
 use es_tree::kind::Kind;
 use es_tree::node::{Field, Node};
+use lower_fresh_names::nodes::new_name;
 use std::alloc::{AllocError, Global};
+
+/// The id of made nodes.
+pub(crate) const ID: NodeId = NodeId(0);
 
 /// The helpers that the built lowerings call.
 static MADE_HELPERS: [Helper; 3] = [
@@ -141,7 +145,7 @@ pub(crate) fn call_by_names(
     let helper = called_helper(node);
     call_in_fields(&mut node.fields, helpers, names, alloc)?;
     if let Some(helper) = helper {
-        node.fields[0] = Field::One(new_name(name_of(helper, helpers, names), alloc)?);
+        node.fields[0] = Field::One(new_name(ID, name_of(helper, helpers, names), alloc)?);
     }
     Ok(())
 }
@@ -195,21 +199,4 @@ fn call_in_list(
         call_by_names(&mut nodes[index], helpers, names, alloc)?;
     }
     Ok(())
-}
-
-/// A name that is made.
-pub(crate) fn new_name(text: &str, alloc: Global) -> Result<Node, AllocError>
-    ensures { IfOk result (λ node. node ≡ name_node text.now) }
-{
-    let name = String::from_str(alloc, text)?;
-    Ok(Node {
-        id: NodeId(0),
-        span: Span { start: 0, end: 0 },
-        kind: Kind::Identifier {
-            name,
-            reference: None,
-            symbol: None,
-        },
-        fields: Vec::new(alloc),
-    })
 }

@@ -9,23 +9,18 @@ ghost use Rattle.es_steps.specs.Open.{is_import};
 ghost use Rattle.es_top_imports.specs.TopImports.{with_top};
 ghost use Rattle.lower_helper_imports.specs.Parts.{all_statements, import_statement, imports_before, require_statement, source_type, string_literal, top_statement};
 
-use crate::calls::new_name;
+use crate::calls::ID;
 use es_expressions::literals::StringLiteral;
 use es_expressions::members::CallExpression;
 use es_patterns::modules::{ImportDeclaration, ImportDefaultSpecifier};
 use es_statements::program::{Program, VariableDeclaration, VariableDeclarator};
 use es_tree::helper::Helper;
-use es_tree::ids::{NodeId, Span};
 use es_tree::kind::Kind;
 use es_tree::node::Node;
 use es_tree::operators::{SourceType, VariableDeclarationKind};
 use es_tree::sorts::Statement;
+use lower_fresh_names::nodes::{MADE, new_name};
 use std::alloc::{AllocError, Global};
-
-/// The id and the place of made nodes.
-const ID: NodeId = NodeId(0);
-
-const MADE: Span = Span { start: 0, end: 0 };
 
 /// The program with a statement for each of these helpers, behind the imports that it begins with. Fails only for want of memory.
 pub(crate) fn import_all(
@@ -83,7 +78,7 @@ fn top_statement(
     ensures { IfOk result (λ node. node ≡ top_statement source_type (helper_source module_name.now helper) name.now) }
 {
     let source = new_source(alloc, module_name, helper)?;
-    let local = new_name(name, alloc)?;
+    let local = new_name(ID, name, alloc)?;
     match source_type {
         SourceType::Module => new_import(alloc, local, source),
         SourceType::Script => new_require(alloc, local, source),
@@ -133,7 +128,7 @@ fn new_require(alloc: Global, local: Node, source: Node) -> Result<Statement, Al
         id: ID,
         span: MADE,
         optional: false,
-        callee: new_name("require", alloc)?,
+        callee: new_name(ID, "require", alloc)?,
         arguments: Vec::from_array(alloc, [source])?,
     };
     let declarator = VariableDeclarator {

@@ -10,7 +10,8 @@ use Rattle.es_tree.specs.declared.node.Field.TheVariants.{One}
 use Rattle.es_scope.specs.declared.uids.UidGenerator.{UidGenerator}
 use Rattle.es_pattern_moves.specs.PatternMoves.{moves_from_head}
 use Rattle.lower_pattern_moves.specs.Moves.{MakesNames, MovesAs}
-use Rattle.lower_pattern_moves.specs.Parts.{DeclaresBy, block_with, declaration_with, declared_alone, moved_head_fields, moved_into_block, name_with}
+use Rattle.lower_fresh_names.specs.Names.{name_with}
+use Rattle.lower_pattern_moves.specs.Parts.{DeclaresBy, block_with, declaration_with, declared_alone, moved_head_fields, moved_into_block}
 use Rattle.lower_pattern_moves.proofs.Shapes.{head-shape}
 use Rattle.lower_pattern_moves.proofs.Moving.{moves-one, moves-plain-part}
 

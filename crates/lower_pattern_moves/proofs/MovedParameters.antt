@@ -14,7 +14,8 @@ use Rattle.es_steps.specs.Nodes.{joined_trees}
 use Rattle.es_pattern_moves.specs.Moved.{Makes, all_declared, all_named, count_rests, declares, named, name_of, plainly, with_declared}
 use Rattle.es_pattern_moves.specs.PatternMoves.{is_rest_parameter, pattern_of}
 use Rattle.lower_pattern_moves.specs.Moves.{MakesNames, MovesAs}
-use Rattle.lower_pattern_moves.specs.Parts.{AddsParameter, body_with, declaration_with, moved_function_fields, moved_parameters, moved_with_body, name_with, named_by, return_with, returning_with, with_first}
+use Rattle.lower_fresh_names.specs.Names.{name_with}
+use Rattle.lower_pattern_moves.specs.Parts.{AddsParameter, body_with, declaration_with, moved_function_fields, moved_parameters, moved_with_body, named_by, return_with, returning_with, with_first}
 use Rattle.lower_pattern_moves.proofs.Lists.{trees-joined}
 use Rattle.lower_pattern_moves.proofs.Moving.{moves-none, moves-one, moves-part, moves-plain-part, moves-then}
 

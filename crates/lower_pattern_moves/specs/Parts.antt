@@ -4,9 +4,10 @@ use Rattle.es_tree.specs.Names.{first_text}
 use Rattle.es_tree.specs.Tree.{Tree, node, Label, Fields, done, ◌then◌, Field, missing, one, many, statements, Trees, empty, ◌before◌, label_of, trees}
 use Rattle.es_tree.specs.Words.{Text}
 use Rattle.es_tree.specs.declared.ast_type.AstType.{AstType}
-use Rattle.es_tree.specs.declared.ast_type.AstType.TheVariants.{AssignmentPattern, BlockStatement, FunctionBody, Identifier, ReturnStatement, VariableDeclaration, VariableDeclarator}
+use Rattle.es_tree.specs.declared.ast_type.AstType.TheVariants.{AssignmentPattern, BlockStatement, FunctionBody, ReturnStatement, VariableDeclaration, VariableDeclarator}
 use Rattle.es_scope.specs.declared.uids.UidGenerator.{UidGenerator}
 use Rattle.es_steps.specs.Nodes.{joined_trees, made}
+use Rattle.lower_fresh_names.specs.Names.{name_with}
 use Rattle.es_pattern_moves.specs.Moved.{Makes, all_declared, all_named, count_arrow, count_function, count_here, count_rests, in_block, moved_arrow, moved_catch, moved_fields, moved_function, moved_head, moved_here, plain_name, with_declared}
 use Rattle.lower_pattern_moves.specs.Moves.{MovesAs}
 
@@ -14,10 +15,6 @@ use Rattle.lower_pattern_moves.specs.Moves.{MovesAs}
 
 abbrev pub made_with : ℕ → List (Option Text) → Label
 made_with id texts = record (made texts []) { id = id }
-
--- a name
-abbrev pub name_with : ℕ → Text → Tree
-name_with id x = node Identifier (record (made_with id (Some x ∷ [])) { marks = None ∷ None ∷ [] }) done
 
 -- `kind p = v;`, or without the value
 abbrev pub declaration_with : ℕ → Text → Tree → Field → Tree

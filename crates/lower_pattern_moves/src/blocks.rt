@@ -18,11 +18,12 @@ ghost use Rattle.es_pattern_moves.specs.PatternMoves.{moves_from_catch, moves_fr
 ghost use Rattle.lower_pattern_moves.specs.Moves.{MovesAs};
 ghost use Rattle.lower_pattern_moves.specs.Parts.{DeclaresAlone, DeclaresBy, moved_catch_fields, moved_head_fields, moved_into_block};
 
-use crate::made_nodes::{BASE, MADE, id_of, new_declaration, new_name};
+use crate::made_nodes::{BASE, new_declaration};
 use es_scope::uids::UidGenerator;
 use es_statements::program::{BlockStatement, VariableDeclaration, VariableDeclarator};
 use es_tree::node::{Field, Node, exactly};
 use es_tree::operators::VariableDeclarationKind;
+use lower_fresh_names::nodes::{MADE, id_of, new_name};
 use std::alloc::{AllocError, Global};
 
 /// `catch (_ref) { let { a, ...b } = _ref; { f(b); } }` for `catch ({ a, ...b }) { f(b); }`.

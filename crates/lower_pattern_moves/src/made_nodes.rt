@@ -3,24 +3,21 @@
 //! that is told at it names a node of the source.
 ghost use Rattle.std.specs.Prelude.{◌≡◌, IfOk};
 ghost use Rattle.es_tree.specs.Arity.{maybe};
-ghost use Rattle.es_tree.specs.Tree.{label_of, trees};
+ghost use Rattle.es_tree.specs.Tree.{trees};
 ghost use Rattle.es_tree.specs.Words.{variable_declaration_kind_text};
-ghost use Rattle.lower_pattern_moves.specs.Parts.{body_with, declaration_with, name_with, return_with};
+ghost use Rattle.lower_pattern_moves.specs.Parts.{body_with, declaration_with, return_with};
 
 use es_statements::control::ReturnStatement;
 use es_statements::functions::FunctionBody;
 use es_statements::program::{VariableDeclaration, VariableDeclarator};
-use es_tree::ids::{NodeId, Span};
-use es_tree::kind::Kind;
+use es_tree::ids::NodeId;
 use es_tree::node::Node;
 use es_tree::operators::VariableDeclarationKind;
+use lower_fresh_names::nodes::MADE;
 use std::alloc::{AllocError, Global};
 
 /// The base of the fresh names: `_ref`, `_ref2` and so on.
 pub(crate) const BASE: &str = "ref";
-
-/// The place of made nodes.
-pub(crate) const MADE: Span = Span { start: 0, end: 0 };
 
 /// `let { a, ...b } = _ref;`, or `const _ref` without a value, with the id of the pattern.
 pub(crate) fn new_declaration(
@@ -46,30 +43,6 @@ pub(crate) fn new_declaration(
         declarations: Vec::from_array(alloc, [declared])?,
     };
     declaration.close(alloc)
-}
-
-/// The id of a node.
-pub(crate) fn id_of(node: &Node) -> NodeId
-    ensures { result.0 ≡ (label_of node.now).id }
-{
-    node.id
-}
-
-/// The name `_ref`, with the id of its pattern.
-pub(crate) fn new_name(id: NodeId, text: &str, alloc: Global) -> Result<Node, AllocError>
-    ensures { IfOk result (λ made. made ≡ name_with id.0 text.now) }
-{
-    let kind = Kind::Identifier {
-        name: String::from_str(alloc, text)?,
-        reference: None,
-        symbol: None,
-    };
-    Ok(Node {
-        id,
-        span: MADE,
-        kind,
-        fields: Vec::new(alloc),
-    })
 }
 
 /// `return g(b);` for the value `g(b)`.

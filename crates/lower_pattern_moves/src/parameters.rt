@@ -29,7 +29,7 @@ ghost use Rattle.es_pattern_moves.specs.PatternMoves.{is_rest_parameter, moves_f
 ghost use Rattle.lower_pattern_moves.specs.Moves.{MovesAs};
 ghost use Rattle.lower_pattern_moves.specs.Parts.{AddsParameter, moved_arrow_fields, moved_function_fields, moved_parameters, moved_with_body, named_by, returning_with, with_first};
 
-use crate::made_nodes::{BASE, id_of, new_body, new_declaration, new_name, new_return};
+use crate::made_nodes::{BASE, new_body, new_declaration, new_return};
 use es_move_nodes::parameters::is_rest_parameter;
 use es_patterns::patterns::AssignmentPattern;
 use es_scope::uids::UidGenerator;
@@ -37,6 +37,7 @@ use es_statements::functions::FunctionBody;
 use es_tree::ast_type::AstType;
 use es_tree::node::{Field, Node, exactly};
 use es_tree::operators::VariableDeclarationKind;
+use lower_fresh_names::nodes::{id_of, new_name};
 use std::alloc::{AllocError, Global};
 
 /// `function f(_ref) { let { a, ...b } = _ref; g(b); }` for `function f({ a, ...b }) { g(b); }`.

@@ -21,27 +21,19 @@ ghost use Rattle.lower_using.specs.Parts.{BecomesBy, UsesInBody, with_fields};
 use crate::constants::make_constants;
 use crate::tries::new_try;
 use es_statements::functions::FunctionBody;
-use es_tree::node::{Field, Node, Parts, exactly};
+use es_tree::node::{Field, Node, exactly};
 use std::alloc::{AllocError, Global};
+use std::mem;
 
 /// `function f() { try { .. const a = _usingCtx.u(b); return a; } .. }` for `function f() { using a = b; return a; }`, also without a name.
 pub(crate) fn use_function(node: Node, context: &str, alloc: Global) -> Result<Node, AllocError>
     requires { uses_in_function (fields_of node) ≡ true }
     ensures { IfOk result (λ used. BecomesBy context.now (with_fields used_function) node used) }
 {
-    let Parts {
-        id,
-        span,
-        kind,
-        fields,
-    } = node.into_parts();
-    let used = use_in_function(fields, context, alloc)?;
-    Ok(Node {
-        id,
-        span,
-        kind,
-        fields: used,
-    })
+    let mut used = node;
+    let fields = mem::replace(&mut used.fields, Vec::new(alloc));
+    used.fields = use_in_function(fields, context, alloc)?;
+    Ok(used)
 }
 
 fn use_in_function(
@@ -63,19 +55,10 @@ pub(crate) fn use_arrow(node: Node, context: &str, alloc: Global) -> Result<Node
     requires { uses_in_arrow (fields_of node) ≡ true }
     ensures { IfOk result (λ used. BecomesBy context.now (with_fields used_arrow) node used) }
 {
-    let Parts {
-        id,
-        span,
-        kind,
-        fields,
-    } = node.into_parts();
-    let used = use_in_arrow(fields, context, alloc)?;
-    Ok(Node {
-        id,
-        span,
-        kind,
-        fields: used,
-    })
+    let mut used = node;
+    let fields = mem::replace(&mut used.fields, Vec::new(alloc));
+    used.fields = use_in_arrow(fields, context, alloc)?;
+    Ok(used)
 }
 
 fn use_in_arrow(fields: Vec<Field>, context: &str, alloc: Global) -> Result<Vec<Field>, AllocError>

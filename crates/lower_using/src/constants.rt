@@ -16,11 +16,12 @@ ghost use Rattle.es_using_rows.specs.UsingPlaces.{are_used, has_value, have_valu
 ghost use Rattle.es_using_rows.specs.Used.{constant, constants, used_declaration, used_declarator, used_declarators};
 ghost use Rattle.lower_using.specs.Parts.{BecomesBy};
 
-use crate::made_nodes::{id_of, new_method_call};
+use crate::made_nodes::new_method_call;
 use es_nodes::construct::is_using;
 use es_statements::program::{VariableDeclaration, VariableDeclarator};
 use es_tree::node::Node;
 use es_tree::operators::VariableDeclarationKind;
+use lower_fresh_names::nodes::id_of;
 use std::alloc::{AllocError, Global};
 
 /// `const a = _usingCtx.u(b); f(a);` for the statements `using a = b; f(a);`.

@@ -36,7 +36,6 @@ mod constants;
 mod made_nodes;
 mod nodes;
 mod places;
-pub mod search;
 mod tries;
 mod walk;
 

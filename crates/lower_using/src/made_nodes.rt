@@ -1,27 +1,16 @@
-//! The nodes that are made: names, members, calls, statements and blocks. A made node has no place in the source and no marks, and the id
+//! The nodes that are made: members, calls, statements and blocks. A made node has no place in the source and no marks, and the id
 //! that is given, so that a refusal that is told at it names a node of the source.
 ghost use Rattle.std.specs.Prelude.{◌≡◌, [], IfOk};
-ghost use Rattle.es_tree.specs.Tree.{label_of, trees};
-ghost use Rattle.es_pattern_moves.specs.Moved.{plain_name};
+ghost use Rattle.es_tree.specs.Tree.{trees};
 ghost use Rattle.es_using_rows.specs.Used.{block, call, member, method, plainly, statement};
 ghost use Rattle.lower_using.specs.Parts.{making, of_id};
 
 use es_expressions::members::{CallExpression, MemberExpression};
 use es_statements::program::{BlockStatement, ExpressionStatement};
-use es_tree::ids::{NodeId, Span};
-use es_tree::kind::Kind;
+use es_tree::ids::NodeId;
 use es_tree::node::Node;
+use lower_fresh_names::nodes::{MADE, new_name};
 use std::alloc::{AllocError, Global};
-
-/// The place of made nodes.
-pub(crate) const MADE: Span = Span { start: 0, end: 0 };
-
-/// The id of a node.
-pub(crate) fn id_of(node: &Node) -> NodeId
-    ensures { result.0 ≡ (label_of node.now).id }
-{
-    node.id
-}
 
 /// `c.p(args)`
 pub(crate) fn new_method_call(
@@ -76,23 +65,6 @@ pub(crate) fn new_member(
         property,
     };
     read.close(alloc)
-}
-
-/// `x`
-pub(crate) fn new_name(id: NodeId, text: &str, alloc: Global) -> Result<Node, AllocError>
-    ensures { IfOk result (λ made. made ≡ plain_name text.now (of_id id.0)) }
-{
-    let kind = Kind::Identifier {
-        name: String::from_str(alloc, text)?,
-        reference: None,
-        symbol: None,
-    };
-    Ok(Node {
-        id,
-        span: MADE,
-        kind,
-        fields: Vec::new(alloc),
-    })
 }
 
 /// `e;`

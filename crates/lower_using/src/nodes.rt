@@ -22,7 +22,6 @@ ghost use Rattle.lower_using.specs.Uses.{UsesAs};
 
 use crate::bodies::{use_arrow, use_function};
 use crate::constants::{make_constants, make_declaration};
-use crate::made_nodes::{MADE, id_of};
 use crate::places::{is_part, uses_here};
 use crate::tries::new_try;
 use es_scope::uids::UidGenerator;
@@ -31,8 +30,9 @@ use es_statements::program::BlockStatement;
 use es_tree::ast_type::AstType;
 use es_tree::ids::NodeId;
 use es_tree::kind::Kind;
-use es_tree::node::{Field, Node, Parts, exactly};
+use es_tree::node::{Field, Node, exactly};
 use es_using_rows::standing::Standing;
+use lower_fresh_names::nodes::{MADE, id_of};
 use std::alloc::{AllocError, Global};
 use std::mem;
 
@@ -135,19 +135,10 @@ fn use_switch(node: Node, context: &str, alloc: Global) -> Result<Node, AllocErr
     requires { uses_in_switch (fields_of node) ≡ true }
     ensures { IfOk result (λ used. BecomesBy context.now (with_fields with_cases) node used) }
 {
-    let Parts {
-        id,
-        span,
-        kind,
-        fields,
-    } = node.into_parts();
-    let used = use_in_switch(fields, context, alloc)?;
-    Ok(Node {
-        id,
-        span,
-        kind,
-        fields: used,
-    })
+    let mut used = node;
+    let fields = mem::replace(&mut used.fields, Vec::new(alloc));
+    used.fields = use_in_switch(fields, context, alloc)?;
+    Ok(used)
 }
 
 fn use_in_switch(fields: Vec<Field>, context: &str, alloc: Global) -> Result<Vec<Field>, AllocError>
@@ -178,19 +169,10 @@ fn use_case(case: Node, context: &str, alloc: Global) -> Result<Node, AllocError
     requires { is_used_case case ≡ true }
     ensures { IfOk result (λ used. BecomesBy context.now used_case case used) }
 {
-    let Parts {
-        id,
-        span,
-        kind,
-        fields,
-    } = case.into_parts();
-    let used = use_in_case(fields, context, alloc)?;
-    Ok(Node {
-        id,
-        span,
-        kind,
-        fields: used,
-    })
+    let mut used = case;
+    let fields = mem::replace(&mut used.fields, Vec::new(alloc));
+    used.fields = use_in_case(fields, context, alloc)?;
+    Ok(used)
 }
 
 fn use_in_case(fields: Vec<Field>, context: &str, alloc: Global) -> Result<Vec<Field>, AllocError>
@@ -236,19 +218,10 @@ fn use_head(node: Node, context: &str, alloc: Global) -> Result<Node, AllocError
     requires { uses_in_head (fields_of node) ≡ true }
     ensures { IfOk result (λ used. BecomesBy context.now (with_fields used_head) node used) }
 {
-    let Parts {
-        id,
-        span,
-        kind,
-        fields,
-    } = node.into_parts();
-    let used = use_in_head(fields, context, alloc)?;
-    Ok(Node {
-        id,
-        span,
-        kind,
-        fields: used,
-    })
+    let mut used = node;
+    let fields = mem::replace(&mut used.fields, Vec::new(alloc));
+    used.fields = use_in_head(fields, context, alloc)?;
+    Ok(used)
 }
 
 fn use_in_head(fields: Vec<Field>, context: &str, alloc: Global) -> Result<Vec<Field>, AllocError>

@@ -14,15 +14,14 @@ ghost use Rattle.es_tree.specs.Tree.{trees};
 ghost use Rattle.es_using_rows.specs.Used.{finalizer, handler, new_context, notes_error, tried};
 ghost use Rattle.lower_using.specs.Parts.{making, of_id};
 
-use crate::made_nodes::{
-    MADE, new_block, new_call, new_member, new_method_call, new_name, new_statement,
-};
+use crate::made_nodes::{new_block, new_call, new_member, new_method_call, new_statement};
 use es_expressions::operations::AssignmentExpression;
 use es_statements::control::{CatchClause, TryStatement};
 use es_statements::program::{VariableDeclaration, VariableDeclarator};
 use es_tree::ids::NodeId;
 use es_tree::node::Node;
 use es_tree::operators::{AssignmentOperator, VariableDeclarationKind};
+use lower_fresh_names::nodes::{MADE, new_name};
 use std::alloc::{AllocError, Global};
 
 /// The parameter of the made `catch`.

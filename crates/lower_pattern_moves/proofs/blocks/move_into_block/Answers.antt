@@ -3,7 +3,8 @@ use Rattle.std.specs.Prelude.{None}
 use Rattle.es_tree.specs.Tree.{done, empty, node, one, statements, trees, ◌before◌, ◌then◌}
 use Rattle.es_tree.specs.Words.{variable_declaration_kind_text}
 use Rattle.es_tree.specs.declared.ast_type.AstType.TheVariants.{BlockStatement}
-use Rattle.lower_pattern_moves.specs.Parts.{declaration_with, made_with, name_with}
+use Rattle.lower_fresh_names.specs.Names.{name_with}
+use Rattle.lower_pattern_moves.specs.Parts.{declaration_with, made_with}
 use Rattle.lower_pattern_moves.proofs.MovedBlocks.{block-moved}
 use Rattle.lower_pattern_moves.proofs.Names.{makes-one}
 use Rattle.lower_pattern_moves.proofs.blocks.move_into_block.Goals as goal

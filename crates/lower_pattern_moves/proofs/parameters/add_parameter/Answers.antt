@@ -2,7 +2,8 @@ use Rattle.std.proofs.Common.{◌∙◌, ap, string_bytes, sym}
 use Rattle.std.specs.Prelude.{codes}
 use Rattle.es_tree.specs.Tree.{label_of, one}
 use Rattle.es_pattern_moves.specs.PatternMoves.{pattern_of}
-use Rattle.lower_pattern_moves.specs.Parts.{declaration_with, name_with, named_by}
+use Rattle.lower_fresh_names.specs.Names.{name_with}
+use Rattle.lower_pattern_moves.specs.Parts.{declaration_with, named_by}
 use Rattle.lower_pattern_moves.proofs.MovedParameters.{adds-rest}
 use Rattle.lower_pattern_moves.proofs.Names.{makes-one}
 use Rattle.lower_pattern_moves.proofs.parameters.add_parameter.Goals as goal
