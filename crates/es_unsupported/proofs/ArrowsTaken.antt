@@ -21,7 +21,7 @@ use Rattle.es_unsupported.proofs.Taken.{NoneInWay, NoneInWayOfField, NoneInWayOf
 -- what is outer in an arrow has a shape
 inner-found : (q : ArrowPlace) (r : Bool) (k : AstType) (l : Label) (fs : Fields) → is_outer q.reaches k l fs ≡ true → inner_shape q r k l fs ≡ None → ⊥
 inner-found q r Super l fs e h = cc h
-inner-found q r ThisExpression l fs e h = at q.derived_body q.reaches e h
+inner-found q r ThisExpression l fs e h = at q.stray_super q.reaches e h
   where
     at : (derived reaches : Bool) → not reaches ≡ true → (if derived then Some NotBuilt else if reaches then None else Some ArrowThis) ≡ None → ⊥
     at true reaches e h = cc h

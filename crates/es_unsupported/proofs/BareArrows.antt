@@ -19,6 +19,7 @@ use Rattle.es_steps.specs.WrapRule.{is_member_target, is_rest_target, is_wrapped
 use Rattle.es_arrow_steps.specs.ThisFits.{reaches_in}
 use Rattle.es_valid_steps.specs.ArrowNodes.{is_arrow_accessor, is_kind_within, is_this_within}
 use Rattle.es_valid_arrows.specs.ArrowPlaces.{parameter_in}
+use Rattle.es_super_calls.proofs.BareCalls.{stray_super-bare}
 use Rattle.es_unsupported.specs.ArrowShapes.{arrow_place_in, arrow_shape, inner_shape}
 use Rattle.es_unsupported.specs.declared.arrow_places.ArrowPlace.{ArrowPlace}
 use Rattle.es_unsupported.proofs.BareNodes.{child-bare, exponentiation-bare, field_at-bare, first_member-bare, has_child-bare, kind-bare, kind_within-bare, private-target-bare}
@@ -85,10 +86,10 @@ wrapped-bare o = holds-field-bare (is_wrapped_for o) (wrapped_for-bare o)
 
 -- PLACES
 
--- what is known of what stands in a field, where it is known whether that holds what a slot is wrapped for, and whether the node has a
--- second child
-abbrev place_with : EnvOptions → Bool → ArrowPlace → AstType → Label → ℕ → Bool → Bool → ArrowPlace
-place_with o binds q k l i held second =
+-- what is known of what stands in a field, where it is known whether that holds what a slot is wrapped for, whether the node has a second
+-- child, and whether a call of `super` strays in it
+abbrev place_with : EnvOptions → Bool → ArrowPlace → AstType → Label → ℕ → Bool → Bool → Bool → ArrowPlace
+place_with o binds q k l i held second stray =
     let a = ancestor k l done i 0 in
     let wrapped = (is_field_value a || (leads_to_value a && q.parameter)) && held in
     if is_some o.es2015.arrow_function then record {
@@ -97,12 +98,12 @@ place_with o binds q k l i held second =
       reaches = reaches_in q.reaches a;
       derived_member = is_class k && i == 2 && second;
       derived_constructor = q.derived_member && leads_by MethodDefinition 1 a && bytes_eq (first_text l.texts) (codes "constructor");
-      derived_body = if keeps_this a then q.derived_constructor && i == 2 else q.derived_body;
+      stray_super = if keeps_this a then q.derived_constructor && i == 2 && stray else q.stray_super;
       own_arguments = (not (wrapped || same_type k ArrowFunctionExpression) && q.own_arguments) || (binds && is_inside k i);
     } else q
 
 place-bare : (o : EnvOptions) (binds : Bool) (q : ArrowPlace) (k : AstType) (l : Label) (fs : Fields) (i : ℕ) (f : Field) → arrow_place_in o binds q k (bare_label l) (bare_fields fs) i (bare_field f) ≡ arrow_place_in o binds q k l fs i f
-place-bare o binds q k l fs i f = λ j. place_with o binds q k l i (wrapped-bare o f j) (has_child-bare 1 fs j)
+place-bare o binds q k l fs i f = λ j. place_with o binds q k l i (wrapped-bare o f j) (has_child-bare 1 fs j) (stray_super-bare fs j)
 
 -- so it is where two nodes and two fields differ in marks alone
 pub place-marked : (o : EnvOptions) (binds : Bool) (q : ArrowPlace) (k : AstType) (l : Label) (ms : List (Option ℕ)) (fs gs : Fields) (i : ℕ) (f g : Field) → bare_fields gs ≡ bare_fields fs → bare_field g ≡ bare_field f →

@@ -6,24 +6,23 @@ use Rattle.es_tree.specs.Tree.{Tree, node, Label, Fields, done, ◌then◌, Fiel
 use Rattle.es_tree.specs.Walks.{any_in_field, any_in_fields, any_in_trees, any_node}
 use Rattle.es_tree.specs.declared.ast_type.AstType.{AstType}
 use Rattle.es_tree.specs.declared.error.UnsupportedKind.{UnsupportedKind}
-use Rattle.es_tree.specs.declared.error.UnsupportedKind.TheVariants.{NotBuilt}
 use Rattle.es_tree.specs.declared.options.EnvOptions.{EnvOptions}
 use Rattle.es_semantic.specs.Places.{Place, own_scope_count, outermost, place_in, scope_count_in, scope_count_in_field, visits, visits_in_field, visits_in_fields, visits_in_trees}
 use Rattle.es_semantic.specs.SymbolsOf.{Declared, symbols_of}
 use Rattle.es_rest_shapes.specs.RestShapes.{is_stray_rest}
 use Rattle.es_unsupported.specs.FirstUnsupported.{first_among, found_at}
 use Rattle.es_unsupported.specs.Laws.{LawBuilt, LawStraysTaken}
-use Rattle.es_unsupported.specs.Shapes.{is_unbuilt_node, shape_at}
+use Rattle.es_unsupported.specs.Shapes.{has_rest_parameter, is_unbuilt_node, shape_at, stray_shape}
 use Rattle.es_unsupported.proofs.Firsts.{left_none, right_none}
 use Rattle.es_unsupported.proofs.Taken.{each-none, none_found, taken-shapes}
 
-not-built : (b : Bool) (s : Option UnsupportedKind) → (if b then Some NotBuilt else s) ≡ None → b ≡ false
-not-built true s h = absurd (cc h)
-not-built false s h = refl
+not-built : (b : Bool) (x : UnsupportedKind) (s : Option UnsupportedKind) → (if b then Some x else s) ≡ None → b ≡ false
+not-built true x s h = absurd (cc h)
+not-built false x s h = refl
 
 module _ (o : EnvOptions) (ds : List Declared) where
   built-node : (up : List ℕ) (k : AstType) (l : Label) (fs : Fields) → shape_at o ds up k l fs ≡ None → is_unbuilt_node o k l fs ≡ false
-  built-node up k l fs h = not-built (is_unbuilt_node o k l fs) _ h
+  built-node up k l fs h = not-built (is_unbuilt_node o k l fs) (stray_shape k fs) _ h
 
   mutual
     built : (p : Place) (n : ℕ) (t : Tree) → first_among o ds (visits p n t) ≡ None → any_node (is_unbuilt_node o) t ≡ false
@@ -60,12 +59,12 @@ law_built_proof o p taken = built o (symbols_of p) (outermost p) 1 p (taken-shap
 
 module _ (o : EnvOptions) (on : is_some o.es2018.object_rest_spread ≡ true) where
   no-stray : (k : AstType) (l : Label) (fs : Fields) → is_unbuilt_node o k l fs ≡ false → is_stray_rest k l fs ≡ false
-  no-stray k l fs h = of-first (is_some o.es2018.object_rest_spread) (is_stray_rest k l fs) _ on h
+  no-stray k l fs h = of-first (is_some o.es2018.object_rest_spread) (is_stray_rest k l fs) (has_rest_parameter k fs) _ on h
     where
-      of-first : (asked is a : Bool) → asked ≡ true → ((asked && is) || a) ≡ false → is ≡ false
-      of-first true false a e h = refl
-      of-first true true a e h = absurd (cc h)
-      of-first false is a e h = absurd (cc e)
+      of-first : (asked is also a : Bool) → asked ≡ true → ((asked && (is || also)) || a) ≡ false → is ≡ false
+      of-first true false also a e h = refl
+      of-first true true also a e h = absurd (cc h)
+      of-first false is also a e h = absurd (cc e)
 
   mutual
     none-stray : (t : Tree) → any_node (is_unbuilt_node o) t ≡ false → any_node is_stray_rest t ≡ false

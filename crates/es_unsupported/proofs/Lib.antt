@@ -1,6 +1,8 @@
 pub mod BareNodes
 pub mod BareSpreads
 pub mod BareArrows
+pub mod BareStrays
+pub mod QuietStrays
 pub mod Firsts
 pub mod Parts
 pub mod Unbound

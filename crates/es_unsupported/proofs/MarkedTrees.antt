@@ -13,7 +13,8 @@ use Rattle.es_tree.specs.Words.{Text}
 use Rattle.es_tree.specs.Walks.{all_in_field, all_in_fields, all_in_trees, all_nodes}
 use Rattle.es_tree.specs.declared.ast_type.AstType.{AstType}
 use Rattle.es_tree.specs.declared.ast_type.AstType.TheVariants.{FunctionBody, FunctionExpression, Identifier, TaggedTemplateExpression, VariableDeclaration}
-use Rattle.es_tree.specs.declared.error.UnsupportedKind.TheVariants.{HelperName, MathBound, NotBuilt, SpreadLiteral, TagChain}
+use Rattle.es_tree.specs.declared.error.UnsupportedKind.{UnsupportedKind}
+use Rattle.es_tree.specs.declared.error.UnsupportedKind.TheVariants.{HelperName, MathBound, SpreadLiteral, TagChain}
 use Rattle.es_tree.specs.declared.options.EnvOptions.{EnvOptions}
 use Rattle.es_scope.specs.declared.scoping.Scoping.{Scoping}
 use Rattle.es_semantic.specs.Places.{Place, Visit, around_in, has_name_scope, is_inside, makes_scope, own_scope, own_scope_count, place_in, scope_count_in, scope_count_in_field, scope_count_in_fields, scope_count_in_trees, visits, visits_in_field, visits_in_fields, visits_in_trees}
@@ -23,15 +24,16 @@ use Rattle.es_semantic.specs.declared.place.Role.{Role}
 use Rattle.es_semantic.specs.declared.place.Role.TheVariants.{Nothing, Binds}
 use Rattle.es_semantic.proofs.VisitCounts.{named_makes}
 use Rattle.es_rest_shapes.specs.HelperNames.{binds_helpers}
-use Rattle.es_rest_shapes.proofs.BareRests.{declaration-bare, stray-bare}
+use Rattle.es_rest_shapes.proofs.BareRests.{declaration-bare}
 use Rattle.es_unsupported.specs.ArrowShapes.{arrow_place_in, arrow_shape, binds_arguments, may_bind_arguments, refers_by}
 use Rattle.es_unsupported.specs.FirstUnsupported.{first_of, first_of_field, first_of_fields, first_of_trees, found_at}
 use Rattle.es_unsupported.specs.MarkedWalk.{FindsFrom, LooksUp, LooksUpInField, LooksUpInFields, LooksUpInTrees, around_marked, first_at, first_in_field, first_in_fields, first_in_trees, has_known_scope, refers_by_mark, scope_mark}
-use Rattle.es_unsupported.specs.Shapes.{Row, first_row, has_chain_tag, is_chain_below, is_chain_kind, is_helper_bound, is_math_bound, is_spread_literal, is_tag_chain, is_unbuilt, rows, shape_at}
+use Rattle.es_unsupported.specs.Shapes.{Row, always, first_row, has_chain_tag, is_chain_below, is_chain_kind, is_helper_bound, is_math_bound, is_spread_literal, is_tag_chain, is_unbuilt, rows, shape_at, stray_shape}
 use Rattle.es_unsupported.specs.declared.arrow_places.ArrowPlace.{ArrowPlace}
 use Rattle.es_unsupported.proofs.BareArrows.{arrow_shape-marked, place-marked}
 use Rattle.es_unsupported.proofs.BareNodes.{exponentiation-bare, kind_within-bare, object-spread-bare}
 use Rattle.es_unsupported.proofs.BareSpreads.{literal-bare}
+use Rattle.es_unsupported.proofs.BareStrays.{holds_stray-bare, stray_shape-bare}
 
 -- MARKS CHANGE NOTHING BUT MARKS
 
@@ -71,26 +73,35 @@ using-bare : (k : AstType) (l : Label) (fs : Fields) → is_using k (bare_label 
 using-bare VariableDeclaration l fs = refl
 using-bare _ l fs = refl
 
--- A row that looks at no mark: it holds of a node where it does of the bare one.
-abbrev LooksAtNoMark : Row → Type 0
-LooksAtNoMark r = (o : EnvOptions) (ds : List Declared) (up : List ℕ) (k : AstType) (l : Label) (fs : Fields) → r.holds o ds up k (bare_label l) (bare_fields fs) ≡ r.holds o ds up k l fs
+-- A row that looks at no mark: it holds of a node where it does of the bare one, and by the same name.
+record LooksAtNoMark (r : Row) : Type 0 where
+  holds : (o : EnvOptions) (ds : List Declared) (up : List ℕ) (k : AstType) (l : Label) (fs : Fields) → r.holds o ds up k (bare_label l) (bare_fields fs) ≡ r.holds o ds up k l fs
+  shape : (k : AstType) (fs : Fields) → r.shape k (bare_fields fs) ≡ r.shape k fs
 
-unbuilt-bare : LooksAtNoMark (record { shape = NotBuilt; holds = is_unbuilt })
-unbuilt-bare o ds up k l fs = λ i.
-    (is_some o.es2018.object_rest_spread && stray-bare k l fs i)
-    || (o.es2026.explicit_resource_management && using-bare k l fs i)
+unbuilt-bare : LooksAtNoMark (record { shape = stray_shape; holds = is_unbuilt })
+unbuilt-bare = record {
+  holds = λ o ds up k l fs i. (is_some o.es2018.object_rest_spread && holds_stray-bare k l fs i) || (o.es2026.explicit_resource_management && using-bare k l fs i);
+  shape = stray_shape-bare;
+}
 
-math_bound-bare : LooksAtNoMark (record { shape = MathBound; holds = is_math_bound })
-math_bound-bare o ds up k l fs = ap (λ b. o.es2016.exponentiation_operator && b && is_some (find ds up (codes "Math"))) (exponentiation-bare k l fs)
+-- a row of one name
+named-row : (x : UnsupportedKind) (test : EnvOptions → List Declared → List ℕ → AstType → Label → Fields → Bool) →
+    ((o : EnvOptions) (ds : List Declared) (up : List ℕ) (k : AstType) (l : Label) (fs : Fields) → test o ds up k (bare_label l) (bare_fields fs) ≡ test o ds up k l fs) →
+    LooksAtNoMark (record { shape = always x; holds = test })
+named-row x test same = record { holds = same; shape = λ k fs. refl }
 
-helper_bound-bare : LooksAtNoMark (record { shape = HelperName; holds = is_helper_bound })
-helper_bound-bare o ds up k l fs = λ i. is_some o.es2018.object_rest_spread && ((object-spread-bare k l fs i && is_some (find ds up (codes "babelHelpers"))) || (declaration-bare k l fs i && binds_helpers ds))
+math_bound-bare : LooksAtNoMark (record { shape = always MathBound; holds = is_math_bound })
+math_bound-bare = named-row MathBound is_math_bound (λ o ds up k l fs. ap (λ b. o.es2016.exponentiation_operator && b && is_some (find ds up (codes "Math"))) (exponentiation-bare k l fs))
 
-spread_literal-bare : LooksAtNoMark (record { shape = SpreadLiteral; holds = is_spread_literal })
-spread_literal-bare o ds up k l fs = ap (λ b. is_some o.es2018.object_rest_spread && b) (literal-bare k l fs)
+helper_bound-bare : LooksAtNoMark (record { shape = always HelperName; holds = is_helper_bound })
+helper_bound-bare =
+    named-row HelperName is_helper_bound (λ o ds up k l fs i. is_some o.es2018.object_rest_spread && ((object-spread-bare k l fs i && is_some (find ds up (codes "babelHelpers"))) || (declaration-bare k l fs i && binds_helpers ds)))
 
-tag_chain-bare : LooksAtNoMark (record { shape = TagChain; holds = is_tag_chain })
-tag_chain-bare o ds up k l fs = ap (λ b. o.es2020.optional_chaining && b) (chain_tag-bare k l fs)
+spread_literal-bare : LooksAtNoMark (record { shape = always SpreadLiteral; holds = is_spread_literal })
+spread_literal-bare = named-row SpreadLiteral is_spread_literal (λ o ds up k l fs. ap (λ b. is_some o.es2018.object_rest_spread && b) (literal-bare k l fs))
+
+tag_chain-bare : LooksAtNoMark (record { shape = always TagChain; holds = is_tag_chain })
+tag_chain-bare = named-row TagChain is_tag_chain (λ o ds up k l fs. ap (λ b. o.es2020.optional_chaining && b) (chain_tag-bare k l fs))
 
 abbrev LookAtNoMark : List Row → Type 0
 LookAtNoMark [] = Unit {0}
@@ -102,7 +113,7 @@ rows-bare = (unbuilt-bare, (math_bound-bare, (helper_bound-bare, (spread_literal
 
 first_row-bare : (rs : List Row) → LookAtNoMark rs → (o : EnvOptions) (ds : List Declared) (up : List ℕ) (k : AstType) (l : Label) (fs : Fields) → first_row rs o ds up k (bare_label l) (bare_fields fs) ≡ first_row rs o ds up k l fs
 first_row-bare [] all o ds up k l fs = refl
-first_row-bare (r ∷ rs) all o ds up k l fs = λ i. if all.0 o ds up k l fs i then Some r.shape else first_row-bare rs all.1 o ds up k l fs i
+first_row-bare (r ∷ rs) all o ds up k l fs = λ i. if all.0.holds o ds up k l fs i then Some (all.0.shape k fs i) else first_row-bare rs all.1 o ds up k l fs i
 
 shape-bare : (o : EnvOptions) (ds : List Declared) (up : List ℕ) (k : AstType) (l : Label) (fs : Fields) → shape_at o ds up k (bare_label l) (bare_fields fs) ≡ shape_at o ds up k l fs
 shape-bare = first_row-bare rows rows-bare

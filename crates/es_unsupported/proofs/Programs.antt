@@ -19,11 +19,11 @@ use Rattle.es_semantic.proofs.LookUps.{found-at-place}
 use Rattle.es_semantic.proofs.VisitCounts.{scopes_count}
 use Rattle.es_valid_steps.specs.ArrowNodes.{is_arrow_accessor}
 use Rattle.es_rest_shapes.specs.HelperNames.{binds_helpers}
-use Rattle.es_rest_shapes.specs.RestShapes.{is_rest_declaration, is_stray_rest}
+use Rattle.es_rest_shapes.specs.RestShapes.{is_rest_declaration}
 use Rattle.es_unsupported.specs.ArrowShapes.{arrow_place_in, arrow_shape, binds_arguments, inner_shape, outside, refers_by}
 use Rattle.es_unsupported.specs.FirstUnsupported.{IsBuilt, first_of, first_of_field, first_of_fields, first_of_trees, first_unsupported, found_at}
 use Rattle.es_unsupported.specs.MarkedWalk.{LooksUp, first_at, has_known_scope}
-use Rattle.es_unsupported.specs.Shapes.{has_chain_tag, shape_at}
+use Rattle.es_unsupported.specs.Shapes.{has_chain_tag, holds_stray, shape_at}
 use Rattle.es_unsupported.specs.SpreadLiterals.{is_uncopied}
 use Rattle.es_unsupported.specs.Wanted.{IsWanted}
 use Rattle.es_unsupported.specs.declared.arrow_places.ArrowPlace.{ArrowPlace}
@@ -165,7 +165,7 @@ no-shape : (w : Wanted) (o : EnvOptions) (ds : List Declared) → IsWanted w o d
 no-shape w o ds wanted none up k l fs =
     let n = is_none w none in
     rw (
-      asked_never w.stray_rest (is_some o.es2018.object_rest_spread) (is_stray_rest k l fs) wanted.rests n.stray_rest,
+      asked_never w.stray_rest (is_some o.es2018.object_rest_spread) (holds_stray k l fs) wanted.rests n.stray_rest,
       asked_never w.using_declaration o.es2026.explicit_resource_management (is_using k l fs) wanted.declarations n.using_declaration,
       bound_never w.math_bound o.es2016.exponentiation_operator (is_exponentiation k l fs) (is_some (find ds up (codes "Math"))) (asked_where (codes "Math") ds up w.math_bound o.es2016.exponentiation_operator wanted.math) n.math_bound,
       helpers_never w.helper_name (is_some o.es2018.object_rest_spread) (is_object_spread k l fs) (is_some (find ds up (codes "babelHelpers"))) (is_rest_declaration k l fs) (binds_helpers ds) (asked_where (codes "babelHelpers") ds up w.helper_name (is_some o.es2018.object_rest_spread) wanted.helpers) wanted.helpers n.helper_name,

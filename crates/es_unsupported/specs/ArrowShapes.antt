@@ -21,13 +21,14 @@ use Rattle.es_steps.specs.ThisPlaces.{keeps_this}
 use Rattle.es_arrow_steps.specs.ThisFits.{reaches_in}
 use Rattle.es_valid_steps.specs.ArrowNodes.{is_arrow_accessor, is_this_within}
 use Rattle.es_valid_arrows.specs.ArrowPlaces.{arrow_in, is_wrapped_slot, parameter_in}
+use Rattle.es_super_calls.specs.SuperCalls.{has_stray_super}
 use Rattle.es_unsupported.specs.declared.arrow_places.ArrowPlace.{ArrowPlace}
 
 -- PLACES
 
 -- what is known of a program
 abbrev pub outside : ArrowPlace
-outside = record { in_arrow = false; parameter = false; reaches = true; derived_member = false; derived_constructor = false; derived_body = false; own_arguments = false }
+outside = record { in_arrow = false; parameter = false; reaches = true; derived_member = false; derived_constructor = false; stray_super = false; own_arguments = false }
 
 -- Whether a scope of a node of this kind may bind an `arguments` that stays as it is where the arrow around is a function: that of a body
 -- doesn't, since a `var` of this name finds the function's own there (10.2.11).
@@ -48,7 +49,7 @@ arrow_place_in o binds q k l fs i f =
       reaches = reaches_in q.reaches a;
       derived_member = is_class k && i == 2 && extends fs;
       derived_constructor = q.derived_member && leads_by MethodDefinition 1 a && bytes_eq (first_text l.texts) (codes "constructor");
-      derived_body = if keeps_this a then q.derived_constructor && i == 2 else q.derived_body;
+      stray_super = if keeps_this a then q.derived_constructor && i == 2 && has_stray_super fs else q.stray_super;
       own_arguments = (not (is_wrapped_slot o q.parameter a f || same_type k ArrowFunctionExpression) && q.own_arguments) || (binds && is_inside k i);
     } else q
 
@@ -61,13 +62,14 @@ refers_by (Binds b) = false
 refers_by _ = true
 
 -- Of a node that belongs to an arrow, and refers to its name or doesn't: `super` (13.3.7), `new.target` (13.3.12), an `arguments` that no
--- scope inside the arrow binds (10.2.11), and a `this` (13.2.1) that doesn't reach its list or that `delete` has (13.5.1). A `this` in
--- the constructor of a class that extends another is there after `super(..)` alone, which isn't built.
+-- scope inside the arrow binds (10.2.11), and a `this` (13.2.1) that doesn't reach its list or that `delete` has (13.5.1). The
+-- constructor of a class that extends another has its `this` by a call of `super`: where one that could be the first is no statement of the
+-- body's own list, a `this` isn't built.
 abbrev pub inner_shape : ArrowPlace → Bool → AstType → Label → Fields → Option UnsupportedKind
 inner_shape q refers Super l fs = Some ArrowOuter
 inner_shape q refers MetaProperty l fs = if bytes_eq (first_text l.texts) (codes "new") then Some ArrowOuter else None
 inner_shape q refers Identifier l fs = if refers && bytes_eq (first_text l.texts) (codes "arguments") && not q.own_arguments then Some ArrowOuter else None
-inner_shape q refers ThisExpression l fs = if q.derived_body then Some NotBuilt else if q.reaches then None else Some ArrowThis
+inner_shape q refers ThisExpression l fs = if q.stray_super then Some NotBuilt else if q.reaches then None else Some ArrowThis
 inner_shape q refers UnaryExpression l fs = if bytes_eq (first_text l.texts) (codes "delete") && is_this_within (child_at 0 fs) then Some ArrowThis else None
 inner_shape q refers _ l fs = None
 

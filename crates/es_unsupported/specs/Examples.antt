@@ -4,9 +4,9 @@ use Rattle.es_tree.specs.HasForm.{has_form}
 use Rattle.es_tree.specs.Order.{renumber}
 use Rattle.es_tree.specs.Tree.{Tree, node, done, ◌then◌, missing, one, many, statements, empty, trees}
 use Rattle.es_tree.specs.Words.{Text}
-use Rattle.es_tree.specs.declared.ast_type.AstType.TheVariants.{ArrowFunctionExpression, AssignmentPattern, ClassDeclaration, FunctionDeclaration, FunctionExpression, LogicalExpression, MethodDefinition, ObjectPattern, Program, RestElement, Super, UnaryExpression, VariableDeclaration, VariableDeclarator}
+use Rattle.es_tree.specs.declared.ast_type.AstType.TheVariants.{ArrayPattern, ArrayTarget, ArrowFunctionExpression, AssignmentExpression, AssignmentPattern, ClassDeclaration, EmptyStatement, ForOfStatement, FunctionDeclaration, FunctionExpression, LogicalExpression, MethodDefinition, ObjectPattern, ObjectTarget, Program, RestElement, Super, TargetRest, UnaryExpression, VariableDeclaration, VariableDeclarator}
 use Rattle.es_tree.specs.declared.error.UnsupportedKind.{UnsupportedKind}
-use Rattle.es_tree.specs.declared.error.UnsupportedKind.TheVariants.{ArrowOuter, ArrowThis, HelperName, NotBuilt}
+use Rattle.es_tree.specs.declared.error.UnsupportedKind.TheVariants.{ArrowOuter, ArrowThis, HeadName, HelperName, NotBuilt, RestInArray, RestNested, RestParameter}
 use Rattle.es_tree.specs.declared.options.EnvOptions.{EnvOptions}
 use Rattle.es_tree.specs.declared.options.HelperLoaderMode.TheVariants.{External}
 use Rattle.es_tree.specs.declared.table.Sort.TheVariants.{Program as s-Program}
@@ -42,16 +42,20 @@ function_node ps ts = node FunctionDeclaration (made [] []) (one (word (codes "f
 abbrev pub super_word : Tree
 super_word = node Super (made [] []) done
 
+-- `super()`
+abbrev pub super_call : Tree
+super_call = call_node super_word []
+
 -- `class A { m() { ts } }`
 abbrev pub class_with : List Tree → Tree
 class_with ts =
     let method : Tree = node MethodDefinition (made (Some (codes "method") ∷ []) (false ∷ false ∷ [])) (one (word (codes "m")) then one (method_function [] ts) then done) in
     node ClassDeclaration (made [] []) (one (word (codes "A")) then missing then many (trees (method ∷ [])) then done)
 
--- `class A extends B { constructor() { super(); ts } }`
+-- `class A extends B { constructor() { ts } }`
 abbrev pub derived_with : List Tree → Tree
 derived_with ts =
-    let method : Tree = node MethodDefinition (made (Some (codes "constructor") ∷ []) (false ∷ false ∷ [])) (one (word (codes "constructor")) then one (method_function [] (statement_node (call_node super_word []) ∷ ts)) then done) in
+    let method : Tree = node MethodDefinition (made (Some (codes "constructor") ∷ []) (false ∷ false ∷ [])) (one (word (codes "constructor")) then one (method_function [] ts) then done) in
     node ClassDeclaration (made [] []) (one (word (codes "A")) then one (word (codes "B")) then many (trees (method ∷ [])) then done)
 
 abbrev pub arrow_with : List Tree → Tree → Tree
@@ -80,6 +84,31 @@ rest_declaration x =
     let declarator : Tree = node VariableDeclarator (made [] []) (one (rest_pattern x) then one (word (codes "b")) then done) in
     node VariableDeclaration (made (Some (codes "let") ∷ []) []) (many (trees (declarator ∷ [])) then done)
 
+-- `p = b` as a parameter
+abbrev pub with_default : Tree → Tree
+with_default p = node AssignmentPattern (made [] []) (one p then one (word (codes "b")) then done)
+
+-- `for (let p of e) ;`
+abbrev pub loop_over : Tree → Tree → Tree
+loop_over p e =
+    let declarator : Tree = node VariableDeclarator (made [] []) (one p then missing then done) in
+    let head : Tree = node VariableDeclaration (made (Some (codes "let") ∷ []) []) (many (trees (declarator ∷ [])) then done) in
+    node ForOfStatement (made [] []) (one head then one e then one (node EmptyStatement (made [] []) done) then done)
+
+-- `[p]`
+abbrev pub array_pattern : Tree → Tree
+array_pattern p = node ArrayPattern (made [] []) (one p then done)
+
+-- `[t] = b`
+abbrev pub array_assignment : Tree → Tree
+array_assignment t = node AssignmentExpression (made (Some (codes "=") ∷ []) []) (one (node ArrayTarget (made [] []) (one t then done)) then one (word (codes "b")) then done)
+
+-- `{ ...x }` as a target
+abbrev pub rest_target : Text → Tree
+rest_target x =
+    let rest : Tree = node TargetRest (made [] []) (one (word x) then done) in
+    node ObjectTarget (made [] []) (many (trees (rest ∷ [])) then done)
+
 -- EXAMPLES
 
 -- of a program that has form, where options ask for arrows, for `??` or not, and for object rests or not
@@ -96,8 +125,9 @@ pub record LawShapeExamples : Type 0 where
   pub super_member : Finds false false (class_with (statement_node (arrow_node (member_node super_word (codes "x"))) ∷ []) ∷ []) (Some (ArrowOuter, 10))
   -- `class A { m() { super.x; } }`
   pub in_method : Finds false false (class_with (statement_node (member_node super_word (codes "x")) ∷ []) ∷ []) None
-  -- `class A extends B { constructor() { super(); () => this; } }`
-  pub constructor_this : Finds false false (derived_with (statement_node (arrow_node this_expression) ∷ []) ∷ []) (Some (NotBuilt, 13))
+  -- `class A extends B { constructor() { super(); () => this; } }`, and with `f(super());` in place of `super();`
+  pub constructor_this : Finds false false (derived_with (statement_node super_call ∷ statement_node (arrow_node this_expression) ∷ []) ∷ []) None
+  pub stray_super : Finds false false (derived_with (statement_node (call_node (word (codes "f")) (super_call ∷ [])) ∷ statement_node (arrow_node this_expression) ∷ []) ∷ []) (Some (NotBuilt, 15))
   -- `function f() { () => arguments; }`
   pub outer_arguments : Finds false false (function_node [] (statement_node (arrow_node (word (codes "arguments"))) ∷ []) ∷ []) (Some (ArrowOuter, 6))
   -- `function f() { (arguments) => arguments; }`
@@ -107,5 +137,11 @@ pub record LawShapeExamples : Type 0 where
   pub in_parameter : Finds false false (function_node (parameter_with (coalescing (member_node this_expression (codes "c"))) ∷ []) [] ∷ []) None
   -- where object rests are lowered, `let { ...a } = b;`, `function f({ ...a }) {}` and `let { ...babelHelpers } = b;`
   pub object_rest : Finds false true (rest_declaration (codes "a") ∷ []) None
-  pub rest_parameter : Finds false true (function_node (rest_pattern (codes "a") ∷ []) [] ∷ []) (Some (NotBuilt, 1))
+  pub rest_parameter : Finds false true (function_node (rest_pattern (codes "a") ∷ []) [] ∷ []) (Some (RestParameter, 1))
+  -- `function f({ ...a } = b) {}`: the function has it, not the parameter; `for (let { ...a } of a) ;`
+  pub rest_default : Finds false true (function_node (with_default (rest_pattern (codes "a")) ∷ []) [] ∷ []) (Some (RestParameter, 1))
+  pub rest_head : Finds false true (loop_over (rest_pattern (codes "a")) (word (codes "a")) ∷ []) (Some (HeadName, 3))
+  -- `function f([{ ...a }]) {}` and `[{ ...a }] = b;`
+  pub rest_in_array : Finds false true (function_node (array_pattern (rest_pattern (codes "a")) ∷ []) [] ∷ []) (Some (RestInArray, 3))
+  pub rest_nested : Finds false true (statement_node (array_assignment (rest_target (codes "a"))) ∷ []) (Some (RestNested, 3))
   pub bound_helper : Finds false true (rest_declaration (codes "babelHelpers") ∷ []) (Some (HelperName, 1))

@@ -1,30 +1,73 @@
 -- The shapes that a run doesn't take: one row of a table for each, asked in order at each node.
-use Rattle.std.specs.Prelude.{ℕ, List, [], ◌∷◌, Bool, false, true, ◌&&◌, ◌||◌, Option, Some, None, is_some, codes, if◌then◌else◌}
+use Rattle.std.specs.Prelude.{ℕ, List, [], ◌∷◌, Bool, false, true, ◌&&◌, ◌||◌, not, Option, Some, None, is_some, codes, if◌then◌else◌}
+use Rattle.es_tree.specs.Children.{child_at}
 use Rattle.es_tree.specs.Constructs.{field_at, is_exponentiation, is_object_spread, is_using}
 use Rattle.es_tree.specs.Parens.{without_parens}
-use Rattle.es_tree.specs.Tree.{Label, Fields, Field, one, kind_of}
+use Rattle.es_tree.specs.Tree.{Tree, node, Label, Fields, ◌then◌, Field, one, kind_of}
 use Rattle.es_tree.specs.declared.ast_type.AstType.{AstType}
-use Rattle.es_tree.specs.declared.ast_type.AstType.TheVariants.{ChainExpression, TaggedTemplateExpression}
+use Rattle.es_tree.specs.declared.ast_type.AstType.TheVariants.{ArrayPattern, ArrayTarget, ArrowFunctionExpression, AssignmentPattern, ChainExpression, FunctionDeclaration, FunctionExpression, RestElement, TaggedTemplateExpression, TargetProperty, TargetRest, TargetWithDefault, VariableDeclarator}
 use Rattle.es_tree.specs.declared.error.UnsupportedKind.{UnsupportedKind}
-use Rattle.es_tree.specs.declared.error.UnsupportedKind.TheVariants.{HelperName, MathBound, NotBuilt, SpreadLiteral, TagChain}
+use Rattle.es_tree.specs.declared.error.UnsupportedKind.TheVariants.{HeadName, HelperName, MathBound, NotBuilt, RestInArray, RestNested, RestParameter, SpreadLiteral, TagChain}
 use Rattle.es_tree.specs.declared.ids.NodeId.{NodeId}
 use Rattle.es_tree.specs.declared.options.EnvOptions.{EnvOptions}
 use Rattle.es_semantic.specs.SymbolsOf.{Declared, find}
 use Rattle.es_rest_shapes.specs.HelperNames.{binds_helpers}
-use Rattle.es_rest_shapes.specs.RestShapes.{is_rest_declaration, is_stray_rest}
+use Rattle.es_rest_shapes.specs.RestShapes.{any_child, is_plain_pattern, is_rest_declaration, is_stray_rest}
 use Rattle.es_unsupported.specs.SpreadLiterals.{is_uncopied}
 
 -- THE SHAPES, each told by the options, the symbols of the program, the scopes around a node, the innermost first, and the node
 
--- A construct whose lowering isn't built: what holds an object pattern with a rest that no declarator with a value declares, that has a rest
--- inside or a key that isn't known, or that is exported (14.3.3, 13.15.5); and `using` (14.3, with Explicit Resource Management).
+-- whether the first child is an object pattern with a rest, and with names or texts as keys
+abbrev pub begins_with_rest : Fields → Bool
+begins_with_rest (one p then fs) = is_plain_pattern p
+begins_with_rest _ = false
+
+-- a parameter that is such a pattern, alone or with a default value (14.3.3, 15.1)
+abbrev pub is_rest_parameter : Tree → Bool
+is_rest_parameter (node AssignmentPattern l fs) = begins_with_rest fs
+is_rest_parameter t = is_plain_pattern t
+
+abbrev pub has_rest_parameter : AstType → Fields → Bool
+has_rest_parameter FunctionDeclaration fs = any_child is_rest_parameter fs
+has_rest_parameter FunctionExpression fs = any_child is_rest_parameter fs
+has_rest_parameter ArrowFunctionExpression fs = any_child is_rest_parameter fs
+has_rest_parameter _ fs = false
+
+-- A node that holds an object pattern with a rest that no declarator with a value declares, that has a rest inside or a key that isn't known,
+-- or that is exported (14.3.3, 13.15.5); or a function with such a parameter.
+abbrev pub holds_stray : AstType → Label → Fields → Bool
+holds_stray k l fs = is_stray_rest k l fs || has_rest_parameter k fs
+
+-- A construct whose lowering isn't built: such a node, and `using` (14.3, with Explicit Resource Management).
 abbrev pub is_unbuilt_node : EnvOptions → AstType → Label → Fields → Bool
 is_unbuilt_node o k l fs =
-    (is_some o.es2018.object_rest_spread && is_stray_rest k l fs)
+    (is_some o.es2018.object_rest_spread && holds_stray k l fs)
     || (o.es2026.explicit_resource_management && is_using k l fs)
 
 abbrev pub is_unbuilt : EnvOptions → List Declared → List ℕ → AstType → Label → Fields → Bool
 is_unbuilt o ds up k l fs = is_unbuilt_node o k l fs
+
+-- THE NAME of such a construct, by its node. Where patterns move out of heads and parameters, those that may not are left: in the head of a
+-- `for-in` or `for-of` (14.7.5) one whose names the right side asks, and a parameter that other names could see otherwise (10.2.11).
+
+abbrev pub declares_head : Fields → Bool
+declares_head fs = begins_with_rest fs && not (is_some (child_at 1 fs))
+
+abbrev pub declarator_shape : Fields → UnsupportedKind
+declarator_shape fs = if declares_head fs then HeadName else NotBuilt
+
+abbrev pub parameter_shape : AstType → Fields → UnsupportedKind
+parameter_shape k fs = if has_rest_parameter k fs then RestParameter else NotBuilt
+
+abbrev pub stray_shape : AstType → Fields → UnsupportedKind
+stray_shape ArrayPattern fs = RestInArray
+stray_shape RestElement fs = RestInArray
+stray_shape TargetProperty fs = RestNested
+stray_shape TargetWithDefault fs = RestNested
+stray_shape ArrayTarget fs = RestNested
+stray_shape TargetRest fs = RestNested
+stray_shape VariableDeclarator fs = declarator_shape fs
+stray_shape k fs = parameter_shape k fs
 
 -- an exponentiation that is lowered where `Math`, whose `pow` is to be called, finds a binding (ECMA-262, 13.6, 13.15)
 abbrev pub is_math_bound : EnvOptions → List Declared → List ℕ → AstType → Label → Fields → Bool
@@ -71,18 +114,22 @@ is_tag_chain o ds up k l fs = o.es2020.optional_chaining && has_chain_tag k l fs
 -- THE TABLE
 
 pub record Row : Type 0 where
-  pub shape : UnsupportedKind
+  pub shape : AstType → Fields → UnsupportedKind
   pub holds : EnvOptions → List Declared → List ℕ → AstType → Label → Fields → Bool
+
+-- of every node
+abbrev pub always : UnsupportedKind → AstType → Fields → UnsupportedKind
+always shape k fs = shape
 
 abbrev pub rows : List Row
 rows =
-    record { shape = NotBuilt; holds = is_unbuilt } ∷ record { shape = MathBound; holds = is_math_bound } ∷ record { shape = HelperName; holds = is_helper_bound } ∷
-    record { shape = SpreadLiteral; holds = is_spread_literal } ∷ record { shape = TagChain; holds = is_tag_chain } ∷ []
+    record { shape = stray_shape; holds = is_unbuilt } ∷ record { shape = always MathBound; holds = is_math_bound } ∷ record { shape = always HelperName; holds = is_helper_bound } ∷
+    record { shape = always SpreadLiteral; holds = is_spread_literal } ∷ record { shape = always TagChain; holds = is_tag_chain } ∷ []
 
 -- the shape of the first of these rows that holds
 abbrev pub first_row : List Row → EnvOptions → List Declared → List ℕ → AstType → Label → Fields → Option UnsupportedKind
 first_row [] o ds up k l fs = None
-first_row (r ∷ rs) o ds up k l fs = if r.holds o ds up k l fs then Some r.shape else first_row rs o ds up k l fs
+first_row (r ∷ rs) o ds up k l fs = if r.holds o ds up k l fs then Some (r.shape k fs) else first_row rs o ds up k l fs
 
 abbrev pub shape_at : EnvOptions → List Declared → List ℕ → AstType → Label → Fields → Option UnsupportedKind
 shape_at = first_row rows

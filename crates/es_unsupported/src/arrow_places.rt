@@ -10,6 +10,7 @@ ghost use Rattle.es_semantic.specs.Places.{is_inside};
 ghost use Rattle.es_steps.specs.ThisPlaces.{keeps_this};
 ghost use Rattle.es_arrow_steps.specs.ThisFits.{reaches_in};
 ghost use Rattle.es_valid_arrows.specs.ArrowPlaces.{is_wrapped_slot, parameter_in};
+ghost use Rattle.es_super_calls.specs.SuperCalls.{has_stray_super};
 ghost use Rattle.es_unsupported.specs.ArrowShapes.{arrow_place_in, outside};
 
 use crate::edges::{
@@ -18,6 +19,7 @@ use crate::edges::{
 };
 use crate::scopes::is_inside_at;
 use es_slots::wrapped::field_holds;
+use es_super_calls::calls::has_stray_super;
 use es_tree::kind::Kind;
 use es_tree::node::{Field, Node};
 use es_tree::options::EnvOptions;
@@ -35,8 +37,9 @@ pub struct ArrowPlace {
     pub derived_member: bool,
     /// It is the function of a constructor of such a class.
     pub derived_constructor: bool,
-    /// A `this` there is that of the body of such a constructor.
-    pub derived_body: bool,
+    /// A `this` there is that of the body of such a constructor, whose first call of `super` may be no statement of the
+    /// body's own list.
+    pub stray_super: bool,
     /// A scope inside the innermost arrow binds `arguments`.
     pub own_arguments: bool,
 }
@@ -52,7 +55,7 @@ impl ArrowPlace {
             reaches: true,
             derived_member: false,
             derived_constructor: false,
-            derived_body: false,
+            stray_super: false,
             own_arguments: false,
         }
     }
@@ -79,7 +82,7 @@ impl ArrowPlace {
             reaches: self.reaches_in(node, index),
             derived_member: leads_to_derived_member(node, index),
             derived_constructor: self.derived_constructor_in(node, index),
-            derived_body: self.derived_body_in(node, index),
+            stray_super: self.stray_super_in(node, index),
             own_arguments: self.own_arguments_in(node, index, wrapped, binds),
         }
     }
@@ -97,13 +100,13 @@ impl ArrowPlace {
         self.derived_member && leads_to_constructor(node, index)
     }
 
-    fn derived_body_in(self, node: &Node, index: usize) -> bool
-        ensures { result ≡ (if keeps_this (ancestor (kind_of node.now) (label_of node.now) done index 0) then self.derived_constructor && index == 2 else self.derived_body) }
+    fn stray_super_in(self, node: &Node, index: usize) -> bool
+        ensures { result ≡ (if keeps_this (ancestor (kind_of node.now) (label_of node.now) done index 0) then self.derived_constructor && index == 2 && has_stray_super (fields_of node.now) else self.stray_super) }
     {
         if keeps_this(node, index) {
-            self.derived_constructor && index == 2
+            self.derived_constructor && index == 2 && has_stray_super(node)
         } else {
-            self.derived_body
+            self.stray_super
         }
     }
 

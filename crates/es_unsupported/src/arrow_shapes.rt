@@ -63,9 +63,9 @@ fn inner_shape(node: &Node, place: ArrowPlace) -> Option<UnsupportedKind>
 
 /// What a `this` has that belongs to an arrow.
 fn this_shape(place: ArrowPlace) -> Option<UnsupportedKind>
-    ensures { result ≡ (if place.derived_body then Some NotBuilt else if place.reaches then None else Some ArrowThis) }
+    ensures { result ≡ (if place.stray_super then Some NotBuilt else if place.reaches then None else Some ArrowThis) }
 {
-    if place.derived_body {
+    if place.stray_super {
         Some(UnsupportedKind::NotBuilt)
     } else if place.reaches {
         None

@@ -10,3 +10,4 @@ mod names;
 mod scopes;
 mod shapes;
 mod spread_literals;
+mod stray_rests;

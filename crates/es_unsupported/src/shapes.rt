@@ -19,9 +19,10 @@ use crate::arrow_places::ArrowPlace;
 use crate::arrow_shapes::arrow_shape;
 use crate::names::binds_anywhere;
 use crate::spread_literals::is_uncopied;
+use crate::stray_rests::{holds_stray, stray_shape};
 use es_nodes::construct::{is_exponentiation, is_object_spread, is_using};
 use es_nodes::fields::field_at;
-use es_rest_nodes::strays::{is_rest_declaration, is_stray_rest};
+use es_rest_nodes::strays::is_rest_declaration;
 use es_scope::scoping::Scoping;
 use es_tree::error::UnsupportedKind;
 use es_tree::ids::ScopeId;
@@ -112,7 +113,7 @@ fn shape_at(
     ensures { (o : PlainOptions) (ds : List Declared) (up : List ℕ) → IsWanted wanted o ds → scope.0 ≡ first up → FindsFrom scoping.now ds up → result ≡ shape_at o ds up (kind_of node.now) (label_of node.now) (fields_of node.now) }
 {
     if is_unbuilt(node, wanted) {
-        return Some(UnsupportedKind::NotBuilt);
+        return Some(stray_shape(node));
     }
     if is_math_bound(node, scope, scoping, wanted) {
         return Some(UnsupportedKind::MathBound);
@@ -133,7 +134,7 @@ fn shape_at(
 fn is_unbuilt(node: &Node, wanted: Wanted) -> bool
     ensures { (o : PlainOptions) (ds : List Declared) (up : List ℕ) → IsWanted wanted o ds → result ≡ is_unbuilt o ds up (kind_of node.now) (label_of node.now) (fields_of node.now) }
 {
-    (wanted.stray_rest && is_stray_rest(node)) || (wanted.using_declaration && is_using(node))
+    (wanted.stray_rest && holds_stray(node)) || (wanted.using_declaration && is_using(node))
 }
 
 /// Whether an exponentiation that is to be lowered stands where `Math` is bound.

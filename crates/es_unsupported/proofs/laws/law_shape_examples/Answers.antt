@@ -8,11 +8,16 @@ returns c = record {
   super_member = record { formed = refl; first = λ o. refl };
   in_method = record { formed = refl; first = λ o. refl };
   constructor_this = record { formed = refl; first = λ o. refl };
+  stray_super = record { formed = refl; first = λ o. refl };
   outer_arguments = record { formed = refl; first = λ o. refl };
   own_arguments = record { formed = refl; first = λ o. refl };
   in_slot = record { formed = refl; first = λ o. refl };
   in_parameter = record { formed = refl; first = λ o. refl };
   object_rest = record { formed = refl; first = λ o. refl };
   rest_parameter = record { formed = refl; first = λ o. refl };
+  rest_default = record { formed = refl; first = λ o. refl };
+  rest_head = record { formed = refl; first = λ o. refl };
+  rest_in_array = record { formed = refl; first = λ o. refl };
+  rest_nested = record { formed = refl; first = λ o. refl };
   bound_helper = record { formed = refl; first = λ o. refl };
 }
