@@ -21,11 +21,11 @@ use Rattle.es_valid_arrows.specs.ArrowPlaces.{is_wrapped_slot}
 use Rattle.es_rest_shapes.specs.HelperNames.{binds_helpers}
 use Rattle.es_rest_shapes.specs.RestShapes.{is_rest_declaration}
 use Rattle.es_rest_shapes.proofs.NoneLeft.{declaration-rest}
-use Rattle.es_rest_shapes.proofs.Quiet.{stray-none}
 use Rattle.es_unsupported.specs.ArrowShapes.{outside}
 use Rattle.es_unsupported.specs.FirstUnsupported.{first_of, first_unsupported}
 use Rattle.es_unsupported.specs.Shapes.{has_chain_tag, is_unbuilt_node, shape_at}
 use Rattle.es_unsupported.specs.SpreadLiterals.{has_uncopied}
+use Rattle.es_unsupported.proofs.QuietStrays.{holds_stray-none}
 use Rattle.lower_driver.specs.UnsupportedPrograms.{Finds}
 use Rattle.lower_driver.specs.Uses.{names_helpers}
 use Rattle.lower_driver.proofs.Imported.{core-unimporting, none-refused}
@@ -110,7 +110,7 @@ no_helper by_name spread bound declared binds h g = rw (h, g) (off by_name)
 
 module _ (o : EnvOptions) where
   built : (k : AstType) (l : Label) (fs : Fields) → is_asked k l fs ≡ false → any_in_fields is_object_rest fs ≡ false → is_unbuilt_node o k l fs ≡ false
-  built k l fs h none = rw (stray-none k l fs none, no_using k l fs h) (both_off (is_some o.es2018.object_rest_spread) o.es2026.explicit_resource_management)
+  built k l fs h none = rw (holds_stray-none k l fs none, no_using k l fs h) (both_off (is_some o.es2018.object_rest_spread) o.es2026.explicit_resource_management)
 
   no_shape : (up : List ℕ) (k : AstType) (l : Label) (fs : Fields) → any_node is_asked (node k l fs) ≡ false → shape_at o [] up k l fs ≡ None
   no_shape up k l fs g =

@@ -3,14 +3,13 @@ use Rattle.std.proofs.Common.{◌≡◌, ◌∙◌, ◌+◌, ◌*◌, ◌≤◌,
 use Rattle.std.specs.Prelude.{Bool, true, false, ◌&&◌, is_some, if◌then◌else◌}
 use Rattle.es_tree.specs.Bare.{bare}
 use Rattle.es_tree.specs.Constructs.{any_kind, has_enabled_construct, is_arrow, is_object_rest, is_rest}
-use Rattle.es_tree.specs.Core.{is_core_node}
 use Rattle.es_tree.specs.HasForm.{has_form}
 use Rattle.es_tree.specs.StaticRules.{breaks}
-use Rattle.es_tree.specs.Tree.{Tree, node, Label, Fields, done, ◌then◌, Field, missing, one, many, statements, Trees, empty, ◌before◌, fields_size, kind_of, tree_size, trees_size}
-use Rattle.es_tree.specs.Walks.{all_in_field, all_in_fields, all_in_trees, all_nodes, any_in_field, any_in_fields, any_in_trees, any_node}
+use Rattle.es_tree.specs.Tree.{Tree, node, Label, Fields, done, ◌then◌, missing, one, many, statements, Trees, empty, ◌before◌, fields_size, kind_of, tree_size, trees_size}
+use Rattle.es_tree.specs.Walks.{any_node}
 use Rattle.es_tree.specs.Words.{Text}
 use Rattle.es_tree.specs.declared.ast_type.AstType.{AstType}
-use Rattle.es_tree.specs.declared.ast_type.AstType.TheVariants.{ObjectPattern, ObjectTarget, Program as k-Program}
+use Rattle.es_tree.specs.declared.ast_type.AstType.TheVariants.{ObjectPattern, Program as k-Program}
 use Rattle.es_tree.specs.declared.options.EnvOptions.{EnvOptions}
 use Rattle.es_tree.specs.declared.table.Sort.TheVariants.{Program as s-Program}
 use Rattle.es_tree.proofs.BareForm.{has_form-bare}
@@ -21,7 +20,6 @@ use Rattle.es_statements.specs.ProgramPlain.{plain_program}
 use Rattle.es_statements.specs.declared.program.Program.{Program}
 use Rattle.es_resolution.specs.Laws.{source}
 use Rattle.es_resolution.specs.Seen.{seen}
-use Rattle.es_runs.proofs.Named.{or_both}
 use Rattle.es_steps.specs.AllRules.{AllRules}
 use Rattle.es_steps.specs.CoreBridge.{Reached, first_whole}
 use Rattle.es_steps.specs.Laws.{IsWellBound, nothing_beside}

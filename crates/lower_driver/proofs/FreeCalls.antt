@@ -1,7 +1,7 @@
 -- A program that doesn't name `babelHelpers` calls no helper of it.
-use Rattle.std.proofs.Common.{◌≡◌, ◌∙◌, ℕ, zero, suc, refl, sym, ap, true≢false}
-use Rattle.std.proofs.lemmas.Bool.{and_parts, false_from_ne_true, or_left, or_parts}
-use Rattle.std.specs.Prelude.{Bool, true, false, ◌&&◌, ◌||◌, not, None, bytes_eq, codes, is_some, if◌then◌else◌}
+use Rattle.std.proofs.Common.{◌≡◌, ◌∙◌, ℕ, zero, suc, refl, sym, true≢false}
+use Rattle.std.proofs.lemmas.Bool.{false_from_ne_true, or_left, or_parts}
+use Rattle.std.specs.Prelude.{Bool, true, false, ◌&&◌, not, None, bytes_eq, codes, is_some, if◌then◌else◌}
 use Rattle.es_tree.specs.Names.{first_text, flag_at, is_name_place}
 use Rattle.es_tree.specs.Tree.{Tree, node, Label, Fields, done, ◌then◌, Field, missing, one, many, statements, Trees, empty, ◌before◌}
 use Rattle.es_tree.specs.Walks.{any_in_field, any_in_fields, any_in_trees, any_node}

@@ -8,10 +8,9 @@ use Rattle.es_tree.specs.HasForm.{has_form}
 use Rattle.es_tree.specs.Options.{is_external}
 use Rattle.es_tree.specs.StaticRules.{breaks}
 use Rattle.es_tree.specs.Tree.{Tree, node, Label, Fields, done, ◌then◌, Field, missing, one, many, statements, Trees, empty, ◌before◌, tree_size}
-use Rattle.es_tree.specs.Walks.{all_in_field, all_in_fields, all_in_trees, all_nodes, any_in_field, any_in_fields, any_in_trees, any_node, first_in_field, first_in_fields, first_in_trees, first_node, or_later}
+use Rattle.es_tree.specs.Walks.{all_nodes, any_in_field, any_in_fields, any_in_trees, any_node, first_in_field, first_in_fields, first_in_trees, first_node, or_later}
 use Rattle.es_tree.specs.Words.{Text}
 use Rattle.es_tree.specs.declared.ast_type.AstType.{AstType}
-use Rattle.es_tree.specs.declared.ast_type.AstType.TheVariants.{ObjectExpression}
 use Rattle.es_tree.specs.declared.error.UnsupportedKind.{UnsupportedKind}
 use Rattle.es_tree.specs.declared.error.UnsupportedKind.TheVariants.{HelperName}
 use Rattle.es_tree.specs.declared.options.EnvOptions.{EnvOptions}

@@ -1,6 +1,6 @@
 -- What a program becomes once its `using` is lowered: patterns with a rest move, or it stays as it is; there is one such program.
-use Rattle.std.proofs.Common.{◌≡◌, ◌∙◌, ◌*◌, ◌+◌, ◌≤◌, ◌++◌, List, [], ◌∷◌, Option, ℕ, ap, arith, length, map, refl, subst, sym, true≢false}
-use Rattle.std.specs.Prelude.{Bool, true, false, ◌&&◌, None, is_some, string_bytes, if◌then◌else◌}
+use Rattle.std.proofs.Common.{◌≡◌, ◌∙◌, ◌*◌, ◌≤◌, ◌++◌, List, [], ◌∷◌, ℕ, ap, arith, length, map, refl, subst, sym, true≢false}
+use Rattle.std.specs.Prelude.{Bool, true, false, ◌&&◌, is_some, if◌then◌else◌}
 use Rattle.es_tree.specs.Constructs.{is_object_rest}
 use Rattle.es_tree.specs.HasForm.{has_form}
 use Rattle.es_tree.specs.StaticRules.{breaks}

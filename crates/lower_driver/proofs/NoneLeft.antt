@@ -17,9 +17,8 @@ use Rattle.es_valid_steps.specs.PlaceRules.{place_breaks}
 use Rattle.es_valid_steps.proofs.NamespacePlaces.{law_namespace_places_proof}
 use Rattle.es_traverse.specs.Laws.{is_construct}
 use Rattle.es_traverse.specs.Listed.{any_among, any_listed}
-use Rattle.es_rest_shapes.specs.RestShapes.{is_stray_rest}
 use Rattle.es_rest_rows.specs.Laws.{is_other_construct as rest_others}
-use Rattle.es_unsupported.specs.Shapes.{is_unbuilt_node}
+use Rattle.es_unsupported.specs.Shapes.{holds_stray, is_unbuilt_node}
 use Rattle.es_reached.specs.Walks.{is_other_construct}
 use Rattle.lower_driver.specs.Constructs.{is_built_construct, is_lowered_construct, is_lowered_export}
 use Rattle.lower_driver.proofs.EitherTest.{any-where, fewer-in-tree, none-of-tree}
@@ -86,7 +85,7 @@ module _ (o : EnvOptions) where
   -- WHERE NOTHING STANDS THAT ISN'T BUILT
 
   abbrev stray_rest : AstType → Label → Fields → Bool
-  stray_rest k l fs = is_some o.es2018.object_rest_spread && is_stray_rest k l fs
+  stray_rest k l fs = is_some o.es2018.object_rest_spread && holds_stray k l fs
 
   pub no-usings : (t : Tree) → any_node (is_unbuilt_node o) t ≡ false → (o.es2026.explicit_resource_management && any_node is_using t) ≡ false
   no-usings t h = sym (any-where o.es2026.explicit_resource_management is_using t) ∙ fewer-in-tree using_declaration (is_unbuilt_node o) (λ k l fs e. or_second (stray_rest k l fs) (using_declaration k l fs) e) t h

@@ -20,13 +20,13 @@ use Rattle.es_steps.specs.WrapRule.{is_rest_target, is_wrapped_for, takes_for_ta
 use Rattle.es_valid_steps.specs.ArrowNodes.{is_arrow_accessor, is_kind_within}
 use Rattle.es_unsupported.specs.ArrowShapes.{outside}
 use Rattle.es_unsupported.specs.FirstUnsupported.{first_unsupported}
-use Rattle.es_unsupported.specs.Shapes.{has_chain_tag, is_chain_below, is_chain_kind, is_unbuilt_node, shape_at}
+use Rattle.es_unsupported.specs.Shapes.{has_chain_tag, holds_stray, is_chain_below, is_chain_kind, is_unbuilt_node, shape_at}
 use Rattle.es_rest_shapes.specs.HelperNames.{binds_helpers}
-use Rattle.es_rest_shapes.specs.RestShapes.{is_rest_declaration, is_stray_rest}
+use Rattle.es_rest_shapes.specs.RestShapes.{is_rest_declaration}
 use Rattle.es_rest_shapes.proofs.NoneLeft.{declaration-rest}
-use Rattle.es_rest_shapes.proofs.Quiet.{stray-none}
 use Rattle.lower_driver.proofs.EitherTest.{any-where, any-where-in, fewer-in-fields, fewer-in-tree}
 use Rattle.es_unsupported.specs.SpreadLiterals.{has_uncopied}
+use Rattle.es_unsupported.proofs.QuietStrays.{holds_stray-none}
 use Rattle.lower_driver.proofs.EnabledRows.{none-of-rows}
 use Rattle.lower_driver.proofs.QuietArrows.{none-of}
 
@@ -188,7 +188,7 @@ module _ (o : EnvOptions) where
         let copies = is_some o.es2018.object_rest_spread in
         let inside = rests-in fs (or_second (is_enabled_construct o k l fs) (any_in_fields (is_enabled_construct o) fs) h) in
         let declared = quiet-where copies (any_in_fields is_object_rest fs) (is_rest_declaration k l fs) inside (declaration-rest k l fs) in
-        let built : is_unbuilt_node o k l fs ≡ false = rw (quiet-where copies (any_in_fields is_object_rest fs) (is_stray_rest k l fs) inside (stray-none k l fs), own.using) refl in
+        let built : is_unbuilt_node o k l fs ≡ false = rw (quiet-where copies (any_in_fields is_object_rest fs) (holds_stray k l fs) inside (holds_stray-none k l fs), own.using) refl in
         rw (
           built,
           with-more o.es2016.exponentiation_operator (is_exponentiation k l fs) (is_some (find ds up (codes "Math"))) own.power,

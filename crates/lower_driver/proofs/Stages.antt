@@ -1,5 +1,5 @@
 -- What a source becomes by all lowerings, stage after stage: its `using` is lowered, patterns with a rest move, constructs are lowered where they
--- stand, and helpers are imported. And why it is refused: for what is found in it before constructs are lowered where they stand.
+-- stand, helpers are imported, and names for `this` are set. And why it is refused: for what is found in it before constructs are lowered where they stand.
 use Rattle.std.proofs.Common.{◌≡◌, ◌∙◌, ◌*◌, ◌+◌, ◌≤◌, ◌++◌, List, [], ◌∷◌, Option, ℕ, ap, arith, refl, subst, sym, true≢false}
 use Rattle.std.specs.Prelude.{Bool, true, false, ◌&&◌, None, is_some, not, string_bytes, if◌then◌else◌}
 use Rattle.es_tree.specs.Constructs.{has_enabled_construct, is_object_rest, is_using}
@@ -23,16 +23,19 @@ use Rattle.es_reached.specs.Reached.{IsCoreResult}
 use Rattle.es_statement_runs.specs.Runs.{RunAlike}
 use Rattle.es_statement_steps.specs.Laws.{RunsAsStatements, assumes_no_all, supply_there}
 use Rattle.es_helper_calls.specs.Importing.{imports_helpers}
+use Rattle.es_super_calls.specs.Constructors.{is_derived_class}
 use Rattle.lower_driver.specs.Copies.{IsCopy}
 use Rattle.lower_driver.specs.Imports.{Imports}
 use Rattle.lower_driver.specs.Lowers.{Lowers, LowersInPlace, most_for_each, rests_there}
 use Rattle.lower_driver.specs.Moves.{Moves}
+use Rattle.lower_driver.specs.Sets.{Sets, sets_this}
 use Rattle.lower_driver.specs.Uses.{Uses, lowers_using, names_helpers, using_there}
 use Rattle.lower_driver.specs.UnsupportedPrograms.{Finds, IsFirstOrMemory, IsUnsupportedOrMemory, first_refused}
 use Rattle.lower_driver.proofs.CopiedOptions.{copied-refused}
-use Rattle.lower_driver.proofs.CoreNodes.{no-rest, no-using}
+use Rattle.lower_driver.proofs.CoreNodes.{no-class, no-class-among-statements, no-rest, no-using}
 use Rattle.lower_driver.proofs.Imported.{core-unimporting, is-imported, none-left, size-after}
 use Rattle.lower_driver.proofs.Moved.{is-moved, moved-weight, moves-itself, no-moves, off-anyway, one-program, stays-itself}
+use Rattle.lower_driver.proofs.Set.{is-set, none-after, set-size, sets-itself}
 use Rattle.lower_driver.proofs.Used.{is-used, one-used, unasked-off, unasked-stays, used-weight, uses-itself}
 
 -- ONE THING IS FOUND in a source
@@ -82,8 +85,8 @@ none-more [] = refl
 none-more (x ∷ xs) = ap (λ ys. x ∷ ys) (none-more xs)
 
 module _
-    (o : EnvOptions) (p v q lowered written : Tree) (contexts names later last : List Text) (form : has_form s-Program p ≡ true) (right : breaks p ≡ []) (u : Uses (lowers_using o p) p v contexts) (m : Moves (is_some o.es2018.object_rest_spread) v q names) (none : first_refused o (not (names_helpers p)) q ≡ None) (in_place : LowersInPlace o q lowered later)
-    (imports : Imports (imports_helpers o (not (names_helpers p)) q) (string_bytes o.helper_loader.module_name) lowered written last) where
+    (o : EnvOptions) (p v q lowered imported written : Tree) (contexts names later last : List Text) (form : has_form s-Program p ≡ true) (right : breaks p ≡ []) (u : Uses (lowers_using o p) p v contexts) (m : Moves (is_some o.es2018.object_rest_spread) v q names) (none : first_refused o (not (names_helpers p)) q ≡ None) (in_place : LowersInPlace o q lowered later)
+    (imports : Imports (imports_helpers o (not (names_helpers p)) q) (string_bytes o.helper_loader.module_name) lowered imported last) (sets : Sets (sets_this o p) later imported written) where
   abbrev on : Bool
   on = is_some o.es2018.object_rest_spread
 
@@ -113,15 +116,17 @@ module _
       let second = stays-itself on v (no-moves on v rests) q names m in
       record { used = first.0; moved = second.0 ∙ first.0; contexts_none = first.1; names_none = second.1 }
 
-  -- where it imports no helper, either, what is lowered in place is what is written
-  as-before : Same → imports_helpers o free p ≡ false → (written ≡ lowered) × (last ≡ [])
-  as-before same off = imports.stays (ap (imports_helpers o free) same.moved ∙ off)
+  -- where it imports no helper, either, and has no class that extends another, what is lowered in place is what is written
+  as-before : Same → imports_helpers o free p ≡ false → any_node is_derived_class p ≡ false → (written ≡ lowered) × (last ≡ [])
+  as-before same off none =
+      let unimported = imports.stays (ap (imports_helpers o free) same.moved ∙ off) in
+      (sets.stays (off-anyway (is_some o.es2015.arrow_function) (any_node is_derived_class p) none) ∙ unimported.0, unimported.1)
 
   core-there : IsCoreProgram p → IsCoreResult o p written all_names
   core-there core =
       let rests = no-rest p core.core in
       let same = same-there (off-anyway o.es2026.explicit_resource_management (any_node is_using p) (no-using p core.core)) (off-anyway on (any_node is_object_rest p) rests) in
-      let stays = as-before same (core-unimporting o p core.core rests) in
+      let stays = as-before same (core-unimporting o p core.core rests) (no-class p core.core) in
       let there : IsCoreResult o p lowered later = subst (λ (t : Tree). IsCoreResult o t lowered later) same.moved (in_place.core (subst (λ (t : Tree). IsCoreProgram t) (sym same.moved) core)) in
       let named : all_names ≡ later = ap (λ (xs : List Text). xs ++ names ++ later ++ last) same.contexts_none ∙ ap (λ (xs : List Text). xs ++ later ++ last) same.names_none ∙ ap (λ (xs : List Text). later ++ xs) stays.1 ∙ none-more later in
       subst (λ (xs : List Text). IsCoreResult o p written xs) (sym named) (subst (λ (t : Tree). IsCoreResult o p t later) (sym stays.0) there)
@@ -130,7 +135,7 @@ module _
   statements-there no_using no_rests off runs =
       let same = same-there no_using no_rests in
       let there : RunAlike (supply_there o p) (assumes_no_all o p) p lowered = subst (λ (t : Tree). RunAlike (supply_there o t) (assumes_no_all o t) t lowered) same.moved (in_place.statements (ap (rests_there o) same.moved ∙ no_rests) (subst (λ (t : Tree). RunsAsStatements o t) (sym same.moved) runs)) in
-      subst (λ (t : Tree). RunAlike (supply_there o p) (assumes_no_all o p) p t) (sym (as-before same off).0) there
+      subst (λ (t : Tree). RunAlike (supply_there o p) (assumes_no_all o p) p t) (sym (as-before same off (no-class-among-statements p runs.class.without_functions)).0) there
 
   -- SIZE
 
@@ -154,12 +159,23 @@ module _
           let same = same-there e d in
           subst (λ (n : ℕ). tree_size lowered ≤ n * tree_size p + 64) (ap (λ b. if b then 384 else 64) (ap (rests_there o) same.moved ∙ d)) (subst (λ (t : Tree). tree_size lowered ≤ (if rests_there o q then 384 else 64) * tree_size t + 64) same.moved in_place.size)
 
-  sized : tree_size written ≤ most_for_each (using_there o p) (rests_there o p) * tree_size p + (if imports_helpers o free q then 82 else 64)
-  sized = at (imports_helpers o free q) (size-after o free q lowered written later last moved_there.form moved_there.kept none in_place.result imports)
+  imported-size : tree_size imported ≤ most_for_each (using_there o p) (rests_there o p) * tree_size p + (if imports_helpers o free q then 82 else 64)
+  imported-size = at (imports_helpers o free q) (size-after o free q lowered imported later last moved_there.form moved_there.kept none in_place.result imports)
     where
-      at : (b : Bool) → tree_size written ≤ tree_size lowered + (if b then 18 else 0) → tree_size written ≤ most_for_each (using_there o p) (rests_there o p) * tree_size p + (if b then 82 else 64)
+      at : (b : Bool) → tree_size imported ≤ tree_size lowered + (if b then 18 else 0) → tree_size imported ≤ most_for_each (using_there o p) (rests_there o p) * tree_size p + (if b then 82 else 64)
       at true more = let least = lowered-size in omega (arith, least, more)
       at false more = let least = lowered-size in omega (arith, least, more)
+
+  sized : tree_size written ≤ (if sets_this o p then 2 else 1) * (most_for_each (using_there o p) (rests_there o p) * tree_size p + (if imports_helpers o free q then 82 else 64))
+  sized = set-size (sets_this o p) later imported written sets _ imported-size
+
+  -- what is imported is a program that breaks no static rule
+  imported-program : (has_form s-Program imported ≡ true) × (breaks imported ≡ [])
+  imported-program = at (imports_helpers o free q) refl
+    where
+      at : (b : Bool) → imports_helpers o free q ≡ b → (has_form s-Program imported ≡ true) × (breaks imported ≡ [])
+      at true e = let there = is-imported o free q lowered imported later last moved_there.form moved_there.kept none in_place.result imports e in (there.form, there.kept)
+      at false e = rw (imports.stays e).0 (in_place.result.form, in_place.result.kept)
 
   pub lowers : has_enabled_construct o p ≡ true → Lowers o p written all_names
   lowers some = record {
@@ -174,24 +190,28 @@ module _
     lowered = lowered;
     later_names = later;
     in_place = in_place;
+    imported = imported;
     last_names = last;
     imports = imports;
-    is_imported = is-imported o free q lowered written later last moved_there.form moved_there.kept none in_place.result imports;
+    is_imported = is-imported o free q lowered imported later last moved_there.form moved_there.kept none in_place.result imports;
+    sets = sets;
+    is_set = is-set (sets_this o p) later imported written sets imported-program.0 imported-program.1;
     all_names = refl;
-    none = none-left o free q lowered written later last moved_there.form moved_there.kept none in_place.result imports in_place.none;
+    none = none-after (sets_this o p) later imported written sets o (none-left o free q lowered imported later last moved_there.form moved_there.kept none in_place.result imports in_place.none);
     core = core-there;
     statements = statements-there;
     unchanged = λ unasked. absurd (true≢false (sym some ∙ unasked));
     size = sized;
   }
 
--- A program in which no construct stands that the options ask to lower becomes itself.
+-- A program in which no construct stands that the options ask to lower becomes itself: no name is made, so none is set.
 pub becomes-itself : (o : EnvOptions) (p : Tree) → has_form s-Program p ≡ true → breaks p ≡ [] → using_there o p ≡ false → (is_some o.es2018.object_rest_spread && any_node is_object_rest p) ≡ false → imports_helpers o (not (names_helpers p)) p ≡ false → first_refused o (not (names_helpers p)) p ≡ None → LowersInPlace o p p [] → Lowers o p p []
 becomes-itself o p form right unused rests off none in_place =
     let on = is_some o.es2018.object_rest_spread in
     let u = uses-itself (lowers_using o p) p (unasked-off o p unused) in
     let m = moves-itself on p (no-moves on p rests) in
     let imports : Imports (imports_helpers o (not (names_helpers p)) p) (string_bytes o.helper_loader.module_name) p p [] = record { goes = λ asked. absurd (true≢false (sym asked ∙ off)); stays = λ e. (refl, refl) } in
+    let sets = sets-itself (sets_this o p) p in
     record {
       used = p;
       context_names = [];
@@ -204,15 +224,18 @@ becomes-itself o p form right unused rests off none in_place =
       lowered = p;
       later_names = [];
       in_place = in_place;
+      imported = p;
       last_names = [];
       imports = imports;
       is_imported = λ asked. absurd (true≢false (sym asked ∙ off));
+      sets = sets;
+      is_set = is-set (sets_this o p) [] p p sets form right;
       all_names = refl;
       none = in_place.none;
       core = in_place.core;
       statements = λ no_using no_rests unasked runs. in_place.statements no_rests runs;
       unchanged = λ unasked. record { same = refl; no_names = refl };
-      size = sized o p p p p p [] [] [] [] form right u m none in_place imports;
+      size = sized o p p p p p p [] [] [] [] form right u m none in_place imports sets;
     }
 
 -- WHY IT IS REFUSED

@@ -7,25 +7,25 @@ use Rattle.es_tree.specs.Tree.{Tree, node, Label, Fields, done, ◌then◌, Fiel
 use Rattle.es_tree.specs.Walks.{all_nodes, all_in_field, all_in_fields, all_in_trees}
 use Rattle.es_tree.specs.declared.ast_type.AstType.{AstType}
 use Rattle.es_tree.specs.declared.error.UnsupportedKind.{UnsupportedKind}
-use Rattle.es_tree.specs.declared.error.UnsupportedKind.TheVariants.{HelperName, MathBound, NotBuilt, SpreadLiteral, TagChain}
+use Rattle.es_tree.specs.declared.error.UnsupportedKind.TheVariants.{HelperName, MathBound, SpreadLiteral, TagChain}
 use Rattle.es_tree.specs.declared.options.EnvOptions.{EnvOptions}
 use Rattle.es_semantic.specs.Places.{Place, outermost, own_scope, own_scope_count, place_in, scope_count_in, scope_count_in_field}
 use Rattle.es_semantic.specs.SymbolsOf.{Declared, symbols_of}
 use Rattle.es_unsupported.specs.ArrowShapes.{arrow_place_in, arrow_shape, binds_arguments, outside, refers_by}
 use Rattle.es_unsupported.specs.FirstUnsupported.{first_of, first_of_field, first_of_fields, first_of_trees, first_unsupported, found_at}
-use Rattle.es_unsupported.specs.Shapes.{has_chain_tag, is_helper_bound, is_math_bound, is_spread_literal, is_tag_chain, is_unbuilt, shape_at}
+use Rattle.es_unsupported.specs.Shapes.{has_chain_tag, is_helper_bound, is_math_bound, is_spread_literal, is_tag_chain, is_unbuilt, shape_at, stray_shape}
 use Rattle.es_statement_steps.specs.Laws.{TagsAreNoChains, no_chain_tag}
 use Rattle.es_unsupported.specs.declared.arrow_places.ArrowPlace.{ArrowPlace}
 
 -- the last row doesn't hold where none does
-last-row : (z a b c d : Bool) →
-    ◌≡◌ {A = Option UnsupportedKind} (if z then Some NotBuilt else if a then Some MathBound else if b then Some HelperName else if c then Some SpreadLiteral else if d then Some TagChain else None) None → d ≡ false
-last-row true a b c d h = absurd (cc h)
-last-row false true b c d h = absurd (cc h)
-last-row false false true c d h = absurd (cc h)
-last-row false false false true d h = absurd (cc h)
-last-row false false false false true h = absurd (cc h)
-last-row false false false false false h = refl
+last-row : (x : UnsupportedKind) (z a b c d : Bool) →
+    ◌≡◌ {A = Option UnsupportedKind} (if z then Some x else if a then Some MathBound else if b then Some HelperName else if c then Some SpreadLiteral else if d then Some TagChain else None) None → d ≡ false
+last-row x true a b c d h = absurd (cc h)
+last-row x false true b c d h = absurd (cc h)
+last-row x false false true c d h = absurd (cc h)
+last-row x false false false true d h = absurd (cc h)
+last-row x false false false false true h = absurd (cc h)
+last-row x false false false false false h = refl
 
 not-both : (a b : Bool) → a ≡ true → (a && b) ≡ false → not b ≡ true
 not-both true true e h = absurd (cc h)
@@ -48,7 +48,7 @@ module _ (o : EnvOptions) (lowered : o.es2020.optional_chaining ≡ true) (ds : 
   no-tag : (up : List ℕ) (k : AstType) (l : Label) (fs : Fields) → shape_at o ds up k l fs ≡ None → no_chain_tag k l fs ≡ true
   no-tag up k l fs h =
       not-both o.es2020.optional_chaining (has_chain_tag k l fs) lowered
-      (last-row (is_unbuilt o ds up k l fs) (is_math_bound o ds up k l fs) (is_helper_bound o ds up k l fs) (is_spread_literal o ds up k l fs) (is_tag_chain o ds up k l fs) h)
+      (last-row (stray_shape k fs) (is_unbuilt o ds up k l fs) (is_math_bound o ds up k l fs) (is_helper_bound o ds up k l fs) (is_spread_literal o ds up k l fs) (is_tag_chain o ds up k l fs) h)
 
   mutual
     untagged : (p : Place) (q : ArrowPlace) (n : ℕ) (t : Tree) → first_of o ds p q n t ≡ None → all_nodes no_chain_tag t ≡ true

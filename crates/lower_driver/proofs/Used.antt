@@ -5,14 +5,14 @@ use Rattle.std.specs.Prelude.{Bool, true, false, ◌&&◌, codes, not}
 use Rattle.es_tree.specs.Constructs.{is_using}
 use Rattle.es_tree.specs.HasForm.{has_form}
 use Rattle.es_tree.specs.StaticRules.{breaks}
-use Rattle.es_tree.specs.Tree.{Tree, node, Fields, done, ◌then◌, Field, missing, one, many, statements, Trees, empty, ◌before◌, field_size, fields_size, tree_size, trees_size}
+use Rattle.es_tree.specs.Tree.{Tree, tree_size}
 use Rattle.es_tree.specs.Walks.{any_node}
 use Rattle.es_tree.specs.Words.{Text}
 use Rattle.es_tree.specs.declared.options.EnvOptions.{EnvOptions}
 use Rattle.es_tree.specs.declared.table.Sort.TheVariants.{Program as s-Program}
 use Rattle.es_steps.specs.CoreBridge.{first_whole}
 use Rattle.es_pattern_moves.specs.Weights.{weighed}
-use Rattle.es_using_rows.specs.Used.{UsesTo, plainly, used}
+use Rattle.es_using_rows.specs.Used.{UsesTo, plainly}
 use Rattle.es_using_rows.specs.declared.standing.Standing.TheVariants.{Anywhere}
 use Rattle.es_using_rows.proofs.UsedAgree.{law_one_used_proof}
 use Rattle.es_using_rows.proofs.UsedSize.{law_used_size_proof}

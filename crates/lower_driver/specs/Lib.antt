@@ -3,6 +3,7 @@ pub mod Imports
 pub mod Constructs
 pub mod Lowered
 pub mod Uses
+pub mod Sets
 pub mod Moves
 pub mod Lowers
 pub mod UnsupportedPrograms

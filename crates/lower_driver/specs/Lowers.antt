@@ -7,6 +7,7 @@ use Rattle.es_tree.specs.Walks.{any_node}
 use Rattle.es_tree.specs.Words.{Text}
 use Rattle.es_tree.specs.declared.options.EnvOptions.{EnvOptions}
 use Rattle.es_json.specs.Canonical.{canonical}
+use Rattle.es_constructor_this.specs.Laws.{IsSet}
 use Rattle.es_helper_calls.specs.Importing.{imports_helpers}
 use Rattle.es_helper_imports.specs.Laws.{IsImported}
 use Rattle.es_lowered.specs.Lowered.{IsLowered}
@@ -17,6 +18,7 @@ use Rattle.es_statement_runs.specs.Runs.{RunAlike}
 use Rattle.es_statement_steps.specs.Laws.{RunsAsStatements, assumes_no_all, supply_there}
 use Rattle.lower_driver.specs.Imports.{Imports}
 use Rattle.lower_driver.specs.Moves.{Moves}
+use Rattle.lower_driver.specs.Sets.{Sets, sets_this}
 use Rattle.lower_driver.specs.Uses.{Uses, lowers_using, names_helpers, using_there}
 
 -- a source as it is written, with no name made
@@ -69,19 +71,24 @@ pub record Lowers (o : EnvOptions) (source written : Tree) (names : List Text) :
   pub lowered : Tree
   pub later_names : List Text
   pub in_place : LowersInPlace o moved lowered later_names
-  -- and last, where helpers are not properties of `babelHelpers`, the program imports those that it calls: it stays a program that breaks no
+  -- then, where helpers are not properties of `babelHelpers`, the program imports those that it calls: it stays a program that breaks no
   -- static rule, each name keeps its binding, and it asks for the same modules but for those of the helpers, and exports the same names.
+  pub imported : Tree
   pub last_names : List Text
-  pub imports : Imports (imports_helpers o (not (names_helpers source)) moved) (string_bytes o.helper_loader.module_name) lowered written last_names
-  pub is_imported : imports_helpers o (not (names_helpers source)) moved ≡ true → IsImported (string_bytes o.helper_loader.module_name) lowered written last_names
+  pub imports : Imports (imports_helpers o (not (names_helpers source)) moved) (string_bytes o.helper_loader.module_name) lowered imported last_names
+  pub is_imported : imports_helpers o (not (names_helpers source)) moved ≡ true → IsImported (string_bytes o.helper_loader.module_name) lowered imported last_names
+  -- And last the constructors of classes that extend others set their name for `this` behind `super(..)`, by steps of a row that does so: each name
+  -- keeps its binding, what is written has form, keeps all static rules, asks for the same modules and exports the same names.
+  pub sets : Sets (sets_this o source) later_names imported written
+  pub is_set : IsSet (sets_this o source) imported written
   pub all_names : names ≡ context_names ++ first_names ++ later_names ++ last_names
   -- no construct is left that the options ask to lower
   pub none : has_enabled_construct o written ≡ false
-  -- In a core program no `using` stands, no pattern moves and no helper is imported, nor where neither `using` nor an object rest or spread is
-  -- taken: the source itself and what is written run alike (`LowersInPlace`).
+  -- In a core program no `using` stands, no pattern moves, no helper is imported and no constructor stands, nor in one of statements where neither
+  -- `using` nor an object rest or spread is taken: the source itself and what is written run alike (`LowersInPlace`).
   pub core : IsCoreProgram source → IsCoreResult o source written names
   pub statements : using_there o source ≡ false → rests_there o source ≡ false → imports_helpers o (not (names_helpers source)) source ≡ false → RunsAsStatements o source → RunAlike (supply_there o source) (assumes_no_all o source) source written
   -- where the options ask for no construct of the source, nothing is changed
   pub unchanged : has_enabled_construct o source ≡ false → IsAsBefore source written names
-  -- the nodes of the source and of what is written, with those of the imports
-  pub size : tree_size written ≤ most_for_each (using_there o source) (rests_there o source) * tree_size source + (if imports_helpers o (not (names_helpers source)) moved then 82 else 64)
+  -- the nodes of the source and of what is written, with those of the imports: where a name is set behind `super(..)`, twice as many
+  pub size : tree_size written ≤ (if sets_this o source then 2 else 1) * (most_for_each (using_there o source) (rests_there o source) * tree_size source + (if imports_helpers o (not (names_helpers source)) moved then 82 else 64))

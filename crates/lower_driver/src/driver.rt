@@ -1,6 +1,6 @@
 //! One run: a program is read and checked, its `using` is lowered, patterns with an object rest move to declarations, it is
 //! visited once by the lowerings that its options ask for, walked for its arrows and for its object rests, its helpers are
-//! imported, and it is written.
+//! imported, its constructors set their name for `this`, and it is written.
 ghost use Rattle.std.specs.Prelude.{◌≡◌, ◌<◌, ◌∷◌, ◌^◌, [], IfErr, IfOk, None, false, map, string_bytes, true};
 ghost use Rattle.serde_json.specs.View.{view};
 ghost use Rattle.es_tree.specs.Constructs.{has_enabled_construct};
@@ -22,6 +22,7 @@ ghost use Rattle.lower_driver.specs.Lowers.{Lowers, LowersInPlace};
 ghost use Rattle.lower_driver.specs.Sources.{IsCauseOrMemory, IsValueCauseOrMemory, ReadsAs};
 ghost use Rattle.lower_driver.specs.UnsupportedPrograms.{Finds, IsFirstOrMemory, IsTreeCauseOrMemory, IsUnsupportedOrMemory, first_refused};
 
+use crate::constructors::{set_this, sets_this};
 use crate::copies::copy_options;
 use crate::importing::import_helpers;
 use crate::moving::move_patterns;
@@ -71,19 +72,25 @@ pub struct Lowered {
 
 /// Lowers the program that the value is the form of, as the options ask: its logical assignments, `??`, optional chains,
 /// catch clauses without a parameter, exports of namespaces, spreads in object literals, object rests in declarations,
-/// parameters, catch clauses and heads of loops, `using` in bodies, blocks, `switch` and the heads of `for`, exponentiations and
-/// arrow functions, in programs of every kind. A program in which no construct stands that they ask to lower comes back as it is. Where they ask for warnings, of
-/// BigInt literals (ECMA-262, 12.9.3) or of strings that name imports and exports (16.2), it answers one for each of
-/// these in the source.
+/// parameters, catch clauses and heads of loops, `using` in bodies, blocks, `switch` and the heads of `for`,
+/// exponentiations and arrow functions, in programs of every kind. A program in which no construct stands that they ask
+/// to lower comes back as it is. Where they ask for warnings, of BigInt literals (ECMA-262, 12.9.3) or of strings that
+/// name imports and exports (16.2), it answers one for each of these in the source.
 ///
 /// Fails for the first of these causes that holds: `Option` where the options ask for what isn't done; `TooLarge`,
 /// `TooDeep` and `Shape` as `read_program` has them; `Invalid` as `check_static` has it; `Unsupported` at the first node
 /// that the lowerings asked for don't take, of the program whose `using` was lowered and whose patterns moved, in which
 /// what is made has the id of the node that it is made for:
 ///
-/// - `NotBuilt`, a construct that no lowering takes away yet: a declaration by `using` where none is lowered (at the top of
-///   a module, directly in a static block or in a body with a function at its top, in the head of a `for-of`, and in a
-///   program that names `babelHelpers`), what holds an object rest where none is lowered, or a `this` in an arrow of a constructor whose class extends another;
+/// - `NotBuilt`, a construct that no lowering takes away yet: a declaration by `using` where none is lowered (at the top
+///   of a module, directly in a static block or in a body with a function at its top, in the head of a `for-of`, and in
+///   a program that names `babelHelpers`), what else holds an object rest where none is lowered, or a `this` in an arrow
+///   of a constructor whose class extends another, where the first `super(..)` may be no statement of its body's own
+///   list;
+/// - `RestParameter`, a function with an object rest in a parameter, and `HeadName`, a declarator of one in the head of
+///   a loop, where it can't move, since names would find something else, or be asked before they are set;
+/// - `RestInArray` and `RestNested`, what holds an object rest inside an array or a rest that is declared, or inside a
+///   part of the target of an assignment;
 /// - `MathBound`, an exponentiation where `Math` is bound;
 /// - `HelperName`, an object literal with a spread where `babelHelpers` is bound, or a declaration of an object rest, or
 ///   a pattern with one that moves to a declaration, in a program that binds it anywhere; and after all others, where
@@ -192,34 +199,36 @@ fn lower_constructs(
     ensures cause { IfErr result (λ error. IsUnsupportedOrMemory options.now read.program error) }
 {
     let free = names_no_helpers(&read.program);
+    let sets = sets_this(&read.program, options);
     let (used, mut names) = lower_using(alloc, read, options, free)?;
     let (moved, mut first) = move_patterns(alloc, used, options)?;
     let imports = HelperImports::of_program(&moved.program, options, free);
-    let (lowered, mut later) = lower_in_place(alloc, moved, options, free, imports)?;
-    let (program, mut last) = import_helpers(alloc, lowered, options, imports.are_asked())?;
+    let (lowered, ctx) = lower_in_place(alloc, moved, options, free, imports)?;
+    let (imported, mut last) = import_helpers(alloc, lowered, options, imports.are_asked())?;
+    let program = set_this(imported, &ctx, sets)?;
     names.append(&mut first)?;
-    names.append(&mut later)?;
+    names.append(&mut ctx.into_uids())?;
     names.append(&mut last)?;
     Ok((program, names))
 }
 
-/// A program in which no pattern moves any more, with its constructs lowered where they stand, and the names that were made, where its source
-/// names no `babelHelpers` itself, or does, and `imports` tells of its helpers. Fails where it has a shape that the lowerings don't take, and
-/// where memory runs out.
+/// A program in which no pattern moves any more, with its constructs lowered where they stand, and the context that made
+/// the names for it, where its source names no `babelHelpers` itself, or does, and `imports` tells of its helpers. Fails
+/// where it has a shape that the lowerings don't take, and where memory runs out.
 fn lower_in_place(
     alloc: Global,
     read: ReadProgram,
     options: &EnvOptions,
     free: bool,
     imports: HelperImports,
-) -> Result<(Node, Vec<String>), LowerError>
+) -> Result<(Node, TraverseCtx<TransformState>), LowerError>
     requires form { has_form s-Program read.program ≡ true }
     requires kept { breaks read.program ≡ [] }
     requires size { tree_size read.program < 2 ^ 23 }
     requires next { read.ast.next < 2 ^ 20 }
     requires carried { first_fault options.now ≡ None }
     requires told { Tells options.now free read.program imports }
-    ensures lowers { IfOk result (λ made. LowersInPlace options.now read.program made.0 (map string_bytes made.1.items)) }
+    ensures lowers { IfOk result (λ made. LowersInPlace options.now read.program made.0 (made_of made.1)) }
     ensures taken { IfOk result (λ _. first_refused options.now free read.program ≡ None) }
     ensures cause { IfErr result (λ error. IsFirstOrMemory options.now free read.program error) }
 {
@@ -240,7 +249,7 @@ fn lower_in_place(
     walk(&mut program, &mut ctx)?;
     take_rests(&mut program, &mut ctx)?;
     let program = program.close(alloc)?;
-    Ok((program, ctx.into_uids()))
+    Ok((program, ctx))
 }
 
 /// The context of the visit of this program, with nothing to declare. Fails only where memory runs out.

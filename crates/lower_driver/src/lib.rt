@@ -1,6 +1,7 @@
 //! One run: from a JSON value, or from the bytes of one, to the lowered program.
 #![tactic(auto)]
 
+mod constructors;
 mod copies;
 pub mod driver;
 mod importing;

@@ -6,9 +6,9 @@ ghost use Rattle.lower_driver.specs.Uses.{Uses, lowers_using, names_helpers};
 
 use es_json::program::ReadProgram;
 use es_move_nodes::standing::stands;
+use es_searches::{Sought, has_node};
 use es_tree::node::Node;
 use es_tree::options::EnvOptions;
-use lower_using::search::has_using;
 use std::alloc::{AllocError, Global};
 
 /// Lowers the `using` of a program, where the options ask for it and the program doesn't name `babelHelpers` itself. Answers the names that were
@@ -35,7 +35,7 @@ pub(crate) fn lower_using(
 fn asks_for_using(program: &Node, options: &EnvOptions, free: bool) -> bool
     ensures { result ≡ (options.now.es2026.explicit_resource_management && free && any_node is_using program.now) }
 {
-    options.es2026.explicit_resource_management && free && has_using(program)
+    options.es2026.explicit_resource_management && free && has_node(program, Sought::Using)
 }
 
 /// Whether `babelHelpers` is no name of the program.

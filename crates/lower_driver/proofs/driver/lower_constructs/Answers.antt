@@ -1,9 +1,11 @@
-use Rattle.std.proofs.Common.{◌≡◌, ◌∙◌, ◌++◌, List, None, ap, arith, is_some, map, subst, sym}
+use Rattle.std.proofs.Common.{◌≡◌, ◌∙◌, ◌++◌, List, None, ap, arith, map, subst, sym}
 use Rattle.std.specs.Prelude.{Bool, not, string_bytes}
 use Rattle.es_tree.specs.Words.{Text}
 use Rattle.es_helper_calls.specs.Importing.{imports_helpers}
+use Rattle.es_scope.specs.Contexts.{made_of}
 use Rattle.lower_driver.specs.Imports.{Imports}
-use Rattle.lower_driver.specs.Lowers.{Lowers}
+use Rattle.lower_driver.specs.Lowers.{Lowers, LowersInPlace}
+use Rattle.lower_driver.specs.Sets.{Sets, sets_this}
 use Rattle.lower_driver.specs.UnsupportedPrograms.{first_refused}
 use Rattle.lower_driver.specs.Uses.{names_helpers}
 use Rattle.lower_driver.proofs.Moved.{is-moved, map-joined}
@@ -50,18 +52,22 @@ returns-clause-lowers c =
     let o = c.args.options.now in
     let p = c.args.read.program in
     let q = c.in_ok-moved.moved.program in
+    let imported = c.in_ok-imported.imported in
     let written = c.in_ok-program.program in
     let contexts = c.in_ok-used.names.items in
     let first = c.in_ok-moved.first.items in
-    let later = c.in_ok-lowered.later.items in
-    let last = c.in_ok-program.last.items in
+    let later = c.into_uids.result.items in
+    let last = c.in_ok-imported.last.items in
     let free = c.names_no_helpers-free.ensures in
     let asked = c.are_asked.ensures o c.names_no_helpers-free.result q c.of_program-imports.ensures ∙ ap (λ b. imports_helpers o b q) free in
-    let imports : Imports (imports_helpers o (not (names_helpers p)) q) (string_bytes o.helper_loader.module_name) c.in_ok-lowered.lowered written (map string_bytes last) =
-    subst (λ (on : Bool). Imports on (string_bytes o.helper_loader.module_name) c.in_ok-lowered.lowered written (map string_bytes last)) asked c.in_ok-program.ensures.imports in
+    let imports : Imports (imports_helpers o (not (names_helpers p)) q) (string_bytes o.helper_loader.module_name) c.in_ok-lowered.lowered imported (map string_bytes last) =
+    subst (λ (on : Bool). Imports on (string_bytes o.helper_loader.module_name) c.in_ok-lowered.lowered imported (map string_bytes last)) asked c.in_ok-imported.ensures.imports in
+    let in_place : LowersInPlace o q c.in_ok-lowered.lowered (map string_bytes later) = subst (λ (names : List Text). LowersInPlace o q c.in_ok-lowered.lowered names) (sym c.into_uids.ensures) c.in_ok-lowered.ensures.lowers in
+    let sets : Sets (sets_this o p) (map string_bytes later) imported written =
+    subst (λ (names : List Text). Sets (sets_this o p) names imported written) (sym c.into_uids.ensures) (subst (λ (on : Bool). Sets on (made_of c.in_ok-lowered.ctx) imported written) c.sets_this-sets.ensures c.in_ok-program.ensures) in
     let none : first_refused o (not (names_helpers p)) q ≡ None = subst (λ (b : Bool). first_refused o b q ≡ None) free c.in_ok-lowered.ensures.taken in
     let made : Lowers o p written (map string_bytes contexts ++ map string_bytes first ++ map string_bytes later ++ map string_bytes last) =
-    lowers o p c.in_ok-used.used.program q c.in_ok-lowered.lowered written (map string_bytes contexts) (map string_bytes first) (map string_bytes later) (map string_bytes last) c.requires.form c.requires.kept c.in_ok-used.ensures.uses c.in_ok-moved.ensures.moves none c.in_ok-lowered.ensures.lowers imports c.requires.some in
+    lowers o p c.in_ok-used.used.program q c.in_ok-lowered.lowered imported written (map string_bytes contexts) (map string_bytes first) (map string_bytes later) (map string_bytes last) c.requires.form c.requires.kept c.in_ok-used.ensures.uses c.in_ok-moved.ensures.moves none in_place imports sets c.requires.some in
     let joined =
     ap (map string_bytes) (c.in_ok-append-3.ensures.items ∙ ap (λ xs. xs ++ last) (c.in_ok-append-2.ensures.items ∙ ap (λ xs. xs ++ later) c.in_ok-append.ensures.items)) ∙ map-joined string_bytes ((contexts ++ first) ++ later) last
     ∙ ap (λ xs. xs ++ map string_bytes last) (map-joined string_bytes (contexts ++ first) later ∙ ap (λ xs. xs ++ map string_bytes later) (map-joined string_bytes contexts first)) in

@@ -1,7 +1,6 @@
-use Rattle.std.proofs.Common.{◌≡◌, ◌<◌, ◌^◌, List, None, is_some, sym, refl, ap, ◌∙◌, subst}
+use Rattle.std.proofs.Common.{◌≡◌, ◌<◌, ◌^◌, None, is_some, sym, refl, ap, ◌∙◌, subst}
 use Rattle.es_tree.specs.Bare.{bare}
 use Rattle.es_tree.specs.Tree.{Tree}
-use Rattle.es_tree.specs.Words.{Text}
 use Rattle.es_tree.specs.declared.builder.AstBuilder.{AstBuilder}
 use Rattle.es_tree.specs.declared.options.EnvOptions.{EnvOptions}
 use Rattle.es_scope.specs.Contexts.{BindsNamesOf, made_of}
@@ -119,4 +118,4 @@ returns-clause-lowers c =
     let u = c.take_rests.new.program in
     let rests = subst (λ (a : EnvOptions). AreTaken (is_some a.es2018.object_rest_spread) after z d u) arrived.options c.in_ok-take_rests.ensures.taken in
     let made : LowersInPlace o p (plain_program u) (made_of d) = becomes o ctx.options e.options p c.requires.form c.requires.kept taken ctx.ast.next z u after d arrived rests in
-    subst (λ (names : List Text). LowersInPlace o p c.in_ok-program.program names) (sym c.into_uids.ensures) (subst (λ (t : Tree). LowersInPlace o p t (made_of d)) (sym c.in_ok-program.ensures) made)
+    subst (λ (t : Tree). LowersInPlace o p t (made_of d)) (sym c.in_ok-program.ensures) made
