@@ -66,19 +66,33 @@ function statement(depth, scope) {
     return `function f${number}(${list}) { ${directive}${statements(depth - 1, own)} } f${number}.call(value(${place()}));`;
   }
   if (kind === 5) return `for (const each${number} of [1, 2]) ${expression(depth - 1, scope)};`;
-  if (kind === 6) return `class C${number} { ${Array.from({ length: 1 + below(3) }, (_, index) => member(depth - 1, scope, index)).join(' ')} } all(C${number});`;
+  if (kind === 6) return declaredClass(number, depth, scope);
   if (kind === 7) return `try { ${statements(depth - 1, scope)} throw 0; } catch (error${number}) { ${statements(depth - 1, scope)} }`;
   return `var _this${below(3) === 0 ? '' : below(4) + 2} = ${expression(depth - 1, scope)};`;
 }
 
-function member(depth, scope, index) {
+function declaredClass(number, depth, scope) {
+  const isDerived = below(2) === 0;
+  const members = Array.from({ length: 1 + below(3) }, (_, index) => member(depth - 1, scope, index, isDerived));
+  return `class C${number}${isDerived ? ` extends base(${place()})` : ''} { ${members.join(' ')} } all(C${number});`;
+}
+
+/** A constructor: in that of a class that extends another there is no `this` before `super(..)`, but arrows may be made that ask for it later. */
+function constructing(depth, isDerived) {
+  if (!isDerived) return `constructor() { ${statements(depth, own)} }`;
+  const late = place();
+  const before = { hasThis: false };
+  return `constructor() { ${statements(depth, before)} const late${late} = () => see(${late}, this); super(${expression(depth, before)}); late${late}(); ${statements(depth, own)} }`;
+}
+
+function member(depth, scope, index, isDerived) {
   const kind = below(7);
   if (kind === 0) return `m${index}(${parameters(depth, scope)}) { ${statements(depth, own)} }`;
   if (kind === 1) return `get g${index}() { ${statements(depth, own)} return ${expression(depth, own)}; }`;
   if (kind === 2) return `static { ${statements(depth, own)} }`;
   if (kind === 3) return `f${index} = ${expression(depth, { hasThis: false })};`;
   if (kind === 4) return `static f${index} = ${expression(depth, { hasThis: false })};`;
-  if (kind === 5 && index === 0) return `constructor() { ${statements(depth, own)} }`;
+  if (kind === 5 && index === 0) return constructing(depth, isDerived);
   return `[key(${expression(depth, scope)})]() { ${statements(depth, own)} }`;
 }
 
@@ -122,6 +136,7 @@ function evaluated(text) {
     see: (number, object) => { told.push(`${number}:${named(object)}`); return object; },
     value: number => { told.push(`${number}`); return { number }; },
     key: () => `k${told.length}`,
+    base: number => class { constructor() { told.push(`${number}`); } },
     run: (number, f) => { told.push(`${number}(`); const result = f.call({ other: true }); told.push(')'); return result; },
     all: C => {
       const object = new C();

@@ -31,7 +31,7 @@ function main() {
   let differing = 0;
   let seen = 0;
   for (const [index, { status, stdout, stderr }] of runs.entries()) {
-    if (status === 1 && stderr.startsWith('lower: unsupported NotBuilt')) {
+    if (status === 1 && /^lower: unsupported (NotBuilt|HeadName|Rest\w+) /.test(stderr)) {
       refused += 1;
       continue;
     }
@@ -134,7 +134,10 @@ function pattern() {
 
 function property() {
   const name = bound();
-  return pick([name, `${name} = ${value()}`, `p${below(3)}: ${name}`, `"p${below(3)}": ${name} = ${value()}`]);
+  return pick([
+    name, `${name} = ${value()}`, `p${below(3)}: ${name}`, `"p${below(3)}": ${name} = ${value()}`,
+    `["p${below(3)}"]: ${name}`, `${pick(['0', '0x0', '0n', '[0]', '[0n]'])}: ${name}`,
+  ]);
 }
 
 function value() {

@@ -57,7 +57,11 @@ function isRestPattern({ type, properties }) {
 }
 
 function hasPlainKeys({ properties }) {
-  return properties.every(({ type, computed, key }) => type === 'RestElement' || (!computed && ['Identifier', 'StringLiteral'].includes(key.type)));
+  return properties.every(({ type, computed, key }) => type === 'RestElement' || isLiteral(key) || (!computed && key.type === 'Identifier'));
+}
+
+function isLiteral({ type }) {
+  return ['BigIntLiteral', 'NumericLiteral', 'StringLiteral'].includes(type);
 }
 
 /** Whether the tool is taken as its sources stand, before any proof. */

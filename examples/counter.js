@@ -1,0 +1,9 @@
+class Counter extends Emitter {
+  constructor(start) {
+    super();
+    this.count = start;
+    this.on("step", size => {
+      this.count += size;
+    });
+  }
+}
