@@ -19,7 +19,7 @@ calls_it-bare (statements ts then fs) = refl
 call-bare : (t : Tree) → is_super_call (bare t) ≡ is_super_call t
 call-bare (node k l fs) = λ i. same_type k CallExpression && calls_it-bare fs i
 
-statement-bare : (t : Tree) → is_super_statement (bare t) ≡ is_super_statement t
+pub statement-bare : (t : Tree) → is_super_statement (bare t) ≡ is_super_statement t
 statement-bare (node ExpressionStatement l done) = refl
 statement-bare (node ExpressionStatement l (missing then fs)) = refl
 statement-bare (node ExpressionStatement l (one t then done)) = call-bare t

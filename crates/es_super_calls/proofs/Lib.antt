@@ -1,2 +1,3 @@
 pub mod CallTests
 pub mod BareCalls
+pub mod BareStandings

@@ -1,6 +1,6 @@
 -- What slots are wrapped for, what is known of places, and what stands in the way of arrows look at no mark and no id.
 use Rattle.std.proofs.Common.{◌≡◌, ◌∙◌, ℕ, zero, suc, ◌==◌, Bool, ◌&&◌, ◌||◌, not, Option, Some, None, is_some, bytes_eq, codes, if◌then◌else◌, List, refl, sym, ap}
-use Rattle.es_tree.specs.Ancestors.{ancestor, is_class, is_field_value, leads_by}
+use Rattle.es_tree.specs.Ancestors.{ancestor, is_field_value}
 use Rattle.es_tree.specs.Bare.{bare, bare_field, bare_fields, bare_label, bare_trees}
 use Rattle.es_tree.specs.Constructs.{field_at, is_chain, is_logical_assignment, is_nullish_coalescing, is_private_target, is_rest}
 use Rattle.es_tree.specs.HasForm.{same_type}
@@ -9,7 +9,7 @@ use Rattle.es_tree.specs.StaticRules.{is_accessor_word}
 use Rattle.es_tree.specs.Tree.{Tree, node, Label, Fields, done, ◌then◌, Field, missing, one, many, statements, Trees, empty, ◌before◌}
 use Rattle.es_tree.specs.Walks.{NodeTest}
 use Rattle.es_tree.specs.declared.ast_type.AstType.{AstType}
-use Rattle.es_tree.specs.declared.ast_type.AstType.TheVariants.{ArrowFunctionExpression, AssignmentExpression, ChainExpression, LogicalExpression, MemberExpression, MethodDefinition, ObjectProperty, ObjectTarget, ThisExpression, UnaryExpression}
+use Rattle.es_tree.specs.declared.ast_type.AstType.TheVariants.{ArrowFunctionExpression, AssignmentExpression, ChainExpression, LogicalExpression, MemberExpression, ObjectProperty, ObjectTarget, ThisExpression, UnaryExpression}
 use Rattle.es_tree.specs.declared.error.UnsupportedKind.TheVariants.{ArrowOuter, ArrowThis}
 use Rattle.es_tree.specs.declared.options.EnvOptions.{EnvOptions}
 use Rattle.es_semantic.specs.Places.{is_inside}
@@ -19,10 +19,13 @@ use Rattle.es_steps.specs.WrapRule.{is_member_target, is_rest_target, is_wrapped
 use Rattle.es_arrow_steps.specs.ThisFits.{reaches_in}
 use Rattle.es_valid_steps.specs.ArrowNodes.{is_arrow_accessor, is_kind_within, is_this_within}
 use Rattle.es_valid_arrows.specs.ArrowPlaces.{parameter_in}
+use Rattle.es_super_calls.specs.Constructors.{is_constructor}
+use Rattle.es_super_calls.specs.declared.standing.ClassStanding.{ClassStanding}
 use Rattle.es_super_calls.proofs.BareCalls.{stray_super-bare}
+use Rattle.es_super_calls.proofs.BareStandings.{standing-bare}
 use Rattle.es_unsupported.specs.ArrowShapes.{arrow_place_in, arrow_shape, inner_shape}
 use Rattle.es_unsupported.specs.declared.arrow_places.ArrowPlace.{ArrowPlace}
-use Rattle.es_unsupported.proofs.BareNodes.{child-bare, exponentiation-bare, field_at-bare, first_member-bare, has_child-bare, kind-bare, kind_within-bare, private-target-bare}
+use Rattle.es_unsupported.proofs.BareNodes.{child-bare, exponentiation-bare, field_at-bare, first_member-bare, kind-bare, kind_within-bare, private-target-bare}
 
 -- WHAT A SLOT IS WRAPPED FOR
 
@@ -86,24 +89,23 @@ wrapped-bare o = holds-field-bare (is_wrapped_for o) (wrapped_for-bare o)
 
 -- PLACES
 
--- what is known of what stands in a field, where it is known whether that holds what a slot is wrapped for, whether the node has a second
--- child, and whether a call of `super` strays in it
-abbrev place_with : EnvOptions → Bool → ArrowPlace → AstType → Label → ℕ → Bool → Bool → Bool → ArrowPlace
-place_with o binds q k l i held second stray =
+-- what is known of what stands in a field, where it is known whether that holds what a slot is wrapped for, how it stands, and whether a call
+-- of `super` strays in the node
+abbrev place_with : EnvOptions → Bool → ArrowPlace → AstType → Label → ℕ → Bool → ClassStanding → Bool → ArrowPlace
+place_with o binds q k l i held standing stray =
     let a = ancestor k l done i 0 in
     let wrapped = (is_field_value a || (leads_to_value a && q.parameter)) && held in
     if is_some o.es2015.arrow_function then record {
       in_arrow = wrapped || (not (keeps_this a) && (same_type k ArrowFunctionExpression || q.in_arrow));
       parameter = parameter_in q.parameter a;
       reaches = reaches_in q.reaches a;
-      derived_member = is_class k && i == 2 && second;
-      derived_constructor = q.derived_member && leads_by MethodDefinition 1 a && bytes_eq (first_text l.texts) (codes "constructor");
-      stray_super = if keeps_this a then q.derived_constructor && i == 2 && stray else q.stray_super;
+      standing = standing;
+      stray_super = if keeps_this a then is_constructor q.standing && i == 2 && stray else q.stray_super;
       own_arguments = (not (wrapped || same_type k ArrowFunctionExpression) && q.own_arguments) || (binds && is_inside k i);
     } else q
 
 place-bare : (o : EnvOptions) (binds : Bool) (q : ArrowPlace) (k : AstType) (l : Label) (fs : Fields) (i : ℕ) (f : Field) → arrow_place_in o binds q k (bare_label l) (bare_fields fs) i (bare_field f) ≡ arrow_place_in o binds q k l fs i f
-place-bare o binds q k l fs i f = λ j. place_with o binds q k l i (wrapped-bare o f j) (has_child-bare 1 fs j) (stray_super-bare fs j)
+place-bare o binds q k l fs i f = λ j. place_with o binds q k l i (wrapped-bare o f j) (standing-bare q.standing k l fs i j) (stray_super-bare fs j)
 
 -- so it is where two nodes and two fields differ in marks alone
 pub place-marked : (o : EnvOptions) (binds : Bool) (q : ArrowPlace) (k : AstType) (l : Label) (ms : List (Option ℕ)) (fs gs : Fields) (i : ℕ) (f g : Field) → bare_fields gs ≡ bare_fields fs → bare_field g ≡ bare_field f →

@@ -2,18 +2,17 @@
 -- own, an arrow none: what is written in an arrow belongs to what is around it. A `this` becomes a name that is declared in the list of the
 -- statements around, which it has to reach. So it is with the value of a slot that is wrapped, which becomes the body of an arrow.
 use Rattle.std.specs.Prelude.{◌&&◌, ◌||◌, not, ℕ, ◌==◌, List, Bool, true, false, Option, Some, None, is_some, bytes_eq, codes, if◌then◌else◌}
-use Rattle.es_tree.specs.Ancestors.{ancestor, is_class, leads_by}
+use Rattle.es_tree.specs.Ancestors.{ancestor}
 use Rattle.es_tree.specs.Children.{child_at}
 use Rattle.es_tree.specs.HasForm.{same_type}
 use Rattle.es_tree.specs.Names.{first_text}
 use Rattle.es_tree.specs.Tree.{Label, Fields, done, Field}
 use Rattle.es_tree.specs.declared.ast_type.AstType.{AstType}
-use Rattle.es_tree.specs.declared.ast_type.AstType.TheVariants.{ArrowFunctionExpression, FunctionBody, Identifier, MetaProperty, MethodDefinition, Super, ThisExpression, UnaryExpression}
+use Rattle.es_tree.specs.declared.ast_type.AstType.TheVariants.{ArrowFunctionExpression, FunctionBody, Identifier, MetaProperty, Super, ThisExpression, UnaryExpression}
 use Rattle.es_tree.specs.declared.error.UnsupportedKind.{UnsupportedKind}
 use Rattle.es_tree.specs.declared.error.UnsupportedKind.TheVariants.{ArrowOuter, ArrowThis, NotBuilt}
 use Rattle.es_tree.specs.declared.options.EnvOptions.{EnvOptions}
 use Rattle.es_semantic.specs.Places.{is_inside, makes_scope}
-use Rattle.es_semantic.specs.RolesOf.{extends}
 use Rattle.es_semantic.specs.SymbolsOf.{Declared, is_bound}
 use Rattle.es_semantic.specs.declared.place.Role.{Role}
 use Rattle.es_semantic.specs.declared.place.Role.TheVariants.{Nothing, Binds}
@@ -21,14 +20,16 @@ use Rattle.es_steps.specs.ThisPlaces.{keeps_this}
 use Rattle.es_arrow_steps.specs.ThisFits.{reaches_in}
 use Rattle.es_valid_steps.specs.ArrowNodes.{is_arrow_accessor, is_this_within}
 use Rattle.es_valid_arrows.specs.ArrowPlaces.{arrow_in, is_wrapped_slot, parameter_in}
+use Rattle.es_super_calls.specs.Constructors.{is_constructor, standing_in}
 use Rattle.es_super_calls.specs.SuperCalls.{has_stray_super}
+use Rattle.es_super_calls.specs.declared.standing.ClassStanding.TheVariants.{Elsewhere}
 use Rattle.es_unsupported.specs.declared.arrow_places.ArrowPlace.{ArrowPlace}
 
 -- PLACES
 
 -- what is known of a program
 abbrev pub outside : ArrowPlace
-outside = record { in_arrow = false; parameter = false; reaches = true; derived_member = false; derived_constructor = false; stray_super = false; own_arguments = false }
+outside = record { in_arrow = false; parameter = false; reaches = true; standing = Elsewhere; stray_super = false; own_arguments = false }
 
 -- Whether a scope of a node of this kind may bind an `arguments` that stays as it is where the arrow around is a function: that of a body
 -- doesn't, since a `var` of this name finds the function's own there (10.2.11).
@@ -47,9 +48,8 @@ arrow_place_in o binds q k l fs i f =
       in_arrow = arrow_in o q.in_arrow q.parameter a f;
       parameter = parameter_in q.parameter a;
       reaches = reaches_in q.reaches a;
-      derived_member = is_class k && i == 2 && extends fs;
-      derived_constructor = q.derived_member && leads_by MethodDefinition 1 a && bytes_eq (first_text l.texts) (codes "constructor");
-      stray_super = if keeps_this a then q.derived_constructor && i == 2 && has_stray_super fs else q.stray_super;
+      standing = standing_in q.standing k l fs i;
+      stray_super = if keeps_this a then is_constructor q.standing && i == 2 && has_stray_super fs else q.stray_super;
       own_arguments = (not (is_wrapped_slot o q.parameter a f || same_type k ArrowFunctionExpression) && q.own_arguments) || (binds && is_inside k i);
     } else q
 

@@ -1,25 +1,25 @@
 //! What is known of places, as far as arrows that become functions ask (ECMA-262, 15.3). Fields count from 0.
-ghost use Rattle.std.specs.Prelude.{◌≡◌, ◌&&◌, ◌||◌, ◌==◌, bytes_eq, codes, if◌then◌else◌, not};
-ghost use Rattle.es_tree.specs.Ancestors.{ancestor, leads_by};
+ghost use Rattle.std.specs.Prelude.{◌≡◌, ◌&&◌, ◌||◌, ◌==◌, if◌then◌else◌, not};
+ghost use Rattle.es_tree.specs.Ancestors.{ancestor};
 ghost use Rattle.es_tree.specs.HasForm.{same_type};
-ghost use Rattle.es_tree.specs.Names.{first_text};
 ghost use Rattle.es_tree.specs.Tree.{done, fields_of, kind_of, label_of};
 ghost use Rattle.es_tree.specs.Views.{plain_field};
-ghost use Rattle.es_tree.specs.declared.ast_type.AstType.TheVariants.{ArrowFunctionExpression, MethodDefinition};
+ghost use Rattle.es_tree.specs.declared.ast_type.AstType.TheVariants.{ArrowFunctionExpression};
 ghost use Rattle.es_semantic.specs.Places.{is_inside};
 ghost use Rattle.es_steps.specs.ThisPlaces.{keeps_this};
 ghost use Rattle.es_arrow_steps.specs.ThisFits.{reaches_in};
 ghost use Rattle.es_valid_arrows.specs.ArrowPlaces.{is_wrapped_slot, parameter_in};
+ghost use Rattle.es_super_calls.specs.Constructors.{is_constructor};
 ghost use Rattle.es_super_calls.specs.SuperCalls.{has_stray_super};
 ghost use Rattle.es_unsupported.specs.ArrowShapes.{arrow_place_in, outside};
 
 use crate::edges::{
-    is_arrow, is_field_value, keeps_this, leads_to_constructor, leads_to_derived_member,
-    leads_to_parameter, leads_to_part, leads_to_value,
+    is_arrow, is_field_value, keeps_this, leads_to_parameter, leads_to_part, leads_to_value,
 };
 use crate::scopes::is_inside_at;
 use es_slots::wrapped::field_holds;
 use es_super_calls::calls::has_stray_super;
+use es_super_calls::standing::ClassStanding;
 use es_tree::kind::Kind;
 use es_tree::node::{Field, Node};
 use es_tree::options::EnvOptions;
@@ -33,10 +33,8 @@ pub struct ArrowPlace {
     pub parameter: bool,
     /// A `this` there reaches the list of the statements in which its name would be declared.
     pub reaches: bool,
-    /// What stands there is a member of a class that extends another.
-    pub derived_member: bool,
-    /// It is the function of a constructor of such a class.
-    pub derived_constructor: bool,
+    /// What it is to the constructors of classes that extend others.
+    pub standing: ClassStanding,
     /// A `this` there is that of the body of such a constructor, whose first call of `super` may be no statement of the
     /// body's own list.
     pub stray_super: bool,
@@ -53,8 +51,7 @@ impl ArrowPlace {
             in_arrow: false,
             parameter: false,
             reaches: true,
-            derived_member: false,
-            derived_constructor: false,
+            standing: ClassStanding::Elsewhere,
             stray_super: false,
             own_arguments: false,
         }
@@ -80,8 +77,7 @@ impl ArrowPlace {
             in_arrow: self.arrow_in(node, index, wrapped),
             parameter: self.parameter_in(node, index),
             reaches: self.reaches_in(node, index),
-            derived_member: leads_to_derived_member(node, index),
-            derived_constructor: self.derived_constructor_in(node, index),
+            standing: self.standing.inside(node, index),
             stray_super: self.stray_super_in(node, index),
             own_arguments: self.own_arguments_in(node, index, wrapped, binds),
         }
@@ -94,17 +90,13 @@ impl ArrowPlace {
         wrapped || (!keeps_this(node, index) && (is_arrow(node) || self.in_arrow))
     }
 
-    fn derived_constructor_in(self, node: &Node, index: usize) -> bool
-        ensures { result ≡ (self.derived_member && leads_by MethodDefinition 1 (ancestor (kind_of node.now) (label_of node.now) done index 0) && bytes_eq (first_text (label_of node.now).texts) (codes "constructor")) }
-    {
-        self.derived_member && leads_to_constructor(node, index)
-    }
-
     fn stray_super_in(self, node: &Node, index: usize) -> bool
-        ensures { result ≡ (if keeps_this (ancestor (kind_of node.now) (label_of node.now) done index 0) then self.derived_constructor && index == 2 && has_stray_super (fields_of node.now) else self.stray_super) }
+        ensures { result ≡ (if keeps_this (ancestor (kind_of node.now) (label_of node.now) done index 0) then is_constructor self.standing && index == 2 && has_stray_super (fields_of node.now) else self.stray_super) }
     {
         if keeps_this(node, index) {
-            self.derived_constructor && index == 2 && has_stray_super(node)
+            matches!(self.standing, ClassStanding::Constructor)
+                && index == 2
+                && has_stray_super(node)
         } else {
             self.stray_super
         }
