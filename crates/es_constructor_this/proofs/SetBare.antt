@@ -1,50 +1,18 @@
 -- What is set is told by kinds, texts and shapes, and the nodes made have neither ids nor marks: so what a tree becomes is bare where the tree is.
 use Rattle.std.proofs.Common.{◌≡◌, ◌∙◌, ℕ, zero, suc, refl, ap, sym}
-use Rattle.std.specs.Prelude.{Bool, true, false, ◌&&◌, ◌==◌, Option, Some, None, bytes_eq, codes, if◌then◌else◌, is_some}
-use Rattle.es_tree.specs.Ancestors.{is_class}
+use Rattle.std.specs.Prelude.{Bool, true, false, ◌&&◌, Option, Some, None, if◌then◌else◌}
 use Rattle.es_tree.specs.Bare.{bare, bare_field, bare_fields, bare_label, bare_trees}
-use Rattle.es_tree.specs.Children.{child_at}
 use Rattle.es_tree.specs.HasForm.{same_type}
-use Rattle.es_tree.specs.Names.{first_text}
-use Rattle.es_tree.specs.Tree.{Tree, node, Label, Fields, done, ◌then◌, Field, missing, one, many, statements, Trees, empty, ◌before◌}
+use Rattle.es_tree.specs.Tree.{Tree, node, Fields, done, ◌then◌, Field, missing, one, many, statements, Trees, empty, ◌before◌}
 use Rattle.es_tree.specs.Words.{Text}
 use Rattle.es_tree.specs.declared.ast_type.AstType.{AstType}
-use Rattle.es_tree.specs.declared.ast_type.AstType.TheVariants.{CallExpression, ExpressionStatement, FunctionBody, FunctionExpression, Identifier, MethodDefinition, ThisExpression, VariableDeclaration, VariableDeclarator}
-use Rattle.es_super_calls.specs.Constructors.{is_body, is_constructor, is_member, standing_in}
-use Rattle.es_super_calls.specs.SuperCalls.{calls_it, is_super_call, is_super_statement}
+use Rattle.es_tree.specs.declared.ast_type.AstType.TheVariants.{FunctionBody, Identifier, ThisExpression, VariableDeclaration, VariableDeclarator}
+use Rattle.es_super_calls.specs.Constructors.{is_body, standing_in}
+use Rattle.es_super_calls.specs.SuperCalls.{is_super_statement}
 use Rattle.es_super_calls.specs.declared.standing.ClassStanding.{ClassStanding}
-use Rattle.es_super_calls.specs.declared.standing.ClassStanding.TheVariants.{Body, Constructor, Elsewhere, Member}
+use Rattle.es_super_calls.proofs.BareStandings.{standing-bare}
+use Rattle.es_super_calls.proofs.BareCalls.{statement-bare}
 use Rattle.es_constructor_this.specs.ConstructorThis.{is_made_name, is_this, is_var, set_behind, set_here, set_in_body, set_statement, set_statements, set_this, set_this_among, set_this_by, set_this_in, this_name, with_this_set, without_value}
-
--- CALLS of `super`
-
-calls-bare : (fs : Fields) → calls_it (bare_fields fs) ≡ calls_it fs
-calls-bare (one (node k l fs) then gs) = refl
-calls-bare fs = refl
-
-call-bare : (t : Tree) → is_super_call (bare t) ≡ is_super_call t
-call-bare (node k l fs) = λ i. same_type k CallExpression && calls-bare fs i
-
-statement-bare : (t : Tree) → is_super_statement (bare t) ≡ is_super_statement t
-statement-bare (node ExpressionStatement l (one t then done)) = call-bare t
-statement-bare (node k l fs) = refl
-
--- STANDINGS
-
-child-bare : (i : ℕ) (fs : Fields) → is_some (child_at i (bare_fields fs)) ≡ is_some (child_at i fs)
-child-bare i done = refl
-child-bare zero (missing then fs) = refl
-child-bare zero (one t then fs) = refl
-child-bare zero (many ts then fs) = refl
-child-bare zero (statements ts then fs) = refl
-child-bare (suc i) (f then fs) = child-bare i fs
-
-standing-bare : (s : ClassStanding) (k : AstType) (l : Label) (fs : Fields) → standing_in s k (bare_label l) (bare_fields fs) ≡ standing_in s k l fs
-standing-bare s k l fs = λ j i.
-    if is_class k && i == 2 && child-bare 1 fs j then Member
-    else if is_member s && same_type k MethodDefinition && i == 1 && bytes_eq (first_text l.texts) (codes "constructor") then Constructor
-    else if is_constructor s && same_type k FunctionExpression && i == 2 then Body
-    else Elsewhere
 
 -- WHAT IS SET
 
@@ -113,7 +81,7 @@ module _ (made : Text → Bool) where
     pub tree-bare : (s : ClassStanding) (t : Tree) → bare (set_this made s t) ≡ set_this made s (bare t)
     tree-bare s (node k l fs) =
         let c : ℕ → ClassStanding = standing_in s k l fs in
-        let inner : bare_fields (set_this_in made c fs) ≡ set_this_in made (standing_in s k (bare_label l) (bare_fields fs)) (bare_fields fs) = fields-bare c fs ∙ (λ i. set_this_in made (sym (standing-bare s k l fs) i) (bare_fields fs)) in
+        let inner : bare_fields (set_this_in made c fs) ≡ set_this_in made (standing_in s k (bare_label l) (bare_fields fs)) (bare_fields fs) = fields-bare c fs ∙ (λ i. set_this_in made (λ n. sym (standing-bare s k l fs n) i) (bare_fields fs)) in
         ap (λ (gs : Fields). node k (bare_label l) gs) (here-bare s k (set_this_in made c fs) ∙ ap (λ (gs : Fields). set_here made s k gs) inner)
 
     fields-bare : (c : ℕ → ClassStanding) (fs : Fields) → bare_fields (set_this_in made c fs) ≡ set_this_in made c (bare_fields fs)

@@ -1,6 +1,7 @@
--- The laws of constructors whose `this` is set behind `super(..)`: what a program becomes is one, it is no more than twice as large, and has no construct
--- more.
+-- The laws of constructors whose `this` is set behind `super(..)`: what a program becomes is reached by steps of the row, it is no more than twice as
+-- large, and has no construct more.
 use Rattle.std.specs.Prelude.{◌≡◌, ◌*◌, ◌≤◌, Bool, [], false, true}
+use Rattle.es_tree.specs.Bare.{bare}
 use Rattle.es_tree.specs.Constructs.{has_enabled_construct}
 use Rattle.es_tree.specs.HasForm.{has_form}
 use Rattle.es_tree.specs.StaticRules.{breaks}
@@ -8,28 +9,43 @@ use Rattle.es_tree.specs.Tree.{Tree, tree_size}
 use Rattle.es_tree.specs.Words.{Text}
 use Rattle.es_tree.specs.declared.options.EnvOptions.{EnvOptions}
 use Rattle.es_tree.specs.declared.table.Sort.TheVariants.{Program as s-Program}
-use Rattle.es_steps.specs.CoreRules.{where_on}
-use Rattle.es_steps.specs.Steps.{Ledger, Site, Spot}
-use Rattle.es_reached.specs.Reached.{IsResultOf}
+use Rattle.es_resolution.specs.Laws.{source}
+use Rattle.es_steps.specs.CoreBridge.{first_whole, names_among}
+use Rattle.es_steps.specs.FormLaws.{StepsKeepForm}
+use Rattle.es_steps.specs.Laws.{BindingsKeep, ReachedKeeps, nothing_beside}
+use Rattle.es_steps.specs.Open.{opened}
+use Rattle.es_steps.specs.Steps.{Step, Steps, Whole, the_program}
+use Rattle.es_module_names.specs.Laws.{StepsKeepOutside}
+use Rattle.es_valid_names.specs.Laws.{StepsKeepRules}
+use Rattle.es_valid_rests.specs.Laws.{with_rests}
 use Rattle.es_super_calls.specs.declared.standing.ClassStanding.{ClassStanding}
 use Rattle.es_super_calls.specs.declared.standing.ClassStanding.TheVariants.{Elsewhere}
 use Rattle.es_constructor_this.specs.ConstructorThis.{SetRow, set_this}
 
--- the row, where arrows are lowered
-abbrev pub set_rules : Bool → Site → Ledger → Spot → Ledger → Spot → Type 0
-set_rules on = where_on on SetRow
+-- STEPS OF THE ROW, those of the other lowerings among them, keep form,
+abbrev pub LawSetForm : Type 0
+LawSetForm = (o : EnvOptions) → StepsKeepForm (with_rests SetRow o)
 
--- what a program becomes by it, with no name made
-abbrev pub IsSet : Bool → Tree → Tree → Type 0
-IsSet on p q = IsResultOf (set_rules on) p q []
+-- what a module asks of others and exports,
+abbrev pub LawSetOutside : Type 0
+LawSetOutside = (o : EnvOptions) → StepsKeepOutside (with_rests SetRow o)
 
--- So it is of a program that has form and breaks no static rule, whatever names count as made.
-abbrev pub LawSet : Type 0
-LawSet = (made : Text → Bool) (p : Tree) → has_form s-Program p ≡ true → breaks p ≡ [] → IsSet true p (set_this made Elsewhere p)
+-- and all nineteen static rules, where the names of the program are bound and in use; and steps of the row alone keep
+abbrev pub LawSetRules : Type 0
+LawSetRules = (o : EnvOptions) → StepsKeepRules (with_rests SetRow o)
 
--- And such a program may stay as it is.
-abbrev pub LawUnset : Type 0
-LawUnset = (on : Bool) (p : Tree) → has_form s-Program p ≡ true → breaks p ≡ [] → IsSet on p p
+-- that each name is bound to what looking it up finds, and which one that is
+abbrev pub LawSetBound : Type 0
+LawSetBound = ReachedKeeps SetRow
+
+abbrev pub LawSetBindings : Type 0
+LawSetBindings = BindingsKeep SetRow
+
+-- STEPS LEAD THERE: what a program becomes that has form and breaks no static rule, whatever names count as made, is reached by steps of the row: with symbols
+-- from the program with symbols, with no name made; and as it is read it is the same but for ids and marks.
+abbrev pub LawSetSteps : Type 0
+LawSetSteps = (made : Text → Bool) (p : Tree) → has_form s-Program p ≡ true → breaks p ≡ [] →
+    (r : Tree) × (w : Whole) × Steps (Step SetRow the_program) (nothing_beside (first_whole p)) (opened (source p)) (nothing_beside w) (opened r) × (names_among w.made ≡ []) × (bare r ≡ bare (set_this made Elsewhere p))
 
 -- SIZE, of any tree
 abbrev pub LawSetSize : Type 0

@@ -1,3 +1,4 @@
 pub mod Lowered
 pub mod Moved
+pub mod Set
 pub mod Used

@@ -10,11 +10,11 @@ use Rattle.es_tree.specs.Words.{Text}
 use Rattle.es_tree.specs.declared.options.EnvOptions.{EnvOptions}
 use Rattle.es_tree.specs.declared.table.Sort.TheVariants.{Program as s-Program}
 use Rattle.es_super_calls.specs.declared.standing.ClassStanding.TheVariants.{Elsewhere}
-use Rattle.es_constructor_this.specs.Laws.{IsSet}
 use Rattle.es_constructor_this.proofs.SetConstructs.{law_set_none_proof}
-use Rattle.es_constructor_this.proofs.SetLaws.{law_set_proof, law_unset_proof}
 use Rattle.es_constructor_this.proofs.SetSizes.{law_set_size_proof}
 use Rattle.es_constructor_this.proofs.SetStays.{law_set_stays_proof}
+use Rattle.es_lowered.specs.Set.{IsSet}
+use Rattle.es_lowered.proofs.Set.{law_set_proof, law_unset_proof}
 use Rattle.lower_driver.specs.Sets.{Sets}
 
 module _ (on : Bool) (made : List Text) (imported written : Tree) (sets : Sets on made imported written) where

@@ -7,11 +7,11 @@ use Rattle.es_tree.specs.Walks.{any_node}
 use Rattle.es_tree.specs.Words.{Text}
 use Rattle.es_tree.specs.declared.options.EnvOptions.{EnvOptions}
 use Rattle.es_json.specs.Canonical.{canonical}
-use Rattle.es_constructor_this.specs.Laws.{IsSet}
 use Rattle.es_helper_calls.specs.Importing.{imports_helpers}
 use Rattle.es_helper_imports.specs.Laws.{IsImported}
 use Rattle.es_lowered.specs.Lowered.{IsLowered}
 use Rattle.es_lowered.specs.Moved.{IsMoved}
+use Rattle.es_lowered.specs.Set.{IsSet}
 use Rattle.es_lowered.specs.Used.{IsUsed}
 use Rattle.es_reached.specs.Reached.{IsCoreResult}
 use Rattle.es_statement_runs.specs.Runs.{RunAlike}
