@@ -57,7 +57,8 @@ fn top_declares(name: &str, statement: &Node) -> bool
     }
 }
 
-fn first_is_called(name: &str, fields: &[Field]) -> bool
+/// Whether the first of these fields is a node called by this name.
+pub fn first_is_called(name: &str, fields: &[Field]) -> bool
     ensures { result ≡ first_is_called name.now (plain_fields fields.now) }
 {
     match fields {
@@ -109,7 +110,7 @@ fn any_var_declares(name: &str, nodes: &[Node]) -> bool
 
 /// Whether this name is declared by `var`, or as a function, in what stands here, outside functions and static blocks.
 #[cycle(declared)]
-fn var_declares(name: &str, node: &Node) -> bool
+pub fn var_declares(name: &str, node: &Node) -> bool
     ensures { result ≡ var_declares name.now node.now }
 {
     if is_var_scope(&node.kind) {

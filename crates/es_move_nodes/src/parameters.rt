@@ -4,12 +4,11 @@ ghost use Rattle.es_tree.specs.Tree.{empty, trees};
 ghost use Rattle.es_tree.specs.Views.{plain_fields};
 ghost use Rattle.es_move_nodes.specs.MoveFields.{holds_plain_pattern, is_stuck, meets_value, moves_in_statements};
 ghost use Rattle.es_pattern_moves.specs.PatternMoves.{all_may_move, all_move, are_later, default_apart, is_later, is_rest_parameter, may_move, moves_from_arrow, moves_from_function, moves_with_body, pattern_of};
-ghost use Rattle.es_runs.specs.Duplication.{has_no_fields};
-ghost use Rattle.es_rest_shapes.specs.RestShapes.{any_tree, is_name};
+ghost use Rattle.es_rest_shapes.specs.RestShapes.{any_tree};
 
 use crate::bound::binds_let;
 use crate::standing::{meets, meets_among, meets_declared};
-use es_rest_nodes::patterns::{is_named_rest, is_plain_pattern};
+use es_rest_nodes::patterns::{is_name, is_named_rest, is_plain_pattern};
 use es_tree::kind::Kind;
 use es_tree::node::{Field, Node};
 
@@ -172,19 +171,4 @@ fn is_later(parameter: &Node) -> bool
         Kind::RestElement => is_named_rest(parameter),
         _ => is_name(parameter) || is_plain_pattern(parameter),
     }
-}
-
-fn is_name(node: &Node) -> bool
-    ensures { result ≡ is_name node.now }
-{
-    match &node.kind {
-        Kind::Identifier { .. } => has_no_fields(node.fields.as_slice()),
-        _ => false,
-    }
-}
-
-fn has_no_fields(fields: &[Field]) -> bool
-    ensures { result ≡ has_no_fields (plain_fields fields.now) }
-{
-    matches!(fields, [])
 }

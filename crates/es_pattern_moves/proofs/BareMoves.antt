@@ -98,7 +98,7 @@ module _ (x : Text) where
   both-bare ts us vs ws e d = any-append vs ws ∙ (λ i. e i || d i) ∙ sym (any-append ts us)
 
   mutual
-    binds-bare : (t : Tree) → list_any has_it (bound_identifiers (bare t)) ≡ list_any has_it (bound_identifiers t)
+    pub binds-bare : (t : Tree) → list_any has_it (bound_identifiers (bare t)) ≡ list_any has_it (bound_identifiers t)
     binds-bare (node Identifier l fs) = refl
     binds-bare (node ObjectPattern l fs) = first-binds fs
     binds-bare (node PatternProperty l fs) = second-binds fs
@@ -131,7 +131,7 @@ module _ (x : Text) where
 
 -- NAMES THAT STAND in a tree
 
-place-bare : (k : AstType) (l : Label) (n : ℕ) → is_name_place k (bare_label l) n ≡ is_name_place k l n
+pub place-bare : (k : AstType) (l : Label) (n : ℕ) → is_name_place k (bare_label l) n ≡ is_name_place k l n
 place-bare MemberExpression l (suc zero) = refl
 place-bare MethodDefinition l zero = refl
 place-bare PropertyDefinition l zero = refl
@@ -165,7 +165,7 @@ module _ (test : Text → Bool) where
     among-bare empty = refl
     among-bare (t before ts) = λ i. stands-bare true t i || among-bare ts i
 
-meets-bare : (p t : Tree) → meets (bare p) (bare t) ≡ meets p t
+pub meets-bare : (p t : Tree) → meets (bare p) (bare t) ≡ meets p t
 meets-bare p t = ap (λ (test : Text → Bool). stands_if test true (bare t)) (λ i x. binds-bare x p i) ∙ stands-bare (λ x. binds_name x p) true t
 
 meets-among-bare : (p : Tree) (ts : Trees) → meets_among (bare p) (bare_trees ts) ≡ meets_among p ts
@@ -214,7 +214,7 @@ here-bare x _ l fs = refl
 
 module _ (x : Text) where
   mutual
-    vars-bare : (t : Tree) → var_declares x (bare t) ≡ var_declares x t
+    pub vars-bare : (t : Tree) → var_declares x (bare t) ≡ var_declares x t
     vars-bare (node k l fs) = λ i. not (is_var_scope k) && (here-bare x k l fs i || vars-bare-in fs i)
 
     vars-bare-in : (fs : Fields) → var_in_fields x (bare_fields fs) ≡ var_in_fields x fs
@@ -315,7 +315,7 @@ some-bare ps ts = λ i. trees-bare is_rest_parameter parameter-bare ps i && all-
 
 -- NODES: what moves out of the one moves out of the other
 
-same-bools : (a b : Bool) → (a ≡ true → b ≡ true) → (b ≡ true → a ≡ true) → a ≡ b
+pub same-bools : (a b : Bool) → (a ≡ true → b ≡ true) → (b ≡ true → a ≡ true) → a ≡ b
 same-bools true b f g = sym (f refl)
 same-bools false true f g = g refl
 same-bools false false f g = refl

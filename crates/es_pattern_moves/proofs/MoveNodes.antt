@@ -56,18 +56,18 @@ use Rattle.es_rest_rows.proofs.PlainPatterns.{plain-holds}
 use Rattle.es_rest_shapes.specs.RestShapes.{any_tree, is_plain_pattern}
 
 -- a name that a pattern doesn't bind isn't declared by it
-pattern-apart : (b : Binding) (p : Tree) → has_form s-Binding p ≡ true → (y : Text) → binds_name y p ≡ false → bound_by (declared false (Binds b) p) y ≡ false
+pub pattern-apart : (b : Binding) (p : Tree) → has_form s-Binding p ≡ true → (y : Text) → binds_name y p ≡ false → bound_by (declared false (Binds b) p) y ≡ false
 pattern-apart b p h y e = binding-out false b y p h (and_right (is_asked false (Binds b)) (binds_name y p) e)
 
 -- HEADS OF LOOPS
 
 -- what the form of a loop says of its head
-record HeadForm (p e b : Tree) : Type 0 where
-  pattern : has_form s-Binding p ≡ true
-  value : has_form s-Expression e ≡ true
-  body : has_form s-Statement b ≡ true
+pub record HeadForm (p e b : Tree) : Type 0 where
+  pub pattern : has_form s-Binding p ≡ true
+  pub value : has_form s-Expression e ≡ true
+  pub body : has_form s-Statement b ≡ true
 
-head-form : (s : Sort) (k : AstType) (m l l' : Label) (p e b : Tree) → IsForEach k → has_form s (node k m (head_fields l l' p e b)) ≡ true → HeadForm p e b
+pub head-form : (s : Sort) (k : AstType) (m l l' : Label) (p e b : Tree) → IsForEach k → has_form s (node k m (head_fields l l' p e b)) ≡ true → HeadForm p e b
 head-form s k m l l' p e b each h = at k each h
   where
     head : Tree
@@ -87,11 +87,11 @@ head-form s k m l l' p e b each h = at k each h
     at k for_of h = parts (node_form s ForOfStatement m (head_fields l l' p e b) h).children
 
 -- and what is known of the parts of a loop at its place
-record HeadKnown (w : Whole) (e b : Tree) : Type 0 where
-  named : Named w.in_use w.free_symbol reads e
-  silent : declared false reads b ≡ []
+pub record HeadKnown (w : Whole) (e b : Tree) : Type 0 where
+  pub named : Named w.in_use w.free_symbol reads e
+  pub silent : declared false reads b ≡ []
 
-head-known : (n : Site) (w : Whole) (k : AstType) (m l l' : Label) (p e b : Tree) → IsForEach k → has_form s-Statement b ≡ true → Named w.in_use w.free_symbol n.role (node k m (head_fields l l' p e b)) → All Sound (node k m (head_fields l l' p e b)) → HeadKnown w e b
+pub head-known : (n : Site) (w : Whole) (k : AstType) (m l l' : Label) (p e b : Tree) → IsForEach k → has_form s-Statement b ≡ true → Named w.in_use w.free_symbol n.role (node k m (head_fields l l' p e b)) → All Sound (node k m (head_fields l l' p e b)) → HeadKnown w e b
 head-known n w k m l l' p e b for_in f h s = record { named = h.1.1.0; silent = quiet-body ForInStatement 2 b refl refl s.0.settled.1.1.0 s.1.1.1.0 f }
 head-known n w k m l l' p e b for_of f h s = record { named = h.1.1.0; silent = quiet-body ForOfStatement 2 b refl refl s.0.settled.1.1.0 s.1.1.1.0 f }
 

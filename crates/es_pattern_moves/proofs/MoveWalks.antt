@@ -85,26 +85,26 @@ module _ (Q : AstType → Label → Fields → Type 0) where
   pub all-flanks : (bs cs : List Tree) (t : Tree) (ts : Trees) → AllAmong Q (flanks_with bs t cs ts) → All Q t × AllAmong Q ts
   all-flanks bs cs t ts h = let k = all-joined (trees bs) (t before joined_trees (trees cs) ts) h in (k.0, all-joined (trees cs) ts k.1)
 
-named-flanks : (w : Whole) (r : Role) (bs cs : List Tree) (t : Tree) (ts : Trees) → NamedAll w.in_use w.free_symbol r (flanks_with bs t cs ts) → Named w.in_use w.free_symbol r t × NamedAll w.in_use w.free_symbol r ts
+pub named-flanks : (w : Whole) (r : Role) (bs cs : List Tree) (t : Tree) (ts : Trees) → NamedAll w.in_use w.free_symbol r (flanks_with bs t cs ts) → Named w.in_use w.free_symbol r t × NamedAll w.in_use w.free_symbol r ts
 named-flanks w r bs cs t ts h =
     let k = (named-joined w.in_use w.free_symbol r (trees bs) (t before joined_trees (trees cs) ts) h).1 in
     (k.0, (named-joined w.in_use w.free_symbol r (trees cs) ts k.1).1)
 
 -- WHAT IS KNOWN of a part at its place
 
-abbrev Known : Whole → Role → Tree → Type 0
+abbrev pub Known : Whole → Role → Tree → Type 0
 Known w r t = Named w.in_use w.free_symbol r t × All Sound t
 
-abbrev KnownIn : Whole → (ℕ → Role) → Fields → Type 0
+abbrev pub KnownIn : Whole → (ℕ → Role) → Fields → Type 0
 KnownIn w roles fs = NamedIn w.in_use w.free_symbol roles fs × AllIn Sound fs
 
-abbrev KnownBy : Whole → Role → Field → Type 0
+abbrev pub KnownBy : Whole → Role → Field → Type 0
 KnownBy w r f = NamedBy w.in_use w.free_symbol r f × AllBy Sound f
 
-abbrev KnownAll : Whole → Role → Trees → Type 0
+abbrev pub KnownAll : Whole → Role → Trees → Type 0
 KnownAll w r ts = NamedAll w.in_use w.free_symbol r ts × AllAmong Sound ts
 
-known-list : (w : Whole) (r : Role) (p : Pending) (x : Option Bound) (a : Additions) (ts : Trees) → KnownAll w r (after_imports (pending_statements p x a) ts) → KnownAll w r ts
+pub known-list : (w : Whole) (r : Role) (p : Pending) (x : Option Bound) (a : Additions) (ts : Trees) → KnownAll w r (after_imports (pending_statements p x a) ts) → KnownAll w r ts
 known-list w r p x a ts h = (whole-named w.in_use w.free_symbol r p x a ts h.0, all-after Sound (pending_statements p x a) ts h.1)
 
 -- ONE STEP
@@ -168,7 +168,7 @@ one-more : {s s' s'' : Ledger} {t u v : Open} → Steps (Step MovesOut the_progr
 one-more stays r = goes r stays
 one-more (goes a rest) r = goes a (one-more rest r)
 
-program-scope : (t : Tree) → has_form s-Program t ≡ true → is_var_scope (kind_of t) ≡ true
+pub program-scope : (t : Tree) → has_form s-Program t ≡ true → is_var_scope (kind_of t) ≡ true
 program-scope (node Program l fs) h = refl
 program-scope (node k l fs) h = absurd (let no : false ≡ true = (node_form s-Program k l fs h).sort in cc)
 

@@ -21,7 +21,7 @@ at-place : (b : Bool) → b ≡ false → (if b then reads else Nothing) ≡ Not
 at-place true e = absurd (cc e)
 at-place false e = refl
 
-place-role : (r : Role) (k : AstType) (l : Label) (fs : Fields) (i : ℕ) → is_name_place k l i ≡ false → role_at r k l fs i ≡ Nothing
+pub place-role : (r : Role) (k : AstType) (l : Label) (fs : Fields) (i : ℕ) → is_name_place k l i ≡ false → role_at r k l fs i ≡ Nothing
 place-role r MemberExpression l fs (suc zero) e = at-place (is_name_place MemberExpression l (suc zero)) e
 place-role r MethodDefinition l fs zero e = at-place (is_name_place MethodDefinition l zero) e
 place-role r PropertyDefinition l fs zero e = at-place (is_name_place PropertyDefinition l zero) e

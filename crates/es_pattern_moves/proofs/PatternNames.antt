@@ -93,7 +93,7 @@ module _ (v : Bool) (b : Binding) (y : Text) where
   here k i = reaches_out v k i
 
   mutual
-    tree-out : (s : Sort) (t : Tree) → holds_patterns s ≡ true → has_form s t ≡ true → binds_name y t ≡ false → Out (declared v (Binds b) t)
+    pub tree-out : (s : Sort) (t : Tree) → holds_patterns s ≡ true → has_form s t ≡ true → binds_name y t ≡ false → Out (declared v (Binds b) t)
     tree-out s (node Identifier l done) e h d = own-out y (is_asked v (Binds b)) (record { name = first_text l.texts; symbol = symbol_of l }) (or_parts (bytes_eq (first_text l.texts) y) false d).0
     tree-out s (node Identifier l (f then fs)) e h d = absurd (let no : false ≡ true = (node_form s Identifier l (f then fs) h).children in cc)
     tree-out s (node ObjectPattern l fs) e h d = object-out l fs (node_form s ObjectPattern l fs h).children d

@@ -137,7 +137,7 @@ fn is_one_name(fields: &[Field]) -> bool
 }
 
 /// Whether the node is a name.
-fn is_name(node: &Node) -> bool
+pub fn is_name(node: &Node) -> bool
     ensures { result ≡ is_name node.now }
 {
     match &node.kind {

@@ -533,9 +533,13 @@ abbrev FieldCases : AstType → Label → Fields → ℕ → Fields → Type 0
 FieldCases k l all i done = Unit {0}
 FieldCases k l all i (f then fs) = FieldCase k l all i f × FieldCases k l all (suc i) fs
 
+-- the fields of a function, which declares nothing by `var` but its name
+pub data IsFunction : Fields → Type 0 where
+  is_function : {f : Field} {ps : Trees} {b : Tree} → IsFunctionName f → declared_among true (Binds Parameter) ps ≡ [] → declared true reads b ≡ [] → IsFunction (f then many ps then one b then done)
+
 pub data NodeCase : AstType → Label → Fields → Type 0 where
   quiet : {k : AstType} {l : Label} {fs : Fields} → ((v : Bool) (r : Role) → declared v r (node k l fs) ≡ []) → NodeCase k l fs
-  a_function : {l : Label} {f : Field} {ps : Trees} {b : Tree} → IsFunctionName f → declared_among true (Binds Parameter) ps ≡ [] → declared true reads b ≡ [] → NodeCase FunctionDeclaration l (f then many ps then one b then done)
+  a_function : {l : Label} {fs : Fields} → IsFunction fs → NodeCase FunctionDeclaration l fs
   looked_into : {k : AstType} {l : Label} {fs : Fields} → FieldCases k l fs 0 fs → NodeCase k l fs
 
 all-go : (k : AstType) (l : Label) (all : Fields) (i : ℕ) (fs : Fields) → ((n : ℕ) → goes k n ≡ true) → FieldCases k l all i fs
@@ -570,24 +574,24 @@ parameters-none (t before (u before ts)) h =
     let parts = and_parts (has_form s-Pattern t) (trees_form s-Pattern s-PatternRest (u before ts)) h in
     λ i. declares-none true (Binds Parameter) s-Pattern t refl refl parts.0 i ++ parameters-none (u before ts) parts.1 i
 
-after-parameters : (l : Label) (f : Field) (ps : Trees) (hs : Fields) → IsFunctionName f → trees_form s-Pattern s-PatternRest ps ≡ true → fields_form FunctionDeclaration l (without (without entries)) hs ≡ true → NodeCase FunctionDeclaration l (f then many ps then hs)
-after-parameters l f ps (one b then done) n h e = a_function n (parameters-none ps h) (declares-none true reads s-FunctionBody b refl refl (and_parts (has_form s-FunctionBody b) true e).0)
+after-parameters : (l : Label) (f : Field) (ps : Trees) (hs : Fields) → IsFunctionName f → trees_form s-Pattern s-PatternRest ps ≡ true → fields_form FunctionDeclaration l (without (without entries)) hs ≡ true → IsFunction (f then many ps then hs)
+after-parameters l f ps (one b then done) n h e = is_function n (parameters-none ps h) (declares-none true reads s-FunctionBody b refl refl (and_parts (has_form s-FunctionBody b) true e).0)
 after-parameters l f ps done n h e = absurd (cc e)
 after-parameters l f ps (missing then hs) n h e = absurd (cc e)
 after-parameters l f ps (many ts then hs) n h e = absurd (cc e)
 after-parameters l f ps (statements ts then hs) n h e = absurd (cc e)
 after-parameters l f ps (one b then (g then hs)) n h e = absurd (let no : false ≡ true = (and_parts (has_form s-FunctionBody b) false e).1 in cc no)
 
-after-name : (l : Label) (f : Field) (gs : Fields) → IsFunctionName f → fields_form FunctionDeclaration l (without entries) gs ≡ true → NodeCase FunctionDeclaration l (f then gs)
+after-name : (l : Label) (f : Field) (gs : Fields) → IsFunctionName f → fields_form FunctionDeclaration l (without entries) gs ≡ true → IsFunction (f then gs)
 after-name l f (many ps then hs) n e = (let q = and_parts (trees_form s-Pattern s-PatternRest ps) (fields_form FunctionDeclaration l (without (without entries)) hs) e in after-parameters l f ps hs n q.0 q.1)
 after-name l f done n e = absurd (cc e)
 after-name l f (missing then hs) n e = absurd (cc e)
 after-name l f (one t then hs) n e = absurd (cc e)
 after-name l f (statements ts then hs) n e = absurd (cc e)
 
-function-case : (l : Label) (fs : Fields) → fields_form FunctionDeclaration l entries fs ≡ true → NodeCase FunctionDeclaration l fs
-function-case l done e = absurd (cc e)
-function-case l (f then gs) e = (let q = and_parts (field_form FunctionDeclaration l (c-Child s-Identifier Optional) f) (fields_form FunctionDeclaration l (without entries) gs) e in after-name l f gs (function-name FunctionDeclaration l f q.0) q.1)
+pub function-parts : (l : Label) (fs : Fields) → fields_form FunctionDeclaration l entries fs ≡ true → IsFunction fs
+function-parts l done e = absurd (cc e)
+function-parts l (f then gs) e = (let q = and_parts (field_form FunctionDeclaration l (c-Child s-Identifier Optional) f) (fields_form FunctionDeclaration l (without entries) gs) e in after-name l f gs (function-name FunctionDeclaration l f q.0) q.1)
 
 switch-case : (l : Label) (fs : Fields) → fields_form SwitchStatement l (child_entries SwitchStatement) fs ≡ true → NodeCase SwitchStatement l fs
 switch-case l (one t then gs) e = looked_into (inr (λ v r. (law_expression_proof t (and_parts (has_form s-Expression t) (fields_form SwitchStatement l (without (child_entries SwitchStatement)) gs) e).0).declares_nothing v), later-go SwitchStatement l (one t then gs) 0 gs (λ n. refl))
@@ -621,7 +625,7 @@ node-case s StaticBlock l fs n = quiet (λ v r. none-counts v StaticBlock l fs (
     at false = refl
 node-case s FunctionExpression l fs n = quiet (λ v r. declares-none v reads s-Expression (node FunctionExpression l fs) refl refl (as-expression s FunctionExpression l fs refl n))
 node-case s ArrowFunctionExpression l fs n = quiet (λ v r. declares-none v reads s-Expression (node ArrowFunctionExpression l fs) refl refl (as-expression s ArrowFunctionExpression l fs refl n))
-node-case s FunctionDeclaration l fs n = function-case l fs n.children
+node-case s FunctionDeclaration l fs n = a_function (function-parts l fs n.children)
 node-case s SwitchStatement l fs n = switch-case l fs n.children
 node-case s k l fs n = looked_into (all-go k l fs 0 fs (λ i. refl))
 
@@ -658,6 +662,13 @@ name-covered b up r l all f h (named {l = m}) =
     subst (λ (gs : List (List Name)). Covered b gs (own_declared true s Identifier m ++ []) (own_declared false s Identifier m ++ [])) (append-nil own)
     (covered-both b own [] (own_declared true s Identifier m) [] (own_declared false s Identifier m) [] (own-covered b vs s Identifier m done (as-pattern Identifier refl (function-shown b up r h))) (covered-none b []))
 
+function-covered : (b : Bool) (up : List Ancestor) (r : Role) (l : Label) (fs : Fields) → Shows b up r → IsFunction fs → Covered b (claims is_owned up (node FunctionDeclaration l fs)) (declared true r (node FunctionDeclaration l fs)) (declared false r (node FunctionDeclaration l fs))
+function-covered b up r l fs h (is_function {f = f} {ps = ps} {b = t} n parameters body) =
+    let all : Fields = f then many ps then one t then done in
+    let s = Binds (function_binding r) in
+    let rest = claims_all is_owned (above FunctionDeclaration l all 1 0 ∷ up) ps ++ (claims is_owned (above FunctionDeclaration l all 2 0 ∷ up) t ++ []) in
+    covered-both b (claims_by is_owned (above FunctionDeclaration l all 0 0 ∷ up) f) rest (declared_by true s f) (declared_among true (Binds Parameter) ps ++ (declared true reads t ++ [])) (declared_by false s f) [] (name-covered b up r l all f h n) (covered-quiet b rest (declared_among true (Binds Parameter) ps ++ (declared true reads t ++ [])) [] (λ i. parameters i ++ (body i ++ [])) refl)
+
 -- TREES
 
 node-covered : (b : Bool) (up : List Ancestor) (r : Role) (k : AstType) (l : Label) (fs : Fields) → Shows b up r → Placed b up r k → NodeCase k l fs →
@@ -669,11 +680,7 @@ node-covered b up r k l fs h p (looked_into c) deeper =
     let inner = claims_in is_owned up k l fs 0 0 fs in
     subst (λ (gs : List (List Name)). Covered b gs (declared true r (node k l fs)) (declared false r (node k l fs))) (sym (push-append (filter is_owned (names_of up (node k l fs))) [] inner))
     (covered-both b own inner (own_declared true r k l) (declared_in true (reaches_out true k) (role_at r k l fs) fs) (own_declared false r k l) (declared_in false (reaches_out false k) (role_at r k l fs) fs) (own-covered b up r k l fs p) (deeper c))
-node-covered b up r FunctionDeclaration l (f then many ps then one t then done) h p (a_function n parameters body) deeper =
-    let all : Fields = f then many ps then one t then done in
-    let s = Binds (function_binding r) in
-    let rest = claims_all is_owned (above FunctionDeclaration l all 1 0 ∷ up) ps ++ (claims is_owned (above FunctionDeclaration l all 2 0 ∷ up) t ++ []) in
-    covered-both b (claims_by is_owned (above FunctionDeclaration l all 0 0 ∷ up) f) rest (declared_by true s f) (declared_among true (Binds Parameter) ps ++ (declared true reads t ++ [])) (declared_by false s f) [] (name-covered b up r l all f h n) (covered-quiet b rest (declared_among true (Binds Parameter) ps ++ (declared true reads t ++ [])) [] (λ i. parameters i ++ (body i ++ [])) refl)
+node-covered b up r FunctionDeclaration l fs h p (a_function is) deeper = function-covered b up r l fs h is
 
 same-field : (b c d : Bool) (gs : List (List Name)) (v : Bool) (r s : Role) (f : Field) → r ≡ s → c ≡ d → Covered (b && d) gs (declared_by true s f) (declared_by false s f) → Covered b gs (if v then declared_by true r f else []) (if c then declared_by false r f else [])
 same-field b c d gs v r s f e g h =

@@ -1,5 +1,6 @@
 pub mod BodiesApart
 pub mod BodyNames
+pub mod EnteringFunctions
 pub mod FormedNodes
 pub mod SourceUnbound
 pub mod UsedAgree

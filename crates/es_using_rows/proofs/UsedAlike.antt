@@ -3,6 +3,7 @@
 use Rattle.std.proofs.Common.{◌≡◌, ◌∙◌, ℕ, zero, suc, refl, sym, ap, List, [], ◌∷◌}
 use Rattle.std.specs.Prelude.{Bool, true, false, ◌||◌, ◌&&◌, not, Option, Some, codes, if◌then◌else◌}
 use Rattle.es_tree.specs.Bare.{bare, bare_field, bare_fields, bare_label, bare_trees}
+use Rattle.es_tree.specs.Names.{first_text}
 use Rattle.es_tree.specs.Tree.{Tree, node, Label, Fields, done, ◌then◌, Field, missing, one, many, statements, Trees, empty, ◌before◌}
 use Rattle.es_tree.specs.Words.{Text}
 use Rattle.es_tree.specs.declared.ast_type.AstType.{AstType}
@@ -10,7 +11,10 @@ use Rattle.es_tree.specs.declared.ast_type.AstType.TheVariants.{ArrowFunctionExp
 use Rattle.es_steps.specs.Nodes.{made}
 use Rattle.es_steps.specs.UsingBlocks.{error_name, has_using, is_using_node}
 use Rattle.es_steps.specs.UsingSwitches.{case_has_using, some_case_has_using}
+use Rattle.es_rest_rows.specs.RestRows.{binds_name}
+use Rattle.es_rest_shapes.proofs.BareRests.{trees-bare as trees-bare-any}
 use Rattle.es_pattern_moves.specs.Moved.{name_of}
+use Rattle.es_pattern_moves.proofs.BareMoves.{binds-bare, vars-bare}
 use Rattle.es_using_rows.specs.Used.{
   Makes,
   block,
@@ -47,7 +51,7 @@ use Rattle.es_using_rows.specs.Used.{
   used_switch,
   with_symbols,
 }
-use Rattle.es_using_rows.specs.UsingPlaces.{are_used, are_used_cases, has_function, has_value, have_values, is_function_or_export, is_labelled, is_part, is_used, is_used_case, is_using_word, leads_to_head, standing_in, uses_here, uses_in_arrow, uses_in_body, uses_in_function, uses_in_head}
+use Rattle.es_using_rows.specs.UsingPlaces.{all_enter, are_used, are_used_cases, enters, has_value, have_values, is_alone, is_export, is_function_of, is_labelled, is_part, is_used, is_used_case, is_using_word, leads_to_head, standing_in, uses_here, uses_in_arrow, uses_in_body, uses_in_function, uses_in_head, var_at_top}
 use Rattle.es_using_rows.specs.declared.standing.Standing.{Standing}
 
 -- THE TESTS
@@ -56,7 +60,7 @@ using-bare : (t : Tree) → is_using_node (bare t) ≡ is_using_node t
 using-bare (node VariableDeclaration l fs) = refl
 using-bare (node _ l fs) = refl
 
-has-bare : (ts : Trees) → has_using (bare_trees ts) ≡ has_using ts
+pub has-bare : (ts : Trees) → has_using (bare_trees ts) ≡ has_using ts
 has-bare empty = refl
 has-bare (t before ts) = λ i. using-bare t i || has-bare ts i
 
@@ -101,26 +105,41 @@ leads-bare (node ForStatement l fs) = head-uses-bare fs
 leads-bare (node LabeledStatement l (one t then one u then done)) = leads-bare u
 leads-bare _ = refl
 
-top-function-bare : (t : Tree) → is_function_or_export (bare t) ≡ is_function_or_export t
-top-function-bare (node FunctionDeclaration l fs) = refl
-top-function-bare (node ExportNamedDeclaration l fs) = refl
-top-function-bare (node ExportDefaultDeclaration l fs) = refl
-top-function-bare (node _ l fs) = refl
+export-bare : (t : Tree) → is_export (bare t) ≡ is_export t
+export-bare (node ExportNamedDeclaration l fs) = refl
+export-bare (node ExportDefaultDeclaration l fs) = refl
+export-bare (node _ l fs) = refl
 
-some-function-bare : (ts : Trees) → has_function (bare_trees ts) ≡ has_function ts
-some-function-bare empty = refl
-some-function-bare (t before ts) = λ i. top-function-bare t i || some-function-bare ts i
+function-of-bare : (x : Text) (t : Tree) → is_function_of x (bare t) ≡ is_function_of x t
+function-of-bare x (node FunctionDeclaration l (one (node k m gs) then fs)) = refl
+function-of-bare x _ = refl
 
-body-uses-bare : (b : Tree) → uses_in_body (bare b) ≡ uses_in_body b
-body-uses-bare (node FunctionBody l (many ds then statements ts then done)) = λ i. (has-bare ts i && all-used-bare ts i) && not (some-function-bare ts i)
-body-uses-bare _ = refl
+top-var-bare : (x : Text) (t : Tree) → var_at_top x (bare t) ≡ var_at_top x t
+top-var-bare x (node FunctionDeclaration l fs) = refl
+top-var-bare x (node k l fs) = vars-bare x (node k l fs)
+
+alone-bare : (x : Text) (ps ts us : Trees) → is_alone x (bare_trees ps) (bare_trees ts) (bare_trees us) ≡ is_alone x ps ts us
+alone-bare x ps ts us = λ i. not (trees-bare-any (binds_name x) (binds-bare x) ps i) && not (trees-bare-any (var_at_top x) (top-var-bare x) ts i) && not (trees-bare-any (is_function_of x) (function-of-bare x) us i)
+
+enters-bare : (ps ts : Trees) (t : Tree) (us : Trees) → enters (bare_trees ps) (bare_trees ts) (bare t) (bare_trees us) ≡ enters ps ts t us
+enters-bare ps ts (node FunctionDeclaration l (one (node k m gs) then fs)) us = alone-bare (first_text m.texts) ps ts us
+enters-bare ps ts (node FunctionDeclaration l _) us = refl
+enters-bare ps ts (node k l fs) us = λ i. not (export-bare (node k l fs) i)
+
+pub all-enter-bare : (ps ts us : Trees) → all_enter (bare_trees ps) (bare_trees ts) (bare_trees us) ≡ all_enter ps ts us
+all-enter-bare ps ts empty = refl
+all-enter-bare ps ts (t before us) = λ i. enters-bare ps ts t us i && all-enter-bare ps ts us i
+
+body-uses-bare : (ps : Trees) (b : Tree) → uses_in_body (bare_trees ps) (bare b) ≡ uses_in_body ps b
+body-uses-bare ps (node FunctionBody l (many ds then statements ts then done)) = λ i. (has-bare ts i && all-used-bare ts i) && all-enter-bare ps ts ts i
+body-uses-bare ps _ = refl
 
 function-uses-bare : (fs : Fields) → uses_in_function (bare_fields fs) ≡ uses_in_function fs
-function-uses-bare (f then many ps then one b then done) = body-uses-bare b
+function-uses-bare (f then many ps then one b then done) = body-uses-bare ps b
 function-uses-bare _ = refl
 
 arrow-uses-bare : (fs : Fields) → uses_in_arrow (bare_fields fs) ≡ uses_in_arrow fs
-arrow-uses-bare (many ps then one b then done) = body-uses-bare b
+arrow-uses-bare (many ps then one b then done) = body-uses-bare ps b
 arrow-uses-bare _ = refl
 
 uses-bare : (s : Standing) (k : AstType) (l : Label) (fs : Fields) → uses_here s k (bare_label l) (bare_fields fs) ≡ uses_here s k l fs

@@ -4,7 +4,7 @@ use Rattle.std.proofs.Common.{◌≡◌, ◌∙◌, ℕ, zero, suc, refl, sym, a
 use Rattle.std.specs.Prelude.{Bool, true, false, not, is_some, if◌then◌else◌}
 use Rattle.es_tree.specs.Children.{child_at}
 use Rattle.es_tree.specs.HasForm.{has_form, same_type}
-use Rattle.es_tree.specs.Tree.{Tree, Fields, Label, done, empty, kind_of, many, node, one, statements, ◌before◌, ◌then◌}
+use Rattle.es_tree.specs.Tree.{Tree, Trees, Fields, Label, done, empty, kind_of, many, node, one, statements, ◌before◌, ◌then◌}
 use Rattle.es_tree.specs.declared.ast_type.AstType.{AstType}
 use Rattle.es_tree.specs.declared.ast_type.AstType.TheVariants.{ArrowFunctionExpression, BlockStatement, ForStatement, FunctionBody, FunctionDeclaration, FunctionExpression, ImportDeclaration, LabeledStatement, Program, StaticBlock, SwitchStatement}
 use Rattle.es_tree.specs.declared.table.Sort.TheVariants.{ArrowFunctionBody as s-ArrowFunctionBody}
@@ -195,22 +195,22 @@ outside-kept k l fs gs same quiet = record { quiet = still quiet; kind = refl; d
     around v r = ap (λ ds. own_declared v r k l ++ ds) (ap (λ roles. declared_in v (reaches_out v k) roles gs) (role-same r k l fs gs same.shape) ∙ same.declares v (reaches_out v k) (role_at r k l fs))
 
 module _ (m : Makes) (i : ℕ) where
-  body-declares : (b : Tree) → uses_in_body b ≡ true → (v : Bool) (r : Role) → declared v r (used_body m i b) ≡ declared v r b
-  body-declares (node FunctionBody l (many ds then statements ts then done)) e v r =
+  body-declares : (ps : Trees) (b : Tree) → uses_in_body ps b ≡ true → (v : Bool) (r : Role) → declared v r (used_body m i b) ≡ declared v r b
+  body-declares ps (node FunctionBody l (many ds then statements ts then done)) e v r =
       let h : Tree = node FunctionBody l (many ds then statements ts then done) in
       scope-declares v r FunctionBody l (many ds then statements ts then done) (many ds then statements (tried m i h (constants m i ts) before empty) then done) refl
-  body-declares _ e v r = absurd (cc e)
+  body-declares ps _ e v r = absurd (cc e)
 
-  body-field-quiet : (inside : Bool) (b : Tree) → uses_in_body b ≡ true → IsQuietField (opened_field inside (one (used_body m i b)))
-  body-field-quiet true (node FunctionBody l (many ds then statements ts then done)) e = inl refl
-  body-field-quiet false (node FunctionBody l (many ds then statements ts then done)) e = inl refl
-  body-field-quiet _ _ e = absurd (cc e)
+  body-field-quiet : (inside : Bool) (ps : Trees) (b : Tree) → uses_in_body ps b ≡ true → IsQuietField (opened_field inside (one (used_body m i b)))
+  body-field-quiet true ps (node FunctionBody l (many ds then statements ts then done)) e = inl refl
+  body-field-quiet false ps (node FunctionBody l (many ds then statements ts then done)) e = inl refl
+  body-field-quiet _ ps _ e = absurd (cc e)
 
   function-outside : (bodies : ℕ → Bool) (fs : Fields) → uses_in_function fs ≡ true → SameOutside bodies fs (used_function m i fs)
   function-outside bodies (f then many ps then one b then done) e = record {
-    quiet = λ q. (q.0, (q.1.0, (body-field-quiet (bodies 2) b e, tt)));
+    quiet = λ q. (q.0, (q.1.0, (body-field-quiet (bodies 2) ps b e, tt)));
     shape = at;
-    declares = λ v counts roles j. (if counts 0 then declared_by v (roles 0) f else []) ++ ((if counts 1 then declared_among v (roles 1) ps else []) ++ ((if counts 2 then body-declares b e v (roles 2) j else []) ++ []));
+    declares = λ v counts roles j. (if counts 0 then declared_by v (roles 0) f else []) ++ ((if counts 1 then declared_among v (roles 1) ps else []) ++ ((if counts 2 then body-declares ps b e v (roles 2) j else []) ++ []));
   }
     where
       at : (j : ℕ) → is_some (child_at j (f then many ps then one (used_body m i b) then done)) ≡ is_some (child_at j (f then many ps then one b then done))
@@ -222,9 +222,9 @@ module _ (m : Makes) (i : ℕ) where
 
   arrow-outside : (bodies : ℕ → Bool) (fs : Fields) → uses_in_arrow fs ≡ true → SameOutside bodies fs (used_arrow m i fs)
   arrow-outside bodies (many ps then one b then done) e = record {
-    quiet = λ q. (q.0, (body-field-quiet (bodies 1) b e, tt));
+    quiet = λ q. (q.0, (body-field-quiet (bodies 1) ps b e, tt));
     shape = at;
-    declares = λ v counts roles j. (if counts 0 then declared_among v (roles 0) ps else []) ++ ((if counts 1 then body-declares b e v (roles 1) j else []) ++ []);
+    declares = λ v counts roles j. (if counts 0 then declared_among v (roles 0) ps else []) ++ ((if counts 1 then body-declares ps b e v (roles 1) j else []) ++ []);
   }
     where
       at : (j : ℕ) → is_some (child_at j (many ps then one (used_body m i b) then done)) ≡ is_some (child_at j (many ps then one b then done))

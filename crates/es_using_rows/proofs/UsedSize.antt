@@ -9,7 +9,7 @@ use Rattle.es_tree.specs.Tree.{Tree, node, Label, Fields, done, ◌then◌, Fiel
 use Rattle.es_tree.specs.Walks.{all_in_field, all_in_fields, all_in_trees, all_nodes}
 use Rattle.es_tree.specs.Words.{Text}
 use Rattle.es_tree.specs.declared.ast_type.AstType.{AstType}
-use Rattle.es_tree.specs.declared.ast_type.AstType.TheVariants.{ArrowFunctionExpression, BlockStatement, ForStatement, FunctionBody, FunctionDeclaration, FunctionExpression, LabeledStatement, SwitchCase, SwitchStatement, TryStatement, VariableDeclaration, VariableDeclarator}
+use Rattle.es_tree.specs.declared.ast_type.AstType.TheVariants.{ArrowFunctionExpression, BlockStatement, ForOfStatement, ForStatement, FunctionBody, FunctionDeclaration, FunctionExpression, LabeledStatement, SwitchCase, SwitchStatement, TryStatement, VariableDeclaration, VariableDeclarator}
 use Rattle.es_tree.specs.declared.table.Sort.{Sort}
 use Rattle.es_tree.specs.declared.table.Sort.TheVariants.{Binding as s-Binding, Expression as s-Expression, Program as s-Program}
 use Rattle.es_tree.proofs.CoreBreaks.{among_kinds}
@@ -21,15 +21,16 @@ use Rattle.es_steps.specs.UsingSwitches.{case_has_using, some_case_has_using}
 use Rattle.es_pattern_moves.specs.Weights.{own_weight, weighed, weighed_among, weighed_by, weighed_in}
 use Rattle.es_using_rows.specs.Laws.{LawUsedSize}
 use Rattle.es_using_rows.specs.Used.{Makes, constants, method, plainly, tried, used, used_among, used_arrow, used_block, used_body, used_by, used_case, used_cases, used_declaration, used_declarator, used_declarators, used_function, used_head, used_here, used_in, used_loop, used_node}
-use Rattle.es_using_rows.specs.UsingPlaces.{are_used, are_used_cases, has_function, has_value, have_values, is_labelled, is_part, is_used, is_used_case, is_using_word, leads_to_head, standing_in, uses_here, uses_in_arrow, uses_in_body, uses_in_function, uses_in_head, uses_in_list}
+use Rattle.es_using_rows.specs.UsingPlaces.{are_used, are_used_cases, has_value, have_values, is_labelled, is_part, is_used, is_used_case, is_using_word, leads_to_head, may_enter, standing_in, uses_here, uses_in_arrow, uses_in_body, uses_in_function, uses_in_head, uses_in_list}
 use Rattle.es_using_rows.specs.declared.standing.Standing.{Standing}
 use Rattle.es_using_rows.specs.declared.standing.Standing.TheVariants.{Anywhere}
 use Rattle.es_using_rows.proofs.FormedNodes.{formed-nodes}
 
 -- NAMES AND VALUES of declarators are of kinds that spare nine, functions among them, of which only the body becomes another one
 
-abbrev is_other : AstType → Bool
+abbrev pub is_other : AstType → Bool
 is_other BlockStatement = false
+is_other ForOfStatement = false
 is_other ForStatement = false
 is_other FunctionBody = false
 is_other LabeledStatement = false
@@ -40,7 +41,7 @@ is_other VariableDeclaration = false
 is_other VariableDeclarator = false
 is_other _ = true
 
-abbrev has_others : AstType → Label → Fields → Bool
+abbrev pub has_others : AstType → Label → Fields → Bool
 has_others VariableDeclarator l (one x then one e then done) = is_other (kind_of x) && is_other (kind_of e)
 has_others _ l fs = true
 
@@ -48,7 +49,7 @@ has_others _ l fs = true
 sort-other : (s : Sort) (t : Tree) → list_all is_other (kinds_of s) ≡ true → has_form s t ≡ true → is_other (kind_of t) ≡ true
 sort-other s (node k l fs) all h = among_kinds is_other k (kinds_of s) (node_form s k l fs h).sort all
 
-formed-others : (s : Sort) (k : AstType) (l : Label) (fs : Fields) → NodeForm s k l fs → has_others k l fs ≡ true
+pub formed-others : (s : Sort) (k : AstType) (l : Label) (fs : Fields) → NodeForm s k l fs → has_others k l fs ≡ true
 formed-others s VariableDeclarator l (one x then one e then done) h =
     let d = and_parts (has_form s-Binding x) (has_form s-Expression e && true) h.children in
     and_from (is_other (kind_of x)) (is_other (kind_of e)) (sort-other s-Binding x refl d.0) (sort-other s-Expression e refl (and_parts (has_form s-Expression e) true d.1).0)
@@ -56,8 +57,9 @@ formed-others s _ l fs h = refl
 
 -- WHAT A TREE SPARES: each name and each value nine; and what stands in a list of statements, in a case or in the head of a loop keeps it until
 -- a `try` is made around. A declarator has all that its name and its value spare, and fourteen of its own, and so many has a body.
+-- A `for`-`of` has nothing left: a block may have been made in it (`es_using_heads`).
 abbrev mutual
-  spare : Tree → ℕ
+  pub spare : Tree → ℕ
   spare (node VariableDeclaration l fs) = 14 + spare_in fs
   spare (node VariableDeclarator l (one x then one e then done)) = 32
   spare (node VariableDeclarator l fs) = 0
@@ -66,26 +68,28 @@ abbrev mutual
   spare (node LabeledStatement l fs) = spare_in fs
   spare (node SwitchCase l fs) = spare_in fs
   spare (node BlockStatement l fs) = 0
+  spare (node ForOfStatement l fs) = 0
   spare (node SwitchStatement l fs) = 0
   spare (node TryStatement l fs) = 0
   spare (node k l fs) = 9
 
-  spare_in : Fields → ℕ
+  pub spare_in : Fields → ℕ
   spare_in done = 0
   spare_in (f then fs) = spare_by f + spare_in fs
 
-  spare_by : Field → ℕ
+  pub spare_by : Field → ℕ
   spare_by missing = 0
   spare_by (one t) = spare t
   spare_by (many ts) = spare_among ts
   spare_by (statements ts) = spare_among ts
 
-  spare_among : Trees → ℕ
+  pub spare_among : Trees → ℕ
   spare_among empty = 0
   spare_among (t before ts) = spare t + spare_among ts
 
 spare-other : (t : Tree) → is_other (kind_of t) ≡ true → spare t ≡ 9
 spare-other (node BlockStatement l fs) h = absurd (cc h)
+spare-other (node ForOfStatement l fs) h = absurd (cc h)
 spare-other (node ForStatement l fs) h = absurd (cc h)
 spare-other (node FunctionBody l fs) h = absurd (cc h)
 spare-other (node LabeledStatement l fs) h = absurd (cc h)
@@ -202,18 +206,18 @@ module _ (m : Makes) (named : AreNames m) where
       at true = let d = and_parts (has_using ts) (are_used ts) h in omega (arith, tried-weighs n (node BlockStatement l (statements ts then done)) (constants m n ts), constants-leave n ts d.0 d.1)
       at false = let d = and_parts (has_using ts) (are_used ts) h in omega (arith, tried-weighs n (node BlockStatement l (statements ts then done)) (constants m n ts), constants-leave n ts d.0 d.1)
 
-  body-weighs : (n : ℕ) (b : Tree) → uses_in_body b ≡ true → weighed (used_body m n b) ≤ weighed b + spare b
-  body-weighs n (node FunctionBody l (many ds then statements ts then done)) h =
-      let d = and_parts (has_using ts) (are_used ts) (and_parts (uses_in_list ts) (not (has_function ts)) h).0 in
+  body-weighs : (n : ℕ) (ps : Trees) (b : Tree) → uses_in_body ps b ≡ true → weighed (used_body m n b) ≤ weighed b + spare b
+  body-weighs n ps (node FunctionBody l (many ds then statements ts then done)) h =
+      let d = and_parts (has_using ts) (are_used ts) (and_parts (uses_in_list ts) (may_enter ps ts) h).0 in
       omega (arith, tried-weighs n (node FunctionBody l (many ds then statements ts then done)) (constants m n ts), constants-leave n ts d.0 d.1)
-  body-weighs n _ h = absurd (cc h)
+  body-weighs n ps _ h = absurd (cc h)
 
   function-weighs : (n : ℕ) (fs : Fields) → uses_in_function fs ≡ true → weighed_in (used_function m n fs) ≤ weighed_in fs + spare_in fs
-  function-weighs n (f then many ps then one b then done) h = omega (arith, body-weighs n b h)
+  function-weighs n (f then many ps then one b then done) h = omega (arith, body-weighs n ps b h)
   function-weighs n _ h = absurd (cc h)
 
   arrow-weighs : (n : ℕ) (fs : Fields) → uses_in_arrow fs ≡ true → weighed_in (used_arrow m n fs) ≤ weighed_in fs + spare_in fs
-  arrow-weighs n (many ps then one b then done) h = omega (arith, body-weighs n b h)
+  arrow-weighs n (many ps then one b then done) h = omega (arith, body-weighs n ps b h)
   arrow-weighs n _ h = absurd (cc h)
 
   node-paid : (s : Standing) (n : ℕ) (k : AstType) (l : Label) (fs : Fields) → uses_here s k l fs ≡ true → Paid (used_node m s n k l fs) fs
@@ -234,10 +238,10 @@ module _ (m : Makes) (named : AreNames m) where
   node-paid s n ArrowFunctionExpression l fs h = omega (arith, arrow-weighs n fs h)
   node-paid s n _ l _ h = absurd (cc h)
 
-  abbrev PaidBy : ℕ → ℕ × Tree → Type 0
+  abbrev pub PaidBy : ℕ → ℕ × Tree → Type 0
   PaidBy w r = weighed r.1 + spare r.1 ≤ w
 
-  here-paid : (s : Standing) (n : ℕ) (k : AstType) (l : Label) (fs : Fields) (w : ℕ) → has_others k l fs ≡ true → weighed_in fs + spare_in fs ≤ w → PaidBy (16 + w) (used_here m s n k l fs)
+  pub here-paid : (s : Standing) (n : ℕ) (k : AstType) (l : Label) (fs : Fields) (w : ℕ) → has_others k l fs ≡ true → weighed_in fs + spare_in fs ≤ w → PaidBy (16 + w) (used_here m s n k l fs)
   here-paid s n k l fs w others h = at (uses_here s k l fs) refl
     where
       at : (b : Bool) → uses_here s k l fs ≡ b → PaidBy (16 + w) (if b then (suc n, used_node m s n k l fs) else (n, node k l fs))
@@ -266,7 +270,7 @@ module _ (m : Makes) (named : AreNames m) where
       at j gs true e = node-other s j k l gs h e
       at j gs false e = h
 
-  others-stay : (c : ℕ → Standing) (n : ℕ) (k : AstType) (l : Label) (fs : Fields) → has_others k l fs ≡ true → has_others k l (used_in m c n fs).1 ≡ true
+  pub others-stay : (c : ℕ → Standing) (n : ℕ) (k : AstType) (l : Label) (fs : Fields) → has_others k l fs ≡ true → has_others k l (used_in m c n fs).1 ≡ true
   others-stay c n VariableDeclarator l (one x then one e then done) h =
       let d = and_parts (is_other (kind_of x)) (is_other (kind_of e)) h in
       and_from (is_other (kind_of (used m (c 0) n x).1)) (is_other (kind_of (used m (c 1) (used m (c 0) n x).0 e).1)) (other-stays (c 0) n x d.0) (other-stays (c 1) (used m (c 0) n x).0 e d.1)

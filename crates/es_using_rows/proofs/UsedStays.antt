@@ -13,7 +13,7 @@ use Rattle.es_steps.specs.UsingBlocks.{has_using, is_using_node}
 use Rattle.es_steps.specs.UsingSwitches.{case_has_using, some_case_has_using}
 use Rattle.es_using_rows.specs.Laws.{LawStays}
 use Rattle.es_using_rows.specs.Used.{Makes, used, used_among, used_by, used_here, used_in, used_node}
-use Rattle.es_using_rows.specs.UsingPlaces.{are_used, are_used_cases, has_function, have_values, is_labelled, is_used, is_using_word, leads_to_head, standing_in, uses_here, uses_in_arrow, uses_in_body, uses_in_function, uses_in_head}
+use Rattle.es_using_rows.specs.UsingPlaces.{are_used, are_used_cases, have_values, is_labelled, is_used, is_using_word, leads_to_head, may_enter, standing_in, uses_here, uses_in_arrow, uses_in_body, uses_in_function, uses_in_head}
 use Rattle.es_using_rows.specs.declared.standing.Standing.{Standing}
 
 -- TESTS
@@ -39,7 +39,7 @@ none-in-cases : (ts : Trees) → any_in_trees is_using ts ≡ false → some_cas
 none-in-cases empty h = refl
 none-in-cases (t before ts) h = let d = or_parts (any_node is_using t) (any_in_trees is_using ts) h in ap (λ (b : Bool). b || some_case_has_using ts) (none-in-case t d.0) ∙ none-in-cases ts d.1
 
-no-word : (xs : List (Option Text)) → bytes_eq (first_text xs) (codes "using") ≡ false → is_using_word xs ≡ false
+pub no-word : (xs : List (Option Text)) → bytes_eq (first_text xs) (codes "using") ≡ false → is_using_word xs ≡ false
 no-word (Some x ∷ []) h = h
 no-word _ h = refl
 
@@ -56,16 +56,16 @@ none-leads (node ForStatement l fs) h = none-in-head fs h
 none-leads (node LabeledStatement l (one t then one u then done)) h = none-leads u (none-in-field (one u) done (none-after (one t) (one u then done) h))
 none-leads _ h = refl
 
-none-in-body : (b : Tree) → any_node is_using b ≡ false → uses_in_body b ≡ false
-none-in-body (node FunctionBody l (many ds then statements ts then done)) h = ap (λ (b : Bool). b && are_used ts && not (has_function ts)) (none-direct ts (none-in-field (statements ts) done (none-after (many ds) (statements ts then done) h)))
-none-in-body _ h = refl
+none-in-body : (ps : Trees) (b : Tree) → any_node is_using b ≡ false → uses_in_body ps b ≡ false
+none-in-body ps (node FunctionBody l (many ds then statements ts then done)) h = ap (λ (b : Bool). b && are_used ts && may_enter ps ts) (none-direct ts (none-in-field (statements ts) done (none-after (many ds) (statements ts then done) h)))
+none-in-body ps _ h = refl
 
 none-in-function : (fs : Fields) → any_in_fields is_using fs ≡ false → uses_in_function fs ≡ false
-none-in-function (f then many ps then one b then done) h = none-in-body b (none-in-field (one b) done (none-after (many ps) (one b then done) (none-after f (many ps then one b then done) h)))
+none-in-function (f then many ps then one b then done) h = none-in-body ps b (none-in-field (one b) done (none-after (many ps) (one b then done) (none-after f (many ps then one b then done) h)))
 none-in-function _ h = refl
 
 none-in-arrow : (fs : Fields) → any_in_fields is_using fs ≡ false → uses_in_arrow fs ≡ false
-none-in-arrow (many ps then one b then done) h = none-in-body b (none-in-field (one b) done (none-after (many ps) (one b then done) h))
+none-in-arrow (many ps then one b then done) h = none-in-body ps b (none-in-field (one b) done (none-after (many ps) (one b then done) h))
 none-in-arrow _ h = refl
 
 and-none : (b c : Bool) → c ≡ false → (b && c) ≡ false

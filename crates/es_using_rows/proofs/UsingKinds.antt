@@ -1,20 +1,16 @@
 -- A row of a walk is a step of the rules of `using`, by the kind of its node, at a site where `babelHelpers` finds nothing.
-use Rattle.std.proofs.Common.{◌≡◌, ℕ, suc, zero, inl, inr, refl, sym, ap, subst, ◌∙◌, List, [], ◌∷◌}
-use Rattle.std.specs.Prelude.{◌&&◌, ◌||◌, not, Bool, true, false, Option, Some, None, bytes_eq, codes, if◌then◌else◌}
+use Rattle.std.proofs.Common.{◌≡◌, ℕ, inl, inr, refl, sym, ◌∙◌}
+use Rattle.std.specs.Prelude.{◌&&◌, not, Bool, true, false, Option, codes, if◌then◌else◌}
 use Rattle.std.proofs.lemmas.Bool.{and_parts, not-false, not-true}
-use Rattle.es_tree.specs.Fresh.{IsFreshName, candidate, text_base}
-use Rattle.es_tree.specs.HasForm.{has_form, trees_form}
-use Rattle.es_tree.specs.Tree.{Tree, node, Label, Fields, done, ◌then◌, Field, missing, one, many, statements, Trees, empty, ◌before◌}
+use Rattle.es_tree.specs.Fresh.{IsFreshName, text_base}
+use Rattle.es_tree.specs.HasForm.{has_form}
+use Rattle.es_tree.specs.Tree.{Tree, node, Label, Fields, done, ◌then◌, Field, one, many, statements, Trees, empty, ◌before◌}
 use Rattle.es_tree.specs.Words.{Text}
 use Rattle.es_tree.specs.declared.ast_type.AstType.{AstType}
-use Rattle.es_tree.specs.declared.ast_type.AstType.TheVariants.{ArrowFunctionExpression, BlockStatement, ForStatement, FunctionBody, FunctionDeclaration, FunctionExpression, Identifier, LabeledStatement, SwitchCase, SwitchStatement, VariableDeclaration, VariableDeclarator}
+use Rattle.es_tree.specs.declared.ast_type.AstType.TheVariants.{ArrowFunctionExpression, BlockStatement, ForStatement, FunctionBody, FunctionDeclaration, FunctionExpression, LabeledStatement, SwitchStatement}
 use Rattle.es_tree.specs.declared.table.Sort.{Sort}
-use Rattle.es_tree.specs.declared.table.Sort.TheVariants.{Expression as s-Expression, Identifier as s-Identifier, Statement as s-Statement, SwitchCase as s-SwitchCase}
-use Rattle.es_tree.proofs.NodeForm.{node_form}
-use Rattle.es_semantic.specs.RolesOf.{reads}
-use Rattle.es_resolution.specs.Declarations.{Bound, declared_by}
-use Rattle.es_resolution.specs.Resolved.{Place}
-use Rattle.es_resolution.proofs.Basics.{bytes_eq-equal}
+use Rattle.es_resolution.specs.Declarations.{Bound}
+use Rattle.es_resolution.proofs.AllForms.{AllIn}
 use Rattle.es_steps.specs.AllRules.{UsingRule}
 use Rattle.es_steps.specs.Identifiers.{Passes}
 use Rattle.es_steps.specs.Open.{Additions, Pending}
@@ -22,20 +18,16 @@ use Rattle.es_steps.specs.Rules.{next_name}
 use Rattle.es_steps.specs.Steps.{Ledger, Site, Whole}
 use Rattle.es_steps.specs.Steps.Ledger.{ledger}
 use Rattle.es_steps.specs.Steps.Spot.{at_node}
-use Rattle.es_steps.specs.UsingBlocks.{BlockUsing, Constants, TakesContext, UsedAll, error_name, has_using, inside_block, is_statement_place, is_using_node, with_context}
+use Rattle.es_steps.specs.UsingBlocks.{BlockUsing, TakesContext, has_using, inside_block, is_statement_place, with_context}
 use Rattle.es_steps.specs.UsingBlocks.BlockUsing.{of_block, of_part}
-use Rattle.es_steps.specs.UsingBlocks.Constants.{ended, stays, using}
-use Rattle.es_steps.specs.UsingBlocks.UsedAll.{no_more, uses}
 use Rattle.es_steps.specs.UsingLoops.{UsesInHead}
 use Rattle.es_steps.specs.UsingLoops.LoopUsing.{of_loop}
-use Rattle.es_steps.specs.UsingLoops.UsesInHead.{in_head, with_label}
-use Rattle.es_steps.specs.UsingSwitches.{ConstantsInCases, some_case_has_using}
-use Rattle.es_steps.specs.UsingSwitches.ConstantsInCases.{in_case, no_case}
+use Rattle.es_steps.specs.UsingSwitches.{some_case_has_using}
 use Rattle.es_steps.specs.UsingSwitches.SwitchUsing.{of_switch}
-use Rattle.es_changes.proofs.Expressions.{law_expression_proof}
 use Rattle.es_rest_rows.proofs.HelperNames.{FindsNone, is_other_name, place-none}
-use Rattle.es_using_rows.specs.Used.{Makes, constant, constants, tried, used_cases, used_declaration, used_declarators, used_loop, used_node}
-use Rattle.es_using_rows.specs.UsingPlaces.{are_used, are_used_cases, has_function, have_values, is_labelled, is_part, is_used, is_using_word, leads_to_head, uses_here, uses_in_arrow, uses_in_body, uses_in_function, uses_in_head, uses_in_list}
+use Rattle.es_pattern_moves.proofs.Settled.{Sound}
+use Rattle.es_using_rows.specs.Used.{constants, tried, used_loop, used_node}
+use Rattle.es_using_rows.specs.UsingPlaces.{are_used, are_used_cases, is_labelled, is_part, leads_to_head, may_enter, uses_here, uses_in_arrow, uses_in_body, uses_in_function, uses_in_head, uses_in_list}
 use Rattle.es_using_rows.specs.UsingRows.{StandsSo, UsingWalkRow, making}
 use Rattle.es_using_rows.specs.UsingRows.UsingWalkRow.{uses as uses_row}
 use Rattle.es_using_rows.specs.declared.standing.Standing.{Standing}
@@ -46,25 +38,25 @@ use Rattle.es_using_rows.proofs.UsingSites.{cases-are, constants-are, for-is, he
 
 -- FUNCTIONS whose body's list is lowered
 
-data IsUsedBody : Tree → Type 0 where
-  a_body : (l : Label) (ds ts : Trees) → uses_in_list ts ≡ true → has_function ts ≡ false → IsUsedBody (body l ds ts)
+data IsUsedBody (ps : Trees) : Tree → Type 0 where
+  a_body : (l : Label) (ds ts : Trees) → uses_in_list ts ≡ true → may_enter ps ts ≡ true → IsUsedBody ps (body l ds ts)
 
-body-shape : (b : Tree) → uses_in_body b ≡ true → IsUsedBody b
-body-shape (node FunctionBody l (many ds then statements ts then done)) e = let both = and_parts (uses_in_list ts) (not (has_function ts)) e in a_body l ds ts both.0 (not-true (has_function ts) both.1)
-body-shape _ e = absurd (cc e)
+body-shape : (ps : Trees) (b : Tree) → uses_in_body ps b ≡ true → IsUsedBody ps b
+body-shape ps (node FunctionBody l (many ds then statements ts then done)) e = let both = and_parts (uses_in_list ts) (may_enter ps ts) e in a_body l ds ts both.0 both.1
+body-shape ps _ e = absurd (cc e)
 
 data IsUsedFunction : Fields → Type 0 where
-  a_function : (f : Field) (ps : Trees) (b : Tree) → IsUsedBody b → IsUsedFunction (f then many ps then one b then done)
+  a_function : (f : Field) (ps : Trees) (b : Tree) → IsUsedBody ps b → IsUsedFunction (f then many ps then one b then done)
 
 function-shape : (fs : Fields) → uses_in_function fs ≡ true → IsUsedFunction fs
-function-shape (f then many ps then one b then done) e = a_function f ps b (body-shape b e)
+function-shape (f then many ps then one b then done) e = a_function f ps b (body-shape ps b e)
 function-shape _ e = absurd (cc e)
 
 data IsUsedArrow : Fields → Type 0 where
-  an_arrow : (ps : Trees) (b : Tree) → IsUsedBody b → IsUsedArrow (many ps then one b then done)
+  an_arrow : (ps : Trees) (b : Tree) → IsUsedBody ps b → IsUsedArrow (many ps then one b then done)
 
 arrow-shape : (fs : Fields) → uses_in_arrow fs ≡ true → IsUsedArrow fs
-arrow-shape (many ps then one b then done) e = an_arrow ps b (body-shape b e)
+arrow-shape (many ps then one b then done) e = an_arrow ps b (body-shape ps b e)
 arrow-shape _ e = absurd (cc e)
 
 -- KINDS OF NODES
@@ -92,33 +84,33 @@ module _ (n : Site) (w : Whole) (q : Pending) (x : Option Bound) (y : Additions)
   loop-step : (t : Tree) → not (is_labelled s) ≡ true → UsesInHead (next_name w c) t (used_loop (making w c) i t) → IsStep t (tried (making w c) i t (used_loop (making w c) i t before empty))
   loop-step t e r = inr (inr (inl (of_loop (sym stands.labelled ∙ not-true (is_labelled s) e) (takes w c fresh used n.names none) r)))
 
-  declaration-kind : (m : Label) (fs : Fields) (a : Sort) → IsUsedFunction fs → has_form a (node FunctionDeclaration m fs) ≡ true → Passes is_other_name (node FunctionDeclaration m fs) → BodyApart FunctionDeclaration m fs → IsStep (node FunctionDeclaration m fs) (used_node (making w c) s i FunctionDeclaration m fs)
-  declaration-kind m fs a (a_function g ps b (a_body l ds ts lowered no_function)) f h apart = declaration-step n w q x y i (body l ds ts) c fresh used none l ds ts lowered no_function (apart g ps l ds ts refl) a m g ps f h
+  declaration-kind : (m : Label) (fs : Fields) (a : Sort) → IsUsedFunction fs → has_form a (node FunctionDeclaration m fs) ≡ true → Passes is_other_name (node FunctionDeclaration m fs) → AllIn Sound fs → BodyApart FunctionDeclaration m fs → IsStep (node FunctionDeclaration m fs) (used_node (making w c) s i FunctionDeclaration m fs)
+  declaration-kind m fs a (a_function g ps b (a_body l ds ts lowered enter)) f h sound apart = declaration-step n w q x y i (body l ds ts) c fresh used none l ds ts lowered sound.1.1.0.1.1.0 (apart g ps l ds ts refl) a m g ps enter f h
 
-  expression-kind : (m : Label) (fs : Fields) (a : Sort) → IsUsedFunction fs → has_form a (node FunctionExpression m fs) ≡ true → Passes is_other_name (node FunctionExpression m fs) → BodyApart FunctionExpression m fs → IsStep (node FunctionExpression m fs) (used_node (making w c) s i FunctionExpression m fs)
-  expression-kind m fs a (a_function g ps b (a_body l ds ts lowered no_function)) f h apart = expression-step n w q x y i (body l ds ts) c fresh used none l ds ts lowered no_function (apart g ps l ds ts refl) a m g ps f h
+  expression-kind : (m : Label) (fs : Fields) (a : Sort) → IsUsedFunction fs → has_form a (node FunctionExpression m fs) ≡ true → Passes is_other_name (node FunctionExpression m fs) → AllIn Sound fs → BodyApart FunctionExpression m fs → IsStep (node FunctionExpression m fs) (used_node (making w c) s i FunctionExpression m fs)
+  expression-kind m fs a (a_function g ps b (a_body l ds ts lowered enter)) f h sound apart = expression-step n w q x y i (body l ds ts) c fresh used none l ds ts lowered sound.1.1.0.1.1.0 (apart g ps l ds ts refl) a m g ps enter f h
 
-  arrow-kind : (m : Label) (fs : Fields) (a : Sort) → IsUsedArrow fs → has_form a (node ArrowFunctionExpression m fs) ≡ true → Passes is_other_name (node ArrowFunctionExpression m fs) → BodyApart ArrowFunctionExpression m fs → IsStep (node ArrowFunctionExpression m fs) (used_node (making w c) s i ArrowFunctionExpression m fs)
-  arrow-kind m fs a (an_arrow ps b (a_body l ds ts lowered no_function)) f h apart = arrow-step n w q x y i (body l ds ts) c fresh used none l ds ts lowered no_function (apart ps l ds ts refl) a m ps f h
+  arrow-kind : (m : Label) (fs : Fields) (a : Sort) → IsUsedArrow fs → has_form a (node ArrowFunctionExpression m fs) ≡ true → Passes is_other_name (node ArrowFunctionExpression m fs) → AllIn Sound fs → BodyApart ArrowFunctionExpression m fs → IsStep (node ArrowFunctionExpression m fs) (used_node (making w c) s i ArrowFunctionExpression m fs)
+  arrow-kind m fs a (an_arrow ps b (a_body l ds ts lowered enter)) f h sound apart = arrow-step n w q x y i (body l ds ts) c fresh used none l ds ts lowered sound.1.0.1.1.0 (apart ps l ds ts refl) a m ps enter f h
 
-  kind-step : (k : AstType) (l : Label) (fs : Fields) (a : Sort) → has_form a (node k l fs) ≡ true → Passes is_other_name (node k l fs) → BodyApart k l fs → uses_here s k l fs ≡ true → IsStep (node k l fs) (used_node (making w c) s i k l fs)
-  kind-step BlockStatement l (statements ts then done) a f h apart e = block-step l ts h e
-  kind-step SwitchStatement l (d then many cs then done) a f h apart e =
+  kind-step : (k : AstType) (l : Label) (fs : Fields) (a : Sort) → has_form a (node k l fs) ≡ true → Passes is_other_name (node k l fs) → AllIn Sound fs → BodyApart k l fs → uses_here s k l fs ≡ true → IsStep (node k l fs) (used_node (making w c) s i k l fs)
+  kind-step BlockStatement l (statements ts then done) a f h sound apart e = block-step l ts h e
+  kind-step SwitchStatement l (d then many cs then done) a f h sound apart e =
       let both = and_parts (some_case_has_using cs) (are_used_cases cs) e in
       inr (inr (inr (inl (of_switch both.0 (tested-none a l d cs f) (takes w c fresh used n.names none) (cases-are w c i cs both.1)))))
-  kind-step ForStatement l fs a f h apart e =
+  kind-step ForStatement l fs a f h sound apart e =
       let both = and_parts (not (is_labelled s)) (uses_in_head fs) e in
       loop-step (node ForStatement l fs) both.0 (for-is w c i l fs both.1)
-  kind-step LabeledStatement l fs a f h apart e =
+  kind-step LabeledStatement l fs a f h sound apart e =
       let both = and_parts (not (is_labelled s)) (leads_to_head (node LabeledStatement l fs)) e in
       loop-step (node LabeledStatement l fs) both.0 (head-is w c i a (node LabeledStatement l fs) f both.1)
-  kind-step FunctionDeclaration m fs a f h apart e = declaration-kind m fs a (function-shape fs e) f h apart
-  kind-step FunctionExpression m fs a f h apart e = expression-kind m fs a (function-shape fs e) f h apart
-  kind-step ArrowFunctionExpression m fs a f h apart e = arrow-kind m fs a (arrow-shape fs e) f h apart
-  kind-step k l fs a f h apart e = absurd (cc e)
+  kind-step FunctionDeclaration m fs a f h sound apart e = declaration-kind m fs a (function-shape fs e) f h sound apart
+  kind-step FunctionExpression m fs a f h sound apart e = expression-kind m fs a (function-shape fs e) f h sound apart
+  kind-step ArrowFunctionExpression m fs a f h sound apart e = arrow-kind m fs a (arrow-shape fs e) f h sound apart
+  kind-step k l fs a f h sound apart e = absurd (cc e)
 
 -- A ROW
 
-pub row-using : (n : Site) (s s' : Ledger) (k : AstType) (l : Label) (fs : Fields) (u : Tree) (a : Sort) → FindsNone n.names → Passes is_other_name (node k l fs) → has_form a (node k l fs) ≡ true → BodyApart k l fs → UsingWalkRow n s (at_node (node k l fs)) s' (at_node u) →
+pub row-using : (n : Site) (s s' : Ledger) (k : AstType) (l : Label) (fs : Fields) (u : Tree) (a : Sort) → FindsNone n.names → Passes is_other_name (node k l fs) → has_form a (node k l fs) ≡ true → AllIn Sound fs → BodyApart k l fs → UsingWalkRow n s (at_node (node k l fs)) s' (at_node u) →
     UsingRule n s (at_node (node k l fs)) s' (at_node u)
-row-using n s s' k l fs u a none h f apart (uses_row {w = w} {q = q} {x = x} {y = y} z i _ _ _ c stands here fresh used) = kind-step n w q x y z i c stands fresh used none k l fs a f h apart here
+row-using n s s' k l fs u a none h f sound apart (uses_row {w = w} {q = q} {x = x} {y = y} z i _ _ _ c stands here fresh used) = kind-step n w q x y z i c stands fresh used none k l fs a f h sound apart here

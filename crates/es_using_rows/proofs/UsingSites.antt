@@ -1,13 +1,12 @@
 -- A row of the walk is a step of the rules of `using`, where `babelHelpers` finds nothing: by the form of the node its declarations become constants.
-use Rattle.std.proofs.Common.{◌≡◌, ℕ, suc, zero, inl, inr, refl, sym, ap, subst, ◌∙◌, List, [], ◌∷◌}
+use Rattle.std.proofs.Common.{◌≡◌, ℕ, suc, zero, refl, sym, ap, subst, List, [], ◌∷◌}
 use Rattle.std.specs.Prelude.{◌&&◌, ◌||◌, not, Bool, true, false, Option, Some, None, bytes_eq, codes, if◌then◌else◌}
-use Rattle.std.proofs.lemmas.Bool.{and_parts, not-false, not-true}
+use Rattle.std.proofs.lemmas.Bool.{and_parts}
 use Rattle.es_tree.specs.Fresh.{IsFreshName, candidate, text_base}
 use Rattle.es_tree.specs.HasForm.{has_form, trees_form}
 use Rattle.es_tree.specs.Tree.{Tree, node, Label, Fields, done, ◌then◌, Field, missing, one, many, statements, Trees, empty, ◌before◌}
 use Rattle.es_tree.specs.Words.{Text}
-use Rattle.es_tree.specs.declared.ast_type.AstType.{AstType}
-use Rattle.es_tree.specs.declared.ast_type.AstType.TheVariants.{BlockStatement, ForStatement, Identifier, LabeledStatement, SwitchCase, SwitchStatement, VariableDeclaration, VariableDeclarator}
+use Rattle.es_tree.specs.declared.ast_type.AstType.TheVariants.{ForStatement, Identifier, LabeledStatement, SwitchCase, SwitchStatement, VariableDeclaration, VariableDeclarator}
 use Rattle.es_tree.specs.declared.table.Sort.{Sort}
 use Rattle.es_tree.specs.declared.table.Sort.TheVariants.{Expression as s-Expression, Identifier as s-Identifier, Statement as s-Statement, SwitchCase as s-SwitchCase}
 use Rattle.es_tree.proofs.NodeForm.{node_form}
@@ -15,34 +14,24 @@ use Rattle.es_semantic.specs.RolesOf.{reads}
 use Rattle.es_resolution.specs.Declarations.{Bound, declared_by}
 use Rattle.es_resolution.specs.Resolved.{Place}
 use Rattle.es_resolution.proofs.Basics.{bytes_eq-equal}
-use Rattle.es_steps.specs.AllRules.{UsingRule}
-use Rattle.es_steps.specs.Identifiers.{Passes}
-use Rattle.es_steps.specs.Open.{Additions, Pending}
 use Rattle.es_steps.specs.Rules.{next_name}
-use Rattle.es_steps.specs.Steps.{Ledger, Site, Whole}
-use Rattle.es_steps.specs.Steps.Ledger.{ledger}
-use Rattle.es_steps.specs.Steps.Spot.{at_node}
-use Rattle.es_steps.specs.UsingBlocks.{BlockUsing, Constants, TakesContext, UsedAll, error_name, has_using, inside_block, is_statement_place, is_using_node, with_context}
-use Rattle.es_steps.specs.UsingBlocks.BlockUsing.{of_block, of_part}
+use Rattle.es_steps.specs.Steps.{Whole}
+use Rattle.es_steps.specs.UsingBlocks.{Constants, TakesContext, UsedAll, error_name, is_using_node}
 use Rattle.es_steps.specs.UsingBlocks.Constants.{ended, stays, using}
 use Rattle.es_steps.specs.UsingBlocks.UsedAll.{no_more, uses}
 use Rattle.es_steps.specs.UsingLoops.{UsesInHead}
-use Rattle.es_steps.specs.UsingLoops.LoopUsing.{of_loop}
 use Rattle.es_steps.specs.UsingLoops.UsesInHead.{in_head, with_label}
-use Rattle.es_steps.specs.UsingSwitches.{ConstantsInCases, some_case_has_using}
+use Rattle.es_steps.specs.UsingSwitches.{ConstantsInCases}
 use Rattle.es_steps.specs.UsingSwitches.ConstantsInCases.{in_case, no_case}
-use Rattle.es_steps.specs.UsingSwitches.SwitchUsing.{of_switch}
 use Rattle.es_changes.proofs.Expressions.{law_expression_proof}
-use Rattle.es_rest_rows.proofs.HelperNames.{FindsNone, is_other_name, place-none}
-use Rattle.es_using_rows.specs.Used.{Makes, constant, constants, tried, used_cases, used_declaration, used_declarators, used_loop, used_node}
-use Rattle.es_using_rows.specs.UsingPlaces.{are_used, are_used_cases, have_values, is_labelled, is_part, is_used, is_using_word, leads_to_head, uses_here, uses_in_head}
-use Rattle.es_using_rows.specs.UsingRows.{StandsSo, UsingWalkRow, making}
-use Rattle.es_using_rows.specs.UsingRows.UsingWalkRow.{uses as uses_row}
-use Rattle.es_using_rows.specs.declared.standing.Standing.{Standing}
+use Rattle.es_rest_rows.proofs.HelperNames.{FindsNone}
+use Rattle.es_using_rows.specs.Used.{Makes, constant, constants, used_cases, used_declaration, used_declarators, used_loop}
+use Rattle.es_using_rows.specs.UsingPlaces.{are_used, are_used_cases, have_values, is_used, is_using_word, leads_to_head, uses_in_head}
+use Rattle.es_using_rows.specs.UsingRows.{making}
 
 -- TEXTS AND NAMES
 
-word-using : (ts : List (Option Text)) → is_using_word ts ≡ true → ts ≡ Some (codes "using") ∷ []
+pub word-using : (ts : List (Option Text)) → is_using_word ts ≡ true → ts ≡ Some (codes "using") ∷ []
 word-using [] e = absurd (cc e)
 word-using (None ∷ ts) e = absurd (cc e)
 word-using (Some x ∷ []) e = ap (λ (y : Text). Some y ∷ []) (bytes_eq-equal x (codes "using") e)

@@ -1,20 +1,18 @@
--- Steps of a walk that lowers `using` are steps of its rules, from a program that has form, binds no `babelHelpers` and declares no name twice where
--- it may not: after each of them the program is so again, and so is each of its nodes.
+-- Steps of a walk that lowers `using` are steps of its rules, from a program that has form, binds no `babelHelpers`, keeps the rules of places and
+-- declares no name twice where it may not: after each of them the program is so again, and so is each of its nodes.
 use Rattle.std.proofs.Common.{◌≡◌, ℕ, suc, zero, refl, sym, subst, List, []}
 use Rattle.std.specs.Prelude.{true, false, Option, codes}
 use Rattle.es_tree.specs.HasForm.{has_form}
-use Rattle.es_tree.specs.Tree.{Tree, node, Label, Fields, done, ◌then◌, Field, missing, one, many, statements, Trees, empty, ◌before◌}
+use Rattle.es_tree.specs.StaticRules.{breaks}
+use Rattle.es_tree.specs.Tree.{Tree, node, Fields, Field, Trees}
 use Rattle.es_tree.specs.Walks.{any_node}
-use Rattle.es_tree.specs.declared.ast_type.AstType.{AstType}
-use Rattle.es_tree.specs.declared.table.Sort.{Sort}
 use Rattle.es_tree.specs.declared.table.Sort.TheVariants.{Program as s-Program}
-use Rattle.es_tree.proofs.NodeForm.{has_form-node}
 use Rattle.es_resolution.specs.Declarations.{Bound}
-use Rattle.es_resolution.proofs.AllForms.{All, AllAmong, AllBy, AllIn, all-tree}
+use Rattle.es_resolution.proofs.AllForms.{All, AllAmong, AllBy, AllIn}
 use Rattle.es_steps.specs.AllRules.{UsingRule}
 use Rattle.es_steps.specs.Identifiers.{Passes, PassesAll, PassesBy, PassesIn}
 use Rattle.es_steps.specs.Laws.{IsWellBound, nothing_beside}
-use Rattle.es_steps.specs.Open.{Additions, Open, OpenField, OpenFields, OpenTrees, Pending, after_imports, finished, finished_field, finished_fields, finished_trees, flanks_with, opened, pending_statements}
+use Rattle.es_steps.specs.Open.{Additions, Open, OpenField, OpenFields, OpenTrees, Pending, after_imports, body_with, finished, finished_field, finished_fields, finished_trees, flanks_with, opened, pending_statements}
 use Rattle.es_steps.specs.Steps.{FieldStep, FieldsStep, Ledger, Site, Spot, Step, Steps, TreesStep, Whole, the_program}
 use Rattle.es_steps.specs.Steps.FieldStep.{acts_on_body, acts_on_list, in_body, in_child, in_children, in_list, in_program, in_target}
 use Rattle.es_steps.specs.Steps.FieldsStep.{in_first, in_later}
@@ -36,52 +34,57 @@ use Rattle.es_steps.proofs.Wraps.{block-lawful}
 use Rattle.es_arrow_steps.proofs.Onward.{onward}
 use Rattle.es_arrow_steps.proofs.RuleMoves.{ActsSo}
 use Rattle.es_arrow_steps.proofs.RuleMoves.Moves.{context}
-use Rattle.es_valid_names.specs.Laws.{declared_breaks}
+use Rattle.es_valid_steps.specs.PlaceRules.{Keeps}
+use Rattle.es_valid_steps.proofs.Visits.{law_among_proof, law_places_proof}
+use Rattle.es_valid_names.proofs.BareNames.{law_declared_among_proof}
 use Rattle.es_valid_names.proofs.Claims.{Clear, elsewhere}
 use Rattle.es_valid_names.proofs.ClearRules.{use_in}
 use Rattle.es_valid_names.proofs.NameSteps.{Good as GoodNames, around, start-clear}
 use Rattle.es_valid_names.proofs.StartUsed.{start-used}
+use Rattle.es_valid_using.proofs.UsingMoves.{after-step}
 use Rattle.es_valid_using.proofs.UsingNamesRules.{all-moves}
 use Rattle.es_valid_using.proofs.UsingNamesSteps.{one-step}
 use Rattle.es_valid_using.proofs.UsingPlacesSteps.{using-keeps-form}
 use Rattle.es_valid_using.proofs.UsingRules.{all-using}
+use Rattle.es_valid_using.proofs.UsingTrees.{TreeAfter, tree-after}
 use Rattle.es_rest_rows.specs.Laws.{is_bound_helper}
 use Rattle.es_rest_rows.proofs.HelperSites.{body-none}
 use Rattle.es_rest_rows.proofs.HelperSteps.{Unbound, first-unbound, still-unbound}
 use Rattle.es_rest_rows.proofs.HelperNames.{FindsNone, is_other_name, place-none, unbound-passes}
 use Rattle.es_pattern_moves.proofs.MoveWalks.{all-after, all-body, all-flanks}
-use Rattle.es_pattern_moves.proofs.Settled.{Formed}
+use Rattle.es_pattern_moves.proofs.Settled.{Sound, all-sound}
 use Rattle.es_using_rows.proofs.BodiesApart.{BodyApart, clear-apart}
 use Rattle.es_using_rows.specs.UsingRows.{UsingWalkRow}
 use Rattle.es_using_rows.specs.UsingRows.UsingWalkRow.{uses as uses_row}
 use Rattle.es_using_rows.proofs.UsingKinds.{row-using}
 
--- each node has form, and a body declares no name by `var` that it declares otherwise
-abbrev Fit : AstType → Label → Fields → Type 0
-Fit k l fs = Formed k l fs × BodyApart k l fs
-
--- WHAT IS KNOWN of a part at its place
+-- WHAT IS KNOWN of a part at its place: each node has form and keeps the rules of places, and a body declares no name by `var` that it declares
+-- otherwise
 
 abbrev Known : Tree → Type 0
-Known t = Passes is_other_name t × All Fit t
+Known t = Passes is_other_name t × All Sound t × All BodyApart t
 
 abbrev KnownIn : Fields → Type 0
-KnownIn fs = PassesIn is_other_name fs × AllIn Fit fs
+KnownIn fs = PassesIn is_other_name fs × AllIn Sound fs × AllIn BodyApart fs
 
 abbrev KnownBy : Field → Type 0
-KnownBy f = PassesBy is_other_name f × AllBy Fit f
+KnownBy f = PassesBy is_other_name f × AllBy Sound f × AllBy BodyApart f
 
 abbrev KnownAll : Trees → Type 0
-KnownAll ts = PassesAll is_other_name ts × AllAmong Fit ts
+KnownAll ts = PassesAll is_other_name ts × AllAmong Sound ts × AllAmong BodyApart ts
 
 known-list : (p : Pending) (x : Option Bound) (a : Additions) (ts : Trees) → KnownAll (after_imports (pending_statements p x a) ts) → KnownAll ts
-known-list p x a ts h = ((whole-passes is_other_name p x a ts h.0).1, all-after Fit (pending_statements p x a) ts h.1)
+known-list p x a ts h = ((whole-passes is_other_name p x a ts h.0).1, all-after Sound (pending_statements p x a) ts h.1, all-after BodyApart (pending_statements p x a) ts h.2)
+
+known-body : (p : Pending) (t : Tree) → Known (body_with p.vars p.lets t) → Known t
+known-body p t h = ((body-passes is_other_name p.vars p.lets t h.0).1, all-body Sound p.vars p.lets t h.1, all-body BodyApart p.vars p.lets t h.2)
 
 known-flanks : (bs cs : List Tree) (t : Tree) (ts : Trees) → KnownAll (flanks_with bs t cs ts) → Known t × KnownAll ts
 known-flanks bs cs t ts h =
     let names = (flanks-pass is_other_name bs cs t ts h.0).1 in
-    let forms = all-flanks Fit bs cs t ts h.1 in
-    ((names.0, forms.0), (names.1, forms.1))
+    let sound = all-flanks Sound bs cs t ts h.1 in
+    let apart = all-flanks BodyApart bs cs t ts h.2 in
+    ((names.0, sound.0, apart.0), (names.1, sound.1, apart.1))
 
 -- ONE STEP
 
@@ -89,21 +92,21 @@ walk-nodes : (n : Site) (s s' : Ledger) (x y : Spot) → UsingWalkRow n s x s' y
 walk-nodes n s s' x y (uses_row z i k l fs c stands here fresh used) = tt
 
 node-using : (n : Site) (s s' : Ledger) (t u : Tree) → FindsNone n.names → Known t → UsingWalkRow n s (at_node t) s' (at_node u) → UsingRule n s (at_node t) s' (at_node u)
-node-using n s s' (node k l fs) u e h r = row-using n s s' k l fs u h.1.0.0.sort e h.0 h.1.0.0.form h.1.0.1 r
+node-using n s s' (node k l fs) u e h r = row-using n s s' k l fs u h.1.0.sort e h.0 h.1.0.form h.1.1 h.2.0 r
 
 mutual
   step-there : {n : Site} {s s' : Ledger} {t u : Open} → Step UsingWalkRow n s t s' u → FindsNone n.names → Known (finished t) → Step UsingRule n s t s' u
   step-there (acts {n = n} {s = s} {s' = s'} t u r) e h = acts t u (node-using n s s' t u e (subst (λ (z : Tree). Known z) (finished-opened t) h) r)
-  step-there (inside {n = n} {k = k} {l = l} {fs = fs} r) e h = inside (step-there-in r (place-none n.names n.role k l (finished_fields fs) h.0 e) (h.0.1, h.1.1))
+  step-there (inside {n = n} {k = k} {l = l} {fs = fs} r) e h = inside (step-there-in r (place-none n.names n.role k l (finished_fields fs) h.0 e) (h.0.1, h.1.1, h.2.1))
 
   step-there-in : {c : ℕ → Site} {s s' : Ledger} {fs gs : OpenFields} → FieldsStep UsingWalkRow c s fs s' gs → ((i : ℕ) → FindsNone (c i).names) → KnownIn (finished_fields fs) → FieldsStep UsingRule c s fs s' gs
-  step-there-in (in_first r) e h = in_first (step-there-by r (e zero) (h.0.0, h.1.0))
-  step-there-in (in_later r) e h = in_later (step-there-in r (λ i. e (suc i)) (h.0.1, h.1.1))
+  step-there-in (in_first r) e h = in_first (step-there-by r (e zero) (h.0.0, h.1.0, h.2.0))
+  step-there-in (in_later r) e h = in_later (step-there-in r (λ i. e (suc i)) (h.0.1, h.1.1, h.2.1))
 
   step-there-by : {n : Site} {s s' : Ledger} {f g : OpenField} → FieldStep UsingWalkRow n s f s' g → FindsNone n.names → KnownBy (finished_field f) → FieldStep UsingRule n s f s' g
   step-there-by (in_child r) e h = in_child (step-there r e h)
   step-there-by (in_children r) e h = in_children (step-there-all r e h)
-  step-there-by (in_body {n = n} {p = p} {t = t} a b c r) e h = in_body a b c (step-there r (body-none n.names p.vars p.lets (finished t) h.0 e) ((body-passes is_other_name p.vars p.lets (finished t) h.0).1, all-body Fit p.vars p.lets (finished t) h.1))
+  step-there-by (in_body {n = n} {p = p} {t = t} a b c r) e h = in_body a b c (step-there r (body-none n.names p.vars p.lets (finished t) h.0 e) (known-body p (finished t) h))
   step-there-by (in_list {p = p} {y = y} {b = b} {ts = ts} d f r) e h = in_list d f (step-there-all r e (known-list p y b (finished_trees ts) h))
   step-there-by (in_target {p = p} {y = y} {b = b} {ts = ts} f r) e h = in_target f (step-there-all r e (known-list p y b (finished_trees ts) h))
   step-there-by (in_program {p = p} {y = y} {b = b} {ts = ts} f r) e h = in_program f (step-there-all r e (known-list p y b (finished_trees ts) h))
@@ -111,8 +114,8 @@ mutual
   step-there-by (acts_on_body {n = n} {s = s} {s' = s'} {p = p} t u r) e h = absurd (walk-nodes n s s' (at_body p t) (at_node u) r)
 
   step-there-all : {n : Site} {s s' : Ledger} {ts us : OpenTrees} → TreesStep UsingWalkRow n s ts s' us → FindsNone n.names → KnownAll (finished_trees ts) → TreesStep UsingRule n s ts s' us
-  step-there-all (in_head r) e h = in_head (step-there r e (h.0.0, h.1.0))
-  step-there-all (in_tail r) e h = in_tail (step-there-all r e (h.0.1, h.1.1))
+  step-there-all (in_head r) e h = in_head (step-there r e (h.0.0, h.1.0, h.2.0))
+  step-there-all (in_tail r) e h = in_tail (step-there-all r e (h.0.1, h.1.1, h.2.1))
   step-there-all (in_flanked {bs = bs} {cs = cs} {t = t} {ts = ts} r) e h = in_flanked (step-there r e (known-flanks bs cs (finished t) (finished_trees ts) h).0)
   step-there-all (after_flanked {bs = bs} {cs = cs} {t = t} {ts = ts} r) e h = after_flanked (step-there-all r e (known-flanks bs cs (finished t) (finished_trees ts) h).1)
   step-there-all (flanks {n = n} {s = s} {s' = s'} {bs = bs} {cs = cs} t u r) e h = absurd (walk-nodes n s s' (at_node t) (at_beside bs u cs) r)
@@ -129,46 +132,28 @@ using-writes = both-write block-writes (both-write body-writes (both-write loop-
 row-acts : ActsSo UsingWalkRow
 row-acts n s s' x y (uses_row z i k l fs c stands here fresh used) = record { moves = context c fresh.free; list = tt }
 
-mutual
-  both-fit : (t : Tree) → All Formed t → All BodyApart t → All Fit t
-  both-fit (node k l fs) h a = ((h.0, a.0), both-fit-in fs h.1 a.1)
-
-  both-fit-in : (fs : Fields) → AllIn Formed fs → AllIn BodyApart fs → AllIn Fit fs
-  both-fit-in done h a = tt
-  both-fit-in (f then fs) h a = (both-fit-by f h.0 a.0, both-fit-in fs h.1 a.1)
-
-  both-fit-by : (f : Field) → AllBy Formed f → AllBy BodyApart f → AllBy Fit f
-  both-fit-by missing h a = tt
-  both-fit-by (one t) h a = both-fit t h a
-  both-fit-by (many ts) h a = both-fit-all ts h a
-  both-fit-by (statements ts) h a = both-fit-all ts h a
-
-  both-fit-all : (ts : Trees) → AllAmong Formed ts → AllAmong BodyApart ts → AllAmong Fit ts
-  both-fit-all empty h a = tt
-  both-fit-all (t before ts) h a = (both-fit t h.0 a.0, both-fit-all ts h.1 a.1)
-
-all-formed : (a : Sort) (t : Tree) → has_form a t ≡ true → All Formed t
-all-formed a t h = all-tree Formed (λ q k l fs form. record { sort = q; form = has_form-node q k l fs form }) a t h
-
 -- what is known of a program that steps led to
 record Good (s : Ledger) (x : Open) : Type 0 where
   names : GoodNames s x
   unbound : Unbound s x
+  keeps : Keeps [] (finished x)
 
 walked : {s s' : Ledger} {x y : Open} → Good s x → Steps (Step UsingWalkRow the_program) s x s' y → Steps (Step UsingRule the_program) s x s' y
 walked good stays = stays
 walked {s = s} {x = x} good (goes first rest) =
     let program = finished x in
-    let fit = both-fit program (all-formed s-Program program good.names.formed) (clear-apart (use_in s) program good.names.formed good.names.clear) in
-    let rule = step-there first refl (good.unbound.names, fit) in
+    let sound = all-sound s-Program program good.names.formed good.keeps in
+    let apart = clear-apart (use_in s) program good.names.formed good.names.clear in
+    let rule = step-there first refl (good.unbound.names, sound, apart) in
     let unbound = still-unbound UsingRule using-lawful using-writes (onward UsingWalkRow row-acts first).numbers rule good.unbound in
-    goes rule (walked (record { names = one-step UsingRule (using-keeps-form UsingRule all-using) all-moves rule good.names; unbound = unbound }) rest)
+    let left : TreeAfter s-Program _ _ = tree-after UsingRule all-using (after-step UsingRule all-using.alone rule good.names.proper).becomes s-Program (λ e. refl) good.names.formed in
+    goes rule (walked (record { names = one-step UsingRule (using-keeps-form UsingRule all-using) all-moves rule good.names; unbound = unbound; keeps = left.keeps [] good.keeps }) rest)
 
-pub walks : (t : Tree) (w w' : Whole) (x : Open) → has_form s-Program t ≡ true → declared_breaks t ≡ [] → IsWellBound w t → any_node is_bound_helper t ≡ false → w.in_use (codes "babelHelpers") ≡ true → Steps (Step UsingWalkRow the_program) (nothing_beside w) (opened t) (nothing_beside w') x → Steps (Step UsingRule the_program) (nothing_beside w) (opened t) (nothing_beside w') x
+pub walks : (t : Tree) (w w' : Whole) (x : Open) → has_form s-Program t ≡ true → breaks t ≡ [] → IsWellBound w t → any_node is_bound_helper t ≡ false → w.in_use (codes "babelHelpers") ≡ true → Steps (Step UsingWalkRow the_program) (nothing_beside w) (opened t) (nothing_beside w') x → Steps (Step UsingRule the_program) (nothing_beside w) (opened t) (nothing_beside w') x
 walks t w w' x form right bound none used steps =
     let names : GoodNames (nothing_beside w) (opened t) = record {
       proper = opened-proper t;
       formed = subst (λ (a : Tree). has_form s-Program a ≡ true) (sym (finished-opened t)) form;
-      clear = subst (λ (a : Tree). Clear (around w.in_use a) elsewhere a) (sym (finished-opened t)) (start-clear w.in_use t form right (start-used w.in_use w.free_symbol t form bound.named));
+      clear = subst (λ (a : Tree). Clear (around w.in_use a) elsewhere a) (sym (finished-opened t)) (start-clear w.in_use t form (law_declared_among_proof t right) (start-used w.in_use w.free_symbol t form bound.named));
     } in
-    walked (record { names = names; unbound = first-unbound w t used (unbound-passes t bound.class_names none) }) steps
+    walked (record { names = names; unbound = first-unbound w t used (unbound-passes t bound.class_names none); keeps = subst (λ (a : Tree). Keeps [] a) (sym (finished-opened t)) ((law_places_proof t).to_places (law_among_proof t right)) }) steps

@@ -1,13 +1,16 @@
 -- Where `using` is lowered (Explicit Resource Management, 14.3.1): in the body of a function, in a block, a block of a `try`, a `catch` or a
 -- `finally` among them, in the cases of a `switch` (14.12), and in the head of a `for` (14.7.4), which its labels go with.
 use Rattle.std.specs.Prelude.{◌&&◌, ◌||◌, not, Bool, false, true, List, [], ◌∷◌, Option, Some, bytes_eq, codes, ℕ, zero, suc}
-use Rattle.es_tree.specs.Tree.{Tree, node, Label, Fields, done, ◌then◌, one, many, statements, Trees, empty, ◌before◌}
+use Rattle.es_tree.specs.Names.{first_text}
+use Rattle.es_tree.specs.Tree.{Tree, node, Label, Fields, done, ◌then◌, one, many, statements, Trees, empty, ◌before◌, label_of}
 use Rattle.es_tree.specs.Words.{Text}
 use Rattle.es_tree.specs.declared.ast_type.AstType.{AstType}
 use Rattle.es_tree.specs.declared.ast_type.AstType.TheVariants.{ArrowFunctionExpression, BlockStatement, CatchClause, ExportDefaultDeclaration, ExportNamedDeclaration, ForStatement, FunctionBody, FunctionDeclaration, FunctionExpression, LabeledStatement, SwitchCase, SwitchStatement, TryStatement, VariableDeclaration, VariableDeclarator}
 use Rattle.es_steps.specs.UsingBlocks.{has_using, is_using_node}
 use Rattle.es_steps.specs.UsingSwitches.{some_case_has_using}
+use Rattle.es_rest_rows.specs.RestRows.{binds_name}
 use Rattle.es_rest_shapes.specs.RestShapes.{any_tree}
+use Rattle.es_pattern_moves.specs.PatternMoves.{is_called, var_declares}
 use Rattle.es_using_rows.specs.declared.standing.Standing.{Standing}
 use Rattle.es_using_rows.specs.declared.standing.Standing.TheVariants.{Anywhere, Labelled, Part}
 
@@ -75,28 +78,55 @@ leads_to_head (node ForStatement l fs) = uses_in_head fs
 leads_to_head (node LabeledStatement l (one t then one u then done)) = leads_to_head u
 leads_to_head _ = false
 
--- BODIES of functions, in which no function stands at the top, which would become one of a block: `function f() { using a = b; return a; }`; nor an
--- export, which would hand that on, and stands in no body
-abbrev pub is_function_or_export : Tree → Bool
-is_function_or_export (node FunctionDeclaration l fs) = true
-is_function_or_export (node ExportNamedDeclaration l fs) = true
-is_function_or_export (node ExportDefaultDeclaration l fs) = true
-is_function_or_export _ = false
+-- BODIES of functions: `function f() { using a = b; return a; }`. A function at the top of one becomes one of the block (14.2.1), where no other declares
+-- its name as at the top of a body, by `var` or as a function (10.2.11), which in a block is declared as by `var`, too (B.3.2.1), and no parameter has it.
+-- An export would hand on where it stands, and stands in no body.
 
-abbrev pub has_function : Trees → Bool
-has_function ts = any_tree is_function_or_export ts
+abbrev pub is_export : Tree → Bool
+is_export (node ExportNamedDeclaration l fs) = true
+is_export (node ExportDefaultDeclaration l fs) = true
+is_export _ = false
 
-abbrev pub uses_in_body : Tree → Bool
-uses_in_body (node FunctionBody l (many ds then statements ts then done)) = uses_in_list ts && not (has_function ts)
-uses_in_body _ = false
+-- a function of this name
+abbrev pub is_function_of : Text → Tree → Bool
+is_function_of x (node FunctionDeclaration l (one t then fs)) = is_called x t
+is_function_of x _ = false
+
+-- whether a statement at the top declares this name by `var`, or as a function in a block
+abbrev pub var_at_top : Text → Tree → Bool
+var_at_top x (node FunctionDeclaration l fs) = false
+var_at_top x t = var_declares x t
+
+-- whether no other declares this name of a function, where these are the parameters, these all statements, and these those behind the function
+abbrev pub is_alone : Text → Trees → Trees → Trees → Bool
+is_alone x ps ts us = not (any_tree (binds_name x) ps) && not (any_tree (var_at_top x) ts) && not (any_tree (is_function_of x) us)
+
+-- a statement with those behind it: a function that is alone, or none
+abbrev pub enters : Trees → Trees → Tree → Trees → Bool
+enters ps ts (node FunctionDeclaration l (one t then fs)) us = is_alone (first_text (label_of t).texts) ps ts us
+enters ps ts (node FunctionDeclaration l fs) us = false
+enters ps ts t us = not (is_export t)
+
+-- these of the statements of a body
+abbrev pub all_enter : Trees → Trees → Trees → Bool
+all_enter ps ts empty = true
+all_enter ps ts (t before us) = enters ps ts t us && all_enter ps ts us
+
+abbrev pub may_enter : Trees → Trees → Bool
+may_enter ps ts = all_enter ps ts ts
+
+-- where these are the parameters
+abbrev pub uses_in_body : Trees → Tree → Bool
+uses_in_body ps (node FunctionBody l (many ds then statements ts then done)) = uses_in_list ts && may_enter ps ts
+uses_in_body ps _ = false
 
 -- of a function with a name or without, and of an arrow
 abbrev pub uses_in_function : Fields → Bool
-uses_in_function (f then many ps then one b then done) = uses_in_body b
+uses_in_function (f then many ps then one b then done) = uses_in_body ps b
 uses_in_function _ = false
 
 abbrev pub uses_in_arrow : Fields → Bool
-uses_in_arrow (many ps then one b then done) = uses_in_body b
+uses_in_arrow (many ps then one b then done) = uses_in_body ps b
 uses_in_arrow _ = false
 
 -- THE NODES at which `using` is lowered

@@ -1,40 +1,36 @@
 -- Tests of the bodies of functions, as the code makes them and as they are defined.
-use Rattle.std.proofs.Common.{◌≡◌, ◌∙◌, ◌<◌, ◌∷◌, List, [], ap, arith, length, refl, sym}
-use Rattle.std.specs.Prelude.{◌||◌, false, true}
-use Rattle.std.specs.List.{list_any}
-use Rattle.es_tree.specs.Tree.{Tree, Fields, done, ◌then◌, Field, missing, one, many, statements, trees}
-use Rattle.es_tree.specs.Views.{plain_field, plain_fields}
+use Rattle.std.proofs.Common.{◌≡◌, ◌∙◌, ◌<◌, ◌∷◌, List, [], arith, length, refl, sym}
+use Rattle.std.specs.Prelude.{false, true}
+use Rattle.es_tree.specs.Tree.{Fields, done, ◌then◌, Field, missing, one, many, statements, Trees}
+use Rattle.es_tree.specs.Views.{plain_fields}
 use Rattle.es_tree.specs.declared.node.Field.{Field as NodeField}
-use Rattle.es_using_rows.specs.UsingPlaces.{has_function, is_function_or_export, uses_in_arrow, uses_in_function}
+use Rattle.es_using_nodes.proofs.FieldCounts.{fewer, fewer-than-three, more, more-than-three}
+use Rattle.es_using_rows.specs.UsingPlaces.{uses_in_arrow, uses_in_function}
 use Rattle.lower_using.specs.Parts.{uses_after_directives}
-use Rattle.lower_using.proofs.PlaceTests.{fewer, more}
-
-pub any-function : (ts : List Tree) → list_any is_function_or_export ts ≡ has_function (trees ts)
-any-function [] = refl
-any-function (t ∷ ts) = ap (λ b. is_function_or_export t || b) (any-function ts)
 
 -- DIRECTIVES AND STATEMENTS
 
-directives-alone : (f : Field) → uses_after_directives (f then done) ≡ false
-directives-alone missing = refl
-directives-alone (one t) = refl
-directives-alone (many ts) = refl
-directives-alone (statements ts) = refl
+module _ (ps : Trees) where
+  directives-alone : (f : Field) → uses_after_directives ps (f then done) ≡ false
+  directives-alone missing = refl
+  directives-alone (one t) = refl
+  directives-alone (many ts) = refl
+  directives-alone (statements ts) = refl
 
-directives-longer : (f g h : Field) (fs : Fields) → uses_after_directives (f then g then h then fs) ≡ false
-directives-longer missing g h fs = refl
-directives-longer (one t) g h fs = refl
-directives-longer (statements ts) g h fs = refl
-directives-longer (many ts) missing h fs = refl
-directives-longer (many ts) (one u) h fs = refl
-directives-longer (many ts) (many us) h fs = refl
-directives-longer (many ts) (statements us) h fs = refl
+  directives-longer : (f g h : Field) (fs : Fields) → uses_after_directives ps (f then g then h then fs) ≡ false
+  directives-longer missing g h fs = refl
+  directives-longer (one t) g h fs = refl
+  directives-longer (statements ts) g h fs = refl
+  directives-longer (many ts) missing h fs = refl
+  directives-longer (many ts) (one u) h fs = refl
+  directives-longer (many ts) (many us) h fs = refl
+  directives-longer (many ts) (statements us) h fs = refl
 
-pub fewer-directives : (fs : List NodeField) → length fs < 2 → uses_after_directives (plain_fields fs) ≡ false
-fewer-directives = fewer uses_after_directives refl directives-alone directives-longer
+  pub fewer-directives : (fs : List NodeField) → length fs < 2 → uses_after_directives ps (plain_fields fs) ≡ false
+  fewer-directives = fewer (uses_after_directives ps) refl directives-alone directives-longer
 
-pub more-directives : (fs : List NodeField) → 2 < length fs → uses_after_directives (plain_fields fs) ≡ false
-more-directives = more uses_after_directives refl directives-alone directives-longer
+  pub more-directives : (fs : List NodeField) → 2 < length fs → uses_after_directives ps (plain_fields fs) ≡ false
+  more-directives = more (uses_after_directives ps) refl directives-alone directives-longer
 
 -- ARROWS
 
@@ -77,17 +73,10 @@ four-of-function f (many ts) (many us) i fs = refl
 four-of-function f (many ts) (statements us) i fs = refl
 
 pub fewer-function : (fs : List NodeField) → length fs < 3 → uses_in_function (plain_fields fs) ≡ false
-fewer-function [] l = refl
-fewer-function (f ∷ []) l = refl
-fewer-function (f ∷ g ∷ []) l = two-of-function (plain_field f) (plain_field g)
-fewer-function (f ∷ g ∷ h ∷ fs) l = absurd (omega (arith, l))
+fewer-function = fewer-than-three uses_in_function refl (λ f. refl) two-of-function
 
 pub more-function : (fs : List NodeField) → 3 < length fs → uses_in_function (plain_fields fs) ≡ false
-more-function [] l = absurd (omega (arith, l))
-more-function (f ∷ []) l = absurd (omega (arith, l))
-more-function (f ∷ g ∷ []) l = absurd (omega (arith, l))
-more-function (f ∷ g ∷ h ∷ []) l = absurd (omega (arith, l))
-more-function (f ∷ g ∷ h ∷ i ∷ fs) l = four-of-function (plain_field f) (plain_field g) (plain_field h) (plain_field i) (plain_fields fs)
+more-function = more-than-three uses_in_function four-of-function
 
 -- HOW MANY FIELDS there are, where the test is passed
 

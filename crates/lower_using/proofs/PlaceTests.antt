@@ -5,16 +5,13 @@ use Rattle.std.specs.List.{list_all, list_any}
 use Rattle.es_tree.specs.Tree.{Tree, Fields, done, ◌then◌, Field, missing, one, many, statements, trees}
 use Rattle.es_tree.specs.Views.{plain_field, plain_fields}
 use Rattle.es_tree.specs.declared.node.Field.{Field as NodeField}
-use Rattle.es_steps.specs.UsingBlocks.{has_using, is_using_node}
+use Rattle.es_steps.specs.UsingBlocks.{is_using_node}
 use Rattle.es_steps.specs.UsingSwitches.{case_has_using, some_case_has_using}
+use Rattle.es_using_nodes.proofs.FieldCounts.{fewer, more}
 use Rattle.es_using_rows.specs.UsingPlaces.{are_used, are_used_cases, has_value, have_values, is_used, is_used_case, uses_in_head}
 use Rattle.lower_using.specs.Parts.{head_is_used, hold_values, holds_used, holds_using, holds_value, leads_in_label, some_have_values, uses_in_block, uses_in_switch}
 
 -- LISTS
-
-pub any-using : (ts : List Tree) → list_any is_using_node ts ≡ has_using (trees ts)
-any-using [] = refl
-any-using (t ∷ ts) = ap (λ b. is_using_node t || b) (any-using ts)
 
 abbrev pub passes : Tree → Bool
 passes t = not (is_using_node t) || is_used t
@@ -36,18 +33,6 @@ all-cases [] = refl
 all-cases (t ∷ cs) = ap (λ b. is_used_case t && b) (all-cases cs)
 
 -- TWO FIELDS, AND NO OTHER NUMBER
-
-module _ (P : Fields → Bool) (never : P done ≡ false) (alone : (f : Field) → P (f then done) ≡ false) (longer : (f g h : Field) (fs : Fields) → P (f then g then h then fs) ≡ false) where
-  pub fewer : (fs : List NodeField) → length fs < 2 → P (plain_fields fs) ≡ false
-  fewer [] h = never
-  fewer (f ∷ []) h = alone (plain_field f)
-  fewer (f ∷ g ∷ fs) h = absurd (omega (arith, h))
-
-  pub more : (fs : List NodeField) → 2 < length fs → P (plain_fields fs) ≡ false
-  more [] h = absurd (omega (arith, h))
-  more (f ∷ []) h = absurd (omega (arith, h))
-  more (f ∷ g ∷ []) h = absurd (omega (arith, h))
-  more (f ∷ g ∷ i ∷ fs) h = longer (plain_field f) (plain_field g) (plain_field i) (plain_fields fs)
 
 value-alone : (f : Field) → holds_value (f then done) ≡ false
 value-alone missing = refl

@@ -1,5 +1,5 @@
 -- What parts of a program become with one context, and the tests of places as the code has them: each of what stands in a node's fields.
-use Rattle.std.specs.Prelude.{◌≡◌, ◌&&◌, not, Bool, false, true, List, [], ◌∷◌, ℕ}
+use Rattle.std.specs.Prelude.{◌≡◌, ◌&&◌, Bool, false, true, List, [], ◌∷◌, ℕ}
 use Rattle.es_tree.specs.Tree.{Tree, node, Label, Fields, done, ◌then◌, Field, one, many, statements, Trees, empty, ◌before◌}
 use Rattle.es_tree.specs.Words.{Text}
 use Rattle.es_tree.specs.declared.ast_type.AstType.{AstType}
@@ -8,7 +8,7 @@ use Rattle.es_steps.specs.Nodes.{made}
 use Rattle.es_steps.specs.UsingBlocks.{has_using}
 use Rattle.es_steps.specs.UsingSwitches.{some_case_has_using}
 use Rattle.es_pattern_moves.specs.Moved.{name_of}
-use Rattle.es_using_rows.specs.UsingPlaces.{are_used, are_used_cases, has_function, have_values, is_used, leads_to_head, standing_in, uses_in_list}
+use Rattle.es_using_rows.specs.UsingPlaces.{are_used, are_used_cases, have_values, is_used, leads_to_head, may_enter, standing_in, uses_in_list}
 use Rattle.es_using_rows.specs.Used.{Makes, constants, plainly, used, used_among, used_by, used_cases, used_here, used_in, used_node}
 use Rattle.es_using_rows.specs.declared.standing.Standing.{Standing}
 
@@ -95,10 +95,10 @@ abbrev pub uses_in_block : Fields → Bool
 uses_in_block (statements ts then done) = uses_in_list ts
 uses_in_block _ = false
 
--- those of a body, which are its directives and its statements
-abbrev pub uses_after_directives : Fields → Bool
-uses_after_directives (many ds then statements ts then done) = uses_in_list ts && not (has_function ts)
-uses_after_directives _ = false
+-- those of a body, which are its directives and its statements, where these are the parameters
+abbrev pub uses_after_directives : Trees → Fields → Bool
+uses_after_directives ps (many ds then statements ts then done) = uses_in_list ts && may_enter ps ts
+uses_after_directives ps _ = false
 
 -- those of a `switch`
 abbrev pub uses_in_switch : Fields → Bool

@@ -8,7 +8,16 @@
 //!
 //!     function f() { "use strict"; try { var _usingCtx = babelHelpers.usingCtx(); const a = _usingCtx.u(b); return a; } catch (_) { _usingCtx.e = _; } finally { _usingCtx.d(); } }
 //!
-//! Directives stay in front of the `try` (ECMA-262, 11.2.1), and what is made has the id of the body.
+//! Directives stay in front of the `try` (ECMA-262, 11.2.1), and what is made has the id of the body. Functions at the top become those of a
+//! block (14.2.1). Before:
+//!
+//!     function f() { using a = b; g(a); function g(x) {} }
+//!
+//! After:
+//!
+//!     function f() { try { var _usingCtx = babelHelpers.usingCtx(); const a = _usingCtx.u(b); g(a); function g(x) {} } catch (_) { _usingCtx.e = _; } finally { _usingCtx.d(); } }
+//!
+//! Where one can't, as in `function f(g) { using a = b; function g() {} }`, the body stays.
 //!
 //! The rules are `used_function`, `used_arrow` and `used_body` of es_using_rows.
 ghost use Rattle.std.specs.Prelude.{◌≡◌, IfOk, true};

@@ -17,7 +17,10 @@
 //!
 //!     try { var _usingCtx = babelHelpers.usingCtx(); const file = _usingCtx.u(open(path)); read(file); } catch (_) { _usingCtx.e = _; } finally { _usingCtx.d(); }
 //!
-//! In the body of a function directives stay in front of the `try`. A body in which a function stands at the top stays, since the function would
+//! In the body of a function directives stay in front of the `try`, and functions at the top go into it:
+//! `function f() { using a = b; g(a); function g(x) {} }` becomes
+//! `function f() { try { var _usingCtx = babelHelpers.usingCtx(); const a = _usingCtx.u(b); g(a); function g(x) {} } catch (_) { .. } finally { .. } }`.
+//! A body stays that has a function at its top whose name a parameter, a `var` or another function there declares, too: that function can't
 //! become one of a block.
 //!
 //! The program is as it was read, and so is what it becomes: what is made has no marks of the scope tables. The call of a value has the id of

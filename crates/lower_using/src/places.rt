@@ -4,9 +4,8 @@ ghost use Rattle.std.specs.Prelude.{◌≡◌, bytes_eq, codes};
 ghost use Rattle.es_tree.specs.Tree.{fields_of, kind_of, label_of, trees};
 ghost use Rattle.es_tree.specs.Views.{plain_field, plain_fields};
 ghost use Rattle.es_tree.specs.Words.{variable_declaration_kind_text};
-ghost use Rattle.es_steps.specs.UsingBlocks.{has_using};
 ghost use Rattle.es_steps.specs.UsingSwitches.{case_has_using, some_case_has_using};
-ghost use Rattle.es_using_rows.specs.UsingPlaces.{are_used, are_used_cases, has_function, has_value, have_values, is_function_or_export, is_labelled, is_part, is_used, is_used_case, leads_to_head, standing_in, uses_here, uses_in_arrow, uses_in_body, uses_in_function, uses_in_head, uses_in_list};
+ghost use Rattle.es_using_rows.specs.UsingPlaces.{are_used, are_used_cases, has_value, have_values, is_labelled, is_part, is_used, is_used_case, leads_to_head, standing_in, uses_here, uses_in_arrow, uses_in_body, uses_in_function, uses_in_head, uses_in_list};
 ghost use Rattle.lower_using.specs.Parts.{head_is_used, hold_values, holds_used, holds_using, holds_value, leads_in_label, some_have_values, uses_after_directives, uses_in_block, uses_in_switch};
 
 use es_nodes::construct::is_using;
@@ -14,6 +13,8 @@ use es_tree::ast_type::AstType;
 use es_tree::kind::Kind;
 use es_tree::node::{Field, Node};
 use es_tree::operators::VariableDeclarationKind;
+use es_using_nodes::bodies::has_using;
+use es_using_nodes::entering::may_enter;
 use es_using_rows::standing::Standing;
 
 /// How the node in this field of a node of this kind stands.
@@ -74,12 +75,6 @@ fn uses_in_list(statements: &[Node]) -> bool
     ensures { result ≡ uses_in_list (trees statements.now) }
 {
     has_using(statements) && are_used(statements)
-}
-
-fn has_using(statements: &[Node]) -> bool
-    ensures { result ≡ has_using (trees statements.now) }
-{
-    statements.iter().any(|statement| is_using(statement))
 }
 
 fn are_used(statements: &[Node]) -> bool
@@ -253,7 +248,9 @@ fn uses_in_function(fields: &[Field]) -> bool
     ensures { result ≡ uses_in_function (plain_fields fields.now) }
 {
     match fields {
-        [_, Field::Many(..), Field::One(body)] => uses_in_body(body),
+        [_, Field::Many(parameters), Field::One(body)] => {
+            uses_in_body(parameters.as_slice(), body)
+        }
         _ => false,
     }
 }
@@ -263,48 +260,30 @@ fn uses_in_arrow(fields: &[Field]) -> bool
     ensures { result ≡ uses_in_arrow (plain_fields fields.now) }
 {
     match fields {
-        [Field::Many(..), Field::One(body)] => uses_in_body(body),
+        [Field::Many(parameters), Field::One(body)] => uses_in_body(parameters.as_slice(), body),
         _ => false,
     }
 }
 
-fn uses_in_body(body: &Node) -> bool
-    ensures { result ≡ uses_in_body body.now }
+/// Whether `using` is lowered in a body behind these parameters.
+fn uses_in_body(parameters: &[Node], body: &Node) -> bool
+    ensures { result ≡ uses_in_body (trees parameters.now) body.now }
 {
     match &body.kind {
-        Kind::FunctionBody { .. } => uses_after_directives(body.fields.as_slice()),
+        Kind::FunctionBody { .. } => uses_after_directives(parameters, body.fields.as_slice()),
         _ => false,
     }
 }
 
-/// Whether `using` is lowered in the statements of a body of these fields, in which no function stands at the top.
-fn uses_after_directives(fields: &[Field]) -> bool
-    ensures { result ≡ uses_after_directives (plain_fields fields.now) }
+/// Whether `using` is lowered in the statements of a body of these fields, whose functions at the top become those of the block of a `try`:
+/// `function f() { using a = b; g(a); function g(x) {} }`.
+fn uses_after_directives(parameters: &[Node], fields: &[Field]) -> bool
+    ensures { result ≡ uses_after_directives (trees parameters.now) (plain_fields fields.now) }
 {
     match fields {
         [Field::Many(..), Field::Statements(statements)] => {
-            uses_in_list(statements.as_slice()) && !has_function(statements.as_slice())
+            uses_in_list(statements.as_slice()) && may_enter(parameters, statements.as_slice())
         }
         _ => false,
     }
-}
-
-/// Whether a function stands at the top, or an export, which stands in no body.
-fn has_function(statements: &[Node]) -> bool
-    ensures { result ≡ has_function (trees statements.now) }
-{
-    statements
-        .iter()
-        .any(|statement| is_function_or_export(statement))
-}
-
-fn is_function_or_export(statement: &Node) -> bool
-    ensures { result ≡ is_function_or_export statement.now }
-{
-    matches!(
-        statement.kind,
-        Kind::FunctionDeclaration { .. }
-            | Kind::ExportNamedDeclaration { .. }
-            | Kind::ExportDefaultDeclaration { .. }
-    )
 }

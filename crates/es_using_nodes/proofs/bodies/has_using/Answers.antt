@@ -2,8 +2,8 @@ use Rattle.std.proofs.Common.{◌∙◌, rules, tests}
 use Rattle.std.proofs.lemmas.Iterator.{YieldsList-from_slice}
 use Rattle.std.proofs.lemmas.Iterator.Search.{any_from_yields_List}
 use Rattle.es_steps.specs.UsingBlocks.{is_using_node}
-use Rattle.lower_using.proofs.PlaceTests.{any-using}
-use Rattle.lower_using.proofs.places.has_using.Goals as goal
+use Rattle.es_using_nodes.proofs.EnterTests.{any-using}
+use Rattle.es_using_nodes.proofs.bodies.has_using.Goals as goal
 
 pub returns : goal.returns
 returns c =

@@ -1,0 +1,4 @@
+pub mod FieldCounts
+pub mod BodyShapes
+pub mod EnterTests
+pub mod HeadShapes

@@ -1,0 +1,9 @@
+use Rattle.std.proofs.Common.{arith, sym}
+use Rattle.es_using_nodes.proofs.BodyShapes.{fewer-function, more-function}
+use Rattle.es_using_nodes.proofs.bodies.clashes_in_function.Goals as goal
+
+pub returns-in_default : goal.returns-in_default
+returns-in_default c = sym (fewer-function c.args.fields.now (omega (arith, c.in_default.len_below)))
+
+pub returns-in_default-4 : goal.returns-in_default-4
+returns-in_default-4 c = sym (more-function c.args.fields.now (omega (arith, c.in_default.len_at_least)))

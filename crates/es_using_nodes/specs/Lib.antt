@@ -1,0 +1,3 @@
+pub mod BodyFields
+pub mod Clashes
+pub mod HeadFields
