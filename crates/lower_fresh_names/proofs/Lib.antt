@@ -1,1 +1,3 @@
 pub mod WrittenNames
+pub mod Walks
+pub mod Along

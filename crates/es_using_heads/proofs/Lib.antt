@@ -1,0 +1,13 @@
+pub mod HeadShapes
+pub mod HeadForms
+pub mod HeadNodes
+pub mod HeadWalks
+pub mod HeadCounts
+pub mod HeadSupply
+pub mod HeadSteps
+pub mod HeadStays
+pub mod HeadSize
+pub mod HeadWeights
+pub mod HeadAgree
+pub mod HeadAlike
+pub mod HeadReached

@@ -1,0 +1,4 @@
+pub mod Names
+pub mod HeadWalks
+pub mod HeadShapes
+pub mod MovedHeads

@@ -1,0 +1,2 @@
+pub mod FreshHeads
+pub mod Parts
