@@ -1,6 +1,6 @@
 -- A node that stands as the body of such a constructor is the body of a function expression: so what is known of each function expression's body is known
--- of it, also with its parts as they became.
-use Rattle.std.proofs.Common.{◌≡◌, ◌∙◌, ℕ, zero, suc, refl, subst, sym, []}
+-- of it.
+use Rattle.std.proofs.Common.{◌≡◌, ℕ, zero, suc, refl, subst, sym, []}
 use Rattle.std.specs.Prelude.{Bool, true, false, ◌&&◌, ◌==◌, bytes_eq, codes, if◌then◌else◌}
 use Rattle.std.proofs.lemmas.Bool.{and_parts, eqb-true}
 use Rattle.es_tree.specs.Ancestors.{is_class}
@@ -8,7 +8,6 @@ use Rattle.es_tree.specs.Attributes.{child_entries}
 use Rattle.es_tree.specs.HasForm.{field_form, fields_form, has_form, same_type}
 use Rattle.es_tree.specs.Names.{first_text}
 use Rattle.es_tree.specs.Tree.{Tree, node, Label, Fields, done, ◌then◌, Field, missing, one, many, statements}
-use Rattle.es_tree.specs.Words.{Text}
 use Rattle.es_tree.specs.declared.ast_type.AstType.{AstType}
 use Rattle.es_tree.specs.declared.ast_type.AstType.TheVariants.{FunctionBody, FunctionExpression, MethodDefinition}
 use Rattle.es_tree.specs.declared.table.Content.TheVariants.{Child as c-Child}
@@ -20,8 +19,7 @@ use Rattle.es_semantic.specs.RolesOf.{extends}
 use Rattle.es_super_calls.specs.Constructors.{is_body, is_constructor, is_member, standing_in}
 use Rattle.es_super_calls.specs.declared.standing.ClassStanding.{ClassStanding}
 use Rattle.es_super_calls.specs.declared.standing.ClassStanding.TheVariants.{Body, Constructor, Elsewhere, Member}
-use Rattle.es_constructor_this.specs.ConstructorThis.{names_apart, set_this_in}
-use Rattle.es_constructor_this.proofs.SetApart.{apart-after}
+use Rattle.es_constructor_this.specs.SetRows.{names_apart}
 use Rattle.es_constructor_this.proofs.SetSources.{FunctionApart}
 
 -- of a node that is a body, of what stands in a field, and of the field with this number: no list stands as a body
@@ -45,11 +43,6 @@ PartApart (suc j) (f then fs) = PartApart j fs
 -- where it stands as such a body
 abbrev pub OwnApart : ClassStanding → Tree → Type 0
 OwnApart s t = is_body s ≡ true → TreeApart t
-
--- with its parts as they became
-pub node-after : (made : Text → Bool) (k : AstType) (c : ℕ → ClassStanding) (fs : Fields) → NodeApart k fs → NodeApart k (set_this_in made c fs)
-node-after made FunctionBody c fs h = apart-after made c fs ∙ h
-node-after made k c fs h = tt
 
 -- THE THIRD FIELD of a function expression is its body
 

@@ -9,7 +9,7 @@ use Rattle.es_valid_names.specs.Laws.{StepsKeepRules}
 use Rattle.es_valid_rests.specs.Laws.{with_rests}
 use Rattle.es_valid_rests.proofs.RestPrograms.{source-outside, source-rules}
 use Rattle.es_valid_rests.proofs.RestSteps.{source-form}
-use Rattle.es_constructor_this.specs.ConstructorThis.{SetRow}
+use Rattle.es_constructor_this.specs.SetRows.{SetRow}
 use Rattle.es_constructor_this.proofs.SetBindings.{set-lawful, set-writes}
 use Rattle.es_constructor_this.proofs.SetForms.{set-form}
 use Rattle.es_constructor_this.proofs.SetNames.{set-good}

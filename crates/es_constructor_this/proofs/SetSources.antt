@@ -24,7 +24,7 @@ use Rattle.es_steps.proofs.FormMembers.{one-sort}
 use Rattle.es_valid_names.proofs.Claims.{Clear, elsewhere}
 use Rattle.es_valid_names.proofs.NameSteps.{around}
 use Rattle.es_using_rows.proofs.BodiesApart.{BodyApart, NamesApart, bodies-apart, clear-apart}
-use Rattle.es_constructor_this.specs.ConstructorThis.{names_apart}
+use Rattle.es_constructor_this.specs.SetRows.{names_apart}
 
 -- of the body of each function expression
 abbrev pub FunctionApart : AstType → Label → Fields → Type 0

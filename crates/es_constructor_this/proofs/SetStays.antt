@@ -2,7 +2,8 @@
 use Rattle.std.proofs.Common.{◌≡◌, ℕ, ap, refl, ◌∙◌}
 use Rattle.std.specs.Prelude.{Bool, true, false, ◌&&◌, zero, suc, None, Option, if◌then◌else◌}
 use Rattle.es_tree.specs.HasForm.{same_type}
-use Rattle.es_tree.specs.Tree.{Tree, node, Fields, done, ◌then◌, Field, missing, one, many, statements, Trees, empty, ◌before◌}
+use Rattle.es_tree.specs.Names.{first_text}
+use Rattle.es_tree.specs.Tree.{Tree, label_of, node, Fields, done, ◌then◌, Field, missing, one, many, statements, Trees, empty, ◌before◌}
 use Rattle.es_tree.specs.Words.{Text}
 use Rattle.es_tree.specs.declared.ast_type.AstType.{AstType}
 use Rattle.es_tree.specs.declared.ast_type.AstType.TheVariants.{FunctionBody, Identifier, VariableDeclaration, VariableDeclarator}
@@ -22,12 +23,12 @@ module _ (made : Text → Bool) (none : (x : Text) → made x ≡ false) where
   never false b c h x = refl
 
   no-name : (t : Tree) → this_name made t ≡ None
-  no-name (node VariableDeclaration m (many (node VariableDeclarator k (one x then (one e then done)) before empty) then done)) = never (is_var m.texts) (is_made_name made x) (is_this e) (no-made x) x
+  no-name (node VariableDeclaration m (many (node VariableDeclarator k (one x then (one e then done)) before empty) then done)) = never (is_var m.texts) (is_made_name made x) (is_this e) (no-made x) (first_text (label_of x).texts)
   no-name t = refl
 
   list-stays : (ts : Trees) → set_statements made ts ≡ ts
   list-stays empty = refl
-  list-stays (d before ts) = ap (λ (x : Option Tree). set_behind x d ts) (no-name d)
+  list-stays (d before ts) = ap (λ (x : Option Text). set_behind x d ts) (no-name d)
 
   body-stays : (fs : Fields) → set_in_body made fs ≡ fs
   body-stays (ds then (statements ts then done)) = ap (λ (us : Trees). ds then (statements us then done)) (list-stays ts)

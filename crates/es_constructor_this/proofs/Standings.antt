@@ -15,7 +15,7 @@ use Rattle.es_steps.specs.Steps.{outline}
 use Rattle.es_super_calls.specs.Constructors.{is_body, is_constructor, is_member, standing_in}
 use Rattle.es_super_calls.specs.declared.standing.ClassStanding.{ClassStanding}
 use Rattle.es_super_calls.specs.declared.standing.ClassStanding.TheVariants.{Body, Constructor, Elsewhere, Member}
-use Rattle.es_constructor_this.specs.ConstructorThis.{is_constructor_body}
+use Rattle.es_constructor_this.specs.SetRows.{is_constructor_body}
 
 -- these ancestors say so
 abbrev pub stands_so : ClassStanding → List Ancestor → Bool

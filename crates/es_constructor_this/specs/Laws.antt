@@ -1,4 +1,4 @@
--- The laws of constructors whose `this` is set behind `super(..)`: what a program becomes is reached by steps of the row, it is no more than twice as
+-- The laws of constructors whose `this` is set behind `super(..)`: what a program becomes is reached by steps of the rows, it is no more than three times as
 -- large, and has no construct more.
 use Rattle.std.specs.Prelude.{◌≡◌, ◌*◌, ◌≤◌, Bool, [], false, true}
 use Rattle.es_tree.specs.Bare.{bare}
@@ -20,7 +20,8 @@ use Rattle.es_valid_names.specs.Laws.{StepsKeepRules}
 use Rattle.es_valid_rests.specs.Laws.{with_rests}
 use Rattle.es_super_calls.specs.declared.standing.ClassStanding.{ClassStanding}
 use Rattle.es_super_calls.specs.declared.standing.ClassStanding.TheVariants.{Elsewhere}
-use Rattle.es_constructor_this.specs.ConstructorThis.{SetRow, set_this}
+use Rattle.es_constructor_this.specs.ConstructorThis.{set_this}
+use Rattle.es_constructor_this.specs.SetRows.{SetRow}
 
 -- STEPS OF THE ROW, those of the other lowerings among them, keep form,
 abbrev pub LawSetForm : Type 0
@@ -49,7 +50,7 @@ LawSetSteps = (made : Text → Bool) (p : Tree) → has_form s-Program p ≡ tru
 
 -- SIZE, of any tree
 abbrev pub LawSetSize : Type 0
-LawSetSize = (made : Text → Bool) (s : ClassStanding) (t : Tree) → tree_size (set_this made s t) ≤ 2 * tree_size t
+LawSetSize = (made : Text → Bool) (s : ClassStanding) (t : Tree) → tree_size (set_this made s t) ≤ 3 * tree_size t
 
 -- CONSTRUCTS that options ask to lower: where a program has none, it has none afterwards.
 abbrev pub LawSetNone : Type 0

@@ -1,3 +1,4 @@
 pub mod ConstructorThis
+pub mod SetRows
 pub mod Laws
 pub mod Examples

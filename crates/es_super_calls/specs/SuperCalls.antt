@@ -1,10 +1,10 @@
--- Calls of `super` in a constructor (ECMA-262, 13.3.7.1). In that of a class that extends another there is no `this` before one of them is done. Where
--- each is looked for that could be the first, all is plain if that is a statement of the body's own list: `constructor(a) { f(a); super(a); g(this); }`.
-use Rattle.std.specs.Prelude.{◌&&◌, ◌||◌, not, Bool, false, if◌then◌else◌}
+-- Calls of `super` in a constructor (ECMA-262, 13.3.7.1). In that of a class that extends another there is no `this` before one of them is done:
+-- `constructor(a) { f(a); super(a); g(this); }`.
+use Rattle.std.specs.Prelude.{◌&&◌, ◌||◌, not, Bool, false}
 use Rattle.es_tree.specs.Ancestors.{is_function}
 use Rattle.es_tree.specs.HasForm.{same_type}
 use Rattle.es_tree.specs.Tree.{Tree, node, Fields, done, ◌then◌, Field, missing, one, many, statements, Trees, empty, ◌before◌, kind_of}
-use Rattle.es_tree.specs.declared.ast_type.AstType.TheVariants.{CallExpression, ExpressionStatement, FunctionBody, Super}
+use Rattle.es_tree.specs.declared.ast_type.AstType.TheVariants.{CallExpression, ExpressionStatement, Super}
 
 -- A CALL, by the fields of a call: `super(a)`, and no `super.b(a)`
 abbrev pub calls_it : Fields → Bool
@@ -38,27 +38,7 @@ abbrev mutual
   calls_super_among empty = false
   calls_super_among (t before ts) = calls_super t || calls_super_among ts
 
--- STRAYS: a call that could be the first, and is no statement of the body's list
-
--- in the arguments of this call
-abbrev pub strays_in_call : Tree → Bool
-strays_in_call (node k l (f then fs)) = calls_super_in fs
-strays_in_call _ = false
-
-abbrev pub strays_in_statement : Tree → Bool
-strays_in_statement (node k l (one t then fs)) = strays_in_call t
-strays_in_statement _ = false
-
--- among the statements up to the first that is a call of `super`, behind which each other one throws
-abbrev pub strays_among : Trees → Bool
-strays_among empty = false
-strays_among (t before ts) = if is_super_statement t then strays_in_statement t else calls_super t || strays_among ts
-
-abbrev pub strays_in_body : Tree → Bool
-strays_in_body (node FunctionBody l (ds then (statements ts then done))) = strays_among ts
-strays_in_body t = false
-
--- in the parameters or the body of a function, by its fields
-abbrev pub has_stray_super : Fields → Bool
-has_stray_super (f then (ps then (one b then done))) = calls_super_by ps || strays_in_body b
-has_stray_super _ = false
+-- in the parameters of a function, by its fields: there is no list to set a name in
+abbrev pub calls_super_before : Fields → Bool
+calls_super_before (f then (ps then fs)) = calls_super_by ps
+calls_super_before _ = false

@@ -1,19 +1,18 @@
-//! Calls of `super` in a constructor (ECMA-262, 13.3.7.1), and whether the first of them is a statement of the body's own list.
+//! Calls of `super` in a constructor (ECMA-262, 13.3.7.1).
 ghost use Rattle.std.specs.Prelude.{◌≡◌};
-ghost use Rattle.es_tree.specs.Tree.{fields_of, trees};
+ghost use Rattle.es_tree.specs.Tree.{fields_of};
 ghost use Rattle.es_tree.specs.Views.{plain_field, plain_fields};
-ghost use Rattle.es_super_calls.specs.SuperCalls.{calls_it, calls_super, calls_super_by, calls_super_in, has_stray_super, is_super_call, is_super_statement, strays_among, strays_in_body, strays_in_call, strays_in_statement};
+ghost use Rattle.es_super_calls.specs.SuperCalls.{calls_it, calls_super, calls_super_before, calls_super_by, calls_super_in, is_super_call, is_super_statement};
 
 use es_tree::kind::Kind;
 use es_tree::node::{Field, Node};
 
-/// Whether a call of `super` stands in the parameters or the body of this function, as one that could be the first, and is no statement of the
-/// body's own list.
-pub fn has_stray_super(function: &Node) -> bool
-    ensures { result ≡ has_stray_super (fields_of function.now) }
+/// Whether a call of `super` stands in the parameters of this function, before its body.
+pub fn calls_super_before(function: &Node) -> bool
+    ensures { result ≡ calls_super_before (fields_of function.now) }
 {
     match function.fields.as_slice() {
-        [_, parameters, Field::One(body)] => calls_super_by(parameters) || strays_in_body(body),
+        [_, parameters, ..] => calls_super_by(parameters),
         _ => false,
     }
 }
@@ -29,7 +28,7 @@ pub fn is_super_statement(node: &Node) -> bool
 }
 
 /// Whether the node is a call of `super`.
-fn is_super_call(node: &Node) -> bool
+pub fn is_super_call(node: &Node) -> bool
     ensures { result ≡ is_super_call node.now }
 {
     match &node.kind {
@@ -39,56 +38,11 @@ fn is_super_call(node: &Node) -> bool
 }
 
 /// Whether what a call with these fields calls is `super`.
-fn calls_it(fields: &[Field]) -> bool
+pub fn calls_it(fields: &[Field]) -> bool
     ensures { result ≡ calls_it (plain_fields fields.now) }
 {
     match fields {
         [Field::One(callee), ..] => matches!(callee.kind, Kind::Super),
-        _ => false,
-    }
-}
-
-/// Whether the body's own list has such a call elsewhere than as one of its statements, up to the first that is one.
-fn strays_in_body(body: &Node) -> bool
-    ensures { result ≡ strays_in_body body.now }
-{
-    match (&body.kind, body.fields.as_slice()) {
-        (Kind::FunctionBody { .. }, [_, Field::Statements(statements)]) => {
-            strays_among(statements.as_slice())
-        }
-        _ => false,
-    }
-}
-
-fn strays_among(statements: &[Node]) -> bool
-    ensures { result ≡ strays_among (trees statements.now) }
-{
-    for statement in statements {
-        if is_super_statement(statement) {
-            return strays_in_statement(statement);
-        }
-        if calls_super(statement) {
-            return true;
-        }
-    }
-    false
-}
-
-/// Whether such a call stands in the arguments of the one that is this statement.
-fn strays_in_statement(statement: &Node) -> bool
-    ensures { result ≡ strays_in_statement statement.now }
-{
-    match statement.fields.as_slice() {
-        [Field::One(call), ..] => strays_in_call(call),
-        _ => false,
-    }
-}
-
-fn strays_in_call(call: &Node) -> bool
-    ensures { result ≡ strays_in_call call.now }
-{
-    match call.fields.as_slice() {
-        [_, arguments @ ..] => calls_super_in(arguments),
         _ => false,
     }
 }

@@ -79,7 +79,7 @@ use Rattle.es_valid_steps.proofs.Changed.{this-inside}
 -- FIELDS
 
 -- what stands in the field is a target
-abbrev is_target_at : AstType → ℕ → Bool
+abbrev pub is_target_at : AstType → ℕ → Bool
 is_target_at ArrayTarget i = true
 is_target_at AssignmentExpression zero = true
 is_target_at ForInStatement zero = true
@@ -91,7 +91,7 @@ is_target_at UpdateExpression zero = true
 is_target_at _ i = false
 
 -- a key or a property, which may be computed
-abbrev is_key_at : AstType → ℕ → Bool
+abbrev pub is_key_at : AstType → ℕ → Bool
 is_key_at MemberExpression (suc zero) = true
 is_key_at MethodDefinition zero = true
 is_key_at ObjectProperty zero = true
@@ -101,13 +101,13 @@ is_key_at TargetProperty zero = true
 is_key_at _ i = false
 
 -- its role is the node's own, and it may be an expression
-abbrev is_handed_at : AstType → ℕ → Bool
+abbrev pub is_handed_at : AstType → ℕ → Bool
 is_handed_at ExportDefaultDeclaration zero = true
 is_handed_at ParenthesizedExpression zero = true
 is_handed_at _ i = false
 
 -- no expression
-abbrev is_apart_at : AstType → ℕ → Bool
+abbrev pub is_apart_at : AstType → ℕ → Bool
 is_apart_at ArrayPattern i = true
 is_apart_at ArrowFunctionExpression zero = true
 is_apart_at AssignmentPattern zero = true
@@ -145,7 +145,7 @@ is_apart_at VariableDeclarator zero = true
 is_apart_at _ i = false
 
 -- all else is read
-read-at : (r : Role) (k : AstType) (l : Label) (fs : Fields) (i : ℕ) → (is_target_at k i || is_key_at k i || is_handed_at k i || is_apart_at k i) ≡ false → role_at r k l fs i ≡ reads
+pub read-at : (r : Role) (k : AstType) (l : Label) (fs : Fields) (i : ℕ) → (is_target_at k i || is_key_at k i || is_handed_at k i || is_apart_at k i) ≡ false → role_at r k l fs i ≡ reads
 read-at r ArrayPattern l fs i e = absurd (cc e)
 read-at r ArrayTarget l fs i e = absurd (cc e)
 read-at r ArrowFunctionExpression l fs zero e = absurd (cc e)
@@ -263,7 +263,7 @@ this-own : (s : Sort) → list_any (same_type ThisExpression) (own_kinds s) ≡ 
 this-own s-Expression = refl
 this-own _ = refl
 
-parens-own : (s : Sort) → list_any (same_type ParenthesizedExpression) (own_kinds s) ≡ false
+pub parens-own : (s : Sort) → list_any (same_type ParenthesizedExpression) (own_kinds s) ≡ false
 parens-own s-Expression = refl
 parens-own _ = refl
 
@@ -296,7 +296,7 @@ target-none p k l i t e h d = absurd (cc e)
 
 -- KEYS: where `this` is one, it is computed
 
-abbrev is_key_sort : Sort → Bool
+abbrev pub is_key_sort : Sort → Bool
 is_key_sort s-MemberProperty = true
 is_key_sort s-PropertyKey = true
 is_key_sort _ = false
@@ -318,7 +318,7 @@ key-computed k l s t key h e = at (is_computed k l) h
     at false h = absurd (no-key s t key h e)
 
 -- the flag that tells it
-computed-named : (k : AstType) (bs : List Bool) → (is_key_at k 0 || is_key_at k 1) ≡ true → flag_of f-Computed (flag_entries k) bs ≡ true → has_computed k bs ≡ true
+pub computed-named : (k : AstType) (bs : List Bool) → (is_key_at k 0 || is_key_at k 1) ≡ true → flag_of f-Computed (flag_entries k) bs ≡ true → has_computed k bs ≡ true
 computed-named MemberExpression [] e h = absurd (cc h)
 computed-named MemberExpression (a ∷ bs) e h = h
 computed-named MethodDefinition [] e h = absurd (cc h)
@@ -418,7 +418,7 @@ field-said r b k l all i up last f clear edges keeps = at (is_target_at k i) ref
 
 -- THE FIELDS OF A NODE
 
-later-clear : (k : AstType) → same_type k MemberExpression ≡ false → (n : ℕ) → (is_key_at k (suc n) || is_handed_at k (suc n)) ≡ false
+pub later-clear : (k : AstType) → same_type k MemberExpression ≡ false → (n : ℕ) → (is_key_at k (suc n) || is_handed_at k (suc n)) ≡ false
 later-clear MemberExpression e n = absurd (cc e)
 later-clear _ e n = refl
 

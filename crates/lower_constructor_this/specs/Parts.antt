@@ -1,9 +1,11 @@
 -- What parts of a program become, as the code has them: each of what stands in a node's fields.
-use Rattle.std.specs.Prelude.{◌≡◌, ◌&&◌, Bool, Option, Some, None, if◌then◌else◌, ℕ, zero, suc}
-use Rattle.es_tree.specs.Tree.{Tree, node, Fields, done, ◌then◌, Field, missing, one, many, Trees, empty, ◌before◌}
+use Rattle.std.specs.Prelude.{◌&&◌, [], ◌∷◌, Bool, false, Option, Some, None, bytes_eq, if◌then◌else◌, ℕ, zero, suc}
+use Rattle.es_tree.specs.Names.{first_text}
+use Rattle.es_tree.specs.Tree.{Tree, node, Fields, done, ◌then◌, Field, missing, one, many, Trees, empty, ◌before◌, label_of}
 use Rattle.es_tree.specs.Words.{Text}
-use Rattle.es_tree.specs.declared.ast_type.AstType.TheVariants.{VariableDeclarator}
-use Rattle.es_constructor_this.specs.ConstructorThis.{is_made_name, is_this, set_here}
+use Rattle.es_tree.specs.declared.ast_type.AstType.TheVariants.{Identifier, VariableDeclarator}
+use Rattle.es_steps.specs.Nodes.{assign_node, placed, sequence_node, this_expression}
+use Rattle.es_constructor_this.specs.ConstructorThis.{after_super_in, is_made_name, is_this, names_among, set_here, settled, this_name}
 use Rattle.es_super_calls.specs.declared.standing.ClassStanding.{ClassStanding}
 use Rattle.es_super_calls.specs.declared.standing.ClassStanding.TheVariants.{Elsewhere}
 use Rattle.lower_constructor_this.specs.declared.places.Standings.{Standings}
@@ -19,55 +21,79 @@ standing_at s (suc (suc (suc i))) = Elsewhere
 abbrev pub set_at : (Text → Bool) → ClassStanding → Tree → Tree
 set_at made s (node k l fs) = node k l (set_here made s k fs)
 
--- A NAME THAT IS TAKEN from a part of a tree, which is then without its value. Where there is none, the part stays.
+-- THE NAME, of `x = this`
+abbrev pub text_of : Tree → Option Text
+text_of (node Identifier l fs) = Some (first_text l.texts)
+text_of _ = None
 
-abbrev pub left_by : {X : Type 0} → (X → X) → Option Tree → X → X
-left_by without None x = x
-left_by without (Some t) x = without x
+abbrev pub name_for : (Text → Bool) → Tree → Tree → Option Text
+name_for made x e = if is_made_name made x && is_this e then text_of x else None
 
-pub record Takes {X : Type 0} (name_in : X → Option Tree) (without : X → X) (old : X) (name : Option Tree) (new : X) : Type 0 where
-  pub named : name ≡ name_in old
-  pub left : new ≡ left_by without name old
-
--- of `x = this`
-abbrev pub name_for : (Text → Bool) → Tree → Tree → Option Tree
-name_for made x e = if is_made_name made x && is_this e then Some x else None
-
-abbrev pub name_by : (Text → Bool) → Field → Field → Option Tree
+abbrev pub name_by : (Text → Bool) → Field → Field → Option Text
 name_by made (one x) (one e) = name_for made x e
 name_by made _ _ = None
 
--- from the fields of a declarator
-abbrev pub in_parts : (Text → Bool) → Fields → Option Tree
+abbrev pub in_parts : (Text → Bool) → Fields → Option Text
 in_parts made (f then (g then done)) = name_by made f g
 in_parts made _ = None
 
-abbrev pub parts_without : Fields → Fields
-parts_without (f then (g then done)) = f then (missing then done)
-parts_without fs = fs
-
--- from the declarator
-abbrev pub in_declarator : (Text → Bool) → Tree → Option Tree
+abbrev pub in_declarator : (Text → Bool) → Tree → Option Text
 in_declarator made (node VariableDeclarator l fs) = in_parts made fs
 in_declarator made _ = None
 
-abbrev pub declarator_without : Tree → Tree
-declarator_without (node k l fs) = node k l (parts_without fs)
-
--- from the declarators, where there is one
-abbrev pub in_declarators : (Text → Bool) → Trees → Option Tree
+abbrev pub in_declarators : (Text → Bool) → Trees → Option Text
 in_declarators made (t before empty) = in_declarator made t
 in_declarators made _ = None
+
+abbrev pub in_declarations : (Text → Bool) → Fields → Option Text
+in_declarations made (many ts then done) = in_declarators made ts
+in_declarations made _ = None
+
+-- that of the first of these statements, where it stands nowhere else
+abbrev pub unless_named : Option Text → Trees → Option Text
+unless_named None ts = None
+unless_named (Some y) ts = if names_among y ts then None else Some y
+
+abbrev pub name_to_set : (Text → Bool) → Trees → Option Text
+name_to_set made empty = None
+name_to_set made (d before ts) = unless_named (this_name made d) ts
+
+-- WITHOUT THE VALUE of the first declarator: `var x;`
+abbrev pub parts_without : Fields → Fields
+parts_without (f then (g then fs)) = f then (missing then fs)
+parts_without fs = fs
+
+abbrev pub declarator_without : Tree → Tree
+declarator_without (node k l fs) = node k l (parts_without fs)
 
 abbrev pub declarators_without : Trees → Trees
 declarators_without empty = empty
 declarators_without (t before ts) = declarator_without t before ts
 
--- from the fields of a declaration `var x = this;`
-abbrev pub in_declarations : (Text → Bool) → Fields → Option Tree
-in_declarations made (many ts then done) = in_declarators made ts
-in_declarations made _ = None
-
 abbrev pub declarations_without : Fields → Fields
 declarations_without (many ts then fs) = many (declarators_without ts) then fs
 declarations_without fs = fs
+
+abbrev pub declaration_without : Tree → Tree
+declaration_without (node k l fs) = node k l (declarations_without fs)
+
+-- IN THE PLACE OF A CALL: `(super(a), x = this)`
+abbrev pub sequence_of : Tree → Tree → Tree
+sequence_of x t = placed (label_of t) (sequence_node (t ∷ assign_node x this_expression ∷ []))
+
+-- a node of which the fields are gone through, and a field with a call
+abbrev pub parts_passed : Tree → Bool → Tree → Tree
+parts_passed x lists (node k l fs) = node k l (after_super_in x lists fs)
+
+abbrev pub arguments_by : Tree → Field → Field
+arguments_by x (one t) = one (parts_passed x false t)
+arguments_by x f = f
+
+-- of a node whose fields were gone through
+abbrev pub set_in_place : Tree → Tree → Tree
+set_in_place x (node k l fs) = settled x k l fs
+
+-- whether it is an identifier of this name
+abbrev pub is_called : Text → Tree → Bool
+is_called y (node Identifier l fs) = bytes_eq (first_text l.texts) y
+is_called y _ = false

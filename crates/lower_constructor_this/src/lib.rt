@@ -1,18 +1,24 @@
-//! In the constructor of a class that extends another the name for `this` is set behind `super(..)` (ECMA-262, 13.3.7.1), where there is no `this` before.
+//! In the constructor of a class that extends another the name for `this` is set behind each `super(..)` (ECMA-262, 13.3.7.1), where there is no `this`
+//! before.
 //!
 //! Before, as arrows leave it:
 //!
 //!     class A extends B { constructor() { var _this = this; super(); f(function () { return _this; }); } }
+//!     class C extends B { constructor(a) { var _this = this; a ? super(a) : super(); f(function () { return _this; }); } }
 //!
 //! After:
 //!
 //!     class A extends B { constructor() { var _this; super(); _this = this; f(function () { return _this; }); } }
+//!     class C extends B { constructor(a) { var _this; a ? (super(a), _this = this) : (super(), _this = this); f(function () { return _this; }); } }
 //!
 //! Its rule is `set_this` of es_constructor_this.
 #![tactic(auto)]
 
 mod bodies;
+mod calls;
+mod declarations;
 mod made_nodes;
+mod names;
 mod places;
 mod walk;
 
