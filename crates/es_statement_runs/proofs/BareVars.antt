@@ -25,7 +25,7 @@ use Rattle.es_runs.specs.Runs.{none_hidden, program, is_declared, scope_of, bind
 use Rattle.es_runs.proofs.Basic.{then_alike, return_alike}
 use Rattle.es_runs.proofs.Everywhere.{kind_like}
 use Rattle.es_statement_runs.specs.Helpers.{entry, silent_names, Supply}
-use Rattle.es_statement_runs.specs.Helpers.Supply.{no_helpers, by_global, by_import, by_require}
+use Rattle.es_statement_runs.specs.Helpers.Supply.{no_helpers, by_global, by_import, by_require, spread_by_global}
 use Rattle.es_statement_runs.specs.Scopes.{stack_cell, turns_cell}
 use Rattle.es_statement_runs.specs.Names.{top_in, using_in, using_here, names_of_all, own_names, lexical_in}
 use Rattle.es_statement_runs.specs.Senses.{Place, Portion, Sense, cores, said_in, said_of}
@@ -98,6 +98,7 @@ anywhere_seen F _ x h = h
 
 anywhere_told : (F : Frame) (o : Supply) → SupplySeen F o → Told F (bad_anywhere F) o
 anywhere_told F no_helpers h = tt
+anywhere_told F spread_by_global h = record { helpers = h; names = anywhere_seen F }
 anywhere_told F by_global h = record { helpers = h; names = anywhere_seen F }
 anywhere_told F (by_import m) h = record { helpers = h; names = anywhere_seen F }
 anywhere_told F (by_require m) h = record { helpers = h; names = anywhere_seen F }
@@ -303,6 +304,7 @@ said_by F w v same h x true e = let k = h x e in rw (k.0, k.1) same_nothing
 
 pub said_alike_from : (F : Frame) (o : Supply) (w v : World) → SameWorld F.hidden w v → Unsaid F.hidden w v → SaidAlike F o w v
 said_alike_from F no_helpers w v same h x = same_nothing
+said_alike_from F spread_by_global w v same h x = same_nothing
 said_alike_from F by_global w v same h x = said_by F w v same h x (F.hidden x) refl
 said_alike_from F (by_import m) w v same h x = said_by F w v same h x (F.hidden x) refl
 said_alike_from F (by_require m) w v same h x = said_by F w v same h x (F.hidden x) refl

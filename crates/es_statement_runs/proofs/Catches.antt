@@ -17,7 +17,7 @@ use Rattle.es_runs.specs.Alike.Same.{both_give, both_stop, outside, at_fault}
 use Rattle.es_runs.proofs.Congruence.{nothing_like}
 use Rattle.es_runs.proofs.Temporary.{bytes_eq-self, bytes_eq-flip}
 use Rattle.es_statement_runs.specs.Helpers.{Supply}
-use Rattle.es_statement_runs.specs.Helpers.Supply.{by_require, no_helpers, by_global, by_import}
+use Rattle.es_statement_runs.specs.Helpers.Supply.{by_require, no_helpers, by_global, by_import, spread_by_global}
 use Rattle.es_statement_runs.specs.Scopes.{stack_cell, is_own_cell, shadowed, put_back, leave, left, scoped}
 use Rattle.es_statement_runs.proofs.Programs.{top_world, rows_run}
 use Rattle.es_statement_runs.proofs.OwnCells.{own_apart}
@@ -90,6 +90,7 @@ module _ (hidden : Text → Bool) where
   -- names that are hidden are bad anywhere
   pub all_told : (F : Frame) → ((x : Text) → F.hidden x ≡ hidden x) → (u : Supply) → SupplySeen (any_cells hidden) u → Told F (bad_anywhere (any_cells hidden)) u
   all_told F same no_helpers seen = tt
+  all_told F same spread_by_global seen = record { helpers = record { global = same (codes "babelHelpers") ∙ seen.global; require = same (codes "require") ∙ seen.require }; names = λ n x h. same x ∙ bad_seen n x h }
   all_told F same by_global seen = record { helpers = record { global = same (codes "babelHelpers") ∙ seen.global; require = same (codes "require") ∙ seen.require }; names = λ n x h. same x ∙ bad_seen n x h }
   all_told F same (by_import m) seen = record { helpers = record { global = same (codes "babelHelpers") ∙ seen.global; require = same (codes "require") ∙ seen.require }; names = λ n x h. same x ∙ bad_seen n x h }
   all_told F same (by_require m) seen = record { helpers = record { global = same (codes "babelHelpers") ∙ seen.global; require = same (codes "require") ∙ seen.require }; names = λ n x h. same x ∙ bad_seen n x h }
@@ -99,12 +100,14 @@ module _ (hidden : Text → Bool) where
 -- a declared name is no pattern
 changeable_putter : (u : Supply) (w : World) (e : Meaning) → putter_by true w (said_in u changeable) e ≡ (e.reference >>= λ r. return (reference_putter true w r))
 changeable_putter no_helpers w e = refl
+changeable_putter spread_by_global w e = refl
 changeable_putter by_global w e = refl
 changeable_putter (by_import m) w e = refl
 changeable_putter (by_require m) w e = refl
 
 constant_putter : (u : Supply) (w : World) (e : Meaning) → putter_by true w (said_in u constant) e ≡ (e.reference >>= λ r. return (reference_putter true w r))
 constant_putter no_helpers w e = refl
+constant_putter spread_by_global w e = refl
 constant_putter by_global w e = refl
 constant_putter (by_import m) w e = refl
 constant_putter (by_require m) w e = refl

@@ -17,7 +17,7 @@ use Rattle.es_runs.specs.Runs.{program, only, identifier, none_hidden}
 use Rattle.es_runs.proofs.Temporary.{bytes_eq-flip}
 use Rattle.es_runs.proofs.Basic.{then_alike, ask_alike}
 use Rattle.es_statement_runs.specs.Helpers.{Supply}
-use Rattle.es_statement_runs.specs.Helpers.Supply.{by_require, no_helpers, by_global, by_import}
+use Rattle.es_statement_runs.specs.Helpers.Supply.{by_require, no_helpers, by_global, by_import, spread_by_global}
 use Rattle.es_statement_runs.proofs.OwnCells.{program_apart, own_apart}
 use Rattle.es_statement_runs.specs.Alike.{Told, Quiet, SenseLike}
 use Rattle.es_statement_runs.proofs.Programs.{top_world, rows_run}
@@ -83,6 +83,7 @@ module _ (held x : Text) (math : bytes_eq (codes "Math") x ≡ false) (no_own : 
       where
         seen_by : (u : Supply) → SupplySeen (any_cells hid) u
         seen_by no_helpers = tt
+        seen_by spread_by_global = helpers
         seen_by by_global = helpers
         seen_by (by_import m) = helpers
         seen_by (by_require m) = helpers

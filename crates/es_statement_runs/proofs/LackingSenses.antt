@@ -20,8 +20,8 @@ use Rattle.es_runs.proofs.WithoutAll.{AllBy, Matching, PartMatching, world_in, g
 use Rattle.es_runs.proofs.WithoutAll.AllBy.{no_more, one_more}
 use Rattle.es_runs.proofs.WithoutAll.PartMatching.{absent_matching, single_matching, several_matching}
 use Rattle.es_statement_runs.specs.Helpers.{is_helper_text, required_from, Supply}
-use Rattle.es_statement_runs.specs.Helpers.Supply.{by_require, no_helpers, by_global, by_import}
-use Rattle.es_statement_runs.specs.Calls.{is_stack_key, static_member, said_of_member, stack_failure, stack_call, stack_method, on_stack, is_spread, some_spread, first_spread, called_form, plain_callee, core_call, mapped, maps_keys, is_require, required_or, call_by, call_sense, member_by, member_sense, assignment_by, own_literal, module_text, is_global, definitions_by, is_bare, copied_values, spread_arguments, excluded_by, spread2_sense, extends_sense, destructuring_sense, without_sense, using_sense, helper_sense, named_member}
+use Rattle.es_statement_runs.specs.Helpers.Supply.{by_require, no_helpers, by_global, by_import, spread_by_global}
+use Rattle.es_statement_runs.specs.Calls.{helper_member, is_stack_key, static_member, said_of_member, stack_failure, stack_call, stack_method, on_stack, is_spread, some_spread, first_spread, called_form, plain_callee, core_call, mapped, maps_keys, is_require, required_or, call_by, call_sense, member_by, member_sense, assignment_by, own_literal, module_text, is_global, definitions_by, is_bare, copied_values, spread_arguments, excluded_by, spread2_sense, extends_sense, destructuring_sense, without_sense, using_sense, helper_sense, named_member}
 use Rattle.es_statement_runs.specs.Senses.{said_in, said_of, More, Sense, Portion, cores, core_part, core_parts, ends, only_more, plain_sense, word_text, static_by, static_text, key_value, literal_key, excluded_text, reference_putter, property_aims, putter_by, putter, member_of, members_in, element_by, element_of, elements_in, definition_of, definitions_in, is_empty, object_by, array_literal, array_items, key_of, with_key, key_items, keys_where, raw_of, raw_texts, cooked_of, cooked_texts, whole_text, text_alone, template_meaning, template_literal, tagged_template}
 use Rattle.es_statement_runs.specs.Senses.More.{nothing_more, literal_text, aims, heads, member_aims, rest_aims, defines, spreads, object_of, keys_of, maps, quasi, template_of, helper_call, stack_member, clause_of, handles, imports, begins}
 use Rattle.es_statement_runs.specs.Senses.Portion.{gap, alone, rows}
@@ -281,6 +281,7 @@ said_self constant n = same_nothing
 
 pub name_matching : (u : Supply) (b : Binding) → BindingLacks b → MoreMatching (said_in u b) (said_in u b)
 name_matching no_helpers b h = same_nothing
+name_matching spread_by_global b h = same_nothing
 name_matching by_global b h = said_self b h
 name_matching (by_import m) b h = said_self b h
 name_matching (by_require m) b h = said_self b h
@@ -291,6 +292,7 @@ stack_key false x h = same_nothing
 
 said_member : (u : Supply) (x : Text) {m k : M Reference} → Matches ReferenceLacks m k → MoreMatching (said_of_member u x m) (said_of_member u x k)
 said_member no_helpers x h = same_nothing
+said_member spread_by_global x h = same_nothing
 said_member by_global x h = stack_key (is_stack_key x) x h
 said_member (by_import m) x h = stack_key (is_stack_key x) x h
 said_member (by_require m) x h = stack_key (is_stack_key x) x h
@@ -504,6 +506,7 @@ module _ (scope : Text → Binding) (this : Value) (lacks : Lacks this) where
   require_same _ = refl
 
   global_same : (u : Supply) (x : Text) → is_global v u x ≡ is_global w u x
+  global_same spread_by_global x = refl
   global_same by_global x = refl
   global_same no_helpers x = refl
   global_same (by_import m) x = refl
@@ -530,8 +533,19 @@ module _ (scope : Text → Binding) (this : Value) (lacks : Lacks this) where
   static_matching : (u : Supply) (ls : List Text) (x y : Text) {m k : Meaning} → Matching m k → SenseMatching (static_member (placed_at u w ls x) y m) (static_member (placed_at u v ls x) y k)
   static_matching u ls x y h = record { core = h; more = said_member u y h.evaluation }
 
+  spread_or_nothing : (b : Bool) (y : Text) → MoreMatching (if b then helper_call y else nothing_more) (if b then helper_call y else nothing_more)
+  spread_or_nothing true y = same_helper
+  spread_or_nothing false y = same_nothing
+
+  helper_member_matching : (u : Supply) (y : Text) {m k : Meaning} → Matching m k → SenseMatching (helper_member u y m) (helper_member u y k)
+  helper_member_matching spread_by_global y h = record { core = h; more = spread_or_nothing (is_word (codes "objectSpread2") y) y }
+  helper_member_matching no_helpers y h = record { core = literal_matching (own (helper y)) other refl; more = same_helper }
+  helper_member_matching by_global y h = record { core = literal_matching (own (helper y)) other refl; more = same_helper }
+  helper_member_matching (by_import z) y h = record { core = literal_matching (own (helper y)) other refl; more = same_helper }
+  helper_member_matching (by_require z) y h = record { core = literal_matching (own (helper y)) other refl; more = same_helper }
+
   named_matching : (u : Supply) (ls : List Text) (x o y : Text) {m k : Meaning} → Matching m k → SenseMatching (named_member (placed_at u w ls x) o y m) (named_member (placed_at u v ls x) o y k)
-  named_matching u ls x o y h = rw (global_same u o) (pick (is_helper_text y && is_global w u o) (record { core = literal_matching (own (helper y)) other refl; more = same_helper }) (static_matching u ls x y h))
+  named_matching u ls x o y h = rw (global_same u o) (pick (is_helper_text y && is_global w u o) (helper_member_matching u y h) (static_matching u ls x y h))
 
   member_by_matching : (u : Supply) (ls : List Text) (x : Text) {a b : More} → MoreMatching a b → (f g : Form) {m k : Meaning} → Matching m k → SenseMatching (member_by (placed_at u w ls x) a f g m) (member_by (placed_at u v ls x) b f g k)
   member_by_matching u ls x (same_keys e) f (word y) h = record { core = h; more = maps_or_nothing (is_word (codes "map") y) e }

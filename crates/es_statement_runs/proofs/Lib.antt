@@ -8,6 +8,7 @@ pub mod KindsAlike
 pub mod Everywhere
 pub mod RunLaws
 pub mod HelperExamples
+pub mod SpreadExamples
 pub mod WorkedRuns
 pub mod Instances
 pub mod Rows

@@ -17,7 +17,7 @@ use Rattle.es_statement_runs.specs.Stacks.{used}
 use Rattle.es_statement_runs.specs.Names.{is_word}
 use Rattle.es_statement_runs.specs.Patterns.{Putter, templated_value}
 use Rattle.es_statement_runs.specs.Helpers.{Supply, is_helper_text}
-use Rattle.es_statement_runs.specs.Helpers.Supply.{no_helpers, by_global, by_import, by_require}
+use Rattle.es_statement_runs.specs.Helpers.Supply.{no_helpers, by_global, by_import, by_require, spread_by_global}
 use Rattle.es_statement_runs.specs.Senses.{More, Sense, Portion, Place, cores, core_parts, ends, plain_sense, key_value, putter, said_of, said_in, definitions_in, members_in, element_of, elements_in, object_aims, array_aims, array_items, key_items, keys_where, array_literal, template_meaning, text_alone, raw_texts, cooked_texts, template_literal, only_more, static_text}
 use Rattle.es_statement_runs.specs.Senses.More.{nothing_more, literal_text, aims, heads, member_aims, rest_aims, defines, spreads, object_of, keys_of, maps, quasi, template_of, clause_of, handles, imports, begins, helper_call, stack_member}
 use Rattle.es_statement_runs.specs.Senses.Portion.{gap, alone, rows}
@@ -120,12 +120,14 @@ module _ (S : Supply) (u : Bool) (E : Exits) where
 
   pub said_member : (o : Supply) (x : Text) (r : M Reference) → Means u E IsPlace r → PlaceMore u E (said_of_member o x r)
   said_member no_helpers x r h = tt
+  said_member spread_by_global x r h = tt
   said_member by_global x r h = choice_more (is_stack_key x) _ _ h tt
   said_member (by_import m) x r h = choice_more (is_stack_key x) _ _ h tt
   said_member (by_require m) x r h = choice_more (is_stack_key x) _ _ h tt
 
   pub not_global : (o : Supply) (w : World) (x : Text) → is_supply_word o x ≡ false → is_global w o x ≡ false
   not_global no_helpers w x h = refl
+  not_global spread_by_global w x h = rw h refl
   not_global by_global w x h = rw h refl
   not_global (by_import m) w x h = refl
   not_global (by_require m) w x h = refl

@@ -18,7 +18,7 @@ use Rattle.es_runs.specs.Core.Form.{word}
 use Rattle.es_statement_runs.specs.Scopes.{are_program_names}
 use Rattle.es_statement_runs.specs.Names.{is_word, own_names, own_use, names_of_all}
 use Rattle.es_statement_runs.specs.Helpers.{Supply}
-use Rattle.es_statement_runs.specs.Helpers.Supply.{no_helpers, by_global, by_import, by_require}
+use Rattle.es_statement_runs.specs.Helpers.Supply.{no_helpers, by_global, by_import, by_require, spread_by_global}
 use Rattle.es_statement_runs.specs.Senses.{Sense, Portion, Place, core_parts, key_items, static_text}
 use Rattle.es_statement_runs.specs.Senses.Portion.{alone}
 use Rattle.es_statement_runs.specs.StatementParts.{for_each}
@@ -275,6 +275,7 @@ IsKeys (keys_name vs) = Unit {0}
 
 silent_keys : (u : Supply) (p : Tree) → helper_names u p ≡ [] → Entries IsKeys (silent_names u p)
 silent_keys no_helpers p h = no_entry
+silent_keys spread_by_global p h = no_entry
 silent_keys by_global p h = both_entries IsKeys (subst (Entries IsKeys) (sym h) no_entry) (list_entries IsKeys (λ vs k. tt) by_global (helper_names by_global p) p (program_list p))
 silent_keys (by_import m) p h = both_entries IsKeys (subst (Entries IsKeys) (sym h) no_entry) (list_entries IsKeys (λ vs k. tt) (by_import m) (helper_names (by_import m) p) p (program_list p))
 silent_keys (by_require m) p h = both_entries IsKeys (subst (Entries IsKeys) (sym h) no_entry) (list_entries IsKeys (λ vs k. tt) (by_require m) (helper_names (by_require m) p) p (program_list p))

@@ -13,7 +13,7 @@ use Rattle.es_statement_runs.specs.Scopes.{is_own_cell}
 use Rattle.es_statement_runs.specs.Statements.{Clause}
 use Rattle.es_statement_runs.specs.Patterns.{Putter}
 use Rattle.es_statement_runs.specs.Helpers.{Supply}
-use Rattle.es_statement_runs.specs.Helpers.Supply.{no_helpers, by_global, by_import, by_require}
+use Rattle.es_statement_runs.specs.Helpers.Supply.{no_helpers, by_global, by_import, by_require, spread_by_global}
 use Rattle.es_statement_runs.specs.Senses.{More, Sense, Portion, Place, cores, core_parts, ends, plain_sense, key_value, putter, said_of, said_in, definitions_in, members_in, element_of, elements_in, object_aims, array_aims, array_items, key_items, keys_where, array_literal, template_meaning, text_alone, raw_texts, cooked_texts, template_literal, only_more, static_text}
 use Rattle.es_statement_runs.specs.Senses.More.{nothing_more, literal_text, aims, heads, member_aims, rest_aims, defines, spreads, object_of, keys_of, maps, quasi, template_of, clause_of, handles, imports, begins, helper_call, stack_member}
 use Rattle.es_statement_runs.specs.Senses.Portion.{gap, alone, rows}
@@ -136,6 +136,7 @@ module _ (S : Supply) where
 
   pub name_said : (u : Bool) (E : Exits) (o : Supply) (w : World) → HelperFree w → (x : Text) → PlaceMore u E (said_in o (w.scope x))
   name_said u E no_helpers w h x = tt
+  name_said u E spread_by_global w h x = tt
   name_said u E by_global w h x = binding_said u E w h x (w.scope x) refl
   name_said u E (by_import m) w h x = binding_said u E w h x (w.scope x) refl
   name_said u E (by_require m) w h x = binding_said u E w h x (w.scope x) refl

@@ -22,7 +22,7 @@ use Rattle.es_runs.proofs.Basic.{then_alike, return_alike, ask_alike, get_alike,
 use Rattle.es_runs.proofs.Congruence.{plain_like}
 use Rattle.es_runs.proofs.Temporary.{plain_again, bytes_eq-flip}
 use Rattle.es_statement_runs.specs.Helpers.{Supply}
-use Rattle.es_statement_runs.specs.Helpers.Supply.{by_require, no_helpers, by_global, by_import}
+use Rattle.es_statement_runs.specs.Helpers.Supply.{by_require, no_helpers, by_global, by_import, spread_by_global}
 use Rattle.es_statement_runs.specs.Senses.{said_in, said_of, Sense, plain_sense}
 use Rattle.es_statement_runs.proofs.Programs.{top_world, rows_run}
 use Rattle.es_statement_runs.specs.Alike.{Told, SenseLike}
@@ -44,6 +44,7 @@ use Rattle.es_statement_runs.proofs.RunLaws.{nothing_quiet, nothing_stack, value
 -- the helpers' names are seen
 pub told_self : (bad : Level → Text → Bool) (u : Supply) → Told no_frame bad u
 told_self bad no_helpers = tt
+told_self bad spread_by_global = record { helpers = record { global = refl; require = refl }; names = λ n x h. refl }
 told_self bad by_global = record { helpers = record { global = refl; require = refl }; names = λ n x h. refl }
 told_self bad (by_import m) = record { helpers = record { global = refl; require = refl }; names = λ n x h. refl }
 told_self bad (by_require m) = record { helpers = record { global = refl; require = refl }; names = λ n x h. refl }
@@ -68,6 +69,7 @@ said_assignment w op (silent (keys_name us)) e m = refl
 
 plain_assignment : (u : Supply) (w : World) (op : Text) (b : Binding) (e : Sense) (m : Meaning) → assignment_by w op (said_in u b) e m ≡ plain_sense m
 plain_assignment no_helpers w op b e m = refl
+plain_assignment spread_by_global w op b e m = refl
 plain_assignment by_global w op b e m = said_assignment w op b e m
 plain_assignment (by_import t) w op b e m = said_assignment w op b e m
 plain_assignment (by_require t) w op b e m = said_assignment w op b e m

@@ -12,7 +12,7 @@ use Rattle.es_tree.specs.declared.ast_type.AstType.TheVariants.{VariableDeclarat
 use Rattle.es_runs.specs.Core.{Silent}
 use Rattle.es_statement_runs.specs.Names.{is_word, names_of_all, declared_at_top}
 use Rattle.es_statement_runs.specs.Helpers.{helper_in, named_helper, imported_helper, imported_helpers, if_settled, is_settled, required_helper, declarators_helpers, required_helpers, list_of_program, program_list}
-use Rattle.es_statement_runs.specs.Helpers.Supply.{no_helpers, by_global, by_import, by_require}
+use Rattle.es_statement_runs.specs.Helpers.Supply.{no_helpers, by_global, by_import, by_require, spread_by_global}
 use Rattle.es_statement_runs.specs.Programs.{no_import_node, no_require_node}
 use Rattle.es_statement_runs.specs.Laws.{LawNoHelper}
 
@@ -81,6 +81,7 @@ either_none false es h = h
 
 pub law_no_helper_proof : LawNoHelper
 law_no_helper_proof no_helpers p h = refl
+law_no_helper_proof spread_by_global p h = refl
 law_no_helper_proof by_global p h = refl
 law_no_helper_proof (by_import m) p h = imports_none m (program_list p) (program_holds (no_import_node m) p h)
 law_no_helper_proof (by_require m) p h = either_none (is_among (names_of_all (declared_at_top p)) (codes "require")) (required_helpers m p (program_list p)) (requires_none m p (program_list p) (program_holds (no_require_node m) p h))

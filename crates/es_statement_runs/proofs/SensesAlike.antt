@@ -3,7 +3,7 @@ use Rattle.std.proofs.Common.{◌≡◌, refl, subst, List, [], ◌∷◌, ap, �
 use Rattle.std.specs.Prelude.{ℕ, suc, Bool, true, false, not, ◌&&◌, ◌++◌, Option, Some, None, codes, if◌then◌else◌}
 use Rattle.std.proofs.lemmas.Slice.Eq.{bytes_eq-Decides}
 use Rattle.es_tree.specs.Words.{Text}
-use Rattle.es_runs.specs.Core.{plain_call, World, Binding, Reference, Meaning, Form, value, values, initialise, gives_value, nothing, literal, is_free, receiver, in_order}
+use Rattle.es_runs.specs.Core.{plain_call, World, Binding, Reference, Meaning, Form, value, values, initialise, gives_value, nothing, is_free, receiver, in_order}
 use Rattle.es_runs.specs.Core.Silent.{keys_name, helper_name}
 use Rattle.es_runs.specs.Core.Binding.{silent, free, changeable, constant}
 use Rattle.es_runs.specs.Core.Form.{word, math_pow, member_call, member_bind, other, null_form, zero_form, void_zero}
@@ -27,8 +27,8 @@ use Rattle.es_runs.proofs.Everywhere.{PartLike, PartsLike}
 use Rattle.es_runs.proofs.Everywhere.PartLike.{absent_like, single_like, several_like}
 use Rattle.es_runs.proofs.Everywhere.PartsLike.{no_part, one_part}
 use Rattle.es_statement_runs.specs.Helpers.{is_helper_text, required_from, Supply}
-use Rattle.es_statement_runs.specs.Helpers.Supply.{by_require, no_helpers, by_global, by_import}
-use Rattle.es_statement_runs.specs.Calls.{is_stack_key, static_member, said_of_member, stack_failure, stack_call, stack_method, on_stack, is_spread, some_spread, first_spread, called_form, plain_callee, core_call, mapped, maps_keys, is_require, required_or, call_by, call_sense, member_by, member_sense, assignment_by, own_literal, module_text, is_global, definitions_by, is_bare, copied_values, spread_arguments, excluded_by, spread2_sense, extends_sense, destructuring_sense, without_sense, using_sense, helper_sense, named_member}
+use Rattle.es_statement_runs.specs.Helpers.Supply.{by_require, no_helpers, by_global, by_import, spread_by_global}
+use Rattle.es_statement_runs.specs.Calls.{helper_member, is_stack_key, static_member, said_of_member, stack_failure, stack_call, stack_method, on_stack, is_spread, some_spread, first_spread, called_form, plain_callee, core_call, mapped, maps_keys, is_require, required_or, call_by, call_sense, member_by, member_sense, assignment_by, own_literal, module_text, is_global, definitions_by, is_bare, copied_values, spread_arguments, excluded_by, spread2_sense, extends_sense, destructuring_sense, without_sense, using_sense, helper_sense, named_member}
 use Rattle.es_statement_runs.specs.Alike.{AllSeen, Told, Quiet, StackSeen, PutterLike, MemberLike, MembersLike, ElementLike, ElementsLike, DefinitionsLike, ClauseLike, ClausesLike, MoreLike, SenseLike, SensesLike, PortionLike, PortionsLike}
 use Rattle.es_statement_runs.specs.Alike.MoreLike.{same_stack_member, same_nothing, same_literal, same_aims, same_heads, same_member, same_rest, same_defines, same_spreads, same_object, same_keys, same_maps, same_quasi, same_template, same_clause, same_handles, same_imports, same_begins, same_helper}
 use Rattle.es_statement_runs.specs.Alike.MemberLike.{like_keyed, like_remaining}
@@ -330,6 +330,7 @@ module _ (F : Frame) (quiet : Quiet F) (w v : World) (same : SameWorld F.hidden 
 
   module_required : (u : Supply) → SupplySeen F u → (f : Form) (t : Text) → (if is_require v f then required_from u t else None) ≡ (if is_require w f then required_from u t else None)
   module_required no_helpers h f t = none_either (is_require v f) (is_require w f)
+  module_required spread_by_global h f t = none_either (is_require v f) (is_require w f)
   module_required by_global h f t = none_either (is_require v f) (is_require w f)
   module_required (by_import m) h f t = none_either (is_require v f) (is_require w f)
   module_required (by_require m) h f t = ap (λ (b : Bool). if b then required_from (by_require m) t else None) (require_same h.require f)
@@ -341,6 +342,7 @@ module _ (F : Frame) (quiet : Quiet F) (w v : World) (same : SameWorld F.hidden 
   global_same no_helpers h x = refl
   global_same (by_import m) h x = refl
   global_same (by_require m) h x = refl
+  global_same spread_by_global h x = free_same (codes "babelHelpers") x h.global
   global_same by_global h x = free_same (codes "babelHelpers") x h.global
 
   mapped_by : (b : Bool) {m k : M Values} → Alike F Equal m k → MoreLike F (if b then keys_of m else nothing_more) (if b then keys_of k else nothing_more)
@@ -560,6 +562,7 @@ module _ (F : Frame) (quiet : Quiet F) (w v : World) (same : SameWorld F.hidden 
   module _ (bad : Level → Text → Bool) where
     seen_supply : (u : Supply) → Told F bad u → SupplySeen F u
     seen_supply no_helpers h = tt
+    seen_supply spread_by_global h = h.helpers
     seen_supply by_global h = h.helpers
     seen_supply (by_import m) h = h.helpers
     seen_supply (by_require m) h = h.helpers
@@ -569,6 +572,7 @@ module _ (F : Frame) (quiet : Quiet F) (w v : World) (same : SameWorld F.hidden 
 
     pub name_like : (u : Supply) → Told F bad u → (n : Level) (x : Text) → bad n x ≡ false → MoreLike F (said_in u (w.scope x)) (said_in u (v.scope x))
     name_like no_helpers h n x e = same_nothing
+    name_like spread_by_global h n x e = same_nothing
     name_like by_global h n x e = same_binding n x e h
     name_like (by_import m) h n x e = same_binding n x e h
     name_like (by_require m) h n x e = same_binding n x e h
@@ -579,6 +583,7 @@ module _ (F : Frame) (quiet : Quiet F) (w v : World) (same : SameWorld F.hidden 
 
     said_member : (u : Supply) (x : Text) {m k : M Reference} → Alike F (SameTarget F) m k → MoreLike F (said_of_member u x m) (said_of_member u x k)
     said_member no_helpers x h = same_nothing
+    said_member spread_by_global x h = same_nothing
     said_member by_global x h = stack_key (is_stack_key x) x h
     said_member (by_import m) x h = stack_key (is_stack_key x) x h
     said_member (by_require m) x h = stack_key (is_stack_key x) x h
@@ -604,8 +609,19 @@ module _ (F : Frame) (quiet : Quiet F) (w v : World) (same : SameWorld F.hidden 
       static_like : (t : Take) (ls : List Text) (x y : Text) {m k : Meaning} → Like F w v t.need m k → Alike F (SameTarget F) m.reference k.reference → SenseLike F w v t (static_member (placed_at u w ls x) y m) (static_member (placed_at u v ls x) y k)
       static_like t ls x y h r = record { core = h; more = λ _. said_member u y r }
 
-      named_by : (t : Take) (ls : List Text) (x y : Text) (b c : Bool) → c ≡ b → {m k : Meaning} → Like F w v t.need m k → Alike F (SameTarget F) m.reference k.reference → SenseLike F w v t (if b then record { core = literal (own (helper y)) other; more = helper_call y } else static_member (placed_at u w ls x) y m) (if c then record { core = literal (own (helper y)) other; more = helper_call y } else static_member (placed_at u v ls x) y k)
-      named_by t ls x y b c e h r = rw e (pick t b (record { core = literal_like F w v same t.need (own (helper y)) other; more = λ _. same_helper }) (static_like t ls x y h r))
+      spread_or_nothing : (b : Bool) (y : Text) → MoreLike F (if b then helper_call y else nothing_more) (if b then helper_call y else nothing_more)
+      spread_or_nothing true y = same_helper
+      spread_or_nothing false y = same_nothing
+
+      helper_member_like : (o : Supply) (t : Take) (y : Text) {m k : Meaning} → Like F w v t.need m k → SenseLike F w v t (helper_member o y m) (helper_member o y k)
+      helper_member_like spread_by_global t y h = record { core = h; more = λ _. spread_or_nothing (is_word (codes "objectSpread2") y) y }
+      helper_member_like no_helpers t y h = record { core = literal_like F w v same t.need (own (helper y)) other; more = λ _. same_helper }
+      helper_member_like by_global t y h = record { core = literal_like F w v same t.need (own (helper y)) other; more = λ _. same_helper }
+      helper_member_like (by_import z) t y h = record { core = literal_like F w v same t.need (own (helper y)) other; more = λ _. same_helper }
+      helper_member_like (by_require z) t y h = record { core = literal_like F w v same t.need (own (helper y)) other; more = λ _. same_helper }
+
+      named_by : (t : Take) (ls : List Text) (x y : Text) (b c : Bool) → c ≡ b → {m k : Meaning} → Like F w v t.need m k → Alike F (SameTarget F) m.reference k.reference → SenseLike F w v t (if b then helper_member u y m else static_member (placed_at u w ls x) y m) (if c then helper_member u y k else static_member (placed_at u v ls x) y k)
+      named_by t ls x y b c e h r = rw e (pick t b (helper_member_like u t y h) (static_like t ls x y h r))
 
       named_like : (t : Take) (ls : List Text) (x y z : Text) {m k : Meaning} → Like F w v t.need m k → Alike F (SameTarget F) m.reference k.reference → SenseLike F w v t (named_member (placed_at u w ls x) y z m) (named_member (placed_at u v ls x) y z k)
       named_like t ls x y z h r = named_by t ls x z (is_helper_text z && is_global w u y) (is_helper_text z && is_global v u y) (ap (λ (b : Bool). is_helper_text z && b) (global_same u (seen_supply u told) y)) h r

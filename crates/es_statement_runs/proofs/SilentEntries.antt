@@ -13,7 +13,7 @@ use Rattle.es_runs.specs.Core.Silent.{helper_name, keys_name}
 use Rattle.es_runs.proofs.Lacking.{AllLack}
 use Rattle.es_statement_runs.specs.Names.{is_word, names_of_all, declared_at_top}
 use Rattle.es_statement_runs.specs.Helpers.{Supply, named_helper, imported_helper, imported_helpers, helper_in, is_settled, if_settled, required_helper, declarators_helpers, required_helpers, program_list, helper_names, texts_of, with_text, constant_where, constant_by, constants_by, constants_in, binds_constant, silent_names}
-use Rattle.es_statement_runs.specs.Helpers.Supply.{no_helpers, by_global, by_import, by_require}
+use Rattle.es_statement_runs.specs.Helpers.Supply.{no_helpers, by_global, by_import, by_require, spread_by_global}
 
 abbrev TextsLack : Option Values → Type 0
 TextsLack None = Unit {0}
@@ -99,12 +99,14 @@ module _ (P : Silent → Type 0) where
 
     helper_entries : (u : Supply) (p : Tree) → Entries (helper_names u p)
     helper_entries no_helpers p = no_entry
+    helper_entries spread_by_global p = no_entry
     helper_entries by_global p = no_entry
     helper_entries (by_import m) p = imports_entries m (program_list p)
     helper_entries (by_require m) p = choice_entries (is_among (names_of_all (declared_at_top p)) (codes "require")) no_entry (requires_entries m p (program_list p))
 
     pub silent_entries : ((vs : Values) → AllLack vs → P (keys_name vs)) → (u : Supply) (p : Tree) → Entries (silent_names u p)
     silent_entries keys no_helpers p = no_entry
+    silent_entries keys spread_by_global p = no_entry
     silent_entries keys by_global p = list_entries keys by_global [] p (program_list p)
     silent_entries keys (by_import m) p = both_entries (helper_entries (by_import m) p) (list_entries keys (by_import m) (helper_names (by_import m) p) p (program_list p))
     silent_entries keys (by_require m) p = both_entries (helper_entries (by_require m) p) (list_entries keys (by_require m) (helper_names (by_require m) p) p (program_list p))

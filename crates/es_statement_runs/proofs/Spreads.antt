@@ -20,7 +20,7 @@ use Rattle.es_statement_runs.specs.Senses.More.{helper_call, object_of, spreads}
 use Rattle.es_statement_runs.specs.Calls.{member_by, copied_values}
 use Rattle.es_statement_runs.proofs.MoreRows.{told_self, alike_self}
 use Rattle.es_statement_runs.specs.Helpers.{Supply, is_helper_text}
-use Rattle.es_statement_runs.specs.Helpers.Supply.{by_global}
+use Rattle.es_statement_runs.specs.Helpers.Supply.{by_global, spread_by_global}
 use Rattle.es_statement_runs.specs.Patterns.{collected, copied, one_value, made_object}
 use Rattle.es_statement_runs.specs.Names.{top_in, names_of_all}
 use Rattle.es_statement_runs.specs.Kinds.{sense, senses, found, kind_in}
@@ -147,17 +147,29 @@ calls_helper x known w k = at (w.scope helpers_) k
     at free h = rw (known, k) refl
     at _ h = absurd (cc h)
 
-at_one : (w : World) → is_free (w.scope helpers_) ≡ true → (t : Take) (a b : Tree) → SpreadRow t a b → (ls : List Text) (x : Text) → SenseLike no_frame w w t (sense (placed_at by_global w ls x) a) (sense (placed_at by_global w ls x) b)
-at_one w k t a b row ls x = let h = same_sense by_global w (calls_helper (codes "objectSpread2") refl w k) row ls x in rw (h.1.0, h.1.1) (object_self w (same_world w) t h.0)
+-- where a program gets that of object spread as a member of it
+abbrev pub has_global_spread : Supply → Bool
+has_global_spread spread_by_global = true
+has_global_spread by_global = true
+has_global_spread _ = false
 
-pub spread_like : (t : Take) (a b : Tree) → SpreadRow t a b → (w v : World) → SameWorld none_hidden w v → (is_free (v.scope helpers_) ≡ true) × SameRest w v → (ls : List Text) (x : Text) → SenseLike no_frame w v t (sense (placed_at by_global w ls x) a) (sense (placed_at by_global v ls x) b)
-spread_like t a b row w v same k ls x =
-    let here : is_free (w.scope helpers_) ≡ true = ap is_free (sym (same.scope helpers_ refl)) ∙ k.0 in
-    subst (λ (z : World). SenseLike no_frame w z t (sense (placed_at by_global w ls x) a) (sense (placed_at by_global z ls x) b)) (worlds_equal w v k.1 same) (at_one w here t a b row ls x)
+calls_spread : (u : Supply) → has_global_spread u ≡ true → (w : World) → is_free (w.scope helpers_) ≡ true → (sense (placed_at u w [] []) (global_helper (codes "objectSpread2"))).more ≡ helper_call (codes "objectSpread2")
+calls_spread spread_by_global h w k = rw k refl
+calls_spread by_global h w k = calls_helper (codes "objectSpread2") refl w k
+calls_spread _ h w k = absurd (cc h)
+
+module _ (u : Supply) (has : has_global_spread u ≡ true) where
+  at_one : (w : World) → is_free (w.scope helpers_) ≡ true → (t : Take) (a b : Tree) → SpreadRow t a b → (ls : List Text) (x : Text) → SenseLike no_frame w w t (sense (placed_at u w ls x) a) (sense (placed_at u w ls x) b)
+  at_one w k t a b row ls x = let h = same_sense u w (calls_spread u has w k) row ls x in rw (h.1.0, h.1.1) (object_self w (same_world w) t h.0)
+
+  pub spread_like : (t : Take) (a b : Tree) → SpreadRow t a b → (w v : World) → SameWorld none_hidden w v → (is_free (v.scope helpers_) ≡ true) × SameRest w v → (ls : List Text) (x : Text) → SenseLike no_frame w v t (sense (placed_at u w ls x) a) (sense (placed_at u v ls x) b)
+  spread_like t a b row w v same k ls x =
+      let here : is_free (w.scope helpers_) ≡ true = ap is_free (sym (same.scope helpers_ refl)) ∙ k.0 in
+      subst (λ (z : World). SenseLike no_frame w z t (sense (placed_at u w ls x) a) (sense (placed_at u z ls x) b)) (worlds_equal w v k.1 same) (at_one w here t a b row ls x)
 
 pub law_spread_proof : LawSpread
 law_spread_proof l ds body after rows tops uses silents undeclared unsilent =
-    rows_run no_frame nothing_quiet nothing_stack (bad_here helpers_) (below_here helpers_) by_global l ds body after [] (told_self (bad_here helpers_) by_global) (λ w v. (is_free (v.scope helpers_) ≡ true) × SameRest w v) (λ ds h w v k. (free_kept helpers_ ds h w v k.0, record { other = k.1.other; spreads = k.1.spreads })) SpreadRow spread_like rows uses
+    rows_run no_frame nothing_quiet nothing_stack (bad_here helpers_) (below_here helpers_) by_global l ds body after [] (told_self (bad_here helpers_) by_global) (λ w v. (is_free (v.scope helpers_) ≡ true) × SameRest w v) (λ ds h w v k. (free_kept helpers_ ds h w v k.0, record { other = k.1.other; spreads = k.1.spreads })) SpreadRow (spread_like by_global refl) rows uses
     (top_world by_global none_hidden (program l ds body) (program l ds after) tops silents)
     (λ this. (ap is_free (top_scope by_global (program l ds body) (program l ds after) tops silents helpers_ ∙ unsilent_scope by_global (program l ds body) helpers_ unsilent) ∙ not_not (is_free (scope_of (top_in body) helpers_)) undeclared, record { other = refl; spreads = refl }))
     (λ n moves. rw tops (agree_self (state (start_cells n (top_in body)) moves []))) (λ x e. refl)

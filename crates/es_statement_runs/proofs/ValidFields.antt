@@ -19,7 +19,7 @@ use Rattle.es_tree.specs.declared.table.Often.TheVariants.{Required, Optional, L
 use Rattle.es_tree.specs.declared.table.Content.{Content}
 use Rattle.es_tree.specs.declared.table.Content.TheVariants.{Child as c-Child}
 use Rattle.es_statement_runs.specs.Helpers.{Supply}
-use Rattle.es_statement_runs.specs.Helpers.Supply.{by_global}
+use Rattle.es_statement_runs.specs.Helpers.Supply.{by_global, spread_by_global}
 use Rattle.es_statement_runs.specs.Meant.{Spot, Slot, Slots, is_label}
 use Rattle.es_statement_runs.specs.Meant.Slot.{required, optional, absent, listed, nonempty, a_key, passed, labelled_by}
 use Rattle.es_statement_runs.specs.Meant.Slots.{no_slot, slot, repeated}
@@ -38,6 +38,7 @@ use Rattle.es_statement_runs.proofs.ValidStands.{Listed, Stands, Within, field_a
 -- THE NAMES OF A TREE, where a program gets its helpers by the object of all helpers
 
 abbrev pub no_supply : Supply → List Text → Bool
+no_supply spread_by_global xs = not (is_among xs (codes "babelHelpers"))
 no_supply by_global xs = not (is_among xs (codes "babelHelpers"))
 no_supply u xs = true
 
@@ -52,6 +53,7 @@ not_or true b h = absurd (false≢true h)
 not_or false b h = (refl, h)
 
 names_parts : (u : Supply) (xs ys : List Text) → no_supply u (xs ++ ys) ≡ true → (no_supply u xs ≡ true) × (no_supply u ys ≡ true)
+names_parts spread_by_global xs ys h = not_or (is_among xs (codes "babelHelpers")) (is_among ys (codes "babelHelpers")) (ap not (sym (list_any-append (λ y. bytes_eq y (codes "babelHelpers")) xs ys)) ∙ h)
 names_parts by_global xs ys h = not_or (is_among xs (codes "babelHelpers")) (is_among ys (codes "babelHelpers")) (ap not (sym (list_any-append (λ y. bytes_eq y (codes "babelHelpers")) xs ys)) ∙ h)
 names_parts _ xs ys h = (refl, refl)
 

@@ -23,7 +23,7 @@ use Rattle.es_tree.proofs.NodeForm.{node_form}
 use Rattle.es_runs.specs.Core.{flag_after}
 use Rattle.es_runs.specs.Machine.Stop.{breaks, continues}
 use Rattle.es_statement_runs.specs.Helpers.{Supply}
-use Rattle.es_statement_runs.specs.Helpers.Supply.{no_helpers, by_global, by_import, by_require}
+use Rattle.es_statement_runs.specs.Helpers.Supply.{no_helpers, by_global, by_import, by_require, spread_by_global}
 use Rattle.es_statement_runs.specs.Kinds.{label_in}
 use Rattle.es_statement_runs.specs.Laws.{LawValidIsMeant, LawValidMeaning}
 use Rattle.es_statement_runs.specs.Meant.{Role, allowed, Spot, nature, serves, Slot, Slots, slots, spots, as_role, all_meant, are_meant, fits_head, has_value, is_label_there, is_meant, is_meant_at, is_meant_field, is_plain_word, is_said, is_some_name, labels_in, named_label, word_in}
@@ -48,12 +48,13 @@ later_entries (e ∷ es) = es
 
 -- WHAT A NODE SAYS ITSELF
 
+first_not : (a b : Bool) → not (a || b) ≡ true → not a ≡ true
+first_not true b h = h
+first_not false b h = refl
+
 plain_word : (u : Supply) (x : Text) (xs : List Text) → not (is_own_cell x) ≡ true → no_supply u (x ∷ xs) ≡ true → is_plain_word u x ≡ true
 plain_word by_global x xs h g = and_from (not (is_own_cell x)) (not (bytes_eq x (codes "babelHelpers"))) h (first_not (bytes_eq x (codes "babelHelpers")) _ g)
-  where
-    first_not : (a b : Bool) → not (a || b) ≡ true → not a ≡ true
-    first_not true b h = h
-    first_not false b h = refl
+plain_word spread_by_global x xs h g = and_from (not (is_own_cell x)) (not (bytes_eq x (codes "babelHelpers"))) h (first_not (bytes_eq x (codes "babelHelpers")) _ g)
 plain_word no_helpers x xs h g = and_from (not (is_own_cell x)) true h refl
 plain_word (by_import m) x xs h g = and_from (not (is_own_cell x)) true h refl
 plain_word (by_require m) x xs h g = and_from (not (is_own_cell x)) true h refl
@@ -246,6 +247,7 @@ program_stands (node _ l fs) h = absurd (false≢true h)
 
 unsupplied : (u : Supply) (p : Tree) → uses_no_helper u p ≡ true → no_supply u (names_of p) ≡ true
 unsupplied by_global p h = h
+unsupplied spread_by_global p h = h
 unsupplied no_helpers p h = refl
 unsupplied (by_import m) p h = refl
 unsupplied (by_require m) p h = refl

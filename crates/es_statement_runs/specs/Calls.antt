@@ -16,7 +16,7 @@ use Rattle.es_statement_runs.specs.Stacks.{new_stack, taken_into_use, failed_wit
 use Rattle.es_statement_runs.specs.Patterns.{one_value, copied, rest_of}
 use Rattle.es_statement_runs.specs.Names.{is_word}
 use Rattle.es_statement_runs.specs.Helpers.{Supply, is_helper_text, required_from}
-use Rattle.es_statement_runs.specs.Helpers.Supply.{no_helpers, by_global}
+use Rattle.es_statement_runs.specs.Helpers.Supply.{no_helpers, spread_by_global, by_global}
 
 -- HELPERS
 
@@ -150,6 +150,7 @@ call_sense p false f es = call_by p f es f.more
 
 -- a static member of a name: a helper of `babelHelpers`
 abbrev pub is_global : World → Supply → Text → Bool
+is_global w spread_by_global x = is_word (codes "babelHelpers") x && is_free (w.scope x)
 is_global w by_global x = is_word (codes "babelHelpers") x && is_free (w.scope x)
 is_global w _ x = false
 
@@ -159,13 +160,19 @@ is_stack_key x = is_word (codes "u") x || is_word (codes "d") x || is_word (code
 
 abbrev pub said_of_member : Supply → Text → M Reference → More
 said_of_member no_helpers x r = nothing_more
+said_of_member spread_by_global x r = nothing_more
 said_of_member _ x r = if is_stack_key x then stack_member x r else nothing_more
 
 abbrev pub static_member : Place → Text → Meaning → Sense
 static_member p x m = record { core = m; more = said_of_member p.supply x m.reference }
 
+-- where object spread's is the only one it is a helper as a callee alone
+abbrev pub helper_member : Supply → Text → Meaning → Sense
+helper_member spread_by_global x m = record { core = m; more = if is_word (codes "objectSpread2") x then helper_call x else nothing_more }
+helper_member u x m = record { core = literal (own (helper x)) other; more = helper_call x }
+
 abbrev pub named_member : Place → Text → Text → Meaning → Sense
-named_member p o x m = if is_helper_text x && is_global p.world p.supply o then record { core = literal (own (helper x)) other; more = helper_call x } else static_member p x m
+named_member p o x m = if is_helper_text x && is_global p.world p.supply o then helper_member p.supply x m else static_member p x m
 
 abbrev pub member_by : Place → More → Form → Form → Meaning → Sense
 member_by p (keys_of ks) f (word x) m = record { core = m; more = if is_word (codes "map") x then maps ks else nothing_more }

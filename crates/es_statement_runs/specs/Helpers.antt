@@ -19,10 +19,10 @@ use Rattle.es_runs.specs.Core.{Silent}
 use Rattle.es_runs.specs.Core.Silent.{helper_name, keys_name}
 use Rattle.es_statement_runs.specs.Names.{is_word, names_of_all, declared_at_top}
 
--- HOW A PROGRAM GETS THEM: not at all, as members of the unbound name `babelHelpers`, or from the modules
+-- HOW A PROGRAM GETS THEM: not at all, that of object spread alone or all of them as members of the unbound name `babelHelpers`, or from the modules
 -- `MODULE/helpers/NAME`, which a module imports and a script requires
 pub data Supply : Type 0 where
-  no_helpers by_global : Supply
+  no_helpers spread_by_global by_global : Supply
   by_import by_require : Text → Supply
 
 abbrev pub all_helpers : List Helper
@@ -131,6 +131,7 @@ program_list (node k l fs) = list_of_program fs
 -- the names of a program's list that stand for helpers; `require` is to be unbound
 abbrev pub helper_names : Supply → Tree → List (Text × Silent)
 helper_names no_helpers p = []
+helper_names spread_by_global p = []
 helper_names by_global p = []
 helper_names (by_import m) p = imported_helpers m (program_list p)
 helper_names (by_require m) p = if is_among (names_of_all (declared_at_top p)) (codes "require") then [] else required_helpers m p (program_list p)
@@ -220,4 +221,5 @@ constants_in u hs p (t before ts) = constants_in u hs p ts
 -- the names of a program's list that are used without a question
 abbrev pub silent_names : Supply → Tree → List (Text × Silent)
 silent_names no_helpers p = []
+silent_names spread_by_global p = []
 silent_names u p = helper_names u p ++ constants_in u (helper_names u p) p (program_list p)

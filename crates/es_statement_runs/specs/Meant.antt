@@ -14,7 +14,7 @@ use Rattle.es_statement_runs.specs.Names.{own_names, own_use, names_of_all, is_w
 use Rattle.es_statement_runs.specs.Scopes.{are_program_names, is_own_cell}
 use Rattle.es_statement_runs.specs.Kinds.{label_in}
 use Rattle.es_statement_runs.specs.Helpers.{Supply}
-use Rattle.es_statement_runs.specs.Helpers.Supply.{by_global}
+use Rattle.es_statement_runs.specs.Helpers.Supply.{spread_by_global, by_global}
 
 -- HOW WHAT STANDS SOMEWHERE MAY STOP besides by a throw, a fault, a wait, a call of what isn't callable or a want of turns: cut short to the end
 -- of a chain, and by `break` and `continue` without a label and with these labels
@@ -355,6 +355,7 @@ spots c k ts n b ns ls i = as_role a_value c.uses
 
 -- not one of the machine's own cells, and not the name of the object of all helpers where a program gets them by it
 abbrev pub is_supply_word : Supply → Text → Bool
+is_supply_word spread_by_global x = is_word (codes "babelHelpers") x
 is_supply_word by_global x = is_word (codes "babelHelpers") x
 is_supply_word u x = false
 

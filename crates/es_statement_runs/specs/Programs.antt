@@ -17,7 +17,7 @@ use Rattle.es_tree.specs.declared.options.HelperLoaderOptions.{HelperLoaderOptio
 use Rattle.es_statement_runs.specs.Names.{is_word}
 use Rattle.es_statement_runs.specs.Scopes.{is_own_cell}
 use Rattle.es_statement_runs.specs.Helpers.{Supply, helper_in}
-use Rattle.es_statement_runs.specs.Helpers.Supply.{no_helpers, by_global, by_import, by_require}
+use Rattle.es_statement_runs.specs.Helpers.Supply.{no_helpers, spread_by_global, by_global, by_import, by_require}
 
 -- PROGRAMS WITHOUT FUNCTIONS, ARROWS AND CLASSES: no node of theirs, and none that only stands in them
 
@@ -94,6 +94,7 @@ no_require_node m k l fs = true
 
 abbrev pub uses_no_helper : Supply → Tree → Bool
 uses_no_helper no_helpers p = true
+uses_no_helper spread_by_global p = not (is_among (names_of p) (codes "babelHelpers"))
 uses_no_helper by_global p = not (is_among (names_of p) (codes "babelHelpers"))
 uses_no_helper (by_import m) p = all_nodes (no_import_node m) p
 uses_no_helper (by_require m) p = all_nodes (no_require_node m) p

@@ -18,7 +18,7 @@ use Rattle.es_statement_runs.specs.Patterns.{Putter, made_object, or_default, Me
 use Rattle.es_statement_runs.specs.Patterns.Member.{keyed, remaining}
 use Rattle.es_statement_runs.specs.Patterns.Element.{elision, takes, takes_rest}
 use Rattle.es_statement_runs.specs.Helpers.{Supply}
-use Rattle.es_statement_runs.specs.Helpers.Supply.{no_helpers}
+use Rattle.es_statement_runs.specs.Helpers.Supply.{no_helpers, spread_by_global}
 
 -- Where a node stands: how names are bound there, the labels directly before it, the word of the declaration around it, and
 -- how the program gets its helpers.
@@ -127,6 +127,7 @@ said_of _ = nothing_more
 
 abbrev pub said_in : Supply → Binding → More
 said_in no_helpers b = nothing_more
+said_in spread_by_global b = nothing_more
 said_in _ b = said_of b
 
 -- TARGETS: those of a binding pattern initialise, the others put

@@ -5,6 +5,7 @@ use Rattle.es_tree.specs.Names.{flag_at}
 use Rattle.es_tree.specs.Tree.{Tree, node, Label, done, ◌then◌, one, kind_of}
 use Rattle.es_tree.specs.Words.{Text}
 use Rattle.es_tree.specs.declared.ast_type.AstType.TheVariants.{Identifier, LogicalExpression}
+use Rattle.es_runs.specs.Alike.{set_cells}
 use Rattle.es_runs.specs.Core.{without_last}
 use Rattle.es_runs.specs.LogicalAssignment.{LogicalAssignmentRule as LogicalAssignmentByName, assigned_where}
 use Rattle.es_runs.specs.LogicalAssignment.LogicalAssignmentRule.{to_name as plain_to_name, to_static_member as plain_to_static_member, to_computed_member as plain_to_computed_member}
@@ -17,20 +18,23 @@ use Rattle.es_steps.specs.LogicalAssignment.LogicalAssignmentRule.{to_name, to_s
 use Rattle.es_steps.specs.Rules.{with_made}
 use Rattle.es_steps.specs.Steps.{Site, Whole}
 use Rattle.es_steps.specs.WrapRule.{OutsideSlots}
-use Rattle.es_statement_runs.specs.Helpers.Supply.{no_helpers}
-use Rattle.es_statement_runs.specs.Laws.{assigning}
-use Rattle.es_statement_runs.specs.Places.{Take}
+use Rattle.es_statement_runs.specs.Alike.{SenseLike}
+use Rattle.es_statement_runs.specs.Helpers.{Supply}
+use Rattle.es_statement_runs.specs.Kinds.{sense}
+use Rattle.es_statement_runs.specs.Laws.{among_names}
+use Rattle.es_statement_runs.specs.Places.{Take, placed_at}
 use Rattle.es_statement_runs.proofs.Moved.{is_mute}
-use Rattle.es_statement_runs.proofs.OperandRows.{assigning_kept, nothing_asked}
 use Rattle.es_statement_steps.proofs.Doublings.{also-same, doubled, member-found, names-both, steady_names}
 use Rattle.es_statement_steps.proofs.NewNames.{doubled-new, new-both, no-new}
+use Rattle.es_statement_steps.proofs.PlainSupplies.{is_core_supply}
 use Rattle.es_statement_steps.proofs.Replacings.{RowShape}
 use Rattle.es_statement_steps.proofs.Rooms.{stays_put}
 use Rattle.es_statement_steps.proofs.RowRuns.{KeepsRuns}
 use Rattle.es_statement_steps.proofs.SameSenses.{SameSense, assign-same, member-same, node-same, two-same}
-use Rattle.es_statement_steps.proofs.SettledRows.{ByNames, SoundRow, settled-like, sound-settled}
+use Rattle.es_statement_steps.proofs.SettledRows.{ByNames, SoundRow, place-bound, sound-avoids, sound-settled, steady-place}
 use Rattle.es_statement_steps.proofs.Stands.{is_inner, is_item}
 use Rattle.es_statement_steps.proofs.StepMoves.{AreNew}
+use Rattle.es_statement_steps.proofs.WrittenAgain.{assigning-like}
 
 -- THE ROW BY NAMES
 
@@ -105,10 +109,13 @@ no-item n w bs t u (to_computed_member texts operator alone at flags object key)
 abbrev pub SoundAssigning : List Bound → Site → Whole → Tree → Tree → Type 0
 SoundAssigning = SoundRow AssigningRow
 
-pub assigning-keeps : (no_all : Bool) → KeepsRuns no_all no_helpers true SoundAssigning
-assigning-keeps no_all = record {
+pub assigning-keeps : (no_all : Bool) (u : Supply) → is_core_supply u ≡ true → KeepsRuns no_all u true SoundAssigning
+assigning-keeps no_all u plain = record {
   alike = λ new n whole a b h t taken ds resolved found fine away quiet stack seen w v same known ls x.
       let row = by-names n whole t new a b h.row.rule resolved in
-      let names = (both-fresh n whole new a b h.row.rule).names in
-      settled-like no_all assigning nothing_asked (assigning_kept no_all) (names_among new) n.names whole t ds a b row.made row.rule row.same (sound-settled (names_among new) (steady_names whole n.names.scope) t a h.sound (assigning-shape.first n whole new a b h.row).1 (no-item n whole new a b h.row.rule) fine away) found quiet names w v same known tt ls x;
+      let xs = names_among new in
+      let steady = steady_names whole n.names.scope in
+      let settled = sound-settled xs steady t a h.sound (assigning-shape.first n whole new a b h.row).1 (no-item n whole new a b h.row.rule) fine away in
+      subst (λ s. SenseLike (set_cells (among_names xs)) w v t (sense (placed_at u w ls x) a) s) (row.same (placed_at u v ls x))
+      (assigning-like no_all u plain xs steady whole.in_use h.sound.own quiet stack seen w v same ds known (λ y e. place-bound ds n.names found w known.bound y (steady-place whole n.names y e)) t a row.made row.rule (sound-avoids xs steady t a h.sound away) settled.formed settled.untouched ls x);
 }

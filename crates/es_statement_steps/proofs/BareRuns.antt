@@ -17,7 +17,7 @@ use Rattle.es_runs.specs.Machine.State.{state}
 use Rattle.es_runs.specs.Runs.{scope_of}
 use Rattle.es_runs.proofs.BareTrees.{names-bare}
 use Rattle.es_statement_runs.specs.Helpers.{Supply, entry, binds_constant, constant_by, constant_where, constants_by, constants_in, excludes_by, is_helper, is_this_name, key_places, key_places_all, key_places_at, key_places_in, occurrences, one_where, only_excludes, program_list, silent_names, texts_of, with_text}
-use Rattle.es_statement_runs.specs.Helpers.Supply.{no_helpers, by_global}
+use Rattle.es_statement_runs.specs.Helpers.Supply.{no_helpers, by_global, spread_by_global}
 use Rattle.es_statement_runs.specs.Kinds.{from_portions, inside, portion, portions, sense, senses}
 use Rattle.es_statement_runs.specs.Names.{declared_at_top, is_word}
 use Rattle.es_statement_runs.specs.Runs.{RunAlike, outcome, run, run_in, place_of, silent_or, start_cells}
@@ -152,11 +152,13 @@ list-bare (node k l (f then (statements ts then fs))) = refl
 -- whether helpers are supplied by no module
 abbrev pub is_plain_supply : Supply → Bool
 is_plain_supply no_helpers = true
+is_plain_supply spread_by_global = true
 is_plain_supply by_global = true
 is_plain_supply _ = false
 
 silent-bare : (u : Supply) → is_plain_supply u ≡ true → (p : Tree) → silent_names u (bare p) ≡ silent_names u p
 silent-bare no_helpers e p = refl
+silent-bare spread_by_global e p = refl
 silent-bare by_global e p = ap (constants_in by_global [] (bare p)) (list-bare p) ∙ constants-in-bare [] p (program_list p)
 silent-bare _ e p = absurd (cc e)
 

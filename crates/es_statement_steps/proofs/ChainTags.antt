@@ -1,11 +1,11 @@
 -- Where no tag of a template is an optional chain, none is one after a step of rules that make no chains.
 use Rattle.std.proofs.Common.{◌≡◌, ℕ, zero, suc, refl, sym, ap, subst, ◌∙◌, List, [], ◌∷◌}
 use Rattle.std.proofs.lemmas.Bool.{and_parts, and_from, not-true, not_from_false}
-use Rattle.std.specs.Prelude.{Bool, true, false, not, ◌&&◌, codes, map}
-use Rattle.es_tree.specs.Bare.{bare, bare_label, bare_field, bare_fields, bare_trees}
+use Rattle.std.specs.Prelude.{Bool, true, false, not, codes, map}
+use Rattle.es_tree.specs.Bare.{bare_label, bare_fields}
 use Rattle.es_tree.specs.Constructs.{field_at}
-use Rattle.es_tree.specs.Tree.{Tree, node, Label, Fields, done, ◌then◌, Field, missing, one, many, statements, Trees, empty, ◌before◌, kind_of, trees}
-use Rattle.es_tree.specs.Walks.{all_nodes, all_in_field, all_in_fields, all_in_trees}
+use Rattle.es_tree.specs.Tree.{Tree, node, Label, Fields, done, ◌then◌, Field, missing, one, many, statements, Trees, empty, kind_of, trees}
+use Rattle.es_tree.specs.Walks.{all_nodes, all_in_fields, all_in_trees}
 use Rattle.es_tree.specs.declared.ast_type.AstType.{AstType}
 use Rattle.es_tree.specs.declared.ast_type.AstType.TheVariants.{CallExpression, ObjectExpression, ParenthesizedExpression, TaggedTemplateExpression}
 use Rattle.es_runs.specs.OptionalChaining.{has_tests, where_short}
@@ -39,8 +39,8 @@ use Rattle.es_statement_runs.specs.Programs.{is_statement_node}
 use Rattle.es_statement_steps.specs.Laws.{no_chain_tag}
 use Rattle.es_statement_steps.proofs.Below.{Below, BelowField, BelowTrees, nodes_below}
 use Rattle.es_statement_steps.proofs.Chainings.{is_chain}
-use Rattle.es_statement_steps.proofs.MadeOf.{PassesMade, assigning-of, chaining-of, coalescing-of, raising-of}
-use Rattle.es_statement_steps.proofs.ReachedRuns.{source-bare}
+use Rattle.es_statement_steps.proofs.MadeOf.{PassesMade, any_name, assigning-of, chaining-of, coalescing-of, is_made_kind, passes-any, raising-of}
+use Rattle.es_statement_steps.proofs.BareTests.{source-passes}
 use Rattle.es_statement_steps.proofs.SpreadParts.{is_copy, spread-copy, spread-so}
 use Rattle.es_statement_steps.proofs.StepMoves.{below-after}
 use Rattle.es_statement_steps.proofs.Tamed.{Class, no-arrow, node-kind}
@@ -158,19 +158,22 @@ module _ (Q : Site → Ledger → Spot → Ledger → Spot → Type 0) (law : Fo
 
 -- THE ROWS make no chains
 
-made-untagged : PassesMade no_chain_tag
-made-untagged TaggedTemplateExpression l fs e = absurd (cc e)
-made-untagged _ l fs e = refl
+made-untagged : PassesMade any_name no_chain_tag
+made-untagged = passes-any no_chain_tag made (λ l. refl)
+  where
+    made : (k : AstType) (l : Label) (fs : Fields) → is_made_kind k ≡ true → no_chain_tag k l fs ≡ true
+    made TaggedTemplateExpression l fs e = absurd (cc e)
+    made _ l fs e = refl
 
 pub coalescing-no-chain : (n : Site) (w : Whole) (bs : List Bound) (t u : Tree) → NullishCoalescingRule n w bs t u → Unchained t u
-coalescing-no-chain n w bs t u h c = (coalescing-of no_chain_tag made-untagged n w bs t u h c, kind bs t u h)
+coalescing-no-chain n w bs t u h c = (coalescing-of any_name no_chain_tag made-untagged n w bs t u h c, kind bs t u h)
   where
     kind : (bs : List Bound) (t u : Tree) → NullishCoalescingRule n w bs t u → is_chain u ≡ false
     kind bs t u (with_temporary texts again next) = refl
     kind bs t u (reading_again texts again) = refl
 
 pub assigning-no-chain : (n : Site) (w : Whole) (bs : List Bound) (t u : Tree) → LogicalAssignmentRule n w bs t u → Unchained t u
-assigning-no-chain n w bs t u h c = (assigning-of no_chain_tag made-untagged n w bs t u h c, kind bs t u h)
+assigning-no-chain n w bs t u h c = (assigning-of any_name no_chain_tag made-untagged n w bs t u h c, kind bs t u h)
   where
     kind : (bs : List Bound) (t u : Tree) → LogicalAssignmentRule n w bs t u → is_chain u ≡ false
     kind bs t u (to_name texts operator alone at) = refl
@@ -178,7 +181,7 @@ assigning-no-chain n w bs t u h c = (assigning-of no_chain_tag made-untagged n w
     kind bs t u (to_computed_member texts operator alone at flags object key) = refl
 
 pub raising-no-chain : (n : Site) (w : Whole) (bs : List Bound) (t u : Tree) → ExponentiationRule n w bs t u → Unchained t u
-raising-no-chain n w bs t u h c = (raising-of no_chain_tag made-untagged n w bs t u h c, kind bs t u h)
+raising-no-chain n w bs t u h c = (raising-of any_name no_chain_tag made-untagged n w bs t u h c, kind bs t u h)
   where
     assigned : (m : Label) (fs : List Tree) (target read r : Tree) → is_chain (assigned_power m fs target read r) ≡ false
     assigned m [] target read r = refl
@@ -189,7 +192,7 @@ raising-no-chain n w bs t u h c = (raising-of no_chain_tag made-untagged n w bs 
     kind bs t u (power_assignment {m = m} {r = r} {target = target} {read = read} {fs = fs} free texts right alone object) = assigned m fs target read r
 
 pub chaining-no-chain : (no_all : Bool) (n : Site) (w : Whole) (bs : List Bound) (t u : Tree) → OptionalChainingRule no_all n w bs t u → Unchained t u
-chaining-no-chain no_all n w bs t u h c = (chaining-of no_chain_tag made-untagged no_all n w bs t u h c, kind bs t u h)
+chaining-no-chain no_all n w bs t u h c = (chaining-of any_name no_chain_tag made-untagged no_all n w bs t u h c, kind bs t u h)
   where
     short : (m : Label) (ts : List Tree) (a b : Tree) → has_tests ts ≡ true → is_chain (where_short m ts a b) ≡ false
     short m [] a b e = absurd (cc e)
@@ -225,23 +228,5 @@ tag-bare TaggedTemplateExpression l m (many ts then fs) = refl
 tag-bare TaggedTemplateExpression l m (statements ts then fs) = refl
 tag-bare _ l m fs = refl
 
-mutual
-  tags-bare : (t : Tree) → all_nodes no_chain_tag (bare t) ≡ all_nodes no_chain_tag t
-  tags-bare (node k l fs) = λ i. tag-bare k l (bare_label l) fs i && tags-bare-in fs i
-
-  tags-bare-in : (fs : Fields) → all_in_fields no_chain_tag (bare_fields fs) ≡ all_in_fields no_chain_tag fs
-  tags-bare-in done = refl
-  tags-bare-in (f then fs) = λ i. tags-bare-by f i && tags-bare-in fs i
-
-  tags-bare-by : (f : Field) → all_in_field no_chain_tag (bare_field f) ≡ all_in_field no_chain_tag f
-  tags-bare-by missing = refl
-  tags-bare-by (one t) = tags-bare t
-  tags-bare-by (many ts) = tags-bare-all ts
-  tags-bare-by (statements ts) = tags-bare-all ts
-
-  tags-bare-all : (ts : Trees) → all_in_trees no_chain_tag (bare_trees ts) ≡ all_in_trees no_chain_tag ts
-  tags-bare-all empty = refl
-  tags-bare-all (t before ts) = λ i. tags-bare t i && tags-bare-all ts i
-
 pub source-untagged : (p : Tree) → Untagged p → Untagged (source p)
-source-untagged p h = sym (tags-bare (source p)) ∙ ap (λ t. all_nodes no_chain_tag t) (sym (source-bare p)) ∙ tags-bare p ∙ h
+source-untagged p h = source-passes no_chain_tag (λ k l fs. tag-bare k l (bare_label l) fs) p h

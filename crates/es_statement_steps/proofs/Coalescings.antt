@@ -23,7 +23,7 @@ use Rattle.es_steps.specs.WrapRule.{OutsideSlots}
 use Rattle.es_statement_runs.specs.Alike.{Quiet, SenseLike, StackSeen}
 use Rattle.es_statement_runs.specs.Alike.MoreLike.{same_nothing}
 use Rattle.es_statement_runs.specs.Helpers.{Supply}
-use Rattle.es_statement_runs.specs.Helpers.Supply.{no_helpers, by_global, by_import, by_require}
+use Rattle.es_statement_runs.specs.Helpers.Supply.{no_helpers, by_global, by_import, by_require, spread_by_global}
 use Rattle.es_statement_runs.specs.Kinds.{sense}
 use Rattle.es_statement_runs.specs.Laws.{among_names}
 use Rattle.es_statement_runs.specs.Places.{SupplySeen, Take, avoids, placed_at, value_taken}
@@ -75,6 +75,7 @@ coalescing-shape = record {
 made-as : (u : Supply) (v : World) (ls : List Text) (y : Text) (m : Label) (x : Bound) (l r : Tree) → v.scope x.name ≡ changeable →
     (sense (placed_at u v ls y) (tested_by m x l r)).core ≡ tested_meaning v (parenthesized (assignment v (codes "=") (name x.name) (sense (placed_at u v [] []) l).core)) (name x.name) (sense (placed_at u v [] []) r).core
 made-as no_helpers v ls y m x l r e = refl
+made-as spread_by_global v ls y m x l r e = refl
 made-as by_global v ls y m x l r e = rw e refl
 made-as (by_import z) v ls y m x l r e = rw e refl
 made-as (by_require z) v ls y m x l r e = rw e refl

@@ -1,6 +1,6 @@
 -- Programs in which no call of the object of all helpers excludes keys: no name of theirs stands for keys, and steps of rows make no such call.
 use Rattle.std.proofs.Common.{◌≡◌, ℕ, refl, sym, ap, subst, ◌∙◌, List, [], ◌++◌, arith}
-use Rattle.std.proofs.lemmas.Bool.{and_parts, and_from, false≢true}
+use Rattle.std.proofs.lemmas.Bool.{and_parts, and_from}
 use Rattle.std.specs.Prelude.{Bool, true, false, not, ◌&&◌, Option, Some, None, codes, if◌then◌else◌}
 use Rattle.es_tree.specs.Names.{first_text, names_of}
 use Rattle.es_tree.specs.Scopes.{Declared, own_text}
@@ -10,32 +10,26 @@ use Rattle.es_tree.specs.Words.{Text}
 use Rattle.es_tree.specs.declared.ast_type.AstType.{AstType}
 use Rattle.es_tree.specs.declared.ast_type.AstType.TheVariants.{ArrayExpression, CallExpression, Identifier, MemberExpression, VariableDeclaration, VariableDeclarator}
 use Rattle.es_tree.specs.HasForm.{has_form}
-use Rattle.es_tree.specs.declared.table.Sort.{Sort}
 use Rattle.es_tree.specs.declared.table.Sort.TheVariants.{Program as s-Program}
-use Rattle.es_tree.proofs.NodeForm.{NodeForm}
 use Rattle.es_runs.specs.Core.{Silent}
 use Rattle.es_runs.specs.Runs.{program}
 use Rattle.es_runs.specs.Machine.{Values}
 use Rattle.es_resolution.specs.Declarations.{Bound}
-use Rattle.es_resolution.proofs.AllForms.{All, AllAmong, AllBy, AllIn, all-tree}
 use Rattle.es_resolution.proofs.Tests.{and-false}
 use Rattle.es_steps.specs.CoreBridge.{names_among}
 use Rattle.es_steps.specs.Steps.{Ledger, Site, Spot, Whole}
 use Rattle.es_statement_runs.specs.Laws.{among_names}
+use Rattle.es_statement_steps.proofs.MovedTests.{Alone, form_alone, list-so, name_alone}
 use Rattle.es_statement_steps.proofs.ProgramMoves.{MovedProgram, ProgramWent}
 use Rattle.es_statement_steps.proofs.StepMoves.{Acted, NodeRule}
-use Rattle.es_statement_runs.specs.BareVars.{GrownDeclarators}
-use Rattle.es_statement_runs.specs.BareVars.GrownDeclarators.{as_named, none_grown, one_grown}
 use Rattle.es_statement_runs.specs.Helpers.{binds_constant, constant_by, constant_where, constants_by, constants_in, excludes_by, is_helper, is_this_name, key_places, key_places_all, key_places_at, key_places_in, occurrences, one_where, only_excludes, program_list, silent_names, texts_of}
 use Rattle.es_statement_runs.specs.Helpers.Supply.{by_global}
 use Rattle.es_statement_runs.specs.Names.{is_word}
 use Rattle.es_statement_runs.specs.Places.{Take}
-use Rattle.es_statement_runs.proofs.Moved.{Moved, MovedField, MovedFields, MovedList, MovedTrees, Room}
+use Rattle.es_statement_runs.proofs.Moved.{Moved, MovedFields, MovedList, Room}
 use Rattle.es_statement_runs.proofs.Moved.Moved.{moved_block, moved_case, moved_node, moved_place}
 use Rattle.es_statement_runs.proofs.Moved.MovedField.{moved_many, moved_missing, moved_one, moved_statements}
 use Rattle.es_statement_runs.proofs.Moved.MovedFields.{moved_done, moved_then}
-use Rattle.es_statement_runs.proofs.Moved.MovedList.{moved_end, moved_grown, moved_new, moved_statement}
-use Rattle.es_statement_runs.proofs.Moved.MovedTrees.{moved_before, moved_empty}
 
 abbrev pub without_ : Text
 without_ = codes "objectWithoutProperties"
@@ -130,36 +124,6 @@ pub record KeepsKeyless (a b : Tree) : Type 0 where
   pub key : is_word without_ (own_text a) ≡ false → is_word without_ (own_text b) ≡ false
   pub keyless : IsKeyless a → IsKeyless b
 
--- a name alone has no fields
-abbrev pub name_alone : AstType → Label → Fields → Bool
-name_alone Identifier l done = true
-name_alone Identifier l fs = false
-name_alone k l fs = true
-
-abbrev Alone : Tree → Type 0
-Alone t = all_nodes name_alone t ≡ true
-
-own_keyless : (o : Label) (gs : Fields) → (name_alone Identifier o gs && all_in_fields name_alone gs) ≡ true → all_in_fields excludes_none gs ≡ true
-own_keyless o done h = refl
-own_keyless o (f then gs) h = absurd (cc h)
-
-grown_keyless : {fresh : Text → Bool} {ds es : Trees} → GrownDeclarators fresh ds es → all_in_trees name_alone es ≡ true → all_in_trees excludes_none es ≡ true
-grown_keyless none_grown h = refl
-grown_keyless (as_named {o = o} {gs = gs} {es = es} e g) h = declared_keyless o gs es h (grown_keyless g)
-  where
-    declared_keyless : (o : Label) (gs : Fields) (es : Trees) → (((name_alone Identifier o gs && all_in_fields name_alone gs) && true) && all_in_trees name_alone es) ≡ true → (all_in_trees name_alone es ≡ true → all_in_trees excludes_none es ≡ true) → ((all_in_fields excludes_none gs && true) && all_in_trees excludes_none es) ≡ true
-    declared_keyless o gs es h later =
-        let d = and_parts ((name_alone Identifier o gs && all_in_fields name_alone gs) && true) (all_in_trees name_alone es) h in
-        let c = and_parts (name_alone Identifier o gs && all_in_fields name_alone gs) true d.0 in
-        and_from (all_in_fields excludes_none gs && true) (all_in_trees excludes_none es) (and_from (all_in_fields excludes_none gs) true (own_keyless o gs c.0) refl) (later d.1)
-grown_keyless (one_grown {o = o} {gs = gs} {es = es} e g) h = declared_keyless o gs es h (grown_keyless g)
-  where
-    declared_keyless : (o : Label) (gs : Fields) (es : Trees) → (((name_alone Identifier o gs && all_in_fields name_alone gs) && true) && all_in_trees name_alone es) ≡ true → (all_in_trees name_alone es ≡ true → all_in_trees excludes_none es ≡ true) → ((all_in_fields excludes_none gs && true) && all_in_trees excludes_none es) ≡ true
-    declared_keyless o gs es h later =
-        let d = and_parts ((name_alone Identifier o gs && all_in_fields name_alone gs) && true) (all_in_trees name_alone es) h in
-        let c = and_parts (name_alone Identifier o gs && all_in_fields name_alone gs) true d.0 in
-        and_from (all_in_fields excludes_none gs && true) (all_in_trees excludes_none es) (and_from (all_in_fields excludes_none gs) true (own_keyless o gs c.0) refl) (later d.1)
-
 not_false : (b : Bool) → b ≡ false → not b ≡ true
 not_false true h = absurd (cc h)
 not_false false h = refl
@@ -213,82 +177,11 @@ module _ (fresh : Text → Bool) (R : List Declared → Take → Tree → Tree �
   own_kept CallExpression (moved_then (moved_statements h) k) n = refl
   own_kept _ h n = refl
 
-  mutual
-    keyless_moved : {r : Room} {ds : List Declared} {t : Take} {a b : Tree} → Moved fresh R r ds t a b → IsKeyless a → Alone b → IsKeyless b
-    keyless_moved (moved_place e h) n m = (rows _ _ _ _ h).keyless n
-    keyless_moved (moved_node {k = k} {l = l} {m = m} {fs = fs} {gs = gs} e i h) n q =
-        let d = and_parts (excludes_none k l fs) (all_in_fields excludes_none fs) n in
-        and_from (excludes_none k m gs) (all_in_fields excludes_none gs) (not_false (excludes k gs) (own_kept k h (not_so (excludes k fs) d.0))) (keyless_fields h d.1 (and_parts (name_alone k m gs) (all_in_fields name_alone gs) q).1)
-    keyless_moved (moved_block {ts = ts} {us = us} e h) n q = and_from (all_in_trees excludes_none us) true (keyless_list h (and_parts (all_in_trees excludes_none ts) true n).0 (and_parts (all_in_trees name_alone us) true q).0) refl
-    keyless_moved (moved_case {f = f} {g = g} {ts = ts} {us = us} e h j) n q =
-        let d = and_parts (all_in_field excludes_none f) (all_in_trees excludes_none ts && true) n in
-        let c = and_parts (all_in_field name_alone g) (all_in_trees name_alone us && true) q in
-        and_from (all_in_field excludes_none g) (all_in_trees excludes_none us && true) (keyless_field h d.0 c.0) (and_from (all_in_trees excludes_none us) true (keyless_list j (and_parts (all_in_trees excludes_none ts) true d.1).0 (and_parts (all_in_trees name_alone us) true c.1).0) refl)
+  own_passes : (r : ℕ → Room) (d : ℕ → List Declared) (c : ℕ → Take) (k : AstType) (l m : Label) (fs gs : Fields) → m.texts ≡ l.texts → MovedFields fresh R r d c fs gs → all_in_fields name_alone gs ≡ true → excludes_none k l fs ≡ true → excludes_none k m gs ≡ true
+  own_passes r d c k l m fs gs e h q n = not_false (excludes k gs) (own_kept k h (not_so (excludes k fs) n))
 
-    keyless_fields : {r : ℕ → Room} {ds : ℕ → List Declared} {c : ℕ → Take} {fs gs : Fields} → MovedFields fresh R r ds c fs gs → all_in_fields excludes_none fs ≡ true → all_in_fields name_alone gs ≡ true → all_in_fields excludes_none gs ≡ true
-    keyless_fields moved_done n q = refl
-    keyless_fields (moved_then {f = f} {g = g} {fs = fs} {gs = gs} h j) n q =
-        let d = and_parts (all_in_field excludes_none f) (all_in_fields excludes_none fs) n in
-        let c = and_parts (all_in_field name_alone g) (all_in_fields name_alone gs) q in
-        and_from (all_in_field excludes_none g) (all_in_fields excludes_none gs) (keyless_field h d.0 c.0) (keyless_fields j d.1 c.1)
-
-    keyless_field : {r : Room} {ds : List Declared} {t : Take} {f g : Field} → MovedField fresh R r ds t f g → all_in_field excludes_none f ≡ true → all_in_field name_alone g ≡ true → all_in_field excludes_none g ≡ true
-    keyless_field moved_missing n q = refl
-    keyless_field (moved_one h) n q = keyless_moved h n q
-    keyless_field (moved_many h) n q = keyless_trees h n q
-    keyless_field (moved_statements h) n q = keyless_trees h n q
-
-    keyless_trees : {r : Room} {ds : List Declared} {t : Take} {ts us : Trees} → MovedTrees fresh R r ds t ts us → all_in_trees excludes_none ts ≡ true → all_in_trees name_alone us ≡ true → all_in_trees excludes_none us ≡ true
-    keyless_trees moved_empty n q = refl
-    keyless_trees (moved_before {a = a} {b = b} {ts = ts} {us = us} h j) n q =
-        let d = and_parts (all_nodes excludes_none a) (all_in_trees excludes_none ts) n in
-        let c = and_parts (all_nodes name_alone b) (all_in_trees name_alone us) q in
-        and_from (all_nodes excludes_none b) (all_in_trees excludes_none us) (keyless_moved h d.0 c.0) (keyless_trees j d.1 c.1)
-
-    pub keyless_list : {r : Room} {ds : List Declared} {more : Bool} {ts us : Trees} → MovedList fresh R r ds more ts us → all_in_trees excludes_none ts ≡ true → all_in_trees name_alone us ≡ true → all_in_trees excludes_none us ≡ true
-    keyless_list moved_end n q = refl
-    keyless_list (moved_statement {a = a} {b = b} {ts = ts} {us = us} h j) n q =
-        let d = and_parts (all_nodes excludes_none a) (all_in_trees excludes_none ts) n in
-        let c = and_parts (all_nodes name_alone b) (all_in_trees name_alone us) q in
-        and_from (all_nodes excludes_none b) (all_in_trees excludes_none us) (keyless_moved h d.0 c.0) (keyless_list j d.1 c.1)
-    keyless_list (moved_new {es = es} {us = us} e g j) n q =
-        let c = and_parts (all_in_trees name_alone es && true) (all_in_trees name_alone us) q in
-        and_from (all_in_trees excludes_none es && true) (all_in_trees excludes_none us) (and_from (all_in_trees excludes_none es) true (grown_keyless g (and_parts (all_in_trees name_alone es) true c.0).0) refl) (keyless_list j n c.1)
-    keyless_list (moved_grown {cs = cs} {es = es} {ts = ts} {us = us} e i g j) n q =
-        let d = and_parts (all_in_trees excludes_none cs && true) (all_in_trees excludes_none ts) n in
-        let c = and_parts (all_in_trees name_alone es && true) (all_in_trees name_alone us) q in
-        and_from (all_in_trees excludes_none es && true) (all_in_trees excludes_none us) (and_from (all_in_trees excludes_none es) true (grown_keyless g (and_parts (all_in_trees name_alone es) true c.0).0) refl) (keyless_list j d.1 c.1)
-
--- IN A PROGRAM THAT HAS FORM a name alone has no fields
-
-name_form : (s : Sort) (k : AstType) (l : Label) (fs : Fields) → NodeForm s k l fs → name_alone k l fs ≡ true
-name_form s Identifier l done h = refl
-name_form s Identifier l (f then fs) h = absurd (false≢true h.children)
-name_form s _ l fs h = refl
-
-abbrev NameAlone : AstType → Label → Fields → Type 0
-NameAlone k l fs = name_alone k l fs ≡ true
-
-mutual
-  all_alone : (t : Tree) → All NameAlone t → Alone t
-  all_alone (node k l fs) h = and_from (name_alone k l fs) (all_in_fields name_alone fs) h.0 (all_alone_in fs h.1)
-
-  all_alone_in : (fs : Fields) → AllIn NameAlone fs → all_in_fields name_alone fs ≡ true
-  all_alone_in done h = refl
-  all_alone_in (f then fs) h = and_from (all_in_field name_alone f) (all_in_fields name_alone fs) (all_alone_by f h.0) (all_alone_in fs h.1)
-
-  all_alone_by : (f : Field) → AllBy NameAlone f → all_in_field name_alone f ≡ true
-  all_alone_by missing h = refl
-  all_alone_by (one t) h = all_alone t h
-  all_alone_by (many ts) h = all_alone_among ts h
-  all_alone_by (statements ts) h = all_alone_among ts h
-
-  all_alone_among : (ts : Trees) → AllAmong NameAlone ts → all_in_trees name_alone ts ≡ true
-  all_alone_among empty h = refl
-  all_alone_among (t before ts) h = and_from (all_nodes name_alone t) (all_in_trees name_alone ts) (all_alone t h.0) (all_alone_among ts h.1)
-
-form_alone : (t : Tree) → has_form s-Program t ≡ true → Alone t
-form_alone t h = all_alone t (all-tree NameAlone (λ s k l fs f. name_form s k l fs f) s-Program t h)
+  pub keyless_list : {r : Room} {ds : List Declared} {more : Bool} {ts us : Trees} → MovedList fresh R r ds more ts us → all_in_trees excludes_none ts ≡ true → all_in_trees name_alone us ≡ true → all_in_trees excludes_none us ≡ true
+  keyless_list = list-so fresh R excludes_none (λ ds t a b h. (rows ds t a b h).keyless) own_passes (λ l fs. (refl, (refl, (refl, refl)))) (λ l m fs gs e h. refl) (λ l fs e. refl)
 
 -- A STEP OF SUCH A ROW
 pub keyless_after : (Q : Site → Ledger → Spot → Ledger → Spot → Type 0) (A : List Bound → Site → Whole → Tree → Tree → Type 0) (law : NodeRule Q A) → ((new : List Bound) (n : Site) (w : Whole) (a b : Tree) → A new n w a b → KeepsKeyless a b) →

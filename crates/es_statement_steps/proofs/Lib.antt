@@ -18,6 +18,16 @@ pub mod RowRuns
 pub mod NewNames
 pub mod Replacings
 pub mod Coalescings
+pub mod PlainSupplies
+pub mod KeptParts
+pub mod WrittenAgain
+pub mod Unspread
+pub mod RaisedTargets
+pub mod RaisedRows
+pub mod ApartSenses
+pub mod ChainCopies
+pub mod CopylessRows
+pub mod CopylessSteps
 pub mod SameSenses
 pub mod Doublings
 pub mod SettledRows
@@ -41,6 +51,8 @@ pub mod KeylessSources
 pub mod KeylessSteps
 pub mod Sources
 pub mod ReachedRuns
+pub mod MovedTests
+pub mod BareTests
 pub mod KeylessPrograms
 pub mod StatementLaw
 pub mod Catchings

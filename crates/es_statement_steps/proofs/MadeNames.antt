@@ -7,7 +7,7 @@ use Rattle.es_tree.specs.Words.{Text}
 use Rattle.es_resolution.proofs.Basics.{bytes_eq-equal}
 use Rattle.es_statement_runs.specs.Laws.{among_names, any_cells}
 use Rattle.es_statement_runs.specs.Helpers.{Supply}
-use Rattle.es_statement_runs.specs.Helpers.Supply.{no_helpers, by_global, by_import, by_require}
+use Rattle.es_statement_runs.specs.Helpers.Supply.{no_helpers, by_global, by_import, by_require, spread_by_global}
 use Rattle.es_statement_runs.specs.Places.{SupplySeen}
 use Rattle.es_statement_runs.specs.Scopes.{are_program_names, is_own_cell}
 
@@ -56,6 +56,7 @@ made_math xs h = made_among (codes "Math") xs refl h
 
 pub made_supply : (u : Supply) (xs : List Text) → all_made xs ≡ true → SupplySeen (any_cells (among_names xs)) u
 made_supply no_helpers xs h = tt
+made_supply spread_by_global xs h = record { global = made_among (codes "babelHelpers") xs refl h; require = made_among (codes "require") xs refl h }
 made_supply by_global xs h = record { global = made_among (codes "babelHelpers") xs refl h; require = made_among (codes "require") xs refl h }
 made_supply (by_import m) xs h = record { global = made_among (codes "babelHelpers") xs refl h; require = made_among (codes "require") xs refl h }
 made_supply (by_require m) xs h = record { global = made_among (codes "babelHelpers") xs refl h; require = made_among (codes "require") xs refl h }

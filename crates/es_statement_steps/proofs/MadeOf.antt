@@ -1,7 +1,8 @@
 -- A test of nodes that the kinds pass of which the rows make nodes is kept by these rows: what they make passes it where the nodes do that they take apart.
-use Rattle.std.proofs.Common.{◌≡◌, ℕ, refl, subst, List, [], ◌∷◌, ◌++◌}
+use Rattle.std.proofs.Common.{◌≡◌, ℕ, refl, ap, subst, ◌∙◌, List, [], ◌∷◌, ◌++◌}
 use Rattle.std.proofs.lemmas.Bool.{and_parts, and_from}
 use Rattle.std.specs.Prelude.{Bool, true, false, ◌&&◌, Option, Some, None, codes}
+use Rattle.es_tree.specs.Fresh.{candidate}
 use Rattle.es_tree.specs.Names.{first_text}
 use Rattle.es_tree.specs.Parens.{without_parens}
 use Rattle.es_tree.specs.Tree.{Tree, node, Label, Fields, done, ◌then◌, missing, one, many, statements, Trees, empty, ◌before◌, trees}
@@ -15,7 +16,7 @@ use Rattle.es_runs.specs.LogicalAssignment.{assigned_where}
 use Rattle.es_runs.specs.OptionalChaining.{call_at, delete_node, joined_by_or, member_at, null_checks, true_node, where_short}
 use Rattle.es_runs.specs.Rules.{assign_node, binary_node, conditional_at, in_place_of, logical_node, member_node, null_node, tested, void_zero_node}
 use Rattle.es_resolution.specs.Declarations.{Bound}
-use Rattle.es_steps.specs.Duplication.{IsDuplicated}
+use Rattle.es_steps.specs.Duplication.{IsDuplicated, IsNext}
 use Rattle.es_steps.specs.Duplication.IsDuplicated.{by_temporary as duplicated_by_temporary, read_again}
 use Rattle.es_steps.specs.Exponentiation.{ExponentiationRule, Holds, TargetTwice, assigned_power, power_at, power_node}
 use Rattle.es_steps.specs.Exponentiation.ExponentiationRule.{power, power_assignment}
@@ -36,8 +37,8 @@ use Rattle.es_steps.specs.OptionalChaining.BoundCallee.{no_member, to_object}
 use Rattle.es_steps.specs.OptionalChaining.OptionalChainingRule.{by_tests, as_callee, in_delete}
 use Rattle.es_steps.specs.Steps.{Site, Whole}
 
+-- names are made apart
 abbrev pub is_made_kind : AstType → Bool
-is_made_kind Identifier = true
 is_made_kind ThisExpression = true
 is_made_kind NullLiteral = true
 is_made_kind BooleanLiteral = true
@@ -53,10 +54,17 @@ is_made_kind AssignmentExpression = true
 is_made_kind SequenceExpression = true
 is_made_kind _ = false
 
-abbrev pub PassesMade : (AstType → Label → Fields → Bool) → Type 0
-PassesMade P = (k : AstType) (l : Label) (fs : Fields) → is_made_kind k ≡ true → P k l fs ≡ true
+-- that a test is passed by nodes of these kinds, and by names that are good, as the made ones are
+pub record PassesMade (good : Text → Bool) (P : AstType → Label → Fields → Bool) : Type 0 where
+  pub nodes : (k : AstType) (l : Label) (fs : Fields) → is_made_kind k ≡ true → P k l fs ≡ true
+  pub names : (l : Label) → good (first_text l.texts) ≡ true → P Identifier l done ≡ true
+  pub fresh : (text : Text) (n : ℕ) → good (candidate text n) ≡ true
+  pub math : good (codes "Math") ≡ true
+  pub pow : good (codes "pow") ≡ true
+  pub call : good (codes "call") ≡ true
+  pub bind : good (codes "bind") ≡ true
 
-module _ (P : AstType → Label → Fields → Bool) (passes : PassesMade P) where
+module _ (good : Text → Bool) (P : AstType → Label → Fields → Bool) (passes : PassesMade good P) where
   abbrev So : Tree → Type 0
   So t = all_nodes P t ≡ true
 
@@ -67,7 +75,7 @@ module _ (P : AstType → Label → Fields → Bool) (passes : PassesMade P) whe
   -- NODES, and what is known of their parts
 
   made-so : (k : AstType) (l : Label) (fs : Fields) → is_made_kind k ≡ true → all_in_fields P fs ≡ true → So (node k l fs)
-  made-so k l fs e h = and_from (P k l fs) (all_in_fields P fs) (passes k l fs e) h
+  made-so k l fs e h = and_from (P k l fs) (all_in_fields P fs) (passes.nodes k l fs e) h
 
   one-so : (a : Tree) → So a → all_in_fields P (one a then done) ≡ true
   one-so a h = and_from (all_nodes P a) true h refl
@@ -111,11 +119,15 @@ module _ (P : AstType → Label → Fields → Bool) (passes : PassesMade P) whe
 
   -- WHAT THE ROWS MAKE
 
-  name-so : (b : Bound) → So (identifier b)
-  name-so b = made-so Identifier (record (made (Some b.name ∷ []) []) { marks = b.symbol ∷ [] }) done refl refl
+  name-so : (b : Bound) → good b.name ≡ true → So (identifier b)
+  name-so b h = and_from (P Identifier (record (made (Some b.name ∷ []) []) { marks = b.symbol ∷ [] }) done) true (passes.names (record (made (Some b.name ∷ []) []) { marks = b.symbol ∷ [] }) h) refl
 
-  word-so : (x : Text) → So (word x)
-  word-so x = name-so (record { name = x; symbol = None })
+  word-so : (x : Text) → good x ≡ true → So (word x)
+  word-so x h = name-so (record { name = x; symbol = None }) h
+
+  -- the next temporary
+  next-good : {w : Whole} {from : Text} {b : Bound} → IsNext w from b → good b.name ≡ true
+  next-good {from = from} next = ap good next.fresh.name ∙ passes.fresh from next.fresh.number
 
   null-so : So null_node
   null-so = made-so NullLiteral (made [] []) done refl refl
@@ -156,14 +168,14 @@ module _ (P : AstType → Label → Fields → Bool) (passes : PassesMade P) whe
   pub coalescing-of : (n : Site) (w : Whole) (bs : List Bound) (t u : Tree) → NullishCoalescingRule n w bs t u → So t → So u
   coalescing-of n w bs t u (with_temporary {m = m} {l = l} {r = r} {x = x} texts again next) h =
       let d = both-of LogicalExpression m l r h in
-      tested-so m (assign_node (identifier x) l) (identifier x) r (assign-so (identifier x) l (name-so x) d.0) (name-so x) d.1
+      tested-so m (assign_node (identifier x) l) (identifier x) r (assign-so (identifier x) l (name-so x (next-good next)) d.0) (name-so x (next-good next)) d.1
   coalescing-of n w bs t u (reading_again {m = m} {l = l} {r = r} texts again) h = let d = both-of LogicalExpression m l r h in tested-so m l l r d.0 d.0 d.1
 
   -- LOGICAL ASSIGNMENT
 
   duplicated-so : {w : Whole} {xs : List Bound} {e e1 e2 : Tree} → IsDuplicated w xs e e1 e2 → So e → So e1 × So e2
   duplicated-so (read_again again) h = (h, h)
-  duplicated-so (duplicated_by_temporary {e = e} {x = x} again next) h = (assign-so (identifier x) e (name-so x) h, name-so x)
+  duplicated-so (duplicated_by_temporary {e = e} {x = x} again next) h = (assign-so (identifier x) e (name-so x (next-good next)) h, name-so x (next-good next))
 
   assigned-so : (m : Label) (op : Text) (first again r : Tree) → So first → So again → So r → So (assigned_where m op first again r)
   assigned-so m op first again r h f g = two-made LogicalExpression (record (in_place_of m) { texts = Some (without_last op) ∷ [] }) first (assign_node again r) refl h (assign-so again r f g)
@@ -190,18 +202,18 @@ module _ (P : AstType → Label → Fields → Bool) (passes : PassesMade P) whe
   power-so : (m : Label) (l r : Tree) → So l → So r → So (power_at m l r)
   power-so m l r h g =
       call-made (record (in_place_of m) { flags = false ∷ [] }) (member_node false (word (codes "Math")) (word (codes "pow"))) (l before r before empty)
-      (member-so false (word (codes "Math")) (word (codes "pow")) (word-so (codes "Math")) (word-so (codes "pow"))) (trees-so (l ∷ r ∷ []) (h, (g, tt)))
+      (member-so false (word (codes "Math")) (word (codes "pow")) (word-so (codes "Math") passes.math) (word-so (codes "pow") passes.pow)) (trees-so (l ∷ r ∷ []) (h, (g, tt)))
 
   abbrev TwiceSo : List Tree → Tree → Tree → Type 0
   TwiceSo fs target read = AreSo fs × (So target × So read)
 
   held-so : {names : Option ℕ → Bool} {w : Whole} {xs : List Bound} {fs : List Tree} {o o' : Tree} → Holds names w xs fs o o' → So o → AreSo fs × So o'
   held-so (where_it_is stays) h = (tt, h)
-  held-so (held_in_temporary {o = o} {x = x} stays next) h = ((assign-so (identifier x) o (name-so x) h, tt), name-so x)
+  held-so (held_in_temporary {o = o} {x = x} stays next) h = ((assign-so (identifier x) o (name-so x (next-good next)) h, tt), name-so x (next-good next))
 
   twice-so : {w : Whole} {xs : List Bound} {fs : List Tree} {t target read : Tree} → TargetTwice w xs fs t target read → So t → TwiceSo fs target read
   twice-so (bound_name bound) h = (tt, (h, h))
-  twice-so (other_name {l = l} {x = x} bound next) h = ((assign-so (identifier x) (node Identifier l done) (name-so x) h, tt), (h, name-so x))
+  twice-so (other_name {l = l} {x = x} bound next) h = ((assign-so (identifier x) (node Identifier l done) (name-so x (next-good next)) h, tt), (h, name-so x (next-good next)))
   twice-so (static_member {l = l} {k = k} {o = o} {o' = o'} flags object) h =
       let c = held-so object (both-of MemberExpression l o (node Identifier k done) h).0 in
       let key = string_node (first_text k.texts) in
@@ -220,8 +232,8 @@ module _ (P : AstType → Label → Fields → Bool) (passes : PassesMade P) whe
   twice-so (other_key {l = l} {o = o} {o' = o'} {k = k} {fs = fs} {y = y} flags literal object next) h =
       let d = both-of MemberExpression l o k h in
       let c = held-so object d.0 in
-      let so = member-so true o' (identifier y) c.1 (name-so y) in
-      (both-so fs (assign_node (identifier y) k ∷ []) c.0 (assign-so (identifier y) k (name-so y) d.1, tt), (so, so))
+      let so = member-so true o' (identifier y) c.1 (name-so y (next-good next)) in
+      (both-so fs (assign_node (identifier y) k ∷ []) c.0 (assign-so (identifier y) k (name-so y (next-good next)) d.1, tt), (so, so))
 
   raised-so : (m : Label) (fs : List Tree) (target read r : Tree) → TwiceSo fs target read → So r → So (assigned_power m fs target read r)
   raised-so m [] target read r h g = two-made AssignmentExpression (record (in_place_of m) { texts = Some (codes "=") ∷ [] }) target (power_node read r) refl h.1.0 (power-so (made [] []) read r h.1.1 g)
@@ -253,61 +265,69 @@ module _ (P : AstType → Label → Fields → Bool) (passes : PassesMade P) whe
   received-so : {to_this : Tree → Bool} {w : Whole} {holder : Option Bound} {xs : List Bound} {o o1 r : Tree} → Receives to_this w holder xs o o1 r → So o → So o1 × So r
   received-so (by_this e) h = (h, made-so ThisExpression (made [] []) done refl refl)
   received-so (by_name e d) h = (h, h)
-  received-so (by_temporary {o = o} {r = r} e d next) h = (assign-so (identifier r) o (name-so r) h, name-so r)
+  received-so (by_temporary {o = o} {r = r} e d next) h = (assign-so (identifier r) o (name-so r (next-good next)) h, name-so r (next-good next))
 
   -- what is known of a spine that is lowered so far
+  abbrev HolderSo : Option Bound → Type 0
+  HolderSo None = Unit {0}
+  HolderSo (Some x) = good x.name ≡ true
+
   record WaySo (w : Way) : Type 0 where
     tests : AreSo w.tests
     current : So w.current
+    holder : HolderSo w.holder
 
   abbrev stored_test : Bool → Bound → Tree → List Tree
   stored_test no_all x e = null_checks no_all (assign_node (identifier x) e) (identifier x)
 
-  stored-test-so : (no_all : Bool) (ts : List Tree) (x : Bound) (e : Tree) → AreSo ts → So e → AreSo (ts ++ stored_test no_all x e)
-  stored-test-so no_all ts x e h g = both-so ts (stored_test no_all x e) h (checks-so no_all (assign_node (identifier x) e) (identifier x) (assign-so (identifier x) e (name-so x) g) (name-so x))
+  stored-test-so : (no_all : Bool) (ts : List Tree) (x : Bound) (e : Tree) → good x.name ≡ true → AreSo ts → So e → AreSo (ts ++ stored_test no_all x e)
+  stored-test-so no_all ts x e c h g = both-so ts (stored_test no_all x e) h (checks-so no_all (assign_node (identifier x) e) (identifier x) (assign-so (identifier x) e (name-so x c) g) (name-so x c))
 
-  stored-so : (no_all : Bool) (l : Label) (arguments : Trees) (w : Way) (names : List Bound) (c : Bound) (callee r : Tree) → WaySo w → all_in_trees P arguments ≡ true → So callee → So r → WaySo (stored_call no_all l arguments w names c callee r)
-  stored-so no_all l arguments w names c callee r h g f e = record {
-    tests = stored-test-so no_all w.tests c callee h.tests f;
-    current = called-so l (call_method (identifier c)) (r before arguments) (member-so false (identifier c) (word (codes "call")) (name-so c) (word-so (codes "call"))) (and_from (all_nodes P r) (all_in_trees P arguments) e g);
+  stored-so : (no_all : Bool) (l : Label) (arguments : Trees) (w : Way) (names : List Bound) (c : Bound) (callee r : Tree) → good c.name ≡ true → WaySo w → all_in_trees P arguments ≡ true → So callee → So r → WaySo (stored_call no_all l arguments w names c callee r)
+  stored-so no_all l arguments w names c callee r fresh h g f e = record {
+    holder = fresh;
+    tests = stored-test-so no_all w.tests c callee fresh h.tests f;
+    current = called-so l (call_method (identifier c)) (r before arguments) (member-so false (identifier c) (word (codes "call")) (name-so c fresh) (word-so (codes "call") passes.call)) (and_from (all_nodes P r) (all_in_trees P arguments) e g);
   }
 
   module _ {no_all : Bool} {known : Whole} where
     tests-so : {w u : Way} → Tested no_all known w u → WaySo w → WaySo u
-    tests-so (as_name {w = w} e d) h = let c = parens-so w.current h.current in record { tests = checks-so no_all (without_parens w.current) (without_parens w.current) c c; current = c }
-    tests-so (in_holder {w = w} {x = x} e) h = record { tests = stored-test-so no_all w.tests x (without_parens w.current) h.tests (parens-so w.current h.current); current = name-so x }
-    tests-so (in_temporary {w = w} {x = x} e none next) h = record { tests = stored-test-so no_all w.tests x (without_parens w.current) h.tests (parens-so w.current h.current); current = name-so x }
+    tests-so (as_name {w = w} e d) h = let c = parens-so w.current h.current in record { holder = h.holder; tests = checks-so no_all (without_parens w.current) (without_parens w.current) c c; current = c }
+    tests-so (in_holder {w = w} {x = x} e) h =
+        let c : good x.name ≡ true = subst HolderSo e h.holder in
+        record { holder = h.holder; tests = stored-test-so no_all w.tests x (without_parens w.current) c h.tests (parens-so w.current h.current); current = name-so x c }
+    tests-so (in_temporary {w = w} {x = x} e none next) h = record { holder = next-good next; tests = stored-test-so no_all w.tests x (without_parens w.current) (next-good next) h.tests (parens-so w.current h.current); current = name-so x (next-good next) }
 
     calls-so : {l : Label} {arguments : Trees} {w u : Way} → Called no_all known l arguments w u → WaySo w → all_in_trees P arguments ≡ true → WaySo u
     calls-so {l = l} {arguments = arguments} (called_by_name {w = w} e d) h g =
         let c = parens-so w.current h.current in
-        record { tests = checks-so no_all (without_parens w.current) (without_parens w.current) c c; current = called-so l (without_parens w.current) arguments c g }
+        record { holder = h.holder; tests = checks-so no_all (without_parens w.current) (without_parens w.current) c c; current = called-so l (without_parens w.current) arguments c g }
     calls-so {l = l} {arguments = arguments} (by_value {w = w} {c = c} e alone next) h g =
-        record { tests = stored-test-so no_all w.tests c (without_parens w.current) h.tests (parens-so w.current h.current); current = called-so l (identifier c) arguments (name-so c) g }
+        record { holder = next-good next; tests = stored-test-so no_all w.tests c (without_parens w.current) (next-good next) h.tests (parens-so w.current h.current); current = called-so l (identifier c) arguments (name-so c (next-good next)) g }
     calls-so {l = l} {arguments = arguments} (by_first_member {w = w} {k = k} {computed = computed} {o = o} {o1 = o1} {p = p} {r = r} {c = c} {xs = xs} e target flags next object) h g =
         let d = both-of MemberExpression k o p (inside-so w.current (node MemberExpression k (one o then one p then done)) h.current target) in
         let f = received-so object d.0 in
-        stored-so no_all l arguments w (c ∷ xs) c (member_at k computed o1 p) r h g (placed-so k computed o1 p f.0 d.1) f.1
+        stored-so no_all l arguments w (c ∷ xs) c (member_at k computed o1 p) r (next-good next) h g (placed-so k computed o1 p f.0 d.1) f.1
     calls-so {l = l} {arguments = arguments} (by_later_member {w = w} {k = k} {computed = computed} {o = o} {o1 = o1} {p = p} {r = r} {c = c} {xs = xs} e target flags object next) h g =
         let d = both-of MemberExpression k o p (inside-so w.current (node MemberExpression k (one o then one p then done)) h.current target) in
         let f = received-so object d.0 in
-        stored-so no_all l arguments w (xs ++ c ∷ []) c (member_at k computed o1 p) r h g (placed-so k computed o1 p f.0 d.1) f.1
+        stored-so no_all l arguments w (xs ++ c ∷ []) c (member_at k computed o1 p) r (next-good next) h g (placed-so k computed o1 p f.0 d.1) f.1
 
     mutual
       walked-so : {e : Tree} {w : Way} → Walked no_all known e w → So e → WaySo w
-      walked-so (base d alone) h = record { tests = tt; current = h }
+      walked-so (base d alone) h = record { holder = tt; tests = tt; current = h }
       walked-so (plain_member {l = l} {computed = computed} {o = o} {p = p} {w = w} flags r) h =
           let d = both-of MemberExpression l o p h in
           let k = walked-so r d.0 in
-          record { tests = k.tests; current = placed-so l computed w.current p k.current d.1 }
+          record { holder = k.holder; tests = k.tests; current = placed-so l computed w.current p k.current d.1 }
       walked-so (plain_call {l = l} {f = f} {arguments = arguments} {w = w} flags r) h =
           let d = call-of l f arguments h in
           let k = walked-so r d.0 in
-          record { tests = k.tests; current = called-so l w.current arguments k.current d.1 }
+          record { holder = k.holder; tests = k.tests; current = called-so l w.current arguments k.current d.1 }
       walked-so (marked_member {l = l} {computed = computed} {o = o} {p = p} {u = u} flags r t) h =
           let d = both-of MemberExpression l o p h in
           let k = tests-so t (continued-so r d.0) in
-          record { tests = k.tests; current = placed-so l computed u.current p k.current d.1 }
+          record { holder = k.holder; tests = k.tests; current = placed-so l computed u.current p k.current d.1 }
       walked-so (marked_call {l = l} {f = f} {arguments = arguments} flags r t) h =
           let d = call-of l f arguments h in
           calls-so t (continued-so r d.0) d.1
@@ -322,7 +342,7 @@ module _ (P : AstType → Label → Fields → Bool) (passes : PassesMade P) whe
       let d = both-of MemberExpression k o p h in
       let f = received-so object d.0 in
       call-made (made [] (false ∷ [])) (member_node false (member_at k computed o1 p) (word (codes "bind"))) (r before empty)
-      (member-so false (member_at k computed o1 p) (word (codes "bind")) (placed-so k computed o1 p f.0 d.1) (word-so (codes "bind"))) (trees-so (r ∷ []) (f.1, tt))
+      (member-so false (member_at k computed o1 p) (word (codes "bind")) (placed-so k computed o1 p f.0 d.1) (word-so (codes "bind") passes.bind)) (trees-so (r ∷ []) (f.1, tt))
 
   pub chaining-of : (no_all : Bool) (n : Site) (w : Whole) (bs : List Bound) (t u : Tree) → OptionalChainingRule no_all n w bs t u → So t → So u
   chaining-of no_all n known bs _ _ (by_tests {m = m} {e = e} {w = w} level r some) h =
@@ -337,3 +357,10 @@ module _ (P : AstType → Label → Fields → Bool) (passes : PassesMade P) whe
       let true_so = made-so BooleanLiteral (made [] (true ∷ [])) done refl refl in
       let long = made-so UnaryExpression (made (Some (codes "delete") ∷ []) []) (one w.current then done) refl (one-so w.current k.current) in
       short-so m w.tests true_node (delete_node w.current) k.tests true_so long
+
+-- a test that all nodes of these kinds and all names pass
+abbrev pub any_name : Text → Bool
+any_name x = true
+
+pub passes-any : (P : AstType → Label → Fields → Bool) → ((k : AstType) (l : Label) (fs : Fields) → is_made_kind k ≡ true → P k l fs ≡ true) → ((l : Label) → P Identifier l done ≡ true) → PassesMade any_name P
+passes-any P nodes names = record { nodes = nodes; names = λ l h. names l; fresh = λ text n. refl; math = refl; pow = refl; call = refl; bind = refl }

@@ -1,5 +1,5 @@
--- Logical assignment, exponentiation and optional chaining in programs on the way that use no helpers: what is known of such a program as a whole, and that
--- these rows keep its runs.
+-- Logical assignment and exponentiation in programs on the way that use no helper but that of object spread, and optional chaining in those that use none:
+-- what is known of such a program as a whole, and that these rows keep its runs.
 use Rattle.std.proofs.Common.{◌≡◌, inl, inr, refl, subst, []}
 use Rattle.std.specs.Prelude.{Bool, true}
 use Rattle.es_tree.specs.HasForm.{has_form}
@@ -22,7 +22,7 @@ use Rattle.es_steps.proofs.Taken.{whole_in}
 use Rattle.es_valid_steps.specs.Laws.{with_further_rules}
 use Rattle.es_valid_steps.proofs.FurtherSteps.{alone}
 use Rattle.es_valid_steps.proofs.Spread.{finished-spread, spread}
-use Rattle.es_statement_runs.specs.Helpers.{silent_names}
+use Rattle.es_statement_runs.specs.Helpers.{Supply, silent_names}
 use Rattle.es_statement_runs.specs.Helpers.Supply.{no_helpers}
 use Rattle.es_statement_runs.specs.Programs.{IsStatementProgram}
 use Rattle.es_statement_steps.specs.Laws.{no_chain_tag}
@@ -37,6 +37,7 @@ use Rattle.es_statement_steps.proofs.Composition.{Exports, Known, exported, know
 use Rattle.es_statement_steps.proofs.ExportSplits.{is_export_kind}
 use Rattle.es_statement_steps.proofs.Exports.{exports-so}
 use Rattle.es_statement_steps.proofs.PlacePremises.{here-program}
+use Rattle.es_statement_steps.proofs.PlainSupplies.{is_core_supply, none-silent}
 use Rattle.es_statement_steps.proofs.Powers.{RaisingRow, raising-shape}
 use Rattle.es_statement_steps.proofs.Premises.{Inwards, Premise, RowWith, premised-runs}
 use Rattle.es_statement_steps.proofs.RowRuns.{KeepsRuns}
@@ -52,8 +53,8 @@ pub record Suited (o : EnvOptions) (w : Whole) (t : Tree) : Type 0 where
   pub cells : UsesNoCell w
   pub tags : o.es2020.optional_chaining ≡ true → Untagged t
 
-pub no-silent : (o : EnvOptions) (w : Whole) (t : Tree) → Suited o w t → silent_names no_helpers t ≡ []
-no-silent o w t h = refl
+pub no-silent : (o : EnvOptions) (u : Supply) → is_core_supply u ≡ true → (w : Whole) (t : Tree) → Suited o w t → silent_names u t ≡ []
+no-silent o u plain w t h = none-silent u plain t
 
 pub suited-start : (o : EnvOptions) (p : Tree) → IsStatementProgram p → (o.es2020.optional_chaining ≡ true → Untagged p) → Suited o (first_whole p) (source p)
 suited-start o p h untagged = record { steady = steady-start p; cells = cells-start p h.names; tags = λ e. source-untagged p (untagged e) }
@@ -90,13 +91,13 @@ module _ (o : EnvOptions) where
 
 -- CHAINS ask besides that no tag is one, and that the rules of places are kept
 
-abbrev ChainSteady : Premise
+abbrev pub ChainSteady : Premise
 ChainSteady n w a = SteadyPlace n w a × ChainsHere n w a
 
-chain-steady-inwards : Inwards ChainSteady
+pub chain-steady-inwards : Inwards ChainSteady
 chain-steady-inwards n w k l fs h = both_below (λ i t. SteadyPlace (site_in n k l fs i) w t) (λ i t. ChainsHere (site_in n k l fs i) w t) (finished_fields fs) (steady-place-inwards n w k l fs h.0) (chains-inwards n w k l fs h.1)
 
-chaining-keeps-steady : (no_all : Bool) → KeepsRuns no_all no_helpers true (RowWith (ChainingRow no_all) (chaining-shape no_all) ChainSteady)
+pub chaining-keeps-steady : (no_all : Bool) → KeepsRuns no_all no_helpers true (RowWith (ChainingRow no_all) (chaining-shape no_all) ChainSteady)
 chaining-keeps-steady no_all = record { alike = λ new n w a b h. (chaining-keeps-here no_all).alike new n w a b (h.0, (chaining-operands no_all new n w a b h.0 h.1.0, h.1.1)) }
 
 -- RUNS
@@ -109,13 +110,14 @@ module _ (o : EnvOptions) where
       let named = cells-named w c.cells reads (finished x) k.named in
       ((here-program w (finished x) (known-fine k) k.resolved k.named named, named-meant w.free_symbol (finished x) k.form k.rules k.class named), c.steady)
 
-  pub assigning-runs : (no_all : Bool) → Runs no_all no_helpers (Suited o) (no-silent o) (RowRule LogicalAssignmentRule)
-  assigning-runs no_all s s' x y h k m c d = premised-runs no_all no_helpers SteadyPlace steady-place-inwards AssigningRow assigning-shape (assigning-keeps-steady no_all) h k m refl refl (steady-program k c)
+  module _ (u : Supply) (plain : is_core_supply u ≡ true) where
+    pub assigning-runs : (no_all : Bool) → Runs no_all u (Suited o) (no-silent o u plain) (RowRule LogicalAssignmentRule)
+    assigning-runs no_all s s' x y h k m c d = premised-runs no_all u SteadyPlace steady-place-inwards AssigningRow assigning-shape (assigning-keeps-steady no_all u plain) h k m (none-silent u plain (finished x)) (none-silent u plain (finished y)) (steady-program k c)
 
-  pub raising-runs : (no_all : Bool) → Runs no_all no_helpers (Suited o) (no-silent o) (RowRule ExponentiationRule)
-  raising-runs no_all s s' x y h k m c d = premised-runs no_all no_helpers SteadyPlace steady-place-inwards RaisingRow raising-shape (raising-keeps-steady no_all) h k m refl refl (steady-program k c)
+    pub raising-runs : (no_all : Bool) → Runs no_all u (Suited o) (no-silent o u plain) (RowRule ExponentiationRule)
+    raising-runs no_all s s' x y h k m c d = premised-runs no_all u SteadyPlace steady-place-inwards RaisingRow raising-shape (raising-keeps-steady no_all u plain) h k m (none-silent u plain (finished x)) (none-silent u plain (finished y)) (steady-program k c)
 
-  pub chaining-runs : (no_all : Bool) → o.es2020.optional_chaining ≡ true → Runs no_all no_helpers (Suited o) (no-silent o) (RowRule (OptionalChainingRule no_all))
+  pub chaining-runs : (no_all : Bool) → o.es2020.optional_chaining ≡ true → Runs no_all no_helpers (Suited o) (no-silent o no_helpers refl) (RowRule (OptionalChainingRule no_all))
   chaining-runs no_all asked s s' x y h k m c d =
       premised-runs no_all no_helpers ChainSteady chain-steady-inwards (ChainingRow no_all) (chaining-shape no_all) (chaining-keeps-steady no_all) h k m refl refl
       (steady-program k c, chains-program (whole_in s) (finished x) k.form (known-fine k) (c.tags asked) k.keeps)

@@ -7,6 +7,7 @@ use Rattle.es_tree.specs.Parens.{without_parens}
 use Rattle.es_tree.specs.Tree.{Tree, node, Label, done, ◌then◌, one, many, empty, ◌before◌, kind_of, trees}
 use Rattle.es_tree.specs.Words.{Text}
 use Rattle.es_tree.specs.declared.ast_type.AstType.TheVariants.{AssignmentExpression, Identifier, PrivateIdentifier, SequenceExpression}
+use Rattle.es_runs.specs.Alike.{set_cells}
 use Rattle.es_runs.specs.Core.{is_free}
 use Rattle.es_runs.specs.Duplication.{has_no_fields}
 use Rattle.es_runs.specs.Exponentiation.{assign_at, is_raisable, no_name, string_node, assigned_power as assigned_power_by_name, power_at as power_at_by_name, power_node as power_node_by_name, stays as stays_by_name, Holds as HoldsByName, TargetTwice as TargetTwiceByName, ExponentiationRule as ExponentiationByName}
@@ -27,19 +28,22 @@ use Rattle.es_steps.specs.Nodes.{identifier}
 use Rattle.es_steps.specs.Rules.{with_made}
 use Rattle.es_steps.specs.Steps.{Site, Whole}
 use Rattle.es_steps.specs.WrapRule.{OutsideSlots}
-use Rattle.es_statement_runs.specs.Helpers.Supply.{no_helpers}
-use Rattle.es_statement_runs.specs.Laws.{raising}
-use Rattle.es_statement_runs.specs.Places.{Take}
+use Rattle.es_statement_runs.specs.Alike.{SenseLike}
+use Rattle.es_statement_runs.specs.Helpers.{Supply}
+use Rattle.es_statement_runs.specs.Kinds.{sense}
+use Rattle.es_statement_runs.specs.Laws.{among_names}
+use Rattle.es_statement_runs.specs.Places.{Take, placed_at}
 use Rattle.es_statement_runs.proofs.Moved.{is_mute}
-use Rattle.es_statement_runs.proofs.OperandRows.{math_free, raising_kept}
 use Rattle.es_statement_steps.proofs.Doublings.{FindsOwn, TargetFinds, also-same, names-both, steady_names, target-found}
 use Rattle.es_statement_steps.proofs.NewNames.{new-both, new-one, no-new}
+use Rattle.es_statement_steps.proofs.PlainSupplies.{is_core_supply}
+use Rattle.es_statement_steps.proofs.RaisedRows.{raising-like}
 use Rattle.es_statement_steps.proofs.Replacings.{RowShape}
 use Rattle.es_statement_steps.proofs.Rooms.{stays_put}
 use Rattle.es_statement_steps.proofs.RowRuns.{KeepsRuns}
 use Rattle.es_statement_steps.proofs.SameSenses.{EachSame, SameSense, assign-same, before-same, call-same, each-both, each-same, member-same, node-same, two-same}
 use Rattle.es_statement_steps.proofs.SettledOperands.{assignment-raisable, binary-raisable}
-use Rattle.es_statement_steps.proofs.SettledRows.{ByNames, SoundRow, bound_names, settled-like, sound-settled}
+use Rattle.es_statement_steps.proofs.SettledRows.{ByNames, SoundRow, bound_names, place-bound, sound-avoids, sound-settled}
 use Rattle.es_statement_steps.proofs.Stands.{is_inner, is_item}
 use Rattle.es_statement_steps.proofs.StepMoves.{AreNew, Fine}
 
@@ -214,11 +218,15 @@ unbound : (n : Site) (w : Whole) (bs : List Bound) (t u : Tree) → Exponentiati
 unbound n w bs t u (power free texts left right) = free.unbound
 unbound n w bs t u (power_assignment free texts right alone object) = free.unbound
 
-pub raising-keeps : (no_all : Bool) → KeepsRuns no_all no_helpers true SoundRaising
-raising-keeps no_all = record {
+pub raising-keeps : (no_all : Bool) (u : Supply) → is_core_supply u ≡ true → KeepsRuns no_all u true SoundRaising
+raising-keeps no_all u plain = record {
   alike = λ new n whole a b h t taken ds resolved found fine away quiet stack seen w v same known ls x.
       let rule = h.row.rule in
       let row = by-names n whole t new a b rule resolved in
+      let xs = names_among new in
+      let steady = steady_names whole n.names.scope in
+      let settled = sound-settled xs steady t a h.sound (raising-shape.first n whole new a b h.row).1 (no-item n whole new a b rule) fine away in
       let free : is_free (w.scope (codes "Math")) ≡ true = known.bound (codes "Math") ∙ ap not (sym (found (codes "Math")) ∙ ap is_some (unbound n whole new a b rule)) in
-      settled-like no_all raising math_free (raising_kept no_all) (names_among new) n.names whole t ds a b row.made (row.rule, raisable n whole new a b rule fine) row.same (sound-settled (names_among new) (steady_names whole n.names.scope) t a h.sound (raising-shape.first n whole new a b h.row).1 (no-item n whole new a b rule) fine away) found quiet (all-new n whole new a b rule).names w v same known free ls x;
+      subst (λ s. SenseLike (set_cells (among_names xs)) w v t (sense (placed_at u w ls x) a) s) (row.same (placed_at u v ls x))
+      (raising-like no_all u plain xs steady (bound_names n.names) whole.in_use h.sound.own quiet stack seen w v same ds known free (place-bound ds n.names found w known.bound) t a row.made row.rule (sound-avoids xs steady t a h.sound away) settled.formed h.sound.meant (raisable n whole new a b rule fine) ls x);
 }

@@ -25,7 +25,7 @@ use Rattle.es_steps.specs.CoreBridge.{names_among}
 use Rattle.es_steps.specs.Steps.{Ledger, Site, Spot, Whole}
 use Rattle.es_statement_runs.specs.Alike.{Quiet, SenseLike, StackSeen}
 use Rattle.es_statement_runs.specs.Helpers.{Supply, entry, helper_names, silent_names}
-use Rattle.es_statement_runs.specs.Helpers.Supply.{no_helpers, by_global, by_import, by_require}
+use Rattle.es_statement_runs.specs.Helpers.Supply.{no_helpers, by_global, by_import, by_require, spread_by_global}
 use Rattle.es_statement_runs.specs.Kinds.{found, kind_in, sense}
 use Rattle.es_statement_runs.specs.Laws.{among_names, is_silent}
 use Rattle.es_statement_runs.specs.Names.{declared_at_top, names_of_all, top_in, var_names_all}
@@ -86,7 +86,7 @@ unseen xs (d ∷ es) h x e = at (bytes_eq x d.name) refl (unseen xs es (both_rig
         let good : among_names xs d.name ≡ true = ap (among_names xs) (sym same) ∙ e in
         absurd (let no : true ≡ false = sym (ap (λ b. b || false) good) ∙ bad in cc no)
 
-known-inside : (no_all hoisted : Bool) (xs : List Text) (ds es : List Declared) → all_good (bad_temporaries xs) (names_of_all es) ≡ true → (w v : World) → WorldsKnown no_all hoisted xs ds w v → WorldsKnown no_all hoisted xs (es ++ ds) (inner w es) (inner v es)
+pub known-inside : (no_all hoisted : Bool) (xs : List Text) (ds es : List Declared) → all_good (bad_temporaries xs) (names_of_all es) ≡ true → (w v : World) → WorldsKnown no_all hoisted xs ds w v → WorldsKnown no_all hoisted xs (es ++ ds) (inner w es) (inner v es)
 known-inside no_all hoisted xs ds es good w v k = record {
   temporaries = λ b x e. ap (λ (c : Option Text). found c x v.scope x) (unseen xs es good x e) ∙ k.temporaries b x e;
   bound = λ x. entered_free es ds w.scope x (k.bound x);
@@ -124,6 +124,7 @@ not-new w new h x e = at (among_names (names_among new) x) refl
 -- the names by which a program gets its helpers are seen in frames that hide the same names
 pub supply-seen : (u : Supply) (hoisted : Bool) (xs : List Text) → all_made xs ≡ true → SupplySeen (temporaries_frame hoisted xs) u
 supply-seen no_helpers hoisted xs h = tt
+supply-seen spread_by_global hoisted xs h = let s = made_supply by_global xs h in record { global = s.global; require = s.require }
 supply-seen by_global hoisted xs h = let s = made_supply by_global xs h in record { global = s.global; require = s.require }
 supply-seen (by_import m) hoisted xs h = let s = made_supply by_global xs h in record { global = s.global; require = s.require }
 supply-seen (by_require m) hoisted xs h = let s = made_supply by_global xs h in record { global = s.global; require = s.require }
@@ -184,6 +185,7 @@ first-none (x ∷ xs) ys h = absurd (cc h)
 
 none-named : (counts : Bool) (u : Supply) (p : Tree) → silent_names u p ≡ [] → (this : Value) → HelperFree (world_where counts u this p)
 none-named counts no_helpers p h this = top_free counts no_helpers p this refl
+none-named counts spread_by_global p h this = top_free counts spread_by_global p this refl
 none-named counts by_global p h this = top_free counts by_global p this refl
 none-named counts (by_import m) p h this = top_free counts (by_import m) p this (first-none (helper_names (by_import m) p) _ h)
 none-named counts (by_require m) p h this = top_free counts (by_require m) p this (first-none (helper_names (by_require m) p) _ h)

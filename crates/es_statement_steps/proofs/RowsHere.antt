@@ -20,7 +20,7 @@ use Rattle.es_steps.specs.Open.{finished_fields}
 use Rattle.es_steps.specs.OptionalChaining.{OptionalChainingRule}
 use Rattle.es_steps.specs.OptionalChaining.OptionalChainingRule.{by_tests, as_callee, in_delete}
 use Rattle.es_steps.specs.Steps.{Site, Whole, site_in}
-use Rattle.es_statement_runs.specs.Helpers.Supply.{no_helpers}
+use Rattle.es_statement_runs.specs.Helpers.{Supply}
 use Rattle.es_statement_runs.specs.Places.{Take, avoids}
 use Rattle.es_statement_runs.specs.Scopes.{is_own_cell}
 use Rattle.es_statement_steps.proofs.Assignments.{AssigningRow, assigning-keeps, assigning-shape}
@@ -29,6 +29,7 @@ use Rattle.es_statement_steps.proofs.Chainings.{ChainingRow, SoundChaining, chai
 use Rattle.es_statement_steps.proofs.Doublings.{steady_names}
 use Rattle.es_statement_steps.proofs.MeantOperands.{is_taken, meant-over, meant_node}
 use Rattle.es_statement_steps.proofs.PlacePremises.{Here, NamesKnown, here-inwards}
+use Rattle.es_statement_steps.proofs.PlainSupplies.{is_core_supply}
 use Rattle.es_statement_steps.proofs.Powers.{RaisingRow, raising-keeps, raising-shape}
 use Rattle.es_statement_steps.proofs.Premises.{Inwards, Premise, RowWith}
 use Rattle.es_statement_steps.proofs.RowRuns.{KeepsRuns}
@@ -69,15 +70,15 @@ assigning-taken n w bs t u (to_name texts operator alone at) = refl
 assigning-taken n w bs t u (to_static_member texts operator alone at flags object) = refl
 assigning-taken n w bs t u (to_computed_member texts operator alone at flags object key) = refl
 
-pub assigning-keeps-here : (no_all : Bool) → KeepsRuns no_all no_helpers true (RowWith AssigningRow assigning-shape Operands)
-assigning-keeps-here no_all = record { alike = λ new n whole a b h. (assigning-keeps no_all).alike new n whole a b (record { row = h.0; sound = sound-here n whole a (assigning-shape.first n whole new a b h.0).1 (assigning-taken n whole new a b h.0.rule) h.1 }) }
+pub assigning-keeps-here : (no_all : Bool) (u : Supply) → is_core_supply u ≡ true → KeepsRuns no_all u true (RowWith AssigningRow assigning-shape Operands)
+assigning-keeps-here no_all u plain = record { alike = λ new n whole a b h. (assigning-keeps no_all u plain).alike new n whole a b (record { row = h.0; sound = sound-here n whole a (assigning-shape.first n whole new a b h.0).1 (assigning-taken n whole new a b h.0.rule) h.1 }) }
 
 raising-taken : (n : Site) (w : Whole) (bs : List Bound) (t u : Tree) → ExponentiationRule n w bs t u → is_taken (kind_of t) ≡ true
 raising-taken n w bs t u (power free texts left right) = refl
 raising-taken n w bs t u (power_assignment free texts right alone object) = refl
 
-pub raising-keeps-here : (no_all : Bool) → KeepsRuns no_all no_helpers true (RowWith RaisingRow raising-shape Operands)
-raising-keeps-here no_all = record { alike = λ new n whole a b h. (raising-keeps no_all).alike new n whole a b (record { row = h.0; sound = sound-here n whole a (raising-shape.first n whole new a b h.0).1 (raising-taken n whole new a b h.0.rule) h.1 }) }
+pub raising-keeps-here : (no_all : Bool) (u : Supply) → is_core_supply u ≡ true → KeepsRuns no_all u true (RowWith RaisingRow raising-shape Operands)
+raising-keeps-here no_all u plain = record { alike = λ new n whole a b h. (raising-keeps no_all u plain).alike new n whole a b (record { row = h.0; sound = sound-here n whole a (raising-shape.first n whole new a b h.0).1 (raising-taken n whole new a b h.0.rule) h.1 }) }
 
 -- optional chaining, where what its place takes here is taken there
 chaining-taken : {no_all : Bool} {w : Whole} (n : Site) (bs : List Bound) (t u : Tree) → OptionalChainingRule no_all n w bs t u → is_taken (kind_of t) ≡ true

@@ -46,8 +46,15 @@ steady-bound : (w : Whole) (s : Option ℕ) → is_among_symbols w.steady s ≡ 
 steady-bound w (Some s) h = refl
 steady-bound w None h = absurd (cc h)
 
+pub steady-place : (w : Whole) (p : Place) (y : Text) → steady_names w p.scope y ≡ true → bound_names p y ≡ true
+steady-place w p y e = steady-bound w (p.scope y) e
+
 bound-by : (ds : List Declared) (w : World) → Bounds ds w → (y : Text) → is_declared ds y ≡ true → is_free (w.scope y) ≡ false
 bound-by ds w h y e = h y ∙ ap not (sym (declared_is ds y) ∙ e)
+
+-- and so in the worlds there
+pub place-bound : (ds : List Declared) (p : Place) → Finds ds p → (w : World) → Bounds ds w → (y : Text) → bound_names p y ≡ true → is_free (w.scope y) ≡ false
+place-bound ds p found w h y e = bound-by ds w h y (declared_is ds y ∙ (sym (found y) ∙ e))
 
 module _ (no_all : Bool) (R : (bound steady in_use : Text → Bool) → List Text → Need → Tree → Tree → Type 0) (Asks : (Text → Binding) → Type 0) (kept : IsKept no_all R Asks) where
   pub settled-like : (xs : List Text) (p : Place) (whole : Whole) (t : Take) (ds : List Declared) (a b c : Tree) → R (bound_names p) (steady_names whole p.scope) whole.in_use xs t.need a c → SameSense c b → Settled xs (steady_names whole p.scope) t.need a → Finds ds p →
@@ -65,11 +72,14 @@ pub record Sound (steady : Text → Bool) (a : Tree) : Type 0 where
   pub meant : stands_over is_meant_operand a ≡ true
   pub unwritten : (t : Take) → avoids (bad_names none_hidden steady) t a ≡ true
 
+-- So no made name stands in it, and no steady one is written in it.
+pub sound-avoids : (xs : List Text) (steady : Text → Bool) (t : Take) (a : Tree) → Sound steady a → avoids (bad_temporaries xs) t a ≡ true → avoids (bad_names (among_names xs) steady) t a ≡ true
+sound-avoids xs steady t a sound away = avoids-both (bad_names (among_names xs) none_hidden) (bad_names none_hidden steady) (bad_names (among_names xs) steady) (either-bad (among_names xs) steady) t a away (sound.unwritten t)
+
 -- So its operands are settled, where no made name stands in it.
 pub sound-settled : (xs : List Text) (steady : Text → Bool) (t : Take) (a : Tree) → Sound steady a → is_inner (kind_of a) ≡ true → is_item (kind_of a) ≡ false → Fine a → avoids (bad_temporaries xs) t a ≡ true → Settled xs steady t.need a
 sound-settled xs steady t a sound inner item fine away =
-    let avoided : avoids (bad_names (among_names xs) steady) t a ≡ true =
-    avoids-both (bad_names (among_names xs) none_hidden) (bad_names none_hidden steady) (bad_names (among_names xs) steady) (either-bad (among_names xs) steady) t a away (sound.unwritten t) in
+    let avoided : avoids (bad_names (among_names xs) steady) t a ≡ true = sound-avoids xs steady t a sound away in
     record {
       own = sound.own;
       stands = settled-over (bad_names (among_names xs) steady) t a sound.meant avoided;

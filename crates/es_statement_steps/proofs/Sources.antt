@@ -15,7 +15,7 @@ use Rattle.es_runs.specs.Core.{Binding, Silent, World, is_free, value}
 use Rattle.es_runs.specs.Core.Binding.{free}
 use Rattle.es_runs.specs.Machine.State.{state}
 use Rattle.es_statement_runs.specs.Helpers.{Supply, entry, silent_names}
-use Rattle.es_statement_runs.specs.Helpers.Supply.{no_helpers, by_global, by_import, by_require}
+use Rattle.es_statement_runs.specs.Helpers.Supply.{no_helpers, by_global, by_import, by_require, spread_by_global}
 use Rattle.es_statement_runs.specs.Kinds.{found, sense}
 use Rattle.es_statement_runs.specs.Laws.{among_names, any_cells, no_row}
 use Rattle.es_statement_runs.specs.Names.{declared_at_top, names_of_all, own_names, top_in}
@@ -131,6 +131,7 @@ list-same no_all u l ds body after moved silent silent_after =
   where
     supply-nothing : (u : Supply) → SupplySeen (any_cells (among_names [])) u
     supply-nothing no_helpers = tt
+    supply-nothing spread_by_global = record { global = refl; require = refl }
     supply-nothing by_global = record { global = refl; require = refl }
     supply-nothing (by_import m) = record { global = refl; require = refl }
     supply-nothing (by_require m) = record { global = refl; require = refl }

@@ -21,7 +21,7 @@ use Rattle.es_steps.specs.ObjectSpread.Copies.{copies, keeps, no_more}
 use Rattle.es_steps.specs.ObjectSpread.SpreadRule.{spreads}
 use Rattle.es_steps.specs.Steps.{Site, Whole}
 use Rattle.es_statement_runs.specs.Alike.{Quiet, SenseLike, StackSeen}
-use Rattle.es_statement_runs.specs.Helpers.Supply.{by_global}
+use Rattle.es_statement_runs.specs.Helpers.{Supply}
 use Rattle.es_statement_runs.specs.Kinds.{sense}
 use Rattle.es_statement_runs.specs.Laws.{Gathered, SpreadRow, among_names, bare_object, followed, object_at, spread_at, spread_call}
 use Rattle.es_statement_runs.specs.Laws.Gathered.{begin_gathering, more_gathered, one_gathered}
@@ -29,7 +29,7 @@ use Rattle.es_statement_runs.specs.Laws.SpreadRow.{properties_last, spread_last}
 use Rattle.es_statement_runs.specs.Places.{SupplySeen, Take, avoids, placed_at}
 use Rattle.es_statement_runs.specs.Senses.{Place}
 use Rattle.es_statement_runs.proofs.Moved.{is_mute}
-use Rattle.es_statement_runs.proofs.Spreads.{spread_like}
+use Rattle.es_statement_runs.proofs.Spreads.{has_global_spread, spread_like}
 use Rattle.es_statement_steps.proofs.FoundNames.{Finds}
 use Rattle.es_statement_steps.proofs.Replacings.{Row, RowShape}
 use Rattle.es_statement_steps.proofs.Rooms.{stays_put}
@@ -136,15 +136,15 @@ spread-shape = record { acts_on = acts; new_names = news; first = first; second 
 
 -- ITS SIDES ARE ALIKE, where the object of all helpers is unbound
 
-spread-alike : (no_all : Bool) (new : List Bound) (n : Site) (whole : Whole) (a b : Tree) → SpreadRule n whole new a b → (t : Take) → t ≡ taken_at n.above → (ds : List Declared) → Resolved n.role n.names a → Finds ds n.names → Fine a → avoids (bad_temporaries (names_among new)) t a ≡ true →
-    Quiet (temporaries_frame true (names_among new)) → StackSeen (temporaries_frame true (names_among new)) → SupplySeen (temporaries_frame true (names_among new)) by_global →
+spread-alike : (no_all : Bool) (supply : Supply) → has_global_spread supply ≡ true → (new : List Bound) (n : Site) (whole : Whole) (a b : Tree) → SpreadRule n whole new a b → (t : Take) → t ≡ taken_at n.above → (ds : List Declared) → Resolved n.role n.names a → Finds ds n.names → Fine a → avoids (bad_temporaries (names_among new)) t a ≡ true →
+    Quiet (temporaries_frame true (names_among new)) → StackSeen (temporaries_frame true (names_among new)) → SupplySeen (temporaries_frame true (names_among new)) supply →
     (w v : World) → SameWorld (among_names (names_among new)) w v → WorldsKnown no_all true (names_among new) ds w v → (ls : List Text) (y : Text) →
-    SenseLike (temporaries_frame true (names_among new)) w v t (sense (placed_at by_global w ls y) a) (sense (placed_at by_global v ls y) b)
-spread-alike no_all new n whole a _ (spreads {m = m} {ps = ps} {u = u} scope used some none made_so) t taken ds resolved found fine away quiet stack seen w v same known ls y =
+    SenseLike (temporaries_frame true (names_among new)) w v t (sense (placed_at supply w ls y) a) (sense (placed_at supply v ls y) b)
+spread-alike no_all supply has new n whole a _ (spreads {m = m} {ps = ps} {u = u} scope used some none made_so) t taken ds resolved found fine away quiet stack seen w v same known ls y =
     let h = before-copy u [] ps made_so some in
     let undeclared : declares ds (codes "babelHelpers") ≡ false = sym (found (codes "babelHelpers")) ∙ ap is_some scope in
     let free : is_free (v.scope (codes "babelHelpers")) ≡ true = ap is_free (same.scope (codes "babelHelpers") refl) ∙ known.bound (codes "babelHelpers") ∙ ap not undeclared in
-    rw (placed-sense m u (placed_at by_global v ls y), h.same (placed_at by_global v ls y)) (spread_like t (object_at m ps) h.made_so (h.row t m) w v same (free, known.rest) ls y)
+    rw (placed-sense m u (placed_at supply v ls y), h.same (placed_at supply v ls y)) (spread_like supply has t (object_at m ps) h.made_so (h.row t m) w v same (free, known.rest) ls y)
 
-pub spread-keeps : (no_all : Bool) → KeepsRuns no_all by_global true (Row SpreadRule spread-shape)
-spread-keeps no_all = record { alike = spread-alike no_all }
+pub spread-keeps : (no_all : Bool) (supply : Supply) → has_global_spread supply ≡ true → KeepsRuns no_all supply true (Row SpreadRule spread-shape)
+spread-keeps no_all supply has = record { alike = spread-alike no_all supply has }

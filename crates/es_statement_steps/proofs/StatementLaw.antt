@@ -1,10 +1,13 @@
 -- The law of steps and runs, from what is known of the rows.
-use Rattle.std.proofs.Common.{arith, ◌≡◌, refl, sym, ap, subst, ◌∙◌, List, []}
+use Rattle.std.proofs.Common.{arith, ◌≡◌, refl, sym, subst, ◌∙◌, List, []}
+use Rattle.std.proofs.lemmas.Bool.{or_parts}
 use Rattle.std.specs.Prelude.{◌&&◌, ◌||◌, Bool, true, false, codes, is_some, length, not, if◌then◌else◌}
 use Rattle.es_tree.specs.Fresh.{is_among}
 use Rattle.es_tree.specs.Names.{names_of}
 use Rattle.es_tree.specs.Tree.{Tree}
-use Rattle.es_tree.specs.Walks.{any_node}
+use Rattle.es_tree.specs.HasForm.{has_form}
+use Rattle.es_tree.specs.declared.table.Sort.TheVariants.{Program as s-Program}
+use Rattle.es_tree.specs.Walks.{all_nodes, any_node}
 use Rattle.es_tree.specs.Words.{Text}
 use Rattle.es_tree.specs.declared.options.EnvOptions.{EnvOptions}
 use Rattle.es_semantic.specs.RolesOf.{reads}
@@ -22,23 +25,28 @@ use Rattle.es_steps.specs.Rules.{Replacing}
 use Rattle.es_steps.specs.Steps.{Ledger, Site, Spot, Step, Whole, the_program}
 use Rattle.es_steps.proofs.Taken.{whole_in}
 use Rattle.es_valid_steps.proofs.FurtherSteps.{alone}
+use Rattle.es_valid_steps.proofs.Spread.{finished-spread, spread}
 use Rattle.es_reached.specs.Reached.{built_rules}
 use Rattle.es_reached.specs.Unmade.{is_sought, of_chains}
 use Rattle.es_statement_runs.specs.Helpers.{Supply, silent_names}
-use Rattle.es_statement_runs.specs.Helpers.Supply.{no_helpers, by_global}
+use Rattle.es_statement_runs.specs.Helpers.Supply.{no_helpers, spread_by_global, by_global}
 use Rattle.es_statement_runs.specs.Programs.{IsStatementProgram, uses_no_helper}
 use Rattle.es_statement_runs.specs.Runs.{RunAlike}
-use Rattle.es_statement_steps.specs.Laws.{LawStatementRules, TagsAreNoChains, assignments_there, assumes_no_all, chains_there, mixes_helpers, powers_there, spreads_there}
+use Rattle.es_statement_runs.proofs.Spreads.{has_global_spread}
+use Rattle.es_statement_steps.specs.Laws.{LawStatementRules, TagsAreNoChains, assignments_there, assumes_no_all, chains_there, mixes_helpers, no_copy_in_chain, powers_there, spreads_there}
 use Rattle.es_statement_steps.proofs.Absent.{Absent, Never, absent-alone, absent-exports, absent-source, no-assignment, no-chain, no-power, no-spread, not-there}
-use Rattle.es_statement_steps.proofs.Composition.{AloneRuns, Known, NamespaceRuns}
-use Rattle.es_statement_steps.proofs.Exports.{exports-run, keyless-parts, namespace-runs}
+use Rattle.es_statement_steps.proofs.ChainCopies.{CopylessChains}
+use Rattle.es_statement_steps.proofs.Composition.{AloneRuns, Exports, Known, NamespaceRuns}
+use Rattle.es_statement_steps.proofs.CopylessSteps.{copyless-runs, export-copyless, source-copyless, statement-copyless}
+use Rattle.es_statement_steps.proofs.Exports.{exports-run, exports-so, keyless-parts, namespace-runs}
 use Rattle.es_statement_steps.proofs.KeylessPrograms.{IsKeyless, keyless_silent}
 use Rattle.es_statement_steps.proofs.KeylessSources.{named-keyless, same-keyless}
 use Rattle.es_statement_steps.proofs.KeylessSteps.{NoneBeside, statement-keyless}
 use Rattle.es_statement_steps.proofs.OperandSteps.{Suited, assigning-runs, chaining-runs, no-silent, raising-runs, suited-export, suited-start, suited-step}
+use Rattle.es_statement_steps.proofs.PlainSupplies.{is_core_supply, none-silent}
 use Rattle.es_statement_steps.proofs.ReachedRuns.{AllSilent, reached-runs, source-bare}
 use Rattle.es_statement_steps.proofs.SpreadRuns.{spread-keeps, spread-shape}
-use Rattle.es_statement_steps.proofs.StepRules.{Does, EachDoes, Keeping, Runs, catch-runs, coalescing-runs, off-does, on-does, replacing-runs, statement-does, tamed-step, writing-runs}
+use Rattle.es_statement_steps.proofs.StepRules.{Does, EachDoes, Keeping, Runs, StatementRules, catch-runs, coalescing-runs, off-does, on-does, replacing-runs, statement-does, tamed-step, writing-runs}
 
 -- THE LAW, from what each rule does and what is kept of a program on the way
 
@@ -97,7 +105,7 @@ module _ (o : EnvOptions) (no_all : Bool) (p : Tree) (off : NoneBeside o p) wher
     chaining = resting no_all by_global p IsWithoutKeys without-keys-silent o.es2020.optional_chaining _ (RowRule (OptionalChainingRule o.assumptions.no_document_all)) off.chains (no-chain o.assumptions.no_document_all p);
     raising = resting no_all by_global p IsWithoutKeys without-keys-silent o.es2016.exponentiation_operator _ (RowRule ExponentiationRule) off.powers (no-power p);
     catching = catch-runs no_all by_global Helped helped-silent;
-    spreading = on-does (Keeping no_all by_global Helped helped-silent) (is_some o.es2018.object_rest_spread) (Replacing SpreadRule) (replacing-runs no_all by_global Helped helped-silent SpreadRule spread-shape (spread-keeps no_all));
+    spreading = on-does (Keeping no_all by_global Helped helped-silent) (is_some o.es2018.object_rest_spread) (Replacing SpreadRule) (replacing-runs no_all by_global Helped helped-silent SpreadRule spread-shape (spread-keeps no_all by_global refl));
   }
 
   helped-exports : NamespaceRuns o no_all by_global Helped
@@ -113,73 +121,117 @@ module _ (o : EnvOptions) (no_all : Bool) (p : Tree) (off : NoneBeside o p) wher
       not-so true h = absurd (cc h)
       not-so false h = refl
 
--- WITHOUT HELPERS, where no row of object spread acts
+-- WITHOUT HELPERS, or with that of object spread alone; where chains act beside that, none holds a copy
 
-module _ (o : EnvOptions) (p : Tree) (none : spreads_there o p ≡ false) where
-  abbrev no_all : Bool
-  no_all = assumes_no_all o p
+abbrev ChainsAsked : Bool → Tree → Type 0
+ChainsAsked true t = CopylessChains t
+ChainsAsked false t = Unit {0}
 
-  abbrev Bare : Whole → Tree → Type 0
-  Bare = Lacking p (Suited o)
+abbrev Plain : EnvOptions → Bool → Whole → Tree → Type 0
+Plain o asked w t = Suited o w t × ChainsAsked asked t
 
-  bare-silent : (w : Whole) (t : Tree) → Bare w t → silent_names no_helpers t ≡ []
-  bare-silent w t h = no-silent o w t h.0
+asked-after : (o : EnvOptions) (asked : Bool) {s s' : Ledger} {x y : Open} → Step (StatementRules o) the_program s x s' y → Known s x → Known s' y → ChainsAsked asked (finished x) → ChainsAsked asked (finished y)
+asked-after o true h k m c = statement-copyless o _ _ _ _ h k m c
+asked-after o false h k m c = tt
 
-  abbrev BareKept : Ledger → Ledger → Open → Open → Type 0
-  BareKept = Keeping no_all no_helpers Bare bare-silent
+asked-export : (o : EnvOptions) (asked : Bool) {s s' : Ledger} {x y : Open} → Step (Exports o) the_program s x s' y → Known s (spread x) → ChainsAsked asked (finished x) → ChainsAsked asked (finished y)
+asked-export o true {x = x} h k c = exports-so no_copy_in_chain export-copyless o h (subst (λ (t : Tree). has_form s-Program t ≡ true) (finished-spread x) k.form) c
+asked-export o false h k c = tt
 
-  bare-acts : (R : Site → Ledger → Spot → Ledger → Spot → Type 0) → Runs no_all no_helpers (Suited o) (no-silent o) R → Does BareKept R
-  bare-acts R does = acting no_all no_helpers p (Suited o) (no-silent o) R does
+module _ (o : EnvOptions) (p : Tree) (no_all : Bool) (u : Supply) (plain : is_core_supply u ≡ true) (asked : Bool) where
+  plain-silent : (w : Whole) (t : Tree) → Plain o asked w t → silent_names u t ≡ []
+  plain-silent w t h = none-silent u plain t
+
+  kept-silent : (w : Whole) (t : Tree) → Lacking p (Plain o asked) w t → silent_names u t ≡ []
+  kept-silent w t h = none-silent u plain t
+
+  abbrev PlainKept : Ledger → Ledger → Open → Open → Type 0
+  PlainKept = Keeping no_all u (Lacking p (Plain o asked)) kept-silent
 
   abbrev Chaining : Site → Ledger → Spot → Ledger → Spot → Type 0
   Chaining = RowRule (OptionalChainingRule o.assumptions.no_document_all)
 
-  -- where chains are lowered what they assume is assumed
-  bare-chaining : Does BareKept (where_on o.es2020.optional_chaining Chaining)
-  bare-chaining = at o.es2020.optional_chaining (any_node (is_sought of_chains) p) refl refl
-    where
-      at : (asked there : Bool) → o.es2020.optional_chaining ≡ asked → any_node (is_sought of_chains) p ≡ there → Does BareKept (where_on o.es2020.optional_chaining Chaining)
-      at true true e d = on-does BareKept o.es2020.optional_chaining Chaining (bare-acts Chaining (subst (λ (no_all : Bool). Runs no_all no_helpers (Suited o) (no-silent o) Chaining) (λ i. (sym e i && sym d i) && o.assumptions.no_document_all) (chaining-runs o o.assumptions.no_document_all e)))
-      at true false e d = resting no_all no_helpers p (Suited o) (no-silent o) o.es2020.optional_chaining false Chaining (λ i. e i && false) (λ r. no-chain o.assumptions.no_document_all p d)
-      at false there e d = off-does BareKept o.es2020.optional_chaining Chaining e
+  abbrev Chains : Type 0
+  Chains = Does PlainKept (where_on o.es2020.optional_chaining Chaining)
 
-  bare-does : EachDoes BareKept o
-  bare-does = record {
-    writing = writing-runs no_all no_helpers Bare bare-silent o;
-    assigning = on-does BareKept o.es2021.logical_assignment_operators (RowRule LogicalAssignmentRule) (bare-acts (RowRule LogicalAssignmentRule) (assigning-runs o no_all));
-    coalescing = coalescing-runs no_all no_helpers Bare bare-silent;
-    chaining = bare-chaining;
-    raising = on-does BareKept o.es2016.exponentiation_operator (RowRule ExponentiationRule) (bare-acts (RowRule ExponentiationRule) (raising-runs o no_all));
-    catching = catch-runs no_all no_helpers Bare bare-silent;
-    spreading = resting no_all no_helpers p (Suited o) (no-silent o) (is_some o.es2018.object_rest_spread) _ (Replacing SpreadRule) none (no-spread p);
+  abbrev Spreads : Type 0
+  Spreads = Does PlainKept (where_on (is_some o.es2018.object_rest_spread) (Replacing SpreadRule))
+
+  plain-acts : (R : Site → Ledger → Spot → Ledger → Spot → Type 0) → Runs no_all u (Plain o asked) plain-silent R → Does PlainKept R
+  plain-acts R does = acting no_all u p (Plain o asked) plain-silent R does
+
+  suited-acts : (R : Site → Ledger → Spot → Ledger → Spot → Type 0) → Runs no_all u (Suited o) (no-silent o u plain) R → Does PlainKept R
+  suited-acts R does = plain-acts R (λ s s' x y h k m c d. does s s' x y h k m c.0 d.0)
+
+  plain-rests : (on there : Bool) (R : Site → Ledger → Spot → Ledger → Spot → Type 0) → (on && there) ≡ false → (there ≡ false → Never p R) → Does PlainKept (where_on on R)
+  plain-rests = resting no_all u p (Plain o asked) plain-silent
+
+  plain-does : Chains → Spreads → EachDoes PlainKept o
+  plain-does chains spreads = record {
+    writing = writing-runs no_all u (Lacking p (Plain o asked)) kept-silent o;
+    assigning = on-does PlainKept o.es2021.logical_assignment_operators (RowRule LogicalAssignmentRule) (suited-acts (RowRule LogicalAssignmentRule) (assigning-runs o u plain no_all));
+    coalescing = coalescing-runs no_all u (Lacking p (Plain o asked)) kept-silent;
+    chaining = chains;
+    raising = on-does PlainKept o.es2016.exponentiation_operator (RowRule ExponentiationRule) (suited-acts (RowRule ExponentiationRule) (raising-runs o u plain no_all));
+    catching = catch-runs no_all u (Lacking p (Plain o asked)) kept-silent;
+    spreading = spreads;
   }
 
-  bare-exports : NamespaceRuns o no_all no_helpers Bare
-  bare-exports = namespace-runs o no_all no_helpers (λ t. Unit {0}) (λ t h. refl) (λ x l ds body after parts c. (tt, tt)) Bare (λ w t c. tt) (λ s s' x y h k m c. (suited-export o s s' x y h k m c.0, absent-exports o p h k.alone c.1))
+  plain-exports : NamespaceRuns o no_all u (Lacking p (Plain o asked))
+  plain-exports = namespace-runs o no_all u (λ t. Unit {0}) (λ t h. none-silent u plain t) (λ x l ds body after parts c. (tt, tt)) (Lacking p (Plain o asked)) (λ w t c. tt)
+      (λ s s' x y h k m c. ((suited-export o s s' x y h k m c.0.0, asked-export o asked h k c.0.1), absent-exports o p h k.alone c.1))
 
-  bare-run : (q : Tree) (names : List Text) → IsStatementProgram p → TagsAreNoChains o p → Reached (built_rules o) p (first_whole p) names q → RunAlike no_helpers no_all p q
-  bare-run q names h untagged reached =
-      rules-run o no_all no_helpers Bare bare-silent bare-does (λ s s' x y r k m c. (suited-step o s s' x y r k m c.0, absent-alone o p r k.alone c.1)) bare-exports p q names h (λ t e. refl) (suited-start o p h untagged, absent-source p) reached
+  plain-run : Chains → Spreads → (q : Tree) (names : List Text) → IsStatementProgram p → TagsAreNoChains o p → ChainsAsked asked (source p) → Reached (built_rules o) p (first_whole p) names q → RunAlike u no_all p q
+  plain-run chains spreads q names h untagged copyless reached =
+      rules-run o no_all u (Lacking p (Plain o asked)) kept-silent (plain-does chains spreads)
+      (λ s s' x y r k m c. ((suited-step o s s' x y r k m c.0.0, asked-after o asked (tamed-step o r k.proper m.proper k.class).0 k m c.0.1), absent-alone o p r k.alone c.1)) plain-exports p q names h (λ t e. none-silent u plain t) ((suited-start o p h untagged, copyless), absent-source p) reached
+
+  -- rows that don't act
+  no-chains : chains_there o p ≡ false → Chains
+  no-chains off = plain-rests o.es2020.optional_chaining _ Chaining off (no-chain o.assumptions.no_document_all p)
+
+  no-spreads : spreads_there o p ≡ false → Spreads
+  no-spreads off = plain-rests (is_some o.es2018.object_rest_spread) _ (Replacing SpreadRule) off (no-spread p)
+
+  -- object spread, where it has its helper
+  with-spreads : has_global_spread u ≡ true → Spreads
+  with-spreads has = on-does PlainKept (is_some o.es2018.object_rest_spread) (Replacing SpreadRule) (replacing-runs no_all u (Lacking p (Plain o asked)) kept-silent SpreadRule spread-shape (spread-keeps no_all u has))
+
+-- chains, where what they assume is assumed
+module _ (o : EnvOptions) (p : Tree) (u : Supply) (plain : is_core_supply u ≡ true) (asked : Bool) (runs : o.es2020.optional_chaining ≡ true → Runs o.assumptions.no_document_all u (Plain o asked) (plain-silent o p (assumes_no_all o p) u plain asked) (RowRule (OptionalChainingRule o.assumptions.no_document_all))) where
+  abbrev assumed : Bool
+  assumed = assumes_no_all o p
+
+  with-chains : Chains o p assumed u plain asked
+  with-chains = at o.es2020.optional_chaining (any_node (is_sought of_chains) p) refl refl
+    where
+      at : (on there : Bool) → o.es2020.optional_chaining ≡ on → any_node (is_sought of_chains) p ≡ there → Chains o p assumed u plain asked
+      at true true e d = on-does (PlainKept o p assumed u plain asked) o.es2020.optional_chaining (Chaining o p assumed u plain asked) (plain-acts o p assumed u plain asked (Chaining o p assumed u plain asked)
+          (subst (λ (no_all : Bool). Runs no_all u (Plain o asked) (plain-silent o p assumed u plain asked) (RowRule (OptionalChainingRule o.assumptions.no_document_all))) (λ i. (sym e i && sym d i) && o.assumptions.no_document_all) (runs e)))
+      at true false e d = plain-rests o p assumed u plain asked o.es2020.optional_chaining false (Chaining o p assumed u plain asked) (λ i. e i && false) (λ r. no-chain o.assumptions.no_document_all p d)
+      at false there e d = off-does (PlainKept o p assumed u plain asked) o.es2020.optional_chaining (Chaining o p assumed u plain asked) e
 
 -- WHAT STANDS BESIDE HELPERS
 
-or-parts : (a b : Bool) → (a || b) ≡ false → (a ≡ false) × (b ≡ false)
-or-parts true b h = absurd (cc h)
-or-parts false b h = (refl, h)
-
-none-beside : (o : EnvOptions) (p : Tree) → spreads_there o p ≡ true → mixes_helpers o p ≡ false → NoneBeside o p
-none-beside o p e h =
-    let a = chains_there o p in
-    let b = assignments_there o p in
-    let v = or-parts (a || b) (powers_there o p) (sym (ap (λ c. c && (a || b || powers_there o p)) e) ∙ h) in
-    let w = or-parts a b v.0 in
-    record { chains = w.0; assignments = w.1; powers = v.1 }
+-- chains hold no copy where they act beside object spread
+copyless-beside : (o : EnvOptions) (p : Tree) → spreads_there o p ≡ true → chains_there o p ≡ true → mixes_helpers o p ≡ false → CopylessChains (source p)
+copyless-beside o p e d h = source-copyless p (not-false (all_nodes no_copy_in_chain p) (sym (λ i. (e i && d i) && not (all_nodes no_copy_in_chain p)) ∙ h))
+  where
+    not-false : (b : Bool) → not b ≡ false → b ≡ true
+    not-false true h = refl
+    not-false false h = absurd (cc h)
 
 -- THE LAW
 
 pub law_statement_rules_proof : LawStatementRules
-law_statement_rules_proof o p q names h off untagged none reached = at (spreads_there o p) refl none
+law_statement_rules_proof o p q names h off untagged none reached = at (spreads_there o p) (chains_there o p) (assignments_there o p || powers_there o p) refl refl refl none
   where
-    at : (b : Bool) → spreads_there o p ≡ b → uses_no_helper (if b then by_global else no_helpers) p ≡ true → RunAlike (if b then by_global else no_helpers) (assumes_no_all o p) p q
-    at true e none = helped-run o (assumes_no_all o p) p (none-beside o p e off) q names h none reached
-    at false e none = bare-run o p e q names h untagged reached
+    at : (b d c : Bool) → spreads_there o p ≡ b → chains_there o p ≡ d → (assignments_there o p || powers_there o p) ≡ c → uses_no_helper (if b then (if d || c then spread_by_global else by_global) else no_helpers) p ≡ true →
+        RunAlike (if b then (if d || c then spread_by_global else by_global) else no_helpers) (assumes_no_all o p) p q
+    at true true c e d g none = plain-run o p (assumes_no_all o p) spread_by_global refl true (with-chains o p spread_by_global refl true (λ a s s' x y r k m c d. copyless-runs o o.assumptions.no_document_all a s s' x y r k m c d))
+        (with-spreads o p (assumes_no_all o p) spread_by_global refl true refl) q names h untagged (copyless-beside o p e d off) reached
+    at true false true e d g none = plain-run o p (assumes_no_all o p) spread_by_global refl false (no-chains o p (assumes_no_all o p) spread_by_global refl false d) (with-spreads o p (assumes_no_all o p) spread_by_global refl false refl) q names h untagged tt reached
+    at true false false e d g none =
+        let v = or_parts (assignments_there o p) (powers_there o p) g in
+        helped-run o (assumes_no_all o p) p (record { chains = d; assignments = v.0; powers = v.1 }) q names h none reached
+    at false d c e f g none = plain-run o p (assumes_no_all o p) no_helpers refl false (with-chains o p no_helpers refl false (λ a s s' x y r k m c d. chaining-runs o o.assumptions.no_document_all a s s' x y r k m c.0 d.0)) (no-spreads o p (assumes_no_all o p) no_helpers refl false e) q names h untagged tt reached

@@ -24,13 +24,14 @@ use Rattle.es_steps.specs.OptionalChaining.{OptionalChainingRule}
 use Rattle.es_steps.specs.OptionalChaining.OptionalChainingRule.{as_callee, by_tests, in_delete}
 use Rattle.es_steps.specs.Steps.{Site, Whole, site_in}
 use Rattle.es_valid_steps.proofs.FurtherSteps.{alone}
-use Rattle.es_statement_runs.specs.Helpers.Supply.{no_helpers}
+use Rattle.es_statement_runs.specs.Helpers.{Supply}
 use Rattle.es_statement_runs.specs.Places.{Take}
 use Rattle.es_statement_steps.proofs.Assignments.{AssigningRow, assigning-shape}
 use Rattle.es_statement_steps.proofs.AvoidedNames.{Suits, is_aimed}
 use Rattle.es_statement_steps.proofs.Below.{both_below, map_below}
 use Rattle.es_statement_steps.proofs.Chainings.{ChainingRow}
 use Rattle.es_statement_steps.proofs.Doublings.{steady_names}
+use Rattle.es_statement_steps.proofs.PlainSupplies.{is_core_supply}
 use Rattle.es_statement_steps.proofs.Powers.{RaisingRow, raising-shape}
 use Rattle.es_statement_steps.proofs.Premises.{Inwards, Premise, RowWith}
 use Rattle.es_statement_steps.proofs.RowRuns.{KeepsRuns}
@@ -122,11 +123,11 @@ chaining-kind no_all n w bs t u (in_delete texts alone target walked some) = ref
 
 -- what they do
 
-pub assigning-keeps-steady : (no_all : Bool) → KeepsRuns no_all no_helpers true (RowWith AssigningRow assigning-shape SteadyPlace)
-assigning-keeps-steady no_all = record { alike = λ new n w a b h. (assigning-keeps-here no_all).alike new n w a b (h.0, operands-here n w a (assigning-kind n w new a b h.0.rule) h.1.0 h.1.1) }
+pub assigning-keeps-steady : (no_all : Bool) (u : Supply) → is_core_supply u ≡ true → KeepsRuns no_all u true (RowWith AssigningRow assigning-shape SteadyPlace)
+assigning-keeps-steady no_all u plain = record { alike = λ new n w a b h. (assigning-keeps-here no_all u plain).alike new n w a b (h.0, operands-here n w a (assigning-kind n w new a b h.0.rule) h.1.0 h.1.1) }
 
-pub raising-keeps-steady : (no_all : Bool) → KeepsRuns no_all no_helpers true (RowWith RaisingRow raising-shape SteadyPlace)
-raising-keeps-steady no_all = record { alike = λ new n w a b h. (raising-keeps-here no_all).alike new n w a b (h.0, operands-here n w a (raising-kind n w new a b h.0.rule) h.1.0 h.1.1) }
+pub raising-keeps-steady : (no_all : Bool) (u : Supply) → is_core_supply u ≡ true → KeepsRuns no_all u true (RowWith RaisingRow raising-shape SteadyPlace)
+raising-keeps-steady no_all u plain = record { alike = λ new n w a b h. (raising-keeps-here no_all u plain).alike new n w a b (h.0, operands-here n w a (raising-kind n w new a b h.0.rule) h.1.0 h.1.1) }
 
 pub chaining-operands : (no_all : Bool) (new : List Bound) (n : Site) (w : Whole) (a b : Tree) → ChainingRow no_all n w new a b → SteadyPlace n w a → Operands n w a
 chaining-operands no_all new n w a b row h = operands-here n w a (chaining-kind no_all n w new a b row.rule) h.0 h.1

@@ -1,8 +1,9 @@
 -- The built rules at programs of the class: which of them act there, that they keep the class, and what each does to runs.
 use Rattle.std.proofs.Common.{◌≡◌, inl, inr, refl, sym, subst, List, []}
 use Rattle.std.specs.Prelude.{◌⊎◌, Bool, true, false, Option, is_some}
-use Rattle.es_tree.specs.Tree.{Label, Tree, Trees, node}
+use Rattle.es_tree.specs.Tree.{Label, Tree, Trees, node, Fields}
 use Rattle.es_tree.specs.Walks.{all_nodes}
+use Rattle.es_tree.specs.declared.ast_type.AstType.{AstType}
 use Rattle.es_tree.specs.declared.ast_type.AstType.TheVariants.{ArrowFunctionExpression, ClassDeclaration, ClassExpression, FunctionBody, FunctionDeclaration, FunctionExpression, MetaProperty, MethodDefinition, ObjectProperty, PrivateIdentifier, PropertyDefinition, ReturnStatement, StaticBlock, Super}
 use Rattle.es_tree.specs.declared.options.EnvOptions.{EnvOptions}
 use Rattle.es_resolution.specs.Declarations.{Bound}
@@ -33,7 +34,7 @@ use Rattle.es_statement_runs.specs.Programs.{is_statement_node}
 use Rattle.es_statement_steps.proofs.Catchings.{CatchRow, catch-keeps, catch-rule, catch-stays}
 use Rattle.es_statement_steps.proofs.Coalescings.{CoalescingRow, coalescing-keeps, coalescing-shape}
 use Rattle.es_statement_steps.proofs.Composition.{Known, known-fine}
-use Rattle.es_statement_steps.proofs.MadeOf.{PassesMade, assigning-of, chaining-of, coalescing-of, raising-of}
+use Rattle.es_statement_steps.proofs.MadeOf.{PassesMade, any_name, assigning-of, chaining-of, coalescing-of, is_made_kind, passes-any, raising-of}
 use Rattle.es_statement_steps.proofs.NoSteps.{off-step}
 use Rattle.es_statement_steps.proofs.ProgramMoves.{program-moved}
 use Rattle.es_statement_steps.proofs.Replacings.{Row, RowShape, replacing-hoists, replacing-rule}
@@ -87,22 +88,25 @@ module _ (o : EnvOptions) (F : Tree → Tree → Type 0) (rows : RowsDo o.assump
 
 -- WHAT THEY MAKE is of the class
 
-made-class : PassesMade is_statement_node
-made-class ObjectProperty l fs h = absurd (cc h)
-made-class MetaProperty l fs h = absurd (cc h)
-made-class StaticBlock l fs h = absurd (cc h)
-made-class FunctionDeclaration l fs h = absurd (cc h)
-made-class FunctionExpression l fs h = absurd (cc h)
-made-class FunctionBody l fs h = absurd (cc h)
-made-class ArrowFunctionExpression l fs h = absurd (cc h)
-made-class ClassDeclaration l fs h = absurd (cc h)
-made-class ClassExpression l fs h = absurd (cc h)
-made-class MethodDefinition l fs h = absurd (cc h)
-made-class PropertyDefinition l fs h = absurd (cc h)
-made-class ReturnStatement l fs h = absurd (cc h)
-made-class PrivateIdentifier l fs h = absurd (cc h)
-made-class Super l fs h = absurd (cc h)
-made-class _ l fs h = refl
+made-node : (k : AstType) (l : Label) (fs : Fields) → is_made_kind k ≡ true → is_statement_node k l fs ≡ true
+made-node ObjectProperty l fs h = absurd (cc h)
+made-node MetaProperty l fs h = absurd (cc h)
+made-node StaticBlock l fs h = absurd (cc h)
+made-node FunctionDeclaration l fs h = absurd (cc h)
+made-node FunctionExpression l fs h = absurd (cc h)
+made-node FunctionBody l fs h = absurd (cc h)
+made-node ArrowFunctionExpression l fs h = absurd (cc h)
+made-node ClassDeclaration l fs h = absurd (cc h)
+made-node ClassExpression l fs h = absurd (cc h)
+made-node MethodDefinition l fs h = absurd (cc h)
+made-node PropertyDefinition l fs h = absurd (cc h)
+made-node ReturnStatement l fs h = absurd (cc h)
+made-node PrivateIdentifier l fs h = absurd (cc h)
+made-node Super l fs h = absurd (cc h)
+made-node _ l fs h = refl
+
+made-class : PassesMade any_name is_statement_node
+made-class = passes-any is_statement_node made-node (λ l. refl)
 
 catch-class : (n : Site) (s s' : Ledger) (t u : Tree) → CatchRule n s (at_node t) s' (at_node u) → Class t → Class u
 catch-class n s s' t u (catches fresh) c = c
@@ -114,10 +118,10 @@ placed-class m (node k l fs) = refl
 
 rows-class : (no_all : Bool) → RowsDo no_all (λ t u. Class t → Class u)
 rows-class no_all = record {
-  assigning = assigning-of is_statement_node made-class;
-  coalescing = coalescing-of is_statement_node made-class;
-  chaining = chaining-of is_statement_node made-class no_all;
-  raising = raising-of is_statement_node made-class;
+  assigning = assigning-of any_name is_statement_node made-class;
+  coalescing = coalescing-of any_name is_statement_node made-class;
+  chaining = chaining-of any_name is_statement_node made-class no_all;
+  raising = raising-of any_name is_statement_node made-class;
   catching = catch-class;
   spreading = spread-so is_statement_node refl (λ given. refl) (λ ps. refl) placed-class;
 }

@@ -1,17 +1,20 @@
 -- The law of steps and runs: what steps of the lowerings reach from a program without functions, arrows and classes runs as the
 -- program does.
-use Rattle.std.specs.Prelude.{◌≡◌, ◌&&◌, ◌||◌, Bool, true, false, not, List, is_some, if◌then◌else◌}
+use Rattle.std.specs.Prelude.{◌≡◌, ◌&&◌, ◌||◌, Bool, true, false, not, List, bytes_eq, codes, is_some, if◌then◌else◌}
 use Rattle.es_tree.specs.Tree.{Fields, Label, Tree}
-use Rattle.es_tree.specs.Walks.{all_nodes, any_node}
+use Rattle.es_tree.specs.Constructs.{is_object_spread}
+use Rattle.es_tree.specs.Names.{first_text}
+use Rattle.es_tree.specs.Walks.{all_in_fields, all_nodes, any_node}
 use Rattle.es_tree.specs.Words.{Text}
 use Rattle.es_tree.specs.declared.ast_type.AstType.{AstType}
+use Rattle.es_tree.specs.declared.ast_type.AstType.TheVariants.{Identifier}
 use Rattle.es_tree.specs.declared.options.EnvOptions.{EnvOptions}
 use Rattle.es_steps.specs.CoreBridge.{Reached, first_whole}
 use Rattle.es_reached.specs.Reached.{IsResult, built_rules}
 use Rattle.es_reached.specs.Unmade.{is_sought, of_assignments, of_chains, of_powers, of_spreads}
-use Rattle.es_unsupported.specs.Shapes.{has_chain_tag}
+use Rattle.es_unsupported.specs.Shapes.{has_chain_tag, is_chain_kind}
 use Rattle.es_statement_runs.specs.Helpers.{Supply}
-use Rattle.es_statement_runs.specs.Helpers.Supply.{no_helpers, by_global}
+use Rattle.es_statement_runs.specs.Helpers.Supply.{no_helpers, spread_by_global, by_global}
 use Rattle.es_statement_runs.specs.Programs.{IsStatementProgram, uses_no_helper}
 use Rattle.es_statement_runs.specs.Runs.{RunAlike}
 
@@ -29,13 +32,23 @@ assignments_there o p = o.es2021.logical_assignment_operators && any_node (is_so
 abbrev pub powers_there : EnvOptions → Tree → Bool
 powers_there o p = o.es2016.exponentiation_operator && any_node (is_sought of_powers) p
 
--- Object spread has its helper as a member of `babelHelpers`; the other lowerings have none.
+-- Object spread has its helper as a member of `babelHelpers`, and where chains, logical assignment or exponentiation are lowered beside it that has no
+-- other; the other lowerings have none.
 abbrev pub supply_there : EnvOptions → Tree → Supply
-supply_there o p = if spreads_there o p then by_global else no_helpers
+supply_there o p = if spreads_there o p then (if chains_there o p || (assignments_there o p || powers_there o p) then spread_by_global else by_global) else no_helpers
 
--- whether there are others beside it of which no law is known there
+-- neither an object literal with a spread nor the name of the object of helpers
+abbrev pub no_copy : AstType → Label → Fields → Bool
+no_copy Identifier l fs = not (bytes_eq (first_text l.texts) (codes "babelHelpers"))
+no_copy k l fs = not (is_object_spread k l fs)
+
+-- none of them in a chain
+abbrev pub no_copy_in_chain : AstType → Label → Fields → Bool
+no_copy_in_chain k l fs = not (is_chain_kind k) || all_in_fields no_copy fs
+
+-- whether a spread stands in a chain where both are lowered: no law is known of that
 abbrev pub mixes_helpers : EnvOptions → Tree → Bool
-mixes_helpers o p = spreads_there o p && (chains_there o p || assignments_there o p || powers_there o p)
+mixes_helpers o p = spreads_there o p && chains_there o p && not (all_nodes no_copy_in_chain p)
 
 -- whether they assume that no value is `document.all` (ECMA-262, B.3.6): optional chaining alone may
 abbrev pub assumes_no_all : EnvOptions → Tree → Bool

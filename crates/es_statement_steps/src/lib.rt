@@ -5,7 +5,7 @@
 ghost use Rattle.es_statement_steps.specs.Laws.{LawStatementResult, LawStatementRules};
 
 /// A valid program of the class runs as what steps of the built lowerings reach from it, of whatever operands its expressions are, where
-/// no spread of an object literal is lowered beside a chain, a logical assignment or a power, and no tag is a chain.
+/// no spread of an object literal stands in a chain if both are lowered, and no tag is a chain.
 pub fn law_statement_rules()
     ensures { LawStatementRules }
 {}
