@@ -7,10 +7,11 @@ use Rattle.es_steps.specs.Laws.{BindingsKeep}
 use Rattle.es_steps.specs.Steps.{Ledger, Site, Spot}
 use Rattle.es_steps.proofs.BridgeInclusion.{all_under}
 use Rattle.es_steps.proofs.Reached.{law_bindings_proof}
+use Rattle.es_using_heads.proofs.HeadReached.{law_headed_steps_proof}
 use Rattle.es_using_rows.proofs.UsedLaws.{law_used_steps_proof}
 use Rattle.es_valid_using.specs.Laws.{with_using}
 use Rattle.es_valid_using.proofs.UsingLaws.{law_using_form_proof, law_using_outside_proof, law_using_rules_proof}
-use Rattle.es_lowered.specs.Used.{LawUnused, LawUsed, used_rules}
+use Rattle.es_lowered.specs.Used.{LawHeaded, LawUnused, LawUsed, used_rules}
 use Rattle.es_lowered.proofs.Kept.{result-by}
 use Rattle.es_lowered.proofs.Lowered.{where-asked}
 use Rattle.es_lowered.proofs.Stays.{stays-as}
@@ -28,6 +29,11 @@ module _ (o : EnvOptions) (on : o.es2026.explicit_resource_management ≡ true) 
 pub law_used_proof : LawUsed
 law_used_proof o p q names form right on unnamed uses =
     let found = law_used_steps_proof p q names form right unnamed uses in
+    result-by UsingRule (with_using UsingRule o) (among-using o on) (keep-bindings o on) (law_using_form_proof o) (law_using_rules_proof o) (law_using_outside_proof o) p q found.0 names found.1 form right found.2 found.3 found.4
+
+pub law_headed_proof : LawHeaded
+law_headed_proof o p q names form right on heads =
+    let found = law_headed_steps_proof p q names form right heads in
     result-by UsingRule (with_using UsingRule o) (among-using o on) (keep-bindings o on) (law_using_form_proof o) (law_using_rules_proof o) (law_using_outside_proof o) p q found.0 names found.1 form right found.2 found.3 found.4
 
 pub law_unused_proof : LawUnused

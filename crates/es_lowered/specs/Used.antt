@@ -13,6 +13,7 @@ use Rattle.es_steps.specs.CoreBridge.{first_whole}
 use Rattle.es_steps.specs.CoreRules.{where_on}
 use Rattle.es_steps.specs.Steps.{Ledger, Site, Spot}
 use Rattle.es_reached.specs.Reached.{IsResultOf}
+use Rattle.es_using_heads.specs.Heads.{HeadsTo}
 use Rattle.es_using_rows.specs.Used.{UsesTo}
 
 -- the rules of `using`, where it is lowered
@@ -26,6 +27,10 @@ IsUsed on p q names = IsResultOf (used_rules on) p q names
 -- So it is of a program that has form and breaks no static rule, and in which no name is `babelHelpers`, where options ask for `using`.
 abbrev pub LawUsed : Type 0
 LawUsed = (o : EnvOptions) (p q : Tree) (names : List Text) → has_form s-Program p ≡ true → breaks p ≡ [] → o.es2026.explicit_resource_management ≡ true → is_among (names_of p) (codes "babelHelpers") ≡ false → UsesTo (first_whole p).in_use p q names → IsUsed true p q names
+
+-- So it is where `using` moves out of heads of loops, before that.
+abbrev pub LawHeaded : Type 0
+LawHeaded = (o : EnvOptions) (p q : Tree) (names : List Text) → has_form s-Program p ≡ true → breaks p ≡ [] → o.es2026.explicit_resource_management ≡ true → HeadsTo (first_whole p).in_use p q names → IsUsed true p q names
 
 -- And such a program may stay as it is.
 abbrev pub LawUnused : Type 0

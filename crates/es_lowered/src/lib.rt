@@ -5,7 +5,7 @@
 ghost use Rattle.es_lowered.specs.Lowered.{LawIdle, LawLowered, LawLoweredAlone};
 ghost use Rattle.es_lowered.specs.Moved.{LawMoved, LawUnmoved};
 ghost use Rattle.es_lowered.specs.Set.{LawSet, LawUnset};
-ghost use Rattle.es_lowered.specs.Used.{LawUnused, LawUsed};
+ghost use Rattle.es_lowered.specs.Used.{LawHeaded, LawUnused, LawUsed};
 
 /// What the rows of object rests lead to, after the steps of the other lowerings, from a program that has form and breaks no static rule:
 /// names keep their bindings, and the written program has form, breaks no static rule, and is to other modules what the source is.
@@ -32,6 +32,12 @@ pub fn law_moved()
 /// So it is of a program that stays as it is.
 pub fn law_unmoved()
     ensures { LawUnmoved }
+{}
+
+/// What a program that has form and breaks no static rule becomes as its `using` moves out of heads of loops: names keep their bindings, and it has form,
+/// breaks no static rule, and is to other modules what the source is.
+pub fn law_headed()
+    ensures { LawHeaded }
 {}
 
 /// What a program that has form and breaks no static rule becomes as its `using` is lowered: names keep their bindings, and it has form, breaks no

@@ -6,7 +6,7 @@ use Rattle.es_tree.specs.Tree.{Tree, node, Label, Fields, done, ◌then◌, Fiel
 use Rattle.es_tree.specs.declared.ast_type.AstType.{AstType}
 use Rattle.es_tree.specs.declared.ast_type.AstType.TheVariants.{Super, ThisExpression, UnaryExpression}
 use Rattle.es_tree.specs.declared.error.UnsupportedKind.{UnsupportedKind}
-use Rattle.es_tree.specs.declared.error.UnsupportedKind.TheVariants.{ArrowOuter, ArrowThis, NotBuilt}
+use Rattle.es_tree.specs.declared.error.UnsupportedKind.TheVariants.{ArrowOuter, ArrowThis}
 use Rattle.es_tree.specs.declared.options.EnvOptions.{EnvOptions}
 use Rattle.es_semantic.specs.Places.{Place, own_scope, own_scope_count, outermost, place_in, scope_count_in, scope_count_in_field}
 use Rattle.es_semantic.specs.SymbolsOf.{Declared, symbols_of}
@@ -14,6 +14,7 @@ use Rattle.es_arrow_steps.specs.ThisFits.{reaches_in}
 use Rattle.es_valid_steps.specs.ArrowNodes.{is_arrow_accessor}
 use Rattle.es_valid_arrows.specs.ArrowPlaces.{arrow_in, arrows_fit, arrows_fit_all, arrows_fit_by, arrows_fit_in, is_outer, parameter_in}
 use Rattle.es_unsupported.specs.ArrowShapes.{arrow_place_in, arrow_shape, binds_arguments, inner_shape, outside, refers_by}
+use Rattle.es_unsupported.specs.EarlySuper.{calls_super_here}
 use Rattle.es_unsupported.specs.declared.arrow_places.ArrowPlace.{ArrowPlace}
 use Rattle.es_unsupported.specs.Laws.{LawArrowsTaken}
 use Rattle.es_unsupported.proofs.Taken.{NoneInWay, NoneInWayOfField, NoneInWayOfFields, NoneInWayOfTrees, taken-arrows}
@@ -21,26 +22,26 @@ use Rattle.es_unsupported.proofs.Taken.{NoneInWay, NoneInWayOfField, NoneInWayOf
 -- what is outer in an arrow has a shape
 inner-found : (q : ArrowPlace) (r : Bool) (k : AstType) (l : Label) (fs : Fields) → is_outer q.reaches k l fs ≡ true → inner_shape q r k l fs ≡ None → ⊥
 inner-found q r Super l fs e h = cc h
-inner-found q r ThisExpression l fs e h = at q.stray_super q.reaches e h
+inner-found q r ThisExpression l fs e h = at q.reaches e h
   where
-    at : (derived reaches : Bool) → not reaches ≡ true → (if derived then Some NotBuilt else if reaches then None else Some ArrowThis) ≡ None → ⊥
-    at true reaches e h = cc h
-    at false true e h = cc e
-    at false false e h = cc h
+    at : (reaches : Bool) → not reaches ≡ true → (if reaches then None else Some ArrowThis) ≡ None → ⊥
+    at true e h = cc e
+    at false e h = cc h
 inner-found q r UnaryExpression l fs e h = cc (sym (ap (λ b. if b then Some ArrowThis else None) e) ∙ h)
 inner-found q r _ l fs e h = cc e
 
 node-fits : (o : EnvOptions) → is_some o.es2015.arrow_function ≡ true → (q : ArrowPlace) (r : Bool) (k : AstType) (l : Label) (fs : Fields) → arrow_shape o q r k l fs ≡ None → not ((is_outer q.reaches k l fs && q.in_arrow) || is_arrow_accessor k l fs) ≡ true
 node-fits o on q r k l fs h =
-    at (is_arrow_accessor k l fs) q.in_arrow (is_outer q.reaches k l fs) (inner_shape q r k l fs) (inner-found q r k l fs)
-    (sym (ap (λ b. if not b then None else if is_arrow_accessor k l fs then Some ArrowOuter else if q.in_arrow then inner_shape q r k l fs else None) on) ∙ h)
+    at (is_arrow_accessor k l fs) (q.early_super && calls_super_here k fs) q.in_arrow (is_outer q.reaches k l fs) (inner_shape q r k l fs) (inner-found q r k l fs)
+    (sym (ap (λ b. if not b then None else if is_arrow_accessor k l fs then Some ArrowOuter else if q.early_super && calls_super_here k fs then Some ArrowThis else if q.in_arrow then inner_shape q r k l fs else None) on) ∙ h)
   where
-    at : (accessor inside outer : Bool) (s : Option UnsupportedKind) → (outer ≡ true → s ≡ None → ⊥) → (if accessor then Some ArrowOuter else if inside then s else None) ≡ None → not ((outer && inside) || accessor) ≡ true
-    at true inside outer s found h = absurd (cc h)
-    at false true true s found h = absurd (found refl h)
-    at false true false s found h = refl
-    at false false true s found h = refl
-    at false false false s found h = refl
+    at : (accessor early inside outer : Bool) (s : Option UnsupportedKind) → (outer ≡ true → s ≡ None → ⊥) → (if accessor then Some ArrowOuter else if early then Some ArrowThis else if inside then s else None) ≡ None → not ((outer && inside) || accessor) ≡ true
+    at true early inside outer s found h = absurd (cc h)
+    at false true inside outer s found h = absurd (cc h)
+    at false false true true s found h = absurd (found refl h)
+    at false false true false s found h = refl
+    at false false false true s found h = refl
+    at false false false false s found h = refl
 
 -- what is known of places, field by field
 abbrev Tells : (ℕ → Field → ArrowPlace) → (ℕ → Field → Bool) → (ℕ → Bool) → (ℕ → Bool) → Type 0

@@ -1,5 +1,5 @@
 -- What slots are wrapped for, what is known of places, and what stands in the way of arrows look at no mark and no id.
-use Rattle.std.proofs.Common.{◌≡◌, ◌∙◌, ℕ, zero, suc, ◌==◌, Bool, ◌&&◌, ◌||◌, not, Option, Some, None, is_some, bytes_eq, codes, if◌then◌else◌, List, refl, sym, ap}
+use Rattle.std.proofs.Common.{◌≡◌, ◌∙◌, ℕ, zero, suc, ◌==◌, Bool, false, ◌&&◌, ◌||◌, not, Option, Some, None, is_some, bytes_eq, codes, if◌then◌else◌, List, refl, sym, ap}
 use Rattle.es_tree.specs.Ancestors.{ancestor, is_field_value}
 use Rattle.es_tree.specs.Bare.{bare, bare_field, bare_fields, bare_label, bare_trees}
 use Rattle.es_tree.specs.Constructs.{field_at, is_chain, is_logical_assignment, is_nullish_coalescing, is_private_target, is_rest}
@@ -9,7 +9,7 @@ use Rattle.es_tree.specs.StaticRules.{is_accessor_word}
 use Rattle.es_tree.specs.Tree.{Tree, node, Label, Fields, done, ◌then◌, Field, missing, one, many, statements, Trees, empty, ◌before◌}
 use Rattle.es_tree.specs.Walks.{NodeTest}
 use Rattle.es_tree.specs.declared.ast_type.AstType.{AstType}
-use Rattle.es_tree.specs.declared.ast_type.AstType.TheVariants.{ArrowFunctionExpression, AssignmentExpression, ChainExpression, LogicalExpression, MemberExpression, ObjectProperty, ObjectTarget, ThisExpression, UnaryExpression}
+use Rattle.es_tree.specs.declared.ast_type.AstType.TheVariants.{ArrowFunctionExpression, AssignmentExpression, CallExpression, ChainExpression, LogicalExpression, MemberExpression, ObjectProperty, ObjectTarget, ThisExpression, UnaryExpression}
 use Rattle.es_tree.specs.declared.error.UnsupportedKind.TheVariants.{ArrowOuter, ArrowThis}
 use Rattle.es_tree.specs.declared.options.EnvOptions.{EnvOptions}
 use Rattle.es_semantic.specs.Places.{is_inside}
@@ -21,9 +21,10 @@ use Rattle.es_valid_steps.specs.ArrowNodes.{is_arrow_accessor, is_kind_within, i
 use Rattle.es_valid_arrows.specs.ArrowPlaces.{parameter_in}
 use Rattle.es_super_calls.specs.Constructors.{is_constructor}
 use Rattle.es_super_calls.specs.declared.standing.ClassStanding.{ClassStanding}
-use Rattle.es_super_calls.proofs.BareCalls.{stray_super-bare}
+use Rattle.es_super_calls.proofs.BareCalls.{calls_it-bare}
 use Rattle.es_super_calls.proofs.BareStandings.{standing-bare}
 use Rattle.es_unsupported.specs.ArrowShapes.{arrow_place_in, arrow_shape, inner_shape}
+use Rattle.es_unsupported.specs.EarlySuper.{arrow_this, arrow_this_among, arrow_this_by, arrow_this_in, has_arrow_this}
 use Rattle.es_unsupported.specs.declared.arrow_places.ArrowPlace.{ArrowPlace}
 use Rattle.es_unsupported.proofs.BareNodes.{child-bare, exponentiation-bare, field_at-bare, first_member-bare, kind-bare, kind_within-bare, private-target-bare}
 
@@ -89,10 +90,34 @@ wrapped-bare o = holds-field-bare (is_wrapped_for o) (wrapped_for-bare o)
 
 -- PLACES
 
--- what is known of what stands in a field, where it is known whether that holds what a slot is wrapped for, how it stands, and whether a call
--- of `super` strays in the node
+mutual
+  this-bare : (inside : Bool) (t : Tree) → arrow_this inside (bare t) ≡ arrow_this inside t
+  this-bare inside (node k l fs) = λ i. (same_type k ThisExpression && inside) || this-in-bare (inside || same_type k ArrowFunctionExpression) (λ j. keeps_this (ancestor k l done j 0)) fs i
+
+  this-in-bare : (inside : Bool) (keeps : ℕ → Bool) (fs : Fields) → arrow_this_in inside keeps (bare_fields fs) ≡ arrow_this_in inside keeps fs
+  this-in-bare inside keeps done = refl
+  this-in-bare inside keeps (f then fs) = λ i. (not (keeps zero) && this-by-bare inside f i) || this-in-bare inside (λ j. keeps (suc j)) fs i
+
+  this-by-bare : (inside : Bool) (f : Field) → arrow_this_by inside (bare_field f) ≡ arrow_this_by inside f
+  this-by-bare inside missing = refl
+  this-by-bare inside (one t) = this-bare inside t
+  this-by-bare inside (many ts) = this-among-bare inside ts
+  this-by-bare inside (statements ts) = this-among-bare inside ts
+
+  this-among-bare : (inside : Bool) (ts : Trees) → arrow_this_among inside (bare_trees ts) ≡ arrow_this_among inside ts
+  this-among-bare inside empty = refl
+  this-among-bare inside (t before ts) = λ i. this-bare inside t i || this-among-bare inside ts i
+
+has_this-bare : (fs : Fields) → has_arrow_this (bare_fields fs) ≡ has_arrow_this fs
+has_this-bare done = refl
+has_this-bare (f then done) = refl
+has_this-bare (f then ps then done) = refl
+has_this-bare (f then ps then b then fs) = this-by-bare false b
+
+-- what is known of what stands in a field, where it is known whether that holds what a slot is wrapped for, how it stands, and whether a `this`
+-- of the body belongs to an arrow
 abbrev place_with : EnvOptions → Bool → ArrowPlace → AstType → Label → ℕ → Bool → ClassStanding → Bool → ArrowPlace
-place_with o binds q k l i held standing stray =
+place_with o binds q k l i held standing has_this =
     let a = ancestor k l done i 0 in
     let wrapped = (is_field_value a || (leads_to_value a && q.parameter)) && held in
     if is_some o.es2015.arrow_function then record {
@@ -100,12 +125,12 @@ place_with o binds q k l i held standing stray =
       parameter = parameter_in q.parameter a;
       reaches = reaches_in q.reaches a;
       standing = standing;
-      stray_super = if keeps_this a then is_constructor q.standing && i == 2 && stray else q.stray_super;
+      early_super = if keeps_this a then is_constructor q.standing && i == 1 && has_this else q.early_super;
       own_arguments = (not (wrapped || same_type k ArrowFunctionExpression) && q.own_arguments) || (binds && is_inside k i);
     } else q
 
 place-bare : (o : EnvOptions) (binds : Bool) (q : ArrowPlace) (k : AstType) (l : Label) (fs : Fields) (i : ℕ) (f : Field) → arrow_place_in o binds q k (bare_label l) (bare_fields fs) i (bare_field f) ≡ arrow_place_in o binds q k l fs i f
-place-bare o binds q k l fs i f = λ j. place_with o binds q k l i (wrapped-bare o f j) (standing-bare q.standing k l fs i j) (stray_super-bare fs j)
+place-bare o binds q k l fs i f = λ j. place_with o binds q k l i (wrapped-bare o f j) (standing-bare q.standing k l fs i j) (has_this-bare fs j)
 
 -- so it is where two nodes and two fields differ in marks alone
 pub place-marked : (o : EnvOptions) (binds : Bool) (q : ArrowPlace) (k : AstType) (l : Label) (ms : List (Option ℕ)) (fs gs : Fields) (i : ℕ) (f g : Field) → bare_fields gs ≡ bare_fields fs → bare_field g ≡ bare_field f →
@@ -125,7 +150,7 @@ inner-bare q r UnaryExpression l fs =
 inner-bare q r _ l fs = refl
 
 arrow_shape-bare : (o : EnvOptions) (q : ArrowPlace) (r : Bool) (k : AstType) (l : Label) (fs : Fields) → arrow_shape o q r k (bare_label l) (bare_fields fs) ≡ arrow_shape o q r k l fs
-arrow_shape-bare o q r k l fs = λ i. if not (is_some o.es2015.arrow_function) then None else if accessor-bare k l fs i then Some ArrowOuter else if q.in_arrow then inner-bare q r k l fs i else None
+arrow_shape-bare o q r k l fs = λ i. if not (is_some o.es2015.arrow_function) then None else if accessor-bare k l fs i then Some ArrowOuter else if q.early_super && (same_type k CallExpression && calls_it-bare fs i) then Some ArrowThis else if q.in_arrow then inner-bare q r k l fs i else None
 
 pub arrow_shape-marked : (o : EnvOptions) (q : ArrowPlace) (r : Bool) (k : AstType) (l : Label) (ms : List (Option ℕ)) (fs gs : Fields) → bare_fields gs ≡ bare_fields fs → arrow_shape o q r k (record l { marks = ms }) gs ≡ arrow_shape o q r k l fs
 arrow_shape-marked o q r k l ms fs gs e = sym (arrow_shape-bare o q r k (record l { marks = ms }) gs) ∙ (ap (arrow_shape o q r k (bare_label l)) e ∙ arrow_shape-bare o q r k l fs)

@@ -2,7 +2,11 @@ pub mod BareNodes
 pub mod BareSpreads
 pub mod BareArrows
 pub mod BareStrays
+pub mod BareUsing
+pub mod EarlyWalks
 pub mod QuietStrays
+pub mod QuietUsing
+pub mod QuietThis
 pub mod Firsts
 pub mod Parts
 pub mod Unbound

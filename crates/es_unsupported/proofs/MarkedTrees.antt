@@ -14,7 +14,7 @@ use Rattle.es_tree.specs.Walks.{all_in_field, all_in_fields, all_in_trees, all_n
 use Rattle.es_tree.specs.declared.ast_type.AstType.{AstType}
 use Rattle.es_tree.specs.declared.ast_type.AstType.TheVariants.{FunctionBody, FunctionExpression, Identifier, TaggedTemplateExpression, VariableDeclaration}
 use Rattle.es_tree.specs.declared.error.UnsupportedKind.{UnsupportedKind}
-use Rattle.es_tree.specs.declared.error.UnsupportedKind.TheVariants.{HelperName, MathBound, SpreadLiteral, TagChain}
+use Rattle.es_tree.specs.declared.error.UnsupportedKind.TheVariants.{HeadName, HelperName, MathBound, SpreadLiteral, TagChain, UsingFunction}
 use Rattle.es_tree.specs.declared.options.EnvOptions.{EnvOptions}
 use Rattle.es_scope.specs.declared.scoping.Scoping.{Scoping}
 use Rattle.es_semantic.specs.Places.{Place, Visit, around_in, has_name_scope, is_inside, makes_scope, own_scope, own_scope_count, place_in, scope_count_in, scope_count_in_field, scope_count_in_fields, scope_count_in_trees, visits, visits_in_field, visits_in_fields, visits_in_trees}
@@ -25,15 +25,17 @@ use Rattle.es_semantic.specs.declared.place.Role.TheVariants.{Nothing, Binds}
 use Rattle.es_semantic.proofs.VisitCounts.{named_makes}
 use Rattle.es_rest_shapes.specs.HelperNames.{binds_helpers}
 use Rattle.es_rest_shapes.proofs.BareRests.{declaration-bare}
+use Rattle.es_using_heads.proofs.HeadAlike.{asks-bare}
 use Rattle.es_unsupported.specs.ArrowShapes.{arrow_place_in, arrow_shape, binds_arguments, may_bind_arguments, refers_by}
 use Rattle.es_unsupported.specs.FirstUnsupported.{first_of, first_of_field, first_of_fields, first_of_trees, found_at}
 use Rattle.es_unsupported.specs.MarkedWalk.{FindsFrom, LooksUp, LooksUpInField, LooksUpInFields, LooksUpInTrees, around_marked, first_at, first_in_field, first_in_fields, first_in_trees, has_known_scope, refers_by_mark, scope_mark}
-use Rattle.es_unsupported.specs.Shapes.{Row, always, first_row, has_chain_tag, is_chain_below, is_chain_kind, is_helper_bound, is_math_bound, is_spread_literal, is_tag_chain, is_unbuilt, rows, shape_at, stray_shape}
+use Rattle.es_unsupported.specs.Shapes.{Row, always, first_row, has_chain_tag, is_chain_below, is_chain_kind, is_head_name, is_helper_bound, is_math_bound, is_spread_literal, is_tag_chain, is_unbuilt, is_using_function, rows, shape_at, stray_shape}
 use Rattle.es_unsupported.specs.declared.arrow_places.ArrowPlace.{ArrowPlace}
 use Rattle.es_unsupported.proofs.BareArrows.{arrow_shape-marked, place-marked}
 use Rattle.es_unsupported.proofs.BareNodes.{exponentiation-bare, kind_within-bare, object-spread-bare}
 use Rattle.es_unsupported.proofs.BareSpreads.{literal-bare}
 use Rattle.es_unsupported.proofs.BareStrays.{holds_stray-bare, stray_shape-bare}
+use Rattle.es_unsupported.proofs.BareUsing.{clashes-bare}
 
 -- MARKS CHANGE NOTHING BUT MARKS
 
@@ -103,13 +105,19 @@ spread_literal-bare = named-row SpreadLiteral is_spread_literal (λ o ds up k l 
 tag_chain-bare : LooksAtNoMark (record { shape = always TagChain; holds = is_tag_chain })
 tag_chain-bare = named-row TagChain is_tag_chain (λ o ds up k l fs. ap (λ b. o.es2020.optional_chaining && b) (chain_tag-bare k l fs))
 
+head_name-bare : LooksAtNoMark (record { shape = always HeadName; holds = is_head_name })
+head_name-bare = named-row HeadName is_head_name (λ o ds up k l fs. ap (λ b. o.es2026.explicit_resource_management && b) (asks-bare k l fs))
+
+using_function-bare : LooksAtNoMark (record { shape = always UsingFunction; holds = is_using_function })
+using_function-bare = named-row UsingFunction is_using_function (λ o ds up k l fs. ap (λ b. o.es2026.explicit_resource_management && b) (clashes-bare k fs))
+
 abbrev LookAtNoMark : List Row → Type 0
 LookAtNoMark [] = Unit {0}
 LookAtNoMark (r ∷ rs) = LooksAtNoMark r × LookAtNoMark rs
 
 -- so it is for each row of the table
 rows-bare : LookAtNoMark rows
-rows-bare = (unbuilt-bare, (math_bound-bare, (helper_bound-bare, (spread_literal-bare, (tag_chain-bare, tt)))))
+rows-bare = (unbuilt-bare, (math_bound-bare, (helper_bound-bare, (spread_literal-bare, (tag_chain-bare, (head_name-bare, (using_function-bare, tt)))))))
 
 first_row-bare : (rs : List Row) → LookAtNoMark rs → (o : EnvOptions) (ds : List Declared) (up : List ℕ) (k : AstType) (l : Label) (fs : Fields) → first_row rs o ds up k (bare_label l) (bare_fields fs) ≡ first_row rs o ds up k l fs
 first_row-bare [] all o ds up k l fs = refl

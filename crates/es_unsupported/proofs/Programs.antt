@@ -7,7 +7,7 @@ use Rattle.es_tree.specs.Tree.{Tree, node, Label, Fields, done, ◌then◌, Fiel
 use Rattle.es_tree.specs.Walks.{all_nodes}
 use Rattle.es_tree.specs.declared.ast_type.AstType.{AstType}
 use Rattle.es_tree.specs.declared.ast_type.AstType.TheVariants.{Program}
-use Rattle.es_tree.specs.declared.error.UnsupportedKind.TheVariants.{ArrowOuter}
+use Rattle.es_tree.specs.declared.error.UnsupportedKind.TheVariants.{ArrowOuter, ArrowThis}
 use Rattle.es_tree.specs.declared.options.EnvOptions.{EnvOptions}
 use Rattle.es_scope.specs.Tables.{scope_count}
 use Rattle.es_scope.specs.declared.scoping.Scoping.{Scoping}
@@ -20,7 +20,10 @@ use Rattle.es_semantic.proofs.VisitCounts.{scopes_count}
 use Rattle.es_valid_steps.specs.ArrowNodes.{is_arrow_accessor}
 use Rattle.es_rest_shapes.specs.HelperNames.{binds_helpers}
 use Rattle.es_rest_shapes.specs.RestShapes.{is_rest_declaration}
+use Rattle.es_using_heads.specs.Heads.{asks_its_name}
+use Rattle.es_using_nodes.specs.Clashes.{clashes}
 use Rattle.es_unsupported.specs.ArrowShapes.{arrow_place_in, arrow_shape, binds_arguments, inner_shape, outside, refers_by}
+use Rattle.es_unsupported.specs.EarlySuper.{calls_super_here}
 use Rattle.es_unsupported.specs.FirstUnsupported.{IsBuilt, first_of, first_of_field, first_of_fields, first_of_trees, first_unsupported, found_at}
 use Rattle.es_unsupported.specs.MarkedWalk.{LooksUp, first_at, has_known_scope}
 use Rattle.es_unsupported.specs.Shapes.{has_chain_tag, holds_stray, shape_at}
@@ -140,7 +143,7 @@ is_none w none =
 -- WHERE NO NODE HAS A SHAPE
 
 no-arrow-shape : (o : EnvOptions) → is_some o.es2015.arrow_function ≡ false → (q : ArrowPlace) (r : Bool) (k : AstType) (l : Label) (fs : Fields) → arrow_shape o q r k l fs ≡ None
-no-arrow-shape o off q r k l fs = ap (λ b. if not b then None else if is_arrow_accessor k l fs then Some ArrowOuter else if q.in_arrow then inner_shape q r k l fs else None) off
+no-arrow-shape o off q r k l fs = ap (λ b. if not b then None else if is_arrow_accessor k l fs then Some ArrowOuter else if q.early_super && calls_super_here k fs then Some ArrowThis else if q.in_arrow then inner_shape q r k l fs else None) off
 
 module _ (o : EnvOptions) (ds : List Declared) (none : (up : List ℕ) (k : AstType) (l : Label) (fs : Fields) → shape_at o ds up k l fs ≡ None) (free : (q : ArrowPlace) (r : Bool) (k : AstType) (l : Label) (fs : Fields) → arrow_shape o q r k l fs ≡ None) where
   mutual
@@ -171,6 +174,8 @@ no-shape w o ds wanted none up k l fs =
       helpers_never w.helper_name (is_some o.es2018.object_rest_spread) (is_object_spread k l fs) (is_some (find ds up (codes "babelHelpers"))) (is_rest_declaration k l fs) (binds_helpers ds) (asked_where (codes "babelHelpers") ds up w.helper_name (is_some o.es2018.object_rest_spread) wanted.helpers) wanted.helpers n.helper_name,
       asked_never w.spread_literal (is_some o.es2018.object_rest_spread) (is_uncopied k l fs) wanted.literals n.spread_literal,
       asked_never w.tag_chain o.es2020.optional_chaining (has_chain_tag k l fs) wanted.chains n.tag_chain,
+      asked_never w.using_declaration o.es2026.explicit_resource_management (asks_its_name k l fs) wanted.declarations n.using_declaration,
+      asked_never w.using_declaration o.es2026.explicit_resource_management (clashes k fs) wanted.declarations n.using_declaration,
     ) refl
 
 pub none_wanted : (w : Wanted) (o : EnvOptions) (p : Tree) → IsWanted w o (symbols_of p) → any_wanted w ≡ false → first_unsupported o p ≡ None

@@ -14,7 +14,7 @@ use Rattle.es_unsupported.specs.Shapes.{begins_with_rest, has_rest_parameter, ho
 
 -- a plain pattern has a rest
 
-last-off : (a b : Bool) → b ≡ false → (a && b) ≡ false
+pub last-off : (a b : Bool) → b ≡ false → (a && b) ≡ false
 last-off true b h = h
 last-off false b h = refl
 

@@ -10,7 +10,7 @@ use Rattle.es_tree.specs.Tree.{Label, Fields, done, Field}
 use Rattle.es_tree.specs.declared.ast_type.AstType.{AstType}
 use Rattle.es_tree.specs.declared.ast_type.AstType.TheVariants.{ArrowFunctionExpression, FunctionBody, Identifier, MetaProperty, Super, ThisExpression, UnaryExpression}
 use Rattle.es_tree.specs.declared.error.UnsupportedKind.{UnsupportedKind}
-use Rattle.es_tree.specs.declared.error.UnsupportedKind.TheVariants.{ArrowOuter, ArrowThis, NotBuilt}
+use Rattle.es_tree.specs.declared.error.UnsupportedKind.TheVariants.{ArrowOuter, ArrowThis}
 use Rattle.es_tree.specs.declared.options.EnvOptions.{EnvOptions}
 use Rattle.es_semantic.specs.Places.{is_inside, makes_scope}
 use Rattle.es_semantic.specs.SymbolsOf.{Declared, is_bound}
@@ -21,15 +21,15 @@ use Rattle.es_arrow_steps.specs.ThisFits.{reaches_in}
 use Rattle.es_valid_steps.specs.ArrowNodes.{is_arrow_accessor, is_this_within}
 use Rattle.es_valid_arrows.specs.ArrowPlaces.{arrow_in, is_wrapped_slot, parameter_in}
 use Rattle.es_super_calls.specs.Constructors.{is_constructor, standing_in}
-use Rattle.es_super_calls.specs.SuperCalls.{has_stray_super}
 use Rattle.es_super_calls.specs.declared.standing.ClassStanding.TheVariants.{Elsewhere}
+use Rattle.es_unsupported.specs.EarlySuper.{calls_super_here, has_arrow_this}
 use Rattle.es_unsupported.specs.declared.arrow_places.ArrowPlace.{ArrowPlace}
 
 -- PLACES
 
 -- what is known of a program
 abbrev pub outside : ArrowPlace
-outside = record { in_arrow = false; parameter = false; reaches = true; standing = Elsewhere; stray_super = false; own_arguments = false }
+outside = record { in_arrow = false; parameter = false; reaches = true; standing = Elsewhere; early_super = false; own_arguments = false }
 
 -- Whether a scope of a node of this kind may bind an `arguments` that stays as it is where the arrow around is a function: that of a body
 -- doesn't, since a `var` of this name finds the function's own there (10.2.11).
@@ -49,7 +49,7 @@ arrow_place_in o binds q k l fs i f =
       parameter = parameter_in q.parameter a;
       reaches = reaches_in q.reaches a;
       standing = standing_in q.standing k l fs i;
-      stray_super = if keeps_this a then is_constructor q.standing && i == 2 && has_stray_super fs else q.stray_super;
+      early_super = if keeps_this a then is_constructor q.standing && i == 1 && has_arrow_this fs else q.early_super;
       own_arguments = (not (is_wrapped_slot o q.parameter a f || same_type k ArrowFunctionExpression) && q.own_arguments) || (binds && is_inside k i);
     } else q
 
@@ -62,21 +62,21 @@ refers_by (Binds b) = false
 refers_by _ = true
 
 -- Of a node that belongs to an arrow, and refers to its name or doesn't: `super` (13.3.7), `new.target` (13.3.12), an `arguments` that no
--- scope inside the arrow binds (10.2.11), and a `this` (13.2.1) that doesn't reach its list or that `delete` has (13.5.1). The
--- constructor of a class that extends another has its `this` by a call of `super`: where one that could be the first is no statement of the
--- body's own list, a `this` isn't built.
+-- scope inside the arrow binds (10.2.11), and a `this` (13.2.1) that doesn't reach its list or that `delete` has (13.5.1).
 abbrev pub inner_shape : ArrowPlace → Bool → AstType → Label → Fields → Option UnsupportedKind
 inner_shape q refers Super l fs = Some ArrowOuter
 inner_shape q refers MetaProperty l fs = if bytes_eq (first_text l.texts) (codes "new") then Some ArrowOuter else None
 inner_shape q refers Identifier l fs = if refers && bytes_eq (first_text l.texts) (codes "arguments") && not q.own_arguments then Some ArrowOuter else None
-inner_shape q refers ThisExpression l fs = if q.stray_super then Some NotBuilt else if q.reaches then None else Some ArrowThis
+inner_shape q refers ThisExpression l fs = if q.reaches then None else Some ArrowThis
 inner_shape q refers UnaryExpression l fs = if bytes_eq (first_text l.texts) (codes "delete") && is_this_within (child_at 0 fs) then Some ArrowThis else None
 inner_shape q refers _ l fs = None
 
--- of any node, where arrows are to become functions; a getter or a setter that is an arrow stays one (13.2.5)
+-- of any node, where arrows are to become functions; a getter or a setter that is an arrow stays one (13.2.5), and a call of `super` comes before the name
+-- that it would set
 abbrev pub arrow_shape : EnvOptions → ArrowPlace → Bool → AstType → Label → Fields → Option UnsupportedKind
 arrow_shape o q refers k l fs =
     if not (is_some o.es2015.arrow_function) then None
     else if is_arrow_accessor k l fs then Some ArrowOuter
+    else if q.early_super && calls_super_here k fs then Some ArrowThis
     else if q.in_arrow then inner_shape q refers k l fs
     else None

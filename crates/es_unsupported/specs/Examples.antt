@@ -6,23 +6,23 @@ use Rattle.es_tree.specs.Tree.{Tree, node, done, ◌then◌, missing, one, many,
 use Rattle.es_tree.specs.Words.{Text}
 use Rattle.es_tree.specs.declared.ast_type.AstType.TheVariants.{ArrayPattern, ArrayTarget, ArrowFunctionExpression, AssignmentExpression, AssignmentPattern, ClassDeclaration, EmptyStatement, ForOfStatement, FunctionDeclaration, FunctionExpression, LogicalExpression, MethodDefinition, ObjectPattern, ObjectTarget, Program, RestElement, Super, TargetRest, UnaryExpression, VariableDeclaration, VariableDeclarator}
 use Rattle.es_tree.specs.declared.error.UnsupportedKind.{UnsupportedKind}
-use Rattle.es_tree.specs.declared.error.UnsupportedKind.TheVariants.{ArrowOuter, ArrowThis, HeadName, HelperName, NotBuilt, RestInArray, RestNested, RestParameter}
+use Rattle.es_tree.specs.declared.error.UnsupportedKind.TheVariants.{ArrowOuter, ArrowThis, HeadName, HelperName, NotBuilt, RestInArray, RestNested, RestParameter, UsingFunction}
 use Rattle.es_tree.specs.declared.options.EnvOptions.{EnvOptions}
 use Rattle.es_tree.specs.declared.options.HelperLoaderMode.TheVariants.{External}
 use Rattle.es_tree.specs.declared.table.Sort.TheVariants.{Program as s-Program}
 use Rattle.es_steps.specs.Nodes.{arrow_node, body_node, call_node, made, member_node, statement_node, this_expression, word}
 use Rattle.es_unsupported.specs.FirstUnsupported.{first_unsupported}
 
--- OPTIONS that ask for arrows, for `??` or for object rests and spreads, and for nothing else
+-- OPTIONS that ask for arrows, for `??`, for object rests and spreads or for `using`, and for nothing else
 
-abbrev pub asking : Bool → Bool → Bool → EnvOptions → EnvOptions
-asking arrows nullish rests o = record o {
+abbrev pub asking : Bool → Bool → Bool → Bool → EnvOptions → EnvOptions
+asking arrows nullish rests resources o = record o {
   es2015 = record { arrow_function = if arrows then Some (record { spec = false }) else None };
   es2016 = record { exponentiation_operator = false };
   es2018 = record { object_rest_spread = if rests then Some (record { loose = false; use_built_ins = false }) else None; async_generator_functions = false };
   es2020 = record o.es2020 { nullish_coalescing_operator = nullish; optional_chaining = false };
   es2021 = record { logical_assignment_operators = false };
-  es2026 = record { explicit_resource_management = false };
+  es2026 = record { explicit_resource_management = resources };
   helper_loader = record o.helper_loader { mode = External };
 }
 
@@ -35,9 +35,13 @@ script ts = renumber 0 (node Program (made (Some (codes "script") ∷ []) []) (m
 abbrev pub method_function : List Tree → List Tree → Tree
 method_function ps ts = node FunctionExpression (made [] []) (missing then many (trees ps) then one (body_node (trees ts)) then done)
 
+-- `function x(ps) { ts }`
+abbrev pub named_function : Text → List Tree → List Tree → Tree
+named_function x ps ts = node FunctionDeclaration (made [] []) (one (word x) then many (trees ps) then one (body_node (trees ts)) then done)
+
 -- `function f(ps) { ts }`
 abbrev pub function_node : List Tree → List Tree → Tree
-function_node ps ts = node FunctionDeclaration (made [] []) (one (word (codes "f")) then many (trees ps) then one (body_node (trees ts)) then done)
+function_node = named_function (codes "f")
 
 abbrev pub super_word : Tree
 super_word = node Super (made [] []) done
@@ -52,10 +56,10 @@ class_with ts =
     let method : Tree = node MethodDefinition (made (Some (codes "method") ∷ []) (false ∷ false ∷ [])) (one (word (codes "m")) then one (method_function [] ts) then done) in
     node ClassDeclaration (made [] []) (one (word (codes "A")) then missing then many (trees (method ∷ [])) then done)
 
--- `class A extends B { constructor() { ts } }`
-abbrev pub derived_with : List Tree → Tree
-derived_with ts =
-    let method : Tree = node MethodDefinition (made (Some (codes "constructor") ∷ []) (false ∷ false ∷ [])) (one (word (codes "constructor")) then one (method_function [] ts) then done) in
+-- `class A extends B { constructor(ps) { ts } }`
+abbrev pub derived_with : List Tree → List Tree → Tree
+derived_with ps ts =
+    let method : Tree = node MethodDefinition (made (Some (codes "constructor") ∷ []) (false ∷ false ∷ [])) (one (word (codes "constructor")) then one (method_function ps ts) then done) in
     node ClassDeclaration (made [] []) (one (word (codes "A")) then one (word (codes "B")) then many (trees (method ∷ [])) then done)
 
 abbrev pub arrow_with : List Tree → Tree → Tree
@@ -78,21 +82,25 @@ rest_pattern x =
     let rest : Tree = node RestElement (made [] []) (one (word x) then done) in
     node ObjectPattern (made [] []) (many (trees (rest ∷ [])) then done)
 
+-- `w p = b;`, where w is `let` or `using`
+abbrev pub declaration : Text → Tree → Tree
+declaration w p =
+    let declarator : Tree = node VariableDeclarator (made [] []) (one p then one (word (codes "b")) then done) in
+    node VariableDeclaration (made (Some w ∷ []) []) (many (trees (declarator ∷ [])) then done)
+
 -- `let { ...x } = b;`
 abbrev pub rest_declaration : Text → Tree
-rest_declaration x =
-    let declarator : Tree = node VariableDeclarator (made [] []) (one (rest_pattern x) then one (word (codes "b")) then done) in
-    node VariableDeclaration (made (Some (codes "let") ∷ []) []) (many (trees (declarator ∷ [])) then done)
+rest_declaration x = declaration (codes "let") (rest_pattern x)
 
 -- `p = b` as a parameter
 abbrev pub with_default : Tree → Tree
 with_default p = node AssignmentPattern (made [] []) (one p then one (word (codes "b")) then done)
 
--- `for (let p of e) ;`
-abbrev pub loop_over : Tree → Tree → Tree
-loop_over p e =
+-- `for (w p of e) ;`
+abbrev pub loop_over : Text → Tree → Tree → Tree
+loop_over w p e =
     let declarator : Tree = node VariableDeclarator (made [] []) (one p then missing then done) in
-    let head : Tree = node VariableDeclaration (made (Some (codes "let") ∷ []) []) (many (trees (declarator ∷ [])) then done) in
+    let head : Tree = node VariableDeclaration (made (Some w ∷ []) []) (many (trees (declarator ∷ [])) then done) in
     node ForOfStatement (made [] []) (one head then one e then one (node EmptyStatement (made [] []) done) then done)
 
 -- `[p]`
@@ -111,10 +119,16 @@ rest_target x =
 
 -- EXAMPLES
 
--- of a program that has form, where options ask for arrows, for `??` or not, and for object rests or not
-pub record Finds (nullish rests : Bool) (ts : List Tree) (found : Option (UnsupportedKind × ℕ)) : Type 0 where
+-- of a program that has form, where options ask for arrows, for `??` or not, for object rests or not, and for `using` or not
+pub record FindsIn (nullish rests resources : Bool) (ts : List Tree) (found : Option (UnsupportedKind × ℕ)) : Type 0 where
   pub formed : has_form s-Program (script ts) ≡ true
-  pub first : (o : EnvOptions) → first_unsupported (asking true nullish rests o) (script ts) ≡ found
+  pub first : (o : EnvOptions) → first_unsupported (asking true nullish rests resources o) (script ts) ≡ found
+
+abbrev pub Finds : Bool → Bool → List Tree → Option (UnsupportedKind × ℕ) → Type 0
+Finds nullish rests = FindsIn nullish rests false
+
+abbrev pub FindsUsing : List Tree → Option (UnsupportedKind × ℕ) → Type 0
+FindsUsing = FindsIn false false true
 
 pub record LawShapeExamples : Type 0 where
   -- `() => this;`
@@ -126,8 +140,11 @@ pub record LawShapeExamples : Type 0 where
   -- `class A { m() { super.x; } }`
   pub in_method : Finds false false (class_with (statement_node (member_node super_word (codes "x")) ∷ []) ∷ []) None
   -- `class A extends B { constructor() { super(); () => this; } }`, and with `f(super());` in place of `super();`
-  pub constructor_this : Finds false false (derived_with (statement_node super_call ∷ statement_node (arrow_node this_expression) ∷ []) ∷ []) None
-  pub stray_super : Finds false false (derived_with (statement_node (call_node (word (codes "f")) (super_call ∷ [])) ∷ statement_node (arrow_node this_expression) ∷ []) ∷ []) (Some (NotBuilt, 15))
+  pub constructor_this : Finds false false (derived_with [] (statement_node super_call ∷ statement_node (arrow_node this_expression) ∷ []) ∷ []) None
+  pub inner_super : Finds false false (derived_with [] (statement_node (call_node (word (codes "f")) (super_call ∷ [])) ∷ statement_node (arrow_node this_expression) ∷ []) ∷ []) None
+  -- `class A extends B { constructor(a = super()) { () => this; } }`, and with `this;` in place of the arrow
+  pub early_super : Finds false false (derived_with (parameter_with super_call ∷ []) (statement_node (arrow_node this_expression) ∷ []) ∷ []) (Some (ArrowThis, 9))
+  pub early_alone : Finds false false (derived_with (parameter_with super_call ∷ []) (statement_node this_expression ∷ []) ∷ []) None
   -- `function f() { () => arguments; }`
   pub outer_arguments : Finds false false (function_node [] (statement_node (arrow_node (word (codes "arguments"))) ∷ []) ∷ []) (Some (ArrowOuter, 6))
   -- `function f() { (arguments) => arguments; }`
@@ -140,8 +157,13 @@ pub record LawShapeExamples : Type 0 where
   pub rest_parameter : Finds false true (function_node (rest_pattern (codes "a") ∷ []) [] ∷ []) (Some (RestParameter, 1))
   -- `function f({ ...a } = b) {}`: the function has it, not the parameter; `for (let { ...a } of a) ;`
   pub rest_default : Finds false true (function_node (with_default (rest_pattern (codes "a")) ∷ []) [] ∷ []) (Some (RestParameter, 1))
-  pub rest_head : Finds false true (loop_over (rest_pattern (codes "a")) (word (codes "a")) ∷ []) (Some (HeadName, 3))
+  pub rest_head : Finds false true (loop_over (codes "let") (rest_pattern (codes "a")) (word (codes "a")) ∷ []) (Some (HeadName, 3))
   -- `function f([{ ...a }]) {}` and `[{ ...a }] = b;`
   pub rest_in_array : Finds false true (function_node (array_pattern (rest_pattern (codes "a")) ∷ []) [] ∷ []) (Some (RestInArray, 3))
   pub rest_nested : Finds false true (statement_node (array_assignment (rest_target (codes "a"))) ∷ []) (Some (RestNested, 3))
   pub bound_helper : Finds false true (rest_declaration (codes "babelHelpers") ∷ []) (Some (HelperName, 1))
+  -- where `using` is lowered, `for (using a of a) ;`
+  pub using_head : FindsUsing (loop_over (codes "using") (word (codes "a")) (word (codes "a")) ∷ []) (Some (HeadName, 1))
+  -- `function f(g) { using a = b; function g() {} }`, and without the parameter
+  pub using_function : FindsUsing (function_node (word (codes "g") ∷ []) (declaration (codes "using") (word (codes "a")) ∷ named_function (codes "g") [] [] ∷ []) ∷ []) (Some (UsingFunction, 1))
+  pub using_declared : FindsUsing (function_node [] (declaration (codes "using") (word (codes "a")) ∷ named_function (codes "g") [] [] ∷ []) ∷ []) (Some (NotBuilt, 4))

@@ -6,3 +6,4 @@ pub mod MarkedWalk
 pub mod Wanted
 pub mod Laws
 pub mod Examples
+pub mod EarlySuper

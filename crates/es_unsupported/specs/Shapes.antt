@@ -7,12 +7,14 @@ use Rattle.es_tree.specs.Tree.{Tree, node, Label, Fields, ◌then◌, Field, one
 use Rattle.es_tree.specs.declared.ast_type.AstType.{AstType}
 use Rattle.es_tree.specs.declared.ast_type.AstType.TheVariants.{ArrayPattern, ArrayTarget, ArrowFunctionExpression, AssignmentPattern, ChainExpression, FunctionDeclaration, FunctionExpression, RestElement, TaggedTemplateExpression, TargetProperty, TargetRest, TargetWithDefault, VariableDeclarator}
 use Rattle.es_tree.specs.declared.error.UnsupportedKind.{UnsupportedKind}
-use Rattle.es_tree.specs.declared.error.UnsupportedKind.TheVariants.{HeadName, HelperName, MathBound, NotBuilt, RestInArray, RestNested, RestParameter, SpreadLiteral, TagChain}
+use Rattle.es_tree.specs.declared.error.UnsupportedKind.TheVariants.{HeadName, HelperName, MathBound, NotBuilt, RestInArray, RestNested, RestParameter, SpreadLiteral, TagChain, UsingFunction}
 use Rattle.es_tree.specs.declared.ids.NodeId.{NodeId}
 use Rattle.es_tree.specs.declared.options.EnvOptions.{EnvOptions}
 use Rattle.es_semantic.specs.SymbolsOf.{Declared, find}
 use Rattle.es_rest_shapes.specs.HelperNames.{binds_helpers}
 use Rattle.es_rest_shapes.specs.RestShapes.{any_child, is_plain_pattern, is_rest_declaration, is_stray_rest}
+use Rattle.es_using_heads.specs.Heads.{asks_its_name}
+use Rattle.es_using_nodes.specs.Clashes.{clashes}
 use Rattle.es_unsupported.specs.SpreadLiterals.{is_uncopied}
 
 -- THE SHAPES, each told by the options, the symbols of the program, the scopes around a node, the innermost first, and the node
@@ -111,6 +113,14 @@ has_chain_tag _ l fs = false
 abbrev pub is_tag_chain : EnvOptions → List Declared → List ℕ → AstType → Label → Fields → Bool
 is_tag_chain o ds up k l fs = o.es2020.optional_chaining && has_chain_tag k l fs
 
+-- `using` in the head of a loop whose right side asks its name, before it is set (14.7.5)
+abbrev pub is_head_name : EnvOptions → List Declared → List ℕ → AstType → Label → Fields → Bool
+is_head_name o ds up k l fs = o.es2026.explicit_resource_management && asks_its_name k l fs
+
+-- and in a body whose functions at the top can't become those of a block (14.2.1)
+abbrev pub is_using_function : EnvOptions → List Declared → List ℕ → AstType → Label → Fields → Bool
+is_using_function o ds up k l fs = o.es2026.explicit_resource_management && clashes k fs
+
 -- THE TABLE
 
 pub record Row : Type 0 where
@@ -124,7 +134,8 @@ always shape k fs = shape
 abbrev pub rows : List Row
 rows =
     record { shape = stray_shape; holds = is_unbuilt } ∷ record { shape = always MathBound; holds = is_math_bound } ∷ record { shape = always HelperName; holds = is_helper_bound } ∷
-    record { shape = always SpreadLiteral; holds = is_spread_literal } ∷ record { shape = always TagChain; holds = is_tag_chain } ∷ []
+    record { shape = always SpreadLiteral; holds = is_spread_literal } ∷ record { shape = always TagChain; holds = is_tag_chain } ∷ record { shape = always HeadName; holds = is_head_name } ∷
+    record { shape = always UsingFunction; holds = is_using_function } ∷ []
 
 -- the shape of the first of these rows that holds
 abbrev pub first_row : List Row → EnvOptions → List Declared → List ℕ → AstType → Label → Fields → Option UnsupportedKind

@@ -10,15 +10,15 @@ ghost use Rattle.es_steps.specs.ThisPlaces.{keeps_this};
 ghost use Rattle.es_arrow_steps.specs.ThisFits.{reaches_in};
 ghost use Rattle.es_valid_arrows.specs.ArrowPlaces.{is_wrapped_slot, parameter_in};
 ghost use Rattle.es_super_calls.specs.Constructors.{is_constructor};
-ghost use Rattle.es_super_calls.specs.SuperCalls.{has_stray_super};
 ghost use Rattle.es_unsupported.specs.ArrowShapes.{arrow_place_in, outside};
+ghost use Rattle.es_unsupported.specs.EarlySuper.{has_arrow_this};
 
+use crate::early_super::has_arrow_this;
 use crate::edges::{
     is_arrow, is_field_value, keeps_this, leads_to_parameter, leads_to_part, leads_to_value,
 };
 use crate::scopes::is_inside_at;
 use es_slots::wrapped::field_holds;
-use es_super_calls::calls::has_stray_super;
 use es_super_calls::standing::ClassStanding;
 use es_tree::kind::Kind;
 use es_tree::node::{Field, Node};
@@ -35,9 +35,8 @@ pub struct ArrowPlace {
     pub reaches: bool,
     /// What it is to the constructors of classes that extend others.
     pub standing: ClassStanding,
-    /// A `this` there is that of the body of such a constructor, whose first call of `super` may be no statement of the
-    /// body's own list.
-    pub stray_super: bool,
+    /// It is a parameter of such a constructor, or stands in one, and a `this` of its body belongs to an arrow.
+    pub early_super: bool,
     /// A scope inside the innermost arrow binds `arguments`.
     pub own_arguments: bool,
 }
@@ -52,7 +51,7 @@ impl ArrowPlace {
             parameter: false,
             reaches: true,
             standing: ClassStanding::Elsewhere,
-            stray_super: false,
+            early_super: false,
             own_arguments: false,
         }
     }
@@ -78,7 +77,7 @@ impl ArrowPlace {
             parameter: self.parameter_in(node, index),
             reaches: self.reaches_in(node, index),
             standing: self.standing.inside(node, index),
-            stray_super: self.stray_super_in(node, index),
+            early_super: self.early_super_in(node, index),
             own_arguments: self.own_arguments_in(node, index, wrapped, binds),
         }
     }
@@ -90,15 +89,16 @@ impl ArrowPlace {
         wrapped || (!keeps_this(node, index) && (is_arrow(node) || self.in_arrow))
     }
 
-    fn stray_super_in(self, node: &Node, index: usize) -> bool
-        ensures { result ≡ (if keeps_this (ancestor (kind_of node.now) (label_of node.now) done index 0) then is_constructor self.standing && index == 2 && has_stray_super (fields_of node.now) else self.stray_super) }
+    /// Whether a call of `super` in this field comes before the name that it would set.
+    fn early_super_in(self, node: &Node, index: usize) -> bool
+        ensures { result ≡ (if keeps_this (ancestor (kind_of node.now) (label_of node.now) done index 0) then is_constructor self.standing && index == 1 && has_arrow_this (fields_of node.now) else self.early_super) }
     {
         if keeps_this(node, index) {
             matches!(self.standing, ClassStanding::Constructor)
-                && index == 2
-                && has_stray_super(node)
+                && index == 1
+                && has_arrow_this(node)
         } else {
-            self.stray_super
+            self.early_super
         }
     }
 

@@ -1,12 +1,11 @@
 //! What stands in the way where arrows become functions (ECMA-262, 15.3), told at a node and what is known of its place.
-ghost use Rattle.std.specs.Prelude.{◌≡◌, None, Some, bytes_eq, codes, is_some, if◌then◌else◌};
+ghost use Rattle.std.specs.Prelude.{◌≡◌, bytes_eq, codes, is_some};
 ghost use Rattle.es_tree.specs.Children.{child_at};
 ghost use Rattle.es_tree.specs.HasForm.{same_type};
 ghost use Rattle.es_tree.specs.StaticRules.{is_accessor_word};
 ghost use Rattle.es_tree.specs.Tree.{fields_of, kind_of, label_of};
 ghost use Rattle.es_tree.specs.Words.{property_kind_text, unary_operator_text};
 ghost use Rattle.es_tree.specs.declared.ast_type.AstType.TheVariants.{ArrowFunctionExpression, ThisExpression};
-ghost use Rattle.es_tree.specs.declared.error.UnsupportedKind.TheVariants.{ArrowThis, NotBuilt};
 ghost use Rattle.es_tree.specs.declared.options.EnvOptions.{EnvOptions as PlainOptions};
 ghost use Rattle.es_valid_steps.specs.ArrowNodes.{is_arrow_accessor, is_kind_within, is_this_within};
 ghost use Rattle.es_unsupported.specs.ArrowShapes.{arrow_shape, inner_shape};
@@ -14,6 +13,7 @@ ghost use Rattle.es_unsupported.specs.MarkedWalk.{refers_by_mark};
 
 use crate::arrow_places::ArrowPlace;
 use crate::edges::is_arrow;
+use es_super_calls::calls::is_super_call;
 use es_tree::error::UnsupportedKind;
 use es_tree::kind::Kind;
 use es_tree::node::Node;
@@ -29,6 +29,9 @@ pub(crate) fn arrow_shape(node: &Node, place: ArrowPlace, arrows: bool) -> Optio
     }
     if is_arrow_accessor(node) {
         return Some(UnsupportedKind::ArrowOuter);
+    }
+    if place.early_super && is_super_call(node) {
+        return Some(UnsupportedKind::ArrowThis);
     }
     if place.in_arrow {
         inner_shape(node, place)
@@ -53,24 +56,11 @@ fn inner_shape(node: &Node, place: ArrowPlace) -> Option<UnsupportedKind>
         } if reference.is_some() && name.as_str() == "arguments" && !place.own_arguments => {
             Some(UnsupportedKind::ArrowOuter)
         }
-        Kind::ThisExpression => this_shape(place),
+        Kind::ThisExpression if !place.reaches => Some(UnsupportedKind::ArrowThis),
         Kind::UnaryExpression { operator } if is_delete(*operator) && is_this_within(node) => {
             Some(UnsupportedKind::ArrowThis)
         }
         _ => None,
-    }
-}
-
-/// What a `this` has that belongs to an arrow.
-fn this_shape(place: ArrowPlace) -> Option<UnsupportedKind>
-    ensures { result ≡ (if place.stray_super then Some NotBuilt else if place.reaches then None else Some ArrowThis) }
-{
-    if place.stray_super {
-        Some(UnsupportedKind::NotBuilt)
-    } else if place.reaches {
-        None
-    } else {
-        Some(UnsupportedKind::ArrowThis)
     }
 }
 

@@ -3,6 +3,7 @@
 
 pub mod arrow_places;
 mod arrow_shapes;
+mod early_super;
 mod edges;
 pub mod finding;
 pub mod laws;

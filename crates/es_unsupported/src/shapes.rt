@@ -12,7 +12,7 @@ ghost use Rattle.es_semantic.specs.Walks.{Binds};
 ghost use Rattle.es_rest_shapes.specs.HelperNames.{binds_name};
 ghost use Rattle.es_unsupported.specs.ArrowShapes.{arrow_shape};
 ghost use Rattle.es_unsupported.specs.MarkedWalk.{FindsFrom, refers_by_mark};
-ghost use Rattle.es_unsupported.specs.Shapes.{finds_helper, has_chain_tag, is_chain_below, is_chain_kind, is_helper_bound, is_math_bound, is_spread_literal, is_tag_chain, is_unbuilt, meets_helpers, shape_at};
+ghost use Rattle.es_unsupported.specs.Shapes.{finds_helper, has_chain_tag, is_chain_below, is_chain_kind, is_head_name, is_helper_bound, is_math_bound, is_spread_literal, is_tag_chain, is_unbuilt, is_using_function, meets_helpers, shape_at};
 ghost use Rattle.es_unsupported.specs.Wanted.{IsWanted};
 
 use crate::arrow_places::ArrowPlace;
@@ -30,6 +30,8 @@ use es_tree::kind::Kind;
 use es_tree::node::{Field, Node};
 use es_tree::options::EnvOptions;
 use es_tree::parens::strip_parens;
+use es_using_nodes::bodies::clashes;
+use es_using_nodes::heads::asks_its_name;
 
 /// The shapes that a run doesn't take and the program may have.
 #[derive(Clone, Copy)]
@@ -127,6 +129,12 @@ fn shape_at(
     if is_tag_chain(node, wanted) {
         return Some(UnsupportedKind::TagChain);
     }
+    if is_head_name(node, wanted) {
+        return Some(UnsupportedKind::HeadName);
+    }
+    if is_using_function(node, wanted) {
+        return Some(UnsupportedKind::UsingFunction);
+    }
     None
 }
 
@@ -189,6 +197,20 @@ fn is_tag_chain(node: &Node, wanted: Wanted) -> bool
     ensures { (o : PlainOptions) (ds : List Declared) (up : List ℕ) → IsWanted wanted o ds → result ≡ is_tag_chain o ds up (kind_of node.now) (label_of node.now) (fields_of node.now) }
 {
     wanted.tag_chain && has_chain_tag(node)
+}
+
+/// Whether the node is a loop whose head declares a name by `using` that the right side asks.
+fn is_head_name(node: &Node, wanted: Wanted) -> bool
+    ensures { (o : PlainOptions) (ds : List Declared) (up : List ℕ) → IsWanted wanted o ds → result ≡ is_head_name o ds up (kind_of node.now) (label_of node.now) (fields_of node.now) }
+{
+    wanted.using_declaration && asks_its_name(node)
+}
+
+/// Whether the node is a function whose body declares directly by `using`, and whose functions at the top can't become those of a block.
+fn is_using_function(node: &Node, wanted: Wanted) -> bool
+    ensures { (o : PlainOptions) (ds : List Declared) (up : List ℕ) → IsWanted wanted o ds → result ≡ is_using_function o ds up (kind_of node.now) (label_of node.now) (fields_of node.now) }
+{
+    wanted.using_declaration && clashes(node)
 }
 
 /// Whether the name finds a binding from this scope outwards.

@@ -26,6 +26,9 @@ use Rattle.es_unsupported.specs.FirstUnsupported.{first_of, first_unsupported}
 use Rattle.es_unsupported.specs.Shapes.{has_chain_tag, is_unbuilt_node, shape_at}
 use Rattle.es_unsupported.specs.SpreadLiterals.{has_uncopied}
 use Rattle.es_unsupported.proofs.QuietStrays.{holds_stray-none}
+use Rattle.es_unsupported.proofs.QuietUsing.{asks-none, clashes-none}
+use Rattle.es_using_heads.specs.Heads.{asks_its_name}
+use Rattle.es_using_nodes.specs.Clashes.{clashes}
 use Rattle.lower_driver.specs.UnsupportedPrograms.{Finds}
 use Rattle.lower_driver.specs.Uses.{names_helpers}
 use Rattle.lower_driver.proofs.Imported.{core-unimporting, none-refused}
@@ -108,6 +111,14 @@ no_rest_inside = fewer-in-fields is_object_rest is_asked no_rest
 no_helper : (by_name spread bound declared binds : Bool) → spread ≡ false → declared ≡ false → (by_name && ((spread && bound) || (declared && binds))) ≡ false
 no_helper by_name spread bound declared binds h g = rw (h, g) (off by_name)
 
+-- nor a declaration with `using`
+no_using_inside : (fs : Fields) → any_in_fields is_asked fs ≡ false → any_in_fields is_using fs ≡ false
+no_using_inside = fewer-in-fields is_using is_asked no_using
+
+last_off : (a b : Bool) → b ≡ false → (a && b) ≡ false
+last_off true b h = h
+last_off false b h = refl
+
 module _ (o : EnvOptions) where
   built : (k : AstType) (l : Label) (fs : Fields) → is_asked k l fs ≡ false → any_in_fields is_object_rest fs ≡ false → is_unbuilt_node o k l fs ≡ false
   built k l fs h none = rw (holds_stray-none k l fs none, no_using k l fs h) (both_off (is_some o.es2018.object_rest_spread) o.es2026.explicit_resource_management)
@@ -116,12 +127,15 @@ module _ (o : EnvOptions) where
   no_shape up k l fs g =
       let h : is_asked k l fs ≡ false = or_first (is_asked k l fs) (any_in_fields is_asked fs) g in
       let none = no_rest_inside fs (or_second (is_asked k l fs) (any_in_fields is_asked fs) g) in
+      let used = no_using_inside fs (or_second (is_asked k l fs) (any_in_fields is_asked fs) g) in
       rw (
         built k l fs h none,
         unbound o.es2016.exponentiation_operator (is_exponentiation k l fs) (is_some (find [] up (codes "Math"))) (ap is_some (found_nowhere up (codes "Math"))),
         no_helper (is_some o.es2018.object_rest_spread) (is_object_spread k l fs) (is_some (find [] up (codes "babelHelpers"))) (is_rest_declaration k l fs) (binds_helpers []) (no_literal k l fs h) (declaration-rest k l fs none),
         ap (λ b. is_some o.es2018.object_rest_spread && (b && has_uncopied (field_at 0 fs))) (no_literal k l fs h) ∙ off (is_some o.es2018.object_rest_spread),
         ap (λ b. o.es2020.optional_chaining && b) (no_tag k l fs h) ∙ off o.es2020.optional_chaining,
+        last_off o.es2026.explicit_resource_management (asks_its_name k l fs) (asks-none k l fs used),
+        last_off o.es2026.explicit_resource_management (clashes k fs) (clashes-none k fs used),
       ) refl
 
 -- ANY NUMBER OF STATEMENTS
@@ -149,7 +163,7 @@ generated-taken o n =
     let none = none-of o [] is_asked (no_shape o)
     (λ on k l fs g. let h = or_first (is_asked k l fs) (any_in_fields is_asked fs) g in (no_accessor k l fs h, no_arrow k l fs h))
     (λ k l fs parameter i f h g. no_slot o k l fs parameter i f h)
-    (outermost p) outside 1 p (generated-plain n) (λ on. refl) in
+    (outermost p) outside 1 p (generated-plain n) (λ on. (refl, refl)) in
     ap (λ (ds : List Declared). first_of o ds (outermost p) outside 1 p) (generated-symbols n) ∙ none
 
 -- and no `using` is lowered there, no pattern moves, nor is a helper imported

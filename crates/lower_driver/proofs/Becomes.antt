@@ -104,7 +104,7 @@ mutual
   few-owed-among empty = omega arith
   few-owed-among (t before ts) = omega (arith, few-owed t, few-owed-among ts)
 
-pub owed-room : (p : Tree) (z : Program) (next start : ℕ) → tree_size (plain_program z) ≤ 31 * tree_size p → next ≤ 61 * tree_size p + start → start < 2 ^ 20 → tree_size p < 2 ^ 23 → next + owed rest_owes (plain_program z) < 2 ^ 32 - 1
+pub owed-room : (p : Tree) (z : Program) (next start : ℕ) → tree_size (plain_program z) ≤ 31 * tree_size p → next ≤ 61 * tree_size p + start → start < 2 ^ 20 → tree_size p < 10 * 2 ^ 20 → next + owed rest_owes (plain_program z) < 2 ^ 32 - 1
 owed-room p z next start size given first small = omega (arith, few-owed (plain_program z), size, given, first, small)
 
 -- WHAT A SOURCE BECOMES

@@ -35,5 +35,5 @@ mutual
   few-among empty = omega arith
   few-among (t before ts) = omega (arith, few t, few-among ts)
 
-pub few-scopes : (p : Tree) (s : Scoping) → IsTableOf p s → tree_size p < 2 ^ 23 → scope_count s < 2 ^ 32
+pub few-scopes : (p : Tree) (s : Scoping) → IsTableOf p s → tree_size p < 10 * 2 ^ 20 → scope_count s < 2 ^ 32
 few-scopes p s table small = omega (arith, table.all_scopes, scopes_count (outermost p) 1 p, few p, small)

@@ -17,6 +17,7 @@ pub mod Imported
 pub mod Set
 pub mod Moved
 pub mod NamedHelpers
+pub mod HeadNames
 pub mod Used
 pub mod Stages
 pub mod CoreNodes

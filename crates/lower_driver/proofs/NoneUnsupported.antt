@@ -27,6 +27,9 @@ use Rattle.es_rest_shapes.proofs.NoneLeft.{declaration-rest}
 use Rattle.lower_driver.proofs.EitherTest.{any-where, any-where-in, fewer-in-fields, fewer-in-tree}
 use Rattle.es_unsupported.specs.SpreadLiterals.{has_uncopied}
 use Rattle.es_unsupported.proofs.QuietStrays.{holds_stray-none}
+use Rattle.es_unsupported.proofs.QuietUsing.{asks-none, clashes-none}
+use Rattle.es_using_heads.specs.Heads.{asks_its_name}
+use Rattle.es_using_nodes.specs.Clashes.{clashes}
 use Rattle.lower_driver.proofs.EnabledRows.{none-of-rows}
 use Rattle.lower_driver.proofs.QuietArrows.{none-of}
 
@@ -177,6 +180,10 @@ module _ (o : EnvOptions) where
   own-using-off : (k : AstType) (l : Label) (fs : Fields) → is_enabled_construct o k l fs ≡ false → (o.es2026.explicit_resource_management && is_using k l fs) ≡ false
   own-using-off k l fs h = (none-of-rows o k l fs h).using
 
+  usings-in : (fs : Fields) → any_in_fields (is_enabled_construct o) fs ≡ false → (o.es2026.explicit_resource_management && any_in_fields is_using fs) ≡ false
+  usings-in fs h =
+      sym (any-where-in o.es2026.explicit_resource_management is_using fs) ∙ fewer-in-fields (λ k l gs. o.es2026.explicit_resource_management && is_using k l gs) (is_enabled_construct o) own-using-off fs h
+
   pub using-none : (t : Tree) → any_node (is_enabled_construct o) t ≡ false → (o.es2026.explicit_resource_management && any_node is_using t) ≡ false
   using-none t h = sym (any-where o.es2026.explicit_resource_management is_using t) ∙ fewer-in-tree (λ k l gs. o.es2026.explicit_resource_management && is_using k l gs) (is_enabled_construct o) own-using-off t h
 
@@ -187,6 +194,8 @@ module _ (o : EnvOptions) where
         let tag = no-tag k l fs (or_second (is_enabled_construct o k l fs) (any_in_fields (is_enabled_construct o) fs) h) in
         let copies = is_some o.es2018.object_rest_spread in
         let inside = rests-in fs (or_second (is_enabled_construct o k l fs) (any_in_fields (is_enabled_construct o) fs) h) in
+        let disposes = o.es2026.explicit_resource_management in
+        let used = usings-in fs (or_second (is_enabled_construct o k l fs) (any_in_fields (is_enabled_construct o) fs) h) in
         let declared = quiet-where copies (any_in_fields is_object_rest fs) (is_rest_declaration k l fs) inside (declaration-rest k l fs) in
         let built : is_unbuilt_node o k l fs ≡ false = rw (quiet-where copies (any_in_fields is_object_rest fs) (holds_stray k l fs) inside (holds_stray-none k l fs), own.using) refl in
         rw (
@@ -195,6 +204,8 @@ module _ (o : EnvOptions) where
           neither-bound copies (is_object_spread k l fs) (is_some (find ds up (codes "babelHelpers"))) (is_rest_declaration k l fs) (binds_helpers ds) own.spread declared,
           in-both copies (is_object_spread k l fs) (has_uncopied (field_at 0 fs)) own.spread,
           tag,
+          quiet-where disposes (any_in_fields is_using fs) (asks_its_name k l fs) used (asks-none k l fs),
+          quiet-where disposes (any_in_fields is_using fs) (clashes k fs) used (clashes-none k fs),
         ) refl
 
 pub none-unsupported : (o : EnvOptions) (p : Tree) → has_enabled_construct o p ≡ false → first_unsupported o p ≡ None
@@ -203,4 +214,4 @@ none-unsupported o p h =
     none-of o (symbols_of p) test (no-shape o (symbols_of p))
     (λ on k l fs g. (no-accessor o on k l fs (or_second (test k l fs) (any_in_fields test fs) g), no-arrow o on k l fs (or_first (test k l fs) (any_in_fields test fs) g)))
     (λ k l fs parameter i f g none. last-off _ (holds_field (is_wrapped_for o) f) (holds-none-by o f none))
-    (outermost p) outside 1 p h (λ on. refl)
+    (outermost p) outside 1 p h (λ on. (refl, refl))

@@ -32,11 +32,11 @@ module _ (on : Bool) (made : List Text) (imported written : Tree) (sets : Sets o
       at true e = ap (has_enabled_construct o) (sets.goes e) ∙ law_set_none_proof o (is_among made) imported none
       at false e = ap (has_enabled_construct o) (sets.stays e) ∙ none
 
-  pub set-size : (n : ℕ) → tree_size imported ≤ n → tree_size written ≤ (if on then 2 else 1) * n
+  pub set-size : (n : ℕ) → tree_size imported ≤ n → tree_size written ≤ (if on then 3 else 1) * n
   set-size n h = at on refl
     where
-      at : (b : Bool) → on ≡ b → tree_size written ≤ (if b then 2 else 1) * n
-      at true e = let twice = law_set_size_proof (is_among made) Elsewhere imported in rw (sets.goes e) (omega (arith, twice, h))
+      at : (b : Bool) → on ≡ b → tree_size written ≤ (if b then 3 else 1) * n
+      at true e = let size = law_set_size_proof (is_among made) Elsewhere imported in rw (sets.goes e) (omega (arith, size, h))
       at false e = rw (sets.stays e) (omega (arith, h))
 
 -- of a program of which no name was made

@@ -17,15 +17,15 @@ use Rattle.es_unsupported.specs.Shapes.{has_chain_tag, is_helper_bound, is_math_
 use Rattle.es_statement_steps.specs.Laws.{TagsAreNoChains, no_chain_tag}
 use Rattle.es_unsupported.specs.declared.arrow_places.ArrowPlace.{ArrowPlace}
 
--- the last row doesn't hold where none does
-last-row : (x : UnsupportedKind) (z a b c d : Bool) →
-    ◌≡◌ {A = Option UnsupportedKind} (if z then Some x else if a then Some MathBound else if b then Some HelperName else if c then Some SpreadLiteral else if d then Some TagChain else None) None → d ≡ false
-last-row x true a b c d h = absurd (cc h)
-last-row x false true b c d h = absurd (cc h)
-last-row x false false true c d h = absurd (cc h)
-last-row x false false false true d h = absurd (cc h)
-last-row x false false false false true h = absurd (cc h)
-last-row x false false false false false h = refl
+-- no row of these holds where none does
+tag-row : (x : UnsupportedKind) (z a b c d : Bool) (s : Option UnsupportedKind) →
+    ◌≡◌ {A = Option UnsupportedKind} (if z then Some x else if a then Some MathBound else if b then Some HelperName else if c then Some SpreadLiteral else if d then Some TagChain else s) None → d ≡ false
+tag-row x true a b c d s h = absurd (cc h)
+tag-row x false true b c d s h = absurd (cc h)
+tag-row x false false true c d s h = absurd (cc h)
+tag-row x false false false true d s h = absurd (cc h)
+tag-row x false false false false true s h = absurd (cc h)
+tag-row x false false false false false s h = refl
 
 not-both : (a b : Bool) → a ≡ true → (a && b) ≡ false → not b ≡ true
 not-both true true e h = absurd (cc h)
@@ -48,7 +48,7 @@ module _ (o : EnvOptions) (lowered : o.es2020.optional_chaining ≡ true) (ds : 
   no-tag : (up : List ℕ) (k : AstType) (l : Label) (fs : Fields) → shape_at o ds up k l fs ≡ None → no_chain_tag k l fs ≡ true
   no-tag up k l fs h =
       not-both o.es2020.optional_chaining (has_chain_tag k l fs) lowered
-      (last-row (stray_shape k fs) (is_unbuilt o ds up k l fs) (is_math_bound o ds up k l fs) (is_helper_bound o ds up k l fs) (is_spread_literal o ds up k l fs) (is_tag_chain o ds up k l fs) h)
+      (tag-row (stray_shape k fs) (is_unbuilt o ds up k l fs) (is_math_bound o ds up k l fs) (is_helper_bound o ds up k l fs) (is_spread_literal o ds up k l fs) (is_tag_chain o ds up k l fs) _ h)
 
   mutual
     untagged : (p : Place) (q : ArrowPlace) (n : ℕ) (t : Tree) → first_of o ds p q n t ≡ None → all_nodes no_chain_tag t ≡ true

@@ -137,7 +137,7 @@ module _ (p : Tree) (ctx : TraverseCtx TransformState) (new : IsNew p pending_of
   first-heft = rw first.lists (omega arith)
 
   -- there is room for all that can be made
-  pub first-room : (x : Program) → bare (plain_program x) ≡ bare p → ctx.ast.next < 2 ^ 20 → tree_size p < 2 ^ 23 → HasRoom (moment_of ctx) (load (plain_program x))
+  pub first-room : (x : Program) → bare (plain_program x) ≡ bare p → ctx.ast.next < 2 ^ 20 → tree_size p < 10 * 2 ^ 20 → HasRoom (moment_of ctx) (load (plain_program x))
   first-room x same next small =
       let h = first-heft in
       let w = load-size (plain_program x) in

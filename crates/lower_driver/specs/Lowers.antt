@@ -19,7 +19,7 @@ use Rattle.es_statement_steps.specs.Laws.{RunsAsStatements, assumes_no_all, supp
 use Rattle.lower_driver.specs.Imports.{Imports}
 use Rattle.lower_driver.specs.Moves.{Moves}
 use Rattle.lower_driver.specs.Sets.{Sets, sets_this}
-use Rattle.lower_driver.specs.Uses.{Uses, lowers_using, names_helpers, using_there}
+use Rattle.lower_driver.specs.Uses.{Heads, Uses, lowers_using, names_helpers, using_there}
 
 -- a source as it is written, with no name made
 pub record IsAsBefore (source written : Tree) (names : List Text) : Type 0 where
@@ -47,21 +47,26 @@ pub record LowersInPlace (o : EnvOptions) (source written : Tree) (names : List 
   -- walk that takes rests is the last of three.
   pub size : tree_size written ≤ (if rests_there o source then 384 else 64) * tree_size source + 64
 
--- The most nodes that are written for one of the source's, where `using` stands that is asked for, and where an object rest does: lowering `using`
--- and moving patterns make at most eight of one, and moving patterns alone three and a half.
+-- The most nodes that are written for one of the source's, where `using` stands that is asked for, and where an object rest does: moving `using` out of
+-- heads, lowering it and moving patterns make at most ten of one, and moving patterns alone three and a half.
 abbrev pub most_for_each : Bool → Bool → ℕ
-most_for_each true rests = 3072
+most_for_each true rests = 3840
 most_for_each false true = 1344
 most_for_each false false = 64
 
 -- What a source of any kind becomes under these options: this program, with these fresh names.
 pub record Lowers (o : EnvOptions) (source written : Tree) (names : List Text) : Type 0 where
-  -- First `using` is lowered, by steps of its rules: in what the source becomes each name keeps its binding, it has form, keeps all static
-  -- rules, asks for the same modules and exports the same names.
+  -- First `using` moves out of heads of loops, by steps of its rules: in what the source becomes each name keeps its binding, it has form, keeps all
+  -- static rules, asks for the same modules and exports the same names.
+  pub headed : Tree
+  pub head_names : List Text
+  pub heads : Heads (lowers_using o source) source headed head_names
+  pub is_headed : IsUsed (lowers_using o source) source headed head_names
+  -- Then `using` is lowered, by steps of its rules, of which the same holds.
   pub used : Tree
   pub context_names : List Text
-  pub uses : Uses (lowers_using o source) source used context_names
-  pub is_used : IsUsed (lowers_using o source) source used context_names
+  pub uses : Uses (lowers_using o source) headed used context_names
+  pub is_used : IsUsed (lowers_using o source) headed used context_names
   -- Then patterns with a rest move to declarations of their own, by steps of the rows that do so, of which the same holds.
   pub moved : Tree
   pub first_names : List Text
@@ -81,7 +86,7 @@ pub record Lowers (o : EnvOptions) (source written : Tree) (names : List Text) :
   -- keeps its binding, what is written has form, keeps all static rules, asks for the same modules and exports the same names.
   pub sets : Sets (sets_this o source) later_names imported written
   pub is_set : IsSet (sets_this o source) imported written
-  pub all_names : names ≡ context_names ++ first_names ++ later_names ++ last_names
+  pub all_names : names ≡ head_names ++ context_names ++ first_names ++ later_names ++ last_names
   -- no construct is left that the options ask to lower
   pub none : has_enabled_construct o written ≡ false
   -- In a core program no `using` stands, no pattern moves, no helper is imported and no constructor stands, nor in one of statements where neither
@@ -90,5 +95,5 @@ pub record Lowers (o : EnvOptions) (source written : Tree) (names : List Text) :
   pub statements : using_there o source ≡ false → rests_there o source ≡ false → imports_helpers o (not (names_helpers source)) source ≡ false → RunsAsStatements o source → RunAlike (supply_there o source) (assumes_no_all o source) source written
   -- where the options ask for no construct of the source, nothing is changed
   pub unchanged : has_enabled_construct o source ≡ false → IsAsBefore source written names
-  -- the nodes of the source and of what is written, with those of the imports: where a name is set behind `super(..)`, twice as many
-  pub size : tree_size written ≤ (if sets_this o source then 2 else 1) * (most_for_each (using_there o source) (rests_there o source) * tree_size source + (if imports_helpers o (not (names_helpers source)) moved then 82 else 64))
+  -- the nodes of the source and of what is written, with those of the imports: where a name is set behind `super(..)`, three times as many
+  pub size : tree_size written ≤ (if sets_this o source then 3 else 1) * (most_for_each (using_there o source) (rests_there o source) * tree_size source + (if imports_helpers o (not (names_helpers source)) moved then 82 else 64))

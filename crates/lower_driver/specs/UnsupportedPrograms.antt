@@ -13,7 +13,7 @@ use Rattle.es_tree.specs.declared.options.EnvOptions.{EnvOptions}
 use Rattle.es_helper_calls.specs.Importing.{first_unimported}
 use Rattle.es_unsupported.specs.FirstUnsupported.{first_unsupported}
 use Rattle.lower_driver.specs.Moves.{Moves}
-use Rattle.lower_driver.specs.Uses.{Uses, lowers_using, names_helpers}
+use Rattle.lower_driver.specs.Uses.{Heads, Uses, lowers_using, names_helpers}
 
 -- of a program in which no pattern moves any more, where the source names no `babelHelpers` itself, or does
 abbrev pub first_refused : EnvOptions → Bool → Tree → Option (UnsupportedKind × ℕ)
@@ -21,9 +21,12 @@ first_refused o free p = option_or (first_unsupported o p) (first_unimported o f
 
 -- What is found in a source under these options, once its `using` was lowered and its patterns moved: such a shape and the id of its node, or none.
 pub record Finds (o : EnvOptions) (source : Tree) (found : Option (UnsupportedKind × ℕ)) : Type 0 where
+  pub headed : Tree
+  pub head_names : List Text
+  pub heads : Heads (lowers_using o source) source headed head_names
   pub used : Tree
   pub context_names : List Text
-  pub uses : Uses (lowers_using o source) source used context_names
+  pub uses : Uses (lowers_using o source) headed used context_names
   pub moved : Tree
   pub names : List Text
   pub moves : Moves (is_some o.es2018.object_rest_spread) used moved names

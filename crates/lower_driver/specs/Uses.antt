@@ -1,4 +1,4 @@
--- What a source becomes first of all: `using` is lowered, where that is asked for.
+-- What a source becomes first of all: `using` moves out of heads of loops, and is lowered, where that is asked for.
 use Rattle.std.specs.Prelude.{◌≡◌, ◌&&◌, not, Bool, List, [], bytes_eq, codes, false, true}
 use Rattle.es_tree.specs.Constructs.{is_using}
 use Rattle.es_tree.specs.Tree.{Tree}
@@ -7,21 +7,27 @@ use Rattle.es_tree.specs.Words.{Text}
 use Rattle.es_tree.specs.declared.options.EnvOptions.{EnvOptions}
 use Rattle.es_steps.specs.CoreBridge.{first_whole}
 use Rattle.es_pattern_moves.specs.PatternMoves.{stands}
+use Rattle.es_using_heads.specs.Heads.{HeadsTo}
 use Rattle.es_using_rows.specs.Used.{UsesTo}
 
 -- whether a name `babelHelpers` stands in a program
 abbrev pub names_helpers : Tree → Bool
 names_helpers p = stands (λ x. bytes_eq x (codes "babelHelpers")) p
 
--- Whether it is lowered: `babelHelpers`, of which the helper is a property, is no name of the program itself.
-abbrev pub lowers_using : EnvOptions → Tree → Bool
-lowers_using o p = o.es2026.explicit_resource_management && not (names_helpers p)
-
 -- whether a `using` stands that is asked for
 abbrev pub using_there : EnvOptions → Tree → Bool
 using_there o p = o.es2026.explicit_resource_management && any_node is_using p
 
--- Where it is, the program has its `using` lowered, with contexts of these fresh names; else it stays as it is. There is one such program.
-pub record Uses (on : Bool) (source used : Tree) (names : List Text) : Type 0 where
-  pub goes : on ≡ true → UsesTo (first_whole source).in_use source used names
-  pub stays : on ≡ false → (used ≡ source) × (names ≡ [])
+-- Whether it is lowered: `babelHelpers`, of which the helper is a property, is no name of the program itself.
+abbrev pub lowers_using : EnvOptions → Tree → Bool
+lowers_using o p = using_there o p && not (names_helpers p)
+
+-- Where it is, it moves out of heads of loops first, for these fresh names; else the program stays as it is. There is one such program.
+pub record Heads (on : Bool) (source headed : Tree) (names : List Text) : Type 0 where
+  pub goes : on ≡ true → HeadsTo (first_whole source).in_use source headed names
+  pub stays : on ≡ false → (headed ≡ source) × (names ≡ [])
+
+-- And then it is lowered, with contexts of these fresh names.
+pub record Uses (on : Bool) (headed used : Tree) (names : List Text) : Type 0 where
+  pub goes : on ≡ true → UsesTo (first_whole headed).in_use headed used names
+  pub stays : on ≡ false → (used ≡ headed) × (names ≡ [])

@@ -1,7 +1,7 @@
-//! One run: a program is read and checked, its `using` is lowered, patterns with an object rest move to declarations, it is
+//! One run: a program is read and checked, its `using` moves out of heads of loops and is lowered, patterns with an object rest move to declarations, it is
 //! visited once by the lowerings that its options ask for, walked for its arrows and for its object rests, its helpers are
 //! imported, its constructors set their name for `this`, and it is written.
-ghost use Rattle.std.specs.Prelude.{◌≡◌, ◌<◌, ◌∷◌, ◌^◌, [], IfErr, IfOk, None, false, map, string_bytes, true};
+ghost use Rattle.std.specs.Prelude.{◌≡◌, ◌<◌, ◌∷◌, ◌*◌, ◌^◌, [], IfErr, IfOk, None, false, map, string_bytes, true};
 ghost use Rattle.serde_json.specs.View.{view};
 ghost use Rattle.es_tree.specs.Constructs.{has_enabled_construct};
 ghost use Rattle.es_tree.specs.Fresh.{is_among};
@@ -27,7 +27,7 @@ use crate::copies::copy_options;
 use crate::importing::import_helpers;
 use crate::moving::move_patterns;
 use crate::reading::{read_bytes, read_source};
-use crate::resources::{lower_using, names_no_helpers};
+use crate::resources::{asks_for_using, lower_using, move_heads, names_no_helpers};
 use crate::visiting::{take_rests, visit, walk};
 use es_json::program::ReadProgram;
 use es_json::writer::write_program;
@@ -72,7 +72,7 @@ pub struct Lowered {
 
 /// Lowers the program that the value is the form of, as the options ask: its logical assignments, `??`, optional chains,
 /// catch clauses without a parameter, exports of namespaces, spreads in object literals, object rests in declarations,
-/// parameters, catch clauses and heads of loops, `using` in bodies, blocks, `switch` and the heads of `for`,
+/// parameters, catch clauses and heads of loops, `using` in bodies, blocks, `switch` and the heads of `for` and `for-of`,
 /// exponentiations and arrow functions, in programs of every kind. A program in which no construct stands that they ask
 /// to lower comes back as it is. Where they ask for warnings, of BigInt literals (ECMA-262, 12.9.3) or of strings that
 /// name imports and exports (16.2), it answers one for each of these in the source.
@@ -83,12 +83,12 @@ pub struct Lowered {
 /// what is made has the id of the node that it is made for:
 ///
 /// - `NotBuilt`, a construct that no lowering takes away yet: a declaration by `using` where none is lowered (at the top
-///   of a module, directly in a static block or in a body with a function at its top, in the head of a `for-of`, and in
-///   a program that names `babelHelpers`), what else holds an object rest where none is lowered, or a `this` in an arrow
-///   of a constructor whose class extends another, where the first `super(..)` may be no statement of its body's own
-///   list;
+///   of a module, directly in a static block, and in a program that names `babelHelpers`), or what else holds an object
+///   rest where none is lowered;
 /// - `RestParameter`, a function with an object rest in a parameter, and `HeadName`, a declarator of one in the head of
 ///   a loop, where it can't move, since names would find something else, or be asked before they are set;
+/// - `HeadName` also, a `for-of` whose head declares a name by `using` that the right side has, and `UsingFunction`, a
+///   function whose body declares directly by `using`, and has a function at its top that something else declares, too;
 /// - `RestInArray` and `RestNested`, what holds an object rest inside an array or a rest that is declared, or inside a
 ///   part of the target of an assignment;
 /// - `MathBound`, an exponentiation where `Math` is bound;
@@ -99,7 +99,8 @@ pub struct Lowered {
 /// - `SpreadLiteral`, an object literal with a spread whose properties can't be copied one by one;
 /// - `TagChain`, a template whose tag is an optional chain;
 /// - `ArrowOuter` and `ArrowThis`, what belongs to what is around an arrow, or around a value that is put into one, and
-///   can't belong to a function in its place; `ArrowOuter` also an accessor whose value is written as an arrow.
+///   can't belong to a function in its place; `ArrowOuter` also an accessor whose value is written as an arrow, and
+///   `ArrowThis` a `super(..)` in the parameters of a constructor in whose body an arrow has a `this`.
 ///
 /// It fails with `OutOfMemory` where memory runs out, which may come before any of them.
 pub fn lower(alloc: Global, source: &Value, options: &EnvOptions) -> Result<Lowered, LowerError>
@@ -200,12 +201,15 @@ fn lower_constructs(
 {
     let free = names_no_helpers(&read.program);
     let sets = sets_this(&read.program, options);
-    let (used, mut names) = lower_using(alloc, read, options, free)?;
+    let asked = asks_for_using(&read.program, options, free);
+    let (headed, mut names) = move_heads(alloc, read, asked)?;
+    let (used, mut contexts) = lower_using(alloc, headed, asked)?;
     let (moved, mut first) = move_patterns(alloc, used, options)?;
     let imports = HelperImports::of_program(&moved.program, options, free);
     let (lowered, ctx) = lower_in_place(alloc, moved, options, free, imports)?;
     let (imported, mut last) = import_helpers(alloc, lowered, options, imports.are_asked())?;
     let program = set_this(imported, &ctx, sets)?;
+    names.append(&mut contexts)?;
     names.append(&mut first)?;
     names.append(&mut ctx.into_uids())?;
     names.append(&mut last)?;
@@ -224,7 +228,7 @@ fn lower_in_place(
 ) -> Result<(Node, TraverseCtx<TransformState>), LowerError>
     requires form { has_form s-Program read.program ≡ true }
     requires kept { breaks read.program ≡ [] }
-    requires size { tree_size read.program < 2 ^ 23 }
+    requires size { tree_size read.program < 10 * 2 ^ 20 }
     requires next { read.ast.next < 2 ^ 20 }
     requires carried { first_fault options.now ≡ None }
     requires told { Tells options.now free read.program imports }

@@ -8,7 +8,9 @@ returns c = record {
   super_member = record { formed = refl; first = λ o. refl };
   in_method = record { formed = refl; first = λ o. refl };
   constructor_this = record { formed = refl; first = λ o. refl };
-  stray_super = record { formed = refl; first = λ o. refl };
+  inner_super = record { formed = refl; first = λ o. refl };
+  early_super = record { formed = refl; first = λ o. refl };
+  early_alone = record { formed = refl; first = λ o. refl };
   outer_arguments = record { formed = refl; first = λ o. refl };
   own_arguments = record { formed = refl; first = λ o. refl };
   in_slot = record { formed = refl; first = λ o. refl };
@@ -20,4 +22,7 @@ returns c = record {
   rest_in_array = record { formed = refl; first = λ o. refl };
   rest_nested = record { formed = refl; first = λ o. refl };
   bound_helper = record { formed = refl; first = λ o. refl };
+  using_head = record { formed = refl; first = λ o. refl };
+  using_function = record { formed = refl; first = λ o. refl };
+  using_declared = record { formed = refl; first = λ o. refl };
 }
