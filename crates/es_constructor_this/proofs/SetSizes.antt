@@ -6,7 +6,6 @@ use Rattle.es_tree.specs.Tree.{Tree, node, Label, Fields, done, ◌then◌, Fiel
 use Rattle.es_tree.specs.Words.{Text}
 use Rattle.es_tree.specs.declared.ast_type.AstType.{AstType}
 use Rattle.es_tree.specs.declared.ast_type.AstType.TheVariants.{ArrowFunctionExpression, CallExpression, ChainExpression, ExpressionStatement, FunctionBody, FunctionDeclaration, FunctionExpression, Program, StaticBlock, Super, VariableDeclaration, VariableDeclarator}
-
 use Rattle.es_super_calls.specs.Constructors.{is_body, standing_in}
 use Rattle.es_super_calls.specs.SuperCalls.{calls_it, is_super_call, is_super_statement}
 use Rattle.es_super_calls.specs.declared.standing.ClassStanding.{ClassStanding}

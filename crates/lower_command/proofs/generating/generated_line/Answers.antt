@@ -32,19 +32,19 @@ more-at-most : (imports : Bool) → (if imports then 82 else 64) ≤ 82
 more-at-most true = omega arith
 more-at-most false = omega arith
 
-within : (sets using rests imports : Bool) (n m : ℕ) → m ≤ (if sets then 2 else 1) * (most_for_each using rests * n + (if imports then 82 else 64)) → n < 2 ^ 20 → m < 2 ^ 64
+within : (sets using rests imports : Bool) (n m : ℕ) → m ≤ (if sets then 3 else 1) * (most_for_each using rests * n + (if imports then 82 else 64)) → n < 2 ^ 20 → m < 2 ^ 64
 within sets using rests imports n m size small =
     let some = least using rests imports n small in
-    twice sets (most_for_each using rests * n + (if imports then 82 else 64)) size some
+    thrice sets (most_for_each using rests * n + (if imports then 82 else 64)) size some
   where
     least : (using rests imports : Bool) (n : ℕ) → n < 2 ^ 20 → most_for_each using rests * n + (if imports then 82 else 64) < 2 ^ 32
     least true rests imports n small = let more = more-at-most imports in omega (arith, small, more)
     least false true imports n small = let more = more-at-most imports in omega (arith, small, more)
     least false false imports n small = let more = more-at-most imports in omega (arith, small, more)
 
-    twice : (sets : Bool) (k : ℕ) → m ≤ (if sets then 2 else 1) * k → k < 2 ^ 32 → m < 2 ^ 64
-    twice true k h small = omega (arith, h, small)
-    twice false k h small = omega (arith, h, small)
+    thrice : (sets : Bool) (k : ℕ) → m ≤ (if sets then 3 else 1) * k → k < 2 ^ 32 → m < 2 ^ 64
+    thrice true k h small = omega (arith, h, small)
+    thrice false k h small = omega (arith, h, small)
 
 pub returns-clause-line : goal.returns-clause-line
 returns-clause-line c =
