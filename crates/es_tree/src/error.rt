@@ -141,7 +141,8 @@ pub enum UnsupportedKind {
     UsingFunction,
     /// `arguments`, `new.target` or `super` inside a lowered arrow.
     ArrowOuter,
-    /// A `this` inside a lowered arrow in a class field or in parameters.
+    /// A `this` inside a lowered arrow in a class field or in parameters, or a call of `super` in parameters of a constructor in whose
+    /// body one stands.
     ArrowThis,
 }
 
