@@ -18,6 +18,7 @@ pub mod Set
 pub mod Moved
 pub mod NamedHelpers
 pub mod HeadNames
+pub mod Splits
 pub mod Used
 pub mod Stages
 pub mod CoreNodes

@@ -15,11 +15,15 @@ use Rattle.es_pattern_moves.specs.Weights.{weighed}
 use Rattle.es_using_rows.proofs.UsedAgree.{law_one_used_proof}
 use Rattle.es_using_heads.proofs.HeadAgree.{law_one_headed_proof}
 use Rattle.es_using_heads.proofs.HeadWeights.{law_weighed_proof}
+use Rattle.es_export_splits.specs.Splits.{plainly, split}
+use Rattle.es_export_splits.proofs.SplitWeights.{law_split_weighs_used_proof}
 use Rattle.es_lowered.specs.Used.{IsUsed}
 use Rattle.es_lowered.proofs.Used.{law_headed_proof, law_unused_proof, law_used_proof}
+use Rattle.lower_driver.specs.Splits.{Splits}
 use Rattle.lower_driver.specs.Uses.{Heads, Uses, lowers_using, names_helpers, using_there}
 use Rattle.lower_driver.proofs.HeadNames.{headed-unnamed}
 use Rattle.lower_driver.proofs.NamedHelpers.{unnamed}
+use Rattle.lower_driver.proofs.Splits.{split-weight}
 
 -- ONE PROGRAM
 
@@ -90,8 +94,21 @@ uses-as {t = t} {q = q} {names = names} e u = subst (λ (c : Bool). Uses c t q n
 pub used-by : (o : EnvOptions) (p : Tree) {a : Bool} {t q : Tree} {heads names : List Text} → has_form s-Program p ≡ true → breaks p ≡ [] → a ≡ lowers_using o p → Heads a p t heads → Uses a t q names → IsUsed (lowers_using o p) t q names
 used-by o p {t = t} {q = q} {heads = heads} {names = names} form right e h u = is-used o p form right t q heads names (heads-as e h) (uses-as e u)
 
--- SIZE: what it weighs
+-- SIZE: what it weighs, once its exports were split, too
 
-pub used-weight : (on : Bool) (p t q : Tree) (heads names : List Text) → has_form s-Program p ≡ true → weighed p ≤ 7 * tree_size p → Heads on p t heads → Uses on t q names → weighed q ≤ 20 * tree_size p
+used-weight : (on : Bool) (p t q : Tree) (heads names : List Text) → has_form s-Program p ≡ true → weighed p ≤ 20 * tree_size p → Heads on p t heads → Uses on t q names → weighed q ≤ 20 * tree_size p
 used-weight true p t q heads names form light h u = rw ((u.goes refl).tree, (h.goes refl).tree) (law_weighed_proof p heads names form)
-used-weight false p t q heads names form light h u = rw ((u.stays refl).0, (h.stays refl).0) (omega (arith, light))
+used-weight false p t q heads names form light h u = rw ((u.stays refl).0, (h.stays refl).0) light
+
+split-and-used : (on : Bool) (s p t q : Tree) (heads names : List Text) → has_form s-Program s ≡ true → p ≡ split plainly s → weighed p ≤ 8 * tree_size s → Heads on p t heads → Uses on t q names → weighed q ≤ 20 * tree_size s
+split-and-used true s p t q heads names form e light h u = rw ((u.goes refl).tree, (h.goes refl).tree, e) (law_split_weighs_used_proof s heads names form)
+split-and-used false s p t q heads names form e light h u = rw ((u.stays refl).0, (h.stays refl).0) (omega (arith, light))
+
+pub all-weight : (first on : Bool) (s p t q : Tree) (heads names : List Text) → has_form s-Program s ≡ true → weighed s ≤ 7 * tree_size s → Splits first s p → Heads on p t heads → Uses on t q names → weighed q ≤ 20 * tree_size s
+all-weight true on s p t q heads names form light x h u = split-and-used on s p t q heads names form (x.goes refl) (split-weight true s p light x) h u
+all-weight false on s p t q heads names form light x h u =
+    let same = sym (x.stays refl) in
+    let least : weighed s ≤ 20 * tree_size s = omega (arith, light) in
+    let formed : has_form s-Program p ≡ true = ap (has_form s-Program) (x.stays refl) ∙ form in
+    let there : weighed p ≤ 20 * tree_size p = subst (λ (z : Tree). weighed z ≤ 20 * tree_size z) same least in
+    subst (λ (z : Tree). weighed q ≤ 20 * tree_size z) (x.stays refl) (used-weight on p t q heads names formed there h u)

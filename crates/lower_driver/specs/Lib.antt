@@ -2,6 +2,7 @@ pub mod Copies
 pub mod Imports
 pub mod Constructs
 pub mod Lowered
+pub mod Splits
 pub mod Uses
 pub mod Sets
 pub mod Moves

@@ -7,6 +7,7 @@ use Rattle.es_tree.specs.Walks.{any_node}
 use Rattle.es_tree.specs.Words.{Text}
 use Rattle.es_tree.specs.declared.options.EnvOptions.{EnvOptions}
 use Rattle.es_json.specs.Canonical.{canonical}
+use Rattle.es_export_splits.specs.Laws.{IsSplit}
 use Rattle.es_helper_calls.specs.Importing.{imports_helpers}
 use Rattle.es_helper_imports.specs.Laws.{IsImported}
 use Rattle.es_lowered.specs.Lowered.{IsLowered}
@@ -19,6 +20,7 @@ use Rattle.es_statement_steps.specs.Laws.{RunsAsStatements, assumes_no_all, supp
 use Rattle.lower_driver.specs.Imports.{Imports}
 use Rattle.lower_driver.specs.Moves.{Moves}
 use Rattle.lower_driver.specs.Sets.{Sets, sets_this}
+use Rattle.lower_driver.specs.Splits.{Splits, splits_exports}
 use Rattle.lower_driver.specs.Uses.{Heads, Uses, lowers_using, names_helpers, using_there}
 
 -- a source as it is written, with no name made
@@ -48,25 +50,29 @@ pub record LowersInPlace (o : EnvOptions) (source written : Tree) (names : List 
   pub size : tree_size written ≤ (if rests_there o source then 384 else 64) * tree_size source + 64
 
 -- The most nodes that are written for one of the source's, where `using` stands that is asked for, and where an object rest does: moving `using` out of
--- heads, lowering it and moving patterns make at most ten of one, and moving patterns alone three and a half.
+-- heads, lowering it and moving patterns make at most ten of one, and moving patterns alone four; so many, too, where exports were split.
 abbrev pub most_for_each : Bool → Bool → ℕ
 most_for_each true rests = 3840
-most_for_each false true = 1344
+most_for_each false true = 1536
 most_for_each false false = 64
 
 -- What a source of any kind becomes under these options: this program, with these fresh names.
 pub record Lowers (o : EnvOptions) (source written : Tree) (names : List Text) : Type 0 where
-  -- First `using` moves out of heads of loops, by steps of its rules: in what the source becomes each name keeps its binding, it has form, keeps all
-  -- static rules, asks for the same modules and exports the same names.
+  -- First exports of declarations with an object rest are split, by steps of a rule: in what the source becomes each name keeps its binding, it has form,
+  -- keeps all static rules, asks for the same modules and exports the same names.
+  pub split : Tree
+  pub splits : Splits (splits_exports o source) source split
+  pub is_split : IsSplit (splits_exports o source) source split
+  -- Then `using` moves out of heads of loops, by steps of its rules, of which the same holds,
   pub headed : Tree
   pub head_names : List Text
-  pub heads : Heads (lowers_using o source) source headed head_names
-  pub is_headed : IsUsed (lowers_using o source) source headed head_names
-  -- Then `using` is lowered, by steps of its rules, of which the same holds.
+  pub heads : Heads (lowers_using o split) split headed head_names
+  pub is_headed : IsUsed (lowers_using o split) split headed head_names
+  -- and is lowered, by steps of its rules, of which the same holds.
   pub used : Tree
   pub context_names : List Text
-  pub uses : Uses (lowers_using o source) headed used context_names
-  pub is_used : IsUsed (lowers_using o source) headed used context_names
+  pub uses : Uses (lowers_using o split) headed used context_names
+  pub is_used : IsUsed (lowers_using o split) headed used context_names
   -- Then patterns with a rest move to declarations of their own, by steps of the rows that do so, of which the same holds.
   pub moved : Tree
   pub first_names : List Text
@@ -80,8 +86,8 @@ pub record Lowers (o : EnvOptions) (source written : Tree) (names : List Text) :
   -- static rule, each name keeps its binding, and it asks for the same modules but for those of the helpers, and exports the same names.
   pub imported : Tree
   pub last_names : List Text
-  pub imports : Imports (imports_helpers o (not (names_helpers source)) moved) (string_bytes o.helper_loader.module_name) lowered imported last_names
-  pub is_imported : imports_helpers o (not (names_helpers source)) moved ≡ true → IsImported (string_bytes o.helper_loader.module_name) lowered imported last_names
+  pub imports : Imports (imports_helpers o (not (names_helpers split)) moved) (string_bytes o.helper_loader.module_name) lowered imported last_names
+  pub is_imported : imports_helpers o (not (names_helpers split)) moved ≡ true → IsImported (string_bytes o.helper_loader.module_name) lowered imported last_names
   -- And last the constructors of classes that extend others set their name for `this` behind `super(..)`, by steps of a row that does so: each name
   -- keeps its binding, what is written has form, keeps all static rules, asks for the same modules and exports the same names.
   pub sets : Sets (sets_this o source) later_names imported written
@@ -96,4 +102,4 @@ pub record Lowers (o : EnvOptions) (source written : Tree) (names : List Text) :
   -- where the options ask for no construct of the source, nothing is changed
   pub unchanged : has_enabled_construct o source ≡ false → IsAsBefore source written names
   -- the nodes of the source and of what is written, with those of the imports: where a name is set behind `super(..)`, three times as many
-  pub size : tree_size written ≤ (if sets_this o source then 3 else 1) * (most_for_each (using_there o source) (rests_there o source) * tree_size source + (if imports_helpers o (not (names_helpers source)) moved then 82 else 64))
+  pub size : tree_size written ≤ (if sets_this o source then 3 else 1) * (most_for_each (using_there o source) (rests_there o source) * tree_size source + (if imports_helpers o (not (names_helpers split)) moved then 82 else 64))

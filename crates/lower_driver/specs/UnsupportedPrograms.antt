@@ -1,5 +1,5 @@
--- What a run doesn't take: the first node with a shape that its options' lowerings don't take, of a program whose `using` was lowered
--- and whose patterns moved, or else one at which it can't import helpers.
+-- What a run doesn't take: the first node with a shape that its options' lowerings don't take, of a program whose exports were split, whose
+-- `using` was lowered and whose patterns moved, or else one at which it can't import helpers.
 use Rattle.std.specs.Prelude.{◌≡◌, Bool, List, None, Option, Some, is_some, not, ℕ}
 use Rattle.std.specs.Option.{option_or}
 use Rattle.es_tree.specs.Options.{first_fault}
@@ -13,24 +13,28 @@ use Rattle.es_tree.specs.declared.options.EnvOptions.{EnvOptions}
 use Rattle.es_helper_calls.specs.Importing.{first_unimported}
 use Rattle.es_unsupported.specs.FirstUnsupported.{first_unsupported}
 use Rattle.lower_driver.specs.Moves.{Moves}
+use Rattle.lower_driver.specs.Splits.{Splits, splits_exports}
 use Rattle.lower_driver.specs.Uses.{Heads, Uses, lowers_using, names_helpers}
 
 -- of a program in which no pattern moves any more, where the source names no `babelHelpers` itself, or does
 abbrev pub first_refused : EnvOptions → Bool → Tree → Option (UnsupportedKind × ℕ)
 first_refused o free p = option_or (first_unsupported o p) (first_unimported o free p)
 
--- What is found in a source under these options, once its `using` was lowered and its patterns moved: such a shape and the id of its node, or none.
+-- What is found in a source under these options, once its exports were split, its `using` was lowered and its patterns moved: such a shape and the id of its
+-- node, or none.
 pub record Finds (o : EnvOptions) (source : Tree) (found : Option (UnsupportedKind × ℕ)) : Type 0 where
+  pub split : Tree
+  pub splits : Splits (splits_exports o source) source split
   pub headed : Tree
   pub head_names : List Text
-  pub heads : Heads (lowers_using o source) source headed head_names
+  pub heads : Heads (lowers_using o split) split headed head_names
   pub used : Tree
   pub context_names : List Text
-  pub uses : Uses (lowers_using o source) headed used context_names
+  pub uses : Uses (lowers_using o split) headed used context_names
   pub moved : Tree
   pub names : List Text
   pub moves : Moves (is_some o.es2018.object_rest_spread) used moved names
-  pub first : first_refused o (not (names_helpers source)) moved ≡ found
+  pub first : first_refused o (not (names_helpers split)) moved ≡ found
 
 abbrev pub IsUnsupported : EnvOptions → Tree → UnsupportedKind → NodeId → Type 0
 IsUnsupported o p kind id = Finds o p (Some (kind, id.0))

@@ -1,5 +1,5 @@
-//! One run: a program is read and checked, its `using` moves out of heads of loops and is lowered, patterns with an object rest move to declarations, it is
-//! visited once by the lowerings that its options ask for, walked for its arrows and for its object rests, its helpers are
+//! One run: a program is read and checked, its exports of object rests are split, its `using` moves out of heads of loops and is lowered, patterns with an
+//! object rest move to declarations, it is visited once by the lowerings that its options ask for, walked for its arrows and for its object rests, its helpers are
 //! imported, its constructors set their name for `this`, and it is written.
 ghost use Rattle.std.specs.Prelude.{◌≡◌, ◌<◌, ◌∷◌, ◌*◌, ◌^◌, [], IfErr, IfOk, None, false, map, string_bytes, true};
 ghost use Rattle.serde_json.specs.View.{view};
@@ -28,6 +28,7 @@ use crate::importing::import_helpers;
 use crate::moving::move_patterns;
 use crate::reading::{read_bytes, read_source};
 use crate::resources::{asks_for_using, lower_using, move_heads, names_no_helpers};
+use crate::splitting::split_exports;
 use crate::visiting::{take_rests, visit, walk};
 use es_json::program::ReadProgram;
 use es_json::writer::write_program;
@@ -79,8 +80,8 @@ pub struct Lowered {
 ///
 /// Fails for the first of these causes that holds: `Option` where the options ask for what isn't done; `TooLarge`,
 /// `TooDeep` and `Shape` as `read_program` has them; `Invalid` as `check_static` has it; `Unsupported` at the first node
-/// that the lowerings asked for don't take, of the program whose `using` was lowered and whose patterns moved, in which
-/// what is made has the id of the node that it is made for:
+/// that the lowerings asked for don't take, of the program whose exports were split, whose `using` was lowered and whose
+/// patterns moved, in which what is made has the id of the node that it is made for:
 ///
 /// - `NotBuilt`, a construct that no lowering takes away yet: a declaration by `using` where none is lowered (at the top
 ///   of a module, directly in a static block, and in a program that names `babelHelpers`), or what else holds an object
@@ -199,10 +200,11 @@ fn lower_constructs(
     ensures taken { IfOk result (λ _. Finds options.now read.program None) }
     ensures cause { IfErr result (λ error. IsUnsupportedOrMemory options.now read.program error) }
 {
-    let free = names_no_helpers(&read.program);
     let sets = sets_this(&read.program, options);
-    let asked = asks_for_using(&read.program, options, free);
-    let (headed, mut names) = move_heads(alloc, read, asked)?;
+    let split = split_exports(alloc, read, options)?;
+    let free = names_no_helpers(&split.program);
+    let asked = asks_for_using(&split.program, options, free);
+    let (headed, mut names) = move_heads(alloc, split, asked)?;
     let (used, mut contexts) = lower_using(alloc, headed, asked)?;
     let (moved, mut first) = move_patterns(alloc, used, options)?;
     let imports = HelperImports::of_program(&moved.program, options, free);

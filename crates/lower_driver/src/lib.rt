@@ -8,4 +8,5 @@ mod importing;
 mod moving;
 mod reading;
 mod resources;
+mod splitting;
 mod visiting;

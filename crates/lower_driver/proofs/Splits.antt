@@ -1,0 +1,91 @@
+-- What a source becomes first of all: its exports of declarations with an object rest are split, or it stays as it is; there is one such program.
+use Rattle.std.proofs.Common.{◌≡◌, ◌∙◌, ◌*◌, ◌≤◌, List, [], ap, arith, refl, subst, sym, true≢false}
+use Rattle.std.proofs.lemmas.Bool.{or_parts}
+use Rattle.std.specs.Prelude.{Bool, true, false, ◌&&◌, ◌||◌, is_some}
+use Rattle.es_tree.specs.Constructs.{is_object_rest, is_using}
+use Rattle.es_tree.specs.HasForm.{has_form}
+use Rattle.es_tree.specs.StaticRules.{breaks}
+use Rattle.es_tree.specs.Tree.{Tree, node, Label, Fields, done, ◌then◌, missing, one, many, statements, Trees, empty, ◌before◌, tree_size}
+use Rattle.es_tree.specs.Walks.{any_in_fields, any_in_trees, any_node}
+use Rattle.es_tree.specs.Words.{Text}
+use Rattle.es_tree.specs.declared.ast_type.AstType.{AstType}
+use Rattle.es_tree.specs.declared.ast_type.AstType.TheVariants.{ExportNamedDeclaration, Program}
+use Rattle.es_tree.specs.declared.options.EnvOptions.{EnvOptions}
+use Rattle.es_tree.specs.declared.table.Sort.TheVariants.{Program as s-Program}
+use Rattle.es_pattern_moves.specs.Moved.{plainly as plainly_headed}
+use Rattle.es_pattern_moves.specs.Weights.{weighed}
+use Rattle.es_rest_shapes.specs.RestShapes.{declares_rest, is_rest_declaration}
+use Rattle.es_rest_shapes.proofs.NoneLeft.{law_declared_rests_proof}
+use Rattle.es_export_splits.specs.Laws.{IsElsewhere, IsSplit, split_rules}
+use Rattle.es_export_splits.specs.Splits.{has_split, is_split, plainly, some_split, split}
+use Rattle.es_export_splits.proofs.SplitReached.{law_split_proof}
+use Rattle.es_export_splits.proofs.SplitTests.{law_elsewhere_proof}
+use Rattle.es_export_splits.proofs.SplitWeights.{law_split_weighs_proof, law_split_weighs_used_proof}
+use Rattle.es_using_heads.specs.Heads.{headed}
+use Rattle.es_using_rows.specs.Used.{plainly as plainly_used, used}
+use Rattle.es_using_rows.specs.declared.standing.Standing.TheVariants.{Anywhere}
+use Rattle.es_lowered.proofs.Stays.{stays-as}
+use Rattle.lower_driver.specs.Lowers.{rests_there}
+use Rattle.lower_driver.specs.Splits.{Splits, splits_exports}
+use Rattle.lower_driver.specs.Uses.{Heads, Uses, using_there}
+
+-- ONE PROGRAM
+
+pub one-split : (on : Bool) (p q r : Tree) → Splits on p q → Splits on p r → q ≡ r
+one-split true p q r a b = a.goes refl ∙ sym (b.goes refl)
+one-split false p q r a b = a.stays refl ∙ sym (b.stays refl)
+
+-- WHERE NONE IS SPLIT
+
+pub splits-itself : (on : Bool) (p : Tree) → on ≡ false → Splits on p p
+splits-itself on p off = record { goes = λ e. absurd (true≢false (sym e ∙ off)); stays = λ e. refl }
+
+declares-none : (t : Tree) → any_node is_rest_declaration t ≡ false → declares_rest t ≡ false
+declares-none (node k l fs) h = (or_parts (is_rest_declaration k l fs) (any_in_fields is_rest_declaration fs) h).0
+
+none-split : (t : Tree) → any_node is_rest_declaration t ≡ false → is_split t ≡ false
+none-split (node ExportNamedDeclaration l (one d then many empty then missing then many empty then done)) h = declares-none d (or_parts (any_node is_rest_declaration d) false h).0
+none-split _ h = refl
+
+none-among : (ts : Trees) → any_in_trees is_rest_declaration ts ≡ false → some_split ts ≡ false
+none-among empty h = refl
+none-among (t before ts) h =
+    let d = or_parts (any_node is_rest_declaration t) (any_in_trees is_rest_declaration ts) h in
+    rw (none-split t d.0) (none-among ts d.1)
+
+no-splits : (p : Tree) → any_node is_rest_declaration p ≡ false → has_split p ≡ false
+no-splits (node Program l (many ds then statements ts then done)) h =
+    let d = or_parts (any_in_trees is_rest_declaration ds) (any_in_trees is_rest_declaration ts || false) h in
+    none-among ts (or_parts (any_in_trees is_rest_declaration ts) false d.1).0
+no-splits _ h = refl
+
+-- where no object rest stands that is taken
+pub off-without : (o : EnvOptions) (p : Tree) → rests_there o p ≡ false → splits_exports o p ≡ false
+off-without o p none = at (is_some o.es2018.object_rest_spread) none
+  where
+    at : (b : Bool) → (b && any_node is_object_rest p) ≡ false → (b && has_split p) ≡ false
+    at true h = no-splits p (law_declared_rests_proof p h)
+    at false h = refl
+
+-- WHAT IT IS
+
+pub is-split : (on : Bool) (p q : Tree) → has_form s-Program p ≡ true → breaks p ≡ [] → Splits on p q → IsSplit on p q
+is-split true p q form right s = subst (λ (t : Tree). IsSplit true p t) (sym (s.goes refl)) (law_split_proof p form right)
+is-split false p q form right s = subst (λ (t : Tree). IsSplit false p t) (sym (s.stays refl)) (stays-as (split_rules false) p form right)
+
+pub same-test : (test : AstType → Label → Fields → Bool) (on : Bool) (p q : Tree) → IsElsewhere test → Splits on p q → any_node test q ≡ any_node test p
+same-test test true p q h s = ap (any_node test) (s.goes refl) ∙ law_elsewhere_proof test p h
+same-test test false p q h s = ap (any_node test) (s.stays refl)
+
+module _ (o : EnvOptions) (p q : Tree) (s : Splits (splits_exports o p) p q) where
+  pub same-using : using_there o q ≡ using_there o p
+  same-using = ap (λ b. o.es2026.explicit_resource_management && b) (same-test is_using (splits_exports o p) p q (record { exports = λ l fs. refl; specifiers = λ l fs. refl; names = λ l fs. refl }) s)
+
+  pub same-rests : rests_there o q ≡ rests_there o p
+  same-rests = ap (λ b. is_some o.es2018.object_rest_spread && b) (same-test is_object_rest (splits_exports o p) p q (record { exports = λ l fs. refl; specifiers = λ l fs. refl; names = λ l fs. refl }) s)
+
+-- SIZE: what it weighs
+
+pub split-weight : (on : Bool) (p q : Tree) → weighed p ≤ 7 * tree_size p → Splits on p q → weighed q ≤ 8 * tree_size p
+split-weight true p q light s = rw (s.goes refl) (law_split_weighs_proof p)
+split-weight false p q light s = rw (s.stays refl) (omega (arith, light))
