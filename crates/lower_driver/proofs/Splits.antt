@@ -20,7 +20,7 @@ use Rattle.es_export_splits.specs.Laws.{IsElsewhere, IsSplit, split_rules}
 use Rattle.es_export_splits.specs.Splits.{has_split, is_split, plainly, some_split, split}
 use Rattle.es_export_splits.proofs.SplitReached.{law_split_proof}
 use Rattle.es_export_splits.proofs.SplitTests.{law_elsewhere_proof}
-use Rattle.es_export_splits.proofs.SplitWeights.{law_split_weighs_proof, law_split_weighs_used_proof}
+use Rattle.es_export_splits.proofs.SplitWeights.{law_split_weighs_proof}
 use Rattle.es_using_heads.specs.Heads.{headed}
 use Rattle.es_using_rows.specs.Used.{plainly as plainly_used, used}
 use Rattle.es_using_rows.specs.declared.standing.Standing.TheVariants.{Anywhere}
@@ -79,10 +79,10 @@ same-test test false p q h s = ap (any_node test) (s.stays refl)
 
 module _ (o : EnvOptions) (p q : Tree) (s : Splits (splits_exports o p) p q) where
   pub same-using : using_there o q ≡ using_there o p
-  same-using = ap (λ b. o.es2026.explicit_resource_management && b) (same-test is_using (splits_exports o p) p q (record { exports = λ l fs. refl; specifiers = λ l fs. refl; names = λ l fs. refl }) s)
+  same-using = ap (λ b. o.es2026.explicit_resource_management && b) (same-test is_using (splits_exports o p) p q (record { exports = λ l fs. refl; specifiers = λ l fs. refl; names = λ l fs. refl; programs = λ l ds ts us. refl }) s)
 
   pub same-rests : rests_there o q ≡ rests_there o p
-  same-rests = ap (λ b. is_some o.es2018.object_rest_spread && b) (same-test is_object_rest (splits_exports o p) p q (record { exports = λ l fs. refl; specifiers = λ l fs. refl; names = λ l fs. refl }) s)
+  same-rests = ap (λ b. is_some o.es2018.object_rest_spread && b) (same-test is_object_rest (splits_exports o p) p q (record { exports = λ l fs. refl; specifiers = λ l fs. refl; names = λ l fs. refl; programs = λ l ds ts us. refl }) s)
 
 -- SIZE: what it weighs
 

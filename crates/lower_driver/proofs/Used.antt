@@ -16,7 +16,7 @@ use Rattle.es_using_rows.proofs.UsedAgree.{law_one_used_proof}
 use Rattle.es_using_heads.proofs.HeadAgree.{law_one_headed_proof}
 use Rattle.es_using_heads.proofs.HeadWeights.{law_weighed_proof}
 use Rattle.es_export_splits.specs.Splits.{plainly, split}
-use Rattle.es_export_splits.proofs.SplitWeights.{law_split_weighs_used_proof}
+use Rattle.es_export_splits.proofs.SplitUsedWeights.{law_split_weighs_used_proof}
 use Rattle.es_lowered.specs.Used.{IsUsed}
 use Rattle.es_lowered.proofs.Used.{law_headed_proof, law_unused_proof, law_used_proof}
 use Rattle.lower_driver.specs.Splits.{Splits}
