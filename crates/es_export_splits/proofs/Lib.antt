@@ -1,0 +1,3 @@
+pub mod SplitStays
+pub mod SplitTests
+pub mod SplitWeights
