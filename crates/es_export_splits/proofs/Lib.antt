@@ -1,0 +1,4 @@
+pub mod SplitStays
+pub mod SplitTests
+pub mod SplitWeights
+pub mod SplitUsedWeights

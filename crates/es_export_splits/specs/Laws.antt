@@ -3,11 +3,11 @@
 use Rattle.std.specs.Prelude.{◌≡◌, ◌*◌, ◌≤◌, Bool, List, [], false, true}
 use Rattle.es_tree.specs.HasForm.{has_form}
 use Rattle.es_tree.specs.StaticRules.{breaks}
-use Rattle.es_tree.specs.Tree.{Fields, Label, Tree, tree_size}
+use Rattle.es_tree.specs.Tree.{Fields, Label, Tree, Trees, done, many, statements, tree_size, ◌then◌}
 use Rattle.es_tree.specs.Walks.{any_node}
 use Rattle.es_tree.specs.Words.{Text}
 use Rattle.es_tree.specs.declared.ast_type.AstType.{AstType}
-use Rattle.es_tree.specs.declared.ast_type.AstType.TheVariants.{ExportNamedDeclaration, ExportSpecifier, Identifier}
+use Rattle.es_tree.specs.declared.ast_type.AstType.TheVariants.{ExportNamedDeclaration, ExportSpecifier, Identifier, Program}
 use Rattle.es_tree.specs.declared.table.Sort.TheVariants.{Program as s-Program}
 use Rattle.es_steps.specs.Steps.{Ledger, Site, Spot}
 use Rattle.es_pattern_moves.specs.Moved.{plainly as plainly_headed}
@@ -37,11 +37,12 @@ LawSplit = (p : Tree) → has_form s-Program p ≡ true → breaks p ≡ [] → 
 abbrev pub LawStays : Type 0
 LawStays = (m : Makes) (p : Tree) → has_split p ≡ false → split m p ≡ p
 
--- A TEST that neither exports nor names pass is passed by a node exactly where it was before.
+-- A TEST that neither exports nor names pass, nor a program because of its statements, is passed by a node exactly where it was before.
 pub record IsElsewhere (q : AstType → Label → Fields → Bool) : Type 0 where
   pub exports : (l : Label) (fs : Fields) → q ExportNamedDeclaration l fs ≡ false
   pub specifiers : (l : Label) (fs : Fields) → q ExportSpecifier l fs ≡ false
   pub names : (l : Label) (fs : Fields) → q Identifier l fs ≡ false
+  pub programs : (l : Label) (ds ts us : Trees) → q Program l (many ds then statements ts then done) ≡ q Program l (many ds then statements us then done)
 
 abbrev pub LawElsewhere : Type 0
 LawElsewhere = (q : AstType → Label → Fields → Bool) (p : Tree) → IsElsewhere q → any_node q (split plainly p) ≡ any_node q p

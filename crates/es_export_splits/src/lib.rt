@@ -9,7 +9,7 @@ pub fn law_stays()
     ensures { LawStays }
 {}
 
-/// A test that neither exports nor names pass is passed exactly where it was before.
+/// A test that neither exports nor names pass, nor a program because of its statements, is passed exactly where it was before.
 pub fn law_elsewhere()
     ensures { LawElsewhere }
 {}

@@ -62,7 +62,7 @@ module _ (heads : List Text) (m : UsedMakes) (named : AreNames m) where
   kind-stays : (i : ℕ) (t : Tree) → kind_of (headed h i t).1 ≡ kind_of t
   kind-stays i (node k l fs) = kind-here (headed_in h i fs).0 k l (headed_in h i fs).1
 
-  headed-others : (i : ℕ) (k : AstType) (l : Label) (fs : Fields) → has_others k l fs ≡ true → has_others k l (headed_in h i fs).1 ≡ true
+  pub headed-others : (i : ℕ) (k : AstType) (l : Label) (fs : Fields) → has_others k l fs ≡ true → has_others k l (headed_in h i fs).1 ≡ true
   headed-others i VariableDeclarator l (one x then one e then done) o =
       let d = and_parts (is_other (kind_of x)) (is_other (kind_of e)) o in
       and_from (is_other (kind_of (headed h i x).1)) (is_other (kind_of (headed h (headed h i x).0 e).1)) (ap is_other (kind-stays i x) ∙ d.0) (ap is_other (kind-stays (headed h i x).0 e) ∙ d.1)
@@ -98,7 +98,7 @@ module _ (heads : List Text) (m : UsedMakes) (named : AreNames m) where
 
   -- A TREE
   mutual
-    tree-fits : (s : Standing) (n i : ℕ) (t : Tree) → all_nodes has_others t ≡ true → weighed (used m s n (headed h i t).1).1 + spare (used m s n (headed h i t).1).1 ≤ 20 * tree_size t
+    pub tree-fits : (s : Standing) (n i : ℕ) (t : Tree) → all_nodes has_others t ≡ true → weighed (used m s n (headed h i t).1).1 + spare (used m s n (headed h i t).1).1 ≤ 20 * tree_size t
     tree-fits s n i (node k l fs) o =
         let d = and_parts (has_others k l fs) (all_in_fields has_others fs) o in
         let j : ℕ = (headed_in h i fs).0 in
@@ -128,19 +128,19 @@ module _ (heads : List Text) (m : UsedMakes) (named : AreNames m) where
         absurd (cc (sym (ap is_declaration (kind-stays i t)) ∙ head-declares (headed h i t).1 (headed_in h (headed h i t).0 fs).1 moves))
     head-fits n i j _ moves o = absurd (cc moves)
 
-    fields-fit : (c : ℕ → Standing) (n i : ℕ) (fs : Fields) → all_in_fields has_others fs ≡ true → weighed_in (used_in m c n (headed_in h i fs).1).1 + spare_in (used_in m c n (headed_in h i fs).1).1 ≤ 20 * fields_size fs
+    pub fields-fit : (c : ℕ → Standing) (n i : ℕ) (fs : Fields) → all_in_fields has_others fs ≡ true → weighed_in (used_in m c n (headed_in h i fs).1).1 + spare_in (used_in m c n (headed_in h i fs).1).1 ≤ 20 * fields_size fs
     fields-fit c n i done o = omega arith
     fields-fit c n i (f then fs) o =
         let d = and_parts (all_in_field has_others f) (all_in_fields has_others fs) o in
         omega (arith, field-fits (c 0) n i f d.0, fields-fit (λ i. c (suc i)) (used_by m (c 0) n (headed_by h i f).1).0 (headed_by h i f).0 fs d.1)
 
-    field-fits : (s : Standing) (n i : ℕ) (f : Field) → all_in_field has_others f ≡ true → weighed_by (used_by m s n (headed_by h i f).1).1 + spare_by (used_by m s n (headed_by h i f).1).1 ≤ 20 * field_size f
+    pub field-fits : (s : Standing) (n i : ℕ) (f : Field) → all_in_field has_others f ≡ true → weighed_by (used_by m s n (headed_by h i f).1).1 + spare_by (used_by m s n (headed_by h i f).1).1 ≤ 20 * field_size f
     field-fits s n i missing o = omega arith
     field-fits s n i (one t) o = tree-fits s n i t o
     field-fits s n i (many ts) o = trees-fit s n i ts o
     field-fits s n i (statements ts) o = trees-fit s n i ts o
 
-    trees-fit : (s : Standing) (n i : ℕ) (ts : Trees) → all_in_trees has_others ts ≡ true → weighed_among (used_among m s n (headed_among h i ts).1).1 + spare_among (used_among m s n (headed_among h i ts).1).1 ≤ 20 * trees_size ts
+    pub trees-fit : (s : Standing) (n i : ℕ) (ts : Trees) → all_in_trees has_others ts ≡ true → weighed_among (used_among m s n (headed_among h i ts).1).1 + spare_among (used_among m s n (headed_among h i ts).1).1 ≤ 20 * trees_size ts
     trees-fit s n i empty o = omega arith
     trees-fit s n i (t before ts) o =
         let d = and_parts (all_nodes has_others t) (all_in_trees has_others ts) o in
