@@ -1,0 +1,3 @@
+pub mod ModuleTops
+pub mod TopRule
+pub mod Laws
