@@ -17,10 +17,12 @@ use Rattle.es_steps.specs.AllRules.{AllRules}
 use Rattle.es_steps.specs.CoreBridge.{first_whole}
 use Rattle.es_steps.specs.Laws.{IsWellBound}
 use Rattle.es_steps.specs.Open.{opened}
+use Rattle.es_steps.specs.Steps.{Ledger, Site, Spot}
 use Rattle.es_steps.proofs.BridgeInclusion.{all_under}
 use Rattle.es_steps.proofs.Laws.{law_reached_proof}
 use Rattle.es_steps.proofs.Opened.{finished-opened}
 use Rattle.es_lowered.specs.Lowered.{IsLowered, lowered_rules}
+use Rattle.es_reached.specs.Reached.{IsResultOf}
 use Rattle.es_reached.proofs.Results.{form-same, program-kind, source-form, source-well-bound}
 use Rattle.es_reached.proofs.Sources.{law_bare_source_proof}
 use Rattle.es_top_imports.specs.Laws.{list_place}
@@ -35,18 +37,22 @@ none-found : (s : Option ℕ) → is_some s ≡ false → s ≡ None
 none-found None e = refl
 none-found (Some n) e = absurd (cc e)
 
--- A name that is in use finds a symbol from the list of what a program becomes where the program's own scope binds it.
-pub lowered-finds : (o : EnvOptions) (p q : Tree) (names : List Text) → has_form s-Program p ≡ true → breaks p ≡ [] → IsLowered o p q names → (x : Text) → (first_whole p).in_use x ≡ true → is_some ((list_place (source q)).scope x) ≡ is_some (find (symbols_of p) (0 ∷ []) x)
-lowered-finds o p q names form right h x used =
+-- A name that is in use finds a symbol from the list of what rules make of a program, which are among all, where the program's own scope binds it.
+pub found-after : (o : EnvOptions) (R : Site → Ledger → Spot → Ledger → Spot → Type 0) → ((n : Site) (s : Ledger) (x : Spot) (s' : Ledger) (y : Spot) → R n s x s' y → AllRules o n s x s' y) →
+    (p q : Tree) (names : List Text) → has_form s-Program p ≡ true → breaks p ≡ [] → IsResultOf R p q names → (x : Text) → (first_whole p).in_use x ≡ true → is_some ((list_place (source q)).scope x) ≡ is_some (find (symbols_of p) (0 ∷ []) x)
+found-after o R among p q names form right h x used =
     let first = first_whole p in
     let start = source p in
     let program = program-kind start (source-form p form) in
     let bound = source-well-bound p form right in
-    let steps = all_under (lowered_rules o) (AllRules o) (lowered-all o) h.reached.steps in
+    let steps = all_under R (AllRules o) among h.reached.steps in
     let after : IsWellBound h.reached.whole h.resolved = law_reached_proof o start h.resolved first h.reached.whole program bound steps in
     let kept : (list_place h.resolved).scope x ≡ (list_place start).scope x = sym (ap (λ (t : Tree). (list_place t).scope x) (finished-opened h.resolved)) ∙ list-kept o start first h.reached.whole (opened h.resolved) program bound steps x used in
     lists-alike h.resolved (source q) (program-kind h.resolved (form-same q h.resolved (sym h.written) h.form)) (program-kind (source q) (source-form q h.form)) after.resolved (law_resolved_proof q h.form) (h.written ∙ sym (law_bare_source_proof q)) x
     ∙ ap is_some (kept ∙ source-found p form x)
+
+pub lowered-finds : (o : EnvOptions) (p q : Tree) (names : List Text) → has_form s-Program p ≡ true → breaks p ≡ [] → IsLowered o p q names → (x : Text) → (first_whole p).in_use x ≡ true → is_some ((list_place (source q)).scope x) ≡ is_some (find (symbols_of p) (0 ∷ []) x)
+lowered-finds o p q names form right h x used = found-after o (lowered_rules o) (lowered-all o) p q names form right h x used
 
 -- in a script, as `binds_require` asks
 unbound-script : (is found : Bool) → is ≡ false → (not is && found) ≡ false → found ≡ false

@@ -20,6 +20,7 @@ pub mod NamedHelpers
 pub mod HeadNames
 pub mod Splits
 pub mod Used
+pub mod Tops
 pub mod Stages
 pub mod CoreNodes
 pub mod FreeCalls

@@ -1,4 +1,4 @@
--- What a source becomes by all lowerings, stage after stage: its exports of object rests are split, its `using` moves out of heads of loops and is lowered, patterns with a rest move,
+-- What a source becomes by all lowerings, stage after stage: its exports of object rests are split, its `using` moves out of heads of loops and is lowered, at last at the top of a module, patterns with a rest move,
 -- constructs are lowered where they stand, helpers are imported, and names for `this` are set. And why it is refused: for what is found in it before constructs are lowered where they
 -- stand.
 use Rattle.std.proofs.Common.{◌≡◌, ◌∙◌, ◌*◌, ◌+◌, ◌≤◌, ◌++◌, List, [], ◌∷◌, Option, ℕ, ap, arith, refl, subst, sym, true≢false}
@@ -26,6 +26,8 @@ use Rattle.es_statement_steps.specs.Laws.{RunsAsStatements, assumes_no_all, supp
 use Rattle.es_export_splits.specs.Laws.{IsSplit}
 use Rattle.es_export_splits.specs.Splits.{has_split}
 use Rattle.es_helper_calls.specs.Importing.{imports_helpers}
+use Rattle.es_using_modules.specs.Laws.{IsTopped}
+use Rattle.es_using_modules.specs.ModuleTops.{uses_at_top}
 use Rattle.es_super_calls.specs.Constructors.{is_derived_class}
 use Rattle.lower_driver.specs.Copies.{IsCopy}
 use Rattle.lower_driver.specs.Imports.{Imports}
@@ -33,6 +35,7 @@ use Rattle.lower_driver.specs.Lowers.{Lowers, LowersInPlace, most_for_each, rest
 use Rattle.lower_driver.specs.Moves.{Moves}
 use Rattle.lower_driver.specs.Sets.{Sets, sets_this}
 use Rattle.lower_driver.specs.Splits.{Splits, splits_exports}
+use Rattle.lower_driver.specs.Tops.{Tops, lowers_top}
 use Rattle.lower_driver.specs.Uses.{Heads, Uses, lowers_using, names_helpers, using_there}
 use Rattle.lower_driver.specs.UnsupportedPrograms.{Finds, IsFirstOrMemory, IsUnsupportedOrMemory, first_refused}
 use Rattle.lower_driver.proofs.CopiedOptions.{copied-refused}
@@ -41,7 +44,8 @@ use Rattle.lower_driver.proofs.Imported.{core-unimporting, is-imported, none-lef
 use Rattle.lower_driver.proofs.Moved.{is-moved, moved-weight, moves-itself, no-moves, off-anyway, one-program, stays-itself}
 use Rattle.lower_driver.proofs.Set.{is-set, none-after, set-size, sets-itself}
 use Rattle.lower_driver.proofs.Splits.{is-split, off-without, one-split, same-rests, same-using, split-weight, splits-itself}
-use Rattle.lower_driver.proofs.Used.{all-weight, heads-itself, is-headed, is-used, one-headed, one-used, unasked-off, uses-itself}
+use Rattle.lower_driver.proofs.Tops.{is-topped, one-topped, top-weight, tops-as, tops-itself, untopped-off}
+use Rattle.lower_driver.proofs.Used.{heads-as, heads-itself, is-headed, is-used, one-headed, one-used, unasked-off, uses-as, uses-itself}
 
 -- ONE THING IS FOUND in a source
 
@@ -52,8 +56,10 @@ finds-one o p a b f g =
     let headed : f.headed ≡ g.headed = one-headed (lowers_using o g.split) g.split f.headed g.headed f.head_names g.head_names heads g.heads in
     let uses = subst (λ (t : Tree). Uses (lowers_using o g.split) t f.used f.context_names) headed (subst (λ (s : Tree). Uses (lowers_using o s) f.headed f.used f.context_names) first f.uses) in
     let same : f.used ≡ g.used = one-used (lowers_using o g.split) g.headed f.used g.used f.context_names g.context_names uses g.uses in
-    let there = subst (λ (t : Tree). Moves (is_some o.es2018.object_rest_spread) t f.moved f.names) same f.moves in
-    let moved : f.moved ≡ g.moved = one-program (is_some o.es2018.object_rest_spread) g.used f.moved g.moved f.names g.names there g.moves in
+    let tops = subst (λ (t : Tree). Tops (lowers_top o g.split t) t f.topped f.top_names) same (subst (λ (s : Tree). Tops (lowers_top o s f.used) f.used f.topped f.top_names) first f.tops) in
+    let topped : f.topped ≡ g.topped = one-topped (lowers_top o g.split g.used) g.used f.topped g.topped f.top_names g.top_names tops g.tops in
+    let there = subst (λ (t : Tree). Moves (is_some o.es2018.object_rest_spread) t f.moved f.names) topped f.moves in
+    let moved : f.moved ≡ g.moved = one-program (is_some o.es2018.object_rest_spread) g.topped f.moved g.moved f.names g.names there g.moves in
     sym f.first ∙ ap (λ (s : Tree). first_refused o (not (names_helpers s)) f.moved) first ∙ ap (first_refused o (not (names_helpers g.split))) moved ∙ g.first
 
 -- whatever copy of the options it is
@@ -73,9 +79,12 @@ copied-finds o c copy p a f = record {
   used = f.used;
   context_names = f.context_names;
   uses = subst (λ (b : Bool). Uses b f.headed f.used f.context_names) (copied-lowers o c copy f.split) f.uses;
+  topped = f.topped;
+  top_names = f.top_names;
+  tops = subst (λ (b : Bool). Tops b f.used f.topped f.top_names) (ap (λ b. b && uses_at_top f.used) (copied-lowers o c copy f.split)) f.tops;
   moved = f.moved;
   names = f.names;
-  moves = subst (λ (b : Bool). Moves b f.used f.moved f.names) (λ i. is_some (copy.es2018 i).object_rest_spread) f.moves;
+  moves = subst (λ (b : Bool). Moves b f.topped f.moved f.names) (λ i. is_some (copy.es2018 i).object_rest_spread) f.moves;
   first = sym (copied-refused o c copy (not (names_helpers f.split)) f.moved) ∙ f.first;
 }
 
@@ -84,18 +93,35 @@ pub finds-itself : (o : EnvOptions) (p : Tree) (a : Option (UnsupportedKind × �
 finds-itself o p a none rests first =
     let on = is_some o.es2018.object_rest_spread in
     let off = unasked-off o p none in
-    record { split = p; splits = splits-itself (splits_exports o p) p (off-without o p rests); headed = p; head_names = []; heads = heads-itself (lowers_using o p) p off; used = p; context_names = []; uses = uses-itself (lowers_using o p) p off; moved = p; names = []; moves = moves-itself on p (no-moves on p rests); first = first }
+    record { split = p; splits = splits-itself (splits_exports o p) p (off-without o p rests); headed = p; head_names = []; heads = heads-itself (lowers_using o p) p off; used = p; context_names = []; uses = uses-itself (lowers_using o p) p off; topped = p; top_names = []; tops = tops-itself (lowers_top o p p) p (untopped-off o p p off); moved = p; names = []; moves = moves-itself on p (no-moves on p rests); first = first }
 
--- HOW LARGE THE FIRST FOUR STAGES MAKE IT
+-- WHAT THE FIRST FIVE STAGES LEAVE is a program that breaks no static rule, where a flag tells whether `using` is lowered
+
+pub record IsValid (t : Tree) : Type 0 where
+  pub form : has_form s-Program t ≡ true
+  pub kept : breaks t ≡ []
+
+pub topped-valid : (o : EnvOptions) (s p t v z : Tree) (a : Bool) (heads contexts tops : List Text) → has_form s-Program s ≡ true → breaks s ≡ [] → a ≡ lowers_using o p → Splits (splits_exports o s) s p → Heads a p t heads → Uses a t v contexts → Tops (a && uses_at_top v) v z tops → IsValid z
+topped-valid o s p t v z a heads contexts tops form right e x h u y =
+    let first = is-split (splits_exports o s) s p form right x in
+    let second = is-headed o p first.form first.kept t heads (heads-as e h) in
+    let third = is-used o p first.form first.kept t v heads contexts (heads-as e h) (uses-as e u) in
+    let there = is-topped o p t v heads contexts (heads-as e h) second third z tops (tops-as e y) in
+    record { form = there.form; kept = there.kept }
+
+pub moved-valid : (o : EnvOptions) (z q : Tree) (names : List Text) → IsValid z → Moves (is_some o.es2018.object_rest_spread) z q names → IsValid q
+moved-valid o z q names h m = let there = is-moved o z q names h.form h.kept m in record { form = there.form; kept = there.kept }
+
+-- HOW LARGE THEY MAKE IT
 
 light : (p : Tree) → weighed p ≤ 7 * tree_size p
 light p = (law_moved_size_proof p (plainly []) (λ n t. refl)).1
 
-pub used-and-moved-size : (o : EnvOptions) (s p t v q : Tree) (heads contexts names : List Text) → has_form s-Program s ≡ true → Splits (splits_exports o s) s p → Heads (lowers_using o p) p t heads → Uses (lowers_using o p) t v contexts → Moves (is_some o.es2018.object_rest_spread) v q names →
+pub used-and-moved-size : (o : EnvOptions) (s p t v z q : Tree) (heads contexts tops names : List Text) → has_form s-Program s ≡ true → Splits (splits_exports o s) s p → Heads (lowers_using o p) p t heads → Uses (lowers_using o p) t v contexts → Tops (lowers_top o p v) v z tops → Moves (is_some o.es2018.object_rest_spread) z q names →
     tree_size q ≤ 10 * tree_size s
-used-and-moved-size o s p t v q heads contexts names form x h u m =
-    let heavy = all-weight (splits_exports o s) (lowers_using o p) s p t v heads contexts form (light s) x h u in
-    let paid = moved-weight (is_some o.es2018.object_rest_spread) v q names m in
+used-and-moved-size o s p t v z q heads contexts tops names form x h u y m =
+    let heavy = top-weight (splits_exports o s) (lowers_using o p) (uses_at_top v) s p t v z heads contexts tops form (light s) refl x h u y in
+    let paid = moved-weight (is_some o.es2018.object_rest_spread) z q names m in
     omega (arith, heavy, paid)
 
 -- WHAT A SOURCE BECOMES
@@ -105,8 +131,8 @@ none-more [] = refl
 none-more (x ∷ xs) = ap (λ ys. x ∷ ys) (none-more xs)
 
 module _
-    (o : EnvOptions) (s p t v q lowered imported written : Tree) (heads contexts names later last : List Text) (form : has_form s-Program s ≡ true) (right : breaks s ≡ []) (x : Splits (splits_exports o s) s p) (h : Heads (lowers_using o p) p t heads) (u : Uses (lowers_using o p) t v contexts)
-    (m : Moves (is_some o.es2018.object_rest_spread) v q names) (none : first_refused o (not (names_helpers p)) q ≡ None) (in_place : LowersInPlace o q lowered later) (imports : Imports (imports_helpers o (not (names_helpers p)) q) (string_bytes o.helper_loader.module_name) lowered imported last)
+    (o : EnvOptions) (s p t v z q lowered imported written : Tree) (heads contexts top_names names later last : List Text) (form : has_form s-Program s ≡ true) (right : breaks s ≡ []) (x : Splits (splits_exports o s) s p) (h : Heads (lowers_using o p) p t heads) (u : Uses (lowers_using o p) t v contexts)
+    (y : Tops (lowers_top o p v) v z top_names) (m : Moves (is_some o.es2018.object_rest_spread) z q names) (none : first_refused o (not (names_helpers p)) q ≡ None) (in_place : LowersInPlace o q lowered later) (imports : Imports (imports_helpers o (not (names_helpers p)) q) (string_bytes o.helper_loader.module_name) lowered imported last)
     (sets : Sets (sets_this o s) later imported written) where
   abbrev on : Bool
   on = is_some o.es2018.object_rest_spread
@@ -115,42 +141,53 @@ module _
   free = not (names_helpers p)
 
   abbrev all_names : List Text
-  all_names = heads ++ contexts ++ names ++ later ++ last
+  all_names = heads ++ contexts ++ top_names ++ names ++ later ++ last
 
   split_there : IsSplit (splits_exports o s) s p
   split_there = is-split (splits_exports o s) s p form right x
 
+  headed_there : IsUsed (lowers_using o p) p t heads
+  headed_there = is-headed o p split_there.form split_there.kept t heads h
+
   used_there : IsUsed (lowers_using o p) t v contexts
   used_there = is-used o p split_there.form split_there.kept t v heads contexts h u
 
-  moved_there : IsMoved on v q names
-  moved_there = is-moved o v q names used_there.form used_there.kept m
+  topped_there : IsTopped (lowers_top o p v) v z top_names
+  topped_there = is-topped o p t v heads contexts h headed_there used_there z top_names y
 
-  -- where no `using` is taken the second and the third stage leave it as it is
-  same-used : using_there o s ≡ false → (v ≡ p) × (heads ≡ []) × (contexts ≡ [])
+  moved_there : IsMoved on z q names
+  moved_there = is-moved o z q names topped_there.form topped_there.kept m
+
+  -- where no `using` is taken the second to the fourth stage leave it as it is
+  record Unused : Type 0 where
+    same : z ≡ p
+    heads_none : heads ≡ []
+    contexts_none : contexts ≡ []
+    tops_none : top_names ≡ []
+
+  same-used : using_there o s ≡ false → Unused
   same-used none =
       let off = unasked-off o p (same-using o s p x ∙ none) in
       let first = h.stays off in
       let second = u.stays off in
-      (second.0 ∙ first.0, first.1, second.1)
+      let third = y.stays (untopped-off o p v off) in
+      record { same = third.0 ∙ second.0 ∙ first.0; heads_none = first.1; contexts_none = second.1; tops_none = third.1 }
 
-  -- and where no rest is either so do the first and the fourth
+  -- and where no rest is either so do the first and the fifth
   record Same : Type 0 where
     split : p ≡ s
-    used : v ≡ s
     moved : q ≡ s
-    heads_none : heads ≡ []
-    contexts_none : contexts ≡ []
+    unused : Unused
     names_none : names ≡ []
 
   same-there : using_there o s ≡ false → rests_there o s ≡ false → Same
   same-there none_used none_moved =
       let first = x.stays (off-without o s none_moved) in
       let second = same-used none_used in
-      let there = second.0 ∙ first in
-      let rests : (on && any_node is_object_rest v) ≡ false = ap (λ (t : Tree). on && any_node is_object_rest t) there ∙ none_moved in
-      let third = stays-itself on v (no-moves on v rests) q names m in
-      record { split = first; used = there; moved = third.0 ∙ there; heads_none = second.1; contexts_none = second.2; names_none = third.1 }
+      let there = second.same ∙ first in
+      let rests : (on && any_node is_object_rest z) ≡ false = ap (λ (t : Tree). on && any_node is_object_rest t) there ∙ none_moved in
+      let third = stays-itself on z (no-moves on z rests) q names m in
+      record { split = first; moved = third.0 ∙ there; unused = second; names_none = third.1 }
 
   -- where it imports no helper, either, and has no class that extends another, what is lowered in place is what is written
   as-before : Same → imports_helpers o (not (names_helpers s)) s ≡ false → any_node is_derived_class s ≡ false → (written ≡ lowered) × (last ≡ [])
@@ -164,7 +201,8 @@ module _
       let same = same-there (off-anyway o.es2026.explicit_resource_management (any_node is_using s) (no-using s core.core)) (off-anyway on (any_node is_object_rest s) rests) in
       let stays = as-before same (core-unimporting o s core.core rests) (no-class s core.core) in
       let there : IsCoreResult o s lowered later = subst (λ (t : Tree). IsCoreResult o t lowered later) same.moved (in_place.core (subst (λ (t : Tree). IsCoreProgram t) (sym same.moved) core)) in
-      let named : all_names ≡ later = ap (λ (xs : List Text). xs ++ contexts ++ names ++ later ++ last) same.heads_none ∙ ap (λ (xs : List Text). xs ++ names ++ later ++ last) same.contexts_none ∙ ap (λ (xs : List Text). xs ++ later ++ last) same.names_none ∙ ap (λ (xs : List Text). later ++ xs) stays.1 ∙ none-more later in
+      let unused = same.unused in
+      let named : all_names ≡ later = ap (λ (xs : List Text). xs ++ contexts ++ top_names ++ names ++ later ++ last) unused.heads_none ∙ ap (λ (xs : List Text). xs ++ top_names ++ names ++ later ++ last) unused.contexts_none ∙ ap (λ (xs : List Text). xs ++ names ++ later ++ last) unused.tops_none ∙ ap (λ (xs : List Text). xs ++ later ++ last) same.names_none ∙ ap (λ (xs : List Text). later ++ xs) stays.1 ∙ none-more later in
       subst (λ (xs : List Text). IsCoreResult o s written xs) (sym named) (subst (λ (t : Tree). IsCoreResult o s t later) (sym stays.0) there)
 
   statements-there : using_there o s ≡ false → rests_there o s ≡ false → imports_helpers o (not (names_helpers s)) s ≡ false → RunsAsStatements o s → RunAlike (supply_there o s) (assumes_no_all o s) s written
@@ -175,9 +213,9 @@ module _
 
   -- SIZE
 
-  moved-size : v ≡ p → tree_size q ≤ 4 * tree_size s
+  moved-size : z ≡ p → tree_size q ≤ 4 * tree_size s
   moved-size same =
-      let paid : 2 * tree_size q ≤ weighed p = subst (λ (t : Tree). 2 * tree_size q ≤ weighed t) same (moved-weight on v q names m) in
+      let paid : 2 * tree_size q ≤ weighed p = subst (λ (t : Tree). 2 * tree_size q ≤ weighed t) same (moved-weight on z q names m) in
       let weight = split-weight (splits_exports o s) s p (light s) x in
       omega (arith, paid, weight)
 
@@ -189,8 +227,8 @@ module _
   lowered-size = at (using_there o s) (rests_there o s) refl refl
     where
       at : (a b : Bool) → using_there o s ≡ a → rests_there o s ≡ b → tree_size lowered ≤ most_for_each a b * tree_size s + 64
-      at true b e d = let g = most (rests_there o q) in_place.size in let z = used-and-moved-size o s p t v q heads contexts names form x h u m in omega (arith, g, z)
-      at false true e d = let g = most (rests_there o q) in_place.size in let z = moved-size (same-used e).0 in omega (arith, g, z)
+      at true b _ d = let g = most (rests_there o q) in_place.size in let e = used-and-moved-size o s p t v z q heads contexts top_names names form x h u y m in omega (arith, g, e)
+      at false true e d = let g = most (rests_there o q) in_place.size in let f = moved-size (same-used e).same in omega (arith, g, f)
       at false false e d =
           let same = same-there e d in
           subst (λ (n : ℕ). tree_size lowered ≤ n * tree_size s + 64) (ap (λ b. if b then 384 else 64) (ap (rests_there o) same.moved ∙ d)) (subst (λ (t : Tree). tree_size lowered ≤ (if rests_there o q then 384 else 64) * tree_size t + 64) same.moved in_place.size)
@@ -221,11 +259,15 @@ module _
     headed = t;
     head_names = heads;
     heads = h;
-    is_headed = is-headed o p split_there.form split_there.kept t heads h;
+    is_headed = headed_there;
     used = v;
     context_names = contexts;
     uses = u;
     is_used = used_there;
+    topped = z;
+    top_names = top_names;
+    tops = y;
+    is_topped = topped_there;
     moved = q;
     first_names = names;
     moves = m;
@@ -256,6 +298,9 @@ becomes-itself o p form right unused rests off none in_place =
     let u = uses-itself (lowers_using o p) p off_here in
     let m = moves-itself on p (no-moves on p rests) in
     let x = splits-itself (splits_exports o p) p (off-without o p rests) in
+    let y = tops-itself (lowers_top o p p) p (untopped-off o p p off_here) in
+    let headed-there = is-headed o p form right p [] h in
+    let used-there = is-used o p form right p p [] [] h u in
     let imports : Imports (imports_helpers o (not (names_helpers p)) p) (string_bytes o.helper_loader.module_name) p p [] = record { goes = λ asked. absurd (true≢false (sym asked ∙ off)); stays = λ e. (refl, refl) } in
     let sets = sets-itself (sets_this o p) p in
     record {
@@ -265,11 +310,15 @@ becomes-itself o p form right unused rests off none in_place =
       headed = p;
       head_names = [];
       heads = h;
-      is_headed = is-headed o p form right p [] h;
+      is_headed = headed-there;
       used = p;
       context_names = [];
       uses = u;
-      is_used = is-used o p form right p p [] [] h u;
+      is_used = used-there;
+      topped = p;
+      top_names = [];
+      tops = y;
+      is_topped = is-topped o p p p [] [] h headed-there used-there p [] y;
       moved = p;
       first_names = [];
       moves = m;
@@ -288,13 +337,13 @@ becomes-itself o p form right unused rests off none in_place =
       core = in_place.core;
       statements = λ no_using no_rests unasked runs. in_place.statements no_rests runs;
       unchanged = λ unasked. record { same = refl; no_names = refl };
-      size = sized o p p p p p p p p [] [] [] [] [] form right x h u m none in_place imports sets;
+      size = sized o p p p p p p p p p [] [] [] [] [] [] form right x h u y m none in_place imports sets;
     }
 
 -- WHY IT IS REFUSED
 
-pub cause-of : (o : EnvOptions) (s p t v q : Tree) (heads contexts names : List Text) (error : LowerError) → Splits (splits_exports o s) s p → Heads (lowers_using o p) p t heads → Uses (lowers_using o p) t v contexts → Moves (is_some o.es2018.object_rest_spread) v q names → IsFirstOrMemory o (not (names_helpers p)) q error →
-    IsUnsupportedOrMemory o s error
-cause-of o s p t v q heads contexts names (Unsupported kind id) x h u m e = record { split = p; splits = x; headed = t; head_names = heads; heads = h; used = v; context_names = contexts; uses = u; moved = q; names = names; moves = m; first = e }
-cause-of o s p t v q heads contexts names OutOfMemory x h u m e = tt
-cause-of o s p t v q heads contexts names _ x h u m e = absurd e
+pub cause-of : (o : EnvOptions) (s p t v z q : Tree) (heads contexts top_names names : List Text) (error : LowerError) → Splits (splits_exports o s) s p → Heads (lowers_using o p) p t heads → Uses (lowers_using o p) t v contexts → Tops (lowers_top o p v) v z top_names → Moves (is_some o.es2018.object_rest_spread) z q names →
+    IsFirstOrMemory o (not (names_helpers p)) q error → IsUnsupportedOrMemory o s error
+cause-of o s p t v z q heads contexts top_names names (Unsupported kind id) x h u y m e = record { split = p; splits = x; headed = t; head_names = heads; heads = h; used = v; context_names = contexts; uses = u; topped = z; top_names = top_names; tops = y; moved = q; names = names; moves = m; first = e }
+cause-of o s p t v z q heads contexts top_names names OutOfMemory x h u y m e = tt
+cause-of o s p t v z q heads contexts top_names names _ x h u y m e = absurd e

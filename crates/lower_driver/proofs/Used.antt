@@ -91,9 +91,6 @@ heads-as {p = p} {t = t} {names = names} e h = subst (λ (c : Bool). Heads c p t
 pub uses-as : {a b : Bool} {t q : Tree} {names : List Text} → a ≡ b → Uses a t q names → Uses b t q names
 uses-as {t = t} {q = q} {names = names} e u = subst (λ (c : Bool). Uses c t q names) e u
 
-pub used-by : (o : EnvOptions) (p : Tree) {a : Bool} {t q : Tree} {heads names : List Text} → has_form s-Program p ≡ true → breaks p ≡ [] → a ≡ lowers_using o p → Heads a p t heads → Uses a t q names → IsUsed (lowers_using o p) t q names
-used-by o p {t = t} {q = q} {heads = heads} {names = names} form right e h u = is-used o p form right t q heads names (heads-as e h) (uses-as e u)
-
 -- SIZE: what it weighs, once its exports were split, too
 
 used-weight : (on : Bool) (p t q : Tree) (heads names : List Text) → has_form s-Program p ≡ true → weighed p ≤ 20 * tree_size p → Heads on p t heads → Uses on t q names → weighed q ≤ 20 * tree_size p

@@ -4,6 +4,7 @@ pub mod Constructs
 pub mod Lowered
 pub mod Splits
 pub mod Uses
+pub mod Tops
 pub mod Sets
 pub mod Moves
 pub mod Lowers

@@ -10,6 +10,7 @@ use Rattle.es_json.specs.Canonical.{canonical}
 use Rattle.es_export_splits.specs.Laws.{IsSplit}
 use Rattle.es_helper_calls.specs.Importing.{imports_helpers}
 use Rattle.es_helper_imports.specs.Laws.{IsImported}
+use Rattle.es_using_modules.specs.Laws.{IsTopped}
 use Rattle.es_lowered.specs.Lowered.{IsLowered}
 use Rattle.es_lowered.specs.Moved.{IsMoved}
 use Rattle.es_lowered.specs.Set.{IsSet}
@@ -21,6 +22,7 @@ use Rattle.lower_driver.specs.Imports.{Imports}
 use Rattle.lower_driver.specs.Moves.{Moves}
 use Rattle.lower_driver.specs.Sets.{Sets, sets_this}
 use Rattle.lower_driver.specs.Splits.{Splits, splits_exports}
+use Rattle.lower_driver.specs.Tops.{Tops, lowers_top}
 use Rattle.lower_driver.specs.Uses.{Heads, Uses, lowers_using, names_helpers, using_there}
 
 -- a source as it is written, with no name made
@@ -68,16 +70,21 @@ pub record Lowers (o : EnvOptions) (source written : Tree) (names : List Text) :
   pub head_names : List Text
   pub heads : Heads (lowers_using o split) split headed head_names
   pub is_headed : IsUsed (lowers_using o split) split headed head_names
-  -- and is lowered, by steps of its rules, of which the same holds.
+  -- is lowered, by steps of its rules, of which the same holds,
   pub used : Tree
   pub context_names : List Text
   pub uses : Uses (lowers_using o split) headed used context_names
   pub is_used : IsUsed (lowers_using o split) headed used context_names
+  -- and so at the top of a module, by a step of a rule, of which the same holds.
+  pub topped : Tree
+  pub top_names : List Text
+  pub tops : Tops (lowers_top o split used) used topped top_names
+  pub is_topped : IsTopped (lowers_top o split used) used topped top_names
   -- Then patterns with a rest move to declarations of their own, by steps of the rows that do so, of which the same holds.
   pub moved : Tree
   pub first_names : List Text
-  pub moves : Moves (is_some o.es2018.object_rest_spread) used moved first_names
-  pub is_moved : IsMoved (is_some o.es2018.object_rest_spread) used moved first_names
+  pub moves : Moves (is_some o.es2018.object_rest_spread) topped moved first_names
+  pub is_moved : IsMoved (is_some o.es2018.object_rest_spread) topped moved first_names
   -- Then constructs are lowered where they stand,
   pub lowered : Tree
   pub later_names : List Text
@@ -92,7 +99,7 @@ pub record Lowers (o : EnvOptions) (source written : Tree) (names : List Text) :
   -- keeps its binding, what is written has form, keeps all static rules, asks for the same modules and exports the same names.
   pub sets : Sets (sets_this o source) later_names imported written
   pub is_set : IsSet (sets_this o source) imported written
-  pub all_names : names ≡ head_names ++ context_names ++ first_names ++ later_names ++ last_names
+  pub all_names : names ≡ head_names ++ context_names ++ top_names ++ first_names ++ later_names ++ last_names
   -- no construct is left that the options ask to lower
   pub none : has_enabled_construct o written ≡ false
   -- In a core program no `using` stands, no pattern moves, no helper is imported and no constructor stands, nor in one of statements where neither

@@ -14,6 +14,7 @@ use Rattle.es_helper_calls.specs.Importing.{first_unimported}
 use Rattle.es_unsupported.specs.FirstUnsupported.{first_unsupported}
 use Rattle.lower_driver.specs.Moves.{Moves}
 use Rattle.lower_driver.specs.Splits.{Splits, splits_exports}
+use Rattle.lower_driver.specs.Tops.{Tops, lowers_top}
 use Rattle.lower_driver.specs.Uses.{Heads, Uses, lowers_using, names_helpers}
 
 -- of a program in which no pattern moves any more, where the source names no `babelHelpers` itself, or does
@@ -31,9 +32,12 @@ pub record Finds (o : EnvOptions) (source : Tree) (found : Option (UnsupportedKi
   pub used : Tree
   pub context_names : List Text
   pub uses : Uses (lowers_using o split) headed used context_names
+  pub topped : Tree
+  pub top_names : List Text
+  pub tops : Tops (lowers_top o split used) used topped top_names
   pub moved : Tree
   pub names : List Text
-  pub moves : Moves (is_some o.es2018.object_rest_spread) used moved names
+  pub moves : Moves (is_some o.es2018.object_rest_spread) topped moved names
   pub first : first_refused o (not (names_helpers split)) moved ≡ found
 
 abbrev pub IsUnsupported : EnvOptions → Tree → UnsupportedKind → NodeId → Type 0

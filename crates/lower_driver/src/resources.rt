@@ -1,5 +1,8 @@
-//! What comes first of a run: `using` moves out of heads of loops, and is lowered, so that a `try` disposes of its resources.
+//! `using`, before constructs are lowered in place: it moves out of heads of loops, and is lowered, at last at the top of a module, so that a `try` disposes
+//! of its resources.
 ghost use Rattle.std.specs.Prelude.{◌≡◌, ◌&&◌, IfOk, map, not, string_bytes};
+ghost use Rattle.es_using_modules.specs.ModuleTops.{uses_at_top};
+ghost use Rattle.lower_driver.specs.Tops.{Tops};
 ghost use Rattle.lower_driver.specs.Uses.{Heads, Uses, lowers_using, names_helpers, using_there};
 
 use es_json::program::ReadProgram;
@@ -7,6 +10,7 @@ use es_move_nodes::standing::stands;
 use es_searches::{Sought, has_node};
 use es_tree::node::Node;
 use es_tree::options::EnvOptions;
+use lower_using_modules::{lower_module, uses_at_top};
 use std::alloc::{AllocError, Global};
 
 /// Whether a `using` stands that is to be lowered, where `free` tells that the program doesn't name `babelHelpers` itself.
@@ -50,6 +54,24 @@ pub(crate) fn lower_using(
     }
     let ReadProgram { program, ast } = read;
     let (program, names) = lower_using::lower_using(alloc, program)?;
+    Ok((ReadProgram { program, ast }, names))
+}
+
+/// Lowers the `using` at the top of a module, where that is asked for. Answers the names that were made. Fails only for want of
+/// memory.
+pub(crate) fn lower_top(
+    alloc: Global,
+    read: ReadProgram,
+    asked: bool,
+) -> Result<(ReadProgram, Vec<String>), AllocError>
+    ensures tops { IfOk result (λ made. Tops (asked && uses_at_top read.program) read.program made.0.program (map string_bytes made.1.items)) }
+    ensures next { IfOk result (λ made. made.0.ast.next ≡ read.ast.next) }
+{
+    if !(asked && uses_at_top(&read.program)) {
+        return Ok((read, Vec::new(alloc)));
+    }
+    let ReadProgram { program, ast } = read;
+    let (program, names) = lower_module(alloc, program)?;
     Ok((ReadProgram { program, ast }, names))
 }
 

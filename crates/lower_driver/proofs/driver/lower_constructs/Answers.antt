@@ -6,52 +6,36 @@ use Rattle.es_scope.specs.Contexts.{made_of}
 use Rattle.lower_driver.specs.Imports.{Imports}
 use Rattle.lower_driver.specs.Lowers.{Lowers, LowersInPlace}
 use Rattle.lower_driver.specs.Sets.{Sets, sets_this}
-use Rattle.lower_driver.specs.Splits.{splits_exports}
 use Rattle.lower_driver.specs.UnsupportedPrograms.{first_refused}
 use Rattle.lower_driver.specs.Uses.{names_helpers}
-use Rattle.lower_driver.proofs.Moved.{is-moved, map-joined}
-use Rattle.lower_driver.proofs.Stages.{lowers, used-and-moved-size}
-use Rattle.lower_driver.proofs.Splits.{is-split}
-use Rattle.lower_driver.proofs.Used.{heads-as, used-by, uses-as}
+use Rattle.lower_driver.proofs.Moved.{map-joined}
+use Rattle.lower_driver.proofs.Stages.{lowers, moved-valid, topped-valid, used-and-moved-size}
+use Rattle.lower_driver.proofs.Tops.{tops-as}
+use Rattle.lower_driver.proofs.Used.{heads-as, uses-as}
 use Rattle.lower_driver.proofs.driver.lower_constructs.Goals as goal
 
 pub move_patterns-requires : goal.move_patterns-requires
-move_patterns-requires c =
-    let o = c.args.options.now in
-    let there = is-split (splits_exports o c.args.read.program) c.args.read.program c.in_ok-split.split.program c.requires.form c.requires.kept c.in_ok-split.ensures.splits in
-    record { form = (used-by o c.in_ok-split.split.program there.form there.kept c.asks_for_using-asked.ensures c.in_ok-headed.ensures.heads c.in_ok-used.ensures.uses).form }
+move_patterns-requires c = record { form = (topped-valid c.args.options.now c.args.read.program c.in_ok-split.split.program c.in_ok-headed.headed.program c.in_ok-used.used.program c.in_ok-topped.topped.program c.asks_for_using-asked.result (map string_bytes c.in_ok-headed.names.items) (map string_bytes c.in_ok-used.contexts.items) (map string_bytes c.in_ok-topped.top.items) c.requires.form c.requires.kept c.asks_for_using-asked.ensures c.in_ok-split.ensures.splits c.in_ok-headed.ensures.heads c.in_ok-used.ensures.uses c.in_ok-topped.ensures.tops).form }
 
 pub lower_in_place-requires-clause-form : goal.lower_in_place-requires-clause-form
-lower_in_place-requires-clause-form c =
-    let o = c.args.options.now in
-    let there = is-split (splits_exports o c.args.read.program) c.args.read.program c.in_ok-split.split.program c.requires.form c.requires.kept c.in_ok-split.ensures.splits in
-    let used = used-by o c.in_ok-split.split.program there.form there.kept c.asks_for_using-asked.ensures c.in_ok-headed.ensures.heads c.in_ok-used.ensures.uses in
-    (is-moved o c.in_ok-used.used.program c.in_ok-moved.moved.program (map string_bytes c.in_ok-moved.first.items) used.form used.kept c.in_ok-moved.ensures.moves).form
+lower_in_place-requires-clause-form c = (moved-valid c.args.options.now c.in_ok-topped.topped.program c.in_ok-moved.moved.program (map string_bytes c.in_ok-moved.first.items) (topped-valid c.args.options.now c.args.read.program c.in_ok-split.split.program c.in_ok-headed.headed.program c.in_ok-used.used.program c.in_ok-topped.topped.program c.asks_for_using-asked.result (map string_bytes c.in_ok-headed.names.items) (map string_bytes c.in_ok-used.contexts.items) (map string_bytes c.in_ok-topped.top.items) c.requires.form c.requires.kept c.asks_for_using-asked.ensures c.in_ok-split.ensures.splits c.in_ok-headed.ensures.heads c.in_ok-used.ensures.uses c.in_ok-topped.ensures.tops) c.in_ok-moved.ensures.moves).form
 
 pub lower_in_place-requires-clause-kept : goal.lower_in_place-requires-clause-kept
-lower_in_place-requires-clause-kept c =
-    let o = c.args.options.now in
-    let there = is-split (splits_exports o c.args.read.program) c.args.read.program c.in_ok-split.split.program c.requires.form c.requires.kept c.in_ok-split.ensures.splits in
-    let used = used-by o c.in_ok-split.split.program there.form there.kept c.asks_for_using-asked.ensures c.in_ok-headed.ensures.heads c.in_ok-used.ensures.uses in
-    (is-moved o c.in_ok-used.used.program c.in_ok-moved.moved.program (map string_bytes c.in_ok-moved.first.items) used.form used.kept c.in_ok-moved.ensures.moves).kept
+lower_in_place-requires-clause-kept c = (moved-valid c.args.options.now c.in_ok-topped.topped.program c.in_ok-moved.moved.program (map string_bytes c.in_ok-moved.first.items) (topped-valid c.args.options.now c.args.read.program c.in_ok-split.split.program c.in_ok-headed.headed.program c.in_ok-used.used.program c.in_ok-topped.topped.program c.asks_for_using-asked.result (map string_bytes c.in_ok-headed.names.items) (map string_bytes c.in_ok-used.contexts.items) (map string_bytes c.in_ok-topped.top.items) c.requires.form c.requires.kept c.asks_for_using-asked.ensures c.in_ok-split.ensures.splits c.in_ok-headed.ensures.heads c.in_ok-used.ensures.uses c.in_ok-topped.ensures.tops) c.in_ok-moved.ensures.moves).kept
 
 pub lower_in_place-requires-clause-size : goal.lower_in_place-requires-clause-size
 lower_in_place-requires-clause-size c =
-    let size = used-and-moved-size c.args.options.now c.args.read.program c.in_ok-split.split.program c.in_ok-headed.headed.program c.in_ok-used.used.program c.in_ok-moved.moved.program (map string_bytes c.in_ok-headed.names.items) (map string_bytes c.in_ok-used.contexts.items) (map string_bytes c.in_ok-moved.first.items) c.requires.form c.in_ok-split.ensures.splits (heads-as c.asks_for_using-asked.ensures c.in_ok-headed.ensures.heads) (uses-as c.asks_for_using-asked.ensures c.in_ok-used.ensures.uses) c.in_ok-moved.ensures.moves in
+    let size = used-and-moved-size c.args.options.now c.args.read.program c.in_ok-split.split.program c.in_ok-headed.headed.program c.in_ok-used.used.program c.in_ok-topped.topped.program c.in_ok-moved.moved.program (map string_bytes c.in_ok-headed.names.items) (map string_bytes c.in_ok-used.contexts.items) (map string_bytes c.in_ok-topped.top.items) (map string_bytes c.in_ok-moved.first.items) c.requires.form c.in_ok-split.ensures.splits (heads-as c.asks_for_using-asked.ensures c.in_ok-headed.ensures.heads) (uses-as c.asks_for_using-asked.ensures c.in_ok-used.ensures.uses) (tops-as c.asks_for_using-asked.ensures c.in_ok-topped.ensures.tops) c.in_ok-moved.ensures.moves in
     omega (arith, size, c.requires.size)
 
 pub lower_in_place-requires-clause-next : goal.lower_in_place-requires-clause-next
-lower_in_place-requires-clause-next c = omega (arith, c.in_ok-moved.ensures.next, c.in_ok-used.ensures.next, c.in_ok-headed.ensures.next, c.in_ok-split.ensures.next, c.requires.next, c.requires.size)
+lower_in_place-requires-clause-next c = omega (arith, c.in_ok-moved.ensures.next, c.in_ok-topped.ensures.next, c.in_ok-used.ensures.next, c.in_ok-headed.ensures.next, c.in_ok-split.ensures.next, c.requires.next, c.requires.size)
 
 pub import_helpers-requires : goal.import_helpers-requires
 import_helpers-requires c = record { form = c.in_ok-lowered.ensures.lowers.result.form }
 
 pub of_program-imports-requires : goal.of_program-imports-requires
-of_program-imports-requires c =
-    let o = c.args.options.now in
-    let there = is-split (splits_exports o c.args.read.program) c.args.read.program c.in_ok-split.split.program c.requires.form c.requires.kept c.in_ok-split.ensures.splits in
-    let used = used-by o c.in_ok-split.split.program there.form there.kept c.asks_for_using-asked.ensures c.in_ok-headed.ensures.heads c.in_ok-used.ensures.uses in
-    (is-moved o c.in_ok-used.used.program c.in_ok-moved.moved.program (map string_bytes c.in_ok-moved.first.items) used.form used.kept c.in_ok-moved.ensures.moves).form
+of_program-imports-requires c = (moved-valid c.args.options.now c.in_ok-topped.topped.program c.in_ok-moved.moved.program (map string_bytes c.in_ok-moved.first.items) (topped-valid c.args.options.now c.args.read.program c.in_ok-split.split.program c.in_ok-headed.headed.program c.in_ok-used.used.program c.in_ok-topped.topped.program c.asks_for_using-asked.result (map string_bytes c.in_ok-headed.names.items) (map string_bytes c.in_ok-used.contexts.items) (map string_bytes c.in_ok-topped.top.items) c.requires.form c.requires.kept c.asks_for_using-asked.ensures c.in_ok-split.ensures.splits c.in_ok-headed.ensures.heads c.in_ok-used.ensures.uses c.in_ok-topped.ensures.tops) c.in_ok-moved.ensures.moves).form
 
 pub returns-clause-lowers : goal.returns-clause-lowers
 returns-clause-lowers c =
@@ -63,6 +47,7 @@ returns-clause-lowers c =
     let written = c.in_ok-program.program in
     let heads = c.in_ok-headed.names.items in
     let contexts = c.in_ok-used.contexts.items in
+    let tops = c.in_ok-topped.top.items in
     let first = c.in_ok-moved.first.items in
     let later = c.into_uids.result.items in
     let last = c.in_ok-imported.last.items in
@@ -72,14 +57,15 @@ returns-clause-lowers c =
     subst (λ (on : Bool). Imports on (string_bytes o.helper_loader.module_name) c.in_ok-lowered.lowered imported (map string_bytes last)) asked c.in_ok-imported.ensures.imports in
     let in_place : LowersInPlace o q c.in_ok-lowered.lowered (map string_bytes later) = subst (λ (names : List Text). LowersInPlace o q c.in_ok-lowered.lowered names) (sym c.into_uids.ensures) c.in_ok-lowered.ensures.lowers in
     let sets : Sets (sets_this o s) (map string_bytes later) imported written =
-    subst (λ (names : List Text). Sets (sets_this o p) names imported written) (sym c.into_uids.ensures) (subst (λ (on : Bool). Sets on (made_of c.in_ok-lowered.ctx) imported written) c.sets_this-sets.ensures c.in_ok-program.ensures) in
+    subst (λ (names : List Text). Sets (sets_this o s) names imported written) (sym c.into_uids.ensures) (subst (λ (on : Bool). Sets on (made_of c.in_ok-lowered.ctx) imported written) c.sets_this-sets.ensures c.in_ok-program.ensures) in
     let none : first_refused o (not (names_helpers p)) q ≡ None = subst (λ (b : Bool). first_refused o b q ≡ None) free c.in_ok-lowered.ensures.taken in
-    let made : Lowers o s written (map string_bytes heads ++ map string_bytes contexts ++ map string_bytes first ++ map string_bytes later ++ map string_bytes last) =
-    lowers o s p c.in_ok-headed.headed.program c.in_ok-used.used.program q c.in_ok-lowered.lowered imported written (map string_bytes heads) (map string_bytes contexts) (map string_bytes first) (map string_bytes later) (map string_bytes last) c.requires.form c.requires.kept c.in_ok-split.ensures.splits (heads-as c.asks_for_using-asked.ensures c.in_ok-headed.ensures.heads) (uses-as c.asks_for_using-asked.ensures c.in_ok-used.ensures.uses) c.in_ok-moved.ensures.moves none in_place imports sets c.requires.some in
+    let made : Lowers o s written (map string_bytes heads ++ map string_bytes contexts ++ map string_bytes tops ++ map string_bytes first ++ map string_bytes later ++ map string_bytes last) =
+    lowers o s p c.in_ok-headed.headed.program c.in_ok-used.used.program c.in_ok-topped.topped.program q c.in_ok-lowered.lowered imported written (map string_bytes heads) (map string_bytes contexts) (map string_bytes tops) (map string_bytes first) (map string_bytes later) (map string_bytes last) c.requires.form c.requires.kept c.in_ok-split.ensures.splits (heads-as c.asks_for_using-asked.ensures c.in_ok-headed.ensures.heads) (uses-as c.asks_for_using-asked.ensures c.in_ok-used.ensures.uses) (tops-as c.asks_for_using-asked.ensures c.in_ok-topped.ensures.tops) c.in_ok-moved.ensures.moves none in_place imports sets c.requires.some in
+    let four = ((heads ++ contexts) ++ tops) ++ first in
     let joined =
-    ap (map string_bytes) (c.in_ok-append-4.ensures.items ∙ ap (λ xs. xs ++ last) (c.in_ok-append-3.ensures.items ∙ ap (λ xs. xs ++ later) (c.in_ok-append-2.ensures.items ∙ ap (λ xs. xs ++ first) c.in_ok-append.ensures.items))) ∙ map-joined string_bytes (((heads ++ contexts) ++ first) ++ later) last
+    ap (map string_bytes) (c.in_ok-append-5.ensures.items ∙ ap (λ xs. xs ++ last) (c.in_ok-append-4.ensures.items ∙ ap (λ xs. xs ++ later) (c.in_ok-append-3.ensures.items ∙ ap (λ xs. xs ++ first) (c.in_ok-append-2.ensures.items ∙ ap (λ xs. xs ++ tops) c.in_ok-append.ensures.items)))) ∙ map-joined string_bytes (four ++ later) last
     ∙ ap (λ xs. xs ++ map string_bytes last)
-    (map-joined string_bytes ((heads ++ contexts) ++ first) later ∙ ap (λ xs. xs ++ map string_bytes later) (map-joined string_bytes (heads ++ contexts) first ∙ ap (λ xs. xs ++ map string_bytes first) (map-joined string_bytes heads contexts))) in
+    (map-joined string_bytes four later ∙ ap (λ xs. xs ++ map string_bytes later) (map-joined string_bytes ((heads ++ contexts) ++ tops) first ∙ ap (λ xs. xs ++ map string_bytes first) (map-joined string_bytes (heads ++ contexts) tops ∙ ap (λ xs. xs ++ map string_bytes tops) (map-joined string_bytes heads contexts)))) in
     subst (λ (names : List Text). Lowers o s written names) (sym joined) made
 
 pub returns-clause-taken : goal.returns-clause-taken
@@ -92,6 +78,9 @@ returns-clause-taken c = record {
   used = c.in_ok-used.used.program;
   context_names = map string_bytes c.in_ok-used.contexts.items;
   uses = uses-as c.asks_for_using-asked.ensures c.in_ok-used.ensures.uses;
+  topped = c.in_ok-topped.topped.program;
+  top_names = map string_bytes c.in_ok-topped.top.items;
+  tops = tops-as c.asks_for_using-asked.ensures c.in_ok-topped.ensures.tops;
   moved = c.in_ok-moved.moved.program;
   names = map string_bytes c.in_ok-moved.first.items;
   moves = c.in_ok-moved.ensures.moves;
