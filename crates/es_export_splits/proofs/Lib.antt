@@ -1,0 +1,10 @@
+pub mod ExportNames
+pub mod ExportKept
+pub mod ExportRules
+pub mod ExportForms
+pub mod ExportPlaces
+pub mod ExportClaims
+pub mod ExportStatic
+pub mod ExportSteps
+pub mod ExportBare
+pub mod ExportSplits

@@ -1,12 +1,11 @@
 -- Exports of declarations with an object rest (ECMA-262, 16.2.3): `export const { a, ...b } = c;` becomes
 -- `const { a, ...b } = c; export { a, b };`, whose declaration is then lowered as any other, and what it makes beside isn't exported.
-use Rattle.std.specs.Prelude.{◌≡◌, ◌||◌, Bool, false, true, List, [], ◌∷◌, ◌++◌, None, Option, Some, if◌then◌else◌}
+use Rattle.std.specs.Prelude.{◌||◌, Bool, false, List, [], ◌∷◌, ◌++◌, if◌then◌else◌}
 use Rattle.es_tree.specs.BoundNames.{bound_identifiers}
 use Rattle.es_tree.specs.Names.{first_text}
-use Rattle.es_tree.specs.Tree.{Tree, node, Label, Fields, done, ◌then◌, missing, one, many, statements, Trees, empty, ◌before◌, label_of}
+use Rattle.es_tree.specs.Tree.{Tree, node, Label, done, ◌then◌, missing, one, many, statements, Trees, empty, ◌before◌, label_of}
 use Rattle.es_tree.specs.Words.{Text}
 use Rattle.es_tree.specs.declared.ast_type.AstType.TheVariants.{ExportNamedDeclaration, ExportSpecifier, Program, VariableDeclaration, VariableDeclarator}
-use Rattle.es_resolution.specs.Declarations.{Bound}
 use Rattle.es_steps.specs.Nodes.{identifier, made, word}
 use Rattle.es_steps.specs.UsingBodies.{bound_as}
 use Rattle.es_pattern_moves.specs.Moved.{made_for, plain_name}
