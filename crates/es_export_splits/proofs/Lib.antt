@@ -2,3 +2,13 @@ pub mod SplitStays
 pub mod SplitTests
 pub mod SplitWeights
 pub mod SplitUsedWeights
+pub mod ExportNames
+pub mod ExportKept
+pub mod ExportRules
+pub mod ExportForms
+pub mod ExportPlaces
+pub mod ExportClaims
+pub mod ExportStatic
+pub mod ExportSteps
+pub mod ExportBare
+pub mod ExportSplits
