@@ -18,7 +18,7 @@ use Rattle.es_rest_shapes.specs.RestShapes.{declares_rest, is_rest_declaration}
 use Rattle.es_rest_shapes.proofs.NoneLeft.{law_declared_rests_proof}
 use Rattle.es_export_splits.specs.Laws.{IsElsewhere, IsSplit, split_rules}
 use Rattle.es_export_splits.specs.Splits.{has_split, is_split, plainly, some_split, split}
-use Rattle.es_export_splits.proofs.SplitReached.{law_split_proof}
+use Rattle.es_export_splits.proofs.ExportSplits.{law_split_proof}
 use Rattle.es_export_splits.proofs.SplitTests.{law_elsewhere_proof}
 use Rattle.es_export_splits.proofs.SplitWeights.{law_split_weighs_proof}
 use Rattle.es_using_heads.specs.Heads.{headed}
