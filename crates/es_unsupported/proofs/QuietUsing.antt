@@ -1,4 +1,4 @@
--- What holds no `using` is no loop whose head asks a name that is declared so, and no function whose body clashes.
+-- What holds no `using` is no loop whose head asks a name that is declared so, and no function or static block that clashes.
 use Rattle.std.proofs.Common.{◌≡◌, refl, ap, List, [], ◌∷◌, Option, Some, bytes_eq, codes}
 use Rattle.std.specs.Prelude.{false, ◌&&◌, not}
 use Rattle.std.proofs.lemmas.Bool.{or_from, or_parts}
@@ -8,13 +8,13 @@ use Rattle.es_tree.specs.Tree.{Tree, node, Label, Fields, done, ◌then◌, miss
 use Rattle.es_tree.specs.Walks.{any_in_field, any_in_fields, any_in_trees, any_node}
 use Rattle.es_tree.specs.Words.{Text}
 use Rattle.es_tree.specs.declared.ast_type.AstType.{AstType}
-use Rattle.es_tree.specs.declared.ast_type.AstType.TheVariants.{ArrowFunctionExpression, ForOfStatement, FunctionBody, FunctionDeclaration, FunctionExpression, VariableDeclaration, VariableDeclarator}
+use Rattle.es_tree.specs.declared.ast_type.AstType.TheVariants.{ArrowFunctionExpression, ForOfStatement, FunctionBody, FunctionDeclaration, FunctionExpression, StaticBlock, VariableDeclaration, VariableDeclarator}
 use Rattle.es_steps.specs.UsingBlocks.{has_using}
 use Rattle.es_rest_shapes.specs.RestShapes.{is_name}
 use Rattle.es_pattern_moves.specs.PatternMoves.{meets}
 use Rattle.es_using_rows.specs.UsingPlaces.{is_using_word, may_enter}
 use Rattle.es_using_heads.specs.Heads.{asks_from_head, asks_its_name}
-use Rattle.es_using_nodes.specs.Clashes.{clashes, clashes_in_arrow, clashes_in_body, clashes_in_function}
+use Rattle.es_using_nodes.specs.Clashes.{clashes, clashes_in_arrow, clashes_in_body, clashes_in_function, clashes_in_static_block}
 
 -- HEADS
 
@@ -61,8 +61,13 @@ arrow-none : (fs : Fields) → any_in_fields is_using fs ≡ false → clashes_i
 arrow-none (many ps then one b then done) h = body-none ps b (last-none b (or_parts (any_in_trees is_using ps) (any_in_fields is_using (one b then done)) h).1)
 arrow-none _ h = refl
 
+static-none : (fs : Fields) → any_in_fields is_using fs ≡ false → clashes_in_static_block fs ≡ false
+static-none (statements ts then done) h = ap (λ c. c && not (may_enter empty ts)) (has-none ts (or_parts (any_in_trees is_using ts) false h).0)
+static-none _ h = refl
+
 pub clashes-none : (k : AstType) (fs : Fields) → any_in_fields is_using fs ≡ false → clashes k fs ≡ false
 clashes-none FunctionDeclaration fs h = function-none fs h
 clashes-none FunctionExpression fs h = function-none fs h
 clashes-none ArrowFunctionExpression fs h = arrow-none fs h
+clashes-none StaticBlock fs h = static-none fs h
 clashes-none _ fs h = refl

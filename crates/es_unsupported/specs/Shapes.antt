@@ -117,7 +117,7 @@ is_tag_chain o ds up k l fs = o.es2020.optional_chaining && has_chain_tag k l fs
 abbrev pub is_head_name : EnvOptions → List Declared → List ℕ → AstType → Label → Fields → Bool
 is_head_name o ds up k l fs = o.es2026.explicit_resource_management && asks_its_name k l fs
 
--- and in a body whose functions at the top can't become those of a block (14.2.1)
+-- and in a body, or a static block of a class, whose functions at the top can't become those of a block (14.2.1)
 abbrev pub is_using_function : EnvOptions → List Declared → List ℕ → AstType → Label → Fields → Bool
 is_using_function o ds up k l fs = o.es2026.explicit_resource_management && clashes k fs
 

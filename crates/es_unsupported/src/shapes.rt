@@ -206,7 +206,8 @@ fn is_head_name(node: &Node, wanted: Wanted) -> bool
     wanted.using_declaration && asks_its_name(node)
 }
 
-/// Whether the node is a function whose body declares directly by `using`, and whose functions at the top can't become those of a block.
+/// Whether the node is a function whose body declares directly by `using`, or a static block that does, and whose functions at the top can't
+/// become those of a block.
 fn is_using_function(node: &Node, wanted: Wanted) -> bool
     ensures { (o : PlainOptions) (ds : List Declared) (up : List ℕ) → IsWanted wanted o ds → result ≡ is_using_function o ds up (kind_of node.now) (label_of node.now) (fields_of node.now) }
 {

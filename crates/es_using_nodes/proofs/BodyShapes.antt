@@ -1,10 +1,10 @@
--- Functions whose bodies clash, as the code tests them, and as they are defined: other numbers of fields pass no test.
-use Rattle.std.proofs.Common.{◌≡◌, ◌<◌, List, false, length, refl}
+-- Functions whose bodies clash, and static blocks that do, as the code tests them, and as they are defined: other numbers of fields pass no test.
+use Rattle.std.proofs.Common.{◌≡◌, ◌<◌, ◌∷◌, List, [], arith, false, length, refl}
 use Rattle.es_tree.specs.Tree.{Fields, done, ◌then◌, Field, missing, one, many, statements, Trees}
-use Rattle.es_tree.specs.Views.{plain_fields}
+use Rattle.es_tree.specs.Views.{plain_field, plain_fields}
 use Rattle.es_tree.specs.declared.node.Field.{Field as NodeField}
 use Rattle.es_using_nodes.specs.BodyFields.{clashes_in_statements}
-use Rattle.es_using_nodes.specs.Clashes.{clashes_in_arrow, clashes_in_function}
+use Rattle.es_using_nodes.specs.Clashes.{clashes_in_arrow, clashes_in_function, clashes_in_static_block}
 use Rattle.es_using_nodes.proofs.FieldCounts.{fewer, fewer-than-three, more, more-than-three}
 
 -- FUNCTIONS
@@ -76,3 +76,16 @@ module _ (ps : Trees) where
 
   pub more-directives : (fs : List NodeField) → 2 < length fs → clashes_in_statements ps (plain_fields fs) ≡ false
   more-directives = more (clashes_in_statements ps) refl directives-alone directives-longer
+
+-- STATIC BLOCKS
+
+two-of-static : (f g : Field) (fs : Fields) → clashes_in_static_block (f then g then fs) ≡ false
+two-of-static missing g fs = refl
+two-of-static (one t) g fs = refl
+two-of-static (many ts) g fs = refl
+two-of-static (statements ts) g fs = refl
+
+pub more-static : (fs : List NodeField) → 1 < length fs → clashes_in_static_block (plain_fields fs) ≡ false
+more-static [] h = absurd (omega (arith, h))
+more-static (f ∷ []) h = absurd (omega (arith, h))
+more-static (f ∷ g ∷ fs) h = two-of-static (plain_field f) (plain_field g) (plain_fields fs)

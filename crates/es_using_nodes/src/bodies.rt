@@ -1,18 +1,18 @@
-//! Bodies of functions in which `using` stands (Explicit Resource Management, 14.3.1), and whose functions can't become those of a block (ECMA-262,
-//! 14.2.1): `function f(g) { using a = b; function g() {} }`, where a parameter has the name of one.
+//! Bodies of functions, and static blocks of classes, in which `using` stands (Explicit Resource Management, 14.3.1), and whose functions can't
+//! become those of a block (ECMA-262, 14.2.1): `function f(g) { using a = b; function g() {} }`, where a parameter has the name of one.
 ghost use Rattle.std.specs.Prelude.{◌≡◌};
 ghost use Rattle.es_tree.specs.Tree.{fields_of, kind_of, trees};
 ghost use Rattle.es_tree.specs.Views.{plain_fields};
 ghost use Rattle.es_steps.specs.UsingBlocks.{has_using};
 ghost use Rattle.es_using_nodes.specs.BodyFields.{clashes_in_statements};
-ghost use Rattle.es_using_nodes.specs.Clashes.{clashes, clashes_in_arrow, clashes_in_body, clashes_in_function};
+ghost use Rattle.es_using_nodes.specs.Clashes.{clashes, clashes_in_arrow, clashes_in_body, clashes_in_function, clashes_in_static_block};
 
 use crate::entering::may_enter;
 use es_nodes::construct::is_using;
 use es_tree::kind::Kind;
 use es_tree::node::{Field, Node};
 
-/// Whether the node is a function or an arrow with such a body: `(g) => { using a = b; function g() {} }`.
+/// Whether the node is a function or an arrow with such a body, or such a static block: `(g) => { using a = b; function g() {} }`.
 pub fn clashes(node: &Node) -> bool
     ensures { result ≡ clashes (kind_of node.now) (fields_of node.now) }
 {
@@ -21,6 +21,7 @@ pub fn clashes(node: &Node) -> bool
             clashes_in_function(node.fields.as_slice())
         }
         Kind::ArrowFunctionExpression { .. } => clashes_in_arrow(node.fields.as_slice()),
+        Kind::StaticBlock { .. } => clashes_in_static_block(node.fields.as_slice()),
         _ => false,
     }
 }
@@ -65,6 +66,18 @@ fn clashes_in_statements(parameters: &[Node], fields: &[Field]) -> bool
     match fields {
         [Field::Many(..), Field::Statements(statements)] => {
             has_using(statements.as_slice()) && !may_enter(parameters, statements.as_slice())
+        }
+        _ => false,
+    }
+}
+
+/// Whether a static block of these fields is one: `static { using a = b; var g; function g() {} }`. It has no parameters.
+fn clashes_in_static_block(fields: &[Field]) -> bool
+    ensures { result ≡ clashes_in_static_block (plain_fields fields.now) }
+{
+    match fields {
+        [Field::Statements(statements)] => {
+            has_using(statements.as_slice()) && !may_enter(&[], statements.as_slice())
         }
         _ => false,
     }

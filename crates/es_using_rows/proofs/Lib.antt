@@ -1,5 +1,6 @@
 pub mod BodiesApart
 pub mod BodyNames
+pub mod ClosedSteps
 pub mod EnteringFunctions
 pub mod FormedNodes
 pub mod SourceUnbound
@@ -17,5 +18,6 @@ pub mod UsedSteps
 pub mod UsedSupply
 pub mod UsingBodySites
 pub mod UsingKinds
+pub mod UsingMembers
 pub mod UsingSites
 pub mod UsingWalks

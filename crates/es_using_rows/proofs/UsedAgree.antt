@@ -6,12 +6,12 @@ use Rattle.es_tree.specs.Fresh.{text_base}
 use Rattle.es_tree.specs.Tree.{Tree, node, Label, Fields, done, ◌then◌, Field, missing, one, many, statements, Trees, empty, ◌before◌}
 use Rattle.es_tree.specs.Words.{Text}
 use Rattle.es_tree.specs.declared.ast_type.AstType.{AstType}
-use Rattle.es_tree.specs.declared.ast_type.AstType.TheVariants.{ArrowFunctionExpression, BlockStatement, ForStatement, FunctionBody, FunctionDeclaration, FunctionExpression, LabeledStatement, SwitchCase, SwitchStatement, VariableDeclaration, VariableDeclarator}
+use Rattle.es_tree.specs.declared.ast_type.AstType.TheVariants.{ArrowFunctionExpression, BlockStatement, ForStatement, FunctionBody, FunctionDeclaration, FunctionExpression, LabeledStatement, StaticBlock, SwitchCase, SwitchStatement, VariableDeclaration, VariableDeclarator}
 use Rattle.es_steps.specs.UsingBlocks.{is_using_node}
 use Rattle.es_pattern_moves.specs.Moved.{name_of, plain_name}
 use Rattle.es_pattern_moves.proofs.MovedAgree.{either-first, fresh-agree, same-lists}
 use Rattle.es_using_rows.specs.Laws.{LawOneUsed}
-use Rattle.es_using_rows.specs.Used.{AreFresh, Makes, UsesTo, const_label, constants, method, plainly, tried, used, used_among, used_arrow, used_block, used_body, used_by, used_case, used_cases, used_declaration, used_declarator, used_declarators, used_function, used_head, used_here, used_in, used_loop, used_node, used_switch}
+use Rattle.es_using_rows.specs.Used.{AreFresh, Makes, UsesTo, const_label, constants, method, plainly, tried, used, used_among, used_arrow, used_block, used_body, used_by, used_case, used_cases, used_declaration, used_declarator, used_declarators, used_function, used_head, used_here, used_in, used_loop, used_node, used_static_block, used_switch}
 use Rattle.es_using_rows.specs.UsingPlaces.{is_part, standing_in, uses_here}
 use Rattle.es_using_rows.specs.declared.standing.Standing.{Standing}
 use Rattle.es_using_rows.specs.declared.standing.Standing.TheVariants.{Anywhere}
@@ -96,12 +96,20 @@ module _ (bound : ℕ) (m m' : Makes) (same : MakeSame bound m m') where
   arrow-same n (many ps then one b then done) lt = λ i. many ps then one (body-same n b lt i) then done
   arrow-same n _ lt = refl
 
+  static-same : (n : ℕ) (l : Label) (fs : Fields) → n < bound → used_static_block m' n l fs ≡ used_static_block m n l fs
+  static-same n l (statements ts then done) lt =
+      let h : Tree = node StaticBlock l (statements ts then done) in
+      let within : tried m' n h (constants m' n ts) ≡ tried m n h (constants m n ts) = tried-same n h (constants m' n ts) (constants m n ts) lt (constants-same n ts lt) in
+      λ i. node StaticBlock l (statements (within i before empty) then done)
+  static-same n l _ lt = refl
+
   node-same : (s : Standing) (n : ℕ) (k : AstType) (l : Label) (fs : Fields) → n < bound → used_node m' s n k l fs ≡ used_node m s n k l fs
   node-same s n BlockStatement l fs lt = block-same s n l fs lt
   node-same s n SwitchStatement l fs lt = switch-same n l fs lt
   node-same s n FunctionDeclaration l fs lt = λ i. node FunctionDeclaration l (function-same n fs lt i)
   node-same s n FunctionExpression l fs lt = λ i. node FunctionExpression l (function-same n fs lt i)
   node-same s n ArrowFunctionExpression l fs lt = λ i. node ArrowFunctionExpression l (arrow-same n fs lt i)
+  node-same s n StaticBlock l fs lt = static-same n l fs lt
   node-same s n k l fs lt = tried-same n (node k l fs) _ _ lt (λ i. loop-same n (node k l fs) lt i before empty)
 
   abbrev UpTo : ℕ × Tree → Type 0

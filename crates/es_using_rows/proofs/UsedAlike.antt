@@ -7,7 +7,7 @@ use Rattle.es_tree.specs.Names.{first_text}
 use Rattle.es_tree.specs.Tree.{Tree, node, Label, Fields, done, ◌then◌, Field, missing, one, many, statements, Trees, empty, ◌before◌}
 use Rattle.es_tree.specs.Words.{Text}
 use Rattle.es_tree.specs.declared.ast_type.AstType.{AstType}
-use Rattle.es_tree.specs.declared.ast_type.AstType.TheVariants.{ArrowFunctionExpression, AssignmentExpression, BlockStatement, CallExpression, CatchClause, ExpressionStatement, ExportDefaultDeclaration, ExportNamedDeclaration, ForStatement, FunctionBody, FunctionDeclaration, FunctionExpression, Identifier, LabeledStatement, MemberExpression, SwitchCase, SwitchStatement, TryStatement, VariableDeclaration, VariableDeclarator}
+use Rattle.es_tree.specs.declared.ast_type.AstType.TheVariants.{ArrowFunctionExpression, AssignmentExpression, BlockStatement, CallExpression, CatchClause, ExpressionStatement, ExportDefaultDeclaration, ExportNamedDeclaration, ForStatement, FunctionBody, FunctionDeclaration, FunctionExpression, Identifier, LabeledStatement, MemberExpression, StaticBlock, SwitchCase, SwitchStatement, TryStatement, VariableDeclaration, VariableDeclarator}
 use Rattle.es_steps.specs.Nodes.{made}
 use Rattle.es_steps.specs.UsingBlocks.{error_name, has_using, is_using_node}
 use Rattle.es_steps.specs.UsingSwitches.{case_has_using, some_case_has_using}
@@ -48,10 +48,11 @@ use Rattle.es_using_rows.specs.Used.{
   used_in,
   used_loop,
   used_node,
+  used_static_block,
   used_switch,
   with_symbols,
 }
-use Rattle.es_using_rows.specs.UsingPlaces.{all_enter, are_used, are_used_cases, enters, has_value, have_values, is_alone, is_export, is_function_of, is_labelled, is_part, is_used, is_used_case, is_using_word, leads_to_head, standing_in, uses_here, uses_in_arrow, uses_in_body, uses_in_function, uses_in_head, var_at_top}
+use Rattle.es_using_rows.specs.UsingPlaces.{all_enter, are_used, are_used_cases, enters, has_value, have_values, is_alone, is_export, is_function_of, is_labelled, is_part, is_used, is_used_case, is_using_word, leads_to_head, standing_in, uses_here, uses_in_arrow, uses_in_body, uses_in_function, uses_in_head, uses_in_static_block, var_at_top}
 use Rattle.es_using_rows.specs.declared.standing.Standing.{Standing}
 
 -- THE TESTS
@@ -142,6 +143,10 @@ arrow-uses-bare : (fs : Fields) → uses_in_arrow (bare_fields fs) ≡ uses_in_a
 arrow-uses-bare (many ps then one b then done) = body-uses-bare ps b
 arrow-uses-bare _ = refl
 
+static-uses-bare : (fs : Fields) → uses_in_static_block (bare_fields fs) ≡ uses_in_static_block fs
+static-uses-bare (statements ts then done) = λ i. (has-bare ts i && all-used-bare ts i) && all-enter-bare empty ts ts i
+static-uses-bare _ = refl
+
 uses-bare : (s : Standing) (k : AstType) (l : Label) (fs : Fields) → uses_here s k (bare_label l) (bare_fields fs) ≡ uses_here s k l fs
 uses-bare s BlockStatement l (statements ts then done) = λ i. has-bare ts i && all-used-bare ts i
 uses-bare s BlockStatement l _ = refl
@@ -152,6 +157,7 @@ uses-bare s LabeledStatement l fs = λ i. not (is_labelled s) && leads-bare (nod
 uses-bare s FunctionDeclaration l fs = function-uses-bare fs
 uses-bare s FunctionExpression l fs = function-uses-bare fs
 uses-bare s ArrowFunctionExpression l fs = arrow-uses-bare fs
+uses-bare s StaticBlock l fs = static-uses-bare fs
 uses-bare s k l fs = refl
 
 -- WHAT IS MADE without ids and marks
@@ -299,12 +305,19 @@ module _ (names : List Text) (m : Makes) (h : IsBarely names m) where
   arrow-bare n (many ps then one t then done) = λ i. many (bare_trees ps) then one (body-bare n t i) then done
   arrow-bare n _ = refl
 
+  static-bare : (n : ℕ) (l : Label) (fs : Fields) → bare (used_static_block m n l fs) ≡ used_static_block b n (bare_label l) (bare_fields fs)
+  static-bare n l (statements ts then done) =
+      let within = tried-bare n (node StaticBlock l (statements ts then done)) (constants m n ts) (constants b n (bare_trees ts)) (constants-bare n ts) in
+      λ i. node StaticBlock (bare_label l) (statements (within i before empty) then done)
+  static-bare n l _ = refl
+
   node-bare : (s : Standing) (n : ℕ) (k : AstType) (l : Label) (fs : Fields) → bare (used_node m s n k l fs) ≡ used_node b s n k (bare_label l) (bare_fields fs)
   node-bare s n BlockStatement l fs = used-block-bare s n l fs
   node-bare s n SwitchStatement l fs = used-switch-bare n l fs
   node-bare s n FunctionDeclaration l fs = λ i. node FunctionDeclaration (bare_label l) (function-bare n fs i)
   node-bare s n FunctionExpression l fs = λ i. node FunctionExpression (bare_label l) (function-bare n fs i)
   node-bare s n ArrowFunctionExpression l fs = λ i. node ArrowFunctionExpression (bare_label l) (arrow-bare n fs i)
+  node-bare s n StaticBlock l fs = static-bare n l fs
   node-bare s n k l fs = tried-bare n (node k l fs) (used_loop m n (node k l fs) before empty) (used_loop b n (bare (node k l fs)) before empty) (λ i. loop-bare n (node k l fs) i before empty)
 
   abbrev forget : ℕ × Tree → ℕ × Tree

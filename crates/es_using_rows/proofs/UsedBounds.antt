@@ -4,12 +4,12 @@ use Rattle.std.specs.Prelude.{if◌then◌else◌}
 use Rattle.es_tree.specs.Tree.{Tree, node, Label, Fields, done, ◌then◌, one, many, statements, Trees, empty, ◌before◌}
 use Rattle.es_tree.specs.Words.{Text}
 use Rattle.es_tree.specs.declared.ast_type.AstType.{AstType}
-use Rattle.es_tree.specs.declared.ast_type.AstType.TheVariants.{ArrowFunctionExpression, BlockStatement, ForStatement, FunctionBody, FunctionDeclaration, FunctionExpression, LabeledStatement, SwitchCase, SwitchStatement, VariableDeclaration, VariableDeclarator}
+use Rattle.es_tree.specs.declared.ast_type.AstType.TheVariants.{ArrowFunctionExpression, BlockStatement, ForStatement, FunctionBody, FunctionDeclaration, FunctionExpression, LabeledStatement, StaticBlock, SwitchCase, SwitchStatement, VariableDeclaration, VariableDeclarator}
 use Rattle.es_resolution.specs.Declarations.{Bound}
 use Rattle.es_steps.specs.Rules.{next_name}
 use Rattle.es_steps.specs.Steps.{Whole}
 use Rattle.es_steps.specs.UsingBlocks.{error_of, is_using_node}
-use Rattle.es_using_rows.specs.Used.{Makes, by_bounds, const_label, constant, constants, tried, used_arrow, used_block, used_body, used_case, used_cases, used_declaration, used_declarator, used_declarators, used_function, used_head, used_loop, used_node, used_switch}
+use Rattle.es_using_rows.specs.Used.{Makes, by_bounds, const_label, constant, constants, tried, used_arrow, used_block, used_body, used_case, used_cases, used_declaration, used_declarator, used_declarators, used_function, used_head, used_loop, used_node, used_static_block, used_switch}
 use Rattle.es_using_rows.specs.UsingPlaces.{is_part}
 use Rattle.es_using_rows.specs.UsingRows.{making}
 use Rattle.es_using_rows.specs.declared.standing.Standing.{Standing}
@@ -78,12 +78,17 @@ module _ (f g : ℕ → Bound) (n : ℕ) where
   arrow-at (many ps then one b then done) = λ i. many ps then one (body-at b i) then done
   arrow-at _ = refl
 
+  static-at : (l : Label) (fs : Fields) → used_static_block m n l fs ≡ used_static_block a n l fs
+  static-at l (statements ts then done) = λ i. node StaticBlock l (statements (tried a n (node StaticBlock l (statements ts then done)) (constants-at ts i) before empty) then done)
+  static-at l _ = refl
+
   node-at : (s : Standing) (k : AstType) (l : Label) (fs : Fields) → used_node m s n k l fs ≡ used_node a s n k l fs
   node-at s BlockStatement l fs = block-at s l fs
   node-at s SwitchStatement l fs = switch-at l fs
   node-at s FunctionDeclaration l fs = λ i. node FunctionDeclaration l (function-at fs i)
   node-at s FunctionExpression l fs = λ i. node FunctionExpression l (function-at fs i)
   node-at s ArrowFunctionExpression l fs = λ i. node ArrowFunctionExpression l (arrow-at fs i)
+  node-at s StaticBlock l fs = static-at l fs
   node-at s k l fs = λ i. tried a n (node k l fs) (loop-at (node k l fs) i before empty)
 
 -- what a row makes, where it takes those of this number

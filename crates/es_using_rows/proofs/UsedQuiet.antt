@@ -1,5 +1,5 @@
 -- Where `using` isn't lowered in an expression or a pattern: outside functions and static blocks no statement at which it is lowered stands in it,
--- nor a list of statements; so nothing is pending there once the tree is opened.
+-- nor a list of statements; so nothing is pending there once the tree is opened. A static block itself is a scope of its own, as a body is.
 use Rattle.std.proofs.Common.{◌≡◌, refl, inl, inr}
 use Rattle.std.specs.Prelude.{◌⊎◌, Bool, true, false, if◌then◌else◌}
 use Rattle.es_tree.specs.HasForm.{has_form}

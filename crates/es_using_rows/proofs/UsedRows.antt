@@ -1,5 +1,5 @@
--- The rows of a walk act at nodes and ask of the site only what stands above. What isn't lowered as a statement they leave of its kind, with what it
--- declares: so those in the body of an arrow that is an expression are steps of the field where it stands.
+-- The rows of a walk act at nodes and ask of the site only what stands above. What isn't lowered as a statement, static blocks among it, they leave of
+-- its kind, with what it declares: so those in the body of an arrow that is an expression are steps of the field where it stands.
 use Rattle.std.proofs.Common.{◌≡◌, ◌∙◌, ℕ, zero, suc, refl, sym, ap, subst, [], ◌++◌, inl, inr, true≢false}
 use Rattle.std.specs.Prelude.{Bool, true, false, not, is_some, if◌then◌else◌}
 use Rattle.es_tree.specs.Children.{child_at}
@@ -27,8 +27,8 @@ use Rattle.es_steps.proofs.FormRules.{AtNodes}
 use Rattle.es_steps.proofs.Opened.{finished-opened}
 use Rattle.es_steps.proofs.Taken.{pending_in, this_in, top_in, whole_in}
 use Rattle.es_pattern_moves.proofs.RowsInside.{body-row as body-inside, no_names, same-roles}
-use Rattle.es_using_rows.specs.Used.{Makes, constants, tried, used_arrow, used_body, used_function, used_node}
-use Rattle.es_using_rows.specs.UsingPlaces.{uses_here, uses_in_arrow, uses_in_body, uses_in_function}
+use Rattle.es_using_rows.specs.Used.{Makes, constants, tried, used_arrow, used_body, used_function, used_node, used_static_block}
+use Rattle.es_using_rows.specs.UsingPlaces.{uses_here, uses_in_arrow, uses_in_body, uses_in_function, uses_in_static_block}
 use Rattle.es_using_rows.specs.UsingRows.{StandsSo, UsingWalkRow, making}
 use Rattle.es_using_rows.specs.UsingRows.UsingWalkRow.{uses}
 use Rattle.es_using_rows.specs.declared.standing.Standing.{Standing}
@@ -233,6 +233,18 @@ module _ (m : Makes) (i : ℕ) where
       at (suc (suc j)) = refl
   arrow-outside bodies _ e = absurd (cc e)
 
+-- a static block declares nothing around it, whatever stands in it
+static-kept : (m : Makes) (i : ℕ) (l : Label) (fs : Fields) → uses_in_static_block fs ≡ true → Kept (opened (node StaticBlock l fs)) (opened (used_static_block m i l fs))
+static-kept m i l (statements ts then done) e =
+    let t : Tree = node StaticBlock l (statements ts then done) in
+    let us : Trees = tried m i t (constants m i ts) before empty in
+    record {
+      quiet = inl refl;
+      kind = refl;
+      declares = λ v r. ap (λ z. declared v r z) (finished-opened (node StaticBlock l (statements us then done))) ∙ scope-declares v r StaticBlock l (statements ts then done) (statements us then done) refl ∙ sym (ap (λ z. declared v r z) (finished-opened t));
+    }
+static-kept m i l _ e = absurd (cc e)
+
 -- where it is a statement at which `using` is lowered, the tree isn't quiet
 statement-kept : (k : AstType) (l : Label) (fs : Fields) (u : Open) → is_var_scope k ≡ false → is_lowered k ≡ true → IsQuiet (opened (node k l fs)) → Kept (opened (node k l fs)) u
 statement-kept k l fs u e d (inl q) = absurd (true≢false (sym q ∙ e))
@@ -246,6 +258,7 @@ node-kept m a i LabeledStatement l fs e quiet = statement-kept LabeledStatement 
 node-kept m a i FunctionDeclaration l fs e quiet = outside-kept FunctionDeclaration l fs (used_function m i fs) (function-outside m i (is_body FunctionDeclaration) fs e) quiet
 node-kept m a i FunctionExpression l fs e quiet = outside-kept FunctionExpression l fs (used_function m i fs) (function-outside m i (is_body FunctionExpression) fs e) quiet
 node-kept m a i ArrowFunctionExpression l fs e quiet = outside-kept ArrowFunctionExpression l fs (used_arrow m i fs) (arrow-outside m i (is_body ArrowFunctionExpression) fs e) quiet
+node-kept m a i StaticBlock l fs e quiet = static-kept m i l fs e
 node-kept m a i k l fs e quiet = absurd (cc e)
 
 pub walk-kept : (n : Site) (s s' : Ledger) (t u : Tree) → UsingWalkRow n s (at_node t) s' (at_node u) → IsQuiet (opened t) → Kept (opened t) (opened u)

@@ -1,6 +1,6 @@
 -- What a program becomes weighs no more than sixteen for each node of it. A node weighs seven at most and spares the rest. A `try` that is made
--- weighs 48, and a call eight: they are paid by the block, the `switch`, the loop or the body, and by the declarations in it, each with a name and
--- a value.
+-- weighs 48, and a call eight: they are paid by the block, the static block, the `switch`, the loop or the body, and by the declarations in it, each
+-- with a name and a value.
 use Rattle.std.proofs.Common.{◌≡◌, ◌≤◌, ℕ, suc, refl, arith}
 use Rattle.std.specs.Prelude.{Bool, true, false, ◌+◌, ◌*◌, ◌&&◌, ◌||◌, not, codes, if◌then◌else◌}
 use Rattle.std.proofs.lemmas.Bool.{and_from, and_parts}
@@ -9,7 +9,7 @@ use Rattle.es_tree.specs.Tree.{Tree, node, Label, Fields, done, ◌then◌, Fiel
 use Rattle.es_tree.specs.Walks.{all_in_field, all_in_fields, all_in_trees, all_nodes}
 use Rattle.es_tree.specs.Words.{Text}
 use Rattle.es_tree.specs.declared.ast_type.AstType.{AstType}
-use Rattle.es_tree.specs.declared.ast_type.AstType.TheVariants.{ArrowFunctionExpression, BlockStatement, ForOfStatement, ForStatement, FunctionBody, FunctionDeclaration, FunctionExpression, LabeledStatement, SwitchCase, SwitchStatement, TryStatement, VariableDeclaration, VariableDeclarator}
+use Rattle.es_tree.specs.declared.ast_type.AstType.TheVariants.{ArrowFunctionExpression, BlockStatement, ForOfStatement, ForStatement, FunctionBody, FunctionDeclaration, FunctionExpression, LabeledStatement, StaticBlock, SwitchCase, SwitchStatement, TryStatement, VariableDeclaration, VariableDeclarator}
 use Rattle.es_tree.specs.declared.table.Sort.{Sort}
 use Rattle.es_tree.specs.declared.table.Sort.TheVariants.{Binding as s-Binding, Expression as s-Expression, Program as s-Program}
 use Rattle.es_tree.proofs.CoreBreaks.{among_kinds}
@@ -20,8 +20,8 @@ use Rattle.es_steps.specs.UsingBlocks.{has_using, is_using_node}
 use Rattle.es_steps.specs.UsingSwitches.{case_has_using, some_case_has_using}
 use Rattle.es_pattern_moves.specs.Weights.{own_weight, weighed, weighed_among, weighed_by, weighed_in}
 use Rattle.es_using_rows.specs.Laws.{LawUsedSize}
-use Rattle.es_using_rows.specs.Used.{Makes, constants, method, plainly, tried, used, used_among, used_arrow, used_block, used_body, used_by, used_case, used_cases, used_declaration, used_declarator, used_declarators, used_function, used_head, used_here, used_in, used_loop, used_node}
-use Rattle.es_using_rows.specs.UsingPlaces.{are_used, are_used_cases, has_value, have_values, is_labelled, is_part, is_used, is_used_case, is_using_word, leads_to_head, may_enter, standing_in, uses_here, uses_in_arrow, uses_in_body, uses_in_function, uses_in_head, uses_in_list}
+use Rattle.es_using_rows.specs.Used.{Makes, constants, method, plainly, tried, used, used_among, used_arrow, used_block, used_body, used_by, used_case, used_cases, used_declaration, used_declarator, used_declarators, used_function, used_head, used_here, used_in, used_loop, used_node, used_static_block}
+use Rattle.es_using_rows.specs.UsingPlaces.{are_used, are_used_cases, has_value, have_values, is_labelled, is_part, is_used, is_used_case, is_using_word, leads_to_head, may_enter, standing_in, uses_here, uses_in_arrow, uses_in_body, uses_in_function, uses_in_head, uses_in_list, uses_in_static_block}
 use Rattle.es_using_rows.specs.declared.standing.Standing.{Standing}
 use Rattle.es_using_rows.specs.declared.standing.Standing.TheVariants.{Anywhere}
 use Rattle.es_using_rows.proofs.FormedNodes.{formed-nodes}
@@ -34,6 +34,7 @@ is_other ForOfStatement = false
 is_other ForStatement = false
 is_other FunctionBody = false
 is_other LabeledStatement = false
+is_other StaticBlock = false
 is_other SwitchCase = false
 is_other SwitchStatement = false
 is_other TryStatement = false
@@ -69,6 +70,7 @@ abbrev mutual
   spare (node SwitchCase l fs) = spare_in fs
   spare (node BlockStatement l fs) = 0
   spare (node ForOfStatement l fs) = 0
+  spare (node StaticBlock l fs) = 0
   spare (node SwitchStatement l fs) = 0
   spare (node TryStatement l fs) = 0
   spare (node k l fs) = 9
@@ -93,6 +95,7 @@ spare-other (node ForOfStatement l fs) h = absurd (cc h)
 spare-other (node ForStatement l fs) h = absurd (cc h)
 spare-other (node FunctionBody l fs) h = absurd (cc h)
 spare-other (node LabeledStatement l fs) h = absurd (cc h)
+spare-other (node StaticBlock l fs) h = absurd (cc h)
 spare-other (node SwitchCase l fs) h = absurd (cc h)
 spare-other (node SwitchStatement l fs) h = absurd (cc h)
 spare-other (node TryStatement l fs) h = absurd (cc h)
@@ -220,6 +223,12 @@ module _ (m : Makes) (named : AreNames m) where
   arrow-weighs n (many ps then one b then done) h = omega (arith, body-weighs n ps b h)
   arrow-weighs n _ h = absurd (cc h)
 
+  static-paid : (n : ℕ) (l : Label) (fs : Fields) → uses_in_static_block fs ≡ true → Paid (used_static_block m n l fs) fs
+  static-paid n l (statements ts then done) h =
+      let d = and_parts (has_using ts) (are_used ts) (and_parts (uses_in_list ts) (may_enter empty ts) h).0 in
+      omega (arith, tried-weighs n (node StaticBlock l (statements ts then done)) (constants m n ts), constants-leave n ts d.0 d.1)
+  static-paid n l _ h = absurd (cc h)
+
   node-paid : (s : Standing) (n : ℕ) (k : AstType) (l : Label) (fs : Fields) → uses_here s k l fs ≡ true → Paid (used_node m s n k l fs) fs
   node-paid s n BlockStatement l (statements ts then done) h = block-paid s n l ts h
   node-paid s n BlockStatement l _ h = absurd (cc h)
@@ -236,6 +245,7 @@ module _ (m : Makes) (named : AreNames m) where
   node-paid s n FunctionDeclaration l fs h = omega (arith, function-weighs n fs h)
   node-paid s n FunctionExpression l fs h = omega (arith, function-weighs n fs h)
   node-paid s n ArrowFunctionExpression l fs h = omega (arith, arrow-weighs n fs h)
+  node-paid s n StaticBlock l fs h = static-paid n l fs h
   node-paid s n _ l _ h = absurd (cc h)
 
   abbrev pub PaidBy : ℕ → ℕ × Tree → Type 0
@@ -254,6 +264,7 @@ module _ (m : Makes) (named : AreNames m) where
   node-other s n BlockStatement l fs h e = absurd (cc h)
   node-other s n ForStatement l fs h e = absurd (cc h)
   node-other s n LabeledStatement l fs h e = absurd (cc h)
+  node-other s n StaticBlock l fs h e = absurd (cc h)
   node-other s n SwitchStatement l fs h e = absurd (cc h)
   node-other s n FunctionDeclaration l fs h e = refl
   node-other s n FunctionExpression l fs h e = refl

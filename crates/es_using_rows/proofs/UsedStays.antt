@@ -8,12 +8,12 @@ use Rattle.es_tree.specs.Tree.{Tree, node, Label, Fields, done, ◌then◌, Fiel
 use Rattle.es_tree.specs.Walks.{any_in_field, any_in_fields, any_in_trees, any_node}
 use Rattle.es_tree.specs.Words.{Text}
 use Rattle.es_tree.specs.declared.ast_type.AstType.{AstType}
-use Rattle.es_tree.specs.declared.ast_type.AstType.TheVariants.{ArrowFunctionExpression, BlockStatement, ForStatement, FunctionBody, FunctionDeclaration, FunctionExpression, LabeledStatement, SwitchCase, SwitchStatement, VariableDeclaration}
+use Rattle.es_tree.specs.declared.ast_type.AstType.TheVariants.{ArrowFunctionExpression, BlockStatement, ForStatement, FunctionBody, FunctionDeclaration, FunctionExpression, LabeledStatement, StaticBlock, SwitchCase, SwitchStatement, VariableDeclaration}
 use Rattle.es_steps.specs.UsingBlocks.{has_using, is_using_node}
 use Rattle.es_steps.specs.UsingSwitches.{case_has_using, some_case_has_using}
 use Rattle.es_using_rows.specs.Laws.{LawStays}
 use Rattle.es_using_rows.specs.Used.{Makes, used, used_among, used_by, used_here, used_in, used_node}
-use Rattle.es_using_rows.specs.UsingPlaces.{are_used, are_used_cases, have_values, is_labelled, is_used, is_using_word, leads_to_head, may_enter, standing_in, uses_here, uses_in_arrow, uses_in_body, uses_in_function, uses_in_head}
+use Rattle.es_using_rows.specs.UsingPlaces.{are_used, are_used_cases, have_values, is_labelled, is_used, is_using_word, leads_to_head, may_enter, standing_in, uses_here, uses_in_arrow, uses_in_body, uses_in_function, uses_in_head, uses_in_static_block}
 use Rattle.es_using_rows.specs.declared.standing.Standing.{Standing}
 
 -- TESTS
@@ -68,6 +68,10 @@ none-in-arrow : (fs : Fields) → any_in_fields is_using fs ≡ false → uses_i
 none-in-arrow (many ps then one b then done) h = none-in-body ps b (none-in-field (one b) done (none-after (many ps) (one b then done) h))
 none-in-arrow _ h = refl
 
+none-in-static-block : (fs : Fields) → any_in_fields is_using fs ≡ false → uses_in_static_block fs ≡ false
+none-in-static-block (statements ts then done) h = ap (λ (b : Bool). b && are_used ts && may_enter empty ts) (none-direct ts (none-in-field (statements ts) done h))
+none-in-static-block _ h = refl
+
 and-none : (b c : Bool) → c ≡ false → (b && c) ≡ false
 and-none true c h = h
 and-none false c h = refl
@@ -80,6 +84,7 @@ none-here s LabeledStatement l fs h = and-none (not (is_labelled s)) (leads_to_h
 none-here s FunctionDeclaration l fs h = none-in-function fs h
 none-here s FunctionExpression l fs h = none-in-function fs h
 none-here s ArrowFunctionExpression l fs h = none-in-arrow fs h
+none-here s StaticBlock l fs h = none-in-static-block fs h
 none-here s _ l _ h = refl
 
 -- A TREE

@@ -6,7 +6,7 @@ use Rattle.es_tree.specs.HasForm.{has_form, same_type}
 use Rattle.es_tree.specs.Tree.{Tree, node, Label, Fields, done, ◌then◌, Field, missing, one, many, statements, Trees, empty, ◌before◌}
 use Rattle.es_tree.specs.Words.{Text}
 use Rattle.es_tree.specs.declared.ast_type.AstType.{AstType}
-use Rattle.es_tree.specs.declared.ast_type.AstType.TheVariants.{ArrowFunctionExpression, BlockStatement, CatchClause, FunctionBody, FunctionDeclaration, FunctionExpression, LabeledStatement, SwitchStatement, TryStatement}
+use Rattle.es_tree.specs.declared.ast_type.AstType.TheVariants.{ArrowFunctionExpression, BlockStatement, CatchClause, FunctionBody, FunctionDeclaration, FunctionExpression, LabeledStatement, StaticBlock, SwitchStatement, TryStatement}
 use Rattle.es_tree.specs.declared.table.Sort.{Sort}
 use Rattle.es_changes.specs.Changes.{AsBody, Each, EachBy, EachIn}
 use Rattle.es_changes.proofs.StepRows.{steps-trans}
@@ -19,7 +19,7 @@ use Rattle.es_pattern_moves.proofs.MovedInward.{FitsAt, IsField, are-fields, eac
 use Rattle.es_pattern_moves.proofs.MovedRows.{same-body}
 use Rattle.es_pattern_moves.proofs.RowsInside.{row-inside}
 use Rattle.es_pattern_moves.proofs.RowsLead.{LeadAmong, LeadBy, LeadIn, LeadTo, body-by as value-body-by, child-by, many-by, more-among, more-in, none-among, none-by, none-in, statement-body-by, statements-by}
-use Rattle.es_using_rows.specs.Used.{Makes, constants, context_bound, error_bound, tried, used, used_among, used_block, used_by, used_here, used_in, used_node, used_switch, with_symbols}
+use Rattle.es_using_rows.specs.Used.{Makes, constants, context_bound, error_bound, tried, used, used_among, used_block, used_by, used_here, used_in, used_node, used_static_block, used_switch, with_symbols}
 use Rattle.es_using_rows.specs.UsingPlaces.{is_labelled, is_part, standing_in, uses_here}
 use Rattle.es_using_rows.specs.UsingRows.{StandsSo, UsingWalkRow, making}
 use Rattle.es_using_rows.specs.UsingRows.UsingWalkRow.{uses}
@@ -71,7 +71,7 @@ stand n k l fs i = record { part = part-in k i; labelled = labelled-in k i }
 
 -- A NODE at which `using` is lowered is no body of a function, nor what it becomes
 
-uses-no-body : (s : Standing) (k : AstType) (l : Label) (fs gs : Fields) → uses_here s k l gs ≡ true → is_statement_body (node k l fs) ≡ false
+pub uses-no-body : (s : Standing) (k : AstType) (l : Label) (fs gs : Fields) → uses_here s k l gs ≡ true → is_statement_body (node k l fs) ≡ false
 uses-no-body s FunctionBody l fs gs e = absurd (cc e)
 uses-no-body s k l fs gs e = refl
 
@@ -91,12 +91,17 @@ module _ (m : Makes) where
   switch-no-body n l (d then many cs then done) = refl
   switch-no-body n l _ = refl
 
-  used-no-body : (s : Standing) (n : ℕ) (k : AstType) (l : Label) (fs : Fields) → is_statement_body (used_node m s n k l fs) ≡ false
+  static-no-body : (n : ℕ) (l : Label) (fs : Fields) → is_statement_body (used_static_block m n l fs) ≡ false
+  static-no-body n l (statements ts then done) = refl
+  static-no-body n l _ = refl
+
+  pub used-no-body : (s : Standing) (n : ℕ) (k : AstType) (l : Label) (fs : Fields) → is_statement_body (used_node m s n k l fs) ≡ false
   used-no-body s n BlockStatement l fs = block-no-body s n l fs
   used-no-body s n SwitchStatement l fs = switch-no-body n l fs
   used-no-body s n FunctionDeclaration l fs = refl
   used-no-body s n FunctionExpression l fs = refl
   used-no-body s n ArrowFunctionExpression l fs = refl
+  used-no-body s n StaticBlock l fs = static-no-body n l fs
   used-no-body s n k l fs = refl
 
   abbrev SameBody : Tree → ℕ × Tree → Type 0

@@ -5,7 +5,7 @@ use Rattle.es_tree.specs.Fresh.{IsFreshName, also, text_base}
 use Rattle.es_tree.specs.Tree.{Tree, node, Label, Fields, done, ◌then◌, Field, missing, one, many, statements, Trees, empty, ◌before◌, label_of}
 use Rattle.es_tree.specs.Words.{Text}
 use Rattle.es_tree.specs.declared.ast_type.AstType.{AstType}
-use Rattle.es_tree.specs.declared.ast_type.AstType.TheVariants.{ArrowFunctionExpression, AssignmentExpression, BlockStatement, CallExpression, CatchClause, ExpressionStatement, ForStatement, FunctionBody, FunctionDeclaration, FunctionExpression, LabeledStatement, MemberExpression, SwitchCase, SwitchStatement, TryStatement, VariableDeclaration, VariableDeclarator}
+use Rattle.es_tree.specs.declared.ast_type.AstType.TheVariants.{ArrowFunctionExpression, AssignmentExpression, BlockStatement, CallExpression, CatchClause, ExpressionStatement, ForStatement, FunctionBody, FunctionDeclaration, FunctionExpression, LabeledStatement, MemberExpression, StaticBlock, SwitchCase, SwitchStatement, TryStatement, VariableDeclaration, VariableDeclarator}
 use Rattle.es_resolution.specs.Declarations.{Bound}
 use Rattle.es_steps.specs.Nodes.{identifier, made, word}
 use Rattle.es_steps.specs.UsingBlocks.{error_name, is_using_node}
@@ -129,6 +129,11 @@ abbrev pub used_arrow : Makes → ℕ → Fields → Fields
 used_arrow m n (many ps then one b then done) = many ps then one (used_body m n b) then done
 used_arrow m n fs = fs
 
+-- a static block, which stays around the `try`
+abbrev pub used_static_block : Makes → ℕ → Label → Fields → Tree
+used_static_block m n l (statements ts then done) = node StaticBlock l (statements (tried m n (node StaticBlock l (statements ts then done)) (constants m n ts) before empty) then done)
+used_static_block m n l fs = node StaticBlock l fs
+
 -- a node at which `using` is lowered
 abbrev pub used_node : Makes → Standing → ℕ → AstType → Label → Fields → Tree
 used_node m s n BlockStatement l fs = used_block m s n l fs
@@ -136,6 +141,7 @@ used_node m s n SwitchStatement l fs = used_switch m n l fs
 used_node m s n FunctionDeclaration l fs = node FunctionDeclaration l (used_function m n fs)
 used_node m s n FunctionExpression l fs = node FunctionExpression l (used_function m n fs)
 used_node m s n ArrowFunctionExpression l fs = node ArrowFunctionExpression l (used_arrow m n fs)
+used_node m s n StaticBlock l fs = used_static_block m n l fs
 used_node m s n k l fs = tried m n (node k l fs) (used_loop m n (node k l fs) before empty)
 
 -- the next number, and the node

@@ -1,11 +1,11 @@
--- Where `using` is lowered (Explicit Resource Management, 14.3.1): in the body of a function, in a block, a block of a `try`, a `catch` or a
--- `finally` among them, in the cases of a `switch` (14.12), and in the head of a `for` (14.7.4), which its labels go with.
+-- Where `using` is lowered (Explicit Resource Management, 14.3.1): in the body of a function, in a static block of a class (15.7), in a block, a block
+-- of a `try`, a `catch` or a `finally` among them, in the cases of a `switch` (14.12), and in the head of a `for` (14.7.4), which its labels go with.
 use Rattle.std.specs.Prelude.{◌&&◌, ◌||◌, not, Bool, false, true, List, [], ◌∷◌, Option, Some, bytes_eq, codes, ℕ, zero, suc}
 use Rattle.es_tree.specs.Names.{first_text}
 use Rattle.es_tree.specs.Tree.{Tree, node, Label, Fields, done, ◌then◌, one, many, statements, Trees, empty, ◌before◌, label_of}
 use Rattle.es_tree.specs.Words.{Text}
 use Rattle.es_tree.specs.declared.ast_type.AstType.{AstType}
-use Rattle.es_tree.specs.declared.ast_type.AstType.TheVariants.{ArrowFunctionExpression, BlockStatement, CatchClause, ExportDefaultDeclaration, ExportNamedDeclaration, ForStatement, FunctionBody, FunctionDeclaration, FunctionExpression, LabeledStatement, SwitchCase, SwitchStatement, TryStatement, VariableDeclaration, VariableDeclarator}
+use Rattle.es_tree.specs.declared.ast_type.AstType.TheVariants.{ArrowFunctionExpression, BlockStatement, CatchClause, ExportDefaultDeclaration, ExportNamedDeclaration, ForStatement, FunctionBody, FunctionDeclaration, FunctionExpression, LabeledStatement, StaticBlock, SwitchCase, SwitchStatement, TryStatement, VariableDeclaration, VariableDeclarator}
 use Rattle.es_steps.specs.UsingBlocks.{has_using, is_using_node}
 use Rattle.es_steps.specs.UsingSwitches.{some_case_has_using}
 use Rattle.es_rest_rows.specs.RestRows.{binds_name}
@@ -129,6 +129,11 @@ abbrev pub uses_in_arrow : Fields → Bool
 uses_in_arrow (many ps then one b then done) = uses_in_body ps b
 uses_in_arrow _ = false
 
+-- STATIC BLOCKS of classes, whose functions at the top are those of a body, without parameters: `class A { static { using a = b; f(a); } }`
+abbrev pub uses_in_static_block : Fields → Bool
+uses_in_static_block (statements ts then done) = uses_in_list ts && may_enter empty ts
+uses_in_static_block _ = false
+
 -- THE NODES at which `using` is lowered
 abbrev pub uses_here : Standing → AstType → Label → Fields → Bool
 uses_here s BlockStatement l (statements ts then done) = uses_in_list ts
@@ -138,4 +143,5 @@ uses_here s LabeledStatement l fs = not (is_labelled s) && leads_to_head (node L
 uses_here s FunctionDeclaration l fs = uses_in_function fs
 uses_here s FunctionExpression l fs = uses_in_function fs
 uses_here s ArrowFunctionExpression l fs = uses_in_arrow fs
+uses_here s StaticBlock l fs = uses_in_static_block fs
 uses_here s _ l fs = false

@@ -1,5 +1,5 @@
-//! `using` in blocks, in the parts of a `try`, in `switch` and in the head of `for` (Explicit Resource Management, 14.3.1): where it is lowered,
-//! and what a program becomes by it. The functions do nothing: their contracts are laws over the definitions.
+//! `using` in bodies of functions, static blocks and blocks, in the parts of a `try`, in `switch` and in the head of `for` (Explicit Resource
+//! Management, 14.3.1): where it is lowered, and what a program becomes by it. The functions do nothing: their contracts are laws over the definitions.
 #![tactic(auto)]
 
 ghost use Rattle.es_using_rows.specs.Laws.{LawOneUsed, LawStays, LawUsedSize, LawUsedSteps};

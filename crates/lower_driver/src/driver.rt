@@ -73,23 +73,23 @@ pub struct Lowered {
 
 /// Lowers the program that the value is the form of, as the options ask: its logical assignments, `??`, optional chains,
 /// catch clauses without a parameter, exports of namespaces, spreads in object literals, object rests in declarations,
-/// parameters, catch clauses and heads of loops, `using` in bodies, blocks, `switch` and the heads of `for` and `for-of`,
-/// exponentiations and arrow functions, in programs of every kind. A program in which no construct stands that they ask
-/// to lower comes back as it is. Where they ask for warnings, of BigInt literals (ECMA-262, 12.9.3) or of strings that
-/// name imports and exports (16.2), it answers one for each of these in the source.
+/// parameters, catch clauses and heads of loops, `using` in bodies, static blocks, blocks, `switch` and the heads of `for`
+/// and `for-of`, exponentiations and arrow functions, in programs of every kind. A program in which no construct stands
+/// that they ask to lower comes back as it is. Where they ask for warnings, of BigInt literals (ECMA-262, 12.9.3) or of
+/// strings that name imports and exports (16.2), it answers one for each of these in the source.
 ///
 /// Fails for the first of these causes that holds: `Option` where the options ask for what isn't done; `TooLarge`,
 /// `TooDeep` and `Shape` as `read_program` has them; `Invalid` as `check_static` has it; `Unsupported` at the first node
 /// that the lowerings asked for don't take, of the program whose exports were split, whose `using` was lowered and whose
 /// patterns moved, in which what is made has the id of the node that it is made for:
 ///
-/// - `NotBuilt`, a construct that no lowering takes away yet: a declaration by `using` where none is lowered (at the top
-///   of a module, directly in a static block, and in a program that names `babelHelpers`), or what else holds an object
-///   rest where none is lowered;
+/// - `NotBuilt`, a construct that no lowering takes away yet: a declaration by `using` where none is lowered (in a
+///   program that names `babelHelpers`), or what else holds an object rest where none is lowered;
 /// - `RestParameter`, a function with an object rest in a parameter, and `HeadName`, a declarator of one in the head of
 ///   a loop, where it can't move, since names would find something else, or be asked before they are set;
 /// - `HeadName` also, a `for-of` whose head declares a name by `using` that the right side has, and `UsingFunction`, a
-///   function whose body declares directly by `using`, and has a function at its top that something else declares, too;
+///   function whose body declares directly by `using`, or a static block that does, and has a function at its top that
+///   something else declares, too;
 /// - `RestInArray` and `RestNested`, what holds an object rest inside an array or a rest that is declared, or inside a
 ///   part of the target of an assignment;
 /// - `MathBound`, an exponentiation where `Math` is bound;

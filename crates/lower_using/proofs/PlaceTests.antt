@@ -8,7 +8,7 @@ use Rattle.es_tree.specs.declared.node.Field.{Field as NodeField}
 use Rattle.es_steps.specs.UsingBlocks.{is_using_node}
 use Rattle.es_steps.specs.UsingSwitches.{case_has_using, some_case_has_using}
 use Rattle.es_using_nodes.proofs.FieldCounts.{fewer, more}
-use Rattle.es_using_rows.specs.UsingPlaces.{are_used, are_used_cases, has_value, have_values, is_used, is_used_case, uses_in_head}
+use Rattle.es_using_rows.specs.UsingPlaces.{are_used, are_used_cases, has_value, have_values, is_used, is_used_case, uses_in_head, uses_in_static_block}
 use Rattle.lower_using.specs.Parts.{head_is_used, hold_values, holds_used, holds_using, holds_value, leads_in_label, some_have_values, uses_in_block, uses_in_switch}
 
 -- LISTS
@@ -135,6 +135,17 @@ pub more-blocks : (fs : List NodeField) → 1 < length fs → uses_in_block (pla
 more-blocks [] h = absurd (omega (arith, h))
 more-blocks (f ∷ []) h = absurd (omega (arith, h))
 more-blocks (f ∷ g ∷ fs) h = two-blocks (plain_field f) (plain_field g) (plain_fields fs)
+
+two-statics : (f g : Field) (fs : Fields) → uses_in_static_block (f then g then fs) ≡ false
+two-statics missing g fs = refl
+two-statics (one t) g fs = refl
+two-statics (many ts) g fs = refl
+two-statics (statements ts) g fs = refl
+
+pub more-statics : (fs : List NodeField) → 1 < length fs → uses_in_static_block (plain_fields fs) ≡ false
+more-statics [] h = absurd (omega (arith, h))
+more-statics (f ∷ []) h = absurd (omega (arith, h))
+more-statics (f ∷ g ∷ fs) h = two-statics (plain_field f) (plain_field g) (plain_fields fs)
 
 pub some-values : (ds : List Tree) → 1 ≤ length ds → have_values (trees ds) ≡ some_have_values (trees ds)
 some-values [] h = absurd (omega (arith, h))

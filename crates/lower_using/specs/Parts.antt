@@ -3,7 +3,7 @@ use Rattle.std.specs.Prelude.{◌≡◌, ◌&&◌, Bool, false, true, List, [], 
 use Rattle.es_tree.specs.Tree.{Tree, node, Label, Fields, done, ◌then◌, Field, one, many, statements, Trees, empty, ◌before◌}
 use Rattle.es_tree.specs.Words.{Text}
 use Rattle.es_tree.specs.declared.ast_type.AstType.{AstType}
-use Rattle.es_tree.specs.declared.ast_type.AstType.TheVariants.{BlockStatement, EmptyStatement, FunctionBody}
+use Rattle.es_tree.specs.declared.ast_type.AstType.TheVariants.{BlockStatement, EmptyStatement, FunctionBody, StaticBlock}
 use Rattle.es_steps.specs.Nodes.{made}
 use Rattle.es_steps.specs.UsingBlocks.{has_using}
 use Rattle.es_steps.specs.UsingSwitches.{some_case_has_using}
@@ -72,6 +72,13 @@ pub record UsesInBody (t : Tree) : Type 0 where
   pub directives : Trees
   pub body : Trees
   pub tree : t ≡ node FunctionBody label (many directives then statements body then done)
+  pub used : are_used body ≡ true
+
+-- A STATIC BLOCK of a class in which it is
+pub record UsesInStaticBlock (t : Tree) : Type 0 where
+  pub label : Label
+  pub body : Trees
+  pub tree : t ≡ node StaticBlock label (statements body then done)
   pub used : are_used body ≡ true
 
 -- TESTS

@@ -1,4 +1,4 @@
-//! The body of a function, directly in which `using` stands (Explicit Resource Management, 14.3.1).
+//! The body of a function, or a static block of a class, directly in which `using` stands (Explicit Resource Management, 14.3.1).
 //!
 //! Before:
 //!
@@ -19,18 +19,27 @@
 //!
 //! Where one can't, as in `function f(g) { using a = b; function g() {} }`, the body stays.
 //!
-//! The rules are `used_function`, `used_arrow` and `used_body` of es_using_rows.
+//! A static block is a body without directives. Before:
+//!
+//!     class A { static { using a = b; f(a); } }
+//!
+//! After:
+//!
+//!     class A { static { try { var _usingCtx = babelHelpers.usingCtx(); const a = _usingCtx.u(b); f(a); } catch (_) { _usingCtx.e = _; } finally { _usingCtx.d(); } } }
+//!
+//! The rules are `used_function`, `used_arrow`, `used_body` and `used_static_block` of es_using_rows.
 ghost use Rattle.std.specs.Prelude.{◌≡◌, IfOk, true};
 ghost use Rattle.es_tree.specs.Tree.{fields_of};
 ghost use Rattle.es_tree.specs.Views.{plain_fields};
 ghost use Rattle.es_using_rows.specs.UsingPlaces.{uses_in_arrow, uses_in_function};
 ghost use Rattle.es_using_rows.specs.Used.{used_arrow, used_body, used_function};
-ghost use Rattle.lower_using.specs.Parts.{BecomesBy, UsesInBody, with_fields};
+ghost use Rattle.lower_using.specs.Parts.{BecomesBy, UsesInBody, UsesInStaticBlock, used_with, with_fields};
 
 use crate::constants::make_constants;
 use crate::tries::new_try;
-use es_statements::functions::FunctionBody;
+use es_statements::functions::{FunctionBody, StaticBlock};
 use es_tree::node::{Field, Node, exactly};
+use es_using_rows::standing::Standing;
 use std::alloc::{AllocError, Global};
 use std::mem;
 
@@ -99,6 +108,34 @@ fn use_body(body: Node, context: &str, alloc: Global) -> Result<Node, AllocError
         span,
         scope,
         directives,
+        body: Vec::from_array(alloc, [tried])?,
+    };
+    let made = around.close(alloc)?;
+    Ok(made)
+}
+
+/// `static { try { .. const a = _usingCtx.u(b); f(a); } .. }` for `static { using a = b; f(a); }`, which stands so.
+pub(crate) fn use_static_block(
+    block: Node,
+    standing: Standing,
+    context: &str,
+    alloc: Global,
+) -> Result<Node, AllocError>
+    requires { UsesInStaticBlock block }
+    ensures { IfOk result (λ used. BecomesBy context.now (used_with standing) block used) }
+{
+    let StaticBlock {
+        id,
+        span,
+        scope,
+        body,
+    } = StaticBlock::open(block);
+    let constants = make_constants(body, context, alloc)?;
+    let tried = new_try(id, context, constants, alloc)?;
+    let around = StaticBlock {
+        id,
+        span,
+        scope,
         body: Vec::from_array(alloc, [tried])?,
     };
     let made = around.close(alloc)?;

@@ -4,6 +4,7 @@
 //! |---|---|
 //! | `{ using a = b; f(a); }` | `try { var _usingCtx = babelHelpers.usingCtx(); const a = _usingCtx.u(b); f(a); } catch (_) { _usingCtx.e = _; } finally { _usingCtx.d(); }` |
 //! | `function f() { using a = b; return a; }` | `function f() { try { var _usingCtx = babelHelpers.usingCtx(); const a = _usingCtx.u(b); return a; } catch (_) { .. } finally { .. } }` |
+//! | `class A { static { using a = b; f(a); } }` | `class A { static { try { var _usingCtx = babelHelpers.usingCtx(); const a = _usingCtx.u(b); f(a); } catch (_) { .. } finally { .. } } }` |
 //! | `try { using a = b; f(a); } finally { g(); }` | `try { try { var _usingCtx = babelHelpers.usingCtx(); .. } .. } finally { g(); }` |
 //! | `switch (a) { case 1: using b = c; f(b); }` | `try { var _usingCtx = babelHelpers.usingCtx(); switch (a) { case 1: const b = _usingCtx.u(c); f(b); } } ..` |
 //! | `for (using a = b; c; d) f(a);` | `try { var _usingCtx = babelHelpers.usingCtx(); for (const a = _usingCtx.u(b); c; d) f(a); } ..` |
@@ -21,7 +22,7 @@
 //! `function f() { using a = b; g(a); function g(x) {} }` becomes
 //! `function f() { try { var _usingCtx = babelHelpers.usingCtx(); const a = _usingCtx.u(b); g(a); function g(x) {} } catch (_) { .. } finally { .. } }`.
 //! A body stays that has a function at its top whose name a parameter, a `var` or another function there declares, too: that function can't
-//! become one of a block.
+//! become one of a block. So it is with a static block of a class, which has no parameters.
 //!
 //! The program is as it was read, and so is what it becomes: what is made has no marks of the scope tables. The call of a value has the id of
 //! the value, and all else that of the node at which the `try` is made, so that a refusal that is told at a made node names a node of the

@@ -1,5 +1,5 @@
-//! The nodes at which `using` is lowered, once it was in their parts: functions, blocks, `switch` and loops (Explicit Resource Management,
-//! 14.3.1).
+//! The nodes at which `using` is lowered, once it was in their parts: functions, static blocks, blocks, `switch` and loops (Explicit Resource
+//! Management, 14.3.1).
 //!
 //! Before:
 //!
@@ -20,7 +20,7 @@ ghost use Rattle.es_using_rows.specs.Used.{used_case, used_cases, used_head, use
 ghost use Rattle.lower_using.specs.Parts.{BecomesBy, UsesInBlock, holds_used, used_at, used_with, uses_in_switch, with_cases, with_constants, with_fields};
 ghost use Rattle.lower_using.specs.Uses.{UsesAs};
 
-use crate::bodies::{use_arrow, use_function};
+use crate::bodies::{use_arrow, use_function, use_static_block};
 use crate::constants::{make_constants, make_declaration};
 use crate::places::{is_part, uses_here};
 use crate::tries::new_try;
@@ -95,6 +95,7 @@ fn use_node(
             use_function(node, context, alloc)
         }
         AstType::ArrowFunctionExpression => use_arrow(node, context, alloc),
+        AstType::StaticBlock => use_static_block(node, standing, context, alloc),
         _ => unreachable!(),
     }
 }

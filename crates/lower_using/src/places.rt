@@ -1,11 +1,11 @@
-//! Where `using` is lowered (Explicit Resource Management, 14.3.1): in the body of a function, in a block, in the cases of a `switch` (14.12)
-//! and in the head of a `for` (14.7.4), which its labels go with; and how a node stands to the one around it.
+//! Where `using` is lowered (Explicit Resource Management, 14.3.1): in the body of a function, in a static block of a class (15.7), in a block, in
+//! the cases of a `switch` (14.12) and in the head of a `for` (14.7.4), which its labels go with; and how a node stands to the one around it.
 ghost use Rattle.std.specs.Prelude.{◌≡◌, bytes_eq, codes};
 ghost use Rattle.es_tree.specs.Tree.{fields_of, kind_of, label_of, trees};
 ghost use Rattle.es_tree.specs.Views.{plain_field, plain_fields};
 ghost use Rattle.es_tree.specs.Words.{variable_declaration_kind_text};
 ghost use Rattle.es_steps.specs.UsingSwitches.{case_has_using, some_case_has_using};
-ghost use Rattle.es_using_rows.specs.UsingPlaces.{are_used, are_used_cases, has_value, have_values, is_labelled, is_part, is_used, is_used_case, leads_to_head, standing_in, uses_here, uses_in_arrow, uses_in_body, uses_in_function, uses_in_head, uses_in_list};
+ghost use Rattle.es_using_rows.specs.UsingPlaces.{are_used, are_used_cases, has_value, have_values, is_labelled, is_part, is_used, is_used_case, leads_to_head, standing_in, uses_here, uses_in_arrow, uses_in_body, uses_in_function, uses_in_head, uses_in_list, uses_in_static_block};
 ghost use Rattle.lower_using.specs.Parts.{head_is_used, hold_values, holds_used, holds_using, holds_value, leads_in_label, some_have_values, uses_after_directives, uses_in_block, uses_in_switch};
 
 use es_nodes::construct::is_using;
@@ -57,6 +57,7 @@ pub(crate) fn uses_here(node: &Node, standing: Standing) -> bool
             uses_in_function(node.fields.as_slice())
         }
         Kind::ArrowFunctionExpression { .. } => uses_in_arrow(node.fields.as_slice()),
+        Kind::StaticBlock { .. } => uses_in_static_block(node.fields.as_slice()),
         _ => false,
     }
 }
@@ -283,6 +284,19 @@ fn uses_after_directives(parameters: &[Node], fields: &[Field]) -> bool
     match fields {
         [Field::Many(..), Field::Statements(statements)] => {
             uses_in_list(statements.as_slice()) && may_enter(parameters, statements.as_slice())
+        }
+        _ => false,
+    }
+}
+
+/// Whether `using` is lowered in a static block of these fields, whose functions at the top become those of the block of a `try`; it has no
+/// parameters: `static { using a = b; g(a); function g(x) {} }`.
+fn uses_in_static_block(fields: &[Field]) -> bool
+    ensures { result ≡ uses_in_static_block (plain_fields fields.now) }
+{
+    match fields {
+        [Field::Statements(statements)] => {
+            uses_in_list(statements.as_slice()) && may_enter(&[], statements.as_slice())
         }
         _ => false,
     }
