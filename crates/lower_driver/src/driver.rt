@@ -73,10 +73,11 @@ pub struct Lowered {
 
 /// Lowers the program that the value is the form of, as the options ask: its logical assignments, `??`, optional chains,
 /// catch clauses without a parameter, exports of namespaces, spreads in object literals, object rests in declarations,
-/// parameters, catch clauses and heads of loops, `using` in bodies, static blocks, blocks, `switch` and the heads of `for`
-/// and `for-of`, exponentiations and arrow functions, in programs of every kind. A program in which no construct stands
-/// that they ask to lower comes back as it is. Where they ask for warnings, of BigInt literals (ECMA-262, 12.9.3) or of
-/// strings that name imports and exports (16.2), it answers one for each of these in the source.
+/// parameters, catch clauses and heads of loops, `using` in bodies, static blocks, blocks, `switch`, the heads of `for`
+/// and `for-of` and at the top of modules, exponentiations and arrow functions, in programs of every kind. A program in
+/// which no construct stands that they ask to lower comes back as it is. Where they ask for warnings, of BigInt literals
+/// (ECMA-262, 12.9.3) or of strings that name imports and exports (16.2), it answers one for each of these in the
+/// source.
 ///
 /// Fails for the first of these causes that holds: `Option` where the options ask for what isn't done; `TooLarge`,
 /// `TooDeep` and `Shape` as `read_program` has them; `Invalid` as `check_static` has it; `Unsupported` at the first node
