@@ -35,7 +35,7 @@ listed-with l missing ts f = absurd (let no : false ≡ true = (node_form s-Prog
 listed-with l (one t) ts f = absurd (let no : false ≡ true = (node_form s-Program Program l (one t then statements ts then done) f).children in cc no)
 listed-with l (statements us) ts f = absurd (let no : false ≡ true = (node_form s-Program Program l (statements us then statements ts then done) f).children in cc no)
 
-listed : (t : Tree) → IsProgram t → has_form s-Program t ≡ true → IsListed t
+pub listed : (t : Tree) → IsProgram t → has_form s-Program t ≡ true → IsListed t
 listed t (is_program l d ts) f = listed-with l d ts f
 
 -- WHERE STEPS LEAD

@@ -52,7 +52,7 @@ module _ (heads : List Text) (m : UsedMakes) (named : AreNames m) where
   specifiers-weigh s n i [] = refl
   specifiers-weigh s n i (x ∷ xs) = omega (arith, specifiers-weigh s n i xs)
 
-  export-weighs : (s : Standing) (n i : ℕ) (t : Tree) (xs : List Tree) → weighed (used m s n (headed h i (export_of plainly t xs)).1).1 ≡ 2 + 6 * length xs
+  pub export-weighs : (s : Standing) (n i : ℕ) (t : Tree) (xs : List Tree) → weighed (used m s n (headed h i (export_of plainly t xs)).1).1 ≡ 2 + 6 * length xs
   export-weighs s n i t xs = omega (arith, specifiers-weigh Anywhere n i xs)
 
   -- BINDING PATTERNS, with what is made for their names
@@ -135,7 +135,7 @@ module _ (heads : List Text) (m : UsedMakes) (named : AreNames m) where
       let e = and_parts (all_nodes has_others d) (all_in_trees has_others ds) o in
       omega (arith, length-append (names_of_declarator d) (names_of_declarators ds), declarator-fits s n i d e.0, declarators-fit s (used m s n (headed h i d).1).0 (headed h i d).0 ds e.1)
 
-  declaration-fits : (s : Standing) (n i : ℕ) {d : Tree} → RestDeclaration d → all_nodes has_others d ≡ true → Fits s n (6 * length (names_of_declaration d)) (20 * tree_size d) (headed h i d)
+  pub declaration-fits : (s : Standing) (n i : ℕ) {d : Tree} → RestDeclaration d → all_nodes has_others d ≡ true → Fits s n (6 * length (names_of_declaration d)) (20 * tree_size d) (headed h i d)
   declaration-fits s n i (declares l ds done) o =
       let e = and_parts (all_in_trees has_others ds) true o in
       node-fits s n i VariableDeclaration l (many ds then done) (6 * length (names_of_declarators ds)) refl refl (omega (arith, declarators-fit Anywhere n i ds e.0))

@@ -73,7 +73,7 @@ declaration-weighs (declares l ds (f then fs)) = none-bound (node VariableDeclar
 
 -- WHAT IS MADE
 
-specifiers-weigh : (xs : List Tree) → weighed_among (specifiers plainly xs) ≡ 6 * length xs
+pub specifiers-weigh : (xs : List Tree) → weighed_among (specifiers plainly xs) ≡ 6 * length xs
 specifiers-weigh [] = refl
 specifiers-weigh (x ∷ xs) = omega (arith, specifiers-weigh xs)
 

@@ -59,7 +59,7 @@ module _ (heads : List Text) (m : UsedMakes) (named : AreNames m) where
       at true = refl
       at false = refl
 
-  kind-stays : (i : ℕ) (t : Tree) → kind_of (headed h i t).1 ≡ kind_of t
+  pub kind-stays : (i : ℕ) (t : Tree) → kind_of (headed h i t).1 ≡ kind_of t
   kind-stays i (node k l fs) = kind-here (headed_in h i fs).0 k l (headed_in h i fs).1
 
   pub headed-others : (i : ℕ) (k : AstType) (l : Label) (fs : Fields) → has_others k l fs ≡ true → has_others k l (headed_in h i fs).1 ≡ true

@@ -1,0 +1,4 @@
+pub mod TopAgree
+pub mod TopStatements
+pub mod TopNames
+pub mod TopWeights

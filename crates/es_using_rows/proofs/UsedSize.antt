@@ -119,7 +119,7 @@ module _ (m : Makes) (named : AreNames m) where
   method-weighs : (n : ℕ) (h : Tree) (p : Text) (args : Trees) → weighed (method m n h p args) ≡ 8 + weighed_among args
   method-weighs n h p args = omega (arith, named.context n h, named.word p h)
 
-  tried-weighs : (n : ℕ) (h : Tree) (ts : Trees) → weighed (tried m n h ts) ≡ 48 + weighed_among ts
+  pub tried-weighs : (n : ℕ) (h : Tree) (ts : Trees) → weighed (tried m n h ts) ≡ 48 + weighed_among ts
   tried-weighs n h ts = omega (arith, named.context n h, named.error n h, named.word (codes "babelHelpers") h, named.word (codes "usingCtx") h, named.word (codes "e") h, named.word (codes "d") h)
 
   -- declarations: one by `using` leaves all but the call that is made for its first value
@@ -132,7 +132,7 @@ module _ (m : Makes) (named : AreNames m) where
   value-leaves n (node VariableDeclarator l (one x then one e then done)) h = omega (arith, method-weighs n e (codes "u") (e before empty))
   value-leaves n _ h = absurd (cc h)
 
-  declarators-weigh : (n : ℕ) (ds : Trees) → weighed_among (used_declarators m n ds) ≤ weighed_among ds + spare_among ds
+  pub declarators-weigh : (n : ℕ) (ds : Trees) → weighed_among (used_declarators m n ds) ≤ weighed_among ds + spare_among ds
   declarators-weigh n empty = omega arith
   declarators-weigh n (d before ds) = omega (arith, declarator-weighs n d, declarators-weigh n ds)
 
@@ -140,7 +140,7 @@ module _ (m : Makes) (named : AreNames m) where
   declaration-weighs n (node VariableDeclaration l (many ds then done)) = omega (arith, declarators-weigh n ds)
   declaration-weighs n _ = omega arith
 
-  using-leaves : (n : ℕ) (t : Tree) → is_used t ≡ true → weighed (used_declaration m n t) + 38 ≤ weighed t + spare t
+  pub using-leaves : (n : ℕ) (t : Tree) → is_used t ≡ true → weighed (used_declaration m n t) + 38 ≤ weighed t + spare t
   using-leaves n (node VariableDeclaration l (many (d before ds) then done)) h =
       let e = and_parts (has_value d) (have_values ds) (and_parts (is_using_word l.texts) (has_value d && have_values ds) h).1 in
       omega (arith, value-leaves n d e.0, declarators-weigh n ds)
