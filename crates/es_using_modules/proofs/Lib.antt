@@ -1,0 +1,6 @@
+mod TopShifts
+mod TopFound
+mod TopMoves
+mod TopValues
+mod TopInside
+mod TopOutside
