@@ -3,4 +3,7 @@ mod TopFound
 mod TopMoves
 mod TopValues
 mod TopInside
-mod TopOutside
+mod TopLists
+mod TopMade
+mod TopProgram
+mod TopBound

@@ -259,20 +259,24 @@ module _ (g : Setting) where
     abbrev inner_name : Bound
     inner_name = record it { symbol = symbol_of l }
 
+    -- with the symbol inside
+    abbrev new_name : Tree
+    new_name = node Identifier (record cl { marks = symbol_of l ∷ [] }) done
+
     abbrev old_class : Tree
     old_class = node ClassDeclaration l (one (node Identifier cl done) then fs)
 
     abbrev new_class : Tree
-    new_class = node ClassExpression l (one (identifier inner_name) then fs)
+    new_class = node ClassExpression l (one new_name then fs)
 
     abbrev ors : ℕ → Role
-    ors = old_roles l (one (node Identifier cl done)) (one (identifier inner_name)) fs
+    ors = old_roles l (one (node Identifier cl done)) (one new_name) fs
 
     abbrev nrs : ℕ → Role
-    nrs = new_roles l (one (node Identifier cl done)) (one (identifier inner_name)) fs
+    nrs = new_roles l (one (node Identifier cl done)) (one new_name) fs
 
     same : ors ≡ nrs
-    same = roles l (one (node Identifier cl done)) (one (identifier inner_name)) fs
+    same = roles l (one (node Identifier cl done)) (one new_name) fs
 
     own : IsBelow g.f' (symbol_of l)
     own = (own-more g.u g.u' g.wider g.f g.f' g.freer Top ClassDeclaration l h.named.0).1
