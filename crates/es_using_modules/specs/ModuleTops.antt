@@ -156,7 +156,7 @@ by_bounds default context error = record {
   used = uses.by_bounds (λ n. context) (λ n. error);
   split = splits.with_symbols;
   default = λ t. identifier default;
-  inside = λ l c. identifier (record (bound_as (label_of c)) { symbol = symbol_of l });
+  inside = λ l c. node Identifier (record (label_of c) { marks = symbol_of l ∷ [] }) done;
 }
 
 -- What a program p becomes, with these fresh names, where these names are in use.
