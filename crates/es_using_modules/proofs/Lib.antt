@@ -7,3 +7,5 @@ mod TopLists
 mod TopMade
 mod TopProgram
 mod TopBound
+mod TopBare
+mod TopSteps

@@ -1,6 +1,6 @@
 -- The rule of `using` at the top of a module keeps bindings: a program that has form, breaks no static rule and whose names are bound is so afterwards,
 -- and each name keeps its binding.
-use Rattle.std.proofs.Common.{◌<◌, ◌≡◌, ℕ, zero, suc, refl, sym, subst, ◌∙◌, []}
+use Rattle.std.proofs.Common.{◌≡◌, ℕ, zero, suc, refl, sym, subst, ◌∙◌, []}
 use Rattle.std.specs.Prelude.{Bool, true, false, ◌&&◌, ◌||◌, Option, None, bytes_eq, codes}
 use Rattle.std.proofs.lemmas.Bool.{and_parts, le-leb}
 use Rattle.es_tree.specs.Fresh.{candidate, text_base}
@@ -20,7 +20,7 @@ use Rattle.es_steps.specs.Identifiers.{Passes, any_name, is_called}
 use Rattle.es_steps.specs.Laws.{IsWellBound}
 use Rattle.es_steps.specs.Open.{Additions, Pending, no_additions, nothing_pending}
 use Rattle.es_steps.specs.Rules.{next_name}
-use Rattle.es_steps.specs.Steps.{Ledger, Site, Spot, Whole}
+use Rattle.es_steps.specs.Steps.{Site, Whole}
 use Rattle.es_steps.specs.Steps.Ledger.{ledger}
 use Rattle.es_steps.specs.Steps.Spot.{at_list}
 use Rattle.es_steps.specs.UsingBlocks.{error_of, with_context}

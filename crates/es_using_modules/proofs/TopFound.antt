@@ -16,11 +16,11 @@ use Rattle.es_semantic.specs.declared.place.Binding.{Binding}
 use Rattle.es_semantic.specs.declared.place.Binding.TheVariants.{FunctionName}
 use Rattle.es_semantic.specs.declared.place.Role.{Role}
 use Rattle.es_semantic.specs.declared.place.Role.TheVariants.{Binds}
-use Rattle.es_resolution.specs.Declarations.{Bound, symbol_of, sought, has_scope, is_var_scope, is_lexical, reaches_out, own_declared, declared, declared_in, declared_by, declared_among}
+use Rattle.es_resolution.specs.Declarations.{Bound, sought, has_scope, is_var_scope, is_lexical, reaches_out, own_declared, declared, declared_in, declared_by, declared_among}
 use Rattle.es_resolution.specs.Resolved.{Place, around, inner, hoisting, name_frame, bound_by, or_around, within, place_in, OwnRight, Resolved, ResolvedIn, ResolvedBy, ResolvedAll}
 use Rattle.es_resolution.proofs.Basics.{Each, bytes_eq-self, bytes_eq-equal}
 use Rattle.es_resolution.proofs.Declares.{declared-none}
-use Rattle.es_resolution.proofs.Placed.{Placed, PlacedAll, PlacedBy, PlacedIn, is_last, is_name_first, name_fits}
+use Rattle.es_resolution.proofs.Placed.{Placed, PlacedAll, PlacedBy, PlacedIn, is_last, is_name_first}
 use Rattle.es_steps.specs.Patterns.{no_name_of}
 use Rattle.es_using_modules.proofs.TopShifts.{in_both}
 

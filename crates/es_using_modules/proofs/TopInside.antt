@@ -1,12 +1,11 @@
 -- What a declaration at the top of a module becomes inside the `try`: it declares the same names, by `var`, and each name finds what it found.
 use Rattle.std.proofs.Common.{arith, ◌≤◌, ◌+◌, ◌≡◌, ℕ, zero, suc, refl, sym, ap, subst, ◌∙◌, List, [], ◌∷◌, ◌++◌}
-use Rattle.std.specs.Prelude.{Bool, true, false, not, ◌||◌, ◌&&◌, Option, Some, None, bytes_eq, codes, is_some, if◌then◌else◌}
+use Rattle.std.specs.Prelude.{Bool, true, false, ◌||◌, ◌&&◌, Option, Some, None, bytes_eq, codes, is_some, if◌then◌else◌}
 use Rattle.std.specs.List.{list_any}
 use Rattle.std.proofs.lemmas.Bool.{and_parts}
-use Rattle.es_tree.specs.Attributes.{child_entries}
 use Rattle.es_tree.specs.HasForm.{has_form, trees_form}
 use Rattle.es_tree.specs.Names.{first_text}
-use Rattle.es_tree.specs.Tree.{Tree, node, Label, Fields, done, ◌then◌, Field, missing, one, many, Trees, empty, ◌before◌, label_of}
+use Rattle.es_tree.specs.Tree.{Tree, node, Label, Fields, done, ◌then◌, Field, missing, one, many, Trees, empty, ◌before◌}
 use Rattle.es_tree.specs.Words.{Text}
 use Rattle.es_tree.specs.declared.ast_type.AstType.{AstType}
 use Rattle.es_tree.specs.declared.ast_type.AstType.TheVariants.{ClassDeclaration, ClassExpression, Identifier, VariableDeclaration, VariableDeclarator}
@@ -25,15 +24,14 @@ use Rattle.es_resolution.proofs.Basics.{bytes_eq-self}
 use Rattle.es_resolution.proofs.Declares.{declared-none}
 use Rattle.es_resolution.proofs.MoreNames.{named-more, named-more-in, own-more}
 use Rattle.es_resolution.proofs.Placed.{Placed}
-use Rattle.es_steps.specs.Identifiers.{Passes, PassesAll, PassesIn}
+use Rattle.es_steps.specs.Identifiers.{Passes, PassesAll}
 use Rattle.es_steps.specs.Nodes.{identifier, made, word}
-use Rattle.es_steps.specs.UsingBlocks.{method_call}
 use Rattle.es_steps.specs.UsingBodies.{bound_as}
 use Rattle.es_steps.proofs.Kept.{every}
 use Rattle.es_steps.proofs.Stays.{stand}
 use Rattle.es_steps.proofs.Written.{nil-right}
 use Rattle.es_pattern_moves.proofs.Settled.{Sound}
-use Rattle.es_using_modules.specs.ModuleTops.{by_bounds, by_var}
+use Rattle.es_using_modules.specs.ModuleTops.{by_var}
 use Rattle.es_using_modules.proofs.TopMoves.{AllBecome, Becomes}
 use Rattle.es_using_modules.proofs.TopMoves.AllBecome.{ended, more}
 use Rattle.es_using_modules.proofs.TopMoves.Becomes.{as_is, passed}

@@ -1,14 +1,13 @@
 -- What is left outside of the statements of a module's list, and what they become inside: all names are declared that were declared, and one of each
 -- default export that takes a name.
-use Rattle.std.proofs.Common.{arith, ◌+◌, ◌≡◌, ℕ, refl, sym, ap, ◌∙◌, List, [], ◌∷◌, ◌++◌}
-use Rattle.std.specs.Prelude.{Bool, true, false, ◌||◌, Option, None, codes, if◌then◌else◌}
+use Rattle.std.proofs.Common.{arith, ◌+◌, ◌≡◌, ℕ, refl, sym, ◌∙◌, List, [], ◌∷◌, ◌++◌}
+use Rattle.std.specs.Prelude.{Bool, true, false, ◌||◌, Option, codes, if◌then◌else◌}
 use Rattle.std.specs.List.{list_any}
-use Rattle.std.proofs.lemmas.Bool.{and_parts}
 use Rattle.es_tree.specs.HasForm.{has_form, trees_form}
 use Rattle.es_tree.specs.Names.{first_text}
-use Rattle.es_tree.specs.Tree.{Tree, node, Label, Fields, done, ◌then◌, one, many, Trees, empty, ◌before◌, kind_of, label_of}
+use Rattle.es_tree.specs.Tree.{Tree, node, Label, Fields, done, ◌then◌, one, Trees, ◌before◌, kind_of, label_of}
 use Rattle.es_tree.specs.Words.{Text}
-use Rattle.es_tree.specs.declared.ast_type.AstType.TheVariants.{ClassDeclaration, ExportAllDeclaration, ExportDefaultDeclaration, ExportNamedDeclaration, FunctionDeclaration, Identifier, ImportDeclaration, Program, VariableDeclaration}
+use Rattle.es_tree.specs.declared.ast_type.AstType.TheVariants.{ClassDeclaration, ExportDefaultDeclaration, ExportNamedDeclaration, FunctionDeclaration, Identifier, Program}
 use Rattle.es_tree.specs.declared.table.Sort.TheVariants.{Expression as s-Expression, Statement as s-Statement}
 use Rattle.es_tree.proofs.NodeForm.{node_form}
 use Rattle.es_semantic.specs.RolesOf.{binding_of, reads}
@@ -22,7 +21,7 @@ use Rattle.es_resolution.specs.Single.{scopes_among, scopes_with}
 use Rattle.es_resolution.proofs.AllForms.{AllAmong}
 use Rattle.es_resolution.proofs.Placed.{PlacedAll}
 use Rattle.es_steps.specs.Identifiers.{Passes, PassesAll, PassesBy, PassesIn}
-use Rattle.es_steps.specs.Nodes.{identifier, made}
+use Rattle.es_steps.specs.Nodes.{identifier}
 use Rattle.es_steps.specs.UsingBodies.{bound_as}
 use Rattle.es_steps.proofs.FormLists.{first-formed}
 use Rattle.es_pattern_moves.proofs.Settled.{Sound}

@@ -5,7 +5,7 @@ use Rattle.std.specs.List.{list_all, list_any}
 use Rattle.std.proofs.lemmas.Bool.{cases_lt}
 use Rattle.std.proofs.lemmas.List.Folds.{list_all-append}
 use Rattle.es_tree.specs.HasForm.{trees_form}
-use Rattle.es_tree.specs.Tree.{Tree, node, Label, Fields, done, ◌then◌, many, statements, Trees, empty, ◌before◌}
+use Rattle.es_tree.specs.Tree.{Tree, node, Label, done, ◌then◌, many, statements, Trees, empty, ◌before◌}
 use Rattle.es_tree.specs.Words.{Text}
 use Rattle.es_tree.specs.declared.ast_type.AstType.TheVariants.{Program}
 use Rattle.es_tree.specs.declared.table.Sort.TheVariants.{Statement as s-Statement}
@@ -20,7 +20,7 @@ use Rattle.es_resolution.specs.Single.{IsSingle, binds, is_it, is_var_of, one_if
 use Rattle.es_resolution.proofs.AllForms.{All}
 use Rattle.es_resolution.proofs.MoreNames.{named-more-all, own-more}
 use Rattle.es_resolution.proofs.Placed.{PlacedIn}
-use Rattle.es_steps.specs.Identifiers.{Passes, PassesAll}
+use Rattle.es_steps.specs.Identifiers.{Passes}
 use Rattle.es_steps.specs.Laws.{IsWellBound}
 use Rattle.es_steps.specs.Nodes.{call_node, declaration_node, declarator_with, identifier, joined_trees, member_node, word}
 use Rattle.es_steps.specs.Patterns.{avoiding, no_name_of}

@@ -1,14 +1,14 @@
 -- An expression, and a statement that moves as it is, at the top of a module and in a block: there they declare and resolve the same.
-use Rattle.std.proofs.Common.{arith, ◌+◌, ◌≡◌, ℕ, refl, sym, ap, ◌∙◌, List, [], ◌∷◌, ◌++◌}
+use Rattle.std.proofs.Common.{arith, ◌≡◌, ℕ, refl, sym, ap, ◌∙◌, List, [], ◌++◌}
 use Rattle.std.specs.Prelude.{Bool, true, false, not, ◌||◌, Option}
 use Rattle.std.specs.List.{list_any}
 use Rattle.std.proofs.lemmas.Bool.{and_parts}
 use Rattle.es_tree.specs.HasForm.{has_form, same_type, trees_form}
 use Rattle.es_tree.specs.Table.{kinds_of}
-use Rattle.es_tree.specs.Tree.{Tree, node, Label, Fields, done, ◌then◌, missing, one, many, statements, Trees, empty, ◌before◌, kind_of, label_of}
+use Rattle.es_tree.specs.Tree.{Tree, node, Label, Fields, done, ◌then◌, missing, one, many, statements, Trees, empty, ◌before◌, kind_of}
 use Rattle.es_tree.specs.Words.{Text}
 use Rattle.es_tree.specs.declared.ast_type.AstType.{AstType}
-use Rattle.es_tree.specs.declared.ast_type.AstType.TheVariants.{ParenthesizedExpression, VariableDeclarator}
+use Rattle.es_tree.specs.declared.ast_type.AstType.TheVariants.{ParenthesizedExpression}
 use Rattle.es_tree.specs.declared.table.Sort.TheVariants.{Expression as s-Expression, Statement as s-Statement, VariableDeclarator as s-VariableDeclarator}
 use Rattle.es_tree.proofs.CoreBreaks.{among_kinds}
 use Rattle.es_tree.proofs.NodeForm.{node_form}
@@ -17,7 +17,7 @@ use Rattle.es_semantic.specs.declared.place.Binding.TheVariants.{Variable}
 use Rattle.es_semantic.specs.declared.place.Role.TheVariants.{Binds, Top}
 use Rattle.es_resolution.specs.Declarations.{Bound, declared, declared_among}
 use Rattle.es_resolution.specs.Named.{Named}
-use Rattle.es_resolution.specs.Resolved.{Place, no_name, Resolved}
+use Rattle.es_resolution.specs.Resolved.{no_name, Resolved}
 use Rattle.es_resolution.specs.Single.{scopes_with}
 use Rattle.es_resolution.proofs.AllForms.{All, AllAmong}
 use Rattle.es_steps.specs.UsingBodies.{is_as_in_block}
