@@ -1,6 +1,6 @@
 #!/usr/bin/env node
-// Runs random programs with `using` in blocks, parts of a `try`, `switch`, heads of `for` and bodies of functions, lowered by the tool, by node, and
-// holds what they do against an interpreter of its own that disposes of resources as the source says (Explicit Resource Management,
+// Runs random programs with `using` in blocks, parts of a `try`, `switch`, heads of `for` and `for-of`, bodies of functions, static blocks of classes
+// and at the top of modules, lowered by the tool, by node, and holds what they do against an interpreter of its own that disposes of resources as the source says (Explicit Resource Management,
 // DisposeResources), since node itself has no `using`. Each step of a program is noted: values taken into use, disposals, turns of loops,
 // returned values and thrown errors.
 //   using.mjs [--seed N] [--count N] [--imported] [--tool PROGRAM]     so many programs, with helpers of `babelHelpers` or required ones
@@ -33,7 +33,19 @@ class Programs extends Random {
 
   program() {
     this.places = 0;
+    if (!values.imported && this.below(2) === 0) return { type: 'program', isModule: true, body: this.moduleItems() };
     return { type: 'program', body: [{ type: 'block', body: this.list({ inFunction: false }) }, ...this.list({ inFunction: false, plain: true })] };
+  }
+
+  /** Statements at the top of a module, functions, exports and a `using` among them. */
+  moduleItems() {
+    const items = [{ type: 'using', resources: this.resources() }];
+    for (const statement of this.list({ inFunction: false, plain: false })) {
+      items.push(statement, { type: this.pick(['function', 'export', 'exported class', 'note']), place: this.place() });
+    }
+    const first = this.below(2) === 0 ? [{ type: 'note', place: this.place() }] : [];
+    const last = this.below(2) === 0 ? [{ type: 'export default', place: this.place() }] : [];
+    return [...first, ...items, ...last];
   }
 
   list(around) {
@@ -54,7 +66,7 @@ class Programs extends Random {
   statement(around) {
     const inner = { ...around, plain: false };
     if (this.depth > 5) return this.leaf(around);
-    switch (this.below(around.plain ? 10 : 13)) {
+    switch (this.below(around.plain ? 12 : 15)) {
       case 0: return { type: 'block', body: this.list(inner) };
       case 1: return { type: 'if', place: this.place(), holds: this.below(2) === 0, body: this.block(inner) };
       case 2: return this.tryStatement(inner);
@@ -62,7 +74,9 @@ class Programs extends Random {
       case 4: return this.switchStatement(inner);
       case 5: return this.functionCall();
       case 6: return this.labelled(inner);
-      case 10: case 11: case 12: return { type: 'using', resources: this.resources() };
+      case 10: return this.classWithBlock();
+      case 11: return this.loopOver(inner);
+      case 12: case 13: case 14: return { type: 'using', resources: this.resources() };
       default: return this.leaf(around);
     }
   }
@@ -104,11 +118,20 @@ class Programs extends Random {
     return { type: 'for', place, head, turns: this.below(3), body, label };
   }
 
+  loopOver(around, label) {
+    const place = this.place();
+    const resources = this.resources();
+    this.loops += 1;
+    const body = this.below(3) === 0 ? this.leaf(around) : this.block(around);
+    this.loops -= 1;
+    return { type: 'for of', place, resources, body, label };
+  }
+
   labelled(around) {
     const isLoop = this.below(2) === 0;
     const name = `l${this.place()}`;
     this.labels.push({ name, isLoop });
-    const body = isLoop ? this.loop(around) : this.block(around);
+    const body = isLoop ? this.pick([around => this.loop(around), around => this.loopOver(around)])(around) : this.block(around);
     this.labels.pop();
     return { type: 'labelled', label: name, body };
   }
@@ -119,11 +142,20 @@ class Programs extends Random {
   }
 
   functionCall() {
+    return { type: 'call', place: this.place(), isArrow: this.below(2) === 0, body: this.apart(() => this.list({ inFunction: true, plain: false })) };
+  }
+
+  classWithBlock() {
+    return { type: 'class', place: this.place(), body: this.apart(() => this.list({ inFunction: false, plain: false })) };
+  }
+
+  /** What is made so, with no label and no loop around it. */
+  apart(make) {
     const [labels, loops] = [this.labels, this.loops];
     [this.labels, this.loops] = [[], 0];
-    const called = { type: 'call', place: this.place(), isArrow: this.below(2) === 0, body: this.list({ inFunction: true, plain: false }) };
+    const made = make();
     [this.labels, this.loops] = [labels, loops];
-    return called;
+    return made;
   }
 }
 
@@ -131,7 +163,7 @@ function main() {
   const random = new Programs(Number(values.seed));
   const programs = Array.from({ length: Number(values.count) }, () => random.program());
   const sources = programs.map(textOf);
-  const runs = lowerAll(sources.map(source => canonicalText(textToTree(source, {}))), { tool: values.tool, words: WORDS });
+  const runs = lowerAll(sources.map((source, index) => canonicalText(textToTree(source, { module: programs[index].isModule }))), { tool: values.tool, words: WORDS });
   let refused = 0;
   let differing = 0;
   let seen = 0;
@@ -141,7 +173,7 @@ function main() {
       continue;
     }
     if (status !== 0) throw new Error(`${sources[index]}\nthe tool ends with ${status}: ${stderr}`);
-    const after = print(read(JSON.parse(stdout)));
+    const after = print(withoutExports(read(JSON.parse(stdout))));
     const wanted = new Interpreter().run(programs[index]);
     const noted = evaluated(after);
     seen += wanted.length;
@@ -151,6 +183,11 @@ function main() {
   }
   console.log(`tools/valid: ${runs.length} programs with \`using\`, ${refused} refused, ${seen} steps seen in the others, ${differing} differ`);
   process.exitCode = differing === 0 ? 0 : 1;
+}
+
+/** A program without its exports of names, which no function's body may have: what stays is declared there. */
+function withoutExports(program) {
+  return { ...program, body: program.body.filter(({ type, declaration }) => type !== 'ExportNamedDeclaration' || declaration !== null) };
 }
 
 /** What a lowered program does, by node. */

@@ -2,14 +2,13 @@
 -- `export { c }; try { var _usingCtx = babelHelpers.usingCtx(); var a = _usingCtx.u(b); var c = a; } catch (_) { _usingCtx.e = _; } finally { _usingCtx.d(); }`.
 -- Functions, imports and exports of what is declared elsewhere stay outside, in their order. All else moves into the `try`, and what it declares is
 -- declared by `var`, so by the module as before: a class becomes the value of a variable. An exported declaration leaves an export of its names outside.
-use Rattle.std.specs.Prelude.{◌≡◌, ◌+◌, ◌||◌, not, Bool, false, true, List, [], ◌∷◌, None, Option, Some, codes, if◌then◌else◌, ℕ}
+use Rattle.std.specs.Prelude.{◌≡◌, ◌||◌, not, Bool, false, true, List, [], ◌∷◌, Some, codes, if◌then◌else◌}
 use Rattle.es_tree.specs.Fresh.{IsFreshName, also, text_base}
 use Rattle.es_tree.specs.Tree.{Tree, node, Label, Fields, done, ◌then◌, missing, one, many, statements, Trees, empty, ◌before◌, label_of}
 use Rattle.es_tree.specs.Words.{Text}
 use Rattle.es_tree.specs.declared.ast_type.AstType.TheVariants.{ClassDeclaration, ClassExpression, ExportAllDeclaration, ExportDefaultDeclaration, ExportNamedDeclaration, ExportSpecifier, FunctionDeclaration, Identifier, ImportDeclaration, Program, VariableDeclaration, VariableDeclarator}
 use Rattle.es_resolution.specs.Declarations.{Bound, symbol_of}
 use Rattle.es_steps.specs.Nodes.{identifier, joined_trees}
-use Rattle.es_steps.specs.UsingBodies.{bound_as}
 use Rattle.es_export_splits.specs.Splits as splits
 use Rattle.es_pattern_moves.specs.Moved.{name_of, plain_name}
 use Rattle.es_using_rows.specs.Used as uses
@@ -156,7 +155,7 @@ by_bounds default context error = record {
   used = uses.by_bounds (λ n. context) (λ n. error);
   split = splits.with_symbols;
   default = λ t. identifier default;
-  inside = λ l c. identifier (record (bound_as (label_of c)) { symbol = symbol_of l });
+  inside = λ l c. node Identifier (record (label_of c) { marks = symbol_of l ∷ [] }) done;
 }
 
 -- What a program p becomes, with these fresh names, where these names are in use.

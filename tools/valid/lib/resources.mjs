@@ -18,6 +18,12 @@ function statementText(statement) {
   if (type === 'for') return forText(statement);
   if (type === 'try') return tryText(statement);
   if (type === 'switch') return switchText(statement);
+  if (type === 'class') return `class C${statement.place} { static { ${statement.body.map(statementText).join(' ')} } }`;
+  if (type === 'for of') return ofText(statement);
+  if (type === 'function') return `function f${statement.place}() { return f${statement.place}; }`;
+  if (type === 'export') return `export const x${statement.place} = note('n', ${statement.place});`;
+  if (type === 'exported class') return `export class X${statement.place} { static { note('n', ${statement.place}); } }`;
+  if (type === 'export default') return `export default note('n', ${statement.place});`;
   return callText(statement);
 }
 
@@ -28,6 +34,11 @@ function resourcesText(resources) {
 function forText({ place, head, turns, body }) {
   const first = head === null ? '' : `using ${resourcesText(head)}`;
   return `for (${first}; more(${place}, ${turns}); ) ${statementText(body)}`;
+}
+
+function ofText({ place, resources, body }) {
+  const items = resources.map(item => `resource(${item.place}, '${item.sort}')`);
+  return `for (using o${place} of [${items.join(', ')}]) ${statementText(body)}`;
 }
 
 function tryText({ block, handler, finalizer, place }) {
@@ -59,13 +70,18 @@ export class Turns {
 
 const normal = { type: 'normal' };
 
+/** Whether a loop with this label takes a turn more after its body ended so. */
+function goesOn(ended, label) {
+  return ended.type === 'normal' || (ended.type === 'continue' && (ended.label === undefined || ended.label === label));
+}
+
 /** A completion that is no normal one leaves what is around it, unless it is taken there. */
 export class Interpreter {
   notes = [];
   counted = new Turns();
 
   run(program) {
-    const ended = this.list(program.body);
+    const ended = program.isModule ? this.scope(program.body) : this.list(program.body);
     this.notes.push(ended.type === 'throw' ? `throws ${ended.value}` : 'ends');
     return this.notes;
   }
@@ -126,11 +142,15 @@ export class Interpreter {
     if (type === 'for') return this.loop(statement, undefined);
     if (type === 'try') return this.tryStatement(statement);
     if (type === 'switch') return this.switchStatement(statement);
+    if (type === 'class') return this.scope(statement.body);
+    if (type === 'for of') return this.loopOver(statement, undefined);
+    if (type === 'function') return normal;
+    if (type === 'export' || type === 'exported class' || type === 'export default') { this.note('n', place); return normal; }
     return this.call(statement);
   }
 
   labelled({ label, body }) {
-    const ended = body.type === 'for' ? this.loop(body, label) : this.statement(body);
+    const ended = body.type === 'for' ? this.loop(body, label) : body.type === 'for of' ? this.loopOver(body, label) : this.statement(body);
     return ended.type === 'break' && ended.label === label ? normal : ended;
   }
 
@@ -144,8 +164,22 @@ export class Interpreter {
     while (this.counted.more(place, turns, (...words) => this.note(...words))) {
       const ended = this.statement(body);
       if (ended.type === 'break' && ended.label === undefined) return normal;
-      const goesOn = ended.type === 'normal' || (ended.type === 'continue' && (ended.label === undefined || ended.label === label));
-      if (!goesOn) return ended;
+      if (!goesOn(ended, label)) return ended;
+    }
+    return normal;
+  }
+
+  /** `for (using a of ..)`: the values first, and each is disposed of when its turn is left (14.7.5.6). */
+  loopOver({ resources, body }, label) {
+    for (const { place, sort } of resources) {
+      this.note('e', place);
+      if (sort === 'evaluates badly') return { type: 'throw', value: `E${place}` };
+    }
+    for (const { place, sort } of resources) {
+      if (sort === 'none') return { type: 'throw', value: 'TypeError' };
+      const ended = this.disposed(sort === 'null' ? [] : [{ place, sort }], this.statement(body));
+      if (ended.type === 'break' && ended.label === undefined) return normal;
+      if (!goesOn(ended, label)) return ended;
     }
     return normal;
   }
