@@ -1,15 +1,15 @@
 pub mod TopAgree
 pub mod TopStatements
-pub mod TopNames
+pub mod TopNameCounts
 pub mod TopWeights
-mod TopShifts
-mod TopFound
-mod TopMoves
-mod TopValues
-mod TopInside
-mod TopLists
-mod TopMade
-mod TopProgram
-mod TopBound
-mod TopBare
-mod TopSteps
+pub mod TopShifts
+pub mod TopFound
+pub mod TopMoves
+pub mod TopValues
+pub mod TopInside
+pub mod TopLists
+pub mod TopMade
+pub mod TopProgram
+pub mod TopBound
+pub mod TopBare
+pub mod TopSteps

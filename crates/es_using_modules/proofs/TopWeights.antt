@@ -33,7 +33,7 @@ use Rattle.es_export_splits.proofs.SplitStays.SplitExport.{exports}
 use Rattle.es_export_splits.proofs.SplitUsedWeights.{declaration-fits, export-weighs}
 use Rattle.es_using_modules.specs.Laws.{LawToppedAloneWeighs, LawToppedWeighs}
 use Rattle.es_using_modules.specs.ModuleTops.{names_declared, plainly, topped, uses_at_top}
-use Rattle.es_using_modules.proofs.TopNames.{declarators-same, fails, lowered, none-declares}
+use Rattle.es_using_modules.proofs.TopNameCounts.{declarators-same, fails, lowered, none-declares}
 use Rattle.es_using_modules.proofs.TopStatements.{cost, cost-before, default-moves, is_exported, moves, named-moves, plain-moves, topped-weighs, using-moves}
 
 module _ (heads : List Text) (m : UsedMakes) (named : AreNames m) (b : Bool) (xs : List Text) where
