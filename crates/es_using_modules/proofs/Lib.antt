@@ -1,0 +1,3 @@
+pub mod TopMoves
+pub mod TopForms
+pub mod TopOutside
