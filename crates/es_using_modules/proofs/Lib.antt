@@ -1,3 +1,4 @@
 pub mod TopMoves
 pub mod TopForms
 pub mod TopOutside
+pub mod TopPlaces
