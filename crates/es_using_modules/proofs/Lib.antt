@@ -2,3 +2,4 @@ pub mod TopMoves
 pub mod TopForms
 pub mod TopOutside
 pub mod TopPlaces
+pub mod TopNamesLists
