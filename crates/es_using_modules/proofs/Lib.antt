@@ -3,3 +3,4 @@ pub mod TopForms
 pub mod TopOutside
 pub mod TopPlaces
 pub mod TopNamesLists
+pub mod TopNamesPlain
