@@ -4,3 +4,4 @@ pub mod TopOutside
 pub mod TopPlaces
 pub mod TopNamesLists
 pub mod TopNamesPlain
+pub mod TopNamesDeclared
