@@ -5,3 +5,4 @@ pub mod TopPlaces
 pub mod TopNamesLists
 pub mod TopNamesPlain
 pub mod TopNamesDeclared
+pub mod TopNames

@@ -67,12 +67,12 @@ name-text (node Identifier l fs) f = at (first_text l.texts) l.texts refl (node_
     at x (None ∷ ts) e h = absurd (let no : false ≡ true = h in cc no)
 name-text (node k l fs) f = absurd (let no : false ≡ true = (node_form s-Identifier k l fs f).sort in cc no)
 
-named-class-formed : (s : Sort) (l : Label) (c : Tree) (fs : Fields) (b : Bound) → IsText b → has_form s (node ClassDeclaration l (one c then fs)) ≡ true → IsFormed (node ClassExpression l (one (identifier b) then fs))
+pub named-class-formed : (s : Sort) (l : Label) (c : Tree) (fs : Fields) (b : Bound) → IsText b → has_form s (node ClassDeclaration l (one c then fs)) ≡ true → IsFormed (node ClassExpression l (one (identifier b) then fs))
 named-class-formed s l c fs b h f =
     let n = node_form s ClassDeclaration l (one c then fs) f in
     has_form-node s-Expression ClassExpression l (one (identifier b) then fs) (record { sort = refl; texts = n.texts; flags = n.flags; start = n.start; stop = n.stop; agree = refl; children = and_from (has_form s-Identifier (identifier b)) _ (rw h refl) (class-rest l fs (and-right (has_form s-Identifier c) _ n.children)) })
 
-bare-class-formed : (s : Sort) (l : Label) (fs : Fields) → has_form s (node ClassDeclaration l (missing then fs)) ≡ true → IsFormed (node ClassExpression l (missing then fs))
+pub bare-class-formed : (s : Sort) (l : Label) (fs : Fields) → has_form s (node ClassDeclaration l (missing then fs)) ≡ true → IsFormed (node ClassExpression l (missing then fs))
 bare-class-formed s l fs f =
     let n = node_form s ClassDeclaration l (missing then fs) f in
     has_form-node s-Expression ClassExpression l (missing then fs) (record { sort = refl; texts = n.texts; flags = n.flags; start = n.start; stop = n.stop; agree = refl; children = class-rest l fs n.children })

@@ -86,7 +86,7 @@ module _ (default context error : Bound) where
   abbrev Moved : Tree → Type 0
   Moved t = (ts os us : Trees) → Moves ts os us → Moves (t before ts) (Outside t os) (Inside t us)
 
-  all-same : (ds : Trees) → AllBecome context ds ds
+  pub all-same : (ds : Trees) → AllBecome context ds ds
   all-same empty = ended
   all-same (d before ds) = more (as_is d) (all-same ds)
 
