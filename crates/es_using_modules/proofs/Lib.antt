@@ -6,3 +6,4 @@ pub mod TopNamesLists
 pub mod TopNamesPlain
 pub mod TopNamesDeclared
 pub mod TopNames
+pub mod TopStatic

@@ -1,7 +1,7 @@
 -- A module whose `using` at the top is lowered: it has form.
 use Rattle.std.proofs.Common.{◌≡◌, ◌==◌, refl, length, List, [], ◌∷◌}
 use Rattle.std.specs.Prelude.{Bool, true, false, ◌&&◌, not, Option, Some, None, codes}
-use Rattle.std.proofs.lemmas.Bool.{and_from, and_parts}
+use Rattle.std.proofs.lemmas.Bool.{and_from}
 use Rattle.es_tree.specs.Attributes.{child_entries, text_entries, texts_fit}
 use Rattle.es_tree.specs.HasForm.{has_form, fields_form, trees_form}
 use Rattle.es_tree.specs.Names.{first_text}

@@ -1,17 +1,15 @@
 -- What becomes of each statement of a module's list: it stays outside, it moves as it is, or it is a declaration, which is another one inside, and of an
 -- exported one an export stays outside.
 use Rattle.std.proofs.Common.{◌≡◌, refl, subst, sym, List, [], ◌∷◌}
-use Rattle.std.specs.Prelude.{Bool, true, false, ◌&&◌, ◌||◌, if◌then◌else◌, codes}
+use Rattle.std.specs.Prelude.{Bool, true, false, if◌then◌else◌, codes}
 use Rattle.std.proofs.lemmas.Bool.{and_parts}
 use Rattle.es_tree.specs.Attributes.{child_entries}
-use Rattle.es_tree.specs.HasForm.{field_form, fields_form, has_form, trees_form}
+use Rattle.es_tree.specs.HasForm.{fields_form, has_form, trees_form}
 use Rattle.es_tree.specs.StaticRules.{any_has_node}
 use Rattle.es_tree.specs.Tree.{Tree, node, Label, Fields, done, ◌then◌, Field, missing, one, many, statements, Trees, empty, ◌before◌, kind_of}
 use Rattle.es_tree.specs.declared.ast_type.AstType.{AstType}
 use Rattle.es_tree.specs.declared.ast_type.AstType.TheVariants.{ClassDeclaration, ClassExpression, ExportAllDeclaration, ExportDefaultDeclaration, ExportNamedDeclaration, FunctionDeclaration, ImportDeclaration, VariableDeclaration, VariableDeclarator}
-use Rattle.es_tree.specs.declared.table.Content.TheVariants.{Child as c-Child}
-use Rattle.es_tree.specs.declared.table.Often.TheVariants.{List as a-List, NonEmptyList, Optional, Required}
-use Rattle.es_tree.specs.declared.table.Sort.TheVariants.{Declaration as s-Declaration, ExportDefault as s-ExportDefault, ExportSpecifier as s-ExportSpecifier, Expression as s-Expression, ImportAttribute as s-ImportAttribute, Statement as s-Statement, StringLiteral as s-StringLiteral, VariableDeclarator as s-VariableDeclarator}
+use Rattle.es_tree.specs.declared.table.Sort.TheVariants.{Declaration as s-Declaration, ExportDefault as s-ExportDefault, Expression as s-Expression, Statement as s-Statement, VariableDeclarator as s-VariableDeclarator}
 use Rattle.es_tree.proofs.NodeForm.{node_form}
 use Rattle.es_resolution.specs.Declarations.{Bound}
 use Rattle.es_steps.specs.Nodes.{joined_trees}

@@ -1,8 +1,7 @@
 -- A module whose `using` at the top is lowered: the rules of declared names are kept. What the block declares is declared by `var`, and so in the module as
 -- before, where it clashes with no more names than it did.
-use Rattle.std.proofs.Common.{◌≡◌, ℕ, zero, suc, refl, sym, ap, subst, ◌∙◌, List, [], ◌∷◌, ◌++◌, append-nil, filter, map}
+use Rattle.std.proofs.Common.{◌≡◌, ℕ, zero, suc, refl, sym, ap, subst, ◌∙◌, List, [], ◌∷◌, ◌++◌, append-nil, filter}
 use Rattle.std.specs.Prelude.{Bool, true, false, not, ◌||◌, codes, if◌then◌else◌, Some}
-use Rattle.std.specs.List.{list_any}
 use Rattle.std.proofs.lemmas.List.{append_assoc}
 use Rattle.es_tree.specs.Ancestors.{Ancestor, ancestor}
 use Rattle.es_tree.specs.CoreStaticRules.{is_lexical}
@@ -15,7 +14,7 @@ use Rattle.es_tree.specs.declared.ast_type.AstType.{AstType}
 use Rattle.es_tree.specs.declared.ast_type.AstType.TheVariants.{BlockStatement, ClassDeclaration, ClassExpression, ExportDefaultDeclaration, ExportNamedDeclaration, ExportSpecifier, FunctionDeclaration, Identifier, Program, VariableDeclaration, VariableDeclarator}
 use Rattle.es_tree.specs.declared.place.Namespace.TheVariants.{Scope}
 use Rattle.es_tree.specs.declared.table.Sort.{Sort}
-use Rattle.es_tree.specs.declared.table.Sort.TheVariants.{Binding as s-Binding, Declaration as s-Declaration, ExportDefault as s-ExportDefault, Expression as s-Expression, Identifier as s-Identifier, Program as s-Program, Statement as s-Statement}
+use Rattle.es_tree.specs.declared.table.Sort.TheVariants.{Declaration as s-Declaration, ExportDefault as s-ExportDefault, Expression as s-Expression, Identifier as s-Identifier, Program as s-Program, Statement as s-Statement}
 use Rattle.es_tree.proofs.NodeForm.{node_form}
 use Rattle.es_resolution.specs.Declarations.{Bound, symbol_of}
 use Rattle.es_resolution.proofs.Basics.{bytes_eq-self}
@@ -25,10 +24,10 @@ use Rattle.es_steps.specs.UsingBodies.{bound_as}
 use Rattle.es_steps.proofs.FormLists.{first-formed}
 use Rattle.es_steps.proofs.FormParts.{IsFormed, IsText}
 use Rattle.es_valid_steps.specs.PlaceRules.{Keeps, KeepsAll}
-use Rattle.es_valid_names.proofs.Claims.{Around, Clear, ClearAll, ClearBy, ClearIn, Distinct, OwnClear, Stand, above, around_in, claims, claims_all, claims_by, claims_in, default_export as in_default_export, elsewhere, has_private, in_body, is_owned, is_owner, is_wrong, joined, outside, owned, stand_in}
+use Rattle.es_valid_names.proofs.Claims.{Around, Clear, ClearAll, ClearBy, ClearIn, Distinct, OwnClear, Stand, above, around_in, claims, claims_all, claims_by, claims_in, default_export as in_default_export, elsewhere, has_private, in_body, is_owned, is_owner, is_wrong, outside, owned, stand_in}
 use Rattle.es_valid_names.proofs.ClearPending.{expression-mute, joined-claims}
 use Rattle.es_valid_names.proofs.Grown.{still-distinct}
-use Rattle.es_valid_names.proofs.MoreAround.{Allows, allows-in, clear-more, clear-more-all, clear-more-by, or-last, or-self}
+use Rattle.es_valid_names.proofs.MoreAround.{Allows, allows-in, clear-more, clear-more-by, or-last, or-self}
 use Rattle.es_valid_names.proofs.NameSteps.{around, top-says}
 use Rattle.es_valid_names.proofs.ProgramNames.{program_list}
 use Rattle.es_valid_using.proofs.UsingNamesBlocks.{made_here, protected-clear}
@@ -48,7 +47,7 @@ use Rattle.es_using_modules.proofs.TopMoves.Declares.{by_class, by_variables}
 use Rattle.es_using_modules.proofs.TopMoves.Defaults.{a_value, bare_class, named_class}
 use Rattle.es_using_modules.proofs.TopMoves.Moves.{declares, default_export_of, exports, no_more, plain, stays}
 use Rattle.es_using_modules.proofs.TopNamesDeclared.{Binds, class-none, class-same, lists, pattern-names, variables-names}
-use Rattle.es_using_modules.proofs.TopNamesLists.{Sorts, any_list, anything, by_scope, joined-any, lists-append, second-apart, sorts-apart, sorts-found, sorts-move, sorts-stay}
+use Rattle.es_using_modules.proofs.TopNamesLists.{Sorts, any_list, anything, joined-any, lists-append, second-apart, sorts-apart, sorts-found, sorts-move, sorts-stay}
 use Rattle.es_using_modules.proofs.TopNamesLists.Soft.{softer}
 use Rattle.es_using_modules.proofs.TopNamesLists.Sorts.{comes, moves, no_list}
 use Rattle.es_using_modules.proofs.TopNamesPlain.{in-block-itself, plain-in-block}
@@ -154,7 +153,7 @@ module _ (c d : Around) (allows : Allows c d) (s : Stand) (l : Label) (g h : Fie
   class-clear-in e i done k = tt
   class-clear-in e i (f then gs) k = (
     subst (λ (b : Bool). ClearBy (around_in d b new_lists) elsewhere f) (class-body (suc i))
-    (clear-more-by (around_in c (in_body ClassDeclaration (suc i)) old_lists) (around_in d (in_body ClassDeclaration (suc i)) new_lists) (allows-in c d (in_body ClassDeclaration (suc i)) old_lists new_lists allows (λ x q. (λ j. has_private (sym e j) x) ∙ q)) elsewhere f k.0),
+        (clear-more-by (around_in c (in_body ClassDeclaration (suc i)) old_lists) (around_in d (in_body ClassDeclaration (suc i)) new_lists) (allows-in c d (in_body ClassDeclaration (suc i)) old_lists new_lists allows (λ x q. (λ j. has_private (sym e j) x) ∙ q)) elsewhere f k.0),
     class-clear-in e (suc i) gs k.1,
   )
 
@@ -391,10 +390,19 @@ module _ (default context error : Bound) (default_named : IsText default) (used 
     program-clear g c =
         let old_distinct = subst (λ (gs : List (List Name)). Distinct used [] (directives ++ gs)) (append-nil (claims_all is_owned (program_list l) ts)) c.0 in
         let new_distinct = subst (λ (gs : List (List Name)). Distinct anything [] gs) (sym new-lists) (sorts-apart used sorted-program old_distinct) in
-        let inside_distinct = second-apart used (comes context.name context_free (all-sorted made_here (from-inside l in_module))) (last-apart used directives (claims_all is_owned (program_list l) ts) old_distinct) in
-        (new_distinct, refl, (clear-more-by (around used old) (around anything new) allows elsewhere d c.2.0, (joined-clear (around anything new) os (protected context error us before empty)
-        (outside-clear default context error default_named l (in_made (program_list l)) (from-outside l) (around used old) (around anything new) allows ts os us r list-form tops c.2.1.0)
-        (protected-clear (around anything new) elsewhere context error us inside_distinct refl (inside-clear default context error default_named l (in_made (program_list l)) (from-outside l) (around used old) (around anything new) allows ts os us r list-form c.2.1.0), tt), tt)))
+        let inside_distinct = second-apart used (comes context.name context_free (all-sorted made_here (from-inside l in_module))) (last-apart used directives (claims_all is_owned (program_list l) ts) old_distinct) in (
+          new_distinct,
+          refl,
+          (
+            clear-more-by (around used old) (around anything new) allows elsewhere d c.2.0,
+            (
+              joined-clear (around anything new) os (protected context error us before empty)
+                  (outside-clear default context error default_named l (in_made (program_list l)) (from-outside l) (around used old) (around anything new) allows ts os us r list-form tops c.2.1.0)
+                  (protected-clear (around anything new) elsewhere context error us inside_distinct refl (inside-clear default context error default_named l (in_made (program_list l)) (from-outside l) (around used old) (around anything new) allows ts os us r list-form c.2.1.0), tt),
+              tt,
+            ),
+          ),
+        )
       where
         -- what is found in the lists is declared at the top
         top-new : (x : Text) → Found x ((directives ++ left) ++ moved (in_made (program_list l))) → (around anything new).top x ≡ true

@@ -1,14 +1,12 @@
 -- What a declaration declares, as far as it is looked at: the names that it binds, in their order, and nothing else.
-use Rattle.std.proofs.Common.{◌≡◌, ◌==◌, ℕ, zero, suc, refl, sym, ap, subst, ◌∙◌, List, [], ◌∷◌, ◌++◌, append-nil, filter, map}
-use Rattle.std.specs.Prelude.{Bool, true, false, ◌&&◌, codes, if◌then◌else◌}
-use Rattle.std.proofs.lemmas.Bool.{and_parts}
+use Rattle.std.proofs.Common.{◌≡◌, ℕ, suc, refl, sym, subst, ◌∙◌, List, [], ◌∷◌, ◌++◌, append-nil, filter, map}
+use Rattle.std.specs.Prelude.{Bool, true, false, codes, if◌then◌else◌}
 use Rattle.std.proofs.lemmas.List.{map-append}
 use Rattle.std.proofs.lemmas.List.Elements.{filter-append}
 use Rattle.es_tree.specs.Ancestors.{Ancestor}
 use Rattle.es_tree.specs.Attributes.{child_entries}
 use Rattle.es_tree.specs.BoundNames.{bound_identifiers, bound_in_field, bound_in_fields, bound_in_trees}
-use Rattle.es_tree.specs.CoreStaticRules.{is_lexical}
-use Rattle.es_tree.specs.DeclaredNames.{Name, bound_names, declaration_names, exported_names, exports_of, lexical_names, name, var_names}
+use Rattle.es_tree.specs.DeclaredNames.{Name, bound_names, declaration_names, exported_names, exports_of, lexical_names}
 use Rattle.es_tree.specs.HasForm.{field_form, fields_form, has_form, trees_form}
 use Rattle.es_tree.specs.Names.{first_text}
 use Rattle.es_tree.specs.Tree.{Tree, node, Label, Fields, done, ◌then◌, Field, missing, one, many, statements, Trees, empty, ◌before◌, kind_of, fields_of}
@@ -28,7 +26,7 @@ use Rattle.es_steps.proofs.FormLists.{first-formed}
 use Rattle.es_steps.proofs.FormParts.{and-left, and-right}
 use Rattle.es_valid_names.proofs.Claims.{above, claims, claims_all, claims_by, claims_in, is_owned, push}
 use Rattle.es_valid_names.proofs.ClearPending.{expression-mute}
-use Rattle.es_valid_names.proofs.Mute.{Free, edges, free-exported, free-exports, free-filter, stands}
+use Rattle.es_valid_names.proofs.Mute.{Free, edges, free-exported, free-filter, stands}
 use Rattle.es_valid_names.proofs.StandsFit.{one-zero, two-one}
 use Rattle.es_valid_rests.proofs.RestNamesBinding.{binds_names, bound-table, bound_inside, has_part, part-binds, silent-tree}
 use Rattle.es_valid_rests.proofs.RestNamesAround.{Fit, OwnedPart, claims-by-fit, plain-private}

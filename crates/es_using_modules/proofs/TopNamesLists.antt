@@ -1,6 +1,6 @@
 -- Lists of declared names, one for each node, that fall into two: those of the second become names of `var`, and fresh ones come to them. Nothing clashes that
 -- didn't clash, and what was declared is.
-use Rattle.std.proofs.Common.{◌≡◌, ◌==◌, inl, inr, refl, sym, ap, ◌∙◌, List, [], ◌∷◌, ◌++◌}
+use Rattle.std.proofs.Common.{◌≡◌, inl, inr, refl, ◌∙◌, List, [], ◌∷◌, ◌++◌}
 use Rattle.std.specs.Prelude.{◌⊎◌, Bool, true, false, not, ◌&&◌, ◌||◌}
 use Rattle.std.specs.List.{list_any}
 use Rattle.es_tree.specs.DeclaredNames.{Name, clashes, is_same_name, name}
@@ -8,7 +8,6 @@ use Rattle.es_tree.specs.Words.{Text}
 use Rattle.es_tree.specs.declared.place.Namespace.TheVariants.{Scope}
 use Rattle.es_valid_names.proofs.Claims.{AllUsed, Distinct, is_scope_space, is_used, joined}
 use Rattle.es_valid_names.proofs.Grown.{left-none, new-same, or-none, right-none}
-use Rattle.es_valid_names.proofs.MoreAround.{or-last, or-self}
 use Rattle.es_valid_names.proofs.Owners.{any-append}
 use Rattle.es_valid_rests.proofs.RestNamesInserted.{same-flip}
 

@@ -1,5 +1,5 @@
 -- What a statement that is no declaration declares at the top of a module and in the block of a `try` there: by `var`, and so the same names in the module.
-use Rattle.std.proofs.Common.{◌≡◌, ◌==◌, ◌≤◌, ◌<◌, ◌+◌, ℕ, zero, suc, refl, sym, ap, subst, ◌∙◌, List, [], ◌∷◌, ◌++◌, filter, map, arith}
+use Rattle.std.proofs.Common.{◌≡◌, ◌==◌, ◌≤◌, ◌<◌, ◌+◌, ℕ, suc, refl, sym, ap, subst, ◌∙◌, List, [], ◌∷◌, ◌++◌, filter, map, arith}
 use Rattle.std.specs.Prelude.{Bool, true, false, not, ◌&&◌, ◌||◌, Some, bytes_eq, codes, if◌then◌else◌}
 use Rattle.std.proofs.lemmas.List.Elements.{filter-append}
 use Rattle.es_tree.specs.Ancestors.{Ancestor, ancestor, is_boundary, is_module, is_module_top, is_scope, leads_by, scopes, stands_in}
@@ -17,7 +17,7 @@ use Rattle.es_tree.specs.declared.place.Namespace.TheVariants.{Scope}
 use Rattle.es_tree.specs.declared.table.Sort.{Sort}
 use Rattle.es_tree.specs.declared.table.Sort.TheVariants.{Statement as s-Statement}
 use Rattle.es_tree.proofs.NodeForm.{node_form}
-use Rattle.es_semantic.proofs.FormEdges.{Edges, EdgesAll, EdgesBy, EdgesIn, ElementsFit, edges-inside, elements-are, entries_fit, is_last}
+use Rattle.es_semantic.proofs.FormEdges.{EdgesAll, EdgesBy, EdgesIn, ElementsFit, edges-inside, elements-are, entries_fit, is_last}
 use Rattle.es_resolution.proofs.Basics.{bytes_eq-self}
 use Rattle.es_steps.specs.Nodes.{made}
 use Rattle.es_valid_steps.specs.PlaceRules.{Keeps, KeepsAll, KeepsBy, KeepsHere, KeepsIn}
@@ -29,7 +29,7 @@ use Rattle.es_valid_names.proofs.ProgramNames.{program_list}
 use Rattle.es_valid_names.proofs.Visited.{inner-edges, tree-groups}
 use Rattle.es_valid_using.proofs.UsingNamesBlocks.{made_here}
 use Rattle.es_valid_using.proofs.UsingNamesMade.{in_made, statement-member}
-use Rattle.es_valid_rests.proofs.RestNamesAround.{Fit, OwnedPart, claims-by-fit, innermost, looked_at, vars-owned}
+use Rattle.es_valid_rests.proofs.RestNamesAround.{Fit, claims-by-fit, innermost, looked_at, vars-owned}
 use Rattle.es_valid_rests.proofs.RestNamesAround.Parent.{same_parent}
 use Rattle.es_valid_rests.proofs.RestNamesParts.{Part, part-self, same-parts}
 use Rattle.es_using_modules.proofs.TopMoves.{is_plain}

@@ -2,28 +2,25 @@
 use Rattle.std.proofs.Common.{◌≡◌, refl, sym, ap, ◌∙◌, List, [], ◌∷◌, ◌++◌, append-nil}
 use Rattle.std.specs.Prelude.{true, false, codes}
 use Rattle.es_tree.specs.HasForm.{has_form, trees_form}
-use Rattle.es_tree.specs.Tree.{Tree, node, Label, Fields, done, ◌then◌, Field, missing, one, many, statements, Trees, empty, ◌before◌, kind_of}
+use Rattle.es_tree.specs.Tree.{Tree, node, Label, done, Field, Trees, empty, ◌before◌, kind_of}
 use Rattle.es_tree.specs.Words.{Text}
-use Rattle.es_tree.specs.declared.ast_type.AstType.TheVariants.{ClassDeclaration, ExportAllDeclaration, ExportDefaultDeclaration, ExportNamedDeclaration, FunctionDeclaration, Identifier, ImportDeclaration, VariableDeclaration}
-use Rattle.es_tree.specs.declared.table.Sort.TheVariants.{Declaration as s-Declaration, Identifier as s-Identifier, Program as s-Program, Statement as s-Statement, VariableDeclarator as s-VariableDeclarator}
+use Rattle.es_tree.specs.declared.ast_type.AstType.TheVariants.{ExportAllDeclaration, ExportDefaultDeclaration, ExportNamedDeclaration, Identifier, ImportDeclaration}
+use Rattle.es_tree.specs.declared.table.Sort.TheVariants.{Declaration as s-Declaration, Identifier as s-Identifier, Program as s-Program, Statement as s-Statement}
 use Rattle.es_tree.proofs.NodeForm.{node_form}
 use Rattle.es_resolution.specs.Declarations.{Bound}
-use Rattle.es_steps.specs.Nodes.{joined_trees}
 use Rattle.es_steps.specs.UsingBlocks.{protected}
 use Rattle.es_steps.proofs.FormLists.{first-formed}
-use Rattle.es_steps.proofs.FormParts.{and-left}
 use Rattle.es_module_names.specs.Laws.{SameOutside}
-use Rattle.es_module_names.specs.Modules.{declared_texts, exported, name_text, request, specifier_text, star_request, texts_among}
+use Rattle.es_module_names.specs.Modules.{declared_texts, exported, name_text, request, star_request, texts_among}
 use Rattle.es_top_imports.proofs.TopForms.{program_with}
 use Rattle.es_top_imports.proofs.TopStatic.{texts-joined}
 use Rattle.es_export_splits.specs.Splits.{export_of, text_of}
 use Rattle.es_export_splits.proofs.ExportNames.{export_with}
 use Rattle.es_export_splits.proofs.ExportStatic.{declaration-same, specifier-texts, texts}
-use Rattle.es_using_modules.specs.ModuleTops.{Makes, by_bounds, default_export}
+use Rattle.es_using_modules.specs.ModuleTops.{Makes, by_bounds}
 use Rattle.es_using_modules.proofs.TopForms.{class-name, exported-part, program-list}
-use Rattle.es_using_modules.proofs.TopMoves.{Declares, Defaults, Moves, default_with, is_plain, lowered}
+use Rattle.es_using_modules.proofs.TopMoves.{Declares, Moves, default_with, is_plain, lowered}
 use Rattle.es_using_modules.proofs.TopMoves.Declares.{by_class, by_variables}
-use Rattle.es_using_modules.proofs.TopMoves.Defaults.{a_value, bare_class, named_class}
 use Rattle.es_using_modules.proofs.TopMoves.Moves.{declares, default_export_of, exports, no_more, plain, stays}
 
 -- what is read off a statement that neither imports nor exports

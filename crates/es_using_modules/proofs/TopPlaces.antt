@@ -1,19 +1,17 @@
 -- A module whose `using` at the top is lowered: the static rules of places are kept. Nothing forbids in the block of the `try` what may stand at the top of a
 -- module, but imports and exports, which stay there.
 use Rattle.std.proofs.Common.{◌≡◌, ℕ, zero, suc, refl, sym, ap, subst, ◌∙◌, List, [], ◌∷◌}
-use Rattle.std.specs.Prelude.{Bool, true, false, not, ◌&&◌, ◌||◌, bytes_eq, codes, Some}
-use Rattle.std.specs.List.{list_any}
-use Rattle.std.proofs.lemmas.Bool.{and_parts}
-use Rattle.es_tree.specs.Ancestors.{Ancestor, ancestor, labels, leads_by, place_of}
+use Rattle.std.specs.Prelude.{Bool, true, false, not, ◌&&◌, ◌||◌, codes, Some}
+use Rattle.es_tree.specs.Ancestors.{Ancestor, ancestor, leads_by, place_of}
 use Rattle.es_tree.specs.Attributes.{child_entries}
-use Rattle.es_tree.specs.CoreStaticRules.{declarator_place, is_constant, is_lexical, is_missing_init, is_name, is_optional, is_simple_target, place_in}
+use Rattle.es_tree.specs.CoreStaticRules.{is_constant, is_lexical, is_missing_init, is_name, is_simple_target, place_in}
 use Rattle.es_tree.specs.HasForm.{field_form, fields_form, has_form, same_type, trees_form}
 use Rattle.es_tree.specs.Names.{first_text}
 use Rattle.es_tree.specs.Parens.{without_parens}
-use Rattle.es_tree.specs.StaticRules.{is_bad_for, is_bad_rest, is_bad_using, is_declaration, is_duplicate_label, is_misplaced_module_item}
+use Rattle.es_tree.specs.StaticRules.{is_bad_for, is_bad_using, is_declaration, is_duplicate_label, is_misplaced_module_item}
 use Rattle.es_tree.specs.Tree.{Tree, node, Label, Fields, done, ◌then◌, Field, missing, one, many, statements, Trees, empty, ◌before◌, kind_of, label_of}
 use Rattle.es_tree.specs.declared.ast_type.AstType.{AstType}
-use Rattle.es_tree.specs.declared.ast_type.AstType.TheVariants.{ArrayPattern, BlockStatement, ClassDeclaration, ClassExpression, ExportAllDeclaration, ExportDefaultDeclaration, ExportNamedDeclaration, ExportSpecifier, Identifier, ImportDeclaration, ObjectPattern, Program, RestElement, TargetRest, TryStatement, VariableDeclaration, VariableDeclarator}
+use Rattle.es_tree.specs.declared.ast_type.AstType.TheVariants.{ArrayPattern, BlockStatement, ClassDeclaration, ClassExpression, ExportAllDeclaration, ExportDefaultDeclaration, ExportNamedDeclaration, Identifier, ImportDeclaration, ObjectPattern, Program, RestElement, TargetRest, TryStatement, VariableDeclaration, VariableDeclarator}
 use Rattle.es_tree.specs.declared.place.Place.{Place}
 use Rattle.es_tree.specs.declared.place.Place.TheVariants.{Declarator, Other, ProgramBody}
 use Rattle.es_tree.specs.declared.table.Content.TheVariants.{Child as c-Child}
@@ -22,7 +20,7 @@ use Rattle.es_tree.specs.declared.table.Sort.{Sort}
 use Rattle.es_tree.specs.declared.table.Sort.TheVariants.{Binding as s-Binding, Declaration as s-Declaration, Expression as s-Expression, Statement as s-Statement, VariableDeclarator as s-VariableDeclarator}
 use Rattle.es_tree.proofs.NodeForm.{node_form}
 use Rattle.es_resolution.specs.Declarations.{Bound, symbol_of}
-use Rattle.es_steps.specs.Nodes.{declaration_node, declarator_with, identifier, joined_trees, made}
+use Rattle.es_steps.specs.Nodes.{declaration_node, declarator_with, identifier, made}
 use Rattle.es_steps.specs.UsingBlocks.{method_call, protected}
 use Rattle.es_steps.specs.UsingBodies.{bound_as}
 use Rattle.es_steps.proofs.FormLists.{first-formed}
@@ -41,7 +39,7 @@ use Rattle.es_top_imports.proofs.TopForms.{program_with}
 use Rattle.es_export_splits.proofs.ExportNames.{export_with}
 use Rattle.es_export_splits.proofs.ExportPlaces.{export-keeps}
 use Rattle.es_using_modules.specs.ModuleTops.{Makes, by_bounds, by_var, default_export}
-use Rattle.es_using_modules.proofs.TopForms.{default-part, exported-part}
+use Rattle.es_using_modules.proofs.TopForms.{exported-part}
 use Rattle.es_using_modules.proofs.TopMoves.{AllBecome, Becomes, Declares, Defaults, Moves, default_with, is_plain, lowered}
 use Rattle.es_using_modules.proofs.TopMoves.Becomes.{as_is, passed}
 use Rattle.es_using_modules.proofs.TopMoves.AllBecome.{ended, more}
@@ -120,6 +118,7 @@ module _ (l : Label) (all : Fields) (context error : Bound) (whole : Trees) wher
       let offers : (i : ℕ) → Offers true (ancestor k j fs i 0 ∷ up) (ancestor k j fs i 0 ∷ inner) = λ i. offers-within true up inner (ancestor k j fs i 0) (ancestor k j fs i 0) (alike-self _) from-top (λ d. absurd (let no : true ≡ false = d in cc no)) in
       let near : (i : ℕ) → Near (ancestor k j fs i 0 ∷ up) (ancestor k j fs i 0 ∷ inner) = λ i. record { place = subst (λ (p : Place). PlaceOffers (place_in ProgramBody k j i) p) (sym (plain-place k e j i)) (same_place (place_in ProgramBody k j i)); head = alike-self _; rest = λ t. refl } in
       (plain-here (node k j fs) e h.0, in-moved true up inner k j fs fs 0 fs offers near (λ d. absurd (let no : true ≡ false = d in cc no)) h.1)
+
   -- A VARIABLE that is made, with its value
 
   abbrev made_label : Label
@@ -258,12 +257,12 @@ module _ (l : Label) (all : Fields) (context error : Bound) (whole : Trees) wher
           stay = record { loose_from = inner-loose; loose_to = inner-loose; offers = offers-self inner; place_from = refl; place_to = refl; callee = refl; object = refl }
 
     module _ (top : Bool) (placed : place_of old_declaration ≡ Declarator top (is_lexical (first_text k.texts)) (is_constant (first_text k.texts))) where
-      with-value : (n : Label) (p v e : Tree) (gs : Fields) → has_form s-VariableDeclarator (node VariableDeclarator n (one p then one v then done)) ≡ true → Keeps old_declaration (node VariableDeclarator n (one p then one v then done)) → Keeps (new_declarator top placed n (one p then one e then done) 1) e → Keeps new_declaration (node VariableDeclarator n (one p then one e then done))
-      with-value n p v e gs f h g = (declarator-here inner inner-loose refl (by_var k) (many es then done) n p e, (pattern-keeps top placed n (one p then one v then done) (one p then one e then done) p (and-left (has_form s-Binding p) _ (node_form s-VariableDeclarator VariableDeclarator n (one p then one v then done) f).children) h.1.0, (g, tt)))
+      with-value : (n : Label) (p v e : Tree) → has_form s-VariableDeclarator (node VariableDeclarator n (one p then one v then done)) ≡ true → Keeps old_declaration (node VariableDeclarator n (one p then one v then done)) → Keeps (new_declarator top placed n (one p then one e then done) 1) e → Keeps new_declaration (node VariableDeclarator n (one p then one e then done))
+      with-value n p v e f h g = (declarator-here inner inner-loose refl (by_var k) (many es then done) n p e, (pattern-keeps top placed n (one p then one v then done) (one p then one e then done) p (and-left (has_form s-Binding p) _ (node_form s-VariableDeclarator VariableDeclarator n (one p then one v then done) f).children) h.1.0, (g, tt)))
 
       as-before : (n : Label) (fs : Fields) → fields_form VariableDeclarator n (child_entries VariableDeclarator) fs ≡ true → has_form s-VariableDeclarator (node VariableDeclarator n fs) ≡ true → Keeps old_declaration (node VariableDeclarator n fs) → Keeps new_declaration (node VariableDeclarator n fs)
       as-before n (one p then missing then done) c f h = (bare-here top placed n p h.0, (pattern-keeps top placed n (one p then missing then done) (one p then missing then done) p (and-left (has_form s-Binding p) true c) h.1.0, (tt, tt)))
-      as-before n (one p then one v then done) c f h = with-value n p v v done f h (value-moved top placed n (one p then one v then done) v h.1.1.0)
+      as-before n (one p then one v then done) c f h = with-value n p v v f h (value-moved top placed n (one p then one v then done) v h.1.1.0)
       as-before n done c f h = absurd (let no : false ≡ true = c in cc no)
       as-before n (g then done) c f h = absurd (let no : false ≡ true = and-right (field_form VariableDeclarator n (c-Child s-Binding Required) g) false c in cc no)
       as-before n (g then i then j then hs) c f h = absurd (let no : false ≡ true = and-right (field_form VariableDeclarator n (c-Child s-Expression Optional) i) false (and-right (field_form VariableDeclarator n (c-Child s-Binding Required) g) _ c) in cc no)
@@ -272,7 +271,7 @@ module _ (l : Label) (all : Fields) (context error : Bound) (whole : Trees) wher
       as-before n (g then i then done) c f h = absurd (let no : false ≡ true = c in cc no)
 
       declarator-keeps : (d e : Tree) → Becomes context d e → has_form s-VariableDeclarator d ≡ true → Keeps old_declaration d → Keeps new_declaration e
-      declarator-keeps d e (passed n p v) f h = with-value n p v (method_call context (codes "u") (v ∷ [])) done f h (passed-value top placed n p v h.1.1.0)
+      declarator-keeps d e (passed n p v) f h = with-value n p v (method_call context (codes "u") (v ∷ [])) f h (passed-value top placed n p v h.1.1.0)
       declarator-keeps d e (as_is (node VariableDeclarator n fs)) f h = as-before n fs (node_form s-VariableDeclarator VariableDeclarator n fs f).children f h
       declarator-keeps d e (as_is (node j n fs)) f h = absurd (let no : false ≡ true = (node_form s-VariableDeclarator j n fs f).sort in cc no)
 
