@@ -1,0 +1,10 @@
+use Rattle.std.proofs.Common.{arith, sym}
+use Rattle.lower_export_splits.specs.Parts.{hold_split}
+use Rattle.lower_export_splits.proofs.Fields.{other-count, program-fits, program_places}
+use Rattle.lower_export_splits.proofs.hold_split.Goals as goal
+
+pub returns-in_default : goal.returns-in_default
+returns-in_default c = sym (other-count hold_split program_places program-fits c.args.fields.now (λ h. omega (arith, h, c.in_default.len_below)))
+
+pub returns-in_default-4 : goal.returns-in_default-4
+returns-in_default-4 c = sym (other-count hold_split program_places program-fits c.args.fields.now (λ h. omega (arith, h, c.in_default.len_at_least)))
