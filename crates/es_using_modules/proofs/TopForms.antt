@@ -1,5 +1,5 @@
 -- A module whose `using` at the top is lowered: it has form.
-use Rattle.std.proofs.Common.{◌≡◌, ◌==◌, refl, length, List, [], ◌∷◌}
+use Rattle.std.proofs.Common.{◌≡◌, ◌==◌, ℕ, refl, length, List, [], ◌∷◌}
 use Rattle.std.specs.Prelude.{Bool, true, false, ◌&&◌, not, Option, Some, None, codes}
 use Rattle.std.proofs.lemmas.Bool.{and_from}
 use Rattle.es_tree.specs.Attributes.{child_entries, text_entries, texts_fit}
@@ -72,6 +72,18 @@ named-class-formed s l c fs b h f =
     let n = node_form s ClassDeclaration l (one c then fs) f in
     has_form-node s-Expression ClassExpression l (one (identifier b) then fs) (record { sort = refl; texts = n.texts; flags = n.flags; start = n.start; stop = n.stop; agree = refl; children = and_from (has_form s-Identifier (identifier b)) _ (rw h refl) (class-rest l fs (and-right (has_form s-Identifier c) _ n.children)) })
 
+-- where the name has other marks
+marked-formed : (ms : List (Option ℕ)) (c : Tree) → has_form s-Identifier c ≡ true → has_form s-Identifier (node Identifier (record (label_of c) { marks = ms }) done) ≡ true
+marked-formed ms (node Identifier l done) f = f
+marked-formed ms (node Identifier l (g then fs)) f = absurd (let no : false ≡ true = (node_form s-Identifier Identifier l (g then fs) f).children in cc no)
+marked-formed ms (node k l fs) f = absurd (let no : false ≡ true = (node_form s-Identifier k l fs f).sort in cc no)
+
+pub marked-class-formed : (s : Sort) (l : Label) (c : Tree) (fs : Fields) (ms : List (Option ℕ)) → has_form s (node ClassDeclaration l (one c then fs)) ≡ true → IsFormed (node ClassExpression l (one (node Identifier (record (label_of c) { marks = ms }) done) then fs))
+marked-class-formed s l c fs ms f =
+    let n = node_form s ClassDeclaration l (one c then fs) f in
+    let name : Tree = node Identifier (record (label_of c) { marks = ms }) done in
+    has_form-node s-Expression ClassExpression l (one name then fs) (record { sort = refl; texts = n.texts; flags = n.flags; start = n.start; stop = n.stop; agree = refl; children = and_from (has_form s-Identifier name) _ (marked-formed ms c (and-left (has_form s-Identifier c) _ n.children)) (class-rest l fs (and-right (has_form s-Identifier c) _ n.children)) })
+
 pub bare-class-formed : (s : Sort) (l : Label) (fs : Fields) → has_form s (node ClassDeclaration l (missing then fs)) ≡ true → IsFormed (node ClassExpression l (missing then fs))
 bare-class-formed s l fs f =
     let n = node_form s ClassDeclaration l (missing then fs) f in
@@ -118,7 +130,7 @@ module _ (default context error : Bound) (default_named : IsText default) (conte
   declares-formed s d u xs (by_variables l ds es r) f = variables-formed s l ds es r f
   declares-formed s d u xs (by_class l c fs) f =
       let text = name-text c (class-name s l c fs f) in
-      variable-formed (bound_as (label_of c)) (node ClassExpression l (one (m.inside l c) then fs)) text (named-class-formed s l c fs (record (bound_as (label_of c)) { symbol = symbol_of l }) text f)
+      variable-formed (bound_as (label_of c)) (node ClassExpression l (one (m.inside l c) then fs)) text (marked-class-formed s l c fs (symbol_of l ∷ []) f)
 
   names-text : (s : Sort) (d u : Tree) (xs : List Tree) → Declares default context error d xs u → has_form s d ≡ true → EachTree HasText xs
   names-text s d u xs (by_variables l ds es r) f = names-formed s l ds done f

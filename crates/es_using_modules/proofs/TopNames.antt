@@ -39,7 +39,7 @@ use Rattle.es_export_splits.specs.Splits.{export_of, text_of}
 use Rattle.es_export_splits.proofs.ExportClaims.{export-claims, export-clear}
 use Rattle.es_export_splits.proofs.ExportNames.{export_with}
 use Rattle.es_using_modules.specs.ModuleTops.{Makes, by_bounds, by_var, default_export}
-use Rattle.es_using_modules.proofs.TopForms.{bare-class-formed, class-name, default-part, exported-part, name-text, named-class-formed, program-list, variable-formed}
+use Rattle.es_using_modules.proofs.TopForms.{bare-class-formed, class-name, default-part, exported-part, name-text, marked-class-formed, named-class-formed, program-list, variable-formed}
 use Rattle.es_using_modules.proofs.TopMoves.{AllBecome, Becomes, Declares, Defaults, Moves, all-same, default_with, is_plain, lowered}
 use Rattle.es_using_modules.proofs.TopMoves.Becomes.{as_is, passed}
 use Rattle.es_using_modules.proofs.TopMoves.AllBecome.{ended, more}
@@ -216,7 +216,7 @@ module _ (default context error : Bound) (default_named : IsText default) where
         record {
           lexical = true;
           old = class-names up q s k c fs f;
-          new = made-names l vp p (bound_as (label_of c)) (node ClassExpression k (one (m.inside k c) then fs)) text (named-class-formed s k c fs (record (bound_as (label_of c)) { symbol = symbol_of k }) text f);
+          new = made-names l vp p (bound_as (label_of c)) (node ClassExpression k (one (m.inside k c) then fs)) text (marked-class-formed s k c fs (symbol_of k ∷ []) f);
         }
 
     -- THE NAMES FALL INTO TWO

@@ -302,9 +302,9 @@ module _ (l : Label) (all : Fields) (context error : Bound) (whole : Trees) wher
   from-default : (k : Label) (fs : Fields) → Offers true (by_default k fs) inner
   from-default k fs = record { labels = refl; loop = λ j h. h; breakable = λ j h. h; function = λ h. h; members = λ h. h; calls = λ h. h; targets = λ h. h; in_module = refl; method = λ h. h; constructor = λ h. h; class = λ h. h }
 
-  named-class : (from : List Ancestor) → Offers true from inner → (b x : Bound) (k : Label) (c : Tree) (fs : Fields) → Keeps from (node ClassDeclaration k (one c then fs)) → Keeps inner (declaration_node (codes "var") (declarator_with (identifier b) (node ClassExpression k (one (identifier x) then fs)) ∷ []))
-  named-class from o b x k c fs h =
-      let h' = one (identifier x) in
+  named-class : (from : List Ancestor) → Offers true from inner → (b : Bound) (n k : Label) (c : Tree) (fs : Fields) → Keeps from (node ClassDeclaration k (one c then fs)) → Keeps inner (declaration_node (codes "var") (declarator_with (identifier b) (node ClassExpression k (one (node Identifier n done) then fs)) ∷ []))
+  named-class from o b n k c fs h =
+      let h' = one (node Identifier n done) in
       variable-keeps b (node ClassExpression k (h' then fs)) (class-keeps (identifier b) k (one c) h' fs from o (made-there (is_now (identifier b) k (one c) h' fs from 0) Identifier _ done (now-loose (identifier b) k (one c) h' fs from 0) refl refl refl refl, tt) h)
 
   module _ (default : Bound) where
@@ -313,12 +313,12 @@ module _ (l : Label) (all : Fields) (context error : Bound) (whole : Trees) wher
 
     declares-keep : (from : List Ancestor) → Declaring from → (s : Sort) (d u : Tree) (xs : List Tree) → Declares default context error d xs u → has_form s d ≡ true → Keeps from d → Keeps inner u
     declares-keep from g s d u xs (by_variables k ds es r) f h = variables-keep from g.offers k ds es g.top (g.placed k (many ds then done)) s r f h
-    declares-keep from g s d u xs (by_class k c fs) f h = named-class from g.offers (bound_as (label_of c)) (record (bound_as (label_of c)) { symbol = symbol_of k }) k c fs h
+    declares-keep from g s d u xs (by_class k c fs) f h = named-class from g.offers (bound_as (label_of c)) (record (label_of c) { marks = symbol_of k ∷ [] }) k c fs h
 
     -- DEFAULT EXPORTS
 
     defaults-keep : (k : Label) (gs : Fields) (t d x u : Tree) → Defaults default context error t d x u → Keeps (by_default k gs) d → Keeps inner u
-    defaults-keep k gs t d x u (named_class l' c fs) h = named-class (by_default k gs) (from-default k gs) (bound_as (label_of c)) (record (bound_as (label_of c)) { symbol = symbol_of l' }) l' c fs h
+    defaults-keep k gs t d x u (named_class l' c fs) h = named-class (by_default k gs) (from-default k gs) (bound_as (label_of c)) (record (label_of c) { marks = symbol_of l' ∷ [] }) l' c fs h
     defaults-keep k gs t d x u (bare_class l' fs) h = variable-keeps default (node ClassExpression l' (missing then fs)) (class-keeps (identifier default) l' missing missing fs (by_default k gs) (from-default k gs) tt h)
     defaults-keep k gs t d x u (a_value e f) h = variable-keeps default e (value-keeps (identifier default) e k gs e h)
 

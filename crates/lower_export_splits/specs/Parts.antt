@@ -1,8 +1,9 @@
 -- What stands in the fields of a node, as the code asks it.
-use Rattle.std.specs.Prelude.{◌&&◌, Bool, None, Option, false, true}
+use Rattle.std.specs.Prelude.{◌&&◌, Bool, None, Option, [], false, true, ℕ}
 use Rattle.es_tree.specs.Children.{child_at}
 use Rattle.es_tree.specs.Tree.{Field, Fields, Tree, Trees, done, empty, many, missing, node, one, statements, ◌then◌}
-use Rattle.es_tree.specs.declared.ast_type.AstType.TheVariants.{VariableDeclaration, VariableDeclarator}
+use Rattle.es_tree.specs.declared.ast_type.AstType.TheVariants.{ExportNamedDeclaration, VariableDeclaration, VariableDeclarator}
+use Rattle.es_steps.specs.Nodes.{made}
 use Rattle.es_rest_shapes.specs.RestShapes.{declares_rest}
 use Rattle.es_export_splits.specs.Splits.{some_split}
 
@@ -27,6 +28,10 @@ hold_nothing _ = false
 abbrev pub export_rest : Fields → Bool
 export_rest (one d then fs) = hold_nothing fs && declares_rest d
 export_rest _ = false
+
+-- `export { a, b };`, with this id and these specifiers
+abbrev pub export_with : ℕ → Trees → Tree
+export_with i xs = node ExportNamedDeclaration (record (made [] []) { id = i }) (missing then many xs then missing then many empty then done)
 
 -- A DECLARATION: its declarators, and what each declares
 

@@ -10,14 +10,15 @@
 //!
 //! The rule is `split_before` of es_export_splits.
 ghost use Rattle.std.specs.Prelude.{◌≡◌, IfOk, true};
-ghost use Rattle.es_tree.specs.Tree.{empty, ◌before◌};
+ghost use Rattle.es_tree.specs.Tree.{empty, trees, ◌before◌};
 ghost use Rattle.es_tree.specs.Views.{plain_field, plain_fields};
 ghost use Rattle.es_export_splits.specs.Splits.{is_split, plainly, split_before};
-ghost use Rattle.lower_export_splits.specs.Parts.{export_rest, hold_nothing, is_empty_list, is_missing};
+ghost use Rattle.lower_export_splits.specs.Parts.{export_rest, export_with, hold_nothing, is_empty_list, is_missing};
 
 use crate::specifiers::specifiers_of;
 use es_patterns::modules::ExportNamedDeclaration;
 use es_rest_nodes::strays::is_rest_declaration;
+use es_tree::ids::NodeId;
 use es_tree::kind::Kind;
 use es_tree::node::{Field, Node};
 use lower_fresh_names::nodes::MADE;
@@ -93,6 +94,14 @@ pub(crate) fn declaration_and_export(
         None => unreachable!(),
     };
     let specifiers = specifiers_of(&declaration, alloc)?;
+    let made = new_export(id, specifiers, alloc)?;
+    Ok((declaration, made))
+}
+
+/// `export { a, b };`. Fails only for want of memory.
+pub fn new_export(id: NodeId, specifiers: Vec<Node>, alloc: Global) -> Result<Node, AllocError>
+    ensures { IfOk result (λ made. made ≡ export_with id.0 (trees specifiers.items)) }
+{
     let export = ExportNamedDeclaration {
         id,
         span: MADE,
@@ -101,6 +110,5 @@ pub(crate) fn declaration_and_export(
         source: None,
         attributes: Vec::new(alloc),
     };
-    let made = export.close(alloc)?;
-    Ok((declaration, made))
+    export.close(alloc)
 }

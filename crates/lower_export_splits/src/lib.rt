@@ -27,8 +27,8 @@ ghost use Rattle.es_tree.specs.Views.{plain_fields};
 ghost use Rattle.es_export_splits.specs.Splits.{has_split, plainly, split};
 ghost use Rattle.lower_export_splits.specs.Parts.{hold_split};
 
-mod exports;
-mod specifiers;
+pub mod exports;
+pub mod specifiers;
 mod statements;
 
 use crate::statements::{any_split, split_statements};

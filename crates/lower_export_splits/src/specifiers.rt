@@ -11,6 +11,7 @@ ghost use Rattle.es_tree.specs.BoundNames.{bound_identifiers};
 ghost use Rattle.es_tree.specs.Tree.{trees};
 ghost use Rattle.es_tree.specs.Views.{plain_fields};
 ghost use Rattle.es_steps.specs.Nodes.{joined_trees};
+ghost use Rattle.es_pattern_moves.specs.Moved.{plain_name};
 ghost use Rattle.es_export_splits.specs.Splits.{names_of_declaration, names_of_declarator, plainly, specifier, specifiers, text_of};
 ghost use Rattle.lower_export_splits.specs.Parts.{declarators_of, only_list, pattern_of};
 
@@ -20,8 +21,8 @@ use es_tree::node::{Field, Node};
 use lower_fresh_names::nodes::{MADE, id_of, new_name};
 use std::alloc::{AllocError, Global};
 
-/// `a, b` for `const { a, ...b } = c`.
-pub(crate) fn specifiers_of(declaration: &Node, alloc: Global) -> Result<Vec<Node>, AllocError>
+/// `a, b` for `const { a, ...b } = c`, and none for what is no declaration of variables. Fails only for want of memory.
+pub fn specifiers_of(declaration: &Node, alloc: Global) -> Result<Vec<Node>, AllocError>
     ensures { IfOk result (λ made. trees made.items ≡ specifiers plainly (names_of_declaration declaration.now)) }
 {
     let mut made = Vec::new(alloc);
@@ -89,21 +90,26 @@ fn add_of_pattern(pattern: &Node, made: &mut Vec<Node>, alloc: Global) -> Result
     Ok(())
 }
 
-/// `a as a`
-fn new_specifier(name: &Node, alloc: Global) -> Result<Node, AllocError>
+/// `a as a`. Fails only for want of memory.
+pub fn new_specifier(name: &Node, alloc: Global) -> Result<Node, AllocError>
     ensures { IfOk result (λ made. made ≡ specifier plainly name.now) }
 {
-    let id = id_of(name);
-    let text = text_of(name);
-    let local = new_name(id, text, alloc)?;
-    let exported = new_name(id, text, alloc)?;
+    let local = name_again(name, alloc)?;
+    let exported = name_again(name, alloc)?;
     let specifier = ExportSpecifier {
-        id,
+        id: id_of(name),
         span: MADE,
         local,
         exported,
     };
     specifier.close(alloc)
+}
+
+/// A declared name once more. Fails only for want of memory.
+pub fn name_again(name: &Node, alloc: Global) -> Result<Node, AllocError>
+    ensures { IfOk result (λ made. made ≡ plain_name (text_of name.now) name.now) }
+{
+    new_name(id_of(name), text_of(name), alloc)
 }
 
 /// The text of a name.

@@ -1,9 +1,9 @@
 -- What parts of a program become with one context, and the tests of places as the code has them: each of what stands in a node's fields.
-use Rattle.std.specs.Prelude.{◌≡◌, ◌&&◌, Bool, false, true, List, [], ◌∷◌, ℕ}
+use Rattle.std.specs.Prelude.{◌≡◌, ◌&&◌, Bool, false, true, List, [], ◌∷◌, Some, codes, ℕ}
 use Rattle.es_tree.specs.Tree.{Tree, node, Label, Fields, done, ◌then◌, Field, one, many, statements, Trees, empty, ◌before◌}
 use Rattle.es_tree.specs.Words.{Text}
 use Rattle.es_tree.specs.declared.ast_type.AstType.{AstType}
-use Rattle.es_tree.specs.declared.ast_type.AstType.TheVariants.{BlockStatement, EmptyStatement, FunctionBody, StaticBlock}
+use Rattle.es_tree.specs.declared.ast_type.AstType.TheVariants.{BlockStatement, EmptyStatement, FunctionBody, StaticBlock, VariableDeclaration, VariableDeclarator}
 use Rattle.es_steps.specs.Nodes.{made}
 use Rattle.es_steps.specs.UsingBlocks.{has_using}
 use Rattle.es_steps.specs.UsingSwitches.{some_case_has_using}
@@ -21,6 +21,10 @@ making c = plainly (c ∷ [])
 -- for a node of this id, of which nothing else is asked
 abbrev pub of_id : ℕ → Tree
 of_id i = node EmptyStatement (record (made [] []) { id = i }) done
+
+-- `var x = e;`, with this id
+abbrev pub variable_with : ℕ → Tree → Tree → Tree
+variable_with i x e = node VariableDeclaration (record (made (Some (codes "var") ∷ []) []) { id = i }) (many (node VariableDeclarator (record (made [] []) { id = i }) (one x then one e then done) before empty) then done)
 
 -- WHAT A PART BECOMES, with this context, whatever number it has
 abbrev pub BecomesBy : {X Y : Type 0} → Text → (Makes → ℕ → X → Y) → X → Y → Type 0

@@ -12,11 +12,12 @@
 ghost use Rattle.std.specs.Prelude.{◌≡◌, ◌||◌, IfOk, not, true};
 ghost use Rattle.es_tree.specs.Tree.{trees};
 ghost use Rattle.es_steps.specs.UsingBlocks.{is_using_node};
-ghost use Rattle.es_using_rows.specs.UsingPlaces.{are_used, has_value, have_values, is_used};
+ghost use Rattle.es_using_rows.specs.UsingPlaces.{are_used, is_used};
 ghost use Rattle.es_using_rows.specs.Used.{constant, constants, used_declaration, used_declarator, used_declarators};
 ghost use Rattle.lower_using.specs.Parts.{BecomesBy};
 
 use crate::made_nodes::new_method_call;
+use crate::places::has_value;
 use es_nodes::construct::is_using;
 use es_statements::program::{VariableDeclaration, VariableDeclarator};
 use es_tree::node::Node;
@@ -78,9 +79,12 @@ pub(crate) fn make_declaration(
     Ok(made)
 }
 
-/// `a = _usingCtx.u(b), c = _usingCtx.u(d)` for `a = b, c = d`.
-fn use_values(declarators: Vec<Node>, context: &str, alloc: Global) -> Result<Vec<Node>, AllocError>
-    requires { have_values (trees declarators.items) ≡ true }
+/// `a = _usingCtx.u(b), c = _usingCtx.u(d)` for `a = b, c = d`. Fails only for want of memory.
+pub fn use_values(
+    declarators: Vec<Node>,
+    context: &str,
+    alloc: Global,
+) -> Result<Vec<Node>, AllocError>
     ensures { IfOk result (λ used. BecomesBy context.now used_declarators (trees declarators.items) (trees used.items)) }
 {
     let mut used = Vec::new(alloc);
@@ -91,11 +95,13 @@ fn use_values(declarators: Vec<Node>, context: &str, alloc: Global) -> Result<Ve
     Ok(used)
 }
 
-/// `a = _usingCtx.u(b)` for `a = b`.
+/// `a = _usingCtx.u(b)` for `a = b`, and a declarator without a value as it is.
 fn use_value(declarator: Node, context: &str, alloc: Global) -> Result<Node, AllocError>
-    requires { has_value declarator ≡ true }
     ensures { IfOk result (λ used. BecomesBy context.now used_declarator declarator used) }
 {
+    if !has_value(&declarator) {
+        return Ok(declarator);
+    }
     let VariableDeclarator {
         id,
         span,

@@ -36,11 +36,11 @@ ghost use Rattle.es_steps.specs.CoreBridge.{first_whole};
 ghost use Rattle.es_using_rows.specs.Used.{UsesTo};
 
 mod bodies;
-mod constants;
-mod made_nodes;
+pub mod constants;
+pub mod made_nodes;
 mod nodes;
-mod places;
-mod tries;
+pub mod places;
+pub mod tries;
 mod walk;
 
 use crate::walk::walk_node;

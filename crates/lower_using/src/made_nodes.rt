@@ -1,14 +1,17 @@
-//! The nodes that are made: members, calls, statements and blocks. A made node has no place in the source and no marks, and the id
+//! The nodes that are made: members, calls, statements, blocks and variables. A made node has no place in the source and no marks, and the id
 //! that is given, so that a refusal that is told at it names a node of the source.
 ghost use Rattle.std.specs.Prelude.{◌≡◌, [], IfOk};
 ghost use Rattle.es_tree.specs.Tree.{trees};
 ghost use Rattle.es_using_rows.specs.Used.{block, call, member, method, plainly, statement};
-ghost use Rattle.lower_using.specs.Parts.{making, of_id};
+ghost use Rattle.lower_using.specs.Parts.{making, of_id, variable_with};
 
 use es_expressions::members::{CallExpression, MemberExpression};
-use es_statements::program::{BlockStatement, ExpressionStatement};
+use es_statements::program::{
+    BlockStatement, ExpressionStatement, VariableDeclaration, VariableDeclarator,
+};
 use es_tree::ids::NodeId;
 use es_tree::node::Node;
+use es_tree::operators::VariableDeclarationKind;
 use lower_fresh_names::nodes::{MADE, new_name};
 use std::alloc::{AllocError, Global};
 
@@ -90,4 +93,29 @@ pub(crate) fn new_block(id: NodeId, body: Vec<Node>, alloc: Global) -> Result<No
         body,
     };
     stood.close(alloc)
+}
+
+/// `var x = e;`. Fails only for want of memory.
+pub fn new_variable(
+    id: NodeId,
+    binding: Node,
+    value: Node,
+    alloc: Global,
+) -> Result<Node, AllocError>
+    ensures { IfOk result (λ made. made ≡ variable_with id.0 binding value) }
+{
+    let declarator = VariableDeclarator {
+        id,
+        span: MADE,
+        binding,
+        init: Some(value),
+    };
+    let declared = declarator.close(alloc)?;
+    let declaration = VariableDeclaration {
+        id,
+        span: MADE,
+        kind: VariableDeclarationKind::Var,
+        declarations: Vec::from_array(alloc, [declared])?,
+    };
+    declaration.close(alloc)
 }

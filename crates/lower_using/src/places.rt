@@ -72,7 +72,7 @@ fn uses_in_block(fields: &[Field]) -> bool
 }
 
 /// Whether some of these statements is a `using`, and each has values that can be used.
-fn uses_in_list(statements: &[Node]) -> bool
+pub fn uses_in_list(statements: &[Node]) -> bool
     ensures { result ≡ uses_in_list (trees statements.now) }
 {
     has_using(statements) && are_used(statements)
@@ -129,7 +129,8 @@ fn have_values(declarators: &[Node]) -> bool
     declarators.iter().all(|declarator| has_value(declarator))
 }
 
-fn has_value(declarator: &Node) -> bool
+/// Whether it is a declarator with a value: `a = b`.
+pub(crate) fn has_value(declarator: &Node) -> bool
     ensures { result ≡ has_value declarator.now }
 {
     match &declarator.kind {

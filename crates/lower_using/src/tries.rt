@@ -14,21 +14,23 @@ ghost use Rattle.es_tree.specs.Tree.{trees};
 ghost use Rattle.es_using_rows.specs.Used.{finalizer, handler, new_context, notes_error, tried};
 ghost use Rattle.lower_using.specs.Parts.{making, of_id};
 
-use crate::made_nodes::{new_block, new_call, new_member, new_method_call, new_statement};
+use crate::made_nodes::{
+    new_block, new_call, new_member, new_method_call, new_statement, new_variable,
+};
 use es_expressions::operations::AssignmentExpression;
 use es_statements::control::{CatchClause, TryStatement};
-use es_statements::program::{VariableDeclaration, VariableDeclarator};
 use es_tree::ids::NodeId;
 use es_tree::node::Node;
-use es_tree::operators::{AssignmentOperator, VariableDeclarationKind};
+use es_tree::operators::AssignmentOperator;
 use lower_fresh_names::nodes::{MADE, new_name};
 use std::alloc::{AllocError, Global};
 
 /// The parameter of the made `catch`.
 const ERROR: &str = "_";
 
-/// `try { var _usingCtx = babelHelpers.usingCtx(); ts } catch (_) { _usingCtx.e = _; } finally { _usingCtx.d(); }`
-pub(crate) fn new_try(
+/// `try { var _usingCtx = babelHelpers.usingCtx(); ts } catch (_) { _usingCtx.e = _; } finally { _usingCtx.d(); }`. Fails only for want
+/// of memory.
+pub fn new_try(
     id: NodeId,
     context: &str,
     statements: Vec<Node>,
@@ -59,20 +61,7 @@ fn new_context(id: NodeId, context: &str, alloc: Global) -> Result<Node, AllocEr
     let helpers = new_name(id, "babelHelpers", alloc)?;
     let helper = new_member(id, helpers, "usingCtx", alloc)?;
     let value = new_call(id, helper, Vec::new(alloc), alloc)?;
-    let declarator = VariableDeclarator {
-        id,
-        span: MADE,
-        binding,
-        init: Some(value),
-    };
-    let declared = declarator.close(alloc)?;
-    let declaration = VariableDeclaration {
-        id,
-        span: MADE,
-        kind: VariableDeclarationKind::Var,
-        declarations: Vec::from_array(alloc, [declared])?,
-    };
-    declaration.close(alloc)
+    new_variable(id, binding, value, alloc)
 }
 
 /// `catch (_) { _usingCtx.e = _; }`

@@ -1,16 +1,11 @@
 use Rattle.es_tree.specs.Heads.{head_of, label}
 use Rattle.es_tree.specs.Tree.{trees}
 use Rattle.es_tree.specs.declared.kind.Kind.TheVariants.{VariableDeclaration as k-VariableDeclaration}
-use Rattle.lower_using.proofs.Shapes.{declaration-made, declaration-opens, values-of}
+use Rattle.lower_using.proofs.Shapes.{declaration-made, declaration-opens}
 use Rattle.lower_using.proofs.constants.make_declaration.Goals as goal
 
 pub open-using-requires : goal.open-using-requires
 open-using-requires c = declaration-opens c.args.declaration c.requires
-
-pub use_values-requires : goal.use_values-requires
-use_values-requires c =
-    let x = c.open-using.result in
-    values-of c.args.declaration (label x.id x.span (head_of (k-VariableDeclaration x.kind))) (trees x.declarations.items) c.requires c.open-using.ensures
 
 pub returns : goal.returns
 returns c =
