@@ -143,7 +143,7 @@ specifiers-claim : (up : List Ancestor) (fs : Fields) (xs : List Tree) → claim
 specifiers-claim up fs [] = refl
 specifiers-claim up fs (x ∷ xs) = specifiers-claim up fs xs
 
-export-claims : (up : List Ancestor) (t : Tree) (xs : List Tree) → claims is_owned up (export_of with_symbols t xs) ≡ []
+pub export-claims : (up : List Ancestor) (t : Tree) (xs : List Tree) → claims is_owned up (export_of with_symbols t xs) ≡ []
 export-claims up t xs = ap (λ gs. gs ++ []) (specifiers-claim up (missing then many (specifiers with_symbols xs) then missing then many empty then done) xs)
 
 module _ (used : Text → Bool) (l : Label) where
@@ -173,7 +173,7 @@ specifiers-clear : (c : Around) (xs : List Tree) → EachTree (λ x. c.top (text
 specifiers-clear c [] h = tt
 specifiers-clear c (x ∷ xs) h = ((tt, refl, ((tt, (λ j. not (h.0 j)), tt), ((tt, refl, tt), tt))), specifiers-clear c xs h.1)
 
-export-clear : (c : Around) (t : Tree) (xs : List Tree) → EachTree (λ x. c.top (text_of x) ≡ true) xs → Clear c elsewhere (export_of with_symbols t xs)
+pub export-clear : (c : Around) (t : Tree) (xs : List Tree) → EachTree (λ x. c.top (text_of x) ≡ true) xs → Clear c elsewhere (export_of with_symbols t xs)
 export-clear c t xs h = (tt, refl, (tt, (specifiers-clear c xs h, (tt, (tt, tt)))))
 
 list-clear : (c : Around) (before_it after_it : Trees) (t : Tree) → IsExport t → ClearAll c elsewhere (joined_trees before_it (t before after_it)) → Clear c elsewhere (export_of with_symbols t (names_of_export t)) → ClearAll c elsewhere (joined_trees before_it (split_before with_symbols t after_it))

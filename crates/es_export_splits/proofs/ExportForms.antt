@@ -35,7 +35,7 @@ specifiers-formed : (xs : List Tree) → EachTree HasText xs → trees_form s-Ex
 specifiers-formed [] h = refl
 specifiers-formed (x ∷ xs) h = formed-first s-ExportSpecifier (specifier with_symbols x) (specifiers with_symbols xs) (specifier-formed x h.0) (specifiers-formed xs h.1)
 
-export-formed : (t : Tree) (xs : List Tree) → EachTree HasText xs → has_form s-Statement (export_of with_symbols t xs) ≡ true
+pub export-formed : (t : Tree) (xs : List Tree) → EachTree HasText xs → has_form s-Statement (export_of with_symbols t xs) ≡ true
 export-formed t xs h =
     let s = no-span [] [] in
     has_form-node s-Statement ExportNamedDeclaration (made [] []) (missing then many (specifiers with_symbols xs) then missing then many empty then done)

@@ -55,7 +55,7 @@ module _ (l : Label) (all : Fields) where
       specifiers-keep xs,
     )
 
-  export-keeps : (m : Label) (fs : Fields) (t : Tree) (xs : List Tree) → KeepsHere up (node ExportNamedDeclaration m fs) → Keeps up (export_of with_symbols t xs)
+  pub export-keeps : (m : Label) (fs : Fields) (t : Tree) (xs : List Tree) → KeepsHere up (node ExportNamedDeclaration m fs) → Keeps up (export_of with_symbols t xs)
   export-keeps m fs t xs h = (
     record { jump = refl; label = refl; returned = refl; super_word = refl; target = refl; chain = refl; mark = refl; deleted = refl; value = refl; using_word = refl; head = refl; item = h.item; accessor = refl; rest = refl; declaration = refl; meta = refl },
     (tt, (specifiers-keep (missing then many (specifiers with_symbols xs) then missing then many empty then done) xs, (tt, (tt, tt)))),

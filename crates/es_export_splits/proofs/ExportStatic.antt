@@ -37,10 +37,10 @@ use Rattle.es_export_splits.proofs.ExportPlaces.{program-keeps}
 -- WHAT OTHER MODULES SEE
 
 -- the texts of names
-abbrev texts : List Tree → List Text
+abbrev pub texts : List Tree → List Text
 texts xs = map (λ x. text_of x) xs
 
-specifier-texts : (xs : List Tree) → texts_among specifier_text (specifiers with_symbols xs) ≡ texts xs
+pub specifier-texts : (xs : List Tree) → texts_among specifier_text (specifiers with_symbols xs) ≡ texts xs
 specifier-texts [] = refl
 specifier-texts (x ∷ xs) = ap (λ ys. text_of x ∷ ys) (specifier-texts xs)
 
@@ -58,7 +58,7 @@ declarators-same (d before ds) f =
     let parts = first-formed s-VariableDeclarator d ds f in
     map-append (λ x. text_of x) (names_of_declarator d) (names_of_declarators ds) ∙ (λ i. declarator-same d parts.0 i ++ declarators-same ds parts.1 i)
 
-declaration-same : (k : Label) (ds : Trees) (fs : Fields) → has_form s-Declaration (node VariableDeclaration k (many ds then fs)) ≡ true → texts (names_of_declaration (node VariableDeclaration k (many ds then fs))) ≡ texts_among declarator_texts ds
+pub declaration-same : (k : Label) (ds : Trees) (fs : Fields) → has_form s-Declaration (node VariableDeclaration k (many ds then fs)) ≡ true → texts (names_of_declaration (node VariableDeclaration k (many ds then fs))) ≡ texts_among declarator_texts ds
 declaration-same k empty fs f = absurd (let no : false ≡ true = (node_form s-Declaration VariableDeclaration k (many empty then fs) f).children in cc no)
 declaration-same k (d before ds) done f = declarators-same (d before ds) (and_parts (trees_form s-VariableDeclarator s-VariableDeclarator (d before ds)) true (node_form s-Declaration VariableDeclaration k (many (d before ds) then done) f).children).0
 declaration-same k (d before ds) (g then fs) f = absurd (let no : false ≡ true = (and_parts (trees_form s-VariableDeclarator s-VariableDeclarator (d before ds)) false (node_form s-Declaration VariableDeclaration k (many (d before ds) then g then fs) f).children).1 in cc no)

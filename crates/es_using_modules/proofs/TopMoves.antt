@@ -6,7 +6,7 @@ use Rattle.std.proofs.lemmas.Bool.{and_parts}
 use Rattle.es_tree.specs.Attributes.{child_entries}
 use Rattle.es_tree.specs.HasForm.{fields_form, has_form, trees_form}
 use Rattle.es_tree.specs.StaticRules.{any_has_node}
-use Rattle.es_tree.specs.Tree.{Tree, node, Label, Fields, done, ◌then◌, Field, missing, one, many, statements, Trees, empty, ◌before◌, kind_of}
+use Rattle.es_tree.specs.Tree.{Tree, node, Label, Fields, done, ◌then◌, Field, missing, one, many, Trees, empty, ◌before◌, kind_of}
 use Rattle.es_tree.specs.declared.ast_type.AstType.{AstType}
 use Rattle.es_tree.specs.declared.ast_type.AstType.TheVariants.{ClassDeclaration, ClassExpression, ExportAllDeclaration, ExportDefaultDeclaration, ExportNamedDeclaration, FunctionDeclaration, ImportDeclaration, VariableDeclaration, VariableDeclarator}
 use Rattle.es_tree.specs.declared.table.Sort.TheVariants.{Declaration as s-Declaration, ExportDefault as s-ExportDefault, Expression as s-Expression, Statement as s-Statement, VariableDeclarator as s-VariableDeclarator}
@@ -90,15 +90,6 @@ module _ (default context error : Bound) where
 
   used-one : (d : Tree) → Becomes context d (used_declarator m.used 0 d)
   used-one (node VariableDeclarator l (one x then (one e then done))) = passed l x e
-  used-one (node VariableDeclarator l (one x then (one e then (g then fs)))) = as_is _
-  used-one (node VariableDeclarator l (one x then (missing then fs))) = as_is _
-  used-one (node VariableDeclarator l (one x then (many ts then fs))) = as_is _
-  used-one (node VariableDeclarator l (one x then (statements ts then fs))) = as_is _
-  used-one (node VariableDeclarator l (one x then done)) = as_is _
-  used-one (node VariableDeclarator l (missing then fs)) = as_is _
-  used-one (node VariableDeclarator l (many ts then fs)) = as_is _
-  used-one (node VariableDeclarator l (statements ts then fs)) = as_is _
-  used-one (node VariableDeclarator l done) = as_is _
   used-one (node k l fs) = as_is _
 
   all-used : (ds : Trees) → AllBecome context ds (used_declarators m.used 0 ds)
@@ -118,21 +109,10 @@ module _ (default context error : Bound) where
 
   alone : (l : Label) (fs : Fields) → fields_form ExportNamedDeclaration l (child_entries ExportNamedDeclaration) (missing then fs) ≡ true → any_has_node fs ≡ false → AloneFields fs
   alone l (many empty then missing then many empty then done) f e = refl
-  alone l (many empty then missing then many empty then (g then fs)) f e = absurd (let no : false ≡ true = f in cc no)
   alone l (many empty then missing then many (t before ts) then fs) f e = absurd (let no : true ≡ false = e in cc no)
   alone l (many empty then one t then fs) f e = absurd (let no : true ≡ false = e in cc no)
   alone l (many (t before ts) then fs) f e = absurd (let no : true ≡ false = e in cc no)
-  alone l done f e = absurd (let no : false ≡ true = f in cc no)
-  alone l (missing then fs) f e = absurd (let no : false ≡ true = f in cc no)
-  alone l (one t then fs) f e = absurd (let no : false ≡ true = f in cc no)
-  alone l (statements ts then fs) f e = absurd (let no : false ≡ true = f in cc no)
-  alone l (many empty then done) f e = absurd (let no : false ≡ true = f in cc no)
-  alone l (many empty then many ts then fs) f e = absurd (let no : false ≡ true = f in cc no)
-  alone l (many empty then statements ts then fs) f e = absurd (let no : false ≡ true = f in cc no)
-  alone l (many empty then missing then done) f e = absurd (let no : false ≡ true = f in cc no)
-  alone l (many empty then missing then missing then fs) f e = absurd (let no : false ≡ true = f in cc no)
-  alone l (many empty then missing then one t then fs) f e = absurd (let no : false ≡ true = f in cc no)
-  alone l (many empty then missing then statements ts then fs) f e = absurd (let no : false ≡ true = f in cc no)
+  alone l fs f e = absurd (let no : false ≡ true = f in cc no)
 
   no-second : (l : Label) (ds : Trees) (g : Field) (fs : Fields) → fields_form VariableDeclaration l (child_entries VariableDeclaration) (many ds then (g then fs)) ≡ true → ⊥
   no-second l empty g fs f = cc (let no : false ≡ true = f in no)
@@ -142,24 +122,17 @@ module _ (default context error : Bound) where
   exported c l (node FunctionDeclaration k gs) f h ts os us r = stays refl r
   exported c l (node VariableDeclaration k (many ds then done)) f h ts os us r = exports (declares-variables k ds) r
   exported c l (node ClassDeclaration k (one x then gs)) f h ts os us r = exports (by_class k x gs) r
-  exported c l (node VariableDeclaration k done) f h ts os us r = absurd (let no : false ≡ true = (node_form s-Declaration VariableDeclaration k done f).children in cc no)
-  exported c l (node VariableDeclaration k (missing then gs)) f h ts os us r = absurd (let no : false ≡ true = (node_form s-Declaration VariableDeclaration k (missing then gs) f).children in cc no)
-  exported c l (node VariableDeclaration k (one t then gs)) f h ts os us r = absurd (let no : false ≡ true = (node_form s-Declaration VariableDeclaration k (one t then gs) f).children in cc no)
-  exported c l (node VariableDeclaration k (statements xs then gs)) f h ts os us r = absurd (let no : false ≡ true = (node_form s-Declaration VariableDeclaration k (statements xs then gs) f).children in cc no)
   exported c l (node VariableDeclaration k (many ds then (g then gs))) f h ts os us r = absurd (no-second k ds g gs (node_form s-Declaration VariableDeclaration k (many ds then (g then gs)) f).children)
-  exported c l (node ClassDeclaration k done) f h ts os us r = absurd (let no : false ≡ true = (node_form s-Declaration ClassDeclaration k done f).children in cc no)
   exported c l (node ClassDeclaration k (missing then gs)) f h ts os us r = absurd (let no : true ≡ false = h.1 in cc no)
-  exported c l (node ClassDeclaration k (many xs then gs)) f h ts os us r = absurd (let no : false ≡ true = (node_form s-Declaration ClassDeclaration k (many xs then gs) f).children in cc no)
-  exported c l (node ClassDeclaration k (statements xs then gs)) f h ts os us r = absurd (let no : false ≡ true = (node_form s-Declaration ClassDeclaration k (statements xs then gs) f).children in cc no)
+  exported c l (node VariableDeclaration k gs) f h ts os us r = absurd (let no : false ≡ true = (node_form s-Declaration VariableDeclaration k gs f).children in cc no)
+  exported c l (node ClassDeclaration k gs) f h ts os us r = absurd (let no : false ≡ true = (node_form s-Declaration ClassDeclaration k gs f).children in cc no)
   exported c l (node j k gs) f h ts os us r = absurd (let no : false ≡ true = (node_form s-Declaration j k gs f).sort in cc no)
 
   by_default : (l : Label) (d : Tree) → has_form s-ExportDefault d ≡ true → Moved (default_with l d)
   by_default l (node FunctionDeclaration k gs) f ts os us r = stays refl r
   by_default l (node ClassDeclaration k (one x then gs)) f ts os us r = default_export_of (named_class k x gs) r
   by_default l (node ClassDeclaration k (missing then gs)) f ts os us r = default_export_of (bare_class k gs) r
-  by_default l (node ClassDeclaration k done) f ts os us r = absurd (let no : false ≡ true = (node_form s-ExportDefault ClassDeclaration k done f).children in cc no)
-  by_default l (node ClassDeclaration k (many xs then gs)) f ts os us r = absurd (let no : false ≡ true = (node_form s-ExportDefault ClassDeclaration k (many xs then gs) f).children in cc no)
-  by_default l (node ClassDeclaration k (statements xs then gs)) f ts os us r = absurd (let no : false ≡ true = (node_form s-ExportDefault ClassDeclaration k (statements xs then gs) f).children in cc no)
+  by_default l (node ClassDeclaration k gs) f ts os us r = absurd (let no : false ≡ true = (node_form s-ExportDefault ClassDeclaration k gs f).children in cc no)
   by_default l (node j k gs) f ts os us r = default_export_of (a_value (node j k gs) f) r
 
   moves-one : (c : Around) (t : Tree) → has_form s-Statement t ≡ true → Clear c elsewhere t → Moved t
@@ -170,26 +143,16 @@ module _ (default context error : Bound) where
   moves-one c (node ExportNamedDeclaration l (one d then fs)) f h ts os us r =
       let parts = and_parts (has_form s-Declaration d) _ (node_form s-Statement ExportNamedDeclaration l (one d then fs) f).children in
       subst (λ (gs : Fields). Moved (node ExportNamedDeclaration l (one d then gs))) (sym (alone l fs parts.1 h.1)) (exported c l d parts.0 h.2.0) ts os us r
-  moves-one c (node ExportNamedDeclaration l done) f h ts os us r = absurd (let no : false ≡ true = (node_form s-Statement ExportNamedDeclaration l done f).children in cc no)
-  moves-one c (node ExportNamedDeclaration l (many xs then fs)) f h ts os us r = absurd (let no : false ≡ true = (node_form s-Statement ExportNamedDeclaration l (many xs then fs) f).children in cc no)
-  moves-one c (node ExportNamedDeclaration l (statements xs then fs)) f h ts os us r = absurd (let no : false ≡ true = (node_form s-Statement ExportNamedDeclaration l (statements xs then fs) f).children in cc no)
   moves-one c (node ExportDefaultDeclaration l (one d then done)) f h ts os us r = by_default l d (and_parts (has_form s-ExportDefault d) true (node_form s-Statement ExportDefaultDeclaration l (one d then done) f).children).0 ts os us r
-  moves-one c (node ExportDefaultDeclaration l done) f h ts os us r = absurd (let no : false ≡ true = (node_form s-Statement ExportDefaultDeclaration l done f).children in cc no)
   moves-one c (node ExportDefaultDeclaration l (one d then (g then fs))) f h ts os us r = absurd (let no : false ≡ true = (and_parts (has_form s-ExportDefault d) false (node_form s-Statement ExportDefaultDeclaration l (one d then (g then fs)) f).children).1 in cc no)
-  moves-one c (node ExportDefaultDeclaration l (missing then fs)) f h ts os us r = absurd (let no : false ≡ true = (node_form s-Statement ExportDefaultDeclaration l (missing then fs) f).children in cc no)
-  moves-one c (node ExportDefaultDeclaration l (many xs then fs)) f h ts os us r = absurd (let no : false ≡ true = (node_form s-Statement ExportDefaultDeclaration l (many xs then fs) f).children in cc no)
-  moves-one c (node ExportDefaultDeclaration l (statements xs then fs)) f h ts os us r = absurd (let no : false ≡ true = (node_form s-Statement ExportDefaultDeclaration l (statements xs then fs) f).children in cc no)
   moves-one c (node VariableDeclaration l (many ds then done)) f h ts os us r = declares (declares-variables l ds) r
-  moves-one c (node VariableDeclaration l done) f h ts os us r = absurd (let no : false ≡ true = (node_form s-Statement VariableDeclaration l done f).children in cc no)
-  moves-one c (node VariableDeclaration l (missing then fs)) f h ts os us r = absurd (let no : false ≡ true = (node_form s-Statement VariableDeclaration l (missing then fs) f).children in cc no)
-  moves-one c (node VariableDeclaration l (one t then fs)) f h ts os us r = absurd (let no : false ≡ true = (node_form s-Statement VariableDeclaration l (one t then fs) f).children in cc no)
-  moves-one c (node VariableDeclaration l (statements xs then fs)) f h ts os us r = absurd (let no : false ≡ true = (node_form s-Statement VariableDeclaration l (statements xs then fs) f).children in cc no)
   moves-one c (node VariableDeclaration l (many ds then (g then fs))) f h ts os us r = absurd (no-second l ds g fs (node_form s-Statement VariableDeclaration l (many ds then (g then fs)) f).children)
   moves-one c (node ClassDeclaration l (one x then fs)) f h ts os us r = declares (by_class l x fs) r
   moves-one c (node ClassDeclaration l (missing then fs)) f h ts os us r = absurd (let no : true ≡ false = h.1 in cc no)
-  moves-one c (node ClassDeclaration l done) f h ts os us r = absurd (let no : false ≡ true = (node_form s-Statement ClassDeclaration l done f).children in cc no)
-  moves-one c (node ClassDeclaration l (many xs then fs)) f h ts os us r = absurd (let no : false ≡ true = (node_form s-Statement ClassDeclaration l (many xs then fs) f).children in cc no)
-  moves-one c (node ClassDeclaration l (statements xs then fs)) f h ts os us r = absurd (let no : false ≡ true = (node_form s-Statement ClassDeclaration l (statements xs then fs) f).children in cc no)
+  moves-one c (node ExportNamedDeclaration l fs) f h ts os us r = absurd (let no : false ≡ true = (node_form s-Statement ExportNamedDeclaration l fs f).children in cc no)
+  moves-one c (node ExportDefaultDeclaration l fs) f h ts os us r = absurd (let no : false ≡ true = (node_form s-Statement ExportDefaultDeclaration l fs f).children in cc no)
+  moves-one c (node VariableDeclaration l fs) f h ts os us r = absurd (let no : false ≡ true = (node_form s-Statement VariableDeclaration l fs f).children in cc no)
+  moves-one c (node ClassDeclaration l fs) f h ts os us r = absurd (let no : false ≡ true = (node_form s-Statement ClassDeclaration l fs f).children in cc no)
   moves-one c (node k l fs) f h ts os us r = plain refl r
 
   pub moves-are : (c : Around) (ts : Trees) → trees_form s-Statement s-Statement ts ≡ true → ClearAll c elsewhere ts → Moves ts (outside m ts) (inside m ts)

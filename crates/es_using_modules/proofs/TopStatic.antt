@@ -6,7 +6,7 @@ use Rattle.es_tree.specs.Fresh.{IsFreshName, text_base}
 use Rattle.es_tree.specs.HasForm.{has_form, trees_form}
 use Rattle.es_tree.specs.Names.{first_text}
 use Rattle.es_tree.specs.StaticRules.{breaks, has_pattern}
-use Rattle.es_tree.specs.Tree.{Tree, node, Label, Fields, done, ◌then◌, missing, one, many, statements, Trees, empty, ◌before◌}
+use Rattle.es_tree.specs.Tree.{Tree, node, Label, Fields, done, ◌then◌, many, statements, Trees, empty, ◌before◌}
 use Rattle.es_tree.specs.Words.{Text}
 use Rattle.es_tree.specs.declared.ast_type.AstType.TheVariants.{Program, VariableDeclaration}
 use Rattle.es_tree.specs.declared.table.Sort.TheVariants.{Program as s-Program, Statement as s-Statement}
@@ -64,10 +64,7 @@ module _ (l : Label) (all : Fields) where
       at true true false e h = absurd (let no : true ≡ false = h in cc no)
       at true false false e h = absurd (let no : true ≡ false = h in cc no)
       at false p m e h = absurd (let no : false ≡ true = e in cc no)
-  using-in-module (node VariableDeclaration k done) f e h = absurd (let no : false ≡ true = (node_form s-Statement VariableDeclaration k done f).children in cc no)
-  using-in-module (node VariableDeclaration k (missing then fs)) f e h = absurd (let no : false ≡ true = (node_form s-Statement VariableDeclaration k (missing then fs) f).children in cc no)
-  using-in-module (node VariableDeclaration k (one t then fs)) f e h = absurd (let no : false ≡ true = (node_form s-Statement VariableDeclaration k (one t then fs) f).children in cc no)
-  using-in-module (node VariableDeclaration k (statements ts then fs)) f e h = absurd (let no : false ≡ true = (node_form s-Statement VariableDeclaration k (statements ts then fs) f).children in cc no)
+  using-in-module (node VariableDeclaration k fs) f e h = absurd (let no : false ≡ true = (node_form s-Statement VariableDeclaration k fs f).children in cc no)
   using-in-module (node k m fs) f e h = absurd (let no : false ≡ true = e in cc no)
 
   some-in-module : (ts : Trees) → trees_form s-Statement s-Statement ts ≡ true → has_using ts ≡ true → KeepsAll up ts → bytes_eq (first_text l.texts) (codes "module") ≡ true
@@ -110,7 +107,7 @@ module _ (w : Whole) (default context error : Bound) (default_named : IsText def
 
 -- A STEP OF THE RULE leads from such a program to one
 
-abbrev Right : Whole → Label → Trees → Trees → Trees → Type 0
+abbrev pub Right : Whole → Label → Trees → Trees → Trees → Type 0
 Right w l ds ts us = has_form s-Program (program_with l (many ds) ts) ≡ true → breaks (program_with l (many ds) ts) ≡ [] → Named w.in_use w.free_symbol reads (program_with l (many ds) ts) → IsRight (program_with l (many ds) ts) (program_with l (many ds) us)
 
 fresh-text : (w : Whole) (base x : Text) → IsFreshName w.in_use (text_base base) x → IsText (next_name w x)
