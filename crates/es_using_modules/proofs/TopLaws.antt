@@ -12,11 +12,11 @@ use Rattle.es_resolution.specs.Named.{Named}
 use Rattle.es_steps.specs.CoreBridge.{first_whole}
 use Rattle.es_steps.specs.Steps.{Whole}
 use Rattle.es_module_names.proofs.BareNames.{law_outside_bare_proof}
-use Rattle.es_reached.proofs.Results.{form-same, outside-then, rules-bare, source-form, source-well-bound}
+use Rattle.es_reached.proofs.Results.{IsRight, form-same, outside-then, rules-bare, source-form, source-well-bound}
 use Rattle.es_reached.proofs.Sources.{law_bare_source_proof}
 use Rattle.es_using_modules.specs.Laws.{LawTopped}
 use Rattle.es_using_modules.proofs.TopBound.{program_with}
-use Rattle.es_using_modules.proofs.TopStatic.{IsRight, rule-right}
+use Rattle.es_using_modules.proofs.TopStatic.{rule-right}
 use Rattle.es_using_modules.proofs.TopSteps.{ByRule, reaches}
 
 right-by : (w : Whole) (names : List Text) (t r : Tree) → ByRule w names t r → has_form s-Program t ≡ true → breaks t ≡ [] → Named w.in_use w.free_symbol reads t → IsRight t r

@@ -6,7 +6,7 @@ use Rattle.es_tree.specs.BoundNames.{bound_identifiers, bound_in_field, bound_in
 use Rattle.es_tree.specs.Tree.{Tree, node, Label, Fields, done, ◌then◌, Field, missing, one, many, statements, Trees, empty, ◌before◌, kind_of}
 use Rattle.es_tree.specs.Words.{Text}
 use Rattle.es_tree.specs.declared.ast_type.AstType.{AstType}
-use Rattle.es_tree.specs.declared.ast_type.AstType.TheVariants.{, ArrayPattern, ArrowFunctionExpression, AssignmentPattern, BlockStatement, ClassDeclaration, ForStatement, FunctionDeclaration, FunctionExpression, Identifier, LabeledStatement, ObjectPattern, PatternProperty, RestElement, StaticBlock, SwitchStatement, TryStatement, VariableDeclaration, VariableDeclarator}
+use Rattle.es_tree.specs.declared.ast_type.AstType.TheVariants.{ArrayPattern, ArrowFunctionExpression, AssignmentPattern, BlockStatement, ClassDeclaration, ForStatement, FunctionDeclaration, FunctionExpression, Identifier, LabeledStatement, ObjectPattern, PatternProperty, RestElement, StaticBlock, SwitchStatement, TryStatement, VariableDeclaration, VariableDeclarator}
 use Rattle.es_pattern_moves.specs.Moved.{Makes as HeadMakes, plainly as plainly_headed}
 use Rattle.es_using_rows.specs.Used.{Makes as UsedMakes, constants, tried, used, used_among, used_by, used_in, used_node}
 use Rattle.es_using_rows.specs.UsingPlaces.{is_part, standing_in, uses_here}

@@ -280,15 +280,15 @@ module _ (default context error : Bound) (default_named : IsText default) where
     -- THE OTHER RULES, inside
 
     module _ (c d : Around) (allows : Allows c d) where
-      class-inside : (s : Stand) (o : Sort) (k : Label) (x : Tree) (fs : Fields) (b : Bound) → has_form o (node ClassDeclaration k (one x then fs)) ≡ true → Clear c s (node ClassDeclaration k (one x then fs)) → Clear d elsewhere (node ClassExpression k (one (identifier b) then fs))
-      class-inside s o k x fs b f h = class-clear c d allows s k (one x) (one (identifier b)) fs (identifier-none k (one x then fs) x (class-name o k x fs f)) refl (tt, refl, tt) h
+      class-inside : (s : Stand) (o : Sort) (k : Label) (x : Tree) (fs : Fields) (n : Label) → has_form o (node ClassDeclaration k (one x then fs)) ≡ true → Clear c s (node ClassDeclaration k (one x then fs)) → Clear d elsewhere (node ClassExpression k (one (node Identifier n done) then fs))
+      class-inside s o k x fs n f h = class-clear c d allows s k (one x) (one (node Identifier n done)) fs (identifier-none k (one x then fs) x (class-name o k x fs f)) refl (tt, refl, tt) h
 
       declares-clear : (o : Sort) (e u : Tree) (xs : List Tree) → Declares default context error e xs u → has_form o e ≡ true → Clear c elsewhere e → Clear d elsewhere u
       declares-clear o e u xs (by_variables k ds es r) f h = (tt, refl, (declarators-clear c d allows context ds es r h.2.0, tt))
-      declares-clear o e u xs (by_class k x fs) f h = variable-clear d (bound_as (label_of x)) (node ClassExpression k (one (m.inside k x) then fs)) (class-inside elsewhere o k x fs (record (bound_as (label_of x)) { symbol = symbol_of k }) f h)
+      declares-clear o e u xs (by_class k x fs) f h = variable-clear d (bound_as (label_of x)) (node ClassExpression k (one (m.inside k x) then fs)) (class-inside elsewhere o k x fs (record (label_of x) { marks = symbol_of k ∷ [] }) f h)
 
       defaults-clear : (t e x u : Tree) → Defaults default context error t e x u → has_form s-ExportDefault e ≡ true → Clear c in_default_export e → Clear d elsewhere u
-      defaults-clear t e x u (named_class k y fs) f h = variable-clear d (bound_as (label_of y)) (node ClassExpression k (one (m.inside k y) then fs)) (class-inside in_default_export s-ExportDefault k y fs (record (bound_as (label_of y)) { symbol = symbol_of k }) f h)
+      defaults-clear t e x u (named_class k y fs) f h = variable-clear d (bound_as (label_of y)) (node ClassExpression k (one (m.inside k y) then fs)) (class-inside in_default_export s-ExportDefault k y fs (record (label_of y) { marks = symbol_of k ∷ [] }) f h)
       defaults-clear t e x u (bare_class k fs) f h = variable-clear d default (node ClassExpression k (missing then fs)) (class-clear c d allows in_default_export k missing missing fs refl refl tt h)
       defaults-clear t e x u (a_value v g) f h = variable-clear d default v (clear-more c d allows elsewhere v (value-clear c v g h))
 
@@ -319,7 +319,7 @@ module _ (default context error : Bound) (default_named : IsText default) where
       default-left : (t e x u : Tree) → Defaults default context error t e x u → has_form s-ExportDefault e ≡ true → Tops (claims is_owned vp u) → Clear d elsewhere (default_export m t x)
       default-left t e x u (named_class k y fs) f tops =
           let text = name-text y (class-name s-ExportDefault k y fs f) in
-          left-clear t (bound_as (label_of y)) (by-made (bound_as (label_of y)) (node ClassExpression k (one (m.inside k y) then fs)) text (named-class-formed s-ExportDefault k y fs (record (bound_as (label_of y)) { symbol = symbol_of k }) text f) tops)
+          left-clear t (bound_as (label_of y)) (by-made (bound_as (label_of y)) (node ClassExpression k (one (m.inside k y) then fs)) text (marked-class-formed s-ExportDefault k y fs (symbol_of k ∷ []) f) tops)
       default-left t e x u (bare_class k fs) f tops = left-clear t default (by-made default (node ClassExpression k (missing then fs)) default_named (bare-class-formed s-ExportDefault k fs f) tops)
       default-left t e x u (a_value v g) f tops = left-clear t default (by-made default v default_named g tops)
 

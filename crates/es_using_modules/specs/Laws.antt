@@ -1,11 +1,9 @@
 -- The laws of `using` at the top of a module: what a program becomes is one that breaks no static rule, in which each name keeps its binding, and which is
 -- the same to other modules; there is one such program, and it weighs little.
-use Rattle.std.specs.Prelude.{◌≡◌, ◌*◌, ◌≤◌, Bool, List, [], None, codes, false, true}
-use Rattle.es_tree.specs.Constructs.{is_using}
+use Rattle.std.specs.Prelude.{◌≡◌, ◌*◌, ◌≤◌, Bool, List, [], None, codes, true}
 use Rattle.es_tree.specs.HasForm.{has_form}
 use Rattle.es_tree.specs.StaticRules.{breaks}
-use Rattle.es_tree.specs.Tree.{Fields, Label, Tree, Trees, done, empty, many, statements, tree_size, ◌then◌}
-use Rattle.es_tree.specs.Walks.{any_node}
+use Rattle.es_tree.specs.Tree.{Tree, tree_size}
 use Rattle.es_tree.specs.Words.{Text}
 use Rattle.es_tree.specs.declared.table.Sort.TheVariants.{Program as s-Program}
 use Rattle.es_resolution.specs.Laws.{source}
@@ -20,7 +18,7 @@ use Rattle.es_export_splits.specs.Splits as splits
 use Rattle.es_using_heads.specs.Heads.{headed}
 use Rattle.es_using_rows.specs.Used as uses
 use Rattle.es_using_rows.specs.declared.standing.Standing.TheVariants.{Anywhere}
-use Rattle.es_using_modules.specs.ModuleTops.{Makes, TopsTo, has_default, plainly, topped, uses_at_top}
+use Rattle.es_using_modules.specs.ModuleTops.{TopsTo, plainly, topped, uses_at_top}
 use Rattle.es_using_modules.specs.TopRule.{TopRule}
 
 -- the rule, where it acts

@@ -1,5 +1,5 @@
 -- As a rule: the list of a module that declares by `using` (Explicit Resource Management, 14.3.1), from whose place `babelHelpers` finds nothing.
-use Rattle.std.specs.Prelude.{◌≡◌, [], ◌∷◌, None, Option, bytes_eq, codes, false, true}
+use Rattle.std.specs.Prelude.{◌≡◌, [], ◌∷◌, None, Option, codes, false, true}
 use Rattle.es_tree.specs.Fresh.{IsFreshName, text_base}
 use Rattle.es_tree.specs.Tree.{Tree, Trees}
 use Rattle.es_tree.specs.Words.{Text}
@@ -7,7 +7,7 @@ use Rattle.es_resolution.specs.Declarations.{Bound}
 use Rattle.es_steps.specs.Open.{Additions, Pending, no_additions, nothing_pending}
 use Rattle.es_steps.specs.Rules.{next_name, with_made}
 use Rattle.es_steps.specs.Steps.{Ledger, Site, Spot, Whole, at_list, is_program_list, ledger}
-use Rattle.es_steps.specs.UsingBlocks.{error_name, error_of, with_context}
+use Rattle.es_steps.specs.UsingBlocks.{error_of, with_context}
 use Rattle.es_using_rows.specs.UsingPlaces.{uses_in_list}
 use Rattle.es_using_modules.specs.ModuleTops.{by_bounds, some_default, topped_list}
 

@@ -35,7 +35,8 @@ use Rattle.es_using_rows.proofs.SourceUnbound.{source-unbound}
 use Rattle.es_export_splits.specs.Splits as exports
 use Rattle.es_using_modules.specs.Laws.{IsTopped, top_rules}
 use Rattle.es_using_modules.specs.ModuleTops.{has_default, plainly, topped, uses_at_top}
-use Rattle.es_using_modules.proofs.TopLaws.{law_one_topped_proof, law_topped_proof}
+use Rattle.es_using_modules.proofs.TopAgree.{law_one_topped_proof}
+use Rattle.es_using_modules.proofs.TopLaws.{law_topped_proof}
 use Rattle.es_using_modules.proofs.TopWeights.{law_topped_alone_weighs_proof, law_topped_weighs_proof}
 use Rattle.es_lowered.specs.Used.{IsUsed, used_rules}
 use Rattle.es_lowered.proofs.Stays.{stays-as}
