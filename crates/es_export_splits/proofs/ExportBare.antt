@@ -54,7 +54,7 @@ declarator-bare (node VariableDeclarator l (many ts then fs)) = refl
 declarator-bare (node VariableDeclarator l (statements ts then fs)) = refl
 declarator-bare (node _ l fs) = refl
 
-declarators-bare : (ds : Trees) → names_of_declarators (bare_trees ds) ≡ map bare (names_of_declarators ds)
+pub declarators-bare : (ds : Trees) → names_of_declarators (bare_trees ds) ≡ map bare (names_of_declarators ds)
 declarators-bare empty = refl
 declarators-bare (d before ds) = (λ i. declarator-bare d i ++ declarators-bare ds i) ∙ sym (map-append bare (names_of_declarator d) (names_of_declarators ds))
 

@@ -38,10 +38,10 @@ nothing-taken s k = record { given = []; change = sealed; goes = to_list; more =
 -- WHAT IS WRITTEN passes a test that the names of the declaration and words pass
 
 module _ (q : Text → Option ℕ → Bool) where
-  abbrev PassesIt : Tree → Type 0
+  abbrev pub PassesIt : Tree → Type 0
   PassesIt x = q (text_of x) (symbol_of (label_of x)) ≡ true
 
-  passes-handed : HandedOn PassesIt (Passes q) (PassesBy q) (PassesAll q) (PassesIn q)
+  pub passes-handed : HandedOn PassesIt (Passes q) (PassesBy q) (PassesAll q) (PassesIn q)
   passes-handed = record {
     names = λ l fs h. h.0;
     objects = λ l f fs h. h.1.0;

@@ -1,13 +1,11 @@
 -- `using` at the top of a module is lowered the same whatever ids and marks a program has: what is made is equal, but for these.
-use Rattle.std.proofs.Common.{◌≡◌, refl, sym, ap, ◌∙◌, List, [], ◌∷◌, ◌++◌, map}
+use Rattle.std.proofs.Common.{◌≡◌, refl, sym, ap, ◌∙◌, List, [], ◌∷◌, map}
 use Rattle.std.specs.Prelude.{Bool, true, false, not, ◌&&◌, ◌||◌, Option, Some, codes, if◌then◌else◌}
-use Rattle.std.proofs.lemmas.List.{map-append}
-use Rattle.es_tree.specs.Bare.{bare, bare_field, bare_fields, bare_label, bare_trees}
-use Rattle.es_tree.specs.BoundNames.{bound_identifiers, bound_in_field, bound_in_fields, bound_in_first, bound_in_second, bound_in_trees}
-use Rattle.es_tree.specs.Tree.{Tree, node, Label, Fields, done, ◌then◌, Field, missing, many, one, statements, Trees, empty, ◌before◌}
+use Rattle.es_tree.specs.Bare.{bare, bare_fields, bare_label, bare_trees}
+use Rattle.es_tree.specs.Tree.{Tree, node, Label, Fields, done, ◌then◌, missing, many, one, statements, Trees, empty, ◌before◌}
 use Rattle.es_tree.specs.Words.{Text}
 use Rattle.es_tree.specs.declared.ast_type.AstType.{AstType}
-use Rattle.es_tree.specs.declared.ast_type.AstType.TheVariants.{ArrayPattern, AssignmentExpression, AssignmentPattern, BlockStatement, CallExpression, CatchClause, ClassDeclaration, ClassExpression, ExportDefaultDeclaration, ExportNamedDeclaration, ExportSpecifier, ExpressionStatement, FunctionDeclaration, Identifier, MemberExpression, ObjectPattern, PatternProperty, RestElement, TryStatement, VariableDeclaration, VariableDeclarator}
+use Rattle.es_tree.specs.declared.ast_type.AstType.TheVariants.{AssignmentExpression, BlockStatement, CallExpression, CatchClause, ClassDeclaration, ClassExpression, ExportDefaultDeclaration, ExportNamedDeclaration, ExportSpecifier, ExpressionStatement, FunctionDeclaration, Identifier, MemberExpression, TryStatement, VariableDeclaration, VariableDeclarator}
 use Rattle.es_resolution.specs.Declarations.{Bound}
 use Rattle.es_resolution.proofs.Placed.{Placed, PlacedAll}
 use Rattle.es_steps.specs.Nodes.{joined_trees, made}
@@ -16,6 +14,7 @@ use Rattle.es_using_rows.proofs.UsedAlike.{has-bare}
 use Rattle.es_using_rows.specs.Used as uses
 use Rattle.es_using_rows.specs.UsingPlaces.{are_used, has_value, have_values, is_used, is_using_word, uses_in_list}
 use Rattle.es_export_splits.specs.Splits as splits
+use Rattle.es_export_splits.proofs.ExportBare.{declarators-bare}
 use Rattle.es_using_modules.specs.ModuleTops.{Makes, as_value, as_variables, by_bounds, by_var, declared_inside, default_export, default_inside, default_local, inside, is_function, is_named_default, left_outside, moved_inside, names_declared, outside, some_default, stays_outside, takes_name, topped_list, variable}
 
 -- TESTS
@@ -65,50 +64,6 @@ stays-bare (node ExportDefaultDeclaration l (one d then fs)) = function-bare d
 stays-bare t = refl
 
 -- NAMES of a declaration
-
-mutual
-  bound-bare : (t : Tree) → bound_identifiers (bare t) ≡ map bare (bound_identifiers t)
-  bound-bare (node Identifier l fs) = refl
-  bound-bare (node ObjectPattern l fs) = first-bare fs
-  bound-bare (node PatternProperty l fs) = second-bare fs
-  bound-bare (node ArrayPattern l fs) = fields-bare fs
-  bound-bare (node AssignmentPattern l fs) = first-bare fs
-  bound-bare (node RestElement l fs) = first-bare fs
-  bound-bare (node _ l fs) = refl
-
-  fields-bare : (fs : Fields) → bound_in_fields (bare_fields fs) ≡ map bare (bound_in_fields fs)
-  fields-bare done = refl
-  fields-bare (f then fs) = (λ i. field-bare f i ++ fields-bare fs i) ∙ sym (map-append bare (bound_in_field f) (bound_in_fields fs))
-
-  first-bare : (fs : Fields) → bound_in_first (bare_fields fs) ≡ map bare (bound_in_first fs)
-  first-bare done = refl
-  first-bare (f then fs) = field-bare f
-
-  second-bare : (fs : Fields) → bound_in_second (bare_fields fs) ≡ map bare (bound_in_second fs)
-  second-bare done = refl
-  second-bare (f then fs) = first-bare fs
-
-  field-bare : (f : Field) → bound_in_field (bare_field f) ≡ map bare (bound_in_field f)
-  field-bare missing = refl
-  field-bare (one t) = bound-bare t
-  field-bare (many ts) = trees-bare ts
-  field-bare (statements ts) = trees-bare ts
-
-  trees-bare : (ts : Trees) → bound_in_trees (bare_trees ts) ≡ map bare (bound_in_trees ts)
-  trees-bare empty = refl
-  trees-bare (t before ts) = (λ i. bound-bare t i ++ trees-bare ts i) ∙ sym (map-append bare (bound_identifiers t) (bound_in_trees ts))
-
-declarator-bare : (t : Tree) → splits.names_of_declarator (bare t) ≡ map bare (splits.names_of_declarator t)
-declarator-bare (node VariableDeclarator l done) = refl
-declarator-bare (node VariableDeclarator l (one p then fs)) = bound-bare p
-declarator-bare (node VariableDeclarator l (missing then fs)) = refl
-declarator-bare (node VariableDeclarator l (many ts then fs)) = refl
-declarator-bare (node VariableDeclarator l (statements ts then fs)) = refl
-declarator-bare (node _ l fs) = refl
-
-declarators-bare : (ds : Trees) → splits.names_of_declarators (bare_trees ds) ≡ map bare (splits.names_of_declarators ds)
-declarators-bare empty = refl
-declarators-bare (d before ds) = (λ i. declarator-bare d i ++ declarators-bare ds i) ∙ sym (map-append bare (splits.names_of_declarator d) (splits.names_of_declarators ds))
 
 declared-bare : (d : Tree) → names_declared (bare d) ≡ map bare (names_declared d)
 declared-bare (node VariableDeclaration l (many ds then done)) = declarators-bare ds

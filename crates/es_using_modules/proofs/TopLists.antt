@@ -20,7 +20,7 @@ use Rattle.es_resolution.specs.Resolved.{no_name, Resolved, ResolvedAll, Resolve
 use Rattle.es_resolution.specs.Single.{scopes_among, scopes_with}
 use Rattle.es_resolution.proofs.AllForms.{AllAmong}
 use Rattle.es_resolution.proofs.Placed.{PlacedAll}
-use Rattle.es_steps.specs.Identifiers.{Passes, PassesAll, PassesBy, PassesIn}
+use Rattle.es_steps.specs.Identifiers.{Passes, PassesAll}
 use Rattle.es_steps.specs.Nodes.{identifier}
 use Rattle.es_steps.specs.UsingBodies.{bound_as}
 use Rattle.es_steps.proofs.FormLists.{first-formed}
@@ -28,6 +28,7 @@ use Rattle.es_pattern_moves.proofs.Settled.{Sound}
 use Rattle.es_export_splits.specs.SplitRule.{EachTree}
 use Rattle.es_export_splits.specs.Splits.{export_of, specifiers, text_of, with_symbols}
 use Rattle.es_export_splits.proofs.ExportNames.{HandedOn, declaration-names, export_with}
+use Rattle.es_export_splits.proofs.ExportRules.{PassesIt, passes-handed}
 use Rattle.es_using_modules.specs.ModuleTops.{as_value, by_bounds, default_export, is_function, is_named_default, some_default, stays_outside, takes_name}
 use Rattle.es_using_modules.proofs.TopInside.{Fits, Has, Inner, Setting, bare-inner, class-inner, here, still, stood, there, value-inner, variables-inner}
 use Rattle.es_using_modules.proofs.TopMoves.{Declares, Defaults, Moves, default_with, is_plain}
@@ -61,25 +62,6 @@ module _ (g : Setting) where
     list = λ ts h. h;
     more = λ t ts h. ((h.0.0, h.1.0), (h.0.1, h.1.1));
   }
-
-  module _ (q : Text → Option ℕ → Bool) where
-    abbrev PassesIt : Tree → Type 0
-    PassesIt x = q (text_of x) (symbol_of (label_of x)) ≡ true
-
-    passes-handed : HandedOn PassesIt (Passes q) (PassesBy q) (PassesAll q) (PassesIn q)
-    passes-handed = record {
-      names = λ l fs h. h.0;
-      objects = λ l f fs h. h.1.0;
-      properties = λ l f k fs h. h.1.1.0;
-      defaults = λ l f fs h. h.1.0;
-      rests = λ l f fs h. h.1.0;
-      arrays = λ l fs h. h.1;
-      elements = λ f fs h. h;
-      child = λ t h. h;
-      children = λ ts h. h;
-      list = λ ts h. h;
-      more = λ t ts h. h;
-    }
 
   -- an exported declaration, the names that it declares, and what it becomes inside
   record Exported (d : Tree) (xs : List Tree) (v : Tree) : Type 0 where
