@@ -33,7 +33,7 @@ use Rattle.es_top_names.proofs.RootSteps.{list-kept}
 use Rattle.es_top_names.proofs.SameSort.{law_same_sort_proof}
 use Rattle.es_top_names.proofs.SourceList.{source-found}
 
-none-found : (s : Option ℕ) → is_some s ≡ false → s ≡ None
+pub none-found : (s : Option ℕ) → is_some s ≡ false → s ≡ None
 none-found None e = refl
 none-found (Some n) e = absurd (cc e)
 
