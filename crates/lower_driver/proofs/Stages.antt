@@ -2,7 +2,7 @@
 -- constructs are lowered where they stand, helpers are imported, and names for `this` are set. And why it is refused: for what is found in it before constructs are lowered where they
 -- stand.
 use Rattle.std.proofs.Common.{◌≡◌, ◌∙◌, ◌*◌, ◌+◌, ◌≤◌, ◌++◌, List, [], ◌∷◌, Option, ℕ, ap, arith, refl, subst, sym, true≢false}
-use Rattle.std.specs.Prelude.{Bool, true, false, ◌&&◌, None, is_some, not, string_bytes, if◌then◌else◌}
+use Rattle.std.specs.Prelude.{Bool, true, false, ◌&&◌, Err, IfErr, IsErrAnd, None, Ok, Result, is_some, not, string_bytes, if◌then◌else◌}
 use Rattle.es_tree.specs.Constructs.{has_enabled_construct, is_object_rest, is_using}
 use Rattle.es_tree.specs.Core.{IsCoreProgram}
 use Rattle.es_tree.specs.HasForm.{has_form}
@@ -347,3 +347,8 @@ pub cause-of : (o : EnvOptions) (s p t v z q : Tree) (heads contexts top_names n
 cause-of o s p t v z q heads contexts top_names names (Unsupported kind id) x h u y m e = record { split = p; splits = x; headed = t; head_names = heads; heads = h; used = v; context_names = contexts; uses = u; topped = z; top_names = top_names; tops = y; moved = q; names = names; moves = m; first = e }
 cause-of o s p t v z q heads contexts top_names names OutOfMemory x h u y m e = tt
 cause-of o s p t v z q heads contexts top_names names _ x h u y m e = absurd e
+
+-- and the error that a call gives on
+pub given-on : {T : Type 0} (r : Result T LowerError) (e : LowerError) (Q : LowerError → Type 0) → IsErrAnd r (λ x. x ≡ e) → Q e → IfErr r Q
+given-on (Ok x) e Q h q = absurd h
+given-on (Err x) e Q h q = subst Q (sym h) q

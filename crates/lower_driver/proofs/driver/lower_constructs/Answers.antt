@@ -6,10 +6,10 @@ use Rattle.es_scope.specs.Contexts.{made_of}
 use Rattle.lower_driver.specs.Imports.{Imports}
 use Rattle.lower_driver.specs.Lowers.{Lowers, LowersInPlace}
 use Rattle.lower_driver.specs.Sets.{Sets, sets_this}
-use Rattle.lower_driver.specs.UnsupportedPrograms.{first_refused}
+use Rattle.lower_driver.specs.UnsupportedPrograms.{IsFirstOrMemory, IsUnsupportedOrMemory, first_refused}
 use Rattle.lower_driver.specs.Uses.{names_helpers}
 use Rattle.lower_driver.proofs.Moved.{map-joined}
-use Rattle.lower_driver.proofs.Stages.{lowers, moved-valid, topped-valid, used-and-moved-size}
+use Rattle.lower_driver.proofs.Stages.{cause-of, given-on, lowers, moved-valid, topped-valid, used-and-moved-size}
 use Rattle.lower_driver.proofs.Tops.{tops-as}
 use Rattle.lower_driver.proofs.Used.{heads-as, uses-as}
 use Rattle.lower_driver.proofs.driver.lower_constructs.Goals as goal
@@ -86,3 +86,14 @@ returns-clause-taken c = record {
   moves = c.in_ok-moved.ensures.moves;
   first = subst (λ (b : Bool). first_refused c.args.options.now b c.in_ok-moved.moved.program ≡ None) c.names_no_helpers-free.ensures c.in_ok-lowered.ensures.taken;
 }
+
+pub returns-in_err-lowered-clause-cause : goal.returns-in_err-lowered-clause-cause
+returns-in_err-lowered-clause-cause c =
+    let o = c.args.options.now in
+    let s = c.args.read.program in
+    let p = c.in_ok-split.split.program in
+    let q = c.in_ok-moved.moved.program in
+    let error = c.in_err-lowered.field-0.0 in
+    let first = subst (λ (b : Bool). IsFirstOrMemory o b q error) c.names_no_helpers-free.ensures c.in_err-lowered.ensures.cause in
+    given-on c.from_residual-in_err-lowered.result error (IsUnsupportedOrMemory o s) c.from_residual-in_err-lowered.ensures.1
+    (cause-of o s p c.in_ok-headed.headed.program c.in_ok-used.used.program c.in_ok-topped.topped.program q (map string_bytes c.in_ok-headed.names.items) (map string_bytes c.in_ok-used.contexts.items) (map string_bytes c.in_ok-topped.top.items) (map string_bytes c.in_ok-moved.first.items) error c.in_ok-split.ensures.splits (heads-as c.asks_for_using-asked.ensures c.in_ok-headed.ensures.heads) (uses-as c.asks_for_using-asked.ensures c.in_ok-used.ensures.uses) (tops-as c.asks_for_using-asked.ensures c.in_ok-topped.ensures.tops) c.in_ok-moved.ensures.moves first)
