@@ -1,4 +1,4 @@
--- What a program becomes before all other lowerings: patterns with a rest move to declarations of their own, where their rest is taken.
+-- What a program becomes once its `using` is lowered: patterns with a rest move to declarations of their own, where their rest is taken.
 use Rattle.std.specs.Prelude.{◌≡◌, Bool, List, [], is_some, true}
 use Rattle.es_tree.specs.HasForm.{has_form}
 use Rattle.es_tree.specs.StaticRules.{breaks}

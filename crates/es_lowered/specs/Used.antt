@@ -1,4 +1,4 @@
--- What a program becomes first of all: `using` is lowered, before patterns move.
+-- What a program becomes once its exports are split: `using` is lowered, before patterns move.
 use Rattle.std.specs.Prelude.{◌≡◌, Bool, List, [], codes, false, true}
 use Rattle.es_tree.specs.Fresh.{is_among}
 use Rattle.es_tree.specs.HasForm.{has_form}

@@ -1,4 +1,4 @@
--- What a source becomes first of all: `using` moves out of heads of loops, and is lowered, where that is asked for.
+-- What a source becomes once its exports are split: `using` moves out of heads of loops, and is lowered, where that is asked for.
 use Rattle.std.specs.Prelude.{◌≡◌, ◌&&◌, not, Bool, List, [], bytes_eq, codes, false, true}
 use Rattle.es_tree.specs.Constructs.{is_using}
 use Rattle.es_tree.specs.Tree.{Tree}

@@ -1,4 +1,4 @@
-//! What comes first of a run: object patterns with a rest move to declarations of their own, in which their rest is taken.
+//! What comes once `using` is lowered: object patterns with a rest move to declarations of their own, in which their rest is taken.
 ghost use Rattle.std.specs.Prelude.{◌≡◌, ◌&&◌, IfOk, is_some, map, string_bytes, true};
 ghost use Rattle.es_tree.specs.HasForm.{has_form};
 ghost use Rattle.es_tree.specs.Walks.{any_node};
