@@ -24,11 +24,11 @@ function wordsFor(tree) {
  * Whether an object pattern with a rest stands where none is lowered (docs/LOWERINGS.md, "Object rest"). Of one that may move out of a
  * parameter or the head of a loop the tool tells itself whether it does.
  */
-function hasStrayRest(value, isExported = false) {
+function hasStrayRest(value) {
   if (typeof value !== 'object' || value === null) return false;
-  if (Array.isArray(value)) return value.some(item => hasStrayRest(item, isExported));
-  if (value.type === 'VariableDeclarator' && value.init && !isExported && isPlainRest(value.id)) {
-    return [...value.id.properties, value.init].some(item => hasStrayRest(item));
+  if (Array.isArray(value)) return value.some(hasStrayRest);
+  if (value.type === 'VariableDeclarator' && value.init && isPlainRest(value.id)) {
+    return [...value.id.properties, value.init].some(hasStrayRest);
   }
   if (value.type === 'CatchClause' && value.param && isPlainRest(value.param)) return hasStrayRest([value.param.properties, value.body]);
   if (['ForInStatement', 'ForOfStatement'].includes(value.type) && value.left.declarations?.every(({ id }) => isPlainRest(id))) {
@@ -38,8 +38,7 @@ function hasStrayRest(value, isExported = false) {
     return hasStrayRest([value.params.map(withoutRest), value.body]);
   }
   if (isRestPattern(value)) return true;
-  const below = value.type === 'ExportNamedDeclaration' || (isExported && value.type === 'VariableDeclaration');
-  return Object.values(value).some(item => hasStrayRest(item, below));
+  return Object.values(value).some(hasStrayRest);
 }
 
 /** A parameter, or what stands in its pattern with a rest. */
