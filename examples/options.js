@@ -1,0 +1,1 @@
+export const { port = 80, ...options } = readOptions();
