@@ -1,7 +1,8 @@
 #!/usr/bin/env node
-// Evaluates random programs with object rests in parameters, catch clauses, heads of loops and declarations before and after the tool lowered
-// them, by node itself: the same properties have to be read in the same order, the same values seen, and the same errors thrown. Names are few,
-// so that patterns, default values, other parameters and bodies meet them. What the tool refuses is counted.
+// Evaluates random programs with object rests in parameters, catch clauses, heads of loops, declarations and exported ones before and after the
+// tool lowered them, by node itself: the same properties have to be read in the same order, the same values seen, the same names exported with
+// the same values, and the same errors thrown. Names are few, so that patterns, default values, other parameters and bodies meet them. What the
+// tool refuses is counted.
 //   rests.mjs [--seed N] [--count N] [--imported] [--tool PROGRAM]     so many programs, with helpers of `babelHelpers` or required ones
 import { parseArgs } from 'node:util';
 import '../estree/babel-helpers.cjs';
@@ -21,12 +22,12 @@ let places = 0;
 /** The names that no pattern or parameter of the program at hand binds yet. */
 let free = [];
 
-if (hasParser) main();
+if (hasParser) await main();
 else console.log('tools/valid: passed over, no parser for trees is installed (Debian: node-acorn)');
 
-function main() {
+async function main() {
   const sources = Array.from({ length: Number(values.count) }, program).filter(isProgram);
-  const runs = lowerAll(sources.map(source => canonicalText(textToTree(source, {}))), { tool: values.tool, words: WORDS });
+  const runs = lowerAll(sources.map(source => canonicalText(textToTree(source, { module: isModule(source) }))), { tool: values.tool, words: WORDS });
   let refused = 0;
   let differing = 0;
   let seen = 0;
@@ -37,7 +38,7 @@ function main() {
     }
     if (status !== 0) throw new Error(`${sources[index]}\nthe tool ends with ${status}: ${stderr}`);
     const after = print(read(JSON.parse(stdout)));
-    const [left, right] = [sources[index], after].map(evaluated);
+    const [left, right] = [await evaluated(sources[index]), await evaluated(after)];
     seen += left.length;
     if (left.join() === right.join()) continue;
     differing += 1;
@@ -64,10 +65,15 @@ function pick(list) {
 /** Some of these programs break a static rule, as a name that is declared twice. */
 function isProgram(source) {
   try {
-    return Boolean(new Function(source));
+    return Boolean(isModule(source) ? textToTree(source, { module: true }) : new Function(source));
   } catch {
     return false;
   }
+}
+
+/** Scripts export nothing. */
+function isModule(text) {
+  return /\bexport\b/.test(text);
 }
 
 /** A name to bind, which no other binds as long as there are some. */
@@ -78,7 +84,7 @@ function bound() {
 
 function program() {
   free = [...NAMES];
-  const made = pick([inFunction, inFunction, inFunction, inCatch, inLoop, inDeclaration])();
+  const made = pick([inFunction, inFunction, inFunction, inCatch, inLoop, inDeclaration, inExport])();
   return `${below(4) === 0 ? '"use strict"; ' : ''}${made}`;
 }
 
@@ -113,6 +119,12 @@ function inLoop() {
 
 function inDeclaration() {
   return `${pick(['const', 'let', 'var'])} ${pattern()} = ${value()}, ${pattern()} = source(${place()}); ${body()}`;
+}
+
+function inExport() {
+  const declared = `${pick(['const', 'let', 'var'])} ${pick([pattern, pattern, bound])()} = ${value()}, ${pattern()} = ${value()};`;
+  const beside = pick(['', `export { ${pick(NAMES)} as x };`, `export const { ...${bound()} } = source(${place()});`, `export default told(${place()});`]);
+  return pick([`export ${declared} ${beside} ${tells()};`, `${beside} export ${declared}`, `${tells()}; ${beside} export ${declared} ${body()}`]);
 }
 
 function parameter() {
@@ -166,7 +178,7 @@ function body() {
 }
 
 /** What is read, called and seen as the text runs, and how it ends. The names are those of the function around it, where it has no other. */
-function evaluated(text) {
+async function evaluated(text) {
   const log = [];
   const symbol = Symbol('symbol');
   const told = number => { log.push(`told ${number}`); return number; };
@@ -181,12 +193,34 @@ function evaluated(text) {
   const see = (number, names) => { log.push(`${number}:${names.map(name => described(name, 2)).join(';')}`); };
   const host = { told, source, see, require: requireHelper };
   try {
+    if (isModule(text)) {
+      log.push(...await exported(text, host));
+      return log;
+    }
     const outer = JSON.stringify(NAMES.map(name => `outer ${name}`));
     new Function(...Object.keys(host), `let [${NAMES.join(', ')}] = ${outer}; (function () { ${text} })();`)(...Object.values(host));
   } catch (error) {
     log.push(`throws ${error.constructor.name}`);
   }
   return log;
+}
+
+/** The names that a module exports, each with its value, where these names of the host and the outer ones are global. */
+async function exported(text, host) {
+  Object.assign(globalThis, host, Object.fromEntries(NAMES.map(name => [name, `outer ${name}`])));
+  const module = await import(moduleUrl(text.replace(/"@oxc-project\/runtime\/helpers\/(\w+)"/g, (_, name) => JSON.stringify(helperUrl(name)))));
+  return Object.entries(module).map(([name, value]) => `${name} is ${described(value, 2)}`);
+}
+
+/** A module that gives the helper. */
+function helperUrl(name) {
+  return moduleUrl(`export default globalThis.babelHelpers.${name};`);
+}
+
+/** Each module is one of its own, also where another has its text. */
+function moduleUrl(text) {
+  places += 1;
+  return `data:text/javascript,${encodeURIComponent(`${text}\n// ${places}`)}`;
 }
 
 /** The helper that a script requires of its module. */
