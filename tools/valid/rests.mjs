@@ -3,7 +3,7 @@
 // tool lowered them, by node itself: the same properties have to be read in the same order, the same values seen, the same names exported with
 // the same values, and the same errors thrown. Names are few, so that patterns, default values, other parameters and bodies meet them. What the
 // tool refuses is counted.
-//   rests.mjs [--seed N] [--count N] [--imported] [--tool PROGRAM]     so many programs, with helpers of `babelHelpers` or required ones
+//   rests.mjs [--seed N] [--count N] [--imported] [--all] [--tool PROGRAM]     so many programs, with helpers of `babelHelpers` or required ones, by all flags or one
 import { parseArgs } from 'node:util';
 import '../estree/babel-helpers.cjs';
 import { canonicalText, read } from '../estree/lib/form.mjs';
@@ -14,9 +14,9 @@ import { lowerAll } from './lib/tool.mjs';
 
 const NAMES = ['a', 'b', 'c', 'd', 'e', 'g'];
 const { values } = parseArgs({
-  options: { seed: { type: 'string', default: '1' }, count: { type: 'string', default: '300' }, imported: { type: 'boolean' }, tool: { type: 'string' } },
+  options: { seed: { type: 'string', default: '1' }, count: { type: 'string', default: '300' }, imported: { type: 'boolean' }, all: { type: 'boolean' }, tool: { type: 'string' } },
 });
-const WORDS = ['--rest-spread', ...values.imported ? [] : ['--helpers=external']];
+const WORDS = [values.all ? '--all' : '--rest-spread', ...values.imported ? [] : ['--helpers=external']];
 let state = Number(values.seed);
 let places = 0;
 /** The names that no pattern or parameter of the program at hand binds yet. */
@@ -32,7 +32,7 @@ async function main() {
   let differing = 0;
   let seen = 0;
   for (const [index, { status, stdout, stderr }] of runs.entries()) {
-    if (status === 1 && /^lower: unsupported (NotBuilt|HeadName|Rest\w+) /.test(stderr)) {
+    if (status === 1 && /^lower: unsupported (NotBuilt|HeadName|Rest\w+|Arrow\w+) /.test(stderr)) {
       refused += 1;
       continue;
     }

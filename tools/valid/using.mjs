@@ -1,9 +1,9 @@
 #!/usr/bin/env node
-// Runs random programs with `using` in blocks, parts of a `try`, `switch`, heads of `for` and `for-of`, bodies of functions, static blocks of classes
-// and at the top of modules, lowered by the tool, by node, and holds what they do against an interpreter of its own that disposes of resources as the source says (Explicit Resource Management,
-// DisposeResources), since node itself has no `using`. Each step of a program is noted: values taken into use, disposals, turns of loops,
-// returned values and thrown errors.
-//   using.mjs [--seed N] [--count N] [--imported] [--tool PROGRAM]     so many programs, with helpers of `babelHelpers` or required ones
+// Runs random programs with `using` in blocks, parts of a `try`, `switch`, heads of `for` and `for-of`, bodies of functions, static blocks of
+// classes and at the top of modules, lowered by the tool, by node, and holds what they do against an interpreter of its own that disposes of
+// resources as the source says (Explicit Resource Management, DisposeResources), since node itself has no `using`. Each step of a program is
+// noted: values taken into use, disposals, turns of loops, returned values and thrown errors.
+//   using.mjs [--seed N] [--count N] [--imported] [--all] [--tool PROGRAM]     so many programs, with helpers of `babelHelpers` or required ones, by all flags or one
 import { parseArgs } from 'node:util';
 import '../estree/babel-helpers.cjs';
 import { canonicalText, read } from '../estree/lib/form.mjs';
@@ -15,9 +15,9 @@ import { Interpreter, Turns, textOf } from './lib/resources.mjs';
 import { lowerAll } from './lib/tool.mjs';
 
 const { values } = parseArgs({
-  options: { seed: { type: 'string', default: '1' }, count: { type: 'string', default: '300' }, imported: { type: 'boolean' }, tool: { type: 'string' } },
+  options: { seed: { type: 'string', default: '1' }, count: { type: 'string', default: '300' }, imported: { type: 'boolean' }, all: { type: 'boolean' }, tool: { type: 'string' } },
 });
-const WORDS = ['--using', ...values.imported ? [] : ['--helpers=external']];
+const WORDS = [values.all ? '--all' : '--using', ...values.imported ? [] : ['--helpers=external']];
 
 /** Programs as plain objects, which the interpreter runs and `textOf` writes. */
 class Programs extends Random {
