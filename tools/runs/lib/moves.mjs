@@ -34,12 +34,15 @@ export class Mover {
     this.count = 0;
     this.made = new Set(); // what the engine makes itself
     this.keyIterators = new Set();
+    this.written = new Set(); // names that the engine keeps
   }
 
   move({ is, operands }) {
     this.count += 1;
     const [first] = operands;
     if (OF_AN_OBJECT.has(is) && this.isMade(first)) throw new GivenUp();
+    if (is === 'write') this.written.add(first);
+    if (['read', 'typeof_read'].includes(is) && this.written.has(first)) throw new GivenUp();
     switch (is) {
       case 'operator': return answer(this.operated(first, operands.slice(1)));
       case 'typeof_read': return this.typeOfName();
