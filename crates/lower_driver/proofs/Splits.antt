@@ -86,6 +86,6 @@ module _ (o : EnvOptions) (p q : Tree) (s : Splits (splits_exports o p) p q) whe
 
 -- SIZE: what it weighs
 
-pub split-weight : (on : Bool) (p q : Tree) → weighed p ≤ 7 * tree_size p → Splits on p q → weighed q ≤ 8 * tree_size p
+pub split-weight : (on : Bool) (p q : Tree) → weighed p ≤ 7 * tree_size p → Splits on p q → weighed q ≤ (if on then 8 else 7) * tree_size p
 split-weight true p q light s = rw (s.goes refl) (law_split_weighs_proof p)
-split-weight false p q light s = rw (s.stays refl) (omega (arith, light))
+split-weight false p q light s = rw (s.stays refl) light

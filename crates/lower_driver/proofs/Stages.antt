@@ -213,34 +213,41 @@ module _
 
   -- SIZE
 
-  moved-size : z ≡ p → tree_size q ≤ 4 * tree_size s
+  moved-size : z ≡ p → 2 * tree_size q ≤ (if splits_exports o s then 8 else 7) * tree_size s
   moved-size same =
       let paid : 2 * tree_size q ≤ weighed p = subst (λ (t : Tree). 2 * tree_size q ≤ weighed t) same (moved-weight on z q names m) in
-      let weight = split-weight (splits_exports o s) s p (light s) x in
-      omega (arith, paid, weight)
+      at (splits_exports o s) paid (split-weight (splits_exports o s) s p (light s) x)
+    where
+      at : (b : Bool) → 2 * tree_size q ≤ weighed p → weighed p ≤ (if b then 8 else 7) * tree_size s → 2 * tree_size q ≤ (if b then 8 else 7) * tree_size s
+      at true paid weight = omega (arith, paid, weight)
+      at false paid weight = omega (arith, paid, weight)
 
   most : (b : Bool) → tree_size lowered ≤ (if b then 384 else 64) * tree_size q + 64 → tree_size lowered ≤ 384 * tree_size q + 64
   most true h = h
   most false h = omega (arith, h)
 
-  lowered-size : tree_size lowered ≤ most_for_each (using_there o s) (rests_there o s) * tree_size s + 64
+  lowered-size : tree_size lowered ≤ most_for_each (using_there o s) (rests_there o s) (splits_exports o s) * tree_size s + 64
   lowered-size = at (using_there o s) (rests_there o s) refl refl
     where
-      at : (a b : Bool) → using_there o s ≡ a → rests_there o s ≡ b → tree_size lowered ≤ most_for_each a b * tree_size s + 64
+      rests : (b : Bool) → 2 * tree_size q ≤ (if b then 8 else 7) * tree_size s → tree_size lowered ≤ 384 * tree_size q + 64 → tree_size lowered ≤ most_for_each false true b * tree_size s + 64
+      rests true paid g = omega (arith, paid, g)
+      rests false paid g = omega (arith, paid, g)
+
+      at : (a b : Bool) → using_there o s ≡ a → rests_there o s ≡ b → tree_size lowered ≤ most_for_each a b (splits_exports o s) * tree_size s + 64
       at true b _ d = let g = most (rests_there o q) in_place.size in let e = used-and-moved-size o s p t v z q heads contexts top_names names form x h u y m in omega (arith, g, e)
-      at false true e d = let g = most (rests_there o q) in_place.size in let f = moved-size (same-used e).same in omega (arith, g, f)
+      at false true e d = rests (splits_exports o s) (moved-size (same-used e).same) (most (rests_there o q) in_place.size)
       at false false e d =
           let same = same-there e d in
           subst (λ (n : ℕ). tree_size lowered ≤ n * tree_size s + 64) (ap (λ b. if b then 384 else 64) (ap (rests_there o) same.moved ∙ d)) (subst (λ (t : Tree). tree_size lowered ≤ (if rests_there o q then 384 else 64) * tree_size t + 64) same.moved in_place.size)
 
-  imported-size : tree_size imported ≤ most_for_each (using_there o s) (rests_there o s) * tree_size s + (if imports_helpers o free q then 82 else 64)
+  imported-size : tree_size imported ≤ most_for_each (using_there o s) (rests_there o s) (splits_exports o s) * tree_size s + (if imports_helpers o free q then 82 else 64)
   imported-size = at (imports_helpers o free q) (size-after o free q lowered imported later last moved_there.form moved_there.kept none in_place.result imports)
     where
-      at : (b : Bool) → tree_size imported ≤ tree_size lowered + (if b then 18 else 0) → tree_size imported ≤ most_for_each (using_there o s) (rests_there o s) * tree_size s + (if b then 82 else 64)
+      at : (b : Bool) → tree_size imported ≤ tree_size lowered + (if b then 18 else 0) → tree_size imported ≤ most_for_each (using_there o s) (rests_there o s) (splits_exports o s) * tree_size s + (if b then 82 else 64)
       at true more = let least = lowered-size in omega (arith, least, more)
       at false more = let least = lowered-size in omega (arith, least, more)
 
-  sized : tree_size written ≤ (if sets_this o s then 3 else 1) * (most_for_each (using_there o s) (rests_there o s) * tree_size s + (if imports_helpers o free q then 82 else 64))
+  sized : tree_size written ≤ (if sets_this o s then 3 else 1) * (most_for_each (using_there o s) (rests_there o s) (splits_exports o s) * tree_size s + (if imports_helpers o free q then 82 else 64))
   sized = set-size (sets_this o s) later imported written sets _ imported-size
 
   -- what is imported is a program that breaks no static rule

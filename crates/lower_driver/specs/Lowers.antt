@@ -51,12 +51,14 @@ pub record LowersInPlace (o : EnvOptions) (source written : Tree) (names : List 
   -- walk that takes rests is the last of three.
   pub size : tree_size written ≤ (if rests_there o source then 384 else 64) * tree_size source + 64
 
--- The most nodes that are written for one of the source's, where `using` stands that is asked for, and where an object rest does: moving `using` out of
--- heads, lowering it and moving patterns make at most ten of one, and moving patterns alone four; so many, too, where exports were split.
-abbrev pub most_for_each : Bool → Bool → ℕ
-most_for_each true rests = 3840
-most_for_each false true = 1536
-most_for_each false false = 64
+-- The most nodes that are written for one of the source's, where `using` stands that is asked for, where an object rest does, and where an export of one
+-- is split: moving `using` out of heads, lowering it and moving patterns make at most ten of one, moving patterns alone three and a half, and four where
+-- exports were split.
+abbrev pub most_for_each : Bool → Bool → Bool → ℕ
+most_for_each true rests splits = 3840
+most_for_each false true true = 1536
+most_for_each false true false = 1344
+most_for_each false false splits = 64
 
 -- What a source of any kind becomes under these options: this program, with these fresh names.
 pub record Lowers (o : EnvOptions) (source written : Tree) (names : List Text) : Type 0 where
@@ -109,4 +111,4 @@ pub record Lowers (o : EnvOptions) (source written : Tree) (names : List Text) :
   -- where the options ask for no construct of the source, nothing is changed
   pub unchanged : has_enabled_construct o source ≡ false → IsAsBefore source written names
   -- the nodes of the source and of what is written, with those of the imports: where a name is set behind `super(..)`, three times as many
-  pub size : tree_size written ≤ (if sets_this o source then 3 else 1) * (most_for_each (using_there o source) (rests_there o source) * tree_size source + (if imports_helpers o (not (names_helpers split)) moved then 82 else 64))
+  pub size : tree_size written ≤ (if sets_this o source then 3 else 1) * (most_for_each (using_there o source) (rests_there o source) (splits_exports o source) * tree_size source + (if imports_helpers o (not (names_helpers split)) moved then 82 else 64))

@@ -66,16 +66,3 @@ split-all m mid (t ∷ ts) all none so_far = absurd (omega (arith, none))
 
 pub one-split : (m : Makes) (t : Tree) (b : Bool) → is_split t ≡ b → split_list m (t before empty) ≡ (if b then split_before m t empty else (t before empty))
 one-split m t b e = ap (λ c. if c then split_before m t empty else (t before empty)) e
-
--- where none is split they stay
-list-stays : (m : Makes) (ts : Trees) → some_split ts ≡ false → split_list m ts ≡ ts
-list-stays m empty h = refl
-list-stays m (t before ts) h = by-test (is_split t) (some_split ts) h (list-stays m ts)
-  where
-    by-test : (b c : Bool) → (b || c) ≡ false → (c ≡ false → split_list m ts ≡ ts) → (if b then split_before m t (split_list m ts) else (t before split_list m ts)) ≡ (t before ts)
-    by-test true c h stays = absurd (cc h)
-    by-test false c h stays = ap (λ us. t before us) (stays h)
-
-pub program-stays : (m : Makes) (p : Tree) → has_split p ≡ false → split m p ≡ p
-program-stays m (node Program l (many ds then statements ts then done)) h = ap (λ us. node Program l (many ds then statements us then done)) (list-stays m ts h)
-program-stays m _ h = refl

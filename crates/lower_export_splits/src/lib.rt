@@ -22,7 +22,7 @@
 //! Its rule is `split` of es_export_splits.
 #![tactic(auto)]
 
-ghost use Rattle.std.specs.Prelude.{◌≡◌, IfOk};
+ghost use Rattle.std.specs.Prelude.{◌≡◌, IfOk, true};
 ghost use Rattle.es_tree.specs.Views.{plain_fields};
 ghost use Rattle.es_export_splits.specs.Splits.{has_split, plainly, split};
 ghost use Rattle.lower_export_splits.specs.Parts.{hold_split};
@@ -57,13 +57,11 @@ fn hold_split(fields: &[Field]) -> bool
     }
 }
 
-/// The program, with the declaration and an export of its names in the place of each such export. Fails only for want of memory.
+/// The program, in which such an export stands, with the declaration and an export of its names in the place of each. Fails only for want of memory.
 pub fn split_exports(alloc: Global, program: Node) -> Result<Node, AllocError>
+    requires { has_split program ≡ true }
     ensures { IfOk result (λ split_program. split_program ≡ split plainly program) }
 {
-    if !has_split(&program) {
-        return Ok(program);
-    }
     let Program {
         id,
         span,
