@@ -24,6 +24,7 @@ use Rattle.es_statement_runs.specs.Senses.More.{aims, helper_call, keys_of, maps
 use Rattle.es_statement_runs.specs.Senses.Portion.{alone, gap, rows}
 use Rattle.es_statement_runs.specs.Stacks.{Scope}
 use Rattle.es_statement_runs.specs.StatementParts.{declarator_by}
+use Rattle.es_statement_steps.specs.Laws.{names_other}
 use Rattle.es_statement_steps.proofs.PlainSupplies.{member-plainly}
 
 abbrev pub quietly : Place → Place
@@ -293,10 +294,6 @@ module _ (p : Place) where
   form-of k ts fs block i ps n h = refl
 
 -- TREES in which no name is that object
-
-abbrev pub names_other : AstType → Label → Fields → Bool
-names_other Identifier l fs = not (bytes_eq (first_text l.texts) (codes "babelHelpers"))
-names_other _ l fs = true
 
 abbrev pub Apart : Tree → Type 0
 Apart t = all_nodes names_other t ≡ true

@@ -26,6 +26,7 @@ use Rattle.es_valid_steps.specs.Laws.{with_further_rules}
 use Rattle.es_reached.specs.Reached.{built_rules}
 use Rattle.es_reached.proofs.BuiltRules.{arrow-nodes, arrow-rule}
 use Rattle.es_statement_runs.specs.Programs.{is_statement_kind, is_statement_node}
+use Rattle.es_statement_steps.specs.Laws.{only_where}
 use Rattle.es_statement_steps.proofs.Below.{Below, BelowField, BelowTrees, nodes_below}
 use Rattle.es_statement_steps.proofs.StepMoves.{below-after, below-joined}
 use Rattle.es_statement_steps.proofs.Tamed.{Class, node-kind}
@@ -65,22 +66,33 @@ module _ (o : EnvOptions) where
   node-apart n s s' t u (inl h) none class = h
   node-apart n s s' t u (inr h) none class = absurd (no-step n s s' t u (arrow-rule o n s (at_node t) s' (at_node u) h) none class)
 
-  spot-apart : (n : Site) (s s' : Ledger) (x y : Spot) → built_rules o n s x s' y → (AtNodes x y → ⊥) → with_further_rules o n s x s' y
-  spot-apart n s s' x y (inl h) elsewhere = h
-  spot-apart n s s' x y (inr h) elsewhere = absurd (elsewhere (arrow-nodes n s s' x y (arrow-rule o n s x s' y h)))
+  elsewhere-apart : (n : Site) (s s' : Ledger) (x y : Spot) → built_rules o n s x s' y → (AtNodes x y → ⊥) → with_further_rules o n s x s' y
+  elsewhere-apart n s s' x y (inl h) elsewhere = h
+  elsewhere-apart n s s' x y (inr h) elsewhere = absurd (elsewhere (arrow-nodes n s s' x y (arrow-rule o n s x s' y h)))
+
+-- at whatever places they are taken
+module _ (o : EnvOptions) (at : Spot → Bool) where
+  abbrev Built : Site → Ledger → Spot → Ledger → Spot → Type 0
+  Built = only_where at (built_rules o)
+
+  abbrev Further : Site → Ledger → Spot → Ledger → Spot → Type 0
+  Further = only_where at (with_further_rules o)
+
+  spot-apart : (n : Site) (s s' : Ledger) (x y : Spot) → Built n s x s' y → (AtNodes x y → ⊥) → Further n s x s' y
+  spot-apart n s s' x y h elsewhere = (elsewhere-apart o n s s' x y h.0 elsewhere, h.1)
 
   mutual
-    pub arrows-apart : {n : Site} {s s' : Ledger} {t u : Open} → Step (built_rules o) n s t s' u → belongs_to_arrow n.above ≡ false → Class (finished t) → Step (with_further_rules o) n s t s' u
-    arrows-apart (acts {n = n} {s = s} {s' = s'} t u h) none class = acts t u (node-apart n s s' t u h none (subst (λ (x : Tree). Class x) (finished-opened t) class))
+    pub arrows-apart : {n : Site} {s s' : Ledger} {t u : Open} → Step Built n s t s' u → belongs_to_arrow n.above ≡ false → Class (finished t) → Step Further n s t s' u
+    arrows-apart (acts {n = n} {s = s} {s' = s'} t u h) none class = acts t u (node-apart o n s s' t u h.0 none (subst (λ (x : Tree). Class x) (finished-opened t) class), h.1)
     arrows-apart (inside {n = n} {k = k} {l = l} {fs = fs} h) none class =
         let d = and_parts (is_statement_node k l (finished_fields fs)) (all_in_fields is_statement_node (finished_fields fs)) class in
         inside (apart-in h (λ i. none-below n.above k l (outline fs) i (node-kind k l (finished_fields fs) d.0) none) (nodes_below is_statement_node (finished_fields fs) d.1))
 
-    apart-in : {c : ℕ → Site} {s s' : Ledger} {fs gs : OpenFields} → FieldsStep (built_rules o) c s fs s' gs → ((i : ℕ) → belongs_to_arrow (c i).above ≡ false) → Below (λ i. Class) (finished_fields fs) → FieldsStep (with_further_rules o) c s fs s' gs
+    apart-in : {c : ℕ → Site} {s s' : Ledger} {fs gs : OpenFields} → FieldsStep Built c s fs s' gs → ((i : ℕ) → belongs_to_arrow (c i).above ≡ false) → Below (λ i. Class) (finished_fields fs) → FieldsStep Further c s fs s' gs
     apart-in (in_first h) none class = in_first (apart-by h (none zero) class.0)
     apart-in (in_later h) none class = in_later (apart-in h (λ i. none (suc i)) class.1)
 
-    apart-by : {n : Site} {s s' : Ledger} {f g : OpenField} → FieldStep (built_rules o) n s f s' g → belongs_to_arrow n.above ≡ false → BelowField Class (finished_field f) → FieldStep (with_further_rules o) n s f s' g
+    apart-by : {n : Site} {s s' : Ledger} {f g : OpenField} → FieldStep Built n s f s' g → belongs_to_arrow n.above ≡ false → BelowField Class (finished_field f) → FieldStep Further n s f s' g
     apart-by (in_child h) none class = in_child (arrows-apart h none class)
     apart-by (in_children h) none class = in_children (apart-all h none class)
     apart-by (in_body {p = p} {t = t} e y y' h) none class = in_body e y y' (arrows-apart h none (body-class p.vars p.lets (finished t) class))
@@ -90,7 +102,7 @@ module _ (o : EnvOptions) where
     apart-by (acts_on_list {n = n} {s = s} {s' = s'} {p = p} {q = q} {x = x} {y = y} {a = a} {b = b} ts us h) none class = acts_on_list ts us (spot-apart n s s' (at_list p x a ts) (at_list q y b us) h (λ z. z))
     apart-by (acts_on_body {n = n} {s = s} {s' = s'} {p = p} t u h) none class = acts_on_body t u (spot-apart n s s' (at_body p t) (at_node u) h (λ z. z))
 
-    apart-all : {n : Site} {s s' : Ledger} {ts us : OpenTrees} → TreesStep (built_rules o) n s ts s' us → belongs_to_arrow n.above ≡ false → BelowTrees Class (finished_trees ts) → TreesStep (with_further_rules o) n s ts s' us
+    apart-all : {n : Site} {s s' : Ledger} {ts us : OpenTrees} → TreesStep Built n s ts s' us → belongs_to_arrow n.above ≡ false → BelowTrees Class (finished_trees ts) → TreesStep Further n s ts s' us
     apart-all (in_head h) none class = in_head (arrows-apart h none class.0)
     apart-all (in_tail h) none class = in_tail (apart-all h none class.1)
     apart-all (in_flanked {bs = bs} {cs = cs} {t = t} {ts = ts} h) none class = in_flanked (arrows-apart h none (below-joined Class (trees bs) (finished t before joined_trees (trees cs) (finished_trees ts)) class).0)

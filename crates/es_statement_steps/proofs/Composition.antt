@@ -45,6 +45,7 @@ use Rattle.es_reached.specs.Reached.{built_rules}
 use Rattle.es_reached.proofs.BuiltRules.{built-all}
 use Rattle.es_statement_runs.specs.Helpers.{Supply}
 use Rattle.es_statement_runs.proofs.Composing.{law_then_proof}
+use Rattle.es_statement_steps.specs.Laws.{only_where}
 use Rattle.es_statement_steps.proofs.Arrowless.{arrows-apart}
 use Rattle.es_statement_steps.proofs.NothingBeside.{IsAlone, alone-after, one-more}
 use Rattle.es_statement_steps.proofs.RowRuns.{StepAlike, unchanged}
@@ -62,6 +63,10 @@ told-apart o n s x s' y (inl r) = inl (inl r)
 told-apart o n s x s' y (inr (inl r)) = inl (inr (inl r))
 told-apart o n s x s' y (inr (inr (inl r))) = inr r
 told-apart o n s x s' y (inr (inr (inr r))) = inl (inr (inr r))
+
+-- steps at some places are steps
+pub anywhere : (at : Spot → Bool) (R : Site → Ledger → Spot → Ledger → Spot → Type 0) {n : Site} {s s' : Ledger} {x y : Open} → Step (only_where at R) n s x s' y → Step R n s x s' y
+anywhere at R h = step_under (only_where at R) R (λ n s x s' y r. r.0) h
 
 on-exports : (b : Bool) (n : Site) (s : Ledger) (x : Spot) (s' : Ledger) (y : Spot) → where_on b NamespaceRule n s x s' y → NamespaceRule n s x s' y
 on-exports true n s x s' y r = r
@@ -88,12 +93,12 @@ known-fine {x = x} k = program_stands (finished x) k.form k.class k.keeps
 
 -- WHAT IS ASKED OF STEPS
 
-pub record AloneRuns (o : EnvOptions) (no_all : Bool) (u : Supply) (Clean : Whole → Tree → Type 0) : Type 0 where
+pub record AloneRuns (o : EnvOptions) (at : Spot → Bool) (no_all : Bool) (u : Supply) (Clean : Whole → Tree → Type 0) : Type 0 where
   -- of the class
   pub class : {s s' : Ledger} {x y : Open} → Step (alone o) the_program s x s' y → IsProper x → IsProper y → Class (finished x) → Class (finished y)
   -- and of runs, where Clean is kept
-  pub clean : {s s' : Ledger} {x y : Open} → Step (alone o) the_program s x s' y → Known s x → Known s' y → Clean (whole_in s) (finished x) → Clean (whole_in s') (finished y)
-  pub runs : {s s' : Ledger} {x y : Open} → Step (alone o) the_program s x s' y → Known s x → Known s' y → Clean (whole_in s) (finished x) → Clean (whole_in s') (finished y) → StepAlike no_all u (finished x) (finished y)
+  pub clean : {s s' : Ledger} {x y : Open} → Step (only_where at (alone o)) the_program s x s' y → Known s x → Known s' y → Clean (whole_in s) (finished x) → Clean (whole_in s') (finished y)
+  pub runs : {s s' : Ledger} {x y : Open} → Step (only_where at (alone o)) the_program s x s' y → Known s x → Known s' y → Clean (whole_in s) (finished x) → Clean (whole_in s') (finished y) → StepAlike no_all u (finished x) (finished y)
 
 -- exports of namespaces, where they are asked for
 abbrev pub Exports : EnvOptions → Site → Ledger → Spot → Ledger → Spot → Type 0
@@ -104,7 +109,7 @@ pub record NamespaceRuns (o : EnvOptions) (no_all : Bool) (u : Supply) (Clean : 
   pub clean : {s s' : Ledger} {x y : Open} → Step (Exports o) the_program s x s' y → Known s (spread x) → Known s' (spread y) → Clean (whole_in s) (finished x) → Clean (whole_in s') (finished y)
   pub runs : {s s' : Ledger} {x y : Open} → Step (Exports o) the_program s x s' y → Known s (spread x) → Known s' (spread y) → Clean (whole_in s) (finished x) → Clean (whole_in s') (finished y) → StepAlike no_all u (finished x) (finished y)
 
-module _ (o : EnvOptions) (no_all : Bool) (u : Supply) (Clean : Whole → Tree → Type 0) (law : AloneRuns o no_all u Clean) (exports : NamespaceRuns o no_all u Clean) where
+module _ (o : EnvOptions) (at : Spot → Bool) (no_all : Bool) (u : Supply) (Clean : Whole → Tree → Type 0) (law : AloneRuns o at no_all u Clean) (exports : NamespaceRuns o no_all u Clean) where
   -- what is kept of form and places, and the class
   pub record Shaped (x : Open) : Type 0 where
     pub proper : IsProper x
@@ -113,13 +118,23 @@ module _ (o : EnvOptions) (no_all : Bool) (u : Supply) (Clean : Whole → Tree �
     pub class : Class (finished x)
 
   abbrev Split : Ledger → Ledger → Open → Open → Type 0
-  Split s s' x y = Went (Step (alone o) the_program s (spread x) s' (spread y)) (SameBoth s (spread x) s' (spread y)) (Step (Exports o) the_program s x s' y)
+  Split s s' x y = Went (Step (only_where at (alone o)) the_program s (spread x) s' (spread y)) (SameBoth s (spread x) s' (spread y)) (Step (Exports o) the_program s x s' y)
 
-  split : {s s' : Ledger} {x y : Open} → Step (with_further_rules o) the_program s x s' y → Split s s' x y
-  split h = spread-step (alone o) (Exports o) (alone-form o).no_flanks (alone-written o) (step_under (with_further_rules o) (either_rule (alone o) (Exports o)) (told-apart o) h)
+  told-there : (n : Site) (s : Ledger) (x : Spot) (s' : Ledger) (y : Spot) → only_where at (with_further_rules o) n s x s' y → either_rule (only_where at (alone o)) (Exports o) n s x s' y
+  told-there n s x s' y h = either-told (told-apart o n s x s' y h.0)
+    where
+      either-told : either_rule (alone o) (Exports o) n s x s' y → either_rule (only_where at (alone o)) (Exports o) n s x s' y
+      either-told (inl r) = inl (r, h.1)
+      either-told (inr r) = inr r
+
+  split : {s s' : Ledger} {x y : Open} → Step (only_where at (with_further_rules o)) the_program s x s' y → Split s s' x y
+  split h =
+      spread-step (only_where at (alone o)) (Exports o) (λ n s s' t u bs cs r. (alone-form o).no_flanks n s s' t u bs cs r.0) (λ n s s' t bs cs us r. alone-written o n s s' t bs cs us r.0)
+      (step_under (only_where at (with_further_rules o)) (either_rule (only_where at (alone o)) (Exports o)) told-there h)
 
   shaped-after : {s s' : Ledger} (x y : Open) → Split s s' x y → Shaped (spread x) → Shaped (spread y)
-  shaped-after x y (moves r) k =
+  shaped-after x y (moves m) k =
+      let r = anywhere at (alone o) m in
       let next = formed-after (alone o) (alone-form o) r s-Program (λ e. absurd (cc e)) k.proper k.form in
       record {
         proper = next.proper;
@@ -176,13 +191,13 @@ module _ (o : EnvOptions) (no_all : Bool) (u : Supply) (Clean : Whole → Tree �
     rules-there : (s : Ledger) (x : Open) → From s x → IsAlone s → breaks (finished x) ≡ []
     rules-there s x from alone = law_further_rules_proof o source first (whole_in s) x source_form source_rules bound (subst (λ (z : Ledger). From z x) alone from)
 
-    pub composed : (ends : ℕ → Text) {s s' : Ledger} {x x' : Open} → From s x → IsAlone s → Steps (Step (built_rules o) the_program) s x s' x' → ((m : ℕ) → m < (whole_in s').free_symbol → ends m ≡ (whole_in s').called m) → is_var_scope (kind_of (finished x)) ≡ true →
+    pub composed : (ends : ℕ → Text) {s s' : Ledger} {x x' : Open} → From s x → IsAlone s → Steps (Step (only_where at (built_rules o)) the_program) s x s' x' → ((m : ℕ) → m < (whole_in s').free_symbol → ends m ≡ (whole_in s').called m) → is_var_scope (kind_of (finished x)) ≡ true →
         Named (whole_in s).in_use (whole_in s).free_symbol reads (finished x) → LedgerPasses (is_called ends) s → Passes (is_called ends) (finished x) → IsResolved (finished x) → IsClean s' → Shaped (spread x) → Clean (whole_in s) (finished x) → StepAlike no_all u (finished x) (finished x')
     composed ends {x = x} from alone stays end kind used beside names resolved last shaped clean = unchanged no_all u (finished x) (finished x) refl
     composed ends {x = x} {x' = x'} from alone (goes {s = s} {s' = m} {s'' = s'} {u = y} step rest) end kind used beside names resolved last shaped clean =
-        let one = arrows-apart o step refl (subst (λ (t : Tree). Class t) (finished-spread x) shaped.class) in
-        let all = step_under (built_rules o) (AllRules o) (built-all o) step in
-        let later = all_under (built_rules o) (AllRules o) (built-all o) rest in
+        let one = arrows-apart o at step refl (subst (λ (t : Tree). Class t) (finished-spread x) shaped.class) in
+        let all = step_under (only_where at (built_rules o)) (AllRules o) (λ n s x s' y r. built-all o n s x s' y r.0) step in
+        let later = all_under (only_where at (built_rules o)) (AllRules o) (λ n s x s' y r. built-all o n s x s' y r.0) rest in
         let lawful = all-rules-lawful o in
         let writes = all-rules-write o in
         let r = recalled (AllRules o) lawful writes all in
@@ -195,7 +210,7 @@ module _ (o : EnvOptions) (no_all : Bool) (u : Supply) (Clean : Whole → Tree �
         let here = others.clean last in
         let resolved_after = first.resolved here resolved in
         let shaped_after = shaped-after x y (split one) shaped in
-        let from_after = one-more from one in
+        let from_after = one-more from (anywhere at (with_further_rules o) one) in
         let alone_after = alone-after (AllRules o) lawful writes ends all same used names alone here in
         let known = known-of s x shaped alone (rules-there s x from alone) resolved used in
         let known_after = known-of m y shaped_after alone_after (rules-there m y from_after alone_after) resolved_after first.named in

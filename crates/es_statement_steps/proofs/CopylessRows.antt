@@ -1,9 +1,9 @@
 -- The rows put no copy into a chain; and optional chaining keeps runs where the helper of object spread stands in no chain, as it does without helpers.
-use Rattle.std.proofs.Common.{◌≡◌, ℕ, zero, suc, refl, sym, subst, List, [], ◌∷◌}
+use Rattle.std.proofs.Common.{◌≡◌, refl, sym, subst, List, [], ◌∷◌}
 use Rattle.std.proofs.lemmas.Bool.{and_parts, and_from}
-use Rattle.std.specs.Prelude.{Bool, true, false, not, ◌&&◌, bytes_eq, codes}
+use Rattle.std.specs.Prelude.{Bool, true, false, not, ◌&&◌, codes}
 use Rattle.es_tree.specs.Constructs.{any_kind, is_spread}
-use Rattle.es_tree.specs.Fresh.{IsFreshName, candidate}
+use Rattle.es_tree.specs.Fresh.{IsFreshName}
 use Rattle.es_tree.specs.Parens.{without_parens}
 use Rattle.es_tree.specs.Tree.{Tree, node, Label, Fields, done, ◌then◌, Field, missing, one, many, statements, Trees, empty, ◌before◌, kind_of}
 use Rattle.es_tree.specs.Walks.{all_nodes, all_in_field, all_in_fields, all_in_trees}
@@ -25,20 +25,14 @@ use Rattle.es_steps.specs.ObjectSpread.SpreadRule.{spreads}
 use Rattle.es_steps.specs.OptionalChaining.{OptionalChainingRule}
 use Rattle.es_steps.specs.OptionalChaining.OptionalChainingRule.{as_callee, by_tests, in_delete}
 use Rattle.es_steps.specs.Steps.{Site, Whole}
-use Rattle.es_statement_steps.specs.Laws.{no_copy, no_copy_in_chain}
-use Rattle.es_statement_steps.proofs.ApartSenses.{Apart, names_other}
+use Rattle.es_statement_steps.specs.Laws.{names_other, no_copy, no_copy_in_chain}
+use Rattle.es_statement_steps.proofs.ApartSenses.{Apart}
+use Rattle.es_statement_steps.proofs.ChainsFirst.{fresh-other, other_name}
 use Rattle.es_statement_steps.proofs.Catchings.{CatchRow}
 use Rattle.es_statement_steps.proofs.Catchings.CatchMade.{made_catch}
 use Rattle.es_statement_steps.proofs.ChainCopies.{Copyless, CopylessChains, KeepsCopyless}
 use Rattle.es_statement_steps.proofs.MadeOf.{PassesMade, any_name, assigning-of, chaining-of, coalescing-of, is_made_kind, passes-any, raising-of}
 use Rattle.es_statement_steps.proofs.SpreadParts.{is_copy, spread-copy, spread-so}
-
-abbrev other_name : Text → Bool
-other_name x = not (bytes_eq x (codes "babelHelpers"))
-
-fresh-other : (text : Text) (n : ℕ) → other_name (candidate text n) ≡ true
-fresh-other text zero = refl
-fresh-other text (suc n) = refl
 
 copy-passes : PassesMade other_name no_copy
 copy-passes = record { nodes = nodes; names = λ l h. h; fresh = fresh-other; math = refl; pow = refl; call = refl; bind = refl }

@@ -29,19 +29,15 @@ use Rattle.es_steps.specs.Rules.{Replacing, Writing}
 use Rattle.es_steps.specs.Steps.{Ledger, Site, Spot, Step, Whole, site_in, the_program}
 use Rattle.es_steps.proofs.RuleLaws.{writes-lists}
 use Rattle.es_steps.proofs.Taken.{whole_in}
-use Rattle.es_statement_runs.specs.Alike.{SenseLike}
-use Rattle.es_statement_runs.specs.Helpers.Supply.{no_helpers, spread_by_global}
-use Rattle.es_statement_runs.specs.Kinds.{sense}
+use Rattle.es_statement_runs.specs.Helpers.Supply.{spread_by_global}
 use Rattle.es_statement_runs.specs.Laws.{among_names}
-use Rattle.es_statement_runs.specs.Places.{placed_at}
-use Rattle.es_statement_runs.specs.Senses.{Sense}
 use Rattle.es_statement_steps.specs.Laws.{no_copy, no_copy_in_chain}
-use Rattle.es_statement_steps.proofs.ApartSenses.{apart-sense}
 use Rattle.es_statement_steps.proofs.Assignments.{AssigningRow, assigning-shape}
 use Rattle.es_statement_steps.proofs.Below.{both_below, nodes_below}
 use Rattle.es_statement_steps.proofs.Catchings.{CatchRow, catch-rule}
 use Rattle.es_statement_steps.proofs.ChainCopies.{CopylessChains, KeepsCopyless, chains-list}
 use Rattle.es_statement_steps.proofs.ChainPlaces.{chains-program}
+use Rattle.es_statement_steps.proofs.ChainsFirst.{apart-keeps}
 use Rattle.es_statement_steps.proofs.Chainings.{ChainingRow, chaining-shape}
 use Rattle.es_statement_steps.proofs.Coalescings.{CoalescingRow, coalescing-shape}
 use Rattle.es_statement_steps.proofs.Composition.{Known, known-fine}
@@ -49,13 +45,13 @@ use Rattle.es_statement_steps.proofs.CopylessRows.{assigning-copyless, catch-cop
 use Rattle.es_statement_steps.proofs.ExportSplits.{is_export_kind}
 use Rattle.es_statement_steps.proofs.MovedTests.{Alone, form_alone, name_alone}
 use Rattle.es_statement_steps.proofs.MadeNames.{all_made, made_among}
-use Rattle.es_statement_steps.proofs.OperandSteps.{ChainSteady, Suited, chain-steady-inwards, chaining-keeps-steady, steady-program}
+use Rattle.es_statement_steps.proofs.OperandSteps.{ChainSteady, Suited, chain-steady-inwards, steady-program}
 use Rattle.es_statement_steps.proofs.Powers.{RaisingRow, raising-shape}
 use Rattle.es_statement_steps.proofs.Premises.{Inwards, Premise, RowWith, premised-runs}
 use Rattle.es_statement_steps.proofs.ProgramMoves.{MovedProgram, ProgramWent, program-moved}
 use Rattle.es_statement_steps.proofs.BareTests.{fields-bare, source-passes}
 use Rattle.es_statement_steps.proofs.Replacings.{Row, replacing-rule}
-use Rattle.es_statement_steps.proofs.RowRuns.{KeepsRuns, StepAlike, temporaries_frame}
+use Rattle.es_statement_steps.proofs.RowRuns.{KeepsRuns, StepAlike}
 use Rattle.es_statement_steps.proofs.SpreadRuns.{spread-shape}
 use Rattle.es_statement_steps.proofs.StepMoves.{Acted, NodeRule}
 use Rattle.es_statement_steps.proofs.StepRules.{Does, StatementRules, on-does, statement-does, writing-form}
@@ -119,12 +115,7 @@ chain-copyless-inwards n w k l fs h =
 pub chaining-keeps-copyless : (no_all : Bool) → KeepsRuns no_all spread_by_global true (RowWith (ChainingRow no_all) (chaining-shape no_all) ChainCopyless)
 chaining-keeps-copyless no_all = record {
   alike = λ new n whole a b h t taken ds resolved found fine away quiet stack seen w v same known ls x.
-      let none = chain-here no_all n whole new a b h.0.rule h.1.1 in
-      let none_after = (chaining-copyless no_all n whole new a b h.0.rule).copyless none in
-      let F = temporaries_frame true (names_among new) in
-      subst (λ (e : Sense). SenseLike F w v t e (sense (placed_at spread_by_global v ls x) b)) (sym (apart-sense a (copyless-apart a none) w ls x))
-      (subst (λ (e : Sense). SenseLike F w v t (sense (placed_at no_helpers w ls x) a) e) (sym (apart-sense b (copyless-apart b none_after) v ls x))
-      ((chaining-keeps-steady no_all).alike new n whole a b (h.0, h.1.0) t taken ds resolved found fine away quiet stack tt w v same known ls x));
+      apart-keeps no_all new n whole a b (h.0, h.1.0) (copyless-apart a (chain-here no_all n whole new a b h.0.rule h.1.1)) t taken ds resolved found fine away quiet stack w v same known ls x;
 }
 
 pub copyless-runs : (o : EnvOptions) (no_all : Bool) → o.es2020.optional_chaining ≡ true → (s s' : Ledger) (x y : Open) → Step (RowRule (OptionalChainingRule no_all)) the_program s x s' y → Known s x → Known s' y →

@@ -26,6 +26,7 @@ pub mod RaisedTargets
 pub mod RaisedRows
 pub mod ApartSenses
 pub mod ChainCopies
+pub mod ChainsFirst
 pub mod CopylessRows
 pub mod CopylessSteps
 pub mod SameSenses

@@ -23,7 +23,7 @@ use Rattle.es_steps.specs.CoreBridge.{Reached, first_whole}
 use Rattle.es_steps.specs.Identifiers.{Passes, is_called}
 use Rattle.es_steps.specs.Laws.{IsWellBound}
 use Rattle.es_steps.specs.Open.{Open, finished, opened}
-use Rattle.es_steps.specs.Steps.{Whole}
+use Rattle.es_steps.specs.Steps.{Spot, Whole}
 use Rattle.es_steps.specs.Steps.Steps.{stays}
 use Rattle.es_steps.proofs.BridgeInclusion.{all_under}
 use Rattle.es_steps.specs.AllRules.{AllRules}
@@ -43,6 +43,7 @@ use Rattle.es_reached.proofs.BuiltRules.{built-all}
 use Rattle.es_reached.proofs.Sources.{law_bare_source_proof}
 use Rattle.es_statement_runs.specs.Helpers.{Supply, program_list, silent_names}
 use Rattle.es_statement_runs.specs.Programs.{IsStatementProgram, is_statement_node}
+use Rattle.es_statement_steps.specs.Laws.{only_where}
 use Rattle.es_statement_steps.proofs.Composition.{AloneRuns, NamespaceRuns, Shaped, composed}
 use Rattle.es_statement_steps.proofs.Rooms.{IsProgram, program-fields}
 use Rattle.es_statement_steps.proofs.RowRuns.{StepAlike}
@@ -153,27 +154,27 @@ source-alike no_all u p form silent =
 
 -- STEPS
 
-pub reached-runs : (o : EnvOptions) (no_all : Bool) (u : Supply) (Clean : Whole → Tree → Type 0) → AloneRuns o no_all u Clean → NamespaceRuns o no_all u Clean → (p q : Tree) (names : List Text) → IsStatementProgram p → AllSilent u p → Clean (first_whole p) (source p) → Reached (built_rules o) p (first_whole p) names q → StepAlike no_all u p q
-reached-runs o no_all u Clean alone exports p q names h silent clean reached =
+pub reached-runs : (o : EnvOptions) (at : Spot → Bool) (no_all : Bool) (u : Supply) (Clean : Whole → Tree → Type 0) → AloneRuns o at no_all u Clean → NamespaceRuns o no_all u Clean → (p q : Tree) (names : List Text) → IsStatementProgram p → AllSilent u p → Clean (first_whole p) (source p) → Reached (only_where at (built_rules o)) p (first_whole p) names q → StepAlike no_all u p q
+reached-runs o at no_all u Clean alone exports p q names h silent clean reached =
     let w = first_whole p in
     let w' = reached.whole in
     let t = source p in
     let form = source-form p h.form in
     let bound : IsWellBound w t = law_start_proof p w h.form h.rules (λ x e. rw e refl) (omega arith) (λ s. refl) in
-    let steps = all_under (built_rules o) (AllRules o) (built-all o) reached.steps in
+    let steps = all_under (only_where at (built_rules o)) (AllRules o) (λ n s x s' y r. built-all o n s x s' y r.0) reached.steps in
     let r = all-recalled (AllRules o) (all-rules-lawful o) (all-rules-write o) steps in
     let called = called-passes w.called w'.called w.free_symbol r.same w.in_use reads t bound.named bound.called bound.class_names in
     let opens = λ (P : Tree → Type 0) (z : P t). subst P (sym (finished-opened t)) z in
     let places = law_bare_places_proof p t (source-bare p) (law_among_proof p h.rules) in
     let spread_same : finished (spread (opened t)) ≡ t = ap finished (spread-opened t) ∙ finished-opened t in
-    let shaped : Shaped o no_all u Clean alone exports (spread (opened t)) = record {
+    let shaped : Shaped o at no_all u Clean alone exports (spread (opened t)) = record {
       proper = subst (λ (x : Open). IsProper x) (sym (spread-opened t)) (opened-proper t);
       form = subst (λ (x : Tree). has_form s-Program x ≡ true) (sym spread_same) form;
       keeps = subst (λ (x : Tree). Keeps [] x) (sym spread_same) ((law_places_proof t).to_places places);
       class = subst (λ (x : Tree). Class x) (sym spread_same) (source-class p h.without_functions);
     } in
     let rules = rules-bare p t (source-bare p) h.rules in
-    let led = composed o no_all u Clean alone exports t w form rules bound w'.called stays refl reached.steps (λ m e. refl) (ap (λ (a : Tree). is_var_scope (kind_of a)) (finished-opened t) ∙ ap is_var_scope (program-kind t form))
+    let led = composed o at no_all u Clean alone exports t w form rules bound w'.called stays refl reached.steps (λ m e. refl) (ap (λ (a : Tree). is_var_scope (kind_of a)) (finished-opened t) ∙ ap is_var_scope (program-kind t form))
     (opens (λ a. Named w.in_use w.free_symbol reads a) bound.named) (none-beside (is_called w'.called) w) (opens (λ a. Passes (is_called w'.called) a) called) (opens (λ a. IsResolved a) bound.resolved)
     (record { vars = refl; this = refl }) shaped (opens (Clean w) clean) in
     then-alike no_all u p t q (source-alike no_all u p h.form silent) (subst (λ (x : Tree). StepAlike no_all u x q) (finished-opened t) (subst (λ (y : Tree). StepAlike no_all u (finished (opened t)) y) (finished-opened q) led))

@@ -23,6 +23,7 @@ use Rattle.es_steps.specs.Open.{Open, finished}
 use Rattle.es_steps.specs.OptionalChaining.{OptionalChainingRule}
 use Rattle.es_steps.specs.Rules.{Replacing}
 use Rattle.es_steps.specs.Steps.{Ledger, Site, Spot, Step, Whole, the_program}
+use Rattle.es_steps.proofs.BridgeInclusion.{all_under}
 use Rattle.es_steps.proofs.Taken.{whole_in}
 use Rattle.es_valid_steps.proofs.FurtherSteps.{alone}
 use Rattle.es_valid_steps.proofs.Spread.{finished-spread, spread}
@@ -33,10 +34,11 @@ use Rattle.es_statement_runs.specs.Helpers.Supply.{no_helpers, spread_by_global,
 use Rattle.es_statement_runs.specs.Programs.{IsStatementProgram, uses_no_helper}
 use Rattle.es_statement_runs.specs.Runs.{RunAlike}
 use Rattle.es_statement_runs.proofs.Spreads.{has_global_spread}
-use Rattle.es_statement_steps.specs.Laws.{LawStatementRules, TagsAreNoChains, assignments_there, assumes_no_all, chains_there, mixes_helpers, no_copy_in_chain, powers_there, spreads_there}
+use Rattle.es_statement_steps.specs.Laws.{LawStatementRules, TagsAreNoChains, assignments_there, assumes_no_all, chains_first, chains_there, is_before_copies, mixes_helpers, no_copy_in_chain, only_where, powers_there, spreads_there}
 use Rattle.es_statement_steps.proofs.Absent.{Absent, Never, absent-alone, absent-exports, absent-source, no-assignment, no-chain, no-power, no-spread, not-there}
 use Rattle.es_statement_steps.proofs.ChainCopies.{CopylessChains}
-use Rattle.es_statement_steps.proofs.Composition.{AloneRuns, Exports, Known, NamespaceRuns}
+use Rattle.es_statement_steps.proofs.ChainsFirst.{first-runs}
+use Rattle.es_statement_steps.proofs.Composition.{AloneRuns, Exports, Known, NamespaceRuns, anywhere}
 use Rattle.es_statement_steps.proofs.CopylessSteps.{copyless-runs, export-copyless, source-copyless, statement-copyless}
 use Rattle.es_statement_steps.proofs.Exports.{exports-run, exports-so, keyless-parts, namespace-runs}
 use Rattle.es_statement_steps.proofs.KeylessPrograms.{IsKeyless, keyless_silent}
@@ -46,21 +48,28 @@ use Rattle.es_statement_steps.proofs.OperandSteps.{Suited, assigning-runs, chain
 use Rattle.es_statement_steps.proofs.PlainSupplies.{is_core_supply, none-silent}
 use Rattle.es_statement_steps.proofs.ReachedRuns.{AllSilent, reached-runs, source-bare}
 use Rattle.es_statement_steps.proofs.SpreadRuns.{spread-keeps, spread-shape}
-use Rattle.es_statement_steps.proofs.StepRules.{Does, EachDoes, Keeping, Runs, StatementRules, catch-runs, coalescing-runs, off-does, on-does, replacing-runs, statement-does, tamed-step, writing-runs}
+use Rattle.es_statement_steps.proofs.StepRules.{Does, EachDoesWhere, Keeping, Runs, StatementRules, catch-runs, chains_under, coalescing-runs, off-does, on-does, on-where-does, replacing-runs, statement-does-where, tamed-step, tamed-where, where-does, writing-runs}
 
 -- THE LAW, from what each rule does and what is kept of a program on the way
 
-module _ (o : EnvOptions) (no_all : Bool) (u : Supply) (Clean : Whole → Tree → Type 0) (quiet : (w : Whole) (t : Tree) → Clean w t → silent_names u t ≡ [])
-    (each : EachDoes (Keeping no_all u Clean quiet) o) (clean : (s s' : Ledger) (x y : Open) → Step (alone o) the_program s x s' y → Known s x → Known s' y → Clean (whole_in s) (finished x) → Clean (whole_in s') (finished y)) (exports : NamespaceRuns o no_all u Clean) where
-  alone-runs : AloneRuns o no_all u Clean
+module _ (o : EnvOptions) (at : Spot → Bool) (no_all : Bool) (u : Supply) (Clean : Whole → Tree → Type 0) (quiet : (w : Whole) (t : Tree) → Clean w t → silent_names u t ≡ [])
+    (each : EachDoesWhere (Keeping no_all u Clean quiet) o at) (clean : (s s' : Ledger) (x y : Open) → Step (alone o) the_program s x s' y → Known s x → Known s' y → Clean (whole_in s) (finished x) → Clean (whole_in s') (finished y)) (exports : NamespaceRuns o no_all u Clean) where
+  alone-runs : AloneRuns o at no_all u Clean
   alone-runs = record {
     class = λ h proper after class. (tamed-step o h proper after class).1;
-    clean = λ h k m c. clean _ _ _ _ h k m c;
-    runs = λ h k m c d. statement-does (Keeping no_all u Clean quiet) o each _ _ _ _ (tamed-step o h k.proper m.proper k.class).0 k m c d;
+    clean = λ h k m c. clean _ _ _ _ (anywhere at (alone o) h) k m c;
+    runs = λ h k m c d. statement-does-where (Keeping no_all u Clean quiet) o at each _ _ _ _ (tamed-where o at h k.proper m.proper k.class) k m c d;
   }
 
-  rules-run : (p q : Tree) (names : List Text) → IsStatementProgram p → AllSilent u p → Clean (first_whole p) (source p) → Reached (built_rules o) p (first_whole p) names q → RunAlike u no_all p q
-  rules-run p q names h silent first reached = (reached-runs o no_all u Clean alone-runs exports p q names h silent first reached).runs
+  rules-run : (p q : Tree) (names : List Text) → IsStatementProgram p → AllSilent u p → Clean (first_whole p) (source p) → Reached (only_where at (built_rules o)) p (first_whole p) names q → RunAlike u no_all p q
+  rules-run p q names h silent first reached = (reached-runs o at no_all u Clean alone-runs exports p q names h silent first reached).runs
+
+-- steps at whatever places
+abbrev all_places : Spot → Bool
+all_places x = true
+
+reached-anywhere : (o : EnvOptions) (p : Tree) (w : Whole) (names : List Text) (q : Tree) → Reached (built_rules o) p w names q → Reached (only_where all_places (built_rules o)) p w names q
+reached-anywhere o p w names q h = record { whole = h.whole; steps = all_under (built_rules o) (only_where all_places (built_rules o)) (λ n s x s' y r. (r, refl)) h.steps; made = h.made }
 
 -- WHAT A PROGRAM LACKS none has on the way, so that what is asked of programs may tell it, too
 
@@ -97,12 +106,12 @@ module _ (o : EnvOptions) (no_all : Bool) (p : Tree) (off : NoneBeside o p) wher
   helped-silent : (w : Whole) (t : Tree) → Helped w t → silent_names by_global t ≡ []
   helped-silent w t h = without-keys-silent w t h.0
 
-  helped-does : EachDoes (Keeping no_all by_global Helped helped-silent) o
+  helped-does : EachDoesWhere (Keeping no_all by_global Helped helped-silent) o all_places
   helped-does = record {
     writing = writing-runs no_all by_global Helped helped-silent o;
     assigning = resting no_all by_global p IsWithoutKeys without-keys-silent o.es2021.logical_assignment_operators _ (RowRule LogicalAssignmentRule) off.assignments (no-assignment p);
     coalescing = coalescing-runs no_all by_global Helped helped-silent;
-    chaining = resting no_all by_global p IsWithoutKeys without-keys-silent o.es2020.optional_chaining _ (RowRule (OptionalChainingRule o.assumptions.no_document_all)) off.chains (no-chain o.assumptions.no_document_all p);
+    chaining = where-does (Keeping no_all by_global Helped helped-silent) all_places (chains_under o) (resting no_all by_global p IsWithoutKeys without-keys-silent o.es2020.optional_chaining _ (RowRule (OptionalChainingRule o.assumptions.no_document_all)) off.chains (no-chain o.assumptions.no_document_all p));
     raising = resting no_all by_global p IsWithoutKeys without-keys-silent o.es2016.exponentiation_operator _ (RowRule ExponentiationRule) off.powers (no-power p);
     catching = catch-runs no_all by_global Helped helped-silent;
     spreading = on-does (Keeping no_all by_global Helped helped-silent) (is_some o.es2018.object_rest_spread) (Replacing SpreadRule) (replacing-runs no_all by_global Helped helped-silent SpreadRule spread-shape (spread-keeps no_all by_global refl));
@@ -114,14 +123,14 @@ module _ (o : EnvOptions) (no_all : Bool) (p : Tree) (off : NoneBeside o p) wher
   helped-run : (q : Tree) (names : List Text) → IsStatementProgram p → uses_no_helper by_global p ≡ true → Reached (built_rules o) p (first_whole p) names q → RunAlike by_global no_all p q
   helped-run q names h none reached =
       let keyless : IsKeyless (source p) = named-keyless (length (symbols_of p)) (is_among (names_of p)) (not-so (is_among (names_of p) (codes "babelHelpers")) none) reads (source p) (law_named_proof p (is_among (names_of p)) (length (symbols_of p)) h.form h.rules (λ x e. e) (omega arith)) in
-      rules-run o no_all by_global Helped helped-silent helped-does (λ s s' x y r k m c. (statement-keyless p o off s s' x y (tamed-step o r k.proper m.proper k.class).0 k m c.1 c.0, absent-alone o p r k.alone c.1)) helped-exports
-      p q names h (λ t e. keyless_silent t (same-keyless t (source p) (e ∙ source-bare p) keyless)) (keyless, absent-source p) reached
+      rules-run o all_places no_all by_global Helped helped-silent helped-does (λ s s' x y r k m c. (statement-keyless p o off s s' x y (tamed-step o r k.proper m.proper k.class).0 k m c.1 c.0, absent-alone o p r k.alone c.1)) helped-exports
+      p q names h (λ t e. keyless_silent t (same-keyless t (source p) (e ∙ source-bare p) keyless)) (keyless, absent-source p) (reached-anywhere o p (first_whole p) names q reached)
     where
       not-so : (b : Bool) → not b ≡ true → b ≡ false
       not-so true h = absurd (cc h)
       not-so false h = refl
 
--- WITHOUT HELPERS, or with that of object spread alone; where chains act beside that, none holds a copy
+-- WITHOUT HELPERS, or with that of object spread alone; where chains act beside that, none holds a copy, or each acts before the copies in it
 
 abbrev ChainsAsked : Bool → Tree → Type 0
 ChainsAsked true t = CopylessChains t
@@ -138,7 +147,7 @@ asked-export : (o : EnvOptions) (asked : Bool) {s s' : Ledger} {x y : Open} → 
 asked-export o true {x = x} h k c = exports-so no_copy_in_chain export-copyless o h (subst (λ (t : Tree). has_form s-Program t ≡ true) (finished-spread x) k.form) c
 asked-export o false h k c = tt
 
-module _ (o : EnvOptions) (p : Tree) (no_all : Bool) (u : Supply) (plain : is_core_supply u ≡ true) (asked : Bool) where
+module _ (o : EnvOptions) (p : Tree) (no_all : Bool) (u : Supply) (plain : is_core_supply u ≡ true) (asked : Bool) (at : Spot → Bool) where
   plain-silent : (w : Whole) (t : Tree) → Plain o asked w t → silent_names u t ≡ []
   plain-silent w t h = none-silent u plain t
 
@@ -152,7 +161,7 @@ module _ (o : EnvOptions) (p : Tree) (no_all : Bool) (u : Supply) (plain : is_co
   Chaining = RowRule (OptionalChainingRule o.assumptions.no_document_all)
 
   abbrev Chains : Type 0
-  Chains = Does PlainKept (where_on o.es2020.optional_chaining Chaining)
+  Chains = Does PlainKept (only_where at (chains_under o))
 
   abbrev Spreads : Type 0
   Spreads = Does PlainKept (where_on (is_some o.es2018.object_rest_spread) (Replacing SpreadRule))
@@ -166,7 +175,7 @@ module _ (o : EnvOptions) (p : Tree) (no_all : Bool) (u : Supply) (plain : is_co
   plain-rests : (on there : Bool) (R : Site → Ledger → Spot → Ledger → Spot → Type 0) → (on && there) ≡ false → (there ≡ false → Never p R) → Does PlainKept (where_on on R)
   plain-rests = resting no_all u p (Plain o asked) plain-silent
 
-  plain-does : Chains → Spreads → EachDoes PlainKept o
+  plain-does : Chains → Spreads → EachDoesWhere PlainKept o at
   plain-does chains spreads = record {
     writing = writing-runs no_all u (Lacking p (Plain o asked)) kept-silent o;
     assigning = on-does PlainKept o.es2021.logical_assignment_operators (RowRule LogicalAssignmentRule) (suited-acts (RowRule LogicalAssignmentRule) (assigning-runs o u plain no_all));
@@ -181,14 +190,14 @@ module _ (o : EnvOptions) (p : Tree) (no_all : Bool) (u : Supply) (plain : is_co
   plain-exports = namespace-runs o no_all u (λ t. Unit {0}) (λ t h. none-silent u plain t) (λ x l ds body after parts c. (tt, tt)) (Lacking p (Plain o asked)) (λ w t c. tt)
       (λ s s' x y h k m c. ((suited-export o s s' x y h k m c.0.0, asked-export o asked h k c.0.1), absent-exports o p h k.alone c.1))
 
-  plain-run : Chains → Spreads → (q : Tree) (names : List Text) → IsStatementProgram p → TagsAreNoChains o p → ChainsAsked asked (source p) → Reached (built_rules o) p (first_whole p) names q → RunAlike u no_all p q
+  plain-run : Chains → Spreads → (q : Tree) (names : List Text) → IsStatementProgram p → TagsAreNoChains o p → ChainsAsked asked (source p) → Reached (only_where at (built_rules o)) p (first_whole p) names q → RunAlike u no_all p q
   plain-run chains spreads q names h untagged copyless reached =
-      rules-run o no_all u (Lacking p (Plain o asked)) kept-silent (plain-does chains spreads)
+      rules-run o at no_all u (Lacking p (Plain o asked)) kept-silent (plain-does chains spreads)
       (λ s s' x y r k m c. ((suited-step o s s' x y r k m c.0.0, asked-after o asked (tamed-step o r k.proper m.proper k.class).0 k m c.0.1), absent-alone o p r k.alone c.1)) plain-exports p q names h (λ t e. none-silent u plain t) ((suited-start o p h untagged, copyless), absent-source p) reached
 
   -- rows that don't act
   no-chains : chains_there o p ≡ false → Chains
-  no-chains off = plain-rests o.es2020.optional_chaining _ Chaining off (no-chain o.assumptions.no_document_all p)
+  no-chains off = where-does PlainKept at (chains_under o) (plain-rests o.es2020.optional_chaining _ Chaining off (no-chain o.assumptions.no_document_all p))
 
   no-spreads : spreads_there o p ≡ false → Spreads
   no-spreads off = plain-rests (is_some o.es2018.object_rest_spread) _ (Replacing SpreadRule) off (no-spread p)
@@ -198,18 +207,24 @@ module _ (o : EnvOptions) (p : Tree) (no_all : Bool) (u : Supply) (plain : is_co
   with-spreads has = on-does PlainKept (is_some o.es2018.object_rest_spread) (Replacing SpreadRule) (replacing-runs no_all u (Lacking p (Plain o asked)) kept-silent SpreadRule spread-shape (spread-keeps no_all u has))
 
 -- chains, where what they assume is assumed
-module _ (o : EnvOptions) (p : Tree) (u : Supply) (plain : is_core_supply u ≡ true) (asked : Bool) (runs : o.es2020.optional_chaining ≡ true → Runs o.assumptions.no_document_all u (Plain o asked) (plain-silent o p (assumes_no_all o p) u plain asked) (RowRule (OptionalChainingRule o.assumptions.no_document_all))) where
+module _ (o : EnvOptions) (p : Tree) (u : Supply) (plain : is_core_supply u ≡ true) (asked : Bool) (at : Spot → Bool) (runs : o.es2020.optional_chaining ≡ true → Runs o.assumptions.no_document_all u (Plain o asked) (plain-silent o p (assumes_no_all o p) u plain asked at) (only_where at (RowRule (OptionalChainingRule o.assumptions.no_document_all)))) where
   abbrev assumed : Bool
   assumed = assumes_no_all o p
 
-  with-chains : Chains o p assumed u plain asked
-  with-chains = at o.es2020.optional_chaining (any_node (is_sought of_chains) p) refl refl
+  abbrev Kept-there : Ledger → Ledger → Open → Open → Type 0
+  Kept-there = PlainKept o p assumed u plain asked at
+
+  abbrev Row-there : Site → Ledger → Spot → Ledger → Spot → Type 0
+  Row-there = Chaining o p assumed u plain asked at
+
+  with-chains : Chains o p assumed u plain asked at
+  with-chains = chosen o.es2020.optional_chaining (any_node (is_sought of_chains) p) refl refl
     where
-      at : (on there : Bool) → o.es2020.optional_chaining ≡ on → any_node (is_sought of_chains) p ≡ there → Chains o p assumed u plain asked
-      at true true e d = on-does (PlainKept o p assumed u plain asked) o.es2020.optional_chaining (Chaining o p assumed u plain asked) (plain-acts o p assumed u plain asked (Chaining o p assumed u plain asked)
-          (subst (λ (no_all : Bool). Runs no_all u (Plain o asked) (plain-silent o p assumed u plain asked) (RowRule (OptionalChainingRule o.assumptions.no_document_all))) (λ i. (sym e i && sym d i) && o.assumptions.no_document_all) (runs e)))
-      at true false e d = plain-rests o p assumed u plain asked o.es2020.optional_chaining false (Chaining o p assumed u plain asked) (λ i. e i && false) (λ r. no-chain o.assumptions.no_document_all p d)
-      at false there e d = off-does (PlainKept o p assumed u plain asked) o.es2020.optional_chaining (Chaining o p assumed u plain asked) e
+      chosen : (on there : Bool) → o.es2020.optional_chaining ≡ on → any_node (is_sought of_chains) p ≡ there → Chains o p assumed u plain asked at
+      chosen true true e d = on-where-does Kept-there o.es2020.optional_chaining at Row-there (plain-acts o p assumed u plain asked at (only_where at Row-there)
+          (subst (λ (no_all : Bool). Runs no_all u (Plain o asked) (plain-silent o p assumed u plain asked at) (only_where at Row-there)) (λ i. (sym e i && sym d i) && o.assumptions.no_document_all) (runs e)))
+      chosen true false e d = where-does Kept-there at (chains_under o) (plain-rests o p assumed u plain asked at o.es2020.optional_chaining false Row-there (λ i. e i && false) (λ r. no-chain o.assumptions.no_document_all p d))
+      chosen false there e d = where-does Kept-there at (chains_under o) (off-does Kept-there o.es2020.optional_chaining Row-there e)
 
 -- WHAT STANDS BESIDE HELPERS
 
@@ -223,15 +238,39 @@ copyless-beside o p e d h = source-copyless p (not-false (all_nodes no_copy_in_c
 
 -- THE LAW
 
+module _ (o : EnvOptions) (p q : Tree) (names : List Text) (h : IsStatementProgram p) (untagged : TagsAreNoChains o p) where
+  abbrev assumes : Bool
+  assumes = assumes_no_all o p
+
+  -- object spread beside chains: none holds a copy, or each is lowered before the copies in it
+  beside-chains : spreads_there o p ≡ true → chains_there o p ≡ true → (mixes_helpers o p ≡ true → Reached (chains_first o) p (first_whole p) names q) → Reached (built_rules o) p (first_whole p) names q → RunAlike spread_by_global assumes p q
+  beside-chains e d first reached = chosen (mixes_helpers o p) refl
+    where
+      chosen : (b : Bool) → mixes_helpers o p ≡ b → RunAlike spread_by_global assumes p q
+      chosen false off = plain-run o p assumes spread_by_global refl true all_places
+          (with-chains o p spread_by_global refl true all_places (λ a s s' x y r k m c d. copyless-runs o o.assumptions.no_document_all a s s' x y (anywhere all_places (RowRule (OptionalChainingRule o.assumptions.no_document_all)) r) k m c d))
+          (with-spreads o p assumes spread_by_global refl true all_places refl) q names h untagged (copyless-beside o p e d off) (reached-anywhere o p (first_whole p) names q reached)
+      chosen true on = plain-run o p assumes spread_by_global refl false is_before_copies
+          (with-chains o p spread_by_global refl false is_before_copies (λ a s s' x y r k m c d. first-runs o o.assumptions.no_document_all a s s' x y r k m c.0))
+          (with-spreads o p assumes spread_by_global refl false is_before_copies refl) q names h untagged tt (first on)
+
+  -- object spread beside assignments and powers, and the others without helpers
+  without-chains : chains_there o p ≡ false → Reached (built_rules o) p (first_whole p) names q → RunAlike spread_by_global assumes p q
+  without-chains d reached = plain-run o p assumes spread_by_global refl false all_places (no-chains o p assumes spread_by_global refl false all_places d) (with-spreads o p assumes spread_by_global refl false all_places refl) q names h untagged tt (reached-anywhere o p (first_whole p) names q reached)
+
+  without-spreads : spreads_there o p ≡ false → Reached (built_rules o) p (first_whole p) names q → RunAlike no_helpers assumes p q
+  without-spreads e reached = plain-run o p assumes no_helpers refl false all_places
+      (with-chains o p no_helpers refl false all_places (λ a s s' x y r k m c d. chaining-runs o o.assumptions.no_document_all a s s' x y (anywhere all_places (RowRule (OptionalChainingRule o.assumptions.no_document_all)) r) k m c.0 d.0))
+      (no-spreads o p assumes no_helpers refl false all_places e) q names h untagged tt (reached-anywhere o p (first_whole p) names q reached)
+
 pub law_statement_rules_proof : LawStatementRules
-law_statement_rules_proof o p q names h off untagged none reached = at (spreads_there o p) (chains_there o p) (assignments_there o p || powers_there o p) refl refl refl none
+law_statement_rules_proof o p q names h first untagged none reached = chosen (spreads_there o p) (chains_there o p) (assignments_there o p || powers_there o p) refl refl refl none
   where
-    at : (b d c : Bool) → spreads_there o p ≡ b → chains_there o p ≡ d → (assignments_there o p || powers_there o p) ≡ c → uses_no_helper (if b then (if d || c then spread_by_global else by_global) else no_helpers) p ≡ true →
+    chosen : (b d c : Bool) → spreads_there o p ≡ b → chains_there o p ≡ d → (assignments_there o p || powers_there o p) ≡ c → uses_no_helper (if b then (if d || c then spread_by_global else by_global) else no_helpers) p ≡ true →
         RunAlike (if b then (if d || c then spread_by_global else by_global) else no_helpers) (assumes_no_all o p) p q
-    at true true c e d g none = plain-run o p (assumes_no_all o p) spread_by_global refl true (with-chains o p spread_by_global refl true (λ a s s' x y r k m c d. copyless-runs o o.assumptions.no_document_all a s s' x y r k m c d))
-        (with-spreads o p (assumes_no_all o p) spread_by_global refl true refl) q names h untagged (copyless-beside o p e d off) reached
-    at true false true e d g none = plain-run o p (assumes_no_all o p) spread_by_global refl false (no-chains o p (assumes_no_all o p) spread_by_global refl false d) (with-spreads o p (assumes_no_all o p) spread_by_global refl false refl) q names h untagged tt reached
-    at true false false e d g none =
+    chosen true true c e d g none = beside-chains o p q names h untagged e d first reached
+    chosen true false true e d g none = without-chains o p q names h untagged d reached
+    chosen true false false e d g none =
         let v = or_parts (assignments_there o p) (powers_there o p) g in
         helped-run o (assumes_no_all o p) p (record { chains = d; assignments = v.0; powers = v.1 }) q names h none reached
-    at false d c e f g none = plain-run o p (assumes_no_all o p) no_helpers refl false (with-chains o p no_helpers refl false (λ a s s' x y r k m c d. chaining-runs o o.assumptions.no_document_all a s s' x y r k m c.0 d.0)) (no-spreads o p (assumes_no_all o p) no_helpers refl false e) q names h untagged tt reached
+    chosen false d c e f g none = without-spreads o p q names h untagged e reached

@@ -31,9 +31,10 @@ use Rattle.es_steps.proofs.Taken.{whole_in}
 use Rattle.es_valid_steps.proofs.FurtherSteps.{alone, alone-form}
 use Rattle.es_statement_runs.specs.Helpers.{Supply, silent_names}
 use Rattle.es_statement_runs.specs.Programs.{is_statement_node}
+use Rattle.es_statement_steps.specs.Laws.{only_where}
 use Rattle.es_statement_steps.proofs.Catchings.{CatchRow, catch-keeps, catch-rule, catch-stays}
 use Rattle.es_statement_steps.proofs.Coalescings.{CoalescingRow, coalescing-keeps, coalescing-shape}
-use Rattle.es_statement_steps.proofs.Composition.{Known, known-fine}
+use Rattle.es_statement_steps.proofs.Composition.{Known, anywhere, known-fine}
 use Rattle.es_statement_steps.proofs.MadeOf.{PassesMade, any_name, assigning-of, chaining-of, coalescing-of, is_made_kind, passes-any, raising-of}
 use Rattle.es_statement_steps.proofs.NoSteps.{off-step}
 use Rattle.es_statement_steps.proofs.ProgramMoves.{program-moved}
@@ -52,6 +53,15 @@ FurtherRules o = either_rule (where_on o.es2019.optional_catch_binding CatchRule
 
 abbrev pub StatementRules : EnvOptions → Site → Ledger → Spot → Ledger → Spot → Type 0
 StatementRules o = either_rule Writing (either_rule (rows_under o) (FurtherRules o))
+
+-- that of chains, and the rules with another in its place
+abbrev pub chains_under : EnvOptions → Site → Ledger → Spot → Ledger → Spot → Type 0
+chains_under o = where_on o.es2020.optional_chaining (RowRule (OptionalChainingRule o.assumptions.no_document_all))
+
+abbrev pub rules_by : EnvOptions → (Site → Ledger → Spot → Ledger → Spot → Type 0) → Site → Ledger → Spot → Ledger → Spot → Type 0
+rules_by o Chains =
+    either_rule Writing (either_rule (either_rule (where_on o.es2021.logical_assignment_operators (RowRule LogicalAssignmentRule))
+    (either_rule (either_rule (where_on o.es2020.nullish_coalescing_operator (RowRule NullishCoalescingRule)) Chains) (where_on o.es2016.exponentiation_operator (RowRule ExponentiationRule)))) (FurtherRules o))
 
 pub on-rule : (b : Bool) (R : Site → Ledger → Spot → Ledger → Spot → Type 0) (n : Site) (s s' : Ledger) (x y : Spot) → where_on b R n s x s' y → R n s x s' y
 on-rule true R n s s' x y h = h
@@ -145,6 +155,13 @@ module _ (o : EnvOptions) where
   pub tamed-step : {s s' : Ledger} {x y : Open} → Step (alone o) the_program s x s' y → IsProper x → IsProper y → Class (finished x) → Step (StatementRules o) the_program s x s' y × Class (finished y)
   tamed-step h proper after class = tamed (alone o) (StatementRules o) (alone-form o) tame-alone h none-above proper after class
 
+  -- at some places alone
+  tame-where : (at : Spot → Bool) → Tame (only_where at (alone o)) (only_where at (StatementRules o))
+  tame-where at = record {
+    nodes = λ n s s' t u slot h c. let r = tame-nodes n s s' t u slot h.0 c in ((r.0, h.1), r.1);
+    lists = λ n s s' p q x y a b ts us h. (tame-lists n s s' p q x y a b ts us h.0, h.1);
+  }
+
 -- a part of a rule keeps form as the rule does
 under-form : (R Q : Site → Ledger → Spot → Ledger → Spot → Type 0) → ((n : Site) (s : Ledger) (x : Spot) (s' : Ledger) (y : Spot) → R n s x s' y → Q n s x s' y) → FormLawful Q → FormLawful R
 under-form R Q under law = record {
@@ -161,6 +178,9 @@ statement-alone o n s x s' y (inr (inr h)) = inr h
 
 pub statement-form : (o : EnvOptions) → FormLawful (StatementRules o)
 statement-form o = under-form (StatementRules o) (alone o) (statement-alone o) (alone-form o)
+
+pub tamed-where : (o : EnvOptions) (at : Spot → Bool) {s s' : Ledger} {x y : Open} → Step (only_where at (alone o)) the_program s x s' y → IsProper x → IsProper y → Class (finished x) → Step (only_where at (StatementRules o)) the_program s x s' y
+tamed-where o at h proper after class = (tamed (only_where at (alone o)) (only_where at (StatementRules o)) (under-form (only_where at (alone o)) (alone o) (λ n s x s' y r. r.0) (alone-form o)) (tame-where o at) h none-above proper after class).0
 
 pub writing-form : (o : EnvOptions) → FormLawful Writing
 writing-form o = under-form Writing (alone o) (λ n s x s' y h. inl (inl h)) (alone-form o)
@@ -184,39 +204,73 @@ module _ (P : Ledger → Ledger → Open → Open → Type 0) where
       at (inl r) = first s s' x y r
       at (inr r) = second s s' x y r
 
-  -- of each rule, where options ask for it
-  pub record EachDoes (o : EnvOptions) : Type 0 where
+  -- at some places alone
+  pub where-does : (at : Spot → Bool) (R : Site → Ledger → Spot → Ledger → Spot → Type 0) → Does R → Does (only_where at R)
+  where-does at R does s s' x y h = does s s' x y (anywhere at R h)
+
+  pub on-where-does : (b : Bool) (at : Spot → Bool) (R : Site → Ledger → Spot → Ledger → Spot → Type 0) → Does (only_where at R) → Does (only_where at (where_on b R))
+  on-where-does b at R does s s' x y h = does s s' x y (step_under (only_where at (where_on b R)) (only_where at R) (λ n s x s' y r. (on-rule b R n s s' x y r.0, r.1)) h)
+
+  -- of each rule, where options ask for it, and of this one of chains
+  pub record EachDoesBy (o : EnvOptions) (Chains : Site → Ledger → Spot → Ledger → Spot → Type 0) : Type 0 where
     pub writing : Does Writing
     pub assigning : Does (where_on o.es2021.logical_assignment_operators (RowRule LogicalAssignmentRule))
     pub coalescing : Does (RowRule NullishCoalescingRule)
-    pub chaining : Does (where_on o.es2020.optional_chaining (RowRule (OptionalChainingRule o.assumptions.no_document_all)))
+    pub chaining : Does Chains
     pub raising : Does (where_on o.es2016.exponentiation_operator (RowRule ExponentiationRule))
     pub catching : Does CatchRule
     pub spreading : Does (where_on (is_some o.es2018.object_rest_spread) (Replacing SpreadRule))
 
-  module _ (o : EnvOptions) (each : EachDoes o) where
+  abbrev pub EachDoes : EnvOptions → Type 0
+  EachDoes o = EachDoesBy o (chains_under o)
+
+  module _ (o : EnvOptions) (Chains : Site → Ledger → Spot → Ledger → Spot → Type 0) (each : EachDoesBy o Chains) where
     abbrev Assigning : Site → Ledger → Spot → Ledger → Spot → Type 0
     Assigning = where_on o.es2021.logical_assignment_operators (RowRule LogicalAssignmentRule)
 
     abbrev Coalescing : Site → Ledger → Spot → Ledger → Spot → Type 0
     Coalescing = where_on o.es2020.nullish_coalescing_operator (RowRule NullishCoalescingRule)
 
-    abbrev Chaining : Site → Ledger → Spot → Ledger → Spot → Type 0
-    Chaining = where_on o.es2020.optional_chaining (RowRule (OptionalChainingRule o.assumptions.no_document_all))
-
     abbrev Raising : Site → Ledger → Spot → Ledger → Spot → Type 0
     Raising = where_on o.es2016.exponentiation_operator (RowRule ExponentiationRule)
 
-    rows-does : Does (rows_under o)
-    rows-does =
-        either-does Assigning (either_rule (either_rule Coalescing Chaining) Raising) each.assigning
-        (either-does (either_rule Coalescing Chaining) Raising
-        (either-does Coalescing Chaining (on-does o.es2020.nullish_coalescing_operator (RowRule NullishCoalescingRule) each.coalescing) each.chaining) each.raising)
+    abbrev Rows : Site → Ledger → Spot → Ledger → Spot → Type 0
+    Rows = either_rule Assigning (either_rule (either_rule Coalescing Chains) Raising)
 
-    pub statement-does : Does (StatementRules o)
-    statement-does =
-        either-does Writing (either_rule (rows_under o) (FurtherRules o)) each.writing (either-does (rows_under o) (FurtherRules o) rows-does
+    rows-does : Does Rows
+    rows-does =
+        either-does Assigning (either_rule (either_rule Coalescing Chains) Raising) each.assigning
+        (either-does (either_rule Coalescing Chains) Raising
+        (either-does Coalescing Chains (on-does o.es2020.nullish_coalescing_operator (RowRule NullishCoalescingRule) each.coalescing) each.chaining) each.raising)
+
+    does-by : Does (rules_by o Chains)
+    does-by =
+        either-does Writing (either_rule Rows (FurtherRules o)) each.writing (either-does Rows (FurtherRules o) rows-does
         (either-does (where_on o.es2019.optional_catch_binding CatchRule) (where_on (is_some o.es2018.object_rest_spread) (Replacing SpreadRule)) (on-does o.es2019.optional_catch_binding CatchRule each.catching) each.spreading))
+
+  module _ (o : EnvOptions) where
+    pub statement-does : EachDoes o → Does (StatementRules o)
+    statement-does each = does-by o (chains_under o) each
+
+    -- and at some places alone, from what chains do there
+    module _ (at : Spot → Bool) where
+      abbrev pub EachDoesWhere : Type 0
+      EachDoesWhere = EachDoesBy o (only_where at (chains_under o))
+
+      chains-there : (n : Site) (s : Ledger) (x : Spot) (s' : Ledger) (y : Spot) → only_where at (StatementRules o) n s x s' y → rules_by o (only_where at (chains_under o)) n s x s' y
+      chains-there n s x s' y h = by-rule h.0
+        where
+          by-rule : StatementRules o n s x s' y → rules_by o (only_where at (chains_under o)) n s x s' y
+          by-rule (inl r) = inl r
+          by-rule (inr (inl (inl r))) = inr (inl (inl r))
+          by-rule (inr (inl (inr (inl (inl r))))) = inr (inl (inr (inl (inl r))))
+          by-rule (inr (inl (inr (inl (inr r))))) = inr (inl (inr (inl (inr (r, h.1)))))
+          by-rule (inr (inl (inr (inr r)))) = inr (inl (inr (inr r)))
+          by-rule (inr (inr r)) = inr (inr r)
+
+      pub statement-does-where : EachDoesWhere → Does (only_where at (StatementRules o))
+      statement-does-where each s s' x y h =
+          does-by o (only_where at (chains_under o)) each s s' x y (step_under (only_where at (StatementRules o)) (rules_by o (only_where at (chains_under o))) chains-there h)
 
 -- WHAT EACH DOES TO RUNS
 

@@ -4,8 +4,8 @@
 
 ghost use Rattle.es_statement_steps.specs.Laws.{LawStatementResult, LawStatementRules};
 
-/// A valid program of the class runs as what steps of the built lowerings reach from it, of whatever operands its expressions are, where
-/// no spread of an object literal stands in a chain if both are lowered, and no tag is a chain.
+/// A valid program of the class runs as what steps of the built lowerings reach from it, of whatever operands its expressions are. No tag
+/// is a chain, and where spreads stand in chains and both are lowered each chain is before the spreads in it.
 pub fn law_statement_rules()
     ensures { LawStatementRules }
 {}
