@@ -24,7 +24,7 @@ use Rattle.es_statement_runs.specs.Senses.More.{aims, helper_call, keys_of, maps
 use Rattle.es_statement_runs.specs.Senses.Portion.{alone, gap, rows}
 use Rattle.es_statement_runs.specs.Stacks.{Scope}
 use Rattle.es_statement_runs.specs.StatementParts.{declarator_by}
-use Rattle.es_statement_steps.specs.Laws.{names_other}
+use Rattle.es_statement_steps.specs.Orders.{names_other}
 use Rattle.es_statement_steps.proofs.PlainSupplies.{member-plainly}
 
 abbrev pub quietly : Place → Place

@@ -26,7 +26,7 @@ use Rattle.es_valid_steps.specs.Laws.{with_further_rules}
 use Rattle.es_reached.specs.Reached.{built_rules}
 use Rattle.es_reached.proofs.BuiltRules.{arrow-nodes, arrow-rule}
 use Rattle.es_statement_runs.specs.Programs.{is_statement_kind, is_statement_node}
-use Rattle.es_statement_steps.specs.Laws.{only_where}
+use Rattle.es_statement_steps.specs.Orders.{only_where}
 use Rattle.es_statement_steps.proofs.Below.{Below, BelowField, BelowTrees, nodes_below}
 use Rattle.es_statement_steps.proofs.StepMoves.{below-after, below-joined}
 use Rattle.es_statement_steps.proofs.Tamed.{Class, node-kind}

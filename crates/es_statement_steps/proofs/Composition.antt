@@ -45,7 +45,7 @@ use Rattle.es_reached.specs.Reached.{built_rules}
 use Rattle.es_reached.proofs.BuiltRules.{built-all}
 use Rattle.es_statement_runs.specs.Helpers.{Supply}
 use Rattle.es_statement_runs.proofs.Composing.{law_then_proof}
-use Rattle.es_statement_steps.specs.Laws.{only_where}
+use Rattle.es_statement_steps.specs.Orders.{only_where}
 use Rattle.es_statement_steps.proofs.Arrowless.{arrows-apart}
 use Rattle.es_statement_steps.proofs.NothingBeside.{IsAlone, alone-after, one-more}
 use Rattle.es_statement_steps.proofs.RowRuns.{StepAlike, unchanged}

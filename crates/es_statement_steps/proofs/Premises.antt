@@ -21,7 +21,7 @@ use Rattle.es_steps.proofs.Opened.{finished-opened}
 use Rattle.es_steps.proofs.Taken.{whole_in}
 use Rattle.es_statement_runs.specs.Helpers.{Supply, silent_names}
 use Rattle.es_statement_runs.specs.Programs.{is_statement_node}
-use Rattle.es_statement_steps.specs.Laws.{only_where}
+use Rattle.es_statement_steps.specs.Orders.{only_where}
 use Rattle.es_statement_steps.proofs.Below.{Below, BelowField, BelowTrees, nodes_below}
 use Rattle.es_statement_steps.proofs.Composition.{Known, known-fine}
 use Rattle.es_statement_steps.proofs.Replacings.{RowShape, replacing-hoists, replacing-rule}

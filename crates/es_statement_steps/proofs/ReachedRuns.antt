@@ -43,7 +43,7 @@ use Rattle.es_reached.proofs.BuiltRules.{built-all}
 use Rattle.es_reached.proofs.Sources.{law_bare_source_proof}
 use Rattle.es_statement_runs.specs.Helpers.{Supply, program_list, silent_names}
 use Rattle.es_statement_runs.specs.Programs.{IsStatementProgram, is_statement_node}
-use Rattle.es_statement_steps.specs.Laws.{only_where}
+use Rattle.es_statement_steps.specs.Orders.{only_where}
 use Rattle.es_statement_steps.proofs.Composition.{AloneRuns, NamespaceRuns, Shaped, composed}
 use Rattle.es_statement_steps.proofs.Rooms.{IsProgram, program-fields}
 use Rattle.es_statement_steps.proofs.RowRuns.{StepAlike}

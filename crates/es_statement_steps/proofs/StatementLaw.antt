@@ -34,7 +34,8 @@ use Rattle.es_statement_runs.specs.Helpers.Supply.{no_helpers, spread_by_global,
 use Rattle.es_statement_runs.specs.Programs.{IsStatementProgram, uses_no_helper}
 use Rattle.es_statement_runs.specs.Runs.{RunAlike}
 use Rattle.es_statement_runs.proofs.Spreads.{has_global_spread}
-use Rattle.es_statement_steps.specs.Laws.{LawStatementRules, TagsAreNoChains, assignments_there, assumes_no_all, chains_first, chains_there, is_before_copies, mixes_helpers, no_copy_in_chain, only_where, powers_there, spreads_there}
+use Rattle.es_statement_steps.specs.Laws.{LawStatementRules, TagsAreNoChains, assignments_there, assumes_no_all, chains_there, mixes_helpers, no_copy_in_chain, powers_there, spreads_there}
+use Rattle.es_statement_steps.specs.Orders.{chains_first, is_before_copies, only_where}
 use Rattle.es_statement_steps.proofs.Absent.{Absent, Never, absent-alone, absent-exports, absent-source, no-assignment, no-chain, no-power, no-spread, not-there}
 use Rattle.es_statement_steps.proofs.ChainCopies.{CopylessChains}
 use Rattle.es_statement_steps.proofs.ChainsFirst.{first-runs}

@@ -31,7 +31,7 @@ use Rattle.es_steps.proofs.Taken.{whole_in}
 use Rattle.es_valid_steps.proofs.FurtherSteps.{alone, alone-form}
 use Rattle.es_statement_runs.specs.Helpers.{Supply, silent_names}
 use Rattle.es_statement_runs.specs.Programs.{is_statement_node}
-use Rattle.es_statement_steps.specs.Laws.{only_where}
+use Rattle.es_statement_steps.specs.Orders.{only_where}
 use Rattle.es_statement_steps.proofs.Catchings.{CatchRow, catch-keeps, catch-rule, catch-stays}
 use Rattle.es_statement_steps.proofs.Coalescings.{CoalescingRow, coalescing-keeps, coalescing-shape}
 use Rattle.es_statement_steps.proofs.Composition.{Known, anywhere, known-fine}

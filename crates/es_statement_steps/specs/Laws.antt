@@ -1,18 +1,15 @@
 -- The law of steps and runs: what steps of the lowerings reach from a program without functions, arrows and classes runs as the
 -- program does.
 use Rattle.std.specs.Prelude.{◌≡◌, ◌&&◌, ◌||◌, Bool, true, false, not, List, bytes_eq, codes, is_some, if◌then◌else◌}
-use Rattle.es_tree.specs.Tree.{Fields, Label, Tree, kind_of, node, one, ◌then◌}
+use Rattle.es_tree.specs.Tree.{Fields, Label, Tree}
 use Rattle.es_tree.specs.Constructs.{is_object_spread}
-use Rattle.es_tree.specs.Parens.{without_parens}
 use Rattle.es_tree.specs.Names.{first_text}
 use Rattle.es_tree.specs.Walks.{all_in_fields, all_nodes, any_node}
 use Rattle.es_tree.specs.Words.{Text}
 use Rattle.es_tree.specs.declared.ast_type.AstType.{AstType}
-use Rattle.es_tree.specs.declared.ast_type.AstType.TheVariants.{ChainExpression, Identifier, UnaryExpression}
+use Rattle.es_tree.specs.declared.ast_type.AstType.TheVariants.{Identifier}
 use Rattle.es_tree.specs.declared.options.EnvOptions.{EnvOptions}
 use Rattle.es_steps.specs.CoreBridge.{Reached, first_whole}
-use Rattle.es_steps.specs.Steps.{Ledger, Site, Spot}
-use Rattle.es_steps.specs.Steps.Spot.{at_node}
 use Rattle.es_reached.specs.Reached.{IsResult, built_rules}
 use Rattle.es_reached.specs.Unmade.{is_sought, of_assignments, of_chains, of_powers, of_spreads}
 use Rattle.es_unsupported.specs.Shapes.{has_chain_tag, is_chain_kind}
@@ -20,6 +17,7 @@ use Rattle.es_statement_runs.specs.Helpers.{Supply}
 use Rattle.es_statement_runs.specs.Helpers.Supply.{no_helpers, spread_by_global, by_global}
 use Rattle.es_statement_runs.specs.Programs.{IsStatementProgram, uses_no_helper}
 use Rattle.es_statement_runs.specs.Runs.{RunAlike}
+use Rattle.es_statement_steps.specs.Orders.{chains_first}
 
 -- WHICH ROWS ACT: those that options ask for whose construct stands in the program
 
@@ -52,32 +50,6 @@ no_copy_in_chain k l fs = not (is_chain_kind k) || all_in_fields no_copy fs
 -- whether a spread stands in a chain where both are lowered
 abbrev pub mixes_helpers : EnvOptions → Tree → Bool
 mixes_helpers o p = spreads_there o p && chains_there o p && not (all_nodes no_copy_in_chain p)
-
--- STEPS IN ORDER
-
--- the steps of a rule at such places alone
-abbrev pub only_where : (Spot → Bool) → (Site → Ledger → Spot → Ledger → Spot → Type 0) → Site → Ledger → Spot → Ledger → Spot → Type 0
-only_where at R n s x s' y = R n s x s' y × (at x ≡ true)
-
--- not the name of the object of helpers
-abbrev pub names_other : AstType → Label → Fields → Bool
-names_other Identifier l fs = not (bytes_eq (first_text l.texts) (codes "babelHelpers"))
-names_other _ l fs = true
-
--- where a chain is lowered: at it, or at the operator before it, as `delete` is one
-abbrev pub takes_chain : Tree → Bool
-takes_chain (node ChainExpression l fs) = true
-takes_chain (node UnaryExpression l (one t then fs)) = is_chain_kind (kind_of (without_parens t))
-takes_chain t = false
-
--- that name stands in no chain where this is lowered
-abbrev pub is_before_copies : Spot → Bool
-is_before_copies (at_node t) = not (takes_chain t) || all_nodes names_other t
-is_before_copies x = true
-
--- steps of the lowerings, with each chain before the spreads in it: `a?.b({ ...c })` becomes `a == null ? void 0 : a.b({ ...c })` first
-abbrev pub chains_first : EnvOptions → Site → Ledger → Spot → Ledger → Spot → Type 0
-chains_first o = only_where is_before_copies (built_rules o)
 
 -- whether they assume that no value is `document.all` (ECMA-262, B.3.6): optional chaining alone may
 abbrev pub assumes_no_all : EnvOptions → Tree → Bool

@@ -1,0 +1,37 @@
+-- Steps of the lowerings in an order: each chain before the spreads in it.
+use Rattle.std.specs.Prelude.{◌≡◌, ◌||◌, Bool, true, false, not, bytes_eq, codes}
+use Rattle.es_tree.specs.Names.{first_text}
+use Rattle.es_tree.specs.Parens.{without_parens}
+use Rattle.es_tree.specs.Tree.{Fields, Label, Tree, kind_of, node, one, ◌then◌}
+use Rattle.es_tree.specs.Walks.{all_nodes}
+use Rattle.es_tree.specs.declared.ast_type.AstType.{AstType}
+use Rattle.es_tree.specs.declared.ast_type.AstType.TheVariants.{ChainExpression, Identifier, UnaryExpression}
+use Rattle.es_tree.specs.declared.options.EnvOptions.{EnvOptions}
+use Rattle.es_steps.specs.Steps.{Ledger, Site, Spot}
+use Rattle.es_steps.specs.Steps.Spot.{at_node}
+use Rattle.es_reached.specs.Reached.{built_rules}
+use Rattle.es_unsupported.specs.Shapes.{is_chain_kind}
+
+-- the steps of a rule at such places alone
+abbrev pub only_where : (Spot → Bool) → (Site → Ledger → Spot → Ledger → Spot → Type 0) → Site → Ledger → Spot → Ledger → Spot → Type 0
+only_where at R n s x s' y = R n s x s' y × (at x ≡ true)
+
+-- not the name of the object of helpers
+abbrev pub names_other : AstType → Label → Fields → Bool
+names_other Identifier l fs = not (bytes_eq (first_text l.texts) (codes "babelHelpers"))
+names_other _ l fs = true
+
+-- where a chain is lowered: at it, or at the operator before it, as `delete` is one
+abbrev pub takes_chain : Tree → Bool
+takes_chain (node ChainExpression l fs) = true
+takes_chain (node UnaryExpression l (one t then fs)) = is_chain_kind (kind_of (without_parens t))
+takes_chain t = false
+
+-- that name stands in no chain where this is lowered
+abbrev pub is_before_copies : Spot → Bool
+is_before_copies (at_node t) = not (takes_chain t) || all_nodes names_other t
+is_before_copies x = true
+
+-- steps of the lowerings, with each chain before the spreads in it: `a?.b({ ...c })` becomes `a == null ? void 0 : a.b({ ...c })` first
+abbrev pub chains_first : EnvOptions → Site → Ledger → Spot → Ledger → Spot → Type 0
+chains_first o = only_where is_before_copies (built_rules o)
