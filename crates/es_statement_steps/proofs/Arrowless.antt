@@ -71,7 +71,7 @@ module _ (o : EnvOptions) where
   elsewhere-apart n s s' x y (inr h) elsewhere = absurd (elsewhere (arrow-nodes n s s' x y (arrow-rule o n s x s' y h)))
 
 -- at whatever places they are taken
-module _ (o : EnvOptions) (at : Spot → Bool) where
+module _ (o : EnvOptions) (at : Site → Spot → Bool) where
   abbrev Built : Site → Ledger → Spot → Ledger → Spot → Type 0
   Built = only_where at (built_rules o)
 

@@ -1,15 +1,16 @@
 -- Optional chaining keeps runs beside object spread where the name of the object of helpers doesn't stand in the chain: both sides mean what they do without
 -- helpers.
 use Rattle.std.proofs.Common.{◌≡◌, ℕ, zero, suc, refl, sym, ap, subst, List}
+use Rattle.std.proofs.lemmas.Bool.{and_from, and_parts}
 use Rattle.std.specs.Prelude.{Bool, true, false, not, ◌||◌, bytes_eq, codes}
 use Rattle.es_tree.specs.Fresh.{candidate}
 use Rattle.es_tree.specs.Parens.{without_parens}
 use Rattle.es_tree.specs.Scopes.{Declared}
-use Rattle.es_tree.specs.Tree.{Tree, node, Label, Fields, done, ◌then◌, one, kind_of}
-use Rattle.es_tree.specs.Walks.{all_nodes}
+use Rattle.es_tree.specs.Tree.{Tree, node, Label, Fields, done, ◌then◌, missing, one, many, statements, kind_of}
+use Rattle.es_tree.specs.Walks.{all_in_fields, all_nodes}
 use Rattle.es_tree.specs.Words.{Text}
 use Rattle.es_tree.specs.declared.ast_type.AstType.{AstType}
-use Rattle.es_tree.specs.declared.ast_type.AstType.TheVariants.{Identifier, UnaryExpression}
+use Rattle.es_tree.specs.declared.ast_type.AstType.TheVariants.{ChainExpression, Identifier, ParenthesizedExpression, UnaryExpression}
 use Rattle.es_tree.specs.declared.options.EnvOptions.{EnvOptions}
 use Rattle.es_runs.specs.Alike.{SameWorld}
 use Rattle.es_runs.specs.Core.{World}
@@ -18,6 +19,7 @@ use Rattle.es_resolution.specs.Resolved.{Resolved}
 use Rattle.es_steps.specs.CoreBridge.{names_among}
 use Rattle.es_steps.specs.CoreRules.{RowRule}
 use Rattle.es_steps.specs.Open.{Open, finished}
+use Rattle.es_steps.specs.Duplication.{is_alone}
 use Rattle.es_steps.specs.OptionalChaining.{OptionalChainingRule}
 use Rattle.es_steps.specs.OptionalChaining.OptionalChainingRule.{as_callee, by_tests, in_delete}
 use Rattle.es_steps.specs.Steps.{Ledger, Site, Step, Whole, the_program}
@@ -30,7 +32,7 @@ use Rattle.es_statement_runs.specs.Kinds.{sense}
 use Rattle.es_statement_runs.specs.Laws.{among_names}
 use Rattle.es_statement_runs.specs.Places.{Take, avoids, placed_at}
 use Rattle.es_statement_runs.specs.Senses.{Sense}
-use Rattle.es_statement_steps.specs.Orders.{is_before_copies, names_other, only_where}
+use Rattle.es_statement_steps.specs.Orders.{is_before_copies, names_other, no_name_in_chain, only_where}
 use Rattle.es_statement_steps.proofs.ApartSenses.{Apart, apart-sense}
 use Rattle.es_statement_steps.proofs.ChainPlaces.{chains-program}
 use Rattle.es_statement_steps.proofs.Chainings.{ChainingRow, chaining-shape}
@@ -51,7 +53,7 @@ pub fresh-other : (text : Text) (n : ℕ) → other_name (candidate text n) ≡ 
 fresh-other text zero = refl
 fresh-other text (suc n) = refl
 
-other-passes : PassesMade other_name names_other
+pub other-passes : PassesMade other_name names_other
 other-passes = record { nodes = nodes; names = λ l h. h; fresh = fresh-other; math = refl; pow = refl; call = refl; bind = refl }
   where
     nodes : (k : AstType) (l : Label) (fs : Fields) → is_made_kind k ≡ true → names_other k l fs ≡ true
@@ -70,13 +72,30 @@ apart-keeps no_all new n whole a b h apart t taken ds resolved found fine away q
     (subst (λ (e : Sense). SenseLike F w v t (sense (placed_at no_helpers w ls x) a) e) (sym (apart-sense b after v ls x))
     ((chaining-keeps-steady no_all).alike new n whole a b h t taken ds resolved found fine away quiet stack tt w v same known ls x))
 
+-- where it doesn't stand in chains it doesn't where one is lowered
+
+apart-inside : (t : Tree) (l : Label) (fs : Fields) → is_alone t ≡ true → without_parens t ≡ node ChainExpression l fs → all_nodes no_name_in_chain t ≡ true → Apart t
+apart-inside (node ParenthesizedExpression m (one t then done)) l fs a e h = and_from (all_nodes names_other t) true (apart-inside t l fs a e (and_parts (all_nodes no_name_in_chain t) true h).0) refl
+apart-inside (node ParenthesizedExpression m (one t then (f then gs))) l fs a e h = absurd (cc a)
+apart-inside (node ParenthesizedExpression m done) l fs a e h = absurd (cc e)
+apart-inside (node ParenthesizedExpression m (missing then gs)) l fs a e h = absurd (cc e)
+apart-inside (node ParenthesizedExpression m (many ts then gs)) l fs a e h = absurd (cc e)
+apart-inside (node ParenthesizedExpression m (statements ts then gs)) l fs a e h = absurd (cc e)
+apart-inside (node ChainExpression m gs) l fs a e h = (and_parts (all_in_fields names_other gs) (all_in_fields no_name_in_chain gs) h).0
+apart-inside (node _ m gs) l fs a e h = absurd (cc e)
+
+pub chain-apart : (no_all : Bool) (n : Site) (w : Whole) (bs : List Bound) (t u : Tree) → OptionalChainingRule no_all n w bs t u → all_nodes no_name_in_chain t ≡ true → Apart t
+chain-apart no_all n w bs _ _ (by_tests {m = m} {e = e} level r some) h = (and_parts (all_in_fields names_other (one e then done)) (all_in_fields no_name_in_chain (one e then done)) h).0
+chain-apart no_all n w bs _ _ (as_callee {m = m} {e = e} level r some callee) h = (and_parts (all_in_fields names_other (one e then done)) (all_in_fields no_name_in_chain (one e then done)) h).0
+chain-apart no_all n w bs _ _ (in_delete {m = m} {l = l} {t = t} {e = e} texts alone target r some) h = and_from (all_nodes names_other t) true (apart-inside t l (one e then done) alone target (and_parts (all_nodes no_name_in_chain t) true h).0) refl
+
 -- A STEP before the copies in the chain
 
 implied : (a b : Bool) → (not a || b) ≡ true → a ≡ true → b ≡ true
 implied true b h e = h
 implied false b h e = absurd (cc e)
 
-first-apart : (no_all : Bool) (n : Site) (w : Whole) (bs : List Bound) (t u : Tree) → OptionalChainingRule no_all n w bs t u → is_before_copies (at_node t) ≡ true → Apart t
+first-apart : (no_all : Bool) (n : Site) (w : Whole) (bs : List Bound) (t u : Tree) → OptionalChainingRule no_all n w bs t u → is_before_copies n (at_node t) ≡ true → Apart t
 first-apart no_all n w bs _ _ (by_tests {m = m} {e = e} level r some) h = h
 first-apart no_all n w bs _ _ (as_callee {m = m} {e = e} level r some callee) h = h
 first-apart no_all n w bs _ _ (in_delete {m = m} {l = l} {t = t} {e = e} texts alone target r some) h =

@@ -65,7 +65,7 @@ told-apart o n s x s' y (inr (inr (inl r))) = inr r
 told-apart o n s x s' y (inr (inr (inr r))) = inl (inr (inr r))
 
 -- steps at some places are steps
-pub anywhere : (at : Spot → Bool) (R : Site → Ledger → Spot → Ledger → Spot → Type 0) {n : Site} {s s' : Ledger} {x y : Open} → Step (only_where at R) n s x s' y → Step R n s x s' y
+pub anywhere : (at : Site → Spot → Bool) (R : Site → Ledger → Spot → Ledger → Spot → Type 0) {n : Site} {s s' : Ledger} {x y : Open} → Step (only_where at R) n s x s' y → Step R n s x s' y
 anywhere at R h = step_under (only_where at R) R (λ n s x s' y r. r.0) h
 
 on-exports : (b : Bool) (n : Site) (s : Ledger) (x : Spot) (s' : Ledger) (y : Spot) → where_on b NamespaceRule n s x s' y → NamespaceRule n s x s' y
@@ -93,7 +93,7 @@ known-fine {x = x} k = program_stands (finished x) k.form k.class k.keeps
 
 -- WHAT IS ASKED OF STEPS
 
-pub record AloneRuns (o : EnvOptions) (at : Spot → Bool) (no_all : Bool) (u : Supply) (Clean : Whole → Tree → Type 0) : Type 0 where
+pub record AloneRuns (o : EnvOptions) (at : Site → Spot → Bool) (no_all : Bool) (u : Supply) (Clean : Whole → Tree → Type 0) : Type 0 where
   -- of the class
   pub class : {s s' : Ledger} {x y : Open} → Step (alone o) the_program s x s' y → IsProper x → IsProper y → Class (finished x) → Class (finished y)
   -- and of runs, where Clean is kept
@@ -109,7 +109,7 @@ pub record NamespaceRuns (o : EnvOptions) (no_all : Bool) (u : Supply) (Clean : 
   pub clean : {s s' : Ledger} {x y : Open} → Step (Exports o) the_program s x s' y → Known s (spread x) → Known s' (spread y) → Clean (whole_in s) (finished x) → Clean (whole_in s') (finished y)
   pub runs : {s s' : Ledger} {x y : Open} → Step (Exports o) the_program s x s' y → Known s (spread x) → Known s' (spread y) → Clean (whole_in s) (finished x) → Clean (whole_in s') (finished y) → StepAlike no_all u (finished x) (finished y)
 
-module _ (o : EnvOptions) (at : Spot → Bool) (no_all : Bool) (u : Supply) (Clean : Whole → Tree → Type 0) (law : AloneRuns o at no_all u Clean) (exports : NamespaceRuns o no_all u Clean) where
+module _ (o : EnvOptions) (at : Site → Spot → Bool) (no_all : Bool) (u : Supply) (Clean : Whole → Tree → Type 0) (law : AloneRuns o at no_all u Clean) (exports : NamespaceRuns o no_all u Clean) where
   -- what is kept of form and places, and the class
   pub record Shaped (x : Open) : Type 0 where
     pub proper : IsProper x

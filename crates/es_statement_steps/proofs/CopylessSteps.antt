@@ -60,7 +60,7 @@ use Rattle.es_statement_steps.proofs.Writings.{written-same}
 -- A STEP OF A ROW
 
 -- the names that are made are others than the object of helpers
-made-other : (xs : List Text) → all_made xs ≡ true → (x : Text) → among_names xs x ≡ true → bytes_eq x (codes "babelHelpers") ≡ false
+pub made-other : (xs : List Text) → all_made xs ≡ true → (x : Text) → among_names xs x ≡ true → bytes_eq x (codes "babelHelpers") ≡ false
 made-other xs h x e = at (bytes_eq x (codes "babelHelpers")) refl
   where
     at : (b : Bool) → bytes_eq x (codes "babelHelpers") ≡ b → b ≡ false

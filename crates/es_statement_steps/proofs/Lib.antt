@@ -29,6 +29,7 @@ pub mod ChainCopies
 pub mod ChainsFirst
 pub mod CopylessRows
 pub mod CopylessSteps
+pub mod Nameless
 pub mod SameSenses
 pub mod Doublings
 pub mod SettledRows

@@ -112,14 +112,14 @@ pub premised-runs : (no_all : Bool) (u : Supply) (H : Premise) → Inwards H →
 premised-runs no_all u H inwards R shape keeps h k m silent silent_after premise = with-runs no_all u H R shape keeps (premised (Replacing R) H inwards h k.proper k.class premise) k m silent silent_after
 
 -- and of one at some places alone
-abbrev pub There : Premise → (Spot → Bool) → Premise
-There H at n w a = H n w a × (at (at_node a) ≡ true)
+abbrev pub There : Premise → (Site → Spot → Bool) → Premise
+There H at n w a = H n w a × (at n (at_node a) ≡ true)
 
-seen-there : (Q : Site → Ledger → Spot → Ledger → Spot → Type 0) (H : Premise) (at : Spot → Bool) (n : Site) (s : Ledger) (x : Spot) (s' : Ledger) (y : Spot) → With (only_where at Q) H n s x s' y → With Q (There H at) n s x s' y
+seen-there : (Q : Site → Ledger → Spot → Ledger → Spot → Type 0) (H : Premise) (at : Site → Spot → Bool) (n : Site) (s : Ledger) (x : Spot) (s' : Ledger) (y : Spot) → With (only_where at Q) H n s x s' y → With Q (There H at) n s x s' y
 seen-there Q H at n s (at_node t) s' y h = (h.0.0, (h.1, h.0.1))
 seen-there Q H at n s _ s' y h = (h.0.0, tt)
 
-pub there-runs : (no_all : Bool) (u : Supply) (H : Premise) (at : Spot → Bool) → Inwards H → (R : Site → Whole → List Bound → Tree → Tree → Type 0) (shape : RowShape R) → KeepsRuns no_all u true (RowWith R shape (There H at)) → {s s' : Ledger} {x y : Open} → Step (only_where at (Replacing R)) the_program s x s' y → Known s x → Known s' y →
+pub there-runs : (no_all : Bool) (u : Supply) (H : Premise) (at : Site → Spot → Bool) → Inwards H → (R : Site → Whole → List Bound → Tree → Tree → Type 0) (shape : RowShape R) → KeepsRuns no_all u true (RowWith R shape (There H at)) → {s s' : Ledger} {x y : Open} → Step (only_where at (Replacing R)) the_program s x s' y → Known s x → Known s' y →
     silent_names u (finished x) ≡ [] → silent_names u (finished y) ≡ [] → H the_program (whole_in s) (finished x) → StepAlike no_all u (finished x) (finished y)
 there-runs no_all u H at inwards R shape keeps h k m silent silent_after premise =
     let Q = only_where at (Replacing R) in

@@ -23,7 +23,7 @@ use Rattle.es_steps.specs.CoreBridge.{Reached, first_whole}
 use Rattle.es_steps.specs.Identifiers.{Passes, is_called}
 use Rattle.es_steps.specs.Laws.{IsWellBound}
 use Rattle.es_steps.specs.Open.{Open, finished, opened}
-use Rattle.es_steps.specs.Steps.{Spot, Whole}
+use Rattle.es_steps.specs.Steps.{Site, Spot, Whole}
 use Rattle.es_steps.specs.Steps.Steps.{stays}
 use Rattle.es_steps.proofs.BridgeInclusion.{all_under}
 use Rattle.es_steps.specs.AllRules.{AllRules}
@@ -154,7 +154,7 @@ source-alike no_all u p form silent =
 
 -- STEPS
 
-pub reached-runs : (o : EnvOptions) (at : Spot → Bool) (no_all : Bool) (u : Supply) (Clean : Whole → Tree → Type 0) → AloneRuns o at no_all u Clean → NamespaceRuns o no_all u Clean → (p q : Tree) (names : List Text) → IsStatementProgram p → AllSilent u p → Clean (first_whole p) (source p) → Reached (only_where at (built_rules o)) p (first_whole p) names q → StepAlike no_all u p q
+pub reached-runs : (o : EnvOptions) (at : Site → Spot → Bool) (no_all : Bool) (u : Supply) (Clean : Whole → Tree → Type 0) → AloneRuns o at no_all u Clean → NamespaceRuns o no_all u Clean → (p q : Tree) (names : List Text) → IsStatementProgram p → AllSilent u p → Clean (first_whole p) (source p) → Reached (only_where at (built_rules o)) p (first_whole p) names q → StepAlike no_all u p q
 reached-runs o at no_all u Clean alone exports p q names h silent clean reached =
     let w = first_whole p in
     let w' = reached.whole in

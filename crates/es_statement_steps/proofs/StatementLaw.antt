@@ -34,8 +34,8 @@ use Rattle.es_statement_runs.specs.Helpers.Supply.{no_helpers, spread_by_global,
 use Rattle.es_statement_runs.specs.Programs.{IsStatementProgram, uses_no_helper}
 use Rattle.es_statement_runs.specs.Runs.{RunAlike}
 use Rattle.es_statement_runs.proofs.Spreads.{has_global_spread}
-use Rattle.es_statement_steps.specs.Laws.{LawStatementRules, TagsAreNoChains, assignments_there, assumes_no_all, chains_there, mixes_helpers, no_copy_in_chain, powers_there, spreads_there}
-use Rattle.es_statement_steps.specs.Orders.{chains_first, is_before_copies, only_where}
+use Rattle.es_statement_steps.specs.Laws.{LawSpreadsOutside, LawStatementRules, TagsAreNoChains, assignments_there, assumes_no_all, chains_there, mixes_helpers, no_copy_in_chain, powers_there, spreads_there, supply_there}
+use Rattle.es_statement_steps.specs.Orders.{chains_first, is_before_copies, is_outside, no_name_in_chain, only_where, spreads_outside}
 use Rattle.es_statement_steps.proofs.Absent.{Absent, Never, absent-alone, absent-exports, absent-source, no-assignment, no-chain, no-power, no-spread, not-there}
 use Rattle.es_statement_steps.proofs.ChainCopies.{CopylessChains}
 use Rattle.es_statement_steps.proofs.ChainsFirst.{first-runs}
@@ -45,20 +45,21 @@ use Rattle.es_statement_steps.proofs.Exports.{exports-run, exports-so, keyless-p
 use Rattle.es_statement_steps.proofs.KeylessPrograms.{IsKeyless, keyless_silent}
 use Rattle.es_statement_steps.proofs.KeylessSources.{named-keyless, same-keyless}
 use Rattle.es_statement_steps.proofs.KeylessSteps.{NoneBeside, statement-keyless}
+use Rattle.es_statement_steps.proofs.Nameless.{Nameless, export-nameless, nameless-runs, source-nameless, statement-nameless}
 use Rattle.es_statement_steps.proofs.OperandSteps.{Suited, assigning-runs, chaining-runs, no-silent, raising-runs, suited-export, suited-start, suited-step}
 use Rattle.es_statement_steps.proofs.PlainSupplies.{is_core_supply, none-silent}
 use Rattle.es_statement_steps.proofs.ReachedRuns.{AllSilent, reached-runs, source-bare}
 use Rattle.es_statement_steps.proofs.SpreadRuns.{spread-keeps, spread-shape}
-use Rattle.es_statement_steps.proofs.StepRules.{Does, EachDoesWhere, Keeping, Runs, StatementRules, catch-runs, chains_under, coalescing-runs, off-does, on-does, on-where-does, replacing-runs, statement-does-where, tamed-step, tamed-where, where-does, writing-runs}
+use Rattle.es_statement_steps.proofs.StepRules.{Does, EachDoesWhere, Keeping, Runs, StatementRules, catch-runs, chains_under, spreads_under, coalescing-runs, off-does, on-does, on-where-does, replacing-runs, statement-does-where, tamed-step, tamed-where, where-does, writing-runs}
 
 -- THE LAW, from what each rule does and what is kept of a program on the way
 
-module _ (o : EnvOptions) (at : Spot → Bool) (no_all : Bool) (u : Supply) (Clean : Whole → Tree → Type 0) (quiet : (w : Whole) (t : Tree) → Clean w t → silent_names u t ≡ [])
-    (each : EachDoesWhere (Keeping no_all u Clean quiet) o at) (clean : (s s' : Ledger) (x y : Open) → Step (alone o) the_program s x s' y → Known s x → Known s' y → Clean (whole_in s) (finished x) → Clean (whole_in s') (finished y)) (exports : NamespaceRuns o no_all u Clean) where
+module _ (o : EnvOptions) (at : Site → Spot → Bool) (no_all : Bool) (u : Supply) (Clean : Whole → Tree → Type 0) (quiet : (w : Whole) (t : Tree) → Clean w t → silent_names u t ≡ [])
+    (each : EachDoesWhere (Keeping no_all u Clean quiet) o at) (clean : (s s' : Ledger) (x y : Open) → Step (only_where at (alone o)) the_program s x s' y → Known s x → Known s' y → Clean (whole_in s) (finished x) → Clean (whole_in s') (finished y)) (exports : NamespaceRuns o no_all u Clean) where
   alone-runs : AloneRuns o at no_all u Clean
   alone-runs = record {
     class = λ h proper after class. (tamed-step o h proper after class).1;
-    clean = λ h k m c. clean _ _ _ _ (anywhere at (alone o) h) k m c;
+    clean = λ h k m c. clean _ _ _ _ h k m c;
     runs = λ h k m c d. statement-does-where (Keeping no_all u Clean quiet) o at each _ _ _ _ (tamed-where o at h k.proper m.proper k.class) k m c d;
   }
 
@@ -66,8 +67,8 @@ module _ (o : EnvOptions) (at : Spot → Bool) (no_all : Bool) (u : Supply) (Cle
   rules-run p q names h silent first reached = (reached-runs o at no_all u Clean alone-runs exports p q names h silent first reached).runs
 
 -- steps at whatever places
-abbrev all_places : Spot → Bool
-all_places x = true
+abbrev all_places : Site → Spot → Bool
+all_places n x = true
 
 reached-anywhere : (o : EnvOptions) (p : Tree) (w : Whole) (names : List Text) (q : Tree) → Reached (built_rules o) p w names q → Reached (only_where all_places (built_rules o)) p w names q
 reached-anywhere o p w names q h = record { whole = h.whole; steps = all_under (built_rules o) (only_where all_places (built_rules o)) (λ n s x s' y r. (r, refl)) h.steps; made = h.made }
@@ -115,7 +116,8 @@ module _ (o : EnvOptions) (no_all : Bool) (p : Tree) (off : NoneBeside o p) wher
     chaining = where-does (Keeping no_all by_global Helped helped-silent) all_places (chains_under o) (resting no_all by_global p IsWithoutKeys without-keys-silent o.es2020.optional_chaining _ (RowRule (OptionalChainingRule o.assumptions.no_document_all)) off.chains (no-chain o.assumptions.no_document_all p));
     raising = resting no_all by_global p IsWithoutKeys without-keys-silent o.es2016.exponentiation_operator _ (RowRule ExponentiationRule) off.powers (no-power p);
     catching = catch-runs no_all by_global Helped helped-silent;
-    spreading = on-does (Keeping no_all by_global Helped helped-silent) (is_some o.es2018.object_rest_spread) (Replacing SpreadRule) (replacing-runs no_all by_global Helped helped-silent SpreadRule spread-shape (spread-keeps no_all by_global refl));
+    spreading = where-does (Keeping no_all by_global Helped helped-silent) all_places (spreads_under o)
+        (on-does (Keeping no_all by_global Helped helped-silent) (is_some o.es2018.object_rest_spread) (Replacing SpreadRule) (replacing-runs no_all by_global Helped helped-silent SpreadRule spread-shape (spread-keeps no_all by_global refl)));
   }
 
   helped-exports : NamespaceRuns o no_all by_global Helped
@@ -124,7 +126,7 @@ module _ (o : EnvOptions) (no_all : Bool) (p : Tree) (off : NoneBeside o p) wher
   helped-run : (q : Tree) (names : List Text) → IsStatementProgram p → uses_no_helper by_global p ≡ true → Reached (built_rules o) p (first_whole p) names q → RunAlike by_global no_all p q
   helped-run q names h none reached =
       let keyless : IsKeyless (source p) = named-keyless (length (symbols_of p)) (is_among (names_of p)) (not-so (is_among (names_of p) (codes "babelHelpers")) none) reads (source p) (law_named_proof p (is_among (names_of p)) (length (symbols_of p)) h.form h.rules (λ x e. e) (omega arith)) in
-      rules-run o all_places no_all by_global Helped helped-silent helped-does (λ s s' x y r k m c. (statement-keyless p o off s s' x y (tamed-step o r k.proper m.proper k.class).0 k m c.1 c.0, absent-alone o p r k.alone c.1)) helped-exports
+      rules-run o all_places no_all by_global Helped helped-silent helped-does (λ s s' x y r k m c. let a = anywhere all_places (alone o) r in (statement-keyless p o off s s' x y (tamed-step o a k.proper m.proper k.class).0 k m c.1 c.0, absent-alone o p a k.alone c.1)) helped-exports
       p q names h (λ t e. keyless_silent t (same-keyless t (source p) (e ∙ source-bare p) keyless)) (keyless, absent-source p) (reached-anywhere o p (first_whole p) names q reached)
     where
       not-so : (b : Bool) → not b ≡ true → b ≡ false
@@ -133,22 +135,24 @@ module _ (o : EnvOptions) (no_all : Bool) (p : Tree) (off : NoneBeside o p) wher
 
 -- WITHOUT HELPERS, or with that of object spread alone; where chains act beside that, none holds a copy, or each acts before the copies in it
 
-abbrev ChainsAsked : Bool → Tree → Type 0
-ChainsAsked true t = CopylessChains t
-ChainsAsked false t = Unit {0}
+-- what is asked of chains on the way
+data Asked : Type 0 where
+  nothing no_copies no_names : Asked
 
-abbrev Plain : EnvOptions → Bool → Whole → Tree → Type 0
+abbrev ChainsAsked : Asked → Tree → Type 0
+ChainsAsked nothing t = Unit {0}
+ChainsAsked no_copies t = CopylessChains t
+ChainsAsked no_names t = Nameless t
+
+abbrev Plain : EnvOptions → Asked → Whole → Tree → Type 0
 Plain o asked w t = Suited o w t × ChainsAsked asked t
 
-asked-after : (o : EnvOptions) (asked : Bool) {s s' : Ledger} {x y : Open} → Step (StatementRules o) the_program s x s' y → Known s x → Known s' y → ChainsAsked asked (finished x) → ChainsAsked asked (finished y)
-asked-after o true h k m c = statement-copyless o _ _ _ _ h k m c
-asked-after o false h k m c = tt
+asked-export : (o : EnvOptions) (asked : Asked) {s s' : Ledger} {x y : Open} → Step (Exports o) the_program s x s' y → Known s (spread x) → ChainsAsked asked (finished x) → ChainsAsked asked (finished y)
+asked-export o nothing h k c = tt
+asked-export o no_copies {x = x} h k c = exports-so no_copy_in_chain export-copyless o h (subst (λ (t : Tree). has_form s-Program t ≡ true) (finished-spread x) k.form) c
+asked-export o no_names {x = x} h k c = exports-so no_name_in_chain export-nameless o h (subst (λ (t : Tree). has_form s-Program t ≡ true) (finished-spread x) k.form) c
 
-asked-export : (o : EnvOptions) (asked : Bool) {s s' : Ledger} {x y : Open} → Step (Exports o) the_program s x s' y → Known s (spread x) → ChainsAsked asked (finished x) → ChainsAsked asked (finished y)
-asked-export o true {x = x} h k c = exports-so no_copy_in_chain export-copyless o h (subst (λ (t : Tree). has_form s-Program t ≡ true) (finished-spread x) k.form) c
-asked-export o false h k c = tt
-
-module _ (o : EnvOptions) (p : Tree) (no_all : Bool) (u : Supply) (plain : is_core_supply u ≡ true) (asked : Bool) (at : Spot → Bool) where
+module _ (o : EnvOptions) (p : Tree) (no_all : Bool) (u : Supply) (plain : is_core_supply u ≡ true) (asked : Asked) (at : Site → Spot → Bool) where
   plain-silent : (w : Whole) (t : Tree) → Plain o asked w t → silent_names u t ≡ []
   plain-silent w t h = none-silent u plain t
 
@@ -165,7 +169,7 @@ module _ (o : EnvOptions) (p : Tree) (no_all : Bool) (u : Supply) (plain : is_co
   Chains = Does PlainKept (only_where at (chains_under o))
 
   abbrev Spreads : Type 0
-  Spreads = Does PlainKept (where_on (is_some o.es2018.object_rest_spread) (Replacing SpreadRule))
+  Spreads = Does PlainKept (only_where at (spreads_under o))
 
   plain-acts : (R : Site → Ledger → Spot → Ledger → Spot → Type 0) → Runs no_all u (Plain o asked) plain-silent R → Does PlainKept R
   plain-acts R does = acting no_all u p (Plain o asked) plain-silent R does
@@ -191,24 +195,28 @@ module _ (o : EnvOptions) (p : Tree) (no_all : Bool) (u : Supply) (plain : is_co
   plain-exports = namespace-runs o no_all u (λ t. Unit {0}) (λ t h. none-silent u plain t) (λ x l ds body after parts c. (tt, tt)) (Lacking p (Plain o asked)) (λ w t c. tt)
       (λ s s' x y h k m c. ((suited-export o s s' x y h k m c.0.0, asked-export o asked h k c.0.1), absent-exports o p h k.alone c.1))
 
-  plain-run : Chains → Spreads → (q : Tree) (names : List Text) → IsStatementProgram p → TagsAreNoChains o p → ChainsAsked asked (source p) → Reached (only_where at (built_rules o)) p (first_whole p) names q → RunAlike u no_all p q
-  plain-run chains spreads q names h untagged copyless reached =
+  -- what is asked of chains stays
+  abbrev StaysAsked : Type 0
+  StaysAsked = (s s' : Ledger) (x y : Open) → Step (only_where at (StatementRules o)) the_program s x s' y → Known s x → Known s' y → ChainsAsked asked (finished x) → ChainsAsked asked (finished y)
+
+  plain-run : Chains → Spreads → StaysAsked → (q : Tree) (names : List Text) → IsStatementProgram p → TagsAreNoChains o p → ChainsAsked asked (source p) → Reached (only_where at (built_rules o)) p (first_whole p) names q → RunAlike u no_all p q
+  plain-run chains spreads stays q names h untagged copyless reached =
       rules-run o at no_all u (Lacking p (Plain o asked)) kept-silent (plain-does chains spreads)
-      (λ s s' x y r k m c. ((suited-step o s s' x y r k m c.0.0, asked-after o asked (tamed-step o r k.proper m.proper k.class).0 k m c.0.1), absent-alone o p r k.alone c.1)) plain-exports p q names h (λ t e. none-silent u plain t) ((suited-start o p h untagged, copyless), absent-source p) reached
+      (λ s s' x y r k m c. let a = anywhere at (alone o) r in ((suited-step o s s' x y a k m c.0.0, stays s s' x y (tamed-where o at r k.proper m.proper k.class) k m c.0.1), absent-alone o p a k.alone c.1)) plain-exports p q names h (λ t e. none-silent u plain t) ((suited-start o p h untagged, copyless), absent-source p) reached
 
   -- rows that don't act
   no-chains : chains_there o p ≡ false → Chains
   no-chains off = where-does PlainKept at (chains_under o) (plain-rests o.es2020.optional_chaining _ Chaining off (no-chain o.assumptions.no_document_all p))
 
   no-spreads : spreads_there o p ≡ false → Spreads
-  no-spreads off = plain-rests (is_some o.es2018.object_rest_spread) _ (Replacing SpreadRule) off (no-spread p)
+  no-spreads off = where-does PlainKept at (spreads_under o) (plain-rests (is_some o.es2018.object_rest_spread) _ (Replacing SpreadRule) off (no-spread p))
 
   -- object spread, where it has its helper
   with-spreads : has_global_spread u ≡ true → Spreads
-  with-spreads has = on-does PlainKept (is_some o.es2018.object_rest_spread) (Replacing SpreadRule) (replacing-runs no_all u (Lacking p (Plain o asked)) kept-silent SpreadRule spread-shape (spread-keeps no_all u has))
+  with-spreads has = where-does PlainKept at (spreads_under o) (on-does PlainKept (is_some o.es2018.object_rest_spread) (Replacing SpreadRule) (replacing-runs no_all u (Lacking p (Plain o asked)) kept-silent SpreadRule spread-shape (spread-keeps no_all u has)))
 
 -- chains, where what they assume is assumed
-module _ (o : EnvOptions) (p : Tree) (u : Supply) (plain : is_core_supply u ≡ true) (asked : Bool) (at : Spot → Bool) (runs : o.es2020.optional_chaining ≡ true → Runs o.assumptions.no_document_all u (Plain o asked) (plain-silent o p (assumes_no_all o p) u plain asked at) (only_where at (RowRule (OptionalChainingRule o.assumptions.no_document_all)))) where
+module _ (o : EnvOptions) (p : Tree) (u : Supply) (plain : is_core_supply u ≡ true) (asked : Asked) (at : Site → Spot → Bool) (runs : o.es2020.optional_chaining ≡ true → Runs o.assumptions.no_document_all u (Plain o asked) (plain-silent o p (assumes_no_all o p) u plain asked at) (only_where at (RowRule (OptionalChainingRule o.assumptions.no_document_all)))) where
   abbrev assumed : Bool
   assumed = assumes_no_all o p
 
@@ -237,41 +245,59 @@ copyless-beside o p e d h = source-copyless p (not-false (all_nodes no_copy_in_c
     not-false true h = refl
     not-false false h = absurd (cc h)
 
--- THE LAW
+-- THE LAWS
 
 module _ (o : EnvOptions) (p q : Tree) (names : List Text) (h : IsStatementProgram p) (untagged : TagsAreNoChains o p) where
   abbrev assumes : Bool
   assumes = assumes_no_all o p
+
+  abbrev Chains-row : Site → Ledger → Spot → Ledger → Spot → Type 0
+  Chains-row = RowRule (OptionalChainingRule o.assumptions.no_document_all)
 
   -- object spread beside chains: none holds a copy, or each is lowered before the copies in it
   beside-chains : spreads_there o p ≡ true → chains_there o p ≡ true → (mixes_helpers o p ≡ true → Reached (chains_first o) p (first_whole p) names q) → Reached (built_rules o) p (first_whole p) names q → RunAlike spread_by_global assumes p q
   beside-chains e d first reached = chosen (mixes_helpers o p) refl
     where
       chosen : (b : Bool) → mixes_helpers o p ≡ b → RunAlike spread_by_global assumes p q
-      chosen false off = plain-run o p assumes spread_by_global refl true all_places
-          (with-chains o p spread_by_global refl true all_places (λ a s s' x y r k m c d. copyless-runs o o.assumptions.no_document_all a s s' x y (anywhere all_places (RowRule (OptionalChainingRule o.assumptions.no_document_all)) r) k m c d))
-          (with-spreads o p assumes spread_by_global refl true all_places refl) q names h untagged (copyless-beside o p e d off) (reached-anywhere o p (first_whole p) names q reached)
-      chosen true on = plain-run o p assumes spread_by_global refl false is_before_copies
-          (with-chains o p spread_by_global refl false is_before_copies (λ a s s' x y r k m c d. first-runs o o.assumptions.no_document_all a s s' x y r k m c.0))
-          (with-spreads o p assumes spread_by_global refl false is_before_copies refl) q names h untagged tt (first on)
+      chosen false off = plain-run o p assumes spread_by_global refl no_copies all_places
+          (with-chains o p spread_by_global refl no_copies all_places (λ a s s' x y r k m c d. copyless-runs o o.assumptions.no_document_all a s s' x y (anywhere all_places Chains-row r) k m c d))
+          (with-spreads o p assumes spread_by_global refl no_copies all_places refl) (λ s s' x y r k m c. statement-copyless o s s' x y (anywhere all_places (StatementRules o) r) k m c) q names h untagged (copyless-beside o p e d off) (reached-anywhere o p (first_whole p) names q reached)
+      chosen true on = plain-run o p assumes spread_by_global refl nothing is_before_copies
+          (with-chains o p spread_by_global refl nothing is_before_copies (λ a s s' x y r k m c d. first-runs o o.assumptions.no_document_all a s s' x y r k m c.0))
+          (with-spreads o p assumes spread_by_global refl nothing is_before_copies refl) (λ s s' x y r k m c. tt) q names h untagged tt (first on)
+
+  -- or no spread is lowered while a chain stands around it
+  outside-chains : all_nodes no_name_in_chain p ≡ true → Reached (spreads_outside o) p (first_whole p) names q → RunAlike spread_by_global assumes p q
+  outside-chains nameless reached = plain-run o p assumes spread_by_global refl no_names is_outside
+      (with-chains o p spread_by_global refl no_names is_outside (λ a s s' x y r k m c d. nameless-runs o o.assumptions.no_document_all a s s' x y (anywhere is_outside Chains-row r) k m c.0 c.1))
+      (with-spreads o p assumes spread_by_global refl no_names is_outside refl) (statement-nameless o) q names h untagged (source-nameless p nameless) reached
 
   -- object spread beside assignments and powers, and the others without helpers
   without-chains : chains_there o p ≡ false → Reached (built_rules o) p (first_whole p) names q → RunAlike spread_by_global assumes p q
-  without-chains d reached = plain-run o p assumes spread_by_global refl false all_places (no-chains o p assumes spread_by_global refl false all_places d) (with-spreads o p assumes spread_by_global refl false all_places refl) q names h untagged tt (reached-anywhere o p (first_whole p) names q reached)
+  without-chains d reached = plain-run o p assumes spread_by_global refl nothing all_places (no-chains o p assumes spread_by_global refl nothing all_places d) (with-spreads o p assumes spread_by_global refl nothing all_places refl) (λ s s' x y r k m c. tt) q names h untagged tt (reached-anywhere o p (first_whole p) names q reached)
 
   without-spreads : spreads_there o p ≡ false → Reached (built_rules o) p (first_whole p) names q → RunAlike no_helpers assumes p q
-  without-spreads e reached = plain-run o p assumes no_helpers refl false all_places
-      (with-chains o p no_helpers refl false all_places (λ a s s' x y r k m c d. chaining-runs o o.assumptions.no_document_all a s s' x y (anywhere all_places (RowRule (OptionalChainingRule o.assumptions.no_document_all)) r) k m c.0 d.0))
-      (no-spreads o p assumes no_helpers refl false all_places e) q names h untagged tt (reached-anywhere o p (first_whole p) names q reached)
+  without-spreads e reached = plain-run o p assumes no_helpers refl nothing all_places
+      (with-chains o p no_helpers refl nothing all_places (λ a s s' x y r k m c d. chaining-runs o o.assumptions.no_document_all a s s' x y (anywhere all_places Chains-row r) k m c.0 d.0))
+      (no-spreads o p assumes no_helpers refl nothing all_places e) (λ s s' x y r k m c. tt) q names h untagged tt (reached-anywhere o p (first_whole p) names q reached)
+
+  -- from what is known of chains beside spreads
+  by-rows : (spreads_there o p ≡ true → chains_there o p ≡ true → RunAlike spread_by_global assumes p q) → uses_no_helper (supply_there o p) p ≡ true → Reached (built_rules o) p (first_whole p) names q → RunAlike (supply_there o p) assumes p q
+  by-rows beside none reached = chosen (spreads_there o p) (chains_there o p) (assignments_there o p || powers_there o p) refl refl refl none
+    where
+      chosen : (b d c : Bool) → spreads_there o p ≡ b → chains_there o p ≡ d → (assignments_there o p || powers_there o p) ≡ c → uses_no_helper (if b then (if d || c then spread_by_global else by_global) else no_helpers) p ≡ true →
+          RunAlike (if b then (if d || c then spread_by_global else by_global) else no_helpers) assumes p q
+      chosen true true c e d g none = beside e d
+      chosen true false true e d g none = without-chains d reached
+      chosen true false false e d g none =
+          let v = or_parts (assignments_there o p) (powers_there o p) g in
+          helped-run o assumes p (record { chains = d; assignments = v.0; powers = v.1 }) q names h none reached
+      chosen false d c e f g none = without-spreads e reached
 
 pub law_statement_rules_proof : LawStatementRules
-law_statement_rules_proof o p q names h first untagged none reached = chosen (spreads_there o p) (chains_there o p) (assignments_there o p || powers_there o p) refl refl refl none
-  where
-    chosen : (b d c : Bool) → spreads_there o p ≡ b → chains_there o p ≡ d → (assignments_there o p || powers_there o p) ≡ c → uses_no_helper (if b then (if d || c then spread_by_global else by_global) else no_helpers) p ≡ true →
-        RunAlike (if b then (if d || c then spread_by_global else by_global) else no_helpers) (assumes_no_all o p) p q
-    chosen true true c e d g none = beside-chains o p q names h untagged e d first reached
-    chosen true false true e d g none = without-chains o p q names h untagged d reached
-    chosen true false false e d g none =
-        let v = or_parts (assignments_there o p) (powers_there o p) g in
-        helped-run o (assumes_no_all o p) p (record { chains = d; assignments = v.0; powers = v.1 }) q names h none reached
-    chosen false d c e f g none = without-spreads o p q names h untagged e reached
+law_statement_rules_proof o p q names h first untagged none reached = by-rows o p q names h untagged (λ e d. beside-chains o p q names h untagged e d first reached) none reached
+
+pub law_spreads_outside_proof : LawSpreadsOutside
+law_spreads_outside_proof o p q names h nameless untagged none reached =
+    by-rows o p q names h untagged (λ e d. outside-chains o p q names h untagged nameless reached) none
+    (record { whole = reached.whole; steps = all_under (spreads_outside o) (built_rules o) (λ n s x s' y r. r.0) reached.steps; made = reached.made })

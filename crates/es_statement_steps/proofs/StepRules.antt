@@ -54,14 +54,17 @@ FurtherRules o = either_rule (where_on o.es2019.optional_catch_binding CatchRule
 abbrev pub StatementRules : EnvOptions → Site → Ledger → Spot → Ledger → Spot → Type 0
 StatementRules o = either_rule Writing (either_rule (rows_under o) (FurtherRules o))
 
--- that of chains, and the rules with another in its place
+-- that of chains and that of spreads, and the rules with others in their places
 abbrev pub chains_under : EnvOptions → Site → Ledger → Spot → Ledger → Spot → Type 0
 chains_under o = where_on o.es2020.optional_chaining (RowRule (OptionalChainingRule o.assumptions.no_document_all))
 
-abbrev pub rules_by : EnvOptions → (Site → Ledger → Spot → Ledger → Spot → Type 0) → Site → Ledger → Spot → Ledger → Spot → Type 0
-rules_by o Chains =
+abbrev pub spreads_under : EnvOptions → Site → Ledger → Spot → Ledger → Spot → Type 0
+spreads_under o = where_on (is_some o.es2018.object_rest_spread) (Replacing SpreadRule)
+
+abbrev pub rules_by : EnvOptions → (Site → Ledger → Spot → Ledger → Spot → Type 0) → (Site → Ledger → Spot → Ledger → Spot → Type 0) → Site → Ledger → Spot → Ledger → Spot → Type 0
+rules_by o Chains Spreads =
     either_rule Writing (either_rule (either_rule (where_on o.es2021.logical_assignment_operators (RowRule LogicalAssignmentRule))
-    (either_rule (either_rule (where_on o.es2020.nullish_coalescing_operator (RowRule NullishCoalescingRule)) Chains) (where_on o.es2016.exponentiation_operator (RowRule ExponentiationRule)))) (FurtherRules o))
+    (either_rule (either_rule (where_on o.es2020.nullish_coalescing_operator (RowRule NullishCoalescingRule)) Chains) (where_on o.es2016.exponentiation_operator (RowRule ExponentiationRule)))) (either_rule (where_on o.es2019.optional_catch_binding CatchRule) Spreads))
 
 pub on-rule : (b : Bool) (R : Site → Ledger → Spot → Ledger → Spot → Type 0) (n : Site) (s s' : Ledger) (x y : Spot) → where_on b R n s x s' y → R n s x s' y
 on-rule true R n s s' x y h = h
@@ -156,14 +159,14 @@ module _ (o : EnvOptions) where
   tamed-step h proper after class = tamed (alone o) (StatementRules o) (alone-form o) tame-alone h none-above proper after class
 
   -- at some places alone
-  tame-where : (at : Spot → Bool) → Tame (only_where at (alone o)) (only_where at (StatementRules o))
+  tame-where : (at : Site → Spot → Bool) → Tame (only_where at (alone o)) (only_where at (StatementRules o))
   tame-where at = record {
     nodes = λ n s s' t u slot h c. let r = tame-nodes n s s' t u slot h.0 c in ((r.0, h.1), r.1);
     lists = λ n s s' p q x y a b ts us h. (tame-lists n s s' p q x y a b ts us h.0, h.1);
   }
 
 -- a part of a rule keeps form as the rule does
-under-form : (R Q : Site → Ledger → Spot → Ledger → Spot → Type 0) → ((n : Site) (s : Ledger) (x : Spot) (s' : Ledger) (y : Spot) → R n s x s' y → Q n s x s' y) → FormLawful Q → FormLawful R
+pub under-form : (R Q : Site → Ledger → Spot → Ledger → Spot → Type 0) → ((n : Site) (s : Ledger) (x : Spot) (s' : Ledger) (y : Spot) → R n s x s' y → Q n s x s' y) → FormLawful Q → FormLawful R
 under-form R Q under law = record {
   at_nodes = λ n s s' t u a slot h f. law.at_nodes n s s' t u a slot (under n s (at_node t) s' (at_node u) h) f;
   no_flanks = λ n s s' t u bs cs h. law.no_flanks n s s' t u bs cs (under n s (at_node t) s' (at_beside bs u cs) h);
@@ -179,7 +182,7 @@ statement-alone o n s x s' y (inr (inr h)) = inr h
 pub statement-form : (o : EnvOptions) → FormLawful (StatementRules o)
 statement-form o = under-form (StatementRules o) (alone o) (statement-alone o) (alone-form o)
 
-pub tamed-where : (o : EnvOptions) (at : Spot → Bool) {s s' : Ledger} {x y : Open} → Step (only_where at (alone o)) the_program s x s' y → IsProper x → IsProper y → Class (finished x) → Step (only_where at (StatementRules o)) the_program s x s' y
+pub tamed-where : (o : EnvOptions) (at : Site → Spot → Bool) {s s' : Ledger} {x y : Open} → Step (only_where at (alone o)) the_program s x s' y → IsProper x → IsProper y → Class (finished x) → Step (only_where at (StatementRules o)) the_program s x s' y
 tamed-where o at h proper after class = (tamed (only_where at (alone o)) (only_where at (StatementRules o)) (under-form (only_where at (alone o)) (alone o) (λ n s x s' y r. r.0) (alone-form o)) (tame-where o at) h none-above proper after class).0
 
 pub writing-form : (o : EnvOptions) → FormLawful Writing
@@ -205,26 +208,26 @@ module _ (P : Ledger → Ledger → Open → Open → Type 0) where
       at (inr r) = second s s' x y r
 
   -- at some places alone
-  pub where-does : (at : Spot → Bool) (R : Site → Ledger → Spot → Ledger → Spot → Type 0) → Does R → Does (only_where at R)
+  pub where-does : (at : Site → Spot → Bool) (R : Site → Ledger → Spot → Ledger → Spot → Type 0) → Does R → Does (only_where at R)
   where-does at R does s s' x y h = does s s' x y (anywhere at R h)
 
-  pub on-where-does : (b : Bool) (at : Spot → Bool) (R : Site → Ledger → Spot → Ledger → Spot → Type 0) → Does (only_where at R) → Does (only_where at (where_on b R))
+  pub on-where-does : (b : Bool) (at : Site → Spot → Bool) (R : Site → Ledger → Spot → Ledger → Spot → Type 0) → Does (only_where at R) → Does (only_where at (where_on b R))
   on-where-does b at R does s s' x y h = does s s' x y (step_under (only_where at (where_on b R)) (only_where at R) (λ n s x s' y r. (on-rule b R n s s' x y r.0, r.1)) h)
 
-  -- of each rule, where options ask for it, and of this one of chains
-  pub record EachDoesBy (o : EnvOptions) (Chains : Site → Ledger → Spot → Ledger → Spot → Type 0) : Type 0 where
+  -- of each rule, where options ask for it, and of these of chains and spreads
+  pub record EachDoesBy (o : EnvOptions) (Chains Spreads : Site → Ledger → Spot → Ledger → Spot → Type 0) : Type 0 where
     pub writing : Does Writing
     pub assigning : Does (where_on o.es2021.logical_assignment_operators (RowRule LogicalAssignmentRule))
     pub coalescing : Does (RowRule NullishCoalescingRule)
     pub chaining : Does Chains
     pub raising : Does (where_on o.es2016.exponentiation_operator (RowRule ExponentiationRule))
     pub catching : Does CatchRule
-    pub spreading : Does (where_on (is_some o.es2018.object_rest_spread) (Replacing SpreadRule))
+    pub spreading : Does Spreads
 
   abbrev pub EachDoes : EnvOptions → Type 0
-  EachDoes o = EachDoesBy o (chains_under o)
+  EachDoes o = EachDoesBy o (chains_under o) (spreads_under o)
 
-  module _ (o : EnvOptions) (Chains : Site → Ledger → Spot → Ledger → Spot → Type 0) (each : EachDoesBy o Chains) where
+  module _ (o : EnvOptions) (Chains Spreads : Site → Ledger → Spot → Ledger → Spot → Type 0) (each : EachDoesBy o Chains Spreads) where
     abbrev Assigning : Site → Ledger → Spot → Ledger → Spot → Type 0
     Assigning = where_on o.es2021.logical_assignment_operators (RowRule LogicalAssignmentRule)
 
@@ -243,34 +246,38 @@ module _ (P : Ledger → Ledger → Open → Open → Type 0) where
         (either-does (either_rule Coalescing Chains) Raising
         (either-does Coalescing Chains (on-does o.es2020.nullish_coalescing_operator (RowRule NullishCoalescingRule) each.coalescing) each.chaining) each.raising)
 
-    does-by : Does (rules_by o Chains)
+    abbrev Further : Site → Ledger → Spot → Ledger → Spot → Type 0
+    Further = either_rule (where_on o.es2019.optional_catch_binding CatchRule) Spreads
+
+    does-by : Does (rules_by o Chains Spreads)
     does-by =
-        either-does Writing (either_rule Rows (FurtherRules o)) each.writing (either-does Rows (FurtherRules o) rows-does
-        (either-does (where_on o.es2019.optional_catch_binding CatchRule) (where_on (is_some o.es2018.object_rest_spread) (Replacing SpreadRule)) (on-does o.es2019.optional_catch_binding CatchRule each.catching) each.spreading))
+        either-does Writing (either_rule Rows Further) each.writing (either-does Rows Further rows-does
+        (either-does (where_on o.es2019.optional_catch_binding CatchRule) Spreads (on-does o.es2019.optional_catch_binding CatchRule each.catching) each.spreading))
 
   module _ (o : EnvOptions) where
     pub statement-does : EachDoes o → Does (StatementRules o)
-    statement-does each = does-by o (chains_under o) each
+    statement-does each = does-by o (chains_under o) (spreads_under o) each
 
-    -- and at some places alone, from what chains do there
-    module _ (at : Spot → Bool) where
+    -- and at some places alone, from what chains and spreads do there
+    module _ (at : Site → Spot → Bool) where
       abbrev pub EachDoesWhere : Type 0
-      EachDoesWhere = EachDoesBy o (only_where at (chains_under o))
+      EachDoesWhere = EachDoesBy o (only_where at (chains_under o)) (only_where at (spreads_under o))
 
-      chains-there : (n : Site) (s : Ledger) (x : Spot) (s' : Ledger) (y : Spot) → only_where at (StatementRules o) n s x s' y → rules_by o (only_where at (chains_under o)) n s x s' y
+      chains-there : (n : Site) (s : Ledger) (x : Spot) (s' : Ledger) (y : Spot) → only_where at (StatementRules o) n s x s' y → rules_by o (only_where at (chains_under o)) (only_where at (spreads_under o)) n s x s' y
       chains-there n s x s' y h = by-rule h.0
         where
-          by-rule : StatementRules o n s x s' y → rules_by o (only_where at (chains_under o)) n s x s' y
+          by-rule : StatementRules o n s x s' y → rules_by o (only_where at (chains_under o)) (only_where at (spreads_under o)) n s x s' y
           by-rule (inl r) = inl r
           by-rule (inr (inl (inl r))) = inr (inl (inl r))
           by-rule (inr (inl (inr (inl (inl r))))) = inr (inl (inr (inl (inl r))))
           by-rule (inr (inl (inr (inl (inr r))))) = inr (inl (inr (inl (inr (r, h.1)))))
           by-rule (inr (inl (inr (inr r)))) = inr (inl (inr (inr r)))
-          by-rule (inr (inr r)) = inr (inr r)
+          by-rule (inr (inr (inl r))) = inr (inr (inl r))
+          by-rule (inr (inr (inr r))) = inr (inr (inr (r, h.1)))
 
       pub statement-does-where : EachDoesWhere → Does (only_where at (StatementRules o))
       statement-does-where each s s' x y h =
-          does-by o (only_where at (chains_under o)) each s s' x y (step_under (only_where at (StatementRules o)) (rules_by o (only_where at (chains_under o))) chains-there h)
+          does-by o (only_where at (chains_under o)) (only_where at (spreads_under o)) each s s' x y (step_under (only_where at (StatementRules o)) (rules_by o (only_where at (chains_under o)) (only_where at (spreads_under o))) chains-there h)
 
 -- WHAT EACH DOES TO RUNS
 

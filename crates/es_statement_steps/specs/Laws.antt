@@ -17,7 +17,7 @@ use Rattle.es_statement_runs.specs.Helpers.{Supply}
 use Rattle.es_statement_runs.specs.Helpers.Supply.{no_helpers, spread_by_global, by_global}
 use Rattle.es_statement_runs.specs.Programs.{IsStatementProgram, uses_no_helper}
 use Rattle.es_statement_runs.specs.Runs.{RunAlike}
-use Rattle.es_statement_steps.specs.Orders.{chains_first}
+use Rattle.es_statement_steps.specs.Orders.{chains_first, no_name_in_chain, spreads_outside}
 
 -- WHICH ROWS ACT: those that options ask for whose construct stands in the program
 
@@ -69,6 +69,12 @@ TagsAreNoChains o p = o.es2020.optional_chaining ≡ true → all_nodes no_chain
 abbrev pub LawStatementRules : Type 0
 LawStatementRules = (o : EnvOptions) (p q : Tree) (names : List Text) → IsStatementProgram p → (mixes_helpers o p ≡ true → Reached (chains_first o) p (first_whole p) names q) → TagsAreNoChains o p → uses_no_helper (supply_there o p) p ≡ true →
     Reached (built_rules o) p (first_whole p) names q → RunAlike (supply_there o p) (assumes_no_all o p) p q
+
+-- And so it runs as what steps reach that lower no spread while a chain stands around it, of whatever spreads stand in its chains, where no chain of it holds
+-- the word `babelHelpers`.
+abbrev pub LawSpreadsOutside : Type 0
+LawSpreadsOutside = (o : EnvOptions) (p q : Tree) (names : List Text) → IsStatementProgram p → all_nodes no_name_in_chain p ≡ true → TagsAreNoChains o p → uses_no_helper (supply_there o p) p ≡ true →
+    Reached (spreads_outside o) p (first_whole p) names q → RunAlike (supply_there o p) (assumes_no_all o p) p q
 
 -- A program of which the law speaks under these options.
 pub record RunsAsStatements (o : EnvOptions) (p : Tree) : Type 0 where
