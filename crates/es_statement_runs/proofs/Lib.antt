@@ -31,6 +31,7 @@ pub mod TopVars
 pub mod Catches
 pub mod CoreClass
 pub mod NoHelpers
+pub mod AkinSupplies
 pub mod Composing
 pub mod Spreads
 pub mod Tied

@@ -32,8 +32,9 @@ use Rattle.es_statement_runs.specs.Kinds.{sense}
 use Rattle.es_statement_runs.specs.Laws.{among_names}
 use Rattle.es_statement_runs.specs.Places.{Take, avoids, placed_at}
 use Rattle.es_statement_runs.specs.Senses.{Sense}
-use Rattle.es_statement_steps.specs.Orders.{is_before_copies, names_other, no_name_in_chain, only_where}
-use Rattle.es_statement_steps.proofs.ApartSenses.{Apart, apart-sense}
+use Rattle.es_statement_runs.proofs.AkinSupplies.{Apart, apart-sense}
+use Rattle.es_statement_runs.specs.Programs.{names_other}
+use Rattle.es_statement_steps.specs.Orders.{is_before_copies, no_name_in_chain, only_where}
 use Rattle.es_statement_steps.proofs.ChainPlaces.{chains-program}
 use Rattle.es_statement_steps.proofs.Chainings.{ChainingRow, chaining-shape}
 use Rattle.es_statement_steps.proofs.Composition.{Known, known-fine}

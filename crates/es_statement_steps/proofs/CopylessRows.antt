@@ -26,8 +26,8 @@ use Rattle.es_steps.specs.OptionalChaining.{OptionalChainingRule}
 use Rattle.es_steps.specs.OptionalChaining.OptionalChainingRule.{as_callee, by_tests, in_delete}
 use Rattle.es_steps.specs.Steps.{Site, Whole}
 use Rattle.es_statement_steps.specs.Laws.{no_copy, no_copy_in_chain}
-use Rattle.es_statement_steps.specs.Orders.{names_other}
-use Rattle.es_statement_steps.proofs.ApartSenses.{Apart}
+use Rattle.es_statement_runs.proofs.AkinSupplies.{Apart}
+use Rattle.es_statement_runs.specs.Programs.{names_other}
 use Rattle.es_statement_steps.proofs.ChainsFirst.{fresh-other, other_name}
 use Rattle.es_statement_steps.proofs.Catchings.{CatchRow}
 use Rattle.es_statement_steps.proofs.Catchings.CatchMade.{made_catch}

@@ -24,7 +24,6 @@ pub mod WrittenAgain
 pub mod Unspread
 pub mod RaisedTargets
 pub mod RaisedRows
-pub mod ApartSenses
 pub mod ChainCopies
 pub mod ChainsFirst
 pub mod CopylessRows

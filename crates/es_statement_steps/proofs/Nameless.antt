@@ -47,8 +47,9 @@ use Rattle.es_statement_runs.specs.Laws.{among_names}
 use Rattle.es_statement_runs.specs.Places.{Take}
 use Rattle.es_statement_runs.specs.Programs.{is_statement_node}
 use Rattle.es_statement_runs.proofs.Moved.{MovedFields, MovedList, Room}
-use Rattle.es_statement_steps.specs.Orders.{is_in_chain, is_outside, names_other, no_name_in_chain, only_where}
-use Rattle.es_statement_steps.proofs.ApartSenses.{Apart}
+use Rattle.es_statement_runs.proofs.AkinSupplies.{Apart}
+use Rattle.es_statement_runs.specs.Programs.{names_other}
+use Rattle.es_statement_steps.specs.Orders.{is_in_chain, is_outside, no_name_in_chain, only_where}
 use Rattle.es_statement_steps.proofs.Assignments.{AssigningRow, assigning-shape}
 use Rattle.es_statement_steps.proofs.BareTests.{fields-bare, source-passes}
 use Rattle.es_statement_steps.proofs.Below.{Below, BelowField, BelowTrees, both_below, nodes_below}

@@ -1,26 +1,21 @@
 -- Steps of the lowerings in an order: each chain before the spreads in it, or no spread while a chain stands around it.
-use Rattle.std.specs.Prelude.{◌≡◌, ◌||◌, Bool, true, false, not, List, [], ◌∷◌, bytes_eq, codes}
+use Rattle.std.specs.Prelude.{◌≡◌, ◌||◌, Bool, true, false, not, List, [], ◌∷◌}
 use Rattle.es_tree.specs.Ancestors.{Ancestor}
-use Rattle.es_tree.specs.Names.{first_text}
 use Rattle.es_tree.specs.Parens.{without_parens}
 use Rattle.es_tree.specs.Tree.{Fields, Label, Tree, kind_of, node, one, ◌then◌}
 use Rattle.es_tree.specs.Walks.{all_in_fields, all_nodes}
 use Rattle.es_tree.specs.declared.ast_type.AstType.{AstType}
-use Rattle.es_tree.specs.declared.ast_type.AstType.TheVariants.{ChainExpression, Identifier, ObjectExpression, UnaryExpression}
+use Rattle.es_tree.specs.declared.ast_type.AstType.TheVariants.{ChainExpression, ObjectExpression, UnaryExpression}
 use Rattle.es_tree.specs.declared.options.EnvOptions.{EnvOptions}
 use Rattle.es_steps.specs.Steps.{Ledger, Site, Spot}
 use Rattle.es_steps.specs.Steps.Spot.{at_node}
 use Rattle.es_reached.specs.Reached.{built_rules}
+use Rattle.es_statement_runs.specs.Programs.{names_other}
 use Rattle.es_unsupported.specs.Shapes.{is_chain_kind}
 
 -- the steps of a rule at such places alone
 abbrev pub only_where : (Site → Spot → Bool) → (Site → Ledger → Spot → Ledger → Spot → Type 0) → Site → Ledger → Spot → Ledger → Spot → Type 0
 only_where at R n s x s' y = R n s x s' y × (at n x ≡ true)
-
--- not the name of the object of helpers
-abbrev pub names_other : AstType → Label → Fields → Bool
-names_other Identifier l fs = not (bytes_eq (first_text l.texts) (codes "babelHelpers"))
-names_other _ l fs = true
 
 -- where a chain is lowered: at it, or at the operator before it, as `delete` is one
 abbrev pub takes_chain : Tree → Bool

@@ -1,0 +1,124 @@
+-- The program that imports a helper: its list is that of the program before, with the import behind the first imports, which asks nothing and sets a hidden
+-- cell.
+use Rattle.std.proofs.Common.{◌≡◌, ◌∙◌, refl, sym, ap, subst, List, [], ◌∷◌, ◌++◌}
+use Rattle.std.specs.Prelude.{◌||◌, Bool, true, false, Option, Some, bytes_eq, codes, if◌then◌else◌}
+use Rattle.es_tree.specs.Scopes.{Declared}
+use Rattle.es_tree.specs.Tree.{Tree, Label, ◌then◌, Trees, empty, ◌before◌}
+use Rattle.es_tree.specs.Words.{Text}
+use Rattle.es_runs.specs.Alike.{Alike, Equal, Frame, SameWorld}
+use Rattle.es_runs.specs.Alike.Agree.{agree}
+use Rattle.es_runs.specs.Core.{Binding, Silent, World, in_order, value}
+use Rattle.es_runs.specs.Core.Binding.{silent}
+use Rattle.es_runs.specs.Core.Silent.{helper_name}
+use Rattle.es_runs.specs.Machine.{M, Value, ◌>>=◌, return, set_cell}
+use Rattle.es_runs.specs.Machine.OwnValue.{helper}
+use Rattle.es_runs.specs.Machine.Value.{own, undefined}
+use Rattle.es_runs.specs.Runs.{only, program}
+use Rattle.es_runs.proofs.Basic.{return_alike, then_alike}
+use Rattle.es_steps.specs.Nodes.{joined_trees}
+use Rattle.es_steps.specs.Open.{after_imports, is_import}
+use Rattle.es_statement_runs.specs.Alike.{Quiet, SensesLike, StackSeen}
+use Rattle.es_statement_runs.specs.Alike.SensesLike.{no_sense, sense_and}
+use Rattle.es_statement_runs.specs.Helpers.{Supply, imported_helper, imported_helpers}
+use Rattle.es_statement_runs.specs.Kinds.{kind_in, sense, senses}
+use Rattle.es_statement_runs.specs.Laws.{apart_from}
+use Rattle.es_statement_runs.specs.Names.{top_in, top_names, using_here, using_in}
+use Rattle.es_statement_runs.specs.Places.{placed_at, value_taken}
+use Rattle.es_statement_runs.specs.Senses.{cores}
+use Rattle.es_statement_runs.specs.StatementParts.{asked_by, begun}
+use Rattle.es_statement_runs.proofs.Catches.{hide_set}
+use Rattle.es_statement_runs.proofs.Programs.{body_taken}
+use Rattle.es_statement_runs.proofs.SensesAlike.{begun_like, bodies_like, ends_like}
+use Rattle.es_statement_runs.proofs.Combinators.{stack_alike}
+use Rattle.es_runs.proofs.Temporary.{bytes_eq-self}
+use Rattle.es_top_imports.specs.TopImports.{Import, import_of}
+
+-- A STATEMENT MORE that asks nothing, but sets a hidden cell
+pub record IsSilent (o : Supply) (x : Text) (v : World) (n : Tree) : Type 0 where
+  pub begins : (us : Trees) (m k : M Value) → Alike (apart_from x) Equal m (begun (senses (placed_at o v [] []) us) k) → Alike (apart_from x) Equal m (begun (senses (placed_at o v [] []) (n before us)) k)
+  pub goes : (us : Trees) (m : M Value) → Alike (apart_from x) Equal m (in_order v (cores (senses (placed_at o v [] []) us))) → Alike (apart_from x) Equal m (in_order v (cores (senses (placed_at o v [] []) (n before us))))
+
+hidden_first : (x : Text) (u : Value) {m k : M Value} → Alike (apart_from x) Equal m k → Alike (apart_from x) Equal m ((set_cell x u >>= λ _. return undefined) >>= λ _. k)
+hidden_first x u h _ _ (agree f g i) = hide_set (only x) x u (bytes_eq-self x) h _ _ (agree f g i)
+
+-- an import of a name that stands for a helper is one
+pub import_silent : (o : Supply) (i : Import) (t : Text) (v : World) → v.scope i.local.name ≡ silent (helper_name t) → IsSilent o i.local.name v (import_of i)
+import_silent o i t v bound = record { begins = begins; goes = λ us m h. λ s t a. h s t a }
+  where
+    asked : (us : Trees) (k : M Value) → begun (senses (placed_at o v [] []) (import_of i before us)) k ≡ ((set_cell i.local.name (own (helper t)) >>= λ _. return undefined) >>= λ _. begun (senses (placed_at o v [] []) us) k)
+    asked us k = ap (λ (b : Binding). (asked_by b i.source (codes "default") i.local.name >>= λ _. return undefined) >>= λ _. begun (senses (placed_at o v [] []) us) k) bound
+
+    begins : (us : Trees) (m k : M Value) → Alike (apart_from i.local.name) Equal m (begun (senses (placed_at o v [] []) us) k) → Alike (apart_from i.local.name) Equal m (begun (senses (placed_at o v [] []) (import_of i before us)) k)
+    begins us m k h = subst (λ (q : M Value). Alike (apart_from i.local.name) Equal m q) (sym (asked us k)) (hidden_first i.local.name (own (helper t)) h)
+
+-- A LIST with it behind the first imports
+
+module _ (u o : Supply) (x : Text) (w v : World) (same : SameWorld (only x) w v) (quiet : Quiet (apart_from x)) (n : Tree) (silent : IsSilent o x v n) where
+  abbrev F : Frame
+  F = apart_from x
+
+  begun_after : (ts us : Trees) → SensesLike F w v body_taken (senses (placed_at u w [] []) ts) (senses (placed_at o v [] []) us) → {m k : M Value} → Alike F Equal m k →
+      Alike F Equal (begun (senses (placed_at u w [] []) ts) m) (begun (senses (placed_at o v [] []) (after_imports (n before empty) us)) k)
+  begun_after empty empty no_sense i = silent.begins empty _ _ i
+  begun_after empty (b before us) h i = elim h [ ]
+  begun_after (a before ts) empty h i = elim h [ ]
+  begun_after (a before ts) (b before us) (sense_and h hs) {m = m} {k = k} i = at (begun_after ts us hs i) (is_import b)
+    where
+      at : Alike F Equal (begun (senses (placed_at u w [] []) ts) m) (begun (senses (placed_at o v [] []) (after_imports (n before empty) us)) k) → (c : Bool) → Alike F Equal (begun (senses (placed_at u w [] []) (a before ts)) m) (begun (senses (placed_at o v [] []) (if c then b before after_imports (n before empty) us else joined_trees (n before empty) (b before us))) k)
+      at later true = begun_like F quiet w v same (sense_and h no_sense) later
+      at later false = silent.begins (b before us) _ _ (begun_like F quiet w v same (sense_and h hs) i)
+
+  order_after : (ts us : Trees) → SensesLike F w v body_taken (senses (placed_at u w [] []) ts) (senses (placed_at o v [] []) us) →
+      Alike F Equal (in_order w (cores (senses (placed_at u w [] []) ts))) (in_order v (cores (senses (placed_at o v [] []) (after_imports (n before empty) us))))
+  order_after empty empty no_sense = silent.goes empty _ (return_alike F undefined)
+  order_after empty (b before us) h = elim h [ ]
+  order_after (a before ts) empty h = elim h [ ]
+  order_after (a before ts) (b before us) (sense_and h hs) = at (order_after ts us hs) (is_import b)
+    where
+      at : Alike F Equal (in_order w (cores (senses (placed_at u w [] []) ts))) (in_order v (cores (senses (placed_at o v [] []) (after_imports (n before empty) us)))) → (c : Bool) → Alike F Equal (in_order w (cores (senses (placed_at u w [] []) (a before ts)))) (in_order v (cores (senses (placed_at o v [] []) (if c then b before after_imports (n before empty) us else joined_trees (n before empty) (b before us)))))
+      at later true = then_alike F h.core.evaluation (λ z. later)
+      at later false = silent.goes (b before us) _ (bodies_like F quiet w v same refl (sense_and h hs))
+
+  module _ (stack : StackSeen F) (apart : using_here n ≡ false) where
+    using_after : (us : Trees) → using_in (after_imports (n before empty) us) ≡ using_in us
+    using_after empty = rw apart refl
+    using_after (b before us) = at (using_after us) (is_import b)
+      where
+        at : using_in (after_imports (n before empty) us) ≡ using_in us → (c : Bool) → using_in (if c then b before after_imports (n before empty) us else joined_trees (n before empty) (b before us)) ≡ using_in (b before us)
+        at later true = ap (λ (z : Bool). using_here b || z) later
+        at later false = rw apart refl
+
+    -- the programs mean the same but for that cell
+    pub program_after : (l : Label) (ds es ts us : Trees) → SensesLike F w v body_taken (senses (placed_at u w [] []) ts) (senses (placed_at o v [] []) us) → using_in us ≡ using_in ts →
+        Alike F Equal (value w (sense (placed_at u w [] []) (program l ds ts)).core) (value v (sense (placed_at o v [] []) (program l es (after_imports (n before empty) us))).core)
+    program_after l ds es ts us h uses = rw (using_after us, uses) ((ends_like F quiet w v same value_taken (begun_after ts us h (stack_alike F quiet (using_in ts) (λ _. stack) (order_after ts us h)))).core.evaluation)
+
+-- WHAT THE TOP DECLARES
+
+kind_front : (ds es fs : List Declared) (y : Text) → kind_in es y ≡ kind_in fs y → kind_in (ds ++ es) y ≡ kind_in (ds ++ fs) y
+kind_front [] es fs y h = h
+kind_front (d ∷ ds) es fs y h = ap (λ (k : Option Text). if bytes_eq y d.name then Some d.kind else k) (kind_front ds es fs y h)
+
+module _ (y : Text) (n : Tree) (apart : (es : List Declared) → kind_in (top_names n ++ es) y ≡ kind_in es y) where
+  pub kinds_after : (us : Trees) → kind_in (top_in (after_imports (n before empty) us)) y ≡ kind_in (top_in us) y
+  kinds_after empty = apart []
+  kinds_after (b before us) = at (kinds_after us) (is_import b)
+    where
+      at : kind_in (top_in (after_imports (n before empty) us)) y ≡ kind_in (top_in us) y → (c : Bool) → kind_in (top_in (if c then b before after_imports (n before empty) us else joined_trees (n before empty) (b before us))) y ≡ kind_in (top_in (b before us)) y
+      at later true = kind_front (top_names b) (top_in (after_imports (n before empty) us)) (top_in us) y later
+      at later false = apart (top_in (b before us))
+
+-- THE NAMES that stand for helpers
+
+none_both : {A : Type 0} (xs ys : List A) → xs ++ ys ≡ [] → (xs ≡ []) × (ys ≡ [])
+none_both [] ys h = (refl, h)
+none_both (x ∷ xs) ys h = absurd (cc h)
+
+module _ (m : Text) (n : Tree) (e : Text × Silent) (one : imported_helper m n ≡ e ∷ []) where
+  pub imported_after : (us : Trees) → imported_helpers m us ≡ [] → imported_helpers m (after_imports (n before empty) us) ≡ e ∷ []
+  imported_after empty h = rw one refl
+  imported_after (b before us) h = let d = none_both (imported_helper m b) (imported_helpers m us) h in at d.0 (imported_after us d.1) (is_import b)
+    where
+      at : imported_helper m b ≡ [] → imported_helpers m (after_imports (n before empty) us) ≡ e ∷ [] → (c : Bool) → imported_helpers m (if c then b before after_imports (n before empty) us else joined_trees (n before empty) (b before us)) ≡ e ∷ []
+      at first later true = (λ j. first j ++ imported_helpers m (after_imports (n before empty) us)) ∙ later
+      at first later false = (λ j. one j ++ imported_helpers m (b before us)) ∙ (λ j. e ∷ h j)
