@@ -22,14 +22,18 @@ needs_helper k l fs = is_object_spread k l fs || is_rest_declaration k l fs
 abbrev pub calls_helper : AstType → Label → Fields → Bool
 calls_helper k l fs = is_some (called_helper k l fs)
 
--- A node that asks for a helper: one for which one copies, where that is lowered, and a call of one, where the source names no `babelHelpers`
--- itself, so that the call was made.
+-- A node that asks for a helper: one for which one copies, where that is lowered, and a call of one, where `using` was lowered, which makes such
+-- calls.
 abbrev pub asks_helper : EnvOptions → Bool → AstType → Label → Fields → Bool
-asks_helper o free k l fs = (is_some o.es2018.object_rest_spread && needs_helper k l fs) || (free && calls_helper k l fs)
+asks_helper o made k l fs = (is_some o.es2018.object_rest_spread && needs_helper k l fs) || (made && calls_helper k l fs)
 
 -- whether one stands, and helpers are imported
 abbrev pub imports_helpers : EnvOptions → Bool → Tree → Bool
-imports_helpers o free p = not (is_external o.helper_loader.mode) && any_node (asks_helper o free) p
+imports_helpers o made p = not (is_external o.helper_loader.mode) && any_node (asks_helper o made) p
+
+-- the first call of a helper that a source itself makes
+abbrev pub own_call : Tree → Option ℕ
+own_call s = first_node calls_helper s
 
 -- whether a program is a module (16.2)
 abbrev pub is_module : Tree → Bool
@@ -39,13 +43,13 @@ is_module p = bytes_eq (first_text (label_of p).texts) (codes "module")
 abbrev pub binds_require : Tree → Bool
 binds_require p = not (is_module p) && is_some (find (symbols_of p) (0 ∷ []) (codes "require"))
 
--- The first node at which a program can't import helpers: one that asks for a helper, where a script binds `require`, or else the first call of a
--- helper that the source itself makes.
-abbrev pub unimported_where : EnvOptions → Bool → Bool → Tree → Option ℕ
-unimported_where o free bound p = option_or (if bound then first_node (asks_helper o free) p else None) (if free then None else first_node calls_helper p)
+-- The first node at which a program can't import helpers, where its source makes this call: one that asks for a helper, where a script binds
+-- `require`, or else that call.
+abbrev pub unimported_where : EnvOptions → Bool → Option ℕ → Bool → Tree → Option ℕ
+unimported_where o made own bound p = option_or (if bound then first_node (asks_helper o made) p else None) own
 
-abbrev pub unimported : EnvOptions → Bool → Tree → Option ℕ
-unimported o free p = if imports_helpers o free p then unimported_where o free (binds_require p) p else None
+abbrev pub unimported : EnvOptions → Bool → Option ℕ → Tree → Option ℕ
+unimported o made own p = if imports_helpers o made p then unimported_where o made own (binds_require p) p else None
 
-abbrev pub first_unimported : EnvOptions → Bool → Tree → Option (UnsupportedKind × ℕ)
-first_unimported o free p = option_map (λ n. (HelperName, n)) (unimported o free p)
+abbrev pub first_unimported : EnvOptions → Bool → Option ℕ → Tree → Option (UnsupportedKind × ℕ)
+first_unimported o made own p = option_map (λ n. (HelperName, n)) (unimported o made own p)

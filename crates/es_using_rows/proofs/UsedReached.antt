@@ -12,10 +12,12 @@ use Rattle.es_tree.specs.Tree.{Tree}
 use Rattle.es_tree.specs.Walks.{any_node}
 use Rattle.es_tree.specs.Words.{Text}
 use Rattle.es_tree.specs.declared.table.Sort.TheVariants.{Program as s-Program}
+use Rattle.es_semantic.specs.SymbolsOf.{symbols_of}
 use Rattle.es_resolution.specs.Laws.{source}
 use Rattle.es_reached.proofs.Results.{rules-bare, source-form, source-well-bound}
 use Rattle.es_reached.proofs.Sources.{law_bare_source_proof}
 use Rattle.es_rest_rows.specs.Laws.{is_bound_helper}
+use Rattle.es_rest_shapes.specs.HelperNames.{binds_helpers}
 use Rattle.es_steps.specs.AllRules.{UsingRule}
 use Rattle.es_steps.specs.CoreBridge.{first_whole}
 use Rattle.es_steps.specs.Laws.{IsWellBound, nothing_beside}
@@ -56,9 +58,9 @@ module _ (p : Tree) (names : List Text) where
 
 module _
     (walks : (t : Tree) (w w' : Whole) (x : Open) → has_form s-Program t ≡ true → breaks t ≡ [] → IsWellBound w t → any_node is_bound_helper t ≡ false → w.in_use (codes "babelHelpers") ≡ true → Steps (Step UsingWalkRow the_program) (nothing_beside w) (opened t) (nothing_beside w') x → Steps (Step UsingRule the_program) (nothing_beside w) (opened t) (nothing_beside w') x)
-    (source-unbound : (p : Tree) → has_form s-Program p ≡ true → breaks p ≡ [] → is_among (names_of p) (codes "babelHelpers") ≡ false → any_node is_bound_helper (source p) ≡ false) where
+    (source-unbound : (p : Tree) → has_form s-Program p ≡ true → breaks p ≡ [] → binds_helpers (symbols_of p) ≡ false → any_node is_bound_helper (source p) ≡ false) where
   pub used-steps : LawUsedSteps
-  used-steps p q names form right other to =
+  used-steps p q names form right unbound to =
       let start = first_whole p in
       let m : Makes = with_symbols names start.free_symbol in
       let alike = used-alike names m (plainly names) (symbols-so names start.free_symbol) (plainly-so names) Anywhere 0 (source p) p (law_bare_source_proof p) in
@@ -67,7 +69,7 @@ module _
       let r : Tree = (used m Anywhere 0 (source p)).1 in (
         r,
         left.after,
-        walks (source p) start left.after (opened r) (source-form p form) (rules-bare p (source p) (sym (law_bare_source_proof p)) right) (source-well-bound p form right) (source-unbound p form right other) (helpers-used p) (left.steps nothing_pending None no_additions),
+        walks (source p) start left.after (opened r) (source-form p form) (rules-bare p (source p) (sym (law_bare_source_proof p)) right) (source-well-bound p form right) (source-unbound p form right unbound) (helpers-used p) (left.steps nothing_pending None no_additions),
         left.there.made ∙ all-of (used m Anywhere 0 (source p)).0 names count,
         alike.1 ∙ sym (ap bare to.tree),
       )
