@@ -16,7 +16,7 @@ use Rattle.es_scope.specs.declared.scoping.Scoping.{Scoping}
 use Rattle.es_semantic.specs.SymbolsOf.{Declared, find, symbol_in, symbols_of}
 use Rattle.es_semantic.specs.TableOf.{IsTableOf}
 use Rattle.es_semantic.proofs.Chains.{bound_some}
-use Rattle.es_helper_calls.specs.Importing.{asks_helper, binds_require, calls_helper, imports_helpers, is_module, unimported, unimported_where}
+use Rattle.es_helper_calls.specs.Importing.{asks_helper, binds_require, imports_helpers, is_module, unimported, unimported_where}
 use Rattle.lower_helper_imports.specs.HelperImports.{Tells, first_asking, number_of}
 use Rattle.lower_helper_imports.specs.declared.finding.HelperImports.{HelperImports}
 
@@ -101,51 +101,44 @@ module _ (p : Test) (none : (k : AstType) (l : Label) (fs : Fields) → p k l fs
 
 -- WHETHER HELPERS ARE IMPORTED
 
-pub asked-where : (o : EnvOptions) (free : Bool) (p : Tree) (a : Option NodeId) → option_map number_of a ≡ first_asking o free p → is_some a ≡ imports_helpers o free p
-asked-where o free p a e = at (is_external o.helper_loader.mode) (some-number a ∙ ap is_some e)
+pub asked-where : (o : EnvOptions) (made : Bool) (p : Tree) (a : Option NodeId) → option_map number_of a ≡ first_asking o made p → is_some a ≡ imports_helpers o made p
+asked-where o made p a e = at (is_external o.helper_loader.mode) (some-number a ∙ ap is_some e)
   where
-    at : (external : Bool) → is_some a ≡ is_some (if external then None else first_node (asks_helper o free) p) → is_some a ≡ (not external && any_node (asks_helper o free) p)
+    at : (external : Bool) → is_some a ≡ is_some (if external then None else first_node (asks_helper o made) p) → is_some a ≡ (not external && any_node (asks_helper o made) p)
     at true d = d
-    at false d = d ∙ some-node (asks_helper o free) p
+    at false d = d ∙ some-node (asks_helper o made) p
 
 -- WHERE THEY CAN'T BE, by what was found
-
-abbrev pub unimported_if : EnvOptions → Bool → Tree → Bool → Option ℕ
-unimported_if o free p bound = if imports_helpers o free p then unimported_where o free bound p else None
-
--- the first of two, of which there is none where there isn't the first
-where-first : (free : Bool) (a b : Option ℕ) → option_or a (if is_some a && not free then b else None) ≡ (if is_some a then option_or a (if free then None else b) else None)
-where-first free None b = refl
-where-first free (Some n) b = refl
 
 numbers-or : (a b : Option NodeId) → option_map number_of (option_or a b) ≡ option_or (option_map number_of a) (option_map number_of b)
 numbers-or None b = refl
 numbers-or (Some n) b = refl
 
-module _ (o : EnvOptions) (p : Tree) (free : Bool) where
-  bound-by : (external : Bool) → option_or (if external then None else first_node (asks_helper o free) p) (if (not external && any_node (asks_helper o free) p) && not free then first_node calls_helper p else None) ≡ (if not external && any_node (asks_helper o free) p then unimported_where o free true p else None)
-  bound-by true = refl
-  bound-by false =
-      let asking = first_node (asks_helper o free) p in
-      let calling = first_node calls_helper p in
-      let some = some-node (asks_helper o free) p in
-      (λ i. option_or asking (if sym some i && not free then calling else None)) ∙ where-first free asking calling ∙ (λ i. if some i then option_or asking (if free then None else calling) else None)
+-- the first of two, where helpers are imported
+where-first : (external any : Bool) (a b : Option ℕ) → (not external && any) ≡ true → option_or (if external then None else a) b ≡ (if not external && any then option_or a b else None)
+where-first true any a b on = absurd (cc on)
+where-first false true a b on = refl
+where-first false false a b on = absurd (cc on)
 
-  unbound-by : (imports off : Bool) → (if imports && not off then first_node calls_helper p else None) ≡ (if imports then (if off then None else first_node calls_helper p) else None)
-  unbound-by true true = refl
-  unbound-by true false = refl
-  unbound-by false off = refl
+module _ (o : EnvOptions) (made : Bool) (own : Option ℕ) (p : Tree) (u : HelperImports) (tells : Tells o made own p u) where
+  abbrev unimported_if : Bool → Option ℕ
+  unimported_if bound = if imports_helpers o made p then unimported_where o made own bound p else None
 
-  module _ (u : HelperImports) (tells : Tells o free p u) where
-    pub found-bound : option_map number_of (option_or u.asking u.calling) ≡ unimported_if o free p true
-    found-bound = numbers-or u.asking u.calling ∙ (λ i. option_or (tells.asking i) (tells.calling i)) ∙ bound-by (is_external o.helper_loader.mode)
+  on : is_some u.asking ≡ true → imports_helpers o made p ≡ true
+  on some = sym (asked-where o made p u.asking tells.asking) ∙ some
 
-    pub found-unbound : option_map number_of u.calling ≡ unimported_if o free p false
-    found-unbound = tells.calling ∙ unbound-by (imports_helpers o free p) free
+  pub found-none : is_some u.asking ≡ false → None ≡ unimported o made own p
+  found-none none = λ i. if sym (sym (asked-where o made p u.asking tells.asking) ∙ none) i then unimported_where o made own (binds_require p) p else None
 
--- so the node is that of what was found
-pub found-node : (o : EnvOptions) (free : Bool) (p : Tree) (b : Bool) (r : Option ℕ) → r ≡ unimported_if o free p b → b ≡ binds_require p → r ≡ unimported o free p
-found-node o free p b r e is = e ∙ ap (unimported_if o free p) is
+  pub found-bound : is_some u.asking ≡ true → true ≡ binds_require p → option_map number_of (option_or u.asking u.calling) ≡ unimported o made own p
+  found-bound some bound =
+      numbers-or u.asking u.calling
+      ∙ (λ i. option_or (tells.asking i) (tells.calling i))
+      ∙ where-first (is_external o.helper_loader.mode) (any_node (asks_helper o made) p) (first_node (asks_helper o made) p) own (on some)
+      ∙ ap unimported_if bound
+
+  pub found-unbound : is_some u.asking ≡ true → false ≡ binds_require p → option_map number_of u.calling ≡ unimported o made own p
+  found-unbound some unbound = tells.calling ∙ (λ i. if sym (on some) i then own else None) ∙ ap unimported_if unbound
 
 -- a module requires nothing
 pub module-free : (p : Tree) → not (is_module p) ≡ false → false ≡ binds_require p

@@ -1,5 +1,5 @@
 //! Whether a program imports helpers, and where it can't.
-ghost use Rattle.std.specs.Prelude.{◌≡◌, ◌&&◌, Bool, None, if◌then◌else◌, is_some, not, option_map, true};
+ghost use Rattle.std.specs.Prelude.{◌≡◌, ℕ, Bool, Option, option_map, true};
 ghost use Rattle.es_tree.specs.HasForm.{has_form};
 ghost use Rattle.es_tree.specs.Options.{is_external};
 ghost use Rattle.es_tree.specs.Tree.{Tree, fields_of, kind_of, label_of};
@@ -8,7 +8,7 @@ ghost use Rattle.es_tree.specs.Walks.{first_in_field, first_node};
 ghost use Rattle.es_tree.specs.declared.options.EnvOptions.{EnvOptions as PlainOptions};
 ghost use Rattle.es_tree.specs.declared.table.Sort.TheVariants.{Program as s-Program};
 ghost use Rattle.es_semantic.specs.TableOf.{IsTableOf};
-ghost use Rattle.es_helper_calls.specs.Importing.{calls_helper, imports_helpers, is_module, needs_helper, unimported};
+ghost use Rattle.es_helper_calls.specs.Importing.{binds_require, imports_helpers, is_module, needs_helper, own_call, unimported};
 ghost use Rattle.lower_helper_imports.specs.HelperImports.{Tells, first_asking, number_of, sought_test};
 
 use crate::calls::called_helper;
@@ -41,68 +41,78 @@ struct Sought {
 }
 
 impl HelperImports {
-    /// What a program under these options tells, whose source names no `babelHelpers` itself (`free`), or does.
-    pub fn of_program(program: &Node, options: &EnvOptions, free: bool) -> HelperImports
+    /// What a program under these options tells, where `using` was lowered (`made`), or wasn't, whose source makes this call itself.
+    pub fn of_program(
+        program: &Node,
+        options: &EnvOptions,
+        made: bool,
+        calling: Option<NodeId>,
+    ) -> HelperImports
         requires { has_form s-Program program.now ≡ true }
-        ensures { Tells options.now free program.now result }
+        ensures { Tells options.now made (option_map number_of calling) program.now result }
     {
-        let asking = first_asking(program, options, free);
         HelperImports {
             is_module: is_module(program),
-            asking,
-            calling: first_calling(program, asking, free),
+            asking: first_asking(program, options, made),
+            calling,
         }
     }
 
     /// Whether the program imports helpers.
     pub fn are_asked(&self) -> bool
-        ensures { (o : PlainOptions) (free : Bool) (p : Tree) → Tells o free p self.now → result ≡ imports_helpers o free p }
+        ensures { (o : PlainOptions) (made : Bool) (own : Option ℕ) (p : Tree) → Tells o made own p self.now → result ≡ imports_helpers o made p }
     {
         self.asking.is_some()
     }
 
     /// The node at which it can't, if there is one, of the program with this scope table.
     pub fn find_unsupported(self, scoping: &Scoping) -> Option<NodeId>
-        ensures { (o : PlainOptions) (free : Bool) (p : Tree) → Tells o free p self → IsTableOf p scoping.now → option_map number_of result ≡ unimported o free p }
+        ensures { (o : PlainOptions) (made : Bool) (own : Option ℕ) (p : Tree) → Tells o made own p self → IsTableOf p scoping.now → option_map number_of result ≡ unimported o made own p }
     {
-        if !self.is_module
-            && scoping
-                .get_binding(scoping.root_scope_id(), "require")
-                .is_some()
-        {
+        if self.asking.is_none() {
+            return None;
+        }
+        if self.binds_require(scoping) {
             self.asking.or(self.calling)
         } else {
             self.calling
         }
     }
+
+    /// Whether it is a script whose own scope binds `require`, where it has this scope table.
+    fn binds_require(self, scoping: &Scoping) -> bool
+        ensures { (p : Tree) → self.is_module ≡ is_module p → IsTableOf p scoping.now → result ≡ binds_require p }
+    {
+        !self.is_module
+            && scoping
+                .get_binding(scoping.root_scope_id(), "require")
+                .is_some()
+    }
 }
 
-/// The first node that asks for a helper, where helpers are imported: one for which a helper copies, or a call of a helper that was made, where
-/// the source names no `babelHelpers` itself.
-fn first_asking(program: &Node, options: &EnvOptions, free: bool) -> Option<NodeId>
-    ensures { option_map number_of result ≡ first_asking options.now free program.now }
+/// The first call of a helper that a source itself makes.
+pub fn own_call(source: &Node) -> Option<NodeId>
+    ensures { option_map number_of result ≡ own_call source.now }
 {
-    let sought = Sought {
-        copies: options.es2018.object_rest_spread.is_some(),
-        calls: free,
-    };
-    if is_external(options.helper_loader.mode) || !(sought.copies || sought.calls) {
-        return None;
-    }
-    first_node(program, sought)
-}
-
-/// The first call of a helper that the source itself makes, where a node asks for one.
-fn first_calling(program: &Node, asking: Option<NodeId>, free: bool) -> Option<NodeId>
-    ensures { option_map number_of result ≡ (if is_some asking && not free then first_node calls_helper program.now else None) }
-{
-    if asking.is_none() || free {
-        return None;
-    }
     let sought = Sought {
         copies: false,
         calls: true,
     };
+    first_node(source, sought)
+}
+
+/// The first node that asks for a helper, where helpers are imported: one for which a helper copies, or a call of a helper, where `using` was
+/// lowered.
+fn first_asking(program: &Node, options: &EnvOptions, made: bool) -> Option<NodeId>
+    ensures { option_map number_of result ≡ first_asking options.now made program.now }
+{
+    let sought = Sought {
+        copies: options.es2018.object_rest_spread.is_some(),
+        calls: made,
+    };
+    if is_external(options.helper_loader.mode) || !(sought.copies || sought.calls) {
+        return None;
+    }
     first_node(program, sought)
 }
 

@@ -28,7 +28,7 @@ mod names;
 mod statements;
 
 use crate::calls::{call_by_names, helpers_called};
-pub use crate::finding::HelperImports;
+pub use crate::finding::{HelperImports, own_call};
 use crate::names::fresh_names;
 use crate::statements::import_all;
 use es_tree::node::Node;

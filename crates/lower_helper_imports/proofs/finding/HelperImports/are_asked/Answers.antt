@@ -3,4 +3,4 @@ use Rattle.lower_helper_imports.proofs.FirstFound.{asked-where}
 use Rattle.lower_helper_imports.proofs.finding.HelperImports.are_asked.Goals as goal
 
 pub returns : goal.returns
-returns c o free p tells = c.is_some.ensures ∙ asked-where o free p c.args.self.now.asking tells.asking
+returns c o made own p tells = c.is_some.ensures ∙ asked-where o made p c.args.self.now.asking tells.asking
