@@ -27,8 +27,8 @@ module _ (o : EnvOptions) (on : o.es2026.explicit_resource_management ≡ true) 
   keep-bindings p q w w' kind bound steps = law_bindings_proof o p q w w' kind bound (all_under UsingRule (AllRules o) among-all steps)
 
 pub law_used_proof : LawUsed
-law_used_proof o p q names form right on unnamed uses =
-    let found = law_used_steps_proof p q names form right unnamed uses in
+law_used_proof o p q names form right on unbound uses =
+    let found = law_used_steps_proof p q names form right unbound uses in
     result-by UsingRule (with_using UsingRule o) (among-using o on) (keep-bindings o on) (law_using_form_proof o) (law_using_rules_proof o) (law_using_outside_proof o) p q found.0 names found.1 form right found.2 found.3 found.4
 
 pub law_headed_proof : LawHeaded
