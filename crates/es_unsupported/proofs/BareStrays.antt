@@ -4,7 +4,7 @@ use Rattle.std.specs.Prelude.{◌&&◌, ◌||◌, not, if◌then◌else◌}
 use Rattle.es_tree.specs.Bare.{bare, bare_field, bare_fields, bare_label, bare_trees}
 use Rattle.es_tree.specs.Tree.{Tree, node, Label, Fields, done, ◌then◌, Field, missing, one, many, statements, Trees, empty, ◌before◌}
 use Rattle.es_tree.specs.declared.ast_type.AstType.{AstType}
-use Rattle.es_tree.specs.declared.ast_type.AstType.TheVariants.{ArrayPattern, ArrayTarget, ArrowFunctionExpression, AssignmentPattern, FunctionDeclaration, FunctionExpression, RestElement, TargetProperty, TargetRest, TargetWithDefault, VariableDeclarator}
+use Rattle.es_tree.specs.declared.ast_type.AstType.TheVariants.{ArrayPattern, ArrayTarget, ArrowFunctionExpression, AssignmentPattern, FunctionDeclaration, FunctionExpression, RestElement, TargetProperty, TargetRest, TargetWithDefault, VariableDeclaration, VariableDeclarator}
 use Rattle.es_tree.specs.declared.error.UnsupportedKind.TheVariants.{HeadName, NotBuilt, RestParameter}
 use Rattle.es_rest_shapes.specs.RestShapes.{any_child, any_child_by, any_tree}
 use Rattle.es_rest_shapes.proofs.BareRests.{plain-bare, stray-bare}
@@ -55,5 +55,6 @@ stray_shape-bare TargetProperty fs = refl
 stray_shape-bare TargetWithDefault fs = refl
 stray_shape-bare ArrayTarget fs = refl
 stray_shape-bare TargetRest fs = refl
+stray_shape-bare VariableDeclaration fs = refl
 stray_shape-bare VariableDeclarator fs = ap (λ b. if b then HeadName else NotBuilt) (head-bare fs)
 stray_shape-bare k fs = ap (λ b. if b then RestParameter else NotBuilt) (has_parameter-bare k fs)

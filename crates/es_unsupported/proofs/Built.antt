@@ -1,4 +1,4 @@
--- Where nothing is found, no construct stands in a program whose lowering isn't built.
+-- Where nothing is found, no construct stands in a program that no lowering takes.
 use Rattle.std.proofs.Common.{◌≡◌, ℕ, zero, suc, ◌+◌, List, Bool, true, false, Option, Some, None, if◌then◌else◌, refl}
 use Rattle.std.specs.Prelude.{◌&&◌, ◌||◌, is_some}
 use Rattle.std.proofs.lemmas.Bool.{or_from, or_parts}

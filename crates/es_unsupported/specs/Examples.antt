@@ -6,7 +6,7 @@ use Rattle.es_tree.specs.Tree.{Tree, node, done, ◌then◌, missing, one, many,
 use Rattle.es_tree.specs.Words.{Text}
 use Rattle.es_tree.specs.declared.ast_type.AstType.TheVariants.{ArrayPattern, ArrayTarget, ArrowFunctionExpression, AssignmentExpression, AssignmentPattern, ClassDeclaration, EmptyStatement, ForOfStatement, FunctionDeclaration, FunctionExpression, LogicalExpression, MethodDefinition, ObjectPattern, ObjectTarget, Program, RestElement, Super, TargetRest, UnaryExpression, VariableDeclaration, VariableDeclarator}
 use Rattle.es_tree.specs.declared.error.UnsupportedKind.{UnsupportedKind}
-use Rattle.es_tree.specs.declared.error.UnsupportedKind.TheVariants.{ArrowOuter, ArrowThis, HeadName, HelperName, NotBuilt, RestInArray, RestNested, RestParameter, UsingFunction}
+use Rattle.es_tree.specs.declared.error.UnsupportedKind.TheVariants.{ArrowOuter, ArrowThis, HeadName, HelperName, RestInArray, RestNested, RestParameter, UsingFunction}
 use Rattle.es_tree.specs.declared.options.EnvOptions.{EnvOptions}
 use Rattle.es_tree.specs.declared.options.HelperLoaderMode.TheVariants.{External}
 use Rattle.es_tree.specs.declared.table.Sort.TheVariants.{Program as s-Program}
@@ -166,4 +166,4 @@ pub record LawShapeExamples : Type 0 where
   pub using_head : FindsUsing (loop_over (codes "using") (word (codes "a")) (word (codes "a")) ∷ []) (Some (HeadName, 1))
   -- `function f(g) { using a = b; function g() {} }`, and without the parameter
   pub using_function : FindsUsing (function_node (word (codes "g") ∷ []) (declaration (codes "using") (word (codes "a")) ∷ named_function (codes "g") [] [] ∷ []) ∷ []) (Some (UsingFunction, 1))
-  pub using_declared : FindsUsing (function_node [] (declaration (codes "using") (word (codes "a")) ∷ named_function (codes "g") [] [] ∷ []) ∷ []) (Some (NotBuilt, 4))
+  pub using_declared : FindsUsing (function_node [] (declaration (codes "using") (word (codes "a")) ∷ named_function (codes "g") [] [] ∷ []) ∷ []) (Some (HelperName, 4))

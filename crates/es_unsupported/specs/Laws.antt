@@ -14,7 +14,7 @@ use Rattle.es_unsupported.specs.Shapes.{is_unbuilt_node}
 abbrev pub LawArrowsTaken : Type 0
 LawArrowsTaken = (o : EnvOptions) (p : Tree) → is_some o.es2015.arrow_function ≡ true → first_unsupported o p ≡ None → fits_arrows o p ≡ true
 
--- No construct stands in it whose lowering isn't built.
+-- No construct stands in it that no lowering takes.
 abbrev pub LawBuilt : Type 0
 LawBuilt = (o : EnvOptions) (p : Tree) → first_unsupported o p ≡ None → any_node (is_unbuilt_node o) p ≡ false
 

@@ -5,7 +5,7 @@ use Rattle.es_tree.specs.Constructs.{field_at, is_exponentiation, is_object_spre
 use Rattle.es_tree.specs.Parens.{without_parens}
 use Rattle.es_tree.specs.Tree.{Tree, node, Label, Fields, ◌then◌, Field, one, kind_of}
 use Rattle.es_tree.specs.declared.ast_type.AstType.{AstType}
-use Rattle.es_tree.specs.declared.ast_type.AstType.TheVariants.{ArrayPattern, ArrayTarget, ArrowFunctionExpression, AssignmentPattern, ChainExpression, FunctionDeclaration, FunctionExpression, RestElement, TaggedTemplateExpression, TargetProperty, TargetRest, TargetWithDefault, VariableDeclarator}
+use Rattle.es_tree.specs.declared.ast_type.AstType.TheVariants.{ArrayPattern, ArrayTarget, ArrowFunctionExpression, AssignmentPattern, ChainExpression, FunctionDeclaration, FunctionExpression, RestElement, TaggedTemplateExpression, TargetProperty, TargetRest, TargetWithDefault, VariableDeclaration, VariableDeclarator}
 use Rattle.es_tree.specs.declared.error.UnsupportedKind.{UnsupportedKind}
 use Rattle.es_tree.specs.declared.error.UnsupportedKind.TheVariants.{HeadName, HelperName, MathBound, NotBuilt, RestInArray, RestNested, RestParameter, SpreadLiteral, TagChain, UsingFunction}
 use Rattle.es_tree.specs.declared.ids.NodeId.{NodeId}
@@ -40,7 +40,8 @@ has_rest_parameter _ fs = false
 abbrev pub holds_stray : AstType → Label → Fields → Bool
 holds_stray k l fs = is_stray_rest k l fs || has_rest_parameter k fs
 
--- A construct whose lowering isn't built: such a node, and `using` (14.3, with Explicit Resource Management).
+-- A construct that no lowering takes: such a node, and `using` (14.3, with Explicit Resource Management), which is lowered before unless the program
+-- binds `babelHelpers`, of which the helper is a property.
 abbrev pub is_unbuilt_node : EnvOptions → AstType → Label → Fields → Bool
 is_unbuilt_node o k l fs =
     (is_some o.es2018.object_rest_spread && holds_stray k l fs)
@@ -49,8 +50,9 @@ is_unbuilt_node o k l fs =
 abbrev pub is_unbuilt : EnvOptions → List Declared → List ℕ → AstType → Label → Fields → Bool
 is_unbuilt o ds up k l fs = is_unbuilt_node o k l fs
 
--- THE NAME of such a construct, by its node. Where patterns move out of heads and parameters, those that may not are left: in the head of a
--- `for-in` or `for-of` (14.7.5) one whose names the right side asks, and a parameter that other names could see otherwise (10.2.11).
+-- THE NAME of such a construct, by its node: a declaration is one by `using`, since a list of declarators holds no pattern itself. Where patterns move
+-- out of heads and parameters, those that may not are left: in the head of a `for-in` or `for-of` (14.7.5) one whose names the right side asks, and a
+-- parameter that other names could see otherwise (10.2.11).
 
 abbrev pub declares_head : Fields → Bool
 declares_head fs = begins_with_rest fs && not (is_some (child_at 1 fs))
@@ -68,6 +70,7 @@ stray_shape TargetProperty fs = RestNested
 stray_shape TargetWithDefault fs = RestNested
 stray_shape ArrayTarget fs = RestNested
 stray_shape TargetRest fs = RestNested
+stray_shape VariableDeclaration fs = HelperName
 stray_shape VariableDeclarator fs = declarator_shape fs
 stray_shape k fs = parameter_shape k fs
 

@@ -7,7 +7,7 @@ pub fn law_arrows_taken()
     ensures { LawArrowsTaken }
 {}
 
-/// No construct stands in a program that is taken whose lowering isn't built.
+/// In a program that is taken no construct stands that no lowering takes.
 pub fn law_built()
     ensures { LawBuilt }
 {}

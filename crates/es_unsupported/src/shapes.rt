@@ -138,7 +138,7 @@ fn shape_at(
     None
 }
 
-/// Whether the node is a construct whose lowering isn't built.
+/// Whether the node is a construct that no lowering takes.
 fn is_unbuilt(node: &Node, wanted: Wanted) -> bool
     ensures { (o : PlainOptions) (ds : List Declared) (up : List ℕ) → IsWanted wanted o ds → result ≡ is_unbuilt o ds up (kind_of node.now) (label_of node.now) (fields_of node.now) }
 {

@@ -18,7 +18,7 @@ pub(crate) fn holds_stray(node: &Node) -> bool
     is_stray_rest(node) || has_rest_parameter(node)
 }
 
-/// The name by which a node is refused that holds one, or is a `using`.
+/// The name by which a node is refused that holds one, or is a declaration by `using`.
 pub(crate) fn stray_shape(node: &Node) -> UnsupportedKind
     ensures { result ≡ stray_shape (kind_of node.now) (fields_of node.now) }
 {
@@ -28,6 +28,7 @@ pub(crate) fn stray_shape(node: &Node) -> UnsupportedKind
         | Kind::TargetWithDefault
         | Kind::ArrayTarget
         | Kind::TargetRest => UnsupportedKind::RestNested,
+        Kind::VariableDeclaration { .. } => UnsupportedKind::HelperName,
         Kind::VariableDeclarator => declarator_shape(node),
         _ => parameter_shape(node),
     }
