@@ -30,8 +30,10 @@ use Rattle.es_unsupported.proofs.QuietUsing.{asks-none, clashes-none}
 use Rattle.es_using_heads.specs.Heads.{asks_its_name}
 use Rattle.es_using_nodes.specs.Clashes.{clashes}
 use Rattle.lower_driver.specs.UnsupportedPrograms.{Finds}
-use Rattle.lower_driver.specs.Uses.{names_helpers}
+use Rattle.es_helper_calls.specs.Importing.{own_call}
+use Rattle.lower_driver.specs.Uses.{lowers_using}
 use Rattle.lower_driver.proofs.Imported.{core-unimporting, none-refused}
+use Rattle.lower_driver.proofs.Used.{unasked-off}
 use Rattle.lower_driver.proofs.CoreNodes.{no-rest, no-using}
 use Rattle.lower_driver.proofs.EitherTest.{fewer-in-fields}
 use Rattle.lower_driver.proofs.Moved.{off-anyway}
@@ -171,4 +173,5 @@ pub generated-finds : (o : EnvOptions) (n : ℕ) → Finds o (generated n) None
 generated-finds o n =
     let core = (generated-core n).core in
     let rests = no-rest (generated n) core in
-    finds-itself o (generated n) None (off-anyway o.es2026.explicit_resource_management (any_node is_using (generated n)) (no-using (generated n) core)) (off-anyway (is_some o.es2018.object_rest_spread) (any_node is_object_rest (generated n)) rests) (none-refused o (not (names_helpers (generated n))) (generated n) (generated-taken o n) (core-unimporting o (generated n) core rests))
+    let unused = off-anyway o.es2026.explicit_resource_management (any_node is_using (generated n)) (no-using (generated n) core) in
+    finds-itself o (generated n) None unused (off-anyway (is_some o.es2018.object_rest_spread) (any_node is_object_rest (generated n)) rests) (none-refused o (lowers_using o (generated n)) (own_call (generated n)) (generated n) (generated-taken o n) (core-unimporting o (lowers_using o (generated n)) (generated n) (unasked-off o (generated n) unused) core rests))

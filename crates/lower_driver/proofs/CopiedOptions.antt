@@ -81,8 +81,8 @@ module _ (o c : EnvOptions) (copy : IsCopy o c) where
   pub copied-unsupported : (p : Tree) → first_unsupported c p ≡ first_unsupported o p
   copied-unsupported p = copied-first (symbols_of p) (outermost p) outside 1 p
 
-  pub copied-refused : (free : Bool) (p : Tree) → first_refused c free p ≡ first_refused o free p
-  copied-refused free p = λ i. option_or (copied-unsupported p i) (first_unimported (record c { es2018 = copy.es2018 i; helper_loader = record c.helper_loader { mode = copy.mode i } }) free p)
+  pub copied-refused : (made : Bool) (own : Option ℕ) (p : Tree) → first_refused c made own p ≡ first_refused o made own p
+  copied-refused made own p = λ i. option_or (copied-unsupported p i) (first_unimported (record c { es2018 = copy.es2018 i; helper_loader = record c.helper_loader { mode = copy.mode i } }) made own p)
 
   -- RULES
 

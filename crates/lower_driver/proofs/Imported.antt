@@ -32,11 +32,9 @@ use Rattle.es_unsupported.specs.FirstUnsupported.{first_unsupported}
 use Rattle.es_unsupported.proofs.Firsts.{left_none, right_none}
 use Rattle.lower_driver.specs.Imports.{Imports}
 use Rattle.lower_driver.specs.UnsupportedPrograms.{first_refused}
-use Rattle.lower_driver.specs.Uses.{names_helpers}
 use Rattle.lower_driver.proofs.BareConstructs.{same-constructs}
 use Rattle.lower_driver.proofs.CoreNodes.{no-spread}
 use Rattle.lower_driver.proofs.EitherTest.{any-where, none-of-tree}
-use Rattle.lower_driver.proofs.FreeCalls.{no-calls}
 use Rattle.lower_driver.proofs.Moved.{off-anyway}
 
 -- WHERE NOTHING NEEDS A HELPER
@@ -44,29 +42,28 @@ use Rattle.lower_driver.proofs.Moved.{off-anyway}
 none-needs : (p : Tree) → any_node is_object_spread p ≡ false → any_node is_object_rest p ≡ false → any_node needs_helper p ≡ false
 none-needs p spreads rests = none-of-tree is_object_spread is_rest_declaration needs_helper (λ k l fs. refl) p spreads (law_declared_rests_proof p rests)
 
--- a program in which no object spread or rest is to be lowered imports none
-pub none-unimporting : (o : EnvOptions) (p : Tree) → (is_some o.es2018.object_rest_spread && any_node is_object_spread p) ≡ false → (is_some o.es2018.object_rest_spread && any_node is_object_rest p) ≡ false → imports_helpers o (not (names_helpers p)) p ≡ false
-none-unimporting o p spreads rests =
-    let free : Bool = not (names_helpers p) in
+-- a program in which no `using` was lowered and no object spread or rest is to be lowered imports none
+pub none-unimporting : (o : EnvOptions) (made : Bool) (p : Tree) → made ≡ false → (is_some o.es2018.object_rest_spread && any_node is_object_spread p) ≡ false → (is_some o.es2018.object_rest_spread && any_node is_object_rest p) ≡ false → imports_helpers o made p ≡ false
+none-unimporting o made p unmade spreads rests =
     let copies : any_node (λ k l fs. is_some o.es2018.object_rest_spread && needs_helper k l fs) p ≡ false = any-where (is_some o.es2018.object_rest_spread) needs_helper p ∙ at (is_some o.es2018.object_rest_spread) spreads rests in
-    let calls : any_node (λ k l fs. free && calls_helper k l fs) p ≡ false = any-where free calls_helper p ∙ no-calls p in
-    off-anyway (not (is_external o.helper_loader.mode)) (any_node (asks_helper o free) p)
-    (none-of-tree (λ k l fs. is_some o.es2018.object_rest_spread && needs_helper k l fs) (λ k l fs. free && calls_helper k l fs) (asks_helper o free) (λ k l fs. refl) p copies calls)
+    let calls : any_node (λ k l fs. made && calls_helper k l fs) p ≡ false = any-where made calls_helper p ∙ ap (λ b. b && any_node calls_helper p) unmade in
+    off-anyway (not (is_external o.helper_loader.mode)) (any_node (asks_helper o made) p)
+    (none-of-tree (λ k l fs. is_some o.es2018.object_rest_spread && needs_helper k l fs) (λ k l fs. made && calls_helper k l fs) (asks_helper o made) (λ k l fs. refl) p copies calls)
   where
     at : (on : Bool) → (on && any_node is_object_spread p) ≡ false → (on && any_node is_object_rest p) ≡ false → (on && any_node needs_helper p) ≡ false
     at true e d = none-needs p e d
     at false e d = refl
 
 -- nor does a core program
-pub core-unimporting : (o : EnvOptions) (p : Tree) → all_nodes is_core_node p ≡ true → any_node is_object_rest p ≡ false → imports_helpers o (not (names_helpers p)) p ≡ false
-core-unimporting o p core rests = let on = is_some o.es2018.object_rest_spread in none-unimporting o p (off-anyway on (any_node is_object_spread p) (no-spread p core)) (off-anyway on (any_node is_object_rest p) rests)
+pub core-unimporting : (o : EnvOptions) (made : Bool) (p : Tree) → made ≡ false → all_nodes is_core_node p ≡ true → any_node is_object_rest p ≡ false → imports_helpers o made p ≡ false
+core-unimporting o made p unmade core rests = let on = is_some o.es2018.object_rest_spread in none-unimporting o made p unmade (off-anyway on (any_node is_object_spread p) (no-spread p core)) (off-anyway on (any_node is_object_rest p) rests)
 
 -- where it imports none, nothing stands in the way
-pub unimporting-none : (o : EnvOptions) (free : Bool) (p : Tree) → imports_helpers o free p ≡ false → first_unimported o free p ≡ None
-unimporting-none o free p e = rw e refl
+pub unimporting-none : (o : EnvOptions) (made : Bool) (own : Option ℕ) (p : Tree) → imports_helpers o made p ≡ false → first_unimported o made own p ≡ None
+unimporting-none o made own p e = rw e refl
 
-pub none-refused : (o : EnvOptions) (free : Bool) (p : Tree) → first_unsupported o p ≡ None → imports_helpers o free p ≡ false → first_refused o free p ≡ None
-none-refused o free p e off = rw (e, unimporting-none o free p off) refl
+pub none-refused : (o : EnvOptions) (made : Bool) (own : Option ℕ) (p : Tree) → first_unsupported o p ≡ None → imports_helpers o made p ≡ false → first_refused o made own p ≡ None
+none-refused o made own p e off = rw (e, unimporting-none o made own p off) refl
 
 -- WHAT STANDS IN THE WAY
 
@@ -103,38 +100,38 @@ named-none None h = refl
 named-none (Some n) h = absurd (cc h)
 
 -- where nothing does, a script binds no `require` at its top
-require-unbound : (o : EnvOptions) (free : Bool) (p : Tree) → imports_helpers o free p ≡ true → first_unimported o free p ≡ None → binds_require p ≡ false
-require-unbound o free p on none = at (binds_require p) (ap (λ (b : Bool). if b then unimported_where o free (binds_require p) p else None) (sym on) ∙ named-none (unimported o free p) none)
+require-unbound : (o : EnvOptions) (made : Bool) (own : Option ℕ) (p : Tree) → imports_helpers o made p ≡ true → first_unimported o made own p ≡ None → binds_require p ≡ false
+require-unbound o made own p on none = at (binds_require p) (ap (λ (b : Bool). if b then unimported_where o made own (binds_require p) p else None) (sym on) ∙ named-none (unimported o made own p) none)
   where
-    at : (bound : Bool) → unimported_where o free bound p ≡ None → bound ≡ false
+    at : (bound : Bool) → unimported_where o made own bound p ≡ None → bound ≡ false
     at false h = refl
     at true h =
-        let needed : any_node (asks_helper o free) p ≡ true = (and_parts (not (is_external o.helper_loader.mode)) (any_node (asks_helper o free) p) on).1 in
-        absurd (true≢false (sym needed ∙ first-none (asks_helper o free) p (left_none (first_node (asks_helper o free) p) (if free then None else first_node calls_helper p) h)))
+        let needed : any_node (asks_helper o made) p ≡ true = (and_parts (not (is_external o.helper_loader.mode)) (any_node (asks_helper o made) p) on).1 in
+        absurd (true≢false (sym needed ∙ first-none (asks_helper o made) p (left_none (first_node (asks_helper o made) p) own h)))
 
 -- WHAT IT BECOMES
 
-module _ (o : EnvOptions) (free : Bool) (q lowered written : Tree) (later last : List Text) (form : has_form s-Program q ≡ true) (right : breaks q ≡ []) (none : first_refused o free q ≡ None) (result : IsLowered o q lowered later) (m : Imports (imports_helpers o free q) (string_bytes o.helper_loader.module_name) lowered written last) where
+module _ (o : EnvOptions) (made : Bool) (own : Option ℕ) (q lowered written : Tree) (later last : List Text) (form : has_form s-Program q ≡ true) (right : breaks q ≡ []) (none : first_refused o made own q ≡ None) (result : IsLowered o q lowered later) (m : Imports (imports_helpers o made q) (string_bytes o.helper_loader.module_name) lowered written last) where
   abbrev module_text : Text
   module_text = string_bytes o.helper_loader.module_name
 
-  pub is-imported : imports_helpers o free q ≡ true → IsImported module_text lowered written last
+  pub is-imported : imports_helpers o made q ≡ true → IsImported module_text lowered written last
   is-imported on =
-      let unbound = require-unbound o free q on (right_none (first_unsupported o q) (first_unimported o free q) none) in
+      let unbound = require-unbound o made own q on (right_none (first_unsupported o q) (first_unimported o made own q) none) in
       law_imported_proof module_text lowered written last result.form result.kept (λ script. law_require_free_proof o q lowered later form right result unbound script) (m.goes on)
 
   pub none-left : has_enabled_construct o lowered ≡ false → has_enabled_construct o written ≡ false
-  none-left earlier = at (imports_helpers o free q) refl
+  none-left earlier = at (imports_helpers o made q) refl
     where
-      at : (b : Bool) → imports_helpers o free q ≡ b → has_enabled_construct o written ≡ false
+      at : (b : Bool) → imports_helpers o made q ≡ b → has_enabled_construct o written ≡ false
       at true on =
           let hs = helpers_called lowered in
           same-constructs o (imported_as module_text hs (unmarked last) lowered) written (m.goes on).written ∙ law_no_constructs_proof o module_text hs (unmarked last) lowered earlier
       at false off = ap (has_enabled_construct o) (m.stays off).0 ∙ earlier
 
-  pub size-after : tree_size written ≤ tree_size lowered + (if imports_helpers o free q then 18 else 0)
-  size-after = at (imports_helpers o free q) refl
+  pub size-after : tree_size written ≤ tree_size lowered + (if imports_helpers o made q then 18 else 0)
+  size-after = at (imports_helpers o made q) refl
     where
-      at : (b : Bool) → imports_helpers o free q ≡ b → tree_size written ≤ tree_size lowered + (if b then 18 else 0)
+      at : (b : Bool) → imports_helpers o made q ≡ b → tree_size written ≤ tree_size lowered + (if b then 18 else 0)
       at true on = law_imported_size_proof (first_whole lowered).in_use module_text lowered written last (m.goes on)
       at false off = rw (m.stays off).0 (omega arith)

@@ -16,11 +16,9 @@ pub mod FewScopes
 pub mod Imported
 pub mod Set
 pub mod Moved
-pub mod NamedHelpers
 pub mod HeadNames
 pub mod Splits
 pub mod Used
 pub mod Tops
 pub mod Stages
 pub mod CoreNodes
-pub mod FreeCalls

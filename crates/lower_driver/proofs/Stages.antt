@@ -15,6 +15,8 @@ use Rattle.es_tree.specs.declared.error.LowerError.TheVariants.{OutOfMemory, Uns
 use Rattle.es_tree.specs.declared.error.UnsupportedKind.{UnsupportedKind}
 use Rattle.es_tree.specs.declared.options.EnvOptions.{EnvOptions}
 use Rattle.es_tree.specs.declared.table.Sort.TheVariants.{Program as s-Program}
+use Rattle.es_semantic.specs.SymbolsOf.{symbols_of}
+use Rattle.es_rest_shapes.specs.HelperNames.{binds_helpers}
 use Rattle.es_pattern_moves.specs.Moved.{plainly}
 use Rattle.es_pattern_moves.specs.Weights.{weighed}
 use Rattle.es_pattern_moves.proofs.MovedSize.{law_moved_size_proof}
@@ -25,7 +27,7 @@ use Rattle.es_statement_runs.specs.Runs.{RunAlike}
 use Rattle.es_statement_steps.specs.Laws.{RunsAsStatements, assumes_no_all, supply_there}
 use Rattle.es_export_splits.specs.Laws.{IsSplit}
 use Rattle.es_export_splits.specs.Splits.{has_split}
-use Rattle.es_helper_calls.specs.Importing.{imports_helpers}
+use Rattle.es_helper_calls.specs.Importing.{imports_helpers, own_call}
 use Rattle.es_using_modules.specs.Laws.{IsTopped}
 use Rattle.es_using_modules.specs.ModuleTops.{uses_at_top}
 use Rattle.es_super_calls.specs.Constructors.{is_derived_class}
@@ -36,7 +38,7 @@ use Rattle.lower_driver.specs.Moves.{Moves}
 use Rattle.lower_driver.specs.Sets.{Sets, sets_this}
 use Rattle.lower_driver.specs.Splits.{Splits, splits_exports}
 use Rattle.lower_driver.specs.Tops.{Tops, lowers_top}
-use Rattle.lower_driver.specs.Uses.{Heads, Uses, lowers_using, names_helpers, using_there}
+use Rattle.lower_driver.specs.Uses.{Heads, Uses, lowers_using, using_there}
 use Rattle.lower_driver.specs.UnsupportedPrograms.{Finds, IsFirstOrMemory, IsUnsupportedOrMemory, first_refused}
 use Rattle.lower_driver.proofs.CopiedOptions.{copied-refused}
 use Rattle.lower_driver.proofs.CoreNodes.{no-class, no-class-among-statements, no-rest, no-using}
@@ -60,11 +62,11 @@ finds-one o p a b f g =
     let topped : f.topped ≡ g.topped = one-topped (lowers_top o g.split g.used) g.used f.topped g.topped f.top_names g.top_names tops g.tops in
     let there = subst (λ (t : Tree). Moves (is_some o.es2018.object_rest_spread) t f.moved f.names) topped f.moves in
     let moved : f.moved ≡ g.moved = one-program (is_some o.es2018.object_rest_spread) g.topped f.moved g.moved f.names g.names there g.moves in
-    sym f.first ∙ ap (λ (s : Tree). first_refused o (not (names_helpers s)) f.moved) first ∙ ap (first_refused o (not (names_helpers g.split))) moved ∙ g.first
+    sym f.first ∙ ap (λ (s : Tree). first_refused o (lowers_using o s) (own_call s) f.moved) first ∙ ap (first_refused o (lowers_using o g.split) (own_call g.split)) moved ∙ g.first
 
 -- whatever copy of the options it is
 copied-lowers : (o c : EnvOptions) → IsCopy o c → (p : Tree) → lowers_using c p ≡ lowers_using o p
-copied-lowers o c copy p = λ i. ((copy.es2026 i).explicit_resource_management && any_node is_using p) && not (names_helpers p)
+copied-lowers o c copy p = λ i. ((copy.es2026 i).explicit_resource_management && any_node is_using p) && not (binds_helpers (symbols_of p))
 
 copied-splits : (o c : EnvOptions) → IsCopy o c → (p : Tree) → splits_exports c p ≡ splits_exports o p
 copied-splits o c copy p = λ i. is_some (copy.es2018 i).object_rest_spread && has_split p
@@ -85,11 +87,11 @@ copied-finds o c copy p a f = record {
   moved = f.moved;
   names = f.names;
   moves = subst (λ (b : Bool). Moves b f.topped f.moved f.names) (λ i. is_some (copy.es2018 i).object_rest_spread) f.moves;
-  first = sym (copied-refused o c copy (not (names_helpers f.split)) f.moved) ∙ f.first;
+  first = ap (λ (b : Bool). first_refused o b (own_call f.split) f.moved) (sym (copied-lowers o c copy f.split)) ∙ sym (copied-refused o c copy (lowers_using c f.split) (own_call f.split) f.moved) ∙ f.first;
 }
 
 -- in which neither `using` nor an object rest stands that is asked for
-pub finds-itself : (o : EnvOptions) (p : Tree) (a : Option (UnsupportedKind × ℕ)) → using_there o p ≡ false → (is_some o.es2018.object_rest_spread && any_node is_object_rest p) ≡ false → first_refused o (not (names_helpers p)) p ≡ a → Finds o p a
+pub finds-itself : (o : EnvOptions) (p : Tree) (a : Option (UnsupportedKind × ℕ)) → using_there o p ≡ false → (is_some o.es2018.object_rest_spread && any_node is_object_rest p) ≡ false → first_refused o (lowers_using o p) (own_call p) p ≡ a → Finds o p a
 finds-itself o p a none rests first =
     let on = is_some o.es2018.object_rest_spread in
     let off = unasked-off o p none in
@@ -132,13 +134,16 @@ none-more (x ∷ xs) = ap (λ ys. x ∷ ys) (none-more xs)
 
 module _
     (o : EnvOptions) (s p t v z q lowered imported written : Tree) (heads contexts top_names names later last : List Text) (form : has_form s-Program s ≡ true) (right : breaks s ≡ []) (x : Splits (splits_exports o s) s p) (h : Heads (lowers_using o p) p t heads) (u : Uses (lowers_using o p) t v contexts)
-    (y : Tops (lowers_top o p v) v z top_names) (m : Moves (is_some o.es2018.object_rest_spread) z q names) (none : first_refused o (not (names_helpers p)) q ≡ None) (in_place : LowersInPlace o q lowered later) (imports : Imports (imports_helpers o (not (names_helpers p)) q) (string_bytes o.helper_loader.module_name) lowered imported last)
+    (y : Tops (lowers_top o p v) v z top_names) (m : Moves (is_some o.es2018.object_rest_spread) z q names) (none : first_refused o (lowers_using o p) (own_call p) q ≡ None) (in_place : LowersInPlace o q lowered later) (imports : Imports (imports_helpers o (lowers_using o p) q) (string_bytes o.helper_loader.module_name) lowered imported last)
     (sets : Sets (sets_this o s) later imported written) where
   abbrev on : Bool
   on = is_some o.es2018.object_rest_spread
 
-  abbrev free : Bool
-  free = not (names_helpers p)
+  abbrev made : Bool
+  made = lowers_using o p
+
+  abbrev own : Option ℕ
+  own = own_call p
 
   abbrev all_names : List Text
   all_names = heads ++ contexts ++ top_names ++ names ++ later ++ last
@@ -177,6 +182,7 @@ module _
   record Same : Type 0 where
     split : p ≡ s
     moved : q ≡ s
+    unmade : made ≡ false
     unused : Unused
     names_none : names ≡ []
 
@@ -187,25 +193,25 @@ module _
       let there = second.same ∙ first in
       let rests : (on && any_node is_object_rest z) ≡ false = ap (λ (t : Tree). on && any_node is_object_rest t) there ∙ none_moved in
       let third = stays-itself on z (no-moves on z rests) q names m in
-      record { split = first; moved = third.0 ∙ there; unused = second; names_none = third.1 }
+      record { split = first; moved = third.0 ∙ there; unmade = unasked-off o p (same-using o s p x ∙ none_used); unused = second; names_none = third.1 }
 
   -- where it imports no helper, either, and has no class that extends another, what is lowered in place is what is written
-  as-before : Same → imports_helpers o (not (names_helpers s)) s ≡ false → any_node is_derived_class s ≡ false → (written ≡ lowered) × (last ≡ [])
+  as-before : Same → imports_helpers o false s ≡ false → any_node is_derived_class s ≡ false → (written ≡ lowered) × (last ≡ [])
   as-before same off none =
-      let unimported = imports.stays (ap (imports_helpers o free) same.moved ∙ ap (λ (t : Tree). imports_helpers o (not (names_helpers t)) s) same.split ∙ off) in
+      let unimported = imports.stays (ap (imports_helpers o made) same.moved ∙ ap (λ (b : Bool). imports_helpers o b s) same.unmade ∙ off) in
       (sets.stays (off-anyway (is_some o.es2015.arrow_function) (any_node is_derived_class s) none) ∙ unimported.0, unimported.1)
 
   core-there : IsCoreProgram s → IsCoreResult o s written all_names
   core-there core =
       let rests = no-rest s core.core in
       let same = same-there (off-anyway o.es2026.explicit_resource_management (any_node is_using s) (no-using s core.core)) (off-anyway on (any_node is_object_rest s) rests) in
-      let stays = as-before same (core-unimporting o s core.core rests) (no-class s core.core) in
+      let stays = as-before same (core-unimporting o false s refl core.core rests) (no-class s core.core) in
       let there : IsCoreResult o s lowered later = subst (λ (t : Tree). IsCoreResult o t lowered later) same.moved (in_place.core (subst (λ (t : Tree). IsCoreProgram t) (sym same.moved) core)) in
       let unused = same.unused in
       let named : all_names ≡ later = ap (λ (xs : List Text). xs ++ contexts ++ top_names ++ names ++ later ++ last) unused.heads_none ∙ ap (λ (xs : List Text). xs ++ top_names ++ names ++ later ++ last) unused.contexts_none ∙ ap (λ (xs : List Text). xs ++ names ++ later ++ last) unused.tops_none ∙ ap (λ (xs : List Text). xs ++ later ++ last) same.names_none ∙ ap (λ (xs : List Text). later ++ xs) stays.1 ∙ none-more later in
       subst (λ (xs : List Text). IsCoreResult o s written xs) (sym named) (subst (λ (t : Tree). IsCoreResult o s t later) (sym stays.0) there)
 
-  statements-there : using_there o s ≡ false → rests_there o s ≡ false → imports_helpers o (not (names_helpers s)) s ≡ false → RunsAsStatements o s → RunAlike (supply_there o s) (assumes_no_all o s) s written
+  statements-there : using_there o s ≡ false → rests_there o s ≡ false → imports_helpers o false s ≡ false → RunsAsStatements o s → RunAlike (supply_there o s) (assumes_no_all o s) s written
   statements-there no_using no_rests off runs =
       let same = same-there no_using no_rests in
       let there : RunAlike (supply_there o s) (assumes_no_all o s) s lowered = subst (λ (t : Tree). RunAlike (supply_there o t) (assumes_no_all o t) t lowered) same.moved (in_place.statements (ap (rests_there o) same.moved ∙ no_rests) (subst (λ (t : Tree). RunsAsStatements o t) (sym same.moved) runs)) in
@@ -240,22 +246,22 @@ module _
           let same = same-there e d in
           subst (λ (n : ℕ). tree_size lowered ≤ n * tree_size s + 64) (ap (λ b. if b then 384 else 64) (ap (rests_there o) same.moved ∙ d)) (subst (λ (t : Tree). tree_size lowered ≤ (if rests_there o q then 384 else 64) * tree_size t + 64) same.moved in_place.size)
 
-  imported-size : tree_size imported ≤ most_for_each (using_there o s) (rests_there o s) (splits_exports o s) * tree_size s + (if imports_helpers o free q then 82 else 64)
-  imported-size = at (imports_helpers o free q) (size-after o free q lowered imported later last moved_there.form moved_there.kept none in_place.result imports)
+  imported-size : tree_size imported ≤ most_for_each (using_there o s) (rests_there o s) (splits_exports o s) * tree_size s + (if imports_helpers o made q then 82 else 64)
+  imported-size = at (imports_helpers o made q) (size-after o made own q lowered imported later last moved_there.form moved_there.kept none in_place.result imports)
     where
       at : (b : Bool) → tree_size imported ≤ tree_size lowered + (if b then 18 else 0) → tree_size imported ≤ most_for_each (using_there o s) (rests_there o s) (splits_exports o s) * tree_size s + (if b then 82 else 64)
       at true more = let least = lowered-size in omega (arith, least, more)
       at false more = let least = lowered-size in omega (arith, least, more)
 
-  sized : tree_size written ≤ (if sets_this o s then 3 else 1) * (most_for_each (using_there o s) (rests_there o s) (splits_exports o s) * tree_size s + (if imports_helpers o free q then 82 else 64))
+  sized : tree_size written ≤ (if sets_this o s then 3 else 1) * (most_for_each (using_there o s) (rests_there o s) (splits_exports o s) * tree_size s + (if imports_helpers o made q then 82 else 64))
   sized = set-size (sets_this o s) later imported written sets _ imported-size
 
   -- what is imported is a program that breaks no static rule
   imported-program : (has_form s-Program imported ≡ true) × (breaks imported ≡ [])
-  imported-program = at (imports_helpers o free q) refl
+  imported-program = at (imports_helpers o made q) refl
     where
-      at : (b : Bool) → imports_helpers o free q ≡ b → (has_form s-Program imported ≡ true) × (breaks imported ≡ [])
-      at true e = let there = is-imported o free q lowered imported later last moved_there.form moved_there.kept none in_place.result imports e in (there.form, there.kept)
+      at : (b : Bool) → imports_helpers o made q ≡ b → (has_form s-Program imported ≡ true) × (breaks imported ≡ [])
+      at true e = let there = is-imported o made own q lowered imported later last moved_there.form moved_there.kept none in_place.result imports e in (there.form, there.kept)
       at false e = rw (imports.stays e).0 (in_place.result.form, in_place.result.kept)
 
   pub lowers : has_enabled_construct o s ≡ true → Lowers o s written all_names
@@ -285,11 +291,11 @@ module _
     imported = imported;
     last_names = last;
     imports = imports;
-    is_imported = is-imported o free q lowered imported later last moved_there.form moved_there.kept none in_place.result imports;
+    is_imported = is-imported o made own q lowered imported later last moved_there.form moved_there.kept none in_place.result imports;
     sets = sets;
     is_set = is-set (sets_this o s) later imported written sets imported-program.0 imported-program.1;
     all_names = refl;
-    none = none-after (sets_this o s) later imported written sets o (none-left o free q lowered imported later last moved_there.form moved_there.kept none in_place.result imports in_place.none);
+    none = none-after (sets_this o s) later imported written sets o (none-left o made own q lowered imported later last moved_there.form moved_there.kept none in_place.result imports in_place.none);
     core = core-there;
     statements = statements-there;
     unchanged = λ unasked. absurd (true≢false (sym some ∙ unasked));
@@ -297,7 +303,7 @@ module _
   }
 
 -- A program in which no construct stands that the options ask to lower becomes itself: no name is made, so none is set.
-pub becomes-itself : (o : EnvOptions) (p : Tree) → has_form s-Program p ≡ true → breaks p ≡ [] → using_there o p ≡ false → (is_some o.es2018.object_rest_spread && any_node is_object_rest p) ≡ false → imports_helpers o (not (names_helpers p)) p ≡ false → first_refused o (not (names_helpers p)) p ≡ None → LowersInPlace o p p [] → Lowers o p p []
+pub becomes-itself : (o : EnvOptions) (p : Tree) → has_form s-Program p ≡ true → breaks p ≡ [] → using_there o p ≡ false → (is_some o.es2018.object_rest_spread && any_node is_object_rest p) ≡ false → imports_helpers o (lowers_using o p) p ≡ false → first_refused o (lowers_using o p) (own_call p) p ≡ None → LowersInPlace o p p [] → Lowers o p p []
 becomes-itself o p form right unused rests off none in_place =
     let on = is_some o.es2018.object_rest_spread in
     let off_here = unasked-off o p unused in
@@ -308,7 +314,7 @@ becomes-itself o p form right unused rests off none in_place =
     let y = tops-itself (lowers_top o p p) p (untopped-off o p p off_here) in
     let headed-there = is-headed o p form right p [] h in
     let used-there = is-used o p form right p p [] [] h u in
-    let imports : Imports (imports_helpers o (not (names_helpers p)) p) (string_bytes o.helper_loader.module_name) p p [] = record { goes = λ asked. absurd (true≢false (sym asked ∙ off)); stays = λ e. (refl, refl) } in
+    let imports : Imports (imports_helpers o (lowers_using o p) p) (string_bytes o.helper_loader.module_name) p p [] = record { goes = λ asked. absurd (true≢false (sym asked ∙ off)); stays = λ e. (refl, refl) } in
     let sets = sets-itself (sets_this o p) p in
     record {
       split = p;
@@ -350,7 +356,7 @@ becomes-itself o p form right unused rests off none in_place =
 -- WHY IT IS REFUSED
 
 pub cause-of : (o : EnvOptions) (s p t v z q : Tree) (heads contexts top_names names : List Text) (error : LowerError) → Splits (splits_exports o s) s p → Heads (lowers_using o p) p t heads → Uses (lowers_using o p) t v contexts → Tops (lowers_top o p v) v z top_names → Moves (is_some o.es2018.object_rest_spread) z q names →
-    IsFirstOrMemory o (not (names_helpers p)) q error → IsUnsupportedOrMemory o s error
+    IsFirstOrMemory o (lowers_using o p) (own_call p) q error → IsUnsupportedOrMemory o s error
 cause-of o s p t v z q heads contexts top_names names (Unsupported kind id) x h u y m e = record { split = p; splits = x; headed = t; head_names = heads; heads = h; used = v; context_names = contexts; uses = u; topped = z; top_names = top_names; tops = y; moved = q; names = names; moves = m; first = e }
 cause-of o s p t v z q heads contexts top_names names OutOfMemory x h u y m e = tt
 cause-of o s p t v z q heads contexts top_names names _ x h u y m e = absurd e

@@ -2,7 +2,7 @@
 -- program.
 use Rattle.std.proofs.Common.{◌≡◌, inl, inr, ◌∙◌, ◌*◌, ◌≤◌, List, [], ◌∷◌, ap, refl, subst, sym, true≢false}
 use Rattle.std.proofs.lemmas.Bool.{and_parts, not-true, or_right}
-use Rattle.std.specs.Prelude.{Bool, true, false, ◌&&◌, None, Option, Some, codes, is_some, not, ℕ}
+use Rattle.std.specs.Prelude.{Bool, true, false, ◌&&◌, None, Option, Some, is_some, not, ℕ}
 use Rattle.es_tree.specs.Constructs.{is_using}
 use Rattle.es_tree.specs.Fresh.{is_among}
 use Rattle.es_tree.specs.HasForm.{has_form}
@@ -22,6 +22,7 @@ use Rattle.es_steps.specs.CoreBridge.{first_whole}
 use Rattle.es_steps.specs.Identifiers.{Passes}
 use Rattle.es_steps.specs.Steps.{Ledger, Site, Spot}
 use Rattle.es_reached.proofs.Results.{source-well-bound}
+use Rattle.es_rest_shapes.specs.HelperNames.{binds_helpers}
 use Rattle.es_rest_rows.proofs.HelperNames.{FindsNone, helpers_name, is_other_name, place-none, unbound-passes}
 use Rattle.es_top_imports.specs.Laws.{list_place}
 use Rattle.es_top_names.proofs.RequireFree.{found-after, none-found}
@@ -42,9 +43,8 @@ use Rattle.es_lowered.specs.Used.{IsUsed, used_rules}
 use Rattle.es_lowered.proofs.Stays.{stays-as}
 use Rattle.lower_driver.specs.Splits.{Splits}
 use Rattle.lower_driver.specs.Tops.{Tops, lowers_top}
-use Rattle.lower_driver.specs.Uses.{Heads, Uses, lowers_using, names_helpers, using_there}
-use Rattle.lower_driver.proofs.HeadNames.{headed-unnamed}
-use Rattle.lower_driver.proofs.NamedHelpers.{unnamed}
+use Rattle.lower_driver.specs.Uses.{Heads, Uses, lowers_using, using_there}
+use Rattle.lower_driver.proofs.HeadNames.{headed-unbound}
 use Rattle.lower_driver.proofs.Used.{all-weight}
 
 -- ONE PROGRAM
@@ -65,18 +65,18 @@ untopped-off o p q off = ap (λ b. b && uses_at_top q) off
 pub tops-as : {a b : Bool} {v z : Tree} {names : List Text} → a ≡ b → Tops (a && uses_at_top v) v z names → Tops (b && uses_at_top v) v z names
 tops-as {v = v} {z = z} {names = names} e y = subst (λ (c : Bool). Tops (c && uses_at_top v) v z names) e y
 
--- NO `babelHelpers` IS FOUND from the list of a program that doesn't name it, nor from that of what its `using` leaves
+-- NO `babelHelpers` IS FOUND from the list of a program that doesn't bind it, nor from that of what its `using` leaves
 
 in-a-list : (t : Tree) → Passes is_other_name t → FindsNone (list_place t)
 in-a-list (node k l fs) h = place-none nowhere reads k l fs h refl 1
 
-found-none : (t : Tree) → has_form s-Program t ≡ true → breaks t ≡ [] → names_helpers t ≡ false → (list_place (source t)).scope helpers_name ≡ None
-found-none t form right none = in-a-list (source t) (unbound-passes (source t) (source-well-bound t form right).class_names (source-unbound t form right (unnamed (codes "babelHelpers") t none)))
+found-none : (t : Tree) → has_form s-Program t ≡ true → breaks t ≡ [] → binds_helpers (symbols_of t) ≡ false → (list_place (source t)).scope helpers_name ≡ None
+found-none t form right none = in-a-list (source t) (unbound-passes (source t) (source-well-bound t form right).class_names (source-unbound t form right none))
 
 among-all : (o : EnvOptions) (n : Site) (s : Ledger) (x : Spot) (s' : Ledger) (y : Spot) → used_rules o.es2026.explicit_resource_management n s x s' y → AllRules o n s x s' y
 among-all o n s x s' y r = inr (inr (inr (inr (inl r))))
 
-used-none : (o : EnvOptions) (t v : Tree) (names : List Text) → has_form s-Program t ≡ true → breaks t ≡ [] → names_helpers t ≡ false → IsUsed o.es2026.explicit_resource_management t v names → (list_place (source v)).scope helpers_name ≡ None
+used-none : (o : EnvOptions) (t v : Tree) (names : List Text) → has_form s-Program t ≡ true → breaks t ≡ [] → binds_helpers (symbols_of t) ≡ false → IsUsed o.es2026.explicit_resource_management t v names → (list_place (source v)).scope helpers_name ≡ None
 used-none o t v names form right none h =
     let there = found-after o (used_rules o.es2026.explicit_resource_management) (among-all o) t v names form right h helpers_name (or_right (is_among (names_of t) helpers_name) true refl) in
     none-found ((list_place (source v)).scope helpers_name) (there ∙ ap is_some (sym (source-found t form helpers_name) ∙ found-none t form right none))
@@ -85,10 +85,10 @@ used-none o t v names form right none h =
 
 module _ (o : EnvOptions) (p t v : Tree) (heads contexts : List Text) (h : Heads (lowers_using o p) p t heads) (there : IsUsed (lowers_using o p) p t heads) (after : IsUsed (lowers_using o p) t v contexts) where
   asked : lowers_using o p ≡ true → o.es2026.explicit_resource_management ≡ true
-  asked e = (and_parts o.es2026.explicit_resource_management (any_node is_using p) (and_parts (using_there o p) (not (names_helpers p)) e).0).0
+  asked e = (and_parts o.es2026.explicit_resource_management (any_node is_using p) (and_parts (using_there o p) (not (binds_helpers (symbols_of p))) e).0).0
 
-  free : lowers_using o p ≡ true → names_helpers p ≡ false
-  free e = not-true (names_helpers p) (and_parts (using_there o p) (not (names_helpers p)) e).1
+  free : lowers_using o p ≡ true → binds_helpers (symbols_of p) ≡ false
+  free e = not-true (binds_helpers (symbols_of p)) (and_parts (using_there o p) (not (binds_helpers (symbols_of p))) e).1
 
   pub is-topped : (q : Tree) (names : List Text) → Tops (lowers_top o p v) v q names → IsTopped (lowers_top o p v) v q names
   is-topped q names m = at (lowers_top o p v) refl
@@ -96,9 +96,9 @@ module _ (o : EnvOptions) (p t v : Tree) (heads contexts : List Text) (h : Heads
       at : (b : Bool) → lowers_top o p v ≡ b → IsTopped (lowers_top o p v) v q names
       at true e =
           let parts = and_parts (lowers_using o p) (uses_at_top v) e in
-          let unnamed-there = headed-unnamed p t heads (h.goes parts.0) (free parts.0) in
+          let unbound-there = headed-unbound p t heads (h.goes parts.0) (free parts.0) in
           let so : IsUsed o.es2026.explicit_resource_management t v contexts = subst (λ (b : Bool). IsUsed b t v contexts) (parts.0 ∙ sym (asked parts.0)) after in
-          let none = used-none o t v contexts there.form there.kept unnamed-there so in
+          let none = used-none o t v contexts there.form there.kept unbound-there so in
           subst (λ (b : Bool). IsTopped b v q names) (sym e) (law_topped_proof v q names after.form after.kept parts.1 none (m.goes e))
       at false e =
           let same = m.stays e in

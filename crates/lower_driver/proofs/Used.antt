@@ -1,7 +1,7 @@
 -- What a source becomes first: `using` moves out of heads of loops and is lowered, or it stays as it is; there is one such program.
 use Rattle.std.proofs.Common.{◌≡◌, ◌∙◌, ◌*◌, ◌≤◌, List, [], ℕ, ap, arith, refl, subst, sym, true≢false}
 use Rattle.std.proofs.lemmas.Bool.{and_parts, not-true}
-use Rattle.std.specs.Prelude.{Bool, true, false, ◌&&◌, codes, not}
+use Rattle.std.specs.Prelude.{Bool, true, false, ◌&&◌, not}
 use Rattle.es_tree.specs.Constructs.{is_using}
 use Rattle.es_tree.specs.HasForm.{has_form}
 use Rattle.es_tree.specs.StaticRules.{breaks}
@@ -10,7 +10,9 @@ use Rattle.es_tree.specs.Walks.{any_node}
 use Rattle.es_tree.specs.Words.{Text}
 use Rattle.es_tree.specs.declared.options.EnvOptions.{EnvOptions}
 use Rattle.es_tree.specs.declared.table.Sort.TheVariants.{Program as s-Program}
+use Rattle.es_semantic.specs.SymbolsOf.{symbols_of}
 use Rattle.es_steps.specs.CoreBridge.{first_whole}
+use Rattle.es_rest_shapes.specs.HelperNames.{binds_helpers}
 use Rattle.es_pattern_moves.specs.Weights.{weighed}
 use Rattle.es_using_rows.proofs.UsedAgree.{law_one_used_proof}
 use Rattle.es_using_heads.proofs.HeadAgree.{law_one_headed_proof}
@@ -20,9 +22,8 @@ use Rattle.es_export_splits.proofs.SplitUsedWeights.{law_split_weighs_used_proof
 use Rattle.es_lowered.specs.Used.{IsUsed}
 use Rattle.es_lowered.proofs.Used.{law_headed_proof, law_unused_proof, law_used_proof}
 use Rattle.lower_driver.specs.Splits.{Splits}
-use Rattle.lower_driver.specs.Uses.{Heads, Uses, lowers_using, names_helpers, using_there}
-use Rattle.lower_driver.proofs.HeadNames.{headed-unnamed}
-use Rattle.lower_driver.proofs.NamedHelpers.{unnamed}
+use Rattle.lower_driver.specs.Uses.{Heads, Uses, lowers_using, using_there}
+use Rattle.lower_driver.proofs.HeadNames.{headed-unbound}
 use Rattle.lower_driver.proofs.Splits.{split-weight}
 
 -- ONE PROGRAM
@@ -44,7 +45,7 @@ pub uses-itself : (on : Bool) (p : Tree) → on ≡ false → Uses on p p []
 uses-itself on p off = record { goes = λ e. absurd (true≢false (sym e ∙ off)); stays = λ e. (refl, refl) }
 
 pub unasked-off : (o : EnvOptions) (p : Tree) → using_there o p ≡ false → lowers_using o p ≡ false
-unasked-off o p none = ap (λ b. b && not (names_helpers p)) none
+unasked-off o p none = ap (λ b. b && not (binds_helpers (symbols_of p))) none
 
 -- WHAT IT IS
 
@@ -54,10 +55,10 @@ module _ (o : EnvOptions) (p : Tree) (form : has_form s-Program p ≡ true) (rig
 
   -- what the test says
   asked : on ≡ true → o.es2026.explicit_resource_management ≡ true
-  asked e = (and_parts o.es2026.explicit_resource_management (any_node is_using p) (and_parts (using_there o p) (not (names_helpers p)) e).0).0
+  asked e = (and_parts o.es2026.explicit_resource_management (any_node is_using p) (and_parts (using_there o p) (not (binds_helpers (symbols_of p))) e).0).0
 
-  free : on ≡ true → names_helpers p ≡ false
-  free e = not-true (names_helpers p) (and_parts (using_there o p) (not (names_helpers p)) e).1
+  free : on ≡ true → binds_helpers (symbols_of p) ≡ false
+  free e = not-true (binds_helpers (symbols_of p)) (and_parts (using_there o p) (not (binds_helpers (symbols_of p))) e).1
 
   -- what stays is such a program
   stays-so : (t q : Tree) (names : List Text) → has_form s-Program t ≡ true → breaks t ≡ [] → (q ≡ t) × (names ≡ []) → IsUsed on t q names
@@ -80,7 +81,7 @@ module _ (o : EnvOptions) (p : Tree) (form : has_form s-Program p ≡ true) (rig
       there = is-headed t heads h
 
       at : (b : Bool) → on ≡ b → IsUsed on t q names
-      at true e = goes-so t q names e (law_used_proof o t q names there.form there.kept (asked e) (unnamed (codes "babelHelpers") t (headed-unnamed p t heads (h.goes e) (free e))) (u.goes e))
+      at true e = goes-so t q names e (law_used_proof o t q names there.form there.kept (asked e) (headed-unbound p t heads (h.goes e) (free e)) (u.goes e))
       at false e = stays-so t q names there.form there.kept (u.stays e)
 
 -- told by a flag that is the test

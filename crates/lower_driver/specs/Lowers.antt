@@ -1,5 +1,5 @@
 -- What a source becomes.
-use Rattle.std.specs.Prelude.{◌≡◌, ◌≤◌, ◌+◌, ◌*◌, ◌++◌, ◌&&◌, Bool, List, [], false, true, is_some, not, string_bytes, if◌then◌else◌, ℕ}
+use Rattle.std.specs.Prelude.{◌≡◌, ◌≤◌, ◌+◌, ◌*◌, ◌++◌, ◌&&◌, Bool, List, [], false, true, is_some, string_bytes, if◌then◌else◌, ℕ}
 use Rattle.es_tree.specs.Constructs.{has_enabled_construct, is_object_rest}
 use Rattle.es_tree.specs.Core.{IsCoreProgram}
 use Rattle.es_tree.specs.Tree.{Tree, tree_size}
@@ -23,7 +23,7 @@ use Rattle.lower_driver.specs.Moves.{Moves}
 use Rattle.lower_driver.specs.Sets.{Sets, sets_this}
 use Rattle.lower_driver.specs.Splits.{Splits, splits_exports}
 use Rattle.lower_driver.specs.Tops.{Tops, lowers_top}
-use Rattle.lower_driver.specs.Uses.{Heads, Uses, lowers_using, names_helpers, using_there}
+use Rattle.lower_driver.specs.Uses.{Heads, Uses, lowers_using, using_there}
 
 -- a source as it is written, with no name made
 pub record IsAsBefore (source written : Tree) (names : List Text) : Type 0 where
@@ -95,8 +95,8 @@ pub record Lowers (o : EnvOptions) (source written : Tree) (names : List Text) :
   -- static rule, each name keeps its binding, and it asks for the same modules but for those of the helpers, and exports the same names.
   pub imported : Tree
   pub last_names : List Text
-  pub imports : Imports (imports_helpers o (not (names_helpers split)) moved) (string_bytes o.helper_loader.module_name) lowered imported last_names
-  pub is_imported : imports_helpers o (not (names_helpers split)) moved ≡ true → IsImported (string_bytes o.helper_loader.module_name) lowered imported last_names
+  pub imports : Imports (imports_helpers o (lowers_using o split) moved) (string_bytes o.helper_loader.module_name) lowered imported last_names
+  pub is_imported : imports_helpers o (lowers_using o split) moved ≡ true → IsImported (string_bytes o.helper_loader.module_name) lowered imported last_names
   -- And last the constructors of classes that extend others set their name for `this` behind `super(..)`, by steps of a row that does so: each name
   -- keeps its binding, what is written has form, keeps all static rules, asks for the same modules and exports the same names.
   pub sets : Sets (sets_this o source) later_names imported written
@@ -107,8 +107,8 @@ pub record Lowers (o : EnvOptions) (source written : Tree) (names : List Text) :
   -- In a core program no `using` stands, no pattern moves, no helper is imported and no constructor stands, nor in one of statements where neither
   -- `using` nor an object rest or spread is taken: the source itself and what is written run alike (`LowersInPlace`).
   pub core : IsCoreProgram source → IsCoreResult o source written names
-  pub statements : using_there o source ≡ false → rests_there o source ≡ false → imports_helpers o (not (names_helpers source)) source ≡ false → RunsAsStatements o source → RunAlike (supply_there o source) (assumes_no_all o source) source written
+  pub statements : using_there o source ≡ false → rests_there o source ≡ false → imports_helpers o false source ≡ false → RunsAsStatements o source → RunAlike (supply_there o source) (assumes_no_all o source) source written
   -- where the options ask for no construct of the source, nothing is changed
   pub unchanged : has_enabled_construct o source ≡ false → IsAsBefore source written names
   -- the nodes of the source and of what is written, with those of the imports: where a name is set behind `super(..)`, three times as many
-  pub size : tree_size written ≤ (if sets_this o source then 3 else 1) * (most_for_each (using_there o source) (rests_there o source) (splits_exports o source) * tree_size source + (if imports_helpers o (not (names_helpers split)) moved then 82 else 64))
+  pub size : tree_size written ≤ (if sets_this o source then 3 else 1) * (most_for_each (using_there o source) (rests_there o source) (splits_exports o source) * tree_size source + (if imports_helpers o (lowers_using o split) moved then 82 else 64))

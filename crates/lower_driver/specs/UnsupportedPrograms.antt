@@ -1,6 +1,6 @@
 -- What a run doesn't take: the first node with a shape that its options' lowerings don't take, of a program whose exports were split, whose
 -- `using` was lowered and whose patterns moved, or else one at which it can't import helpers.
-use Rattle.std.specs.Prelude.{◌≡◌, Bool, List, None, Option, Some, is_some, not, ℕ}
+use Rattle.std.specs.Prelude.{◌≡◌, Bool, List, None, Option, Some, is_some, ℕ}
 use Rattle.std.specs.Option.{option_or}
 use Rattle.es_tree.specs.Options.{first_fault}
 use Rattle.es_tree.specs.Tree.{Tree}
@@ -10,16 +10,16 @@ use Rattle.es_tree.specs.declared.error.LowerError.TheVariants.{Option as e-Opti
 use Rattle.es_tree.specs.declared.error.UnsupportedKind.{UnsupportedKind}
 use Rattle.es_tree.specs.declared.ids.NodeId.{NodeId}
 use Rattle.es_tree.specs.declared.options.EnvOptions.{EnvOptions}
-use Rattle.es_helper_calls.specs.Importing.{first_unimported}
+use Rattle.es_helper_calls.specs.Importing.{first_unimported, own_call}
 use Rattle.es_unsupported.specs.FirstUnsupported.{first_unsupported}
 use Rattle.lower_driver.specs.Moves.{Moves}
 use Rattle.lower_driver.specs.Splits.{Splits, splits_exports}
 use Rattle.lower_driver.specs.Tops.{Tops, lowers_top}
-use Rattle.lower_driver.specs.Uses.{Heads, Uses, lowers_using, names_helpers}
+use Rattle.lower_driver.specs.Uses.{Heads, Uses, lowers_using}
 
--- of a program in which no pattern moves any more, where the source names no `babelHelpers` itself, or does
-abbrev pub first_refused : EnvOptions → Bool → Tree → Option (UnsupportedKind × ℕ)
-first_refused o free p = option_or (first_unsupported o p) (first_unimported o free p)
+-- of a program in which no pattern moves any more, where `using` was lowered, or wasn't, and whose source makes this call of a helper itself
+abbrev pub first_refused : EnvOptions → Bool → Option ℕ → Tree → Option (UnsupportedKind × ℕ)
+first_refused o made own p = option_or (first_unsupported o p) (first_unimported o made own p)
 
 -- What is found in a source under these options, once its exports were split, its `using` was lowered and its patterns moved: such a shape and the id of its
 -- node, or none.
@@ -38,7 +38,7 @@ pub record Finds (o : EnvOptions) (source : Tree) (found : Option (UnsupportedKi
   pub moved : Tree
   pub names : List Text
   pub moves : Moves (is_some o.es2018.object_rest_spread) topped moved names
-  pub first : first_refused o (not (names_helpers split)) moved ≡ found
+  pub first : first_refused o (lowers_using o split) (own_call split) moved ≡ found
 
 abbrev pub IsUnsupported : EnvOptions → Tree → UnsupportedKind → NodeId → Type 0
 IsUnsupported o p kind id = Finds o p (Some (kind, id.0))
@@ -57,7 +57,7 @@ IsTreeCauseOrMemory o p OutOfMemory = Unit {0}
 IsTreeCauseOrMemory o p _ = ⊥
 
 -- the same of a program in which no pattern moves any more
-abbrev pub IsFirstOrMemory : EnvOptions → Bool → Tree → LowerError → Type 0
-IsFirstOrMemory o free p (Unsupported kind id) = first_refused o free p ≡ Some (kind, id.0)
-IsFirstOrMemory o free p OutOfMemory = Unit {0}
-IsFirstOrMemory o free p _ = ⊥
+abbrev pub IsFirstOrMemory : EnvOptions → Bool → Option ℕ → Tree → LowerError → Type 0
+IsFirstOrMemory o made own p (Unsupported kind id) = first_refused o made own p ≡ Some (kind, id.0)
+IsFirstOrMemory o made own p OutOfMemory = Unit {0}
+IsFirstOrMemory o made own p _ = ⊥

@@ -1,7 +1,7 @@
 //! One run: a program is read and checked, its exports of object rests are split, its `using` moves out of heads of loops and is lowered, patterns with an
 //! object rest move to declarations, it is visited once by the lowerings that its options ask for, walked for its arrows and for its object rests, its helpers are
 //! imported, its constructors set their name for `this`, and it is written.
-ghost use Rattle.std.specs.Prelude.{◌≡◌, ◌<◌, ◌∷◌, ◌*◌, ◌^◌, [], IfErr, IfOk, None, false, map, string_bytes, true};
+ghost use Rattle.std.specs.Prelude.{◌≡◌, ◌<◌, ◌∷◌, ◌*◌, ◌^◌, [], IfErr, IfOk, None, false, map, option_map, string_bytes, true};
 ghost use Rattle.serde_json.specs.View.{view};
 ghost use Rattle.es_tree.specs.Constructs.{has_enabled_construct};
 ghost use Rattle.es_tree.specs.Fresh.{is_among};
@@ -15,7 +15,7 @@ ghost use Rattle.es_tree.specs.declared.ast_type.AstType.TheVariants.{Program as
 ghost use Rattle.es_tree.specs.declared.table.Sort.TheVariants.{Program as s-Program};
 ghost use Rattle.es_scope.specs.Contexts.{BindsNamesOf, around_of, made_of, table_of, uses_of};
 ghost use Rattle.es_steps.specs.Open.{nothing_pending};
-ghost use Rattle.lower_helper_imports.specs.HelperImports.{Tells};
+ghost use Rattle.lower_helper_imports.specs.HelperImports.{Tells, number_of};
 ghost use Rattle.lower_driver.specs.Copies.{IsCopy};
 ghost use Rattle.lower_driver.specs.Lowered.{IsLoweredTree, IsLoweredValue};
 ghost use Rattle.lower_driver.specs.Lowers.{Lowers, LowersInPlace};
@@ -27,7 +27,7 @@ use crate::copies::copy_options;
 use crate::importing::import_helpers;
 use crate::moving::move_patterns;
 use crate::reading::{read_bytes, read_source};
-use crate::resources::{asks_for_using, lower_top, lower_using, move_heads, names_no_helpers};
+use crate::resources::{asks_for_using, lower_top, lower_using, move_heads};
 use crate::splitting::split_exports;
 use crate::visiting::{take_rests, visit, walk};
 use es_json::program::ReadProgram;
@@ -39,13 +39,14 @@ use es_semantic::building::build_scoping;
 use es_statements::program::Program;
 use es_tree::builder::AstBuilder;
 use es_tree::error::{LowerError, UnsupportedKind};
+use es_tree::ids::NodeId;
 use es_tree::kind::Kind;
 use es_tree::node::Node;
 use es_tree::operators::SourceType;
 use es_tree::options::{EnvOptions, options_fault};
 use es_unsupported::finding::find_unsupported;
 use lower_editions::es2020::ES2020;
-use lower_helper_imports::HelperImports;
+use lower_helper_imports::{HelperImports, own_call};
 use lower_temporaries::state::TransformState;
 use lower_temporaries::warning::Warning;
 use serde_json::Value;
@@ -84,8 +85,8 @@ pub struct Lowered {
 /// that the lowerings asked for don't take, of the program whose exports were split, whose `using` was lowered and whose
 /// patterns moved, in which what is made has the id of the node that it is made for:
 ///
-/// - `NotBuilt`, a construct that no lowering takes away yet: a declaration by `using` where none is lowered (in a
-///   program that names `babelHelpers`), or what else holds an object rest where none is lowered;
+/// - `NotBuilt`, a construct that no lowering takes away yet: what holds an object rest where none is lowered, but for
+///   those below;
 /// - `RestParameter`, a function with an object rest in a parameter, and `HeadName`, a declarator of one in the head of
 ///   a loop, where it can't move, since names would find something else, or be asked before they are set;
 /// - `HeadName` also, a `for-of` whose head declares a name by `using` that the right side has, and `UsingFunction`, a
@@ -94,10 +95,10 @@ pub struct Lowered {
 /// - `RestInArray` and `RestNested`, what holds an object rest inside an array or a rest that is declared, or inside a
 ///   part of the target of an assignment;
 /// - `MathBound`, an exponentiation where `Math` is bound;
-/// - `HelperName`, an object literal with a spread where `babelHelpers` is bound, or a declaration of an object rest, or
-///   a pattern with one that moves to a declaration, in a program that binds it anywhere; and after all others, where
-///   helpers have to be imported, the first of these in a script whose own scope binds `require`, or a call of a helper
-///   of `babelHelpers` that the source itself makes;
+/// - `HelperName`, an object literal with a spread where `babelHelpers` is bound, or a declaration by `using` or of an
+///   object rest, or a pattern with one that moves to a declaration, in a program that binds it anywhere; and after all
+///   others, where helpers have to be imported, the first of these in a script whose own scope binds `require`, or the
+///   first call of a helper of `babelHelpers` that the source itself makes;
 /// - `SpreadLiteral`, an object literal with a spread whose properties can't be copied one by one;
 /// - `TagChain`, a template whose tag is an optional chain;
 /// - `ArrowOuter` and `ArrowThis`, what belongs to what is around an arrow, or around a value that is put into one, and
@@ -203,14 +204,14 @@ fn lower_constructs(
 {
     let sets = sets_this(&read.program, options);
     let split = split_exports(alloc, read, options)?;
-    let free = names_no_helpers(&split.program);
-    let asked = asks_for_using(&split.program, options, free);
+    let asked = asks_for_using(&split.program, options);
+    let own = own_call(&split.program);
     let (headed, mut names) = move_heads(alloc, split, asked)?;
     let (used, mut contexts) = lower_using(alloc, headed, asked)?;
     let (topped, mut top) = lower_top(alloc, used, asked)?;
     let (moved, mut first) = move_patterns(alloc, topped, options)?;
-    let imports = HelperImports::of_program(&moved.program, options, free);
-    let (lowered, ctx) = lower_in_place(alloc, moved, options, free, imports)?;
+    let imports = HelperImports::of_program(&moved.program, options, asked, own);
+    let (lowered, ctx) = lower_in_place(alloc, moved, options, asked, own, imports)?;
     let (imported, mut last) = import_helpers(alloc, lowered, options, imports.are_asked())?;
     let program = set_this(imported, &ctx, sets)?;
     names.append(&mut contexts)?;
@@ -222,13 +223,14 @@ fn lower_constructs(
 }
 
 /// A program in which no pattern moves any more, with its constructs lowered where they stand, and the context that made
-/// the names for it, where its source names no `babelHelpers` itself, or does, and `imports` tells of its helpers. Fails
-/// where it has a shape that the lowerings don't take, and where memory runs out.
+/// the names for it, where `using` was lowered (`made`), or wasn't, the source calls a helper itself (`own`), and `imports`
+/// tells of its helpers. Fails where it has a shape that the lowerings don't take, and where memory runs out.
 fn lower_in_place(
     alloc: Global,
     read: ReadProgram,
     options: &EnvOptions,
-    free: bool,
+    made: bool,
+    own: Option<NodeId>,
     imports: HelperImports,
 ) -> Result<(Node, TraverseCtx<TransformState>), LowerError>
     requires form { has_form s-Program read.program ≡ true }
@@ -236,10 +238,10 @@ fn lower_in_place(
     requires size { tree_size read.program < 10 * 2 ^ 20 }
     requires next { read.ast.next < 2 ^ 20 }
     requires carried { first_fault options.now ≡ None }
-    requires told { Tells options.now free read.program imports }
+    requires told { Tells options.now made (option_map number_of own) read.program imports }
     ensures lowers { IfOk result (λ made. LowersInPlace options.now read.program made.0 (made_of made.1)) }
-    ensures taken { IfOk result (λ _. first_refused options.now free read.program ≡ None) }
-    ensures cause { IfErr result (λ error. IsFirstOrMemory options.now free read.program error) }
+    ensures taken { IfOk result (λ _. first_refused options.now made (option_map number_of own) read.program ≡ None) }
+    ensures cause { IfErr result (λ error. IsFirstOrMemory options.now made (option_map number_of own) read.program error) }
 {
     let ReadProgram {
         program: mut source,

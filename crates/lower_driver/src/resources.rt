@@ -1,24 +1,23 @@
 //! `using`, before constructs are lowered in place: it moves out of heads of loops, and is lowered, at last at the top of a module, so that a `try` disposes
 //! of its resources.
-ghost use Rattle.std.specs.Prelude.{◌≡◌, ◌&&◌, IfOk, map, not, string_bytes};
+ghost use Rattle.std.specs.Prelude.{◌≡◌, ◌&&◌, IfOk, map, string_bytes};
 ghost use Rattle.es_using_modules.specs.ModuleTops.{uses_at_top};
 ghost use Rattle.lower_driver.specs.Tops.{Tops};
-ghost use Rattle.lower_driver.specs.Uses.{Heads, Uses, lowers_using, names_helpers, using_there};
+ghost use Rattle.lower_driver.specs.Uses.{Heads, Uses, lowers_using, using_there};
 
+use es_bound_names::binds_name;
 use es_json::program::ReadProgram;
-use es_move_nodes::standing::stands;
 use es_searches::{Sought, has_node};
 use es_tree::node::Node;
 use es_tree::options::EnvOptions;
 use lower_using_modules::{lower_module, uses_at_top};
 use std::alloc::{AllocError, Global};
 
-/// Whether a `using` stands that is to be lowered, where `free` tells that the program doesn't name `babelHelpers` itself.
-pub(crate) fn asks_for_using(program: &Node, options: &EnvOptions, free: bool) -> bool
-    requires free { free ≡ not (names_helpers program.now) }
+/// Whether a `using` stands that is to be lowered: in a program that doesn't bind `babelHelpers`.
+pub(crate) fn asks_for_using(program: &Node, options: &EnvOptions) -> bool
     ensures { result ≡ lowers_using options.now program.now }
 {
-    finds_using(program, options) && free
+    finds_using(program, options) && !binds_name(program, "babelHelpers")
 }
 
 /// Moves `using` out of the heads of loops of a program, where it is to be lowered. Answers the names that were made.
@@ -80,11 +79,4 @@ fn finds_using(program: &Node, options: &EnvOptions) -> bool
     ensures { result ≡ using_there options.now program.now }
 {
     options.es2026.explicit_resource_management && has_node(program, Sought::Using)
-}
-
-/// Whether `babelHelpers` is no name of the program.
-pub(crate) fn names_no_helpers(program: &Node) -> bool
-    ensures { result ≡ not (names_helpers program.now) }
-{
-    !stands("babelHelpers", program)
 }

@@ -9,7 +9,7 @@ use Rattle.lower_driver.specs.Lowered.{IsLoweredTree}
 use Rattle.lower_driver.specs.Lowers.{most_for_each, rests_there}
 use Rattle.lower_driver.specs.Sets.{sets_this}
 use Rattle.lower_driver.specs.Splits.{splits_exports}
-use Rattle.lower_driver.specs.Uses.{names_helpers, using_there}
+use Rattle.lower_driver.specs.Uses.{lowers_using, using_there}
 use Rattle.lower_command.specs.Answer.{generated_line}
 use Rattle.lower_command.specs.Generated.{generated}
 use Rattle.lower_command.proofs.GeneratedFacts.{generated-form, generated-kept, generated-small}
@@ -56,7 +56,7 @@ returns-clause-line c =
     let is : IsLoweredTree o p lowered = subst (λ (t : Tree). IsLoweredTree o t lowered) c.in_ok-read.ensures.tree c.in_ok-lowered.ensures.lowered in
     let small = generated-small c.args.count c.requires in
     let before : c.count_nodes-before.result ≡ tree_size p = c.count_nodes-before.ensures ∙ (ap (λ (t : Tree). capped (tree_size t)) c.in_ok-read.ensures.tree ∙ uncapped (tree_size p) (omega (arith, small))) in
-    let after : capped (tree_size lowered.program) ≡ tree_size lowered.program = uncapped (tree_size lowered.program) (within (sets_this o p) (using_there o p) (rests_there o p) (splits_exports o p) (imports_helpers o (not (names_helpers is.lowers.split)) is.lowers.moved) (tree_size p) (tree_size lowered.program) is.lowers.size small) in
+    let after : capped (tree_size lowered.program) ≡ tree_size lowered.program = uncapped (tree_size lowered.program) (within (sets_this o p) (using_there o p) (rests_there o p) (splits_exports o p) (imports_helpers o (lowers_using o is.lowers.split) is.lowers.moved) (tree_size p) (tree_size lowered.program) is.lowers.size small) in
     let names : length lowered.temporaries.items ≡ length (map string_bytes lowered.temporaries.items) = sym (length-map lowered.temporaries.items string_bytes) in
     let warned : length lowered.warnings.items ≡ length (warnings_of o.es2020 p) = ap length is.warnings in
     record {

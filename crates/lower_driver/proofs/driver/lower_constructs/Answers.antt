@@ -1,13 +1,14 @@
-use Rattle.std.proofs.Common.{◌≡◌, ◌∙◌, ◌++◌, List, None, ap, arith, map, subst, sym}
-use Rattle.std.specs.Prelude.{Bool, not, string_bytes}
+use Rattle.std.proofs.Common.{◌≡◌, ◌∙◌, ◌++◌, List, None, Option, ℕ, ap, arith, map, subst, sym}
+use Rattle.std.specs.Prelude.{Bool, option_map, string_bytes}
 use Rattle.es_tree.specs.Words.{Text}
-use Rattle.es_helper_calls.specs.Importing.{imports_helpers}
+use Rattle.es_helper_calls.specs.Importing.{imports_helpers, own_call}
 use Rattle.es_scope.specs.Contexts.{made_of}
+use Rattle.lower_helper_imports.specs.HelperImports.{number_of}
 use Rattle.lower_driver.specs.Imports.{Imports}
 use Rattle.lower_driver.specs.Lowers.{Lowers, LowersInPlace}
 use Rattle.lower_driver.specs.Sets.{Sets, sets_this}
 use Rattle.lower_driver.specs.UnsupportedPrograms.{IsFirstOrMemory, IsUnsupportedOrMemory, first_refused}
-use Rattle.lower_driver.specs.Uses.{names_helpers}
+use Rattle.lower_driver.specs.Uses.{lowers_using}
 use Rattle.lower_driver.proofs.Moved.{map-joined}
 use Rattle.lower_driver.proofs.Stages.{cause-of, given-on, lowers, moved-valid, topped-valid, used-and-moved-size}
 use Rattle.lower_driver.proofs.Tops.{tops-as}
@@ -51,14 +52,15 @@ returns-clause-lowers c =
     let first = c.in_ok-moved.first.items in
     let later = c.into_uids.result.items in
     let last = c.in_ok-imported.last.items in
-    let free = c.names_no_helpers-free.ensures in
-    let asked = c.are_asked.ensures o c.names_no_helpers-free.result q c.of_program-imports.ensures ∙ ap (λ b. imports_helpers o b q) free in
-    let imports : Imports (imports_helpers o (not (names_helpers p)) q) (string_bytes o.helper_loader.module_name) c.in_ok-lowered.lowered imported (map string_bytes last) =
+    let made = c.asks_for_using-asked.ensures in
+    let own = c.own_call-own.ensures in
+    let asked = c.are_asked.ensures o c.asks_for_using-asked.result (option_map number_of c.own_call-own.result) q c.of_program-imports.ensures ∙ ap (λ b. imports_helpers o b q) made in
+    let imports : Imports (imports_helpers o (lowers_using o p) q) (string_bytes o.helper_loader.module_name) c.in_ok-lowered.lowered imported (map string_bytes last) =
     subst (λ (on : Bool). Imports on (string_bytes o.helper_loader.module_name) c.in_ok-lowered.lowered imported (map string_bytes last)) asked c.in_ok-imported.ensures.imports in
     let in_place : LowersInPlace o q c.in_ok-lowered.lowered (map string_bytes later) = subst (λ (names : List Text). LowersInPlace o q c.in_ok-lowered.lowered names) (sym c.into_uids.ensures) c.in_ok-lowered.ensures.lowers in
     let sets : Sets (sets_this o s) (map string_bytes later) imported written =
     subst (λ (names : List Text). Sets (sets_this o s) names imported written) (sym c.into_uids.ensures) (subst (λ (on : Bool). Sets on (made_of c.in_ok-lowered.ctx) imported written) c.sets_this-sets.ensures c.in_ok-program.ensures) in
-    let none : first_refused o (not (names_helpers p)) q ≡ None = subst (λ (b : Bool). first_refused o b q ≡ None) free c.in_ok-lowered.ensures.taken in
+    let none : first_refused o (lowers_using o p) (own_call p) q ≡ None = (λ i. first_refused o (sym made i) (sym own i) q) ∙ c.in_ok-lowered.ensures.taken in
     let made : Lowers o s written (map string_bytes heads ++ map string_bytes contexts ++ map string_bytes tops ++ map string_bytes first ++ map string_bytes later ++ map string_bytes last) =
     lowers o s p c.in_ok-headed.headed.program c.in_ok-used.used.program c.in_ok-topped.topped.program q c.in_ok-lowered.lowered imported written (map string_bytes heads) (map string_bytes contexts) (map string_bytes tops) (map string_bytes first) (map string_bytes later) (map string_bytes last) c.requires.form c.requires.kept c.in_ok-split.ensures.splits (heads-as c.asks_for_using-asked.ensures c.in_ok-headed.ensures.heads) (uses-as c.asks_for_using-asked.ensures c.in_ok-used.ensures.uses) (tops-as c.asks_for_using-asked.ensures c.in_ok-topped.ensures.tops) c.in_ok-moved.ensures.moves none in_place imports sets c.requires.some in
     let four = ((heads ++ contexts) ++ tops) ++ first in
@@ -84,7 +86,7 @@ returns-clause-taken c = record {
   moved = c.in_ok-moved.moved.program;
   names = map string_bytes c.in_ok-moved.first.items;
   moves = c.in_ok-moved.ensures.moves;
-  first = subst (λ (b : Bool). first_refused c.args.options.now b c.in_ok-moved.moved.program ≡ None) c.names_no_helpers-free.ensures c.in_ok-lowered.ensures.taken;
+  first = (λ i. first_refused c.args.options.now (sym c.asks_for_using-asked.ensures i) (sym c.own_call-own.ensures i) c.in_ok-moved.moved.program) ∙ c.in_ok-lowered.ensures.taken;
 }
 
 pub returns-in_err-lowered-clause-cause : goal.returns-in_err-lowered-clause-cause
@@ -94,6 +96,6 @@ returns-in_err-lowered-clause-cause c =
     let p = c.in_ok-split.split.program in
     let q = c.in_ok-moved.moved.program in
     let error = c.in_err-lowered.field-0.0 in
-    let first = subst (λ (b : Bool). IsFirstOrMemory o b q error) c.names_no_helpers-free.ensures c.in_err-lowered.ensures.cause in
+    let first = subst (λ (b : Bool). IsFirstOrMemory o b (own_call p) q error) c.asks_for_using-asked.ensures (subst (λ (n : Option ℕ). IsFirstOrMemory o c.asks_for_using-asked.result n q error) c.own_call-own.ensures c.in_err-lowered.ensures.cause) in
     given-on c.from_residual-in_err-lowered.result error (IsUnsupportedOrMemory o s) c.from_residual-in_err-lowered.ensures.1
     (cause-of o s p c.in_ok-headed.headed.program c.in_ok-used.used.program c.in_ok-topped.topped.program q (map string_bytes c.in_ok-headed.names.items) (map string_bytes c.in_ok-used.contexts.items) (map string_bytes c.in_ok-topped.top.items) (map string_bytes c.in_ok-moved.first.items) error c.in_ok-split.ensures.splits (heads-as c.asks_for_using-asked.ensures c.in_ok-headed.ensures.heads) (uses-as c.asks_for_using-asked.ensures c.in_ok-used.ensures.uses) (tops-as c.asks_for_using-asked.ensures c.in_ok-topped.ensures.tops) c.in_ok-moved.ensures.moves first)
