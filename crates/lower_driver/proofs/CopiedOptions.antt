@@ -1,5 +1,5 @@
 -- Options that are the same ask for the same.
-use Rattle.std.proofs.Common.{◌≡◌, ℕ, suc, ◌+◌, refl, sym, ap, ◌∙◌, subst, List, inl, inr}
+use Rattle.std.proofs.Common.{◌≡◌, ℕ, suc, ◌+◌, refl, sym, ap, ◌∙◌, subst, List, Option, inl, inr}
 use Rattle.std.specs.Prelude.{Bool, is_some}
 use Rattle.std.specs.Option.{option_or}
 use Rattle.es_tree.specs.Constructs.{has_enabled_construct}

@@ -1,7 +1,7 @@
 -- What a source becomes first of all: its exports of declarations with an object rest are split, or it stays as it is; there is one such program.
 use Rattle.std.proofs.Common.{◌≡◌, ◌∙◌, ◌*◌, ◌≤◌, List, [], ap, arith, refl, subst, sym, true≢false}
 use Rattle.std.proofs.lemmas.Bool.{or_parts}
-use Rattle.std.specs.Prelude.{Bool, true, false, ◌&&◌, ◌||◌, is_some}
+use Rattle.std.specs.Prelude.{Bool, true, false, ◌&&◌, ◌||◌, is_some, if◌then◌else◌}
 use Rattle.es_tree.specs.Constructs.{is_object_rest, is_using}
 use Rattle.es_tree.specs.HasForm.{has_form}
 use Rattle.es_tree.specs.StaticRules.{breaks}
