@@ -1,5 +1,5 @@
 -- A program that binds no `babelHelpers` binds none once `using` moved out of heads of loops: it declares the same names, and fresh ones, which are others.
-use Rattle.std.proofs.Common.{◌≡◌, ◌∙◌, ℕ, zero, suc, List, ap, refl, subst, sym, true≢false}
+use Rattle.std.proofs.Common.{◌≡◌, ◌∙◌, ℕ, zero, suc, List, ap, refl, sym, true≢false}
 use Rattle.std.specs.Prelude.{Bool, true, false, ◌||◌, bytes_eq, codes, if◌then◌else◌}
 use Rattle.std.proofs.lemmas.Bool.{or_from, or_left, or_parts, or_right}
 use Rattle.es_tree.specs.Children.{child_at}

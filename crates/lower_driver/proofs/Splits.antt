@@ -1,5 +1,5 @@
 -- What a source becomes first of all: its exports of declarations with an object rest are split, or it stays as it is; there is one such program.
-use Rattle.std.proofs.Common.{◌≡◌, ◌∙◌, ◌*◌, ◌≤◌, List, [], ap, arith, refl, subst, sym, true≢false}
+use Rattle.std.proofs.Common.{◌≡◌, ◌∙◌, ◌*◌, ◌≤◌, [], ap, refl, subst, sym, true≢false}
 use Rattle.std.proofs.lemmas.Bool.{or_parts}
 use Rattle.std.specs.Prelude.{Bool, true, false, ◌&&◌, ◌||◌, is_some, if◌then◌else◌}
 use Rattle.es_tree.specs.Constructs.{is_object_rest, is_using}
@@ -7,27 +7,22 @@ use Rattle.es_tree.specs.HasForm.{has_form}
 use Rattle.es_tree.specs.StaticRules.{breaks}
 use Rattle.es_tree.specs.Tree.{Tree, node, Label, Fields, done, ◌then◌, missing, one, many, statements, Trees, empty, ◌before◌, tree_size}
 use Rattle.es_tree.specs.Walks.{any_in_fields, any_in_trees, any_node}
-use Rattle.es_tree.specs.Words.{Text}
 use Rattle.es_tree.specs.declared.ast_type.AstType.{AstType}
 use Rattle.es_tree.specs.declared.ast_type.AstType.TheVariants.{ExportNamedDeclaration, Program}
 use Rattle.es_tree.specs.declared.options.EnvOptions.{EnvOptions}
 use Rattle.es_tree.specs.declared.table.Sort.TheVariants.{Program as s-Program}
-use Rattle.es_pattern_moves.specs.Moved.{plainly as plainly_headed}
 use Rattle.es_pattern_moves.specs.Weights.{weighed}
 use Rattle.es_rest_shapes.specs.RestShapes.{declares_rest, is_rest_declaration}
 use Rattle.es_rest_shapes.proofs.NoneLeft.{law_declared_rests_proof}
 use Rattle.es_export_splits.specs.Laws.{IsElsewhere, IsSplit, split_rules}
-use Rattle.es_export_splits.specs.Splits.{has_split, is_split, plainly, some_split, split}
+use Rattle.es_export_splits.specs.Splits.{has_split, is_split, some_split}
 use Rattle.es_export_splits.proofs.ExportSplits.{law_split_proof}
 use Rattle.es_export_splits.proofs.SplitTests.{law_elsewhere_proof}
 use Rattle.es_export_splits.proofs.SplitWeights.{law_split_weighs_proof}
-use Rattle.es_using_heads.specs.Heads.{headed}
-use Rattle.es_using_rows.specs.Used.{plainly as plainly_used, used}
-use Rattle.es_using_rows.specs.declared.standing.Standing.TheVariants.{Anywhere}
 use Rattle.es_lowered.proofs.Stays.{stays-as}
 use Rattle.lower_driver.specs.Lowers.{rests_there}
 use Rattle.lower_driver.specs.Splits.{Splits, splits_exports}
-use Rattle.lower_driver.specs.Uses.{Heads, Uses, using_there}
+use Rattle.lower_driver.specs.Uses.{using_there}
 
 -- ONE PROGRAM
 

@@ -45,7 +45,7 @@ use Rattle.lower_driver.proofs.CoreNodes.{no-class, no-class-among-statements, n
 use Rattle.lower_driver.proofs.Imported.{core-unimporting, is-imported, none-left, size-after}
 use Rattle.lower_driver.proofs.Moved.{is-moved, moved-weight, moves-itself, no-moves, off-anyway, one-program, stays-itself}
 use Rattle.lower_driver.proofs.Set.{is-set, none-after, set-size, sets-itself}
-use Rattle.lower_driver.proofs.Splits.{is-split, off-without, one-split, same-rests, same-using, split-weight, splits-itself}
+use Rattle.lower_driver.proofs.Splits.{is-split, off-without, one-split, same-using, split-weight, splits-itself}
 use Rattle.lower_driver.proofs.Tops.{is-topped, one-topped, top-weight, tops-as, tops-itself, untopped-off}
 use Rattle.lower_driver.proofs.Used.{heads-as, heads-itself, is-headed, is-used, one-headed, one-used, unasked-off, uses-as, uses-itself}
 

@@ -1,20 +1,20 @@
 -- What a source becomes after its other `using` is lowered: the top of a module that declares so becomes a `try`, or it stays as it is; there is one such
 -- program.
-use Rattle.std.proofs.Common.{◌≡◌, inl, inr, ◌∙◌, ◌*◌, ◌≤◌, List, [], ◌∷◌, ap, refl, subst, sym, true≢false}
+use Rattle.std.proofs.Common.{◌≡◌, inl, inr, ◌∙◌, ◌*◌, ◌≤◌, List, [], ap, refl, subst, sym, true≢false}
 use Rattle.std.proofs.lemmas.Bool.{and_parts, not-true, or_right}
-use Rattle.std.specs.Prelude.{Bool, true, false, ◌&&◌, None, Option, Some, is_some, not, ℕ}
+use Rattle.std.specs.Prelude.{Bool, true, false, ◌&&◌, None, is_some, not}
 use Rattle.es_tree.specs.Constructs.{is_using}
 use Rattle.es_tree.specs.Fresh.{is_among}
 use Rattle.es_tree.specs.HasForm.{has_form}
 use Rattle.es_tree.specs.Names.{names_of}
 use Rattle.es_tree.specs.StaticRules.{breaks}
-use Rattle.es_tree.specs.Tree.{Tree, fields_of, kind_of, label_of, node, tree_size}
+use Rattle.es_tree.specs.Tree.{Tree, node, tree_size}
 use Rattle.es_tree.specs.Walks.{any_node}
 use Rattle.es_tree.specs.Words.{Text}
 use Rattle.es_tree.specs.declared.options.EnvOptions.{EnvOptions}
 use Rattle.es_tree.specs.declared.table.Sort.TheVariants.{Program as s-Program}
 use Rattle.es_semantic.specs.RolesOf.{reads}
-use Rattle.es_semantic.specs.SymbolsOf.{find, symbols_of}
+use Rattle.es_semantic.specs.SymbolsOf.{symbols_of}
 use Rattle.es_resolution.specs.Laws.{source}
 use Rattle.es_resolution.specs.Resolved.{nowhere}
 use Rattle.es_steps.specs.AllRules.{AllRules}

@@ -1,5 +1,5 @@
 -- What a source becomes first: `using` moves out of heads of loops and is lowered, or it stays as it is; there is one such program.
-use Rattle.std.proofs.Common.{◌≡◌, ◌∙◌, ◌*◌, ◌≤◌, List, [], ℕ, ap, arith, refl, subst, sym, true≢false}
+use Rattle.std.proofs.Common.{◌≡◌, ◌∙◌, ◌*◌, ◌≤◌, List, [], ap, arith, refl, subst, sym, true≢false}
 use Rattle.std.proofs.lemmas.Bool.{and_parts, not-true}
 use Rattle.std.specs.Prelude.{Bool, true, false, ◌&&◌, not}
 use Rattle.es_tree.specs.Constructs.{is_using}

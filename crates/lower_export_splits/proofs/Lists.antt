@@ -3,12 +3,12 @@ use Rattle.std.proofs.Common.{◌≡◌, ◌∙◌, ◌+◌, ◌++◌, ◌<◌, 
 use Rattle.std.specs.Prelude.{◌||◌, Bool, false, if◌then◌else◌, true}
 use Rattle.std.specs.List.{list_any}
 use Rattle.std.proofs.lemmas.List.{take_more}
-use Rattle.es_tree.specs.Tree.{Tree, Trees, done, empty, many, node, one, statements, trees, ◌before◌, ◌then◌}
-use Rattle.es_tree.specs.declared.ast_type.AstType.TheVariants.{ExportNamedDeclaration, Program}
+use Rattle.es_tree.specs.Tree.{Tree, Trees, empty, node, one, trees, ◌before◌, ◌then◌}
+use Rattle.es_tree.specs.declared.ast_type.AstType.TheVariants.{ExportNamedDeclaration}
 use Rattle.es_steps.specs.Nodes.{joined_trees}
 use Rattle.es_steps.proofs.Lists.{joined-empty}
 use Rattle.es_steps.proofs.Written.{joined-twice}
-use Rattle.es_export_splits.specs.Splits.{Makes, has_split, is_split, names_of_declarator, names_of_declarators, some_split, specifier, specifiers, split, split_before, split_list}
+use Rattle.es_export_splits.specs.Splits.{Makes, is_split, names_of_declarator, names_of_declarators, some_split, specifier, specifiers, split_before, split_list}
 
 pub any-split : (ts : List Tree) → list_any is_split ts ≡ some_split (trees ts)
 any-split [] = refl
