@@ -111,7 +111,7 @@ split-acts : ActsSo SplitRule
 split-acts n s s' x y (splits m a c d es z free kind h) = record { moves = declared_name z free; list = tt }
 
 takes-rest-acts : ActsSo TakesRest
-takes-rest-acts n s s' x y (takes_rest m l lp lr ls a ps c t ks unbound used) = record { moves = still; list = tt }
+takes-rest-acts n s s' x y (takes_rest m l lp lr ls a ps c t d unbound used) = record { moves = still; list = tt }
 
 catch-rest-acts : ActsSo CatchRest
 catch-rest-acts n s s' x y (moves {x = z} h fresh) = record { moves = declared_name z fresh.free; list = tt }

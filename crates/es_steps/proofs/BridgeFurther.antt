@@ -60,7 +60,7 @@ namespace-spot (exports a b c d e) = refl
 
 rest-spot : {n : Site} {s s' : Ledger} {x y : Spot} → RestRule n s x s' y → is_at_node x ≡ true
 rest-spot (inl (splits m a c d es x e f g)) = refl
-rest-spot (inr (inl (takes_rest m l lp lr ls a ps c t ks e f))) = refl
+rest-spot (inr (inl (takes_rest m l lp lr ls a ps c t d e f))) = refl
 rest-spot (inr (inr (inl (moves a b)))) = refl
 rest-spot (inr (inr (inr (inl (lexical_head a b c d e f g))))) = refl
 rest-spot (inr (inr (inr (inl (var_head a b c d e f g))))) = refl
@@ -145,7 +145,7 @@ module _ (used : Text → Bool) (look : Text → Option ℕ) where
 
   no-rest-rule : (a : Bool) {n : Site} {s s' : Ledger} {t : Tree} {y : Spot} → RestRule n s (at_node t) s' y → Tied used look a t → ⊥
   no-rest-rule a (inl (splits m b c d es x e f g)) h = no-split g (joined-later b (d before c) h.2.0).0
-  no-rest-rule a (inr (inl (takes_rest m l lp lr ls b ps c t ks e f))) h = cc ((joined-later b _ h.2.0).0.2.0.0)
+  no-rest-rule a (inr (inl (takes_rest m l lp lr ls b ps c t d e f))) h = cc ((joined-later b _ h.2.0).0.2.0.0)
   no-rest-rule a (inr (inr (inl (moves b c)))) h = cc (h.0)
   no-rest-rule a (inr (inr (inr (inl (lexical_head b c d e f g i))))) h = no-head b h.0
   no-rest-rule a (inr (inr (inr (inl (var_head b c d e f g i))))) h = no-head b h.0
@@ -203,7 +203,7 @@ namespace-kind (exports a b c d e) = refl
 
 rest-kind : {n : Site} {s s' : Ledger} {t : Tree} {y : Spot} → RestRule n s (at_node t) s' y → is_no_program t ≡ true
 rest-kind (inl (splits m a c d es x e f g)) = refl
-rest-kind (inr (inl (takes_rest m l lp lr ls a ps c t ks e f))) = refl
+rest-kind (inr (inl (takes_rest m l lp lr ls a ps c t d e f))) = refl
 rest-kind (inr (inr (inl (moves a b)))) = refl
 rest-kind (inr (inr (inr (inl (lexical_head a b c d e f g))))) = head-kind a _ _
 rest-kind (inr (inr (inr (inl (var_head a b c d e f g))))) = head-kind a _ _

@@ -37,6 +37,7 @@ pub mod Start
 pub mod Checked
 pub mod Sources
 pub mod Examples
+pub mod Fronts
 pub mod Splits
 pub mod Counterexamples
 pub mod Wraps

@@ -152,7 +152,7 @@ module _ (asked : Ledger → Text → Bool) where
     spread-local n m s bs t u a (spreads e f d1 d2 d3) = spreads (a.scope (codes "babelHelpers") (helpers s f) ∙ e) f d1 d2 d3
 
     takes-rest-local : IsLocal asked TakesRest
-    takes-rest-local n m s s' x y a (takes_rest l1 l2 l3 l4 l5 ts ps us t ks e f) = takes_rest l1 l2 l3 l4 l5 ts ps us t ks (a.scope (codes "babelHelpers") (helpers s f) ∙ e) f
+    takes-rest-local n m s s' x y a (takes_rest l1 l2 l3 l4 l5 ts ps us t d e f) = takes_rest l1 l2 l3 l4 l5 ts ps us t d (a.scope (codes "babelHelpers") (helpers s f) ∙ e) f
 
     context-local : (s : Ledger) (c : Text) (p q : Place) → PlacesAlike (asked s) p q → TakesContext (the_whole s) c p → TakesContext (the_whole s) c q
     context-local s c p q a h = record { fresh = h.fresh; other = h.other; helpers = a.scope (codes "babelHelpers") (helpers s h.helpers_used) ∙ h.helpers; helpers_used = h.helpers_used }

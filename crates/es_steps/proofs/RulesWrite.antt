@@ -3,14 +3,14 @@ use Rattle.std.proofs.Common.{arith, ◌≤◌, ◌<◌, ◌+◌, ◌≡◌, ℕ
 use Rattle.std.specs.Prelude.{Bool, true, false, ◌&&◌, Option, Some, None, map, codes}
 use Rattle.std.specs.List.{list_all}
 use Rattle.es_tree.specs.Words.{Text}
-use Rattle.es_tree.specs.Tree.{Tree, node, Label, Fields, one, Trees, empty, ◌before◌, fields}
-use Rattle.es_tree.specs.declared.ast_type.AstType.TheVariants.{Identifier, ObjectPattern}
+use Rattle.es_tree.specs.Tree.{Tree, node, Label, Fields, done, one, Trees, empty, ◌then◌, ◌before◌, fields}
+use Rattle.es_tree.specs.declared.ast_type.AstType.TheVariants.{Identifier, ObjectPattern, PatternProperty}
 use Rattle.es_semantic.specs.declared.place.Binding.TheVariants.{Class}
 use Rattle.es_semantic.specs.declared.place.Role.{Role}
 use Rattle.es_semantic.specs.declared.place.Role.TheVariants.{Binds}
 use Rattle.es_resolution.specs.Declarations.{Bound}
 use Rattle.es_steps.specs.Identifiers.{Passes, PassesIn, PassesAll}
-use Rattle.es_steps.specs.Nodes.{identifier, word, string_node, joined_trees}
+use Rattle.es_steps.specs.Nodes.{array_node, call_node, member_node, declarator_with, identifier, word, string_node, joined_trees}
 use Rattle.es_steps.specs.Open.{Pending, Additions, is_import, flanks_with, whole_list}
 use Rattle.es_steps.specs.Steps.{Whole, Ledger, Site, Spot}
 use Rattle.es_steps.specs.Steps.Spot.{at_node, at_beside, at_body, at_list, at_trees}
@@ -32,7 +32,9 @@ use Rattle.es_steps.specs.ParameterPatterns.MovesParameter.{moves_one}
 use Rattle.es_steps.specs.ParameterPatterns.ParameterRest.{in_declaration, in_expression, in_arrow}
 use Rattle.es_steps.specs.LoopHeads.HeadRest.{lexical_head, var_head}
 use Rattle.es_steps.specs.LoopHeads.IsForEach.{for_in, for_of}
-use Rattle.es_steps.specs.ObjectRest.{SplitRule, SplitsOff, TakesRest}
+use Rattle.es_steps.specs.ObjectRest.{AreKeys, IsKey, RestOf, SplitRule, SplitsOff, TakesRest, and_declarator, declares_as, declares_rest, declares_some, helper_node, pattern_node}
+use Rattle.es_steps.specs.ObjectRest.IsKey.{name_key, text_key}
+use Rattle.es_steps.specs.ObjectRest.RestOf.{alone as rest_alone, beside, mapped}
 use Rattle.es_steps.specs.ObjectRest.SplitRule.{splits}
 use Rattle.es_steps.specs.ObjectRest.SplitsOff.{source, nested, nested_default, key}
 use Rattle.es_steps.specs.ObjectRest.TakesRest.{takes_rest}
@@ -45,6 +47,7 @@ use Rattle.es_steps.specs.Arrows.ArrowRule.{by_name, by_new_name, with_body, wit
 use Rattle.es_steps.proofs.Arrows.{arrow-only}
 use Rattle.es_steps.proofs.Catching.{catch-only}
 use Rattle.es_steps.proofs.CatchRests.{catch-rest-only}
+use Rattle.es_steps.proofs.Fronts.{front-of, front-pass, front-some}
 use Rattle.es_steps.proofs.Heads.{head-only}
 use Rattle.es_steps.proofs.Lists.{goes_on, written-first}
 use Rattle.es_steps.proofs.Namespaces.{exports-nodes}
@@ -55,7 +58,7 @@ use Rattle.es_steps.proofs.Passing.{passes-joined, joined-passes, passes-vars}
 use Rattle.es_steps.proofs.RuleLaws.{AtNodes, replaces-nodes, writes-lists}
 use Rattle.es_steps.proofs.Splits.{split-only}
 use Rattle.es_steps.proofs.Taken.{at-least, whole_in, Writes, Allows, LedgerPasses}
-use Rattle.es_steps.proofs.TakesRest.{rest-only}
+use Rattle.es_steps.proofs.TakesRest.{rest-only, texts-are-keys}
 use Rattle.es_steps.proofs.Wraps.{block-only}
 
 -- NEW NAMES
@@ -283,18 +286,14 @@ head-writes = writes-nodes {R = HeadRest} (record { only = head-only; imports = 
 
 -- OBJECT REST
 
-strings-pass : (q : Text → Option ℕ → Bool) (ks : List Text) → PassesIn q (fields (map one (map string_node ks)))
-strings-pass q [] = tt
-strings-pass q (k ∷ ks) = ((tt, tt), strings-pass q ks)
-
 split-pass : (q : Text → Option ℕ → Bool) (w : Whole) (r : Role) (x : Text) (d : Tree) (es : Trees) → SplitsOff w r x d es → Passes q (identifier (next_name w x)) → Passes q d → PassesAll q es
 split-pass q w r x d es (source l p e rest fresh quiet) it k = ((tt, (it, (k.1.1.0, tt))), ((tt, (k.1.0, (it, tt))), tt))
 split-pass q w r x d es (nested l lp lq ls a c f p rest fresh) it k =
     let parts = joined-passes q a (_ before c) k.1.0.1.0 in
-    ((tt, ((tt, (passes-joined q a (_ before empty) parts.0 ((tt, (parts.1.0.1.0, (it, tt))), tt), tt)), (k.1.1.0, tt))), ((tt, (parts.1.0.1.1.0, (it, tt))), ((tt, ((tt, (parts.1.1, tt)), (k.1.1.0, tt))), tt)))
+    ((tt, ((tt, (passes-joined q a (_ before empty) parts.0 ((tt, (parts.1.0.1.0, (it, tt))), tt), tt)), (k.1.1.0, tt))), ((tt, (parts.1.0.1.1.0, (it, tt))), front-pass q lp (node Identifier ls done) c (declares_some lp (node Identifier ls done) c) (front-some lp (node Identifier ls done) c) parts.1.1 k.1.1.0))
 split-pass q w r x d es (nested_default l lp lq la ls a c f p e rest fresh quiet) it k =
     let parts = joined-passes q a (_ before c) k.1.0.1.0 in
-    ((tt, ((tt, (passes-joined q a (_ before empty) parts.0 ((tt, (parts.1.0.1.0, ((tt, (it, (parts.1.0.1.1.0.1.1.0, tt))), tt))), tt), tt)), (k.1.1.0, tt))), ((tt, (parts.1.0.1.1.0.1.0, (it, tt))), ((tt, ((tt, (parts.1.1, tt)), (k.1.1.0, tt))), tt)))
+    ((tt, ((tt, (passes-joined q a (_ before empty) parts.0 ((tt, (parts.1.0.1.0, ((tt, (it, (parts.1.0.1.1.0.1.1.0, tt))), tt))), tt), tt)), (k.1.1.0, tt))), ((tt, (parts.1.0.1.1.0.1.0, (it, tt))), front-pass q lp (node Identifier ls done) c (declares_some lp (node Identifier ls done) c) (front-some lp (node Identifier ls done) c) parts.1.1 k.1.1.0))
 split-pass q w r x d es (key l lp lq ls a c f v fresh reading quiet) it k =
     let parts = joined-passes q a (_ before c) k.1.0.1.0 in
     ((tt, ((tt, (parts.0, tt)), (k.1.1.0, tt))), ((tt, (it, (parts.1.0.1.0, tt))), ((tt, ((tt, (((tt, (it, (parts.1.0.1.1.0, tt))), parts.1.1), tt)), (k.1.1.0, tt))), tt)))
@@ -317,26 +316,54 @@ split-writes = writes-nodes {R = SplitRule} (record { only = split-only; imports
     names : (q : Text → Option ℕ → Bool) (n : Site) (s s' : Ledger) (t u : Tree) → Allows q (whole_in s) (whole_in s') → LedgerPasses q s → SplitRule n s (at_node t) s' (at_node u) → Passes q t → Passes q u × LedgerPasses q s'
     names q n s s' t u h b (splits {w = w} m a c d es x free f g) k = let parts = joined-passes q a (d before c) k.1.0 in ((tt, (passes-joined q a (joined_trees es c) parts.0 (passes-joined q es c (split-pass q w _ x d es g (one-new q w x h) parts.1.0) parts.1.1), tt)), record { pending = b.pending; this = b.this; top = b.top })
 
+-- keys, and the value of a rest
+key-pass : (q : Text → Option ℕ → Bool) (ds : Trees) (k : Tree) → IsKey ds k → PassesAll q ds → Passes q k
+key-pass q ds k (text_key x) h = (tt, tt)
+key-pass q ds k (name_key l lp lq lk xs ys a c v e d computed) h =
+    let property : Tree = node PatternProperty lq (one (node Identifier lk done) then one v then done) in
+    let parts = joined-passes q xs (declares_as l (pattern_node lp (joined_trees a (property before c))) e before ys) (subst (λ (z : Trees). PassesAll q z) d h) in
+    (joined-passes q a (property before c) parts.1.0.1.0.1.0).1.0.1.0
+
+keys-pass : (q : Text → Option ℕ → Bool) (ds : Trees) (ks : List Tree) → AreKeys ds ks → PassesAll q ds → PassesIn q (fields (map one ks))
+keys-pass q ds [] h k = tt
+keys-pass q ds (t ∷ ks) h k = (key-pass q ds t h.0 k, keys-pass q ds ks h.1 k)
+
+helper-pass : (q : Text → Option ℕ → Bool) (words : (x : Text) → q x None ≡ true) (h : Text) → Passes q (helper_node h)
+helper-pass q words h = (tt, ((words (codes "babelHelpers"), tt), ((words h, tt), tt)))
+
+value-pass : (q : Text → Option ℕ → Bool) (words : (x : Text) → q x None ≡ true) (ds : Trees) (lp : Label) (s : Tree) (ps fs : Trees) (e : Tree) → RestOf ds lp s ps fs e → PassesAll q ds → Passes q s → Passes q e
+value-pass q words ds lp s ps fs e (beside ks) all it = (tt, (helper-pass q words (codes "objectWithoutProperties"), ((it, ((tt, keys-pass q ds (map string_node ks) (texts-are-keys ds ks) all), tt)), tt)))
+value-pass q words ds lp s ps fs e (mapped ks h) all it =
+    let called : Passes q (call_node (member_node (array_node ks) (codes "map")) (helper_node (codes "toPropertyKey") ∷ [])) = (tt, ((tt, ((tt, keys-pass q ds ks h all), ((words (codes "map"), tt), tt))), ((helper-pass q words (codes "toPropertyKey"), tt), tt))) in
+    (tt, (helper-pass q words (codes "objectWithoutProperties"), ((it, (called, tt)), tt)))
+value-pass q words ds lp s ps fs e rest_alone all it =
+    let empties : Passes q (call_node (helper_node (codes "objectDestructuringEmpty")) (s ∷ [])) = (tt, (helper-pass q words (codes "objectDestructuringEmpty"), ((it, tt), tt))) in
+    (tt, (helper-pass q words (codes "extends"), (((tt, (tt, tt)), ((tt, ((empties, (it, tt)), tt)), tt)), tt)))
+
 pub takes-rest-writes : Writes TakesRest
 takes-rest-writes = writes-nodes {R = TakesRest} (record { only = rest-only; imports = imports; no_names = none; freer = grows; same_called = called; names = names })
   where
     imports : (n : Site) (s s' : Ledger) (t u : Tree) → TakesRest n s (at_node t) s' (at_node u) → is_import u ≡ is_import t
-    imports n s s' t u (takes_rest m l lp lr ls a ps c d ks f g) = refl
+    imports n s s' t u (takes_rest m l lp lr ls a ps c d r f g) = refl
 
     none : (n : Site) (s s' : Ledger) (l : Label) (fs : Fields) (u : Tree) → n.role ≡ Binds Class → TakesRest n s (at_node (node Identifier l fs)) s' (at_node u) → ⊥
     none n s s' l fs u e h = elim h [ ]
 
     grows : (n : Site) (s s' : Ledger) (t u : Tree) → TakesRest n s (at_node t) s' (at_node u) → (whole_in s).free_symbol ≤ (whole_in s').free_symbol
-    grows n s s' t u (takes_rest m l lp lr ls a ps c d ks f g) = at-least (whole_in s).free_symbol
+    grows n s s' t u (takes_rest m l lp lr ls a ps c d r f g) = at-least (whole_in s).free_symbol
 
     called : (n : Site) (s s' : Ledger) (t u : Tree) → TakesRest n s (at_node t) s' (at_node u) → (m : ℕ) → m < (whole_in s).free_symbol → (whole_in s').called m ≡ (whole_in s).called m
-    called n s s' t u (takes_rest v l lp lr ls a ps c d ks f g) m e = refl
+    called n s s' t u (takes_rest v l lp lr ls a ps c d r f g) m e = refl
 
     names : (q : Text → Option ℕ → Bool) (n : Site) (s s' : Ledger) (t u : Tree) → Allows q (whole_in s) (whole_in s') → LedgerPasses q s → TakesRest n s (at_node t) s' (at_node u) → Passes q t → Passes q u × LedgerPasses q s'
-    names q n s s' t u h b (takes_rest m l lp lr ls a ps c d ks f g) k =
-        let parts = joined-passes q a (_ before c) k.1.0 in
+    names q n s s' t u h b (takes_rest {fs = fs} {e = e} m l lp lr ls a ps c d r f g) k =
+        let old = declares_rest l lp ps lr d (node Identifier ls done) in
+        let parts = joined-passes q a (old before c) k.1.0 in
         let inner = joined-passes q ps (_ before empty) parts.1.0.1.0.1.0 in
-        ((tt, (passes-joined q a (_ before _ before c) parts.0 ((tt, ((tt, (inner.0, tt)), (parts.1.0.1.1.0, tt))), ((tt, (inner.1.0.1.0, ((tt, ((tt, ((h.words (codes "babelHelpers"), tt), ((h.words (codes "objectWithoutProperties"), tt), tt))), ((parts.1.0.1.1.0, ((tt, strings-pass q ks), tt)), tt))), tt))), parts.1.1)), tt)), b)
+        let source = parts.1.0.1.1.0 in
+        let last : PassesAll q (declarator_with d e before empty) = ((tt, (inner.1.0.1.0, (value-pass q h.words (joined_trees a (old before empty)) lp (node Identifier ls done) ps fs e r (passes-joined q a (old before empty) parts.0 (parts.1.0, tt)) source, tt))), tt) in
+        let own = passes-joined q fs (declarator_with d e before empty) (front-pass q lp (node Identifier ls done) ps fs (front-of (joined_trees a (old before empty)) lp (node Identifier ls done) ps fs e r) inner.0 source) last in
+        ((tt, (passes-joined q a (joined_trees (and_declarator fs d e) c) parts.0 (passes-joined q (and_declarator fs d e) c own parts.1.1), tt)), b)
 
 -- USING
 

@@ -18,11 +18,12 @@ use Rattle.es_steps.specs.Steps.{Whole, Ledger, Site, Spot}
 use Rattle.es_steps.specs.Steps.Spot.{at_node}
 use Rattle.es_steps.specs.Rules.{next_name}
 use Rattle.es_steps.specs.Patterns.{IsSilent}
-use Rattle.es_steps.specs.ObjectRest.{Declares, kind_of_declaration, pattern_node, declares_as, SplitsOff, SplitRule}
+use Rattle.es_steps.specs.ObjectRest.{Declares, kind_of_declaration, pattern_node, declares_as, declares_some, SplitsOff, SplitRule}
 use Rattle.es_steps.specs.ObjectRest.Declares.{by_var, lexically}
 use Rattle.es_steps.specs.ObjectRest.SplitsOff.{source, nested, nested_default, key}
 use Rattle.es_steps.specs.ObjectRest.SplitRule.{splits}
 use Rattle.es_resolution.proofs.Basics.{none-append}
+use Rattle.es_steps.proofs.Fronts.{front-lists, front-named, front-resolved, front-scopes, front-some}
 use Rattle.es_steps.proofs.Heads.{adds-front, lexical-hoists}
 use Rattle.es_steps.proofs.Kept.{Change, Known, plain, Each, Adds, SeesIf, Lexical, Hoisted, limit, Kept, KeptAll}
 use Rattle.es_steps.proofs.Kept.Change.{below, lexed}
@@ -35,7 +36,7 @@ use Rattle.es_steps.proofs.Same.{as-many, left-fields, same-in, same-by}
 use Rattle.es_steps.proofs.Scopes.{no-scopes, no-scopes-by, no-scopes-all}
 use Rattle.es_steps.proofs.Stays.{stand, stand-all, standing}
 use Rattle.es_steps.proofs.Taken.{none-some, whole_in, NodesKept, Outcome, Lawful}
-use Rattle.es_steps.proofs.Written.{nil-right, body_place, kept-joined, several, named-joined, join-named, resolved-joined, declared-joined, scopes-joined, resolved-parts}
+use Rattle.es_steps.proofs.Written.{nil-right, body_place, joined-twice, kept-joined, several, named-joined, join-named, resolved-joined, declared-joined, scopes-joined, resolved-parts}
 
 abbrev change_of : {b : Binding} → Declares b → Change
 change_of (by_var e) = below
@@ -88,7 +89,7 @@ arranged xs ks js = simp (nil-right, append_assoc)
 trio : (bs : List Bound) → ((bs ++ []) ++ []) ++ [] ≡ bs
 trio bs = simp nil-right
 
-flatten : (bs ms ts cs : List Bound) → (((bs ++ ms) ++ []) ++ []) ++ ((ts ++ []) ++ (((cs ++ []) ++ []) ++ [])) ≡ bs ++ (ms ++ (ts ++ cs))
+flatten : (bs ms ts cs : List Bound) → (((bs ++ ms) ++ []) ++ []) ++ ((ts ++ []) ++ cs) ≡ bs ++ (ms ++ (ts ++ cs))
 flatten bs ms ts cs = simp (nil-right, append_assoc)
 
 key-flat : (xs ts cs : List Bound) → (((xs ++ (([] ++ (ts ++ [])) ++ cs)) ++ []) ++ []) ++ [] ≡ xs ++ (ts ++ cs)
@@ -165,7 +166,7 @@ module _ (p : Place) (w : Whole) (x : Text) (free : w.in_use x ≡ false) (b : B
     before_nested = declares_as l (pattern_node lp (inside t c)) src before empty
 
     abbrev after_nested : Trees
-    after_nested = declarator_with (pattern_node (made [] []) (inside (identifier it) empty)) src before declarator_with t (identifier it) before declarator_with (pattern_node lp c) src before empty
+    after_nested = declarator_with (pattern_node (made [] []) (inside (identifier it) empty)) src before declarator_with t (identifier it) before declares_some lp src c
 
     abbrev xs : Bool → List Bound
     xs v = declared_among v r a ++ declared_by v key_role kf
@@ -187,8 +188,8 @@ module _ (p : Place) (w : Whole) (x : Text) (free : w.in_use x ≡ false) (b : B
     nested-before false = (λ i. ((list-before false i ++ []) ++ []) ++ []) ∙ trio (xs false ++ ys false)
 
     nested-after : (v : Bool) → declared_among v r after_nested ≡ xs v ++ (own-of b it v ++ ys v)
-    nested-after true = (λ i. ((list-after true i ++ []) ++ []) ++ ((declared true r t ++ []) ++ (((declared_among true r c ++ []) ++ []) ++ []))) ∙ flatten (xs true) (own-of b it true) (declared true r t) (declared_among true r c)
-    nested-after false = (λ i. ((list-after false i ++ []) ++ []) ++ ((declared false r t ++ []) ++ (((declared_among false r c ++ []) ++ []) ++ []))) ∙ flatten (xs false) (own-of b it false) (declared false r t) (declared_among false r c)
+    nested-after true = (λ i. ((list-after true i ++ []) ++ []) ++ ((declared true r t ++ []) ++ front-lists lp ls r true c (declares_some lp src c) (front-some lp src c) i)) ∙ flatten (xs true) (own-of b it true) (declared true r t) (declared_among true r c)
+    nested-after false = (λ i. ((list-after false i ++ []) ++ []) ++ ((declared false r t ++ []) ++ front-lists lp ls r false c (declares_some lp src c) (front-some lp src c) i)) ∙ flatten (xs false) (own-of b it false) (declared false r t) (declared_among false r c)
 
     module _ (used : NamedAll w.in_use w.free_symbol r before_nested) where
       used-props : NamedAll w.in_use w.free_symbol r a × NamedAll w.in_use w.free_symbol r (node PatternProperty lq (kf then one t then done) before c)
@@ -209,14 +210,15 @@ module _ (p : Place) (w : Whole) (x : Text) (free : w.in_use x ≡ false) (b : B
             let nc = named-more-all w.in_use k.in_use_after k.more w.free_symbol (w.free_symbol + 1) k.freer r c used-props.1.1 in
             let nq = own-more w.in_use k.in_use_after k.more w.free_symbol (w.free_symbol + 1) k.freer r PatternProperty lq used-props.1.0.0 in
             let np = own-more w.in_use k.in_use_after k.more w.free_symbol (w.free_symbol + 1) k.freer r ObjectPattern lp used.0.1.0.0 in
-            (((tt, tt), (((tt, tt), (join-named k.in_use_after (w.free_symbol + 1) r a (node PatternProperty lq (kf then one (identifier it) then done) before empty) na ((nq, (nk, (ni, tt))), tt), tt)), (ns, tt))), (((tt, tt), (nt, (ni, tt))), (((tt, tt), ((np, (nc, tt)), (ns, tt))), tt)));
-        scopes = λ s ps f. let g = scopes-joined s no_name r a (node PatternProperty lq (kf then one t then done) before c) in let h = scopes-joined s no_name r a (node PatternProperty lq (kf then one (identifier it) then done) before empty) in omega arith;
+            (((tt, tt), (((tt, tt), (join-named k.in_use_after (w.free_symbol + 1) r a (node PatternProperty lq (kf then one (identifier it) then done) before empty) na ((nq, (nk, (ni, tt))), tt), tt)), (ns, tt))), (((tt, tt), (nt, (ni, tt))), front-named lp ls r k.in_use_after (w.free_symbol + 1) c (declares_some lp src c) (front-some lp src c) (np, (nc, tt)) ns));
+        scopes = λ s ps f. let z = front-scopes lp ls r s ps c (declares_some lp src c) (front-some lp src c) in let g = scopes-joined s no_name r a (node PatternProperty lq (kf then one t then done) before c) in let h = scopes-joined s no_name r a (node PatternProperty lq (kf then one (identifier it) then done) before empty) in omega arith;
         new_scopes = λ s ps f.
             let h = scopes-joined s no_name r a (node PatternProperty lq (kf then one (identifier it) then done) before empty) in
             let za = no-scopes-all w.in_use w.free_symbol s f no_name r a used-props.0 in
             let zc = no-scopes-all w.in_use w.free_symbol s f no_name r c used-props.1.1 in
             let zt = no-scopes w.in_use w.free_symbol s f no_name r t used-props.1.0.1.1.0 in
             let zk = no-scopes-by w.in_use w.free_symbol s f no_name key_role kf used-props.1.0.1.0 in
+            let z = front-scopes lp ls r s ps c (declares_some lp src c) (front-some lp src c) in
             no-more (scopes_among s ps r after_nested) (limit (change_of d) k s) (omega arith);
         resolved = λ o q g ps v h z.
             let parts = resolved-parts r (body_place o) a (node PatternProperty lq (kf then one t then done) before c) z.0.2.0.2.0 in
@@ -227,7 +229,7 @@ module _ (p : Place) (w : Whole) (x : Text) (free : w.in_use x ≡ false) (b : B
             let rc = stand-all w.in_use w.free_symbol r (body_place o) (body_place q) g.scope g.hoist (λ y f. refl) c used-props.1.1 parts.1.1 in
             let rt = stand w.in_use w.free_symbol r (body_place o) (body_place q) g.scope g.hoist (λ y f. refl) t used-props.1.0.1.1.0 parts.1.0.2.1.0 in
             let rk = stand-by w.in_use w.free_symbol key_role o q g.scope g.hoist kf used-props.1.0.1.0 parts.1.0.2.0 in
-            ((tt, refl, ((tt, refl, (resolved-joined r (body_place q) a (node PatternProperty lq (kf then one (identifier it) then done) before empty) ra ((tt, refl, (rk, ((here, refl, tt), tt))), tt), tt)), (rs, tt))), ((tt, refl, (rt, ((seen, refl, tt), tt))), ((tt, refl, ((tt, refl, (rc, tt)), (rs, tt))), tt)));
+            ((tt, refl, ((tt, refl, (resolved-joined r (body_place q) a (node PatternProperty lq (kf then one (identifier it) then done) before empty) ra ((tt, refl, (rk, ((here, refl, tt), tt))), tt), tt)), (rs, tt))), ((tt, refl, (rt, ((seen, refl, tt), tt))), front-resolved lp ls r q c (declares_some lp src c) (front-some lp src c) rc rs));
       }
 
   -- A PATTERN INSIDE, with a default
@@ -249,7 +251,7 @@ module _ (p : Place) (w : Whole) (x : Text) (free : w.in_use x ≡ false) (b : B
     before_nested-d = declares_as l (pattern_node lp (inside-d t c)) src-d before empty
 
     abbrev after_nested-d : Trees
-    after_nested-d = declarator_with (pattern_node (made [] []) (inside-d (identifier it) empty)) src-d before declarator_with t (identifier it) before declarator_with (pattern_node lp c) src-d before empty
+    after_nested-d = declarator_with (pattern_node (made [] []) (inside-d (identifier it) empty)) src-d before declarator_with t (identifier it) before declares_some lp src-d c
 
     abbrev xd : Bool → List Bound
     xd v = declared_among v rd a ++ declared_by v key_role-d kf
@@ -271,8 +273,8 @@ module _ (p : Place) (w : Whole) (x : Text) (free : w.in_use x ≡ false) (b : B
     nested-before-d false = (λ i. ((list-before-d false i ++ []) ++ []) ++ []) ∙ trio (xd false ++ yd false)
 
     nested-after-d : (v : Bool) → declared_among v rd after_nested-d ≡ xd v ++ (own-of b it v ++ yd v)
-    nested-after-d true = (λ i. ((list-after-d true i ++ []) ++ []) ++ ((declared true rd t ++ []) ++ (((declared_among true rd c ++ []) ++ []) ++ []))) ∙ flatten (xd true) (own-of b it true) (declared true rd t) (declared_among true rd c)
-    nested-after-d false = (λ i. ((list-after-d false i ++ []) ++ []) ++ ((declared false rd t ++ []) ++ (((declared_among false rd c ++ []) ++ []) ++ []))) ∙ flatten (xd false) (own-of b it false) (declared false rd t) (declared_among false rd c)
+    nested-after-d true = (λ i. ((list-after-d true i ++ []) ++ []) ++ ((declared true rd t ++ []) ++ front-lists lp ls rd true c (declares_some lp src-d c) (front-some lp src-d c) i)) ∙ flatten (xd true) (own-of b it true) (declared true rd t) (declared_among true rd c)
+    nested-after-d false = (λ i. ((list-after-d false i ++ []) ++ []) ++ ((declared false rd t ++ []) ++ front-lists lp ls rd false c (declares_some lp src-d c) (front-some lp src-d c) i)) ∙ flatten (xd false) (own-of b it false) (declared false rd t) (declared_among false rd c)
 
     module _ (used : NamedAll w.in_use w.free_symbol rd before_nested-d) where
       used-props-d : NamedAll w.in_use w.free_symbol rd a × NamedAll w.in_use w.free_symbol rd (node PatternProperty lq (kf then one (node AssignmentPattern la (one t then one e then done)) then done) before c)
@@ -295,8 +297,8 @@ module _ (p : Place) (w : Whole) (x : Text) (free : w.in_use x ≡ false) (b : B
             let nc = named-more-all w.in_use k.in_use_after k.more w.free_symbol (w.free_symbol + 1) k.freer rd c used-props-d.1.1 in
             let nq = own-more w.in_use k.in_use_after k.more w.free_symbol (w.free_symbol + 1) k.freer rd PatternProperty lq used-props-d.1.0.0 in
             let np = own-more w.in_use k.in_use_after k.more w.free_symbol (w.free_symbol + 1) k.freer rd ObjectPattern lp used.0.1.0.0 in
-            (((tt, tt), (((tt, tt), (join-named k.in_use_after (w.free_symbol + 1) rd a (node PatternProperty lq (kf then one (node AssignmentPattern la (one (identifier it) then one e then done)) then done) before empty) na ((nq, (nk, ((nn, (ni, (ne, tt))), tt))), tt), tt)), (ns, tt))), (((tt, tt), (nt, (ni, tt))), (((tt, tt), ((np, (nc, tt)), (ns, tt))), tt)));
-        scopes = λ s ps f. let g = scopes-joined s no_name rd a (node PatternProperty lq (kf then one (node AssignmentPattern la (one t then one e then done)) then done) before c) in let h = scopes-joined s no_name rd a (node PatternProperty lq (kf then one (node AssignmentPattern la (one (identifier it) then one e then done)) then done) before empty) in omega arith;
+            (((tt, tt), (((tt, tt), (join-named k.in_use_after (w.free_symbol + 1) rd a (node PatternProperty lq (kf then one (node AssignmentPattern la (one (identifier it) then one e then done)) then done) before empty) na ((nq, (nk, ((nn, (ni, (ne, tt))), tt))), tt), tt)), (ns, tt))), (((tt, tt), (nt, (ni, tt))), front-named lp ls rd k.in_use_after (w.free_symbol + 1) c (declares_some lp src-d c) (front-some lp src-d c) (np, (nc, tt)) ns));
+        scopes = λ s ps f. let z = front-scopes lp ls rd s ps c (declares_some lp src-d c) (front-some lp src-d c) in let g = scopes-joined s no_name rd a (node PatternProperty lq (kf then one (node AssignmentPattern la (one t then one e then done)) then done) before c) in let h = scopes-joined s no_name rd a (node PatternProperty lq (kf then one (node AssignmentPattern la (one (identifier it) then one e then done)) then done) before empty) in omega arith;
         new_scopes = λ s ps f.
             let h = scopes-joined s no_name rd a (node PatternProperty lq (kf then one (node AssignmentPattern la (one (identifier it) then one e then done)) then done) before empty) in
             let za = no-scopes-all w.in_use w.free_symbol s f no_name rd a used-props-d.0 in
@@ -304,6 +306,7 @@ module _ (p : Place) (w : Whole) (x : Text) (free : w.in_use x ≡ false) (b : B
             let zt = no-scopes w.in_use w.free_symbol s f no_name rd t used-props-d.1.0.1.1.0.1.0 in
             let ze = no-scopes w.in_use w.free_symbol s f no_name reads e used-props-d.1.0.1.1.0.1.1.0 in
             let zk = no-scopes-by w.in_use w.free_symbol s f no_name key_role-d kf used-props-d.1.0.1.0 in
+            let z = front-scopes lp ls rd s ps c (declares_some lp src-d c) (front-some lp src-d c) in
             no-more (scopes_among s ps rd after_nested-d) (limit (change_of d) k s) (omega arith);
         resolved = λ o q g ps v h z.
             let parts = resolved-parts rd (body_place o) a (node PatternProperty lq (kf then one (node AssignmentPattern la (one t then one e then done)) then done) before c) z.0.2.0.2.0 in
@@ -315,7 +318,7 @@ module _ (p : Place) (w : Whole) (x : Text) (free : w.in_use x ≡ false) (b : B
             let rt = stand w.in_use w.free_symbol rd (body_place o) (body_place q) g.scope g.hoist (λ y f. refl) t used-props-d.1.0.1.1.0.1.0 parts.1.0.2.1.0.2.0 in
             let re = stand w.in_use w.free_symbol reads (body_place o) (body_place q) g.scope g.hoist (λ y f. refl) e used-props-d.1.0.1.1.0.1.1.0 parts.1.0.2.1.0.2.1.0 in
             let rk = stand-by w.in_use w.free_symbol key_role-d o q g.scope g.hoist kf used-props-d.1.0.1.0 parts.1.0.2.0 in
-            ((tt, refl, ((tt, refl, (resolved-joined rd (body_place q) a (node PatternProperty lq (kf then one (node AssignmentPattern la (one (identifier it) then one e then done)) then done) before empty) ra ((tt, refl, (rk, ((tt, refl, ((here, refl, tt), (re, tt))), tt))), tt), tt)), (rs, tt))), ((tt, refl, (rt, ((seen, refl, tt), tt))), ((tt, refl, ((tt, refl, (rc, tt)), (rs, tt))), tt)));
+            ((tt, refl, ((tt, refl, (resolved-joined rd (body_place q) a (node PatternProperty lq (kf then one (node AssignmentPattern la (one (identifier it) then one e then done)) then done) before empty) ra ((tt, refl, (rk, ((tt, refl, ((here, refl, tt), (re, tt))), tt))), tt), tt)), (rs, tt))), ((tt, refl, (rt, ((seen, refl, tt), tt))), front-resolved lp ls rd q c (declares_some lp src-d c) (front-some lp src-d c) rc rs));
       }
 
   -- A COMPUTED KEY
@@ -412,15 +415,31 @@ closing-kind : {b : Binding} (d : Declares b) → closing (change_of d) false tr
 closing-kind (by_var e) = refl
 closing-kind (lexically e) = refl
 
--- a declaration keeps what the list that comes for one of its declarators keeps
+-- a declaration keeps what the list of its declarators keeps
+pub declarators-kept : (n : Known) (b : Place) (c : Change) (r : Role) (m : Label) (ds es : Trees) → Named n.in_use n.free r (node VariableDeclaration m (many ds then done)) → KeptAll n (body_place b) c (Binds (kind_of_declaration m)) ds es → Kept n b (closing c false true) r (node VariableDeclaration m (many ds then done)) (node VariableDeclaration m (many es then done))
+declarators-kept n b c r m ds es used h =
+    let old = many ds then done in
+    kept-node n b c r VariableDeclaration m old (many es then done) used.0 used.1
+    (left-fields n (place_in b VariableDeclaration m (role_at r VariableDeclaration m old) old) c (role_at r VariableDeclaration m old) (many ds) (many es) done tt
+    (as-many n (body_place b) c (Binds (kind_of_declaration m)) ds es h)
+    (same-in (plain n) (λ i. place_in b VariableDeclaration m (role_at r VariableDeclaration m old) old (suc i)) (λ i. role_at r VariableDeclaration m old (suc i)) done tt))
+
+-- and what the list that comes for one of them keeps
 pub declaration-kept : (n : Known) (b : Place) (c : Change) (r : Role) (m : Label) (xs ys : Trees) (z : Tree) (es : Trees) → Named n.in_use n.free r (node VariableDeclaration m (many (joined_trees xs (z before ys)) then done)) → KeptAll n (body_place b) c (Binds (kind_of_declaration m)) (z before empty) es → Kept n b (closing c false true) r (node VariableDeclaration m (many (joined_trees xs (z before ys)) then done)) (node VariableDeclaration m (many (joined_trees xs (joined_trees es ys)) then done))
 declaration-kept n b c r m xs ys z es used h =
     let role = Binds (kind_of_declaration m) in
     let parts = named-joined n.in_use n.free role xs (z before ys) used.1.0 in
-    kept-node n b c r VariableDeclaration m (many (joined_trees xs (z before ys)) then done) (many (joined_trees xs (joined_trees es ys)) then done) used.0 used.1
-    (left-fields n (place_in b VariableDeclaration m (role_at r VariableDeclaration m (many (joined_trees xs (z before ys)) then done)) (many (joined_trees xs (z before ys)) then done)) c (role_at r VariableDeclaration m (many (joined_trees xs (z before ys)) then done)) (many (joined_trees xs (z before ys))) (many (joined_trees xs (joined_trees es ys))) done tt
-    (as-many n (body_place b) c role (joined_trees xs (z before ys)) (joined_trees xs (joined_trees es ys)) (kept-joined n (body_place b) c role xs (z before ys) (joined_trees es ys) parts.0 (several n (body_place b) c role (z before empty) es ys parts.1.1 h)))
-    (same-in (plain n) (λ i. place_in b VariableDeclaration m (role_at r VariableDeclaration m (many (joined_trees xs (z before ys)) then done)) (many (joined_trees xs (z before ys)) then done) (suc i)) (λ i. role_at r VariableDeclaration m (many (joined_trees xs (z before ys)) then done) (suc i)) done tt))
+    declarators-kept n b c r m (joined_trees xs (z before ys)) (joined_trees xs (joined_trees es ys)) used (kept-joined n (body_place b) c role xs (z before ys) (joined_trees es ys) parts.0 (several n (body_place b) c role (z before empty) es ys parts.1.1 h))
+
+-- and what the list that comes for the first of them keeps
+pub first-kept : (n : Known) (b : Place) (c : Change) (r : Role) (m : Label) (xs ys : Trees) (z : Tree) (es : Trees) → Named n.in_use n.free r (node VariableDeclaration m (many (joined_trees xs (z before ys)) then done)) → KeptAll n (body_place b) c (Binds (kind_of_declaration m)) (joined_trees xs (z before empty)) (joined_trees xs es) → Kept n b (closing c false true) r (node VariableDeclaration m (many (joined_trees xs (z before ys)) then done)) (node VariableDeclaration m (many (joined_trees xs (joined_trees es ys)) then done))
+first-kept n b c r m xs ys z es used h =
+    let role = Binds (kind_of_declaration m) in
+    let parts = named-joined n.in_use n.free role xs (z before ys) used.1.0 in
+    let list = several n (body_place b) c role (joined_trees xs (z before empty)) (joined_trees xs es) ys parts.1.1 h in
+    declarators-kept n b c r m (joined_trees xs (z before ys)) (joined_trees xs (joined_trees es ys)) used
+    (subst (λ (us : Trees). KeptAll n (body_place b) c role (joined_trees xs (z before ys)) us) (joined-twice xs es ys)
+    (subst (λ (ts : Trees). KeptAll n (body_place b) c role ts (joined_trees (joined_trees xs es) ys)) (joined-twice xs (z before empty) ys) list))
 
 split-parts : (p : Place) (w : Whole) (x : Text) (free : w.in_use x ≡ false) (b : Binding) (d : Declares b) (z : Tree) (es : Trees) → SplitsOff w (Binds b) x z es → NamedAll w.in_use w.free_symbol (Binds b) (z before empty) → KeptAll (knowing w x free) p (change_of d) (Binds b) (z before empty) es
 split-parts p w x free b d z es (source l t e rest fresh quiet) used = split-source p w x free b d l t e quiet used

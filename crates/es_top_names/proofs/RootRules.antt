@@ -123,7 +123,7 @@ split-off : NeverAtProgram SplitRule
 split-off n s s' x y (splits m a c d es z free kind h) = refl
 
 takes-rest-off : NeverAtProgram TakesRest
-takes-rest-off n s s' x y (takes_rest m l lp lr ls a ps c t ks unbound used) = refl
+takes-rest-off n s s' x y (takes_rest m l lp lr ls a ps c t d unbound used) = refl
 
 catch-rest-off : NeverAtProgram CatchRest
 catch-rest-off n s s' x y (moves h fresh) = refl

@@ -9,7 +9,7 @@ use Rattle.es_tree.specs.Names.{flag_at}
 use Rattle.es_tree.specs.Tree.{Tree, node, Label, Fields, done, ◌then◌, Field, one, many, Trees, empty, ◌before◌, fields, fields_of, kind_of}
 use Rattle.es_tree.specs.Words.{Text}
 use Rattle.es_tree.specs.declared.ast_type.AstType.{AstType}
-use Rattle.es_tree.specs.declared.ast_type.AstType.TheVariants.{ArrayExpression, ArrayPattern, AssignmentPattern, Identifier, ObjectPattern, PatternProperty, RestElement, VariableDeclaration, VariableDeclarator}
+use Rattle.es_tree.specs.declared.ast_type.AstType.TheVariants.{ArrayExpression, ArrayPattern, AssignmentPattern, CallExpression, Identifier, ObjectPattern, PatternProperty, RestElement, SequenceExpression, VariableDeclaration, VariableDeclarator}
 use Rattle.es_tree.specs.declared.table.FieldName.TheVariants.{Computed as f-Computed}
 use Rattle.es_tree.specs.declared.table.Sort.{Sort}
 use Rattle.es_tree.specs.declared.table.Sort.TheVariants.{Argument as s-Argument, Binding as s-Binding, Expression as s-Expression, Pattern as s-Pattern, PatternMember as s-PatternMember, PatternMemberRest as s-PatternMemberRest, PropertyKey as s-PropertyKey, VariableDeclarator as s-VariableDeclarator}
@@ -18,8 +18,10 @@ use Rattle.es_semantic.specs.RolesOf.{reads, role_at}
 use Rattle.es_semantic.specs.declared.place.Role.{Role}
 use Rattle.es_semantic.specs.declared.place.Role.TheVariants.{Nothing}
 use Rattle.es_resolution.specs.Declarations.{Bound}
-use Rattle.es_steps.specs.Nodes.{array_node, declarator_with, identifier, joined_trees, made, string_node}
-use Rattle.es_steps.specs.ObjectRest.{SplitRule, SplitsOff, TakesRest, declares_as, helper_node, pattern_node, rest_value}
+use Rattle.es_steps.specs.Nodes.{array_node, call_node, declarator_with, identifier, joined_trees, made, member_node, object_node, sequence_node, string_node, word}
+use Rattle.es_steps.specs.ObjectRest.{AreKeys, IsKey, RestOf, SplitRule, SplitsOff, TakesRest, and_declarator, declares_as, declares_some, helper_node, pattern_node}
+use Rattle.es_steps.specs.ObjectRest.IsKey.{name_key, text_key}
+use Rattle.es_steps.specs.ObjectRest.RestOf.{alone, beside, mapped}
 use Rattle.es_steps.specs.ObjectRest.SplitRule.{splits}
 use Rattle.es_steps.specs.ObjectRest.SplitsOff.{source, nested, nested_default, key}
 use Rattle.es_steps.specs.ObjectRest.TakesRest.{takes_rest}
@@ -28,11 +30,14 @@ use Rattle.es_steps.specs.Slots.{is_slot}
 use Rattle.es_steps.specs.Steps.{Ledger, Site, Spot, Whole}
 use Rattle.es_steps.specs.Steps.Spot.{at_node}
 use Rattle.es_steps.proofs.FormLists.{first-formed}
-use Rattle.es_steps.proofs.FormMembers.{formed-call, formed-first}
+use Rattle.es_steps.proofs.FormMembers.{formed-call, formed-first, formed-member}
 use Rattle.es_steps.proofs.FormParts.{IsFormed, IsText, formed-name, no-span}
 use Rattle.es_steps.proofs.FormRows.{next-text}
 use Rattle.es_steps.proofs.FormRules.{AtNodes, FormLawful, NodeFormed, no-names, nodes-only, nothing-new}
 use Rattle.es_steps.proofs.FormSorts.{form-wider}
+use Rattle.es_steps.proofs.Fronts.{Front, front-of, front-some}
+use Rattle.es_steps.proofs.Fronts.Front.{of_none, of_some}
+use Rattle.es_steps.proofs.TakesRest.{texts-are-keys}
 use Rattle.es_valid_rests.specs.RestRules.{Binding, all_declare, is_binding, is_binding_kind}
 use Rattle.es_valid_rests.proofs.RestForms.{at-sort, bound-name, formed-declarator}
 
@@ -161,8 +166,15 @@ declarator-of l p e q d g k h =
 abbrev AreDeclarators : Trees → Type 0
 AreDeclarators ds = trees_form s-VariableDeclarator s-VariableDeclarator ds ≡ true
 
+two-before : (d e : Tree) (fs : Trees) → has_form s-VariableDeclarator d ≡ true → has_form s-VariableDeclarator e ≡ true → AreDeclarators fs → AreDeclarators (d before e before fs)
+two-before d e fs h k j = formed-first s-VariableDeclarator d (e before fs) h (formed-first s-VariableDeclarator e fs k j)
+
 three : (d e f : Tree) → has_form s-VariableDeclarator d ≡ true → has_form s-VariableDeclarator e ≡ true → has_form s-VariableDeclarator f ≡ true → AreDeclarators (d before e before f before empty)
-three d e f h k j = formed-first s-VariableDeclarator d (e before f before empty) h (formed-first s-VariableDeclarator e (f before empty) k (formed-first s-VariableDeclarator f empty j refl))
+three d e f h k j = two-before d e (f before empty) h k (formed-first s-VariableDeclarator f empty j refl)
+
+front-form : (lp : Label) (s : Tree) (ps fs : Trees) → Front lp s ps fs → has_form s-VariableDeclarator (declarator_with (pattern_node lp ps) s) ≡ true → AreDeclarators fs
+front-form lp s ps fs of_some h = formed-first s-VariableDeclarator (declarator_with (pattern_node lp ps) s) empty h refl
+front-form lp s ps fs of_none h = refl
 
 -- the second of several that declare
 pub second-kind : (d e : Tree) (i j : Tree) (ds : Trees) → all_declare (declarator_with d i before declarator_with e j before ds) ≡ true → is_binding_kind (kind_of e) ≡ true
@@ -246,8 +258,8 @@ splits-form w r x d es named (nested l lp lq ls a c k q holds fresh) declares h 
     let kept = property-with (sort_before_trees s-PatternMember s-PatternMemberRest c) s-PatternMemberRest lq k q it refl (pattern-name b named) parts.it in
     let head : Tree = pattern_node (made [] []) (joined_trees a (node PatternProperty lq (k then one it then done) before empty)) in
     let first : has_form s-Binding head ≡ true = made-pattern (joined_trees a (node PatternProperty lq (k then one it then done) before empty)) (rest-joined s-PatternMember s-PatternMemberRest a (node PatternProperty lq (k then one it then done)) empty parts.earlier kept refl) in
-    let target = second-kind head q s it (declarator_with (pattern_node lp c) s before empty) declares in
-    three (declarator_with head s) (declarator_with q it) (declarator_with (pattern_node lp c) s) (formed-declarator head s first f.value) (formed-declarator q it (as-binding s-Pattern q target value) (formed-name b named)) (formed-declarator (pattern_node lp c) s (pattern-with lp (joined_trees a (property before c)) c parts.later f.target) f.value)
+    let target = second-kind head q s it (declares_some lp s c) declares in
+    two-before (declarator_with head s) (declarator_with q it) (declares_some lp s c) (formed-declarator head s first f.value) (formed-declarator q it (as-binding s-Pattern q target value) (formed-name b named)) (front-form lp s c (declares_some lp s c) (front-some lp s c) (formed-declarator (pattern_node lp c) s (pattern-with lp (joined_trees a (property before c)) c parts.later f.target) f.value))
 splits-form w r x d es named (nested_default l lp lq la ls a c k q e holds fresh silent) declares h =
     let b = next_name w x in
     let it = identifier b in
@@ -262,8 +274,8 @@ splits-form w r x d es named (nested_default l lp lq la ls a c k q e holds fresh
     let kept = property-with (sort_before_trees s-PatternMember s-PatternMemberRest c) s-PatternMemberRest lq k value left refl (default-with la q it e (pattern-name b named) formed) parts.it in
     let head : Tree = pattern_node (made [] []) (joined_trees a (node PatternProperty lq (k then one left then done) before empty)) in
     let first : has_form s-Binding head ≡ true = made-pattern (joined_trees a (node PatternProperty lq (k then one left then done) before empty)) (rest-joined s-PatternMember s-PatternMemberRest a (node PatternProperty lq (k then one left then done)) empty parts.earlier kept refl) in
-    let target = second-kind head q s it (declarator_with (pattern_node lp c) s before empty) declares in
-    three (declarator_with head s) (declarator_with q it) (declarator_with (pattern_node lp c) s) (formed-declarator head s first f.value) (formed-declarator q it (as-binding s-Pattern q target default.target) (formed-name b named)) (formed-declarator (pattern_node lp c) s (pattern-with lp (joined_trees a (property before c)) c parts.later f.target) f.value)
+    let target = second-kind head q s it (declares_some lp s c) declares in
+    two-before (declarator_with head s) (declarator_with q it) (declares_some lp s c) (formed-declarator head s first f.value) (formed-declarator q it (as-binding s-Pattern q target default.target) (formed-name b named)) (front-form lp s c (declares_some lp s c) (front-some lp s c) (formed-declarator (pattern_node lp c) s (pattern-with lp (joined_trees a (property before c)) c parts.later f.target) f.value))
 splits-form w r x d es named (key l lp lq ls a c k v fresh computed silent) declares h =
     let b = next_name w x in
     let it = identifier b in
@@ -322,41 +334,89 @@ split-form = nodes-only (Binding SplitRule) split-nodes nodes
 
 -- A REST
 
-texts-form : (ks : List Text) → elements_form s-Argument s-Argument (fields (map one (map string_node ks))) ≡ true
-texts-form [] = refl
-texts-form (k ∷ ks) = and_from _ _ (ap (λ b. has_form b (string_node k)) (one-element (fields (map one (map string_node ks))))) (texts-form ks)
-  where
-    one-element : (fs : Fields) → sort_before_fields s-Argument s-Argument fs ≡ s-Argument
-    one-element done = refl
-    one-element (f then fs) = refl
+-- calls, and lists of keys
+call-formed : (f : Tree) (ts : Trees) → IsFormed f → trees_form s-Argument s-Argument ts ≡ true → IsFormed (node CallExpression (made [] (false ∷ [])) (one f then many ts then done))
+call-formed f ts g k = formed-call (made [] (false ∷ [])) false f ts refl refl (no-span [] (false ∷ [])) g k
 
-formed-texts : (ks : List Text) → IsFormed (array_node (map string_node ks))
-formed-texts ks = let span = no-span [] [] in has_form-node s-Expression ArrayExpression (made [] []) (fields (map one (map string_node ks))) (record { sort = refl; texts = refl; flags = refl; start = span.start; stop = span.stop; agree = refl; children = texts-form ks })
+argument : (t : Tree) (ts : Trees) → IsFormed t → trees_form s-Argument s-Argument ts ≡ true → trees_form s-Argument s-Argument (t before ts) ≡ true
+argument t ts h k = formed-first s-Argument t ts (form-wider s-Argument t refl h) k
 
-rest-call : (ls : Label) (ks : List Text) → IsFormed (node Identifier ls done) → IsFormed (rest_value (node Identifier ls done) ks)
-rest-call ls ks h = formed-call (made [] (false ∷ [])) false (helper_node (codes "objectWithoutProperties")) (node Identifier ls done before array_node (map string_node ks) before empty) refl refl (no-span [] (false ∷ [])) refl (formed-first s-Argument (node Identifier ls done) (array_node (map string_node ks) before empty) (form-wider s-Argument (node Identifier ls done) refl h) (formed-first s-Argument (array_node (map string_node ks)) empty (form-wider s-Argument (array_node (map string_node ks)) refl (formed-texts ks)) refl))
+module _ (ds : Trees) (all : AreDeclarators ds) where
+  key-form : (k : Tree) → IsKey ds k → IsFormed k
+  key-form k (text_key x) = refl
+  key-form k (name_key l lp lq lk xs ys a c v e d computed) =
+      let key : Tree = node Identifier lk done in
+      let property : Tree = node PatternProperty lq (one key then one v then done) in
+      let pattern = joined_trees a (property before c) in
+      let declared = list-parts s-VariableDeclarator xs (declares_as l (pattern_node lp pattern) e before ys) (subst (λ (z : Trees). AreDeclarators z) d all) in
+      let f = declarator-parts l (pattern_node lp pattern) e (first-formed s-VariableDeclarator (declares_as l (pattern_node lp pattern) e) ys declared.1).0 in
+      let here = (rest-parts s-PatternMember s-PatternMemberRest a property c (pattern-members lp pattern f.target)).it in
+      read-key (sort_before_trees s-PatternMember s-PatternMemberRest c) reads lq key v (ap (λ b. if b then reads else Nothing) computed) here
+
+  keys-form : (ks : List Tree) → AreKeys ds ks → elements_form s-Argument s-Argument (fields (map one ks)) ≡ true
+  keys-form [] h = refl
+  keys-form (k ∷ ks) h = and_from _ _ (subst (λ (b : Sort). has_form b k ≡ true) (sym (one-element (fields (map one ks)))) (form-wider s-Argument k refl (key-form k h.0))) (keys-form ks h.1)
+    where
+      one-element : (fs : Fields) → sort_before_fields s-Argument s-Argument fs ≡ s-Argument
+      one-element done = refl
+      one-element (f then fs) = refl
+
+  formed-keys : (ks : List Tree) → AreKeys ds ks → IsFormed (array_node ks)
+  formed-keys ks h = let span = no-span [] [] in has_form-node s-Expression ArrayExpression (made [] []) (fields (map one ks)) (record { sort = refl; texts = refl; flags = refl; start = span.start; stop = span.stop; agree = refl; children = keys-form ks h })
+
+  mapped-formed : (ks : List Tree) → AreKeys ds ks → IsFormed (call_node (member_node (array_node ks) (codes "map")) (helper_node (codes "toPropertyKey") ∷ []))
+  mapped-formed ks h =
+      let member = formed-member (made [] (false ∷ false ∷ [])) false false (array_node ks) (word (codes "map")) refl refl (no-span [] (false ∷ false ∷ [])) (formed-keys ks h) refl in
+      let helper = helper_node (codes "toPropertyKey") in
+      call-formed (member_node (array_node ks) (codes "map")) (helper before empty) member (argument helper empty refl refl)
+
+  value-form : (lp ls : Label) (ps fs : Trees) (e : Tree) → RestOf ds lp (node Identifier ls done) ps fs e → IsFormed (node Identifier ls done) → IsFormed e
+  value-form lp ls ps fs e (beside ks) h =
+      let texts = array_node (map string_node ks) in
+      call-formed (helper_node (codes "objectWithoutProperties")) (node Identifier ls done before texts before empty) refl (argument (node Identifier ls done) (texts before empty) h (argument texts empty (formed-keys (map string_node ks) (texts-are-keys ds ks)) refl))
+  value-form lp ls ps fs e (mapped ks k) h =
+      let keys = call_node (member_node (array_node ks) (codes "map")) (helper_node (codes "toPropertyKey") ∷ []) in
+      call-formed (helper_node (codes "objectWithoutProperties")) (node Identifier ls done before keys before empty) refl (argument (node Identifier ls done) (keys before empty) h (argument keys empty (mapped-formed ks k) refl))
+  value-form lp ls ps fs e alone h =
+      let it : Tree = node Identifier ls done in
+      let empties = call_node (helper_node (codes "objectDestructuringEmpty")) (it ∷ []) in
+      let called = call-formed (helper_node (codes "objectDestructuringEmpty")) (it before empty) refl (argument it empty h refl) in
+      let span = no-span [] [] in
+      let both = has_form-node s-Expression SequenceExpression (made [] []) (many (empties before it before empty) then done) (record { sort = refl; texts = refl; flags = refl; start = span.start; stop = span.stop; agree = refl; children = rw (called, h) refl }) in
+      let sequence = sequence_node (empties ∷ it ∷ []) in
+      call-formed (helper_node (codes "extends")) (object_node [] before sequence before empty) refl (argument (object_node []) (sequence before empty) refl (argument sequence empty both refl))
+
+-- what a rest declares, where each declarator declares a name or a pattern
+pub last-kind : (a fs c : Trees) (v e : Tree) → all_declare (joined_trees a (joined_trees (and_declarator fs v e) c)) ≡ true → is_binding_kind (kind_of v) ≡ true
+last-kind a fs c v e h =
+    let own = declared-before (and_declarator fs v e) c (declared-joined a (joined_trees (and_declarator fs v e) c) h) in
+    (and_parts (is_binding_kind (kind_of v)) true (declared-joined fs (declarator_with v e before empty) own)).0
+
+some-last : (a fs c : Trees) (v e : Tree) → is_none (joined_trees a (joined_trees (and_declarator fs v e) c)) ≡ false
+some-last empty empty c v e = refl
+some-last empty (x before fs) c v e = refl
+some-last (x before a) fs c v e = refl
 
 pub takes-nodes : (n : Site) (s s' : Ledger) (x y : Spot) → Binding TakesRest n s x s' y → AtNodes x y
-takes-nodes n s s' x y (takes_rest m l lp lr ls a ps c t ks unbound used, binds) = tt
+takes-nodes n s s' x y (takes_rest m l lp lr ls a ps c t d unbound used, binds) = tt
 
 pub takes-form : FormLawful (Binding TakesRest)
 takes-form = nodes-only (Binding TakesRest) takes-nodes nodes
   where
     nodes : (n : Site) (s s' : Ledger) (t u : Tree) (a : Sort) → (is_slot n.above ≡ true → a ≡ s-Expression) → Binding TakesRest n s (at_node t) s' (at_node u) → has_form a t ≡ true → NodeFormed a s s' u
-    nodes n s s' t u g slot (takes_rest m l lp lr ls a ps c v ks unbound used, binds) h =
+    nodes n s s' t u g slot (takes_rest {fs = fs} {e = e} m l lp lr ls a ps c v r unbound used, binds) h =
         let it : Tree = node Identifier ls done in
         let rest : Tree = node RestElement lr (one v then done) in
         let all : Trees = joined_trees ps (rest before empty) in
         let d = declares_as l (pattern_node lp all) it in
-        let left = declarator_with (pattern_node lp ps) it in
-        let last = declarator_with v (rest_value it ks) in
+        let es = and_declarator fs v e in
         let parts = list-parts s-VariableDeclarator a (d before c) (declaration-parts g m (joined_trees a (d before c)) h) in
         let here = first-formed s-VariableDeclarator d c parts.1 in
         let f = declarator-parts l (pattern_node lp all) it here.0 in
         let members = rest-parts s-PatternMember s-PatternMemberRest ps rest empty (pattern-members lp all f.target) in
         let value = (and_parts (has_form s-Pattern v) true (node_form s-PatternMemberRest RestElement lr (one v then done) members.it).children).0 in
-        let target = as-binding s-Pattern v (second-kind (pattern_node lp ps) v it (rest_value it ks) c (declared-joined a (left before last before c) binds)) value in
-        let first = formed-declarator (pattern_node lp ps) it (pattern-with lp all ps (rest-wider s-PatternMember s-PatternMemberRest member-wider ps members.earlier) f.target) f.value in
-        let second = formed-declarator v (rest_value it ks) target (rest-call ls ks f.value) in
-        let formed = list-joined s-VariableDeclarator a (left before last before c) parts.0 (formed-first s-VariableDeclarator left (last before c) first (formed-first s-VariableDeclarator last c second here.1)) in
-        record { formed = declaration-with g m (joined_trees a (d before c)) (joined_trees a (left before last before c)) formed (some-after a left (last before c)) h; names = nothing-new s s refl }
+        let front = formed-declarator (pattern_node lp ps) it (pattern-with lp all ps (rest-wider s-PatternMember s-PatternMemberRest member-wider ps members.earlier) f.target) f.value in
+        let last = formed-declarator v e (as-binding s-Pattern v (last-kind a fs c v e binds) value) (value-form (joined_trees a (d before empty)) (list-joined s-VariableDeclarator a (d before empty) parts.0 (formed-first s-VariableDeclarator d empty here.0 refl)) lp ls ps fs e r f.value) in
+        let own = list-joined s-VariableDeclarator fs (declarator_with v e before empty) (front-form lp it ps fs (front-of (joined_trees a (d before empty)) lp it ps fs e r) front) (formed-first s-VariableDeclarator (declarator_with v e) empty last refl) in
+        let formed = list-joined s-VariableDeclarator a (joined_trees es c) parts.0 (list-joined s-VariableDeclarator es c own here.1) in
+        record { formed = declaration-with g m (joined_trees a (d before c)) (joined_trees a (joined_trees es c)) formed (some-last a fs c v e) h; names = nothing-new s s refl }

@@ -83,7 +83,7 @@ module _ {X : Type 0} where
   pub nested-old : (bs ks qs cs : List X) → ((bs ++ ((ks ++ (qs ++ [])) ++ cs)) ++ []) ++ [] ≡ (bs ++ ks) ++ (qs ++ cs)
   nested-old bs ks qs cs = simp (append-nil, append_assoc) refl
 
-  pub nested-new : (bs ks ns qs cs : List X) → (((bs ++ ((ks ++ (ns ++ [])) ++ [])) ++ []) ++ []) ++ ((qs ++ []) ++ (((cs ++ []) ++ []) ++ [])) ≡ (bs ++ ks) ++ (ns ++ (qs ++ cs))
+  pub nested-new : (bs ks ns qs cs : List X) → (((bs ++ ((ks ++ (ns ++ [])) ++ [])) ++ []) ++ []) ++ ((qs ++ []) ++ cs) ≡ (bs ++ ks) ++ (ns ++ (qs ++ cs))
   nested-new bs ks ns qs cs = simp (append-nil, append_assoc) refl
 
   pub key-old : (bs ks ws cs : List X) → ((bs ++ ((ks ++ (ws ++ [])) ++ cs)) ++ []) ++ [] ≡ bs ++ (ks ++ (ws ++ cs))
@@ -95,5 +95,8 @@ module _ {X : Type 0} where
   pub taken-old : (ps ts : List X) → ((ps ++ ((ts ++ []) ++ [])) ++ []) ++ [] ≡ ps ++ ts
   taken-old ps ts = simp append-nil refl
 
-  pub taken-new : (ps ts hs : List X) → hs ≡ [] → ((ps ++ []) ++ []) ++ (ts ++ (hs ++ [])) ≡ ps ++ ts
-  taken-new ps ts hs e = λ i. append-nil (append-nil ps i) i ++ source-old ts hs e i
+  pub front-new : (ps : List X) → ((ps ++ []) ++ []) ++ [] ≡ ps
+  front-new ps = simp append-nil refl
+
+  pub last-new : (ts hs : List X) → hs ≡ [] → (ts ++ (hs ++ [])) ++ [] ≡ ts
+  last-new ts hs e = λ i. append-nil (source-old ts hs e i) i

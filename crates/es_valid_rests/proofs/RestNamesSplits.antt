@@ -14,7 +14,7 @@ use Rattle.es_tree.specs.declared.table.Sort.{Sort}
 use Rattle.es_tree.specs.declared.table.Sort.TheVariants.{Expression as s-Expression, PatternMember as s-PatternMember, PatternMemberRest as s-PatternMemberRest, VariableDeclarator as s-VariableDeclarator}
 use Rattle.es_resolution.specs.Declarations.{Bound}
 use Rattle.es_steps.specs.Nodes.{declarator_with, identifier, joined_trees, made}
-use Rattle.es_steps.specs.ObjectRest.{SplitRule, SplitsOff, declares_as, pattern_node}
+use Rattle.es_steps.specs.ObjectRest.{SplitRule, SplitsOff, declares_as, declares_some, pattern_node}
 use Rattle.es_steps.specs.ObjectRest.SplitRule.{splits}
 use Rattle.es_steps.specs.ObjectRest.SplitsOff.{source, nested, nested_default, key}
 use Rattle.es_steps.specs.Rules.{next_name}
@@ -26,6 +26,7 @@ use Rattle.es_semantic.specs.declared.place.Role.{Role}
 use Rattle.es_steps.specs.Steps.{Ledger, Site}
 use Rattle.es_steps.specs.Steps.Spot.{at_node}
 use Rattle.es_steps.proofs.FormLists.{first-formed}
+use Rattle.es_steps.proofs.Fronts.{front-some}
 use Rattle.es_steps.proofs.RuleLaws.{used-after}
 use Rattle.es_steps.proofs.Temporaries.{AreTaken}
 use Rattle.es_valid_names.proofs.ClearRules.{taken-new}
@@ -35,7 +36,7 @@ use Rattle.es_valid_rests.proofs.RestNamesSteps.{WideLawful, WideNode}
 use Rattle.es_valid_rests.proofs.RestNamesWide.{Wide, wide-before, wide-behind, wide-fresh}
 use Rattle.es_valid_rests.proofs.RestNamesFresh.{fresh-claims, fresh_names}
 use Rattle.es_valid_rests.proofs.RestNamesLists.{Chain, in-key, in-pattern, in-target, in-value, key-new, key-old, nested-new, nested-old, same-field, same-tree, same-trees, source-new, source-old}
-use Rattle.es_valid_rests.proofs.RestNamesTaken.{clear-joined, clear-parts, in-declared, in-initial, in_declaration, in_declared, in_initial, joined-lists, replaced-clear, the_names}
+use Rattle.es_valid_rests.proofs.RestNamesTaken.{clear-joined, clear-parts, front-claims, front-clear, in-declared, in-initial, in_declaration, in_declared, in_initial, joined-lists, replaced-clear, the_names}
 
 -- these names come in between
 pub record Inserted (ns gs hs : List (List Name)) : Type 0 where
@@ -106,11 +107,11 @@ module _ (m : Label) (up : List Ancestor) (x : Bound) where
       same-earlier : claims_all is_owned in_first a ≡ claims_all is_owned (in_whole l) a
       same-earlier = same-trees up (in_whole l) in_first (whole-chain l) first-chain a
 
-      same-later : claims_all is_owned (in_whole (made [] [])) c ≡ claims_all is_owned (in_whole l) c
-      same-later = same-trees up (in_whole l) (in_whole (made [] [])) (whole-chain l) (whole-chain (made [] [])) c
+      same-later : New (declares_some lp from c) ≡ claims_all is_owned (in_whole l) c
+      same-later = front-claims m lp ls up (in_whole l) (whole-chain l) c (declares_some lp from c) (front-some lp from c)
 
       nested-inserted : Inserted temporary_names (Old (declares_as l (pattern_node lp (joined_trees a (node PatternProperty lq (k then one q then done) before c))) from))
-          (New (declarator_with (pattern_node (made [] []) (joined_trees a (node PatternProperty lq (k then one (identifier x) then done) before empty))) from before declarator_with q (identifier x) before declarator_with (pattern_node lp c) from before empty))
+          (New (declarator_with (pattern_node (made [] []) (joined_trees a (node PatternProperty lq (k then one (identifier x) then done) before empty))) from before declarator_with q (identifier x) before declares_some lp from c))
       nested-inserted =
           let moved = same-tree up (at_value (in_whole l)) in_moved (value-chain (in_whole l) (whole-chain l)) (in-declared m up (made [] []) (one q then done)) q in
           let names = temporary (at_value in_first) (value-chain in_first first-chain) in
@@ -118,13 +119,13 @@ module _ (m : Label) (up : List Ancestor) (x : Bound) where
             front = claims_all is_owned (in_whole l) a ++ claims_by is_owned (at_key (in_whole l)) k;
             behind = claims is_owned (at_value (in_whole l)) q ++ claims_all is_owned (in_whole l) c;
             old = (λ i. (joined-lists (in_whole l) a (node PatternProperty lq (k then one q then done) before c) i ++ []) ++ []) ∙ nested-old (claims_all is_owned (in_whole l) a) (claims_by is_owned (at_key (in_whole l)) k) (claims is_owned (at_value (in_whole l)) q) (claims_all is_owned (in_whole l) c);
-            new = (λ i. ((joined-lists in_first a (node PatternProperty lq (k then one (identifier x) then done) before empty) i ++ []) ++ []) ++ ((claims is_owned in_moved q ++ []) ++ (((claims_all is_owned (in_whole (made [] [])) c ++ []) ++ []) ++ []))) ∙
-                nested-new (claims_all is_owned in_first a) (claims_by is_owned (at_key in_first) k) (claims is_owned (at_value in_first) (identifier x)) (claims is_owned in_moved q) (claims_all is_owned (in_whole (made [] [])) c) ∙
+            new = (λ i. ((joined-lists in_first a (node PatternProperty lq (k then one (identifier x) then done) before empty) i ++ []) ++ []) ++ ((claims is_owned in_moved q ++ []) ++ New (declares_some lp from c))) ∙
+                nested-new (claims_all is_owned in_first a) (claims_by is_owned (at_key in_first) k) (claims is_owned (at_value in_first) (identifier x)) (claims is_owned in_moved q) (New (declares_some lp from c)) ∙
                 (λ i. (same-earlier i ++ same-key l i) ++ (names i ++ (moved i ++ same-later i)));
           }
 
       default-inserted : (la : Label) (e : Tree) → has_form s-Expression e ≡ true → Inserted temporary_names (Old (declares_as l (pattern_node lp (joined_trees a (node PatternProperty lq (k then one (node AssignmentPattern la (one q then one e then done)) then done) before c))) from))
-          (New (declarator_with (pattern_node (made [] []) (joined_trees a (node PatternProperty lq (k then one (node AssignmentPattern la (one (identifier x) then one e then done)) then done) before empty))) from before declarator_with q (identifier x) before declarator_with (pattern_node lp c) from before empty))
+          (New (declarator_with (pattern_node (made [] []) (joined_trees a (node PatternProperty lq (k then one (node AssignmentPattern la (one (identifier x) then one e then done)) then done) before empty))) from before declarator_with q (identifier x) before declares_some lp from c))
       default-inserted la e f =
           let old_target = above AssignmentPattern la (one q then done) 0 0 ∷ at_value (in_whole l) in
           let new_target = above AssignmentPattern la (one (identifier x) then done) 0 0 ∷ at_value in_first in
@@ -139,8 +140,8 @@ module _ (m : Label) (up : List Ancestor) (x : Bound) where
             behind = claims is_owned old_target q ++ claims_all is_owned (in_whole l) c;
             old = (λ i. (joined-lists (in_whole l) a (node PatternProperty lq (k then one (node AssignmentPattern la (one q then one e then done)) then done) before c) i ++ []) ++ []) ∙ nested-old (claims_all is_owned (in_whole l) a) (claims_by is_owned (at_key (in_whole l)) k) (claims is_owned old_target q ++ (claims is_owned old_value e ++ [])) (claims_all is_owned (in_whole l) c) ∙
                 (λ i. (claims_all is_owned (in_whole l) a ++ claims_by is_owned (at_key (in_whole l)) k) ++ (old_names i ++ claims_all is_owned (in_whole l) c));
-            new = (λ i. ((joined-lists in_first a (node PatternProperty lq (k then one (node AssignmentPattern la (one (identifier x) then one e then done)) then done) before empty) i ++ []) ++ []) ++ ((claims is_owned in_moved q ++ []) ++ (((claims_all is_owned (in_whole (made [] [])) c ++ []) ++ []) ++ []))) ∙
-                nested-new (claims_all is_owned in_first a) (claims_by is_owned (at_key in_first) k) (claims is_owned new_target (identifier x) ++ (claims is_owned new_value e ++ [])) (claims is_owned in_moved q) (claims_all is_owned (in_whole (made [] [])) c) ∙
+            new = (λ i. ((joined-lists in_first a (node PatternProperty lq (k then one (node AssignmentPattern la (one (identifier x) then one e then done)) then done) before empty) i ++ []) ++ []) ++ ((claims is_owned in_moved q ++ []) ++ New (declares_some lp from c))) ∙
+                nested-new (claims_all is_owned in_first a) (claims_by is_owned (at_key in_first) k) (claims is_owned new_target (identifier x) ++ (claims is_owned new_value e ++ [])) (claims is_owned in_moved q) (New (declares_some lp from c)) ∙
                 (λ i. (same-earlier i ++ same-key l i) ++ ((new_names ∙ names) i ++ (moved i ++ same-later i)));
           }
 
@@ -220,14 +221,14 @@ module _ (c : Around) where
       let it = identifier (next_name w x) in
       let parts = clear-parts c a (node PatternProperty lq (k then one q then done) before b) h.2.0.2.0 in
       let kept : Clear c elsewhere (node PatternProperty lq (k then one it then done)) = (tt, refl, (parts.1.0.2.0, ((tt, refl, tt), tt))) in
-      ((tt, refl, ((tt, refl, (clear-joined c a (node PatternProperty lq (k then one it then done) before empty) parts.0 (kept, tt), tt)), ((tt, refl, tt), tt))), ((tt, refl, (parts.1.0.2.1.0, ((tt, refl, tt), tt))), ((tt, refl, ((tt, refl, (parts.1.1, tt)), ((tt, refl, tt), tt))), tt)))
+      ((tt, refl, ((tt, refl, (clear-joined c a (node PatternProperty lq (k then one it then done) before empty) parts.0 (kept, tt), tt)), ((tt, refl, tt), tt))), ((tt, refl, (parts.1.0.2.1.0, ((tt, refl, tt), tt))), front-clear c lp ls b (declares_some lp (node Identifier ls done) b) (front-some lp (node Identifier ls done) b) parts.1.1))
   splits-clear w r x d es (nested_default l lp lq la ls a b k q e holds fresh silent) h =
       let it = identifier (next_name w x) in
       let value : Tree = node AssignmentPattern la (one it then one e then done) in
       let parts = clear-parts c a (node PatternProperty lq (k then one (node AssignmentPattern la (one q then one e then done)) then done) before b) h.2.0.2.0 in
       let inside = parts.1.0.2.1.0.2 in
       let kept : Clear c elsewhere (node PatternProperty lq (k then one value then done)) = (tt, refl, (parts.1.0.2.0, ((tt, refl, ((tt, refl, tt), (inside.1.0, tt))), tt))) in
-      ((tt, refl, ((tt, refl, (clear-joined c a (node PatternProperty lq (k then one value then done) before empty) parts.0 (kept, tt), tt)), ((tt, refl, tt), tt))), ((tt, refl, (inside.0, ((tt, refl, tt), tt))), ((tt, refl, ((tt, refl, (parts.1.1, tt)), ((tt, refl, tt), tt))), tt)))
+      ((tt, refl, ((tt, refl, (clear-joined c a (node PatternProperty lq (k then one value then done) before empty) parts.0 (kept, tt), tt)), ((tt, refl, tt), tt))), ((tt, refl, (inside.0, ((tt, refl, tt), tt))), front-clear c lp ls b (declares_some lp (node Identifier ls done) b) (front-some lp (node Identifier ls done) b) parts.1.1))
   splits-clear w r x d es (key l lp lq ls a b k v fresh computed silent) h =
       let it = identifier (next_name w x) in
       let parts = clear-parts c a (node PatternProperty lq (one k then one v then done) before b) h.2.0.2.0 in

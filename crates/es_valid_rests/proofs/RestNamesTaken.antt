@@ -1,29 +1,33 @@
 -- Object rests that are taken in a declaration: the rules of declared names are kept, and the same names are declared.
 use Rattle.std.proofs.Common.{◌≡◌, ℕ, suc, refl, sym, subst, ◌∙◌, List, [], ◌∷◌, ◌++◌, map}
-use Rattle.std.specs.Prelude.{true, false}
-use Rattle.std.proofs.lemmas.List.{append-nil}
+use Rattle.std.specs.Prelude.{true, false, codes}
 use Rattle.es_tree.specs.Ancestors.{Ancestor}
 use Rattle.es_tree.specs.DeclaredNames.{Name, declaration_names}
 use Rattle.es_tree.specs.HasForm.{has_form}
 use Rattle.es_tree.specs.Tree.{Tree, node, Label, Fields, done, ◌then◌, one, many, Trees, empty, ◌before◌, fields}
 use Rattle.es_tree.specs.Words.{Text}
-use Rattle.es_tree.specs.declared.ast_type.AstType.TheVariants.{ArrayExpression, CallExpression, Identifier, ObjectPattern, RestElement, VariableDeclaration, VariableDeclarator}
+use Rattle.es_tree.specs.declared.ast_type.AstType.TheVariants.{ArrayExpression, CallExpression, Identifier, MemberExpression, ObjectPattern, RestElement, VariableDeclaration, VariableDeclarator}
 use Rattle.es_tree.specs.declared.table.Sort.{Sort}
 use Rattle.es_tree.specs.declared.table.Sort.TheVariants.{Expression as s-Expression}
-use Rattle.es_steps.specs.Nodes.{declarator_with, joined_trees, made, string_node}
-use Rattle.es_steps.specs.ObjectRest.{TakesRest, declares_as, pattern_node, rest_value}
+use Rattle.es_steps.specs.Nodes.{array_node, call_node, declarator_with, joined_trees, made, member_node, string_node}
+use Rattle.es_steps.specs.ObjectRest.{AreKeys, IsKey, RestOf, TakesRest, and_declarator, declares_as, helper_node, pattern_node}
+use Rattle.es_steps.specs.ObjectRest.IsKey.{name_key, text_key}
+use Rattle.es_steps.specs.ObjectRest.RestOf.{alone, beside, mapped}
 use Rattle.es_steps.specs.ObjectRest.TakesRest.{takes_rest}
 use Rattle.es_steps.specs.Slots.{is_slot}
 use Rattle.es_steps.specs.Steps.{Ledger, Site}
 use Rattle.es_steps.specs.Steps.Spot.{at_node}
 use Rattle.es_steps.proofs.FormRules.{no-names}
+use Rattle.es_steps.proofs.Fronts.{Front, front-of}
+use Rattle.es_steps.proofs.Fronts.Front.{of_none, of_some}
 use Rattle.es_steps.proofs.Taken.{pending_in}
-use Rattle.es_valid_names.proofs.Claims.{Around, Clear, ClearAll, ClearIn, Stand, above, claims, claims_all, claims_in, elsewhere, is_owned, owned}
+use Rattle.es_steps.proofs.TakesRest.{texts-are-keys}
+use Rattle.es_valid_names.proofs.Claims.{Around, Clear, ClearAll, ClearIn, Stand, above, around_in, claims, claims_all, claims_in, elsewhere, in_body, is_owned, owned, stand_in}
 use Rattle.es_valid_names.proofs.ClearPending.{joined-claims}
 use Rattle.es_valid_names.proofs.ClearRules.{NameLawful, NodeKept, use_in}
 use Rattle.es_valid_names.proofs.Grown.{Grown, grown-self}
 use Rattle.es_valid_names.proofs.MoreAround.{clear-more}
-use Rattle.es_valid_rests.proofs.RestNamesLists.{Chain, in-pattern, in-rest, no_names, same-tree, same-trees, taken-new, taken-old}
+use Rattle.es_valid_rests.proofs.RestNamesLists.{Chain, in-pattern, in-rest, no_names, front-new, last-new, same-tree, same-trees, taken-old}
 
 -- A LIST with others before it
 
@@ -62,26 +66,63 @@ module _ (m : Label) (up : List Ancestor) where
 
 -- THE CALL of the helper declares nothing
 
-abbrev strings : List Text → Fields
-strings ks = fields (map one (map string_node ks))
+abbrev keys : List Tree → Fields
+keys ks = fields (map one ks)
 
-strings-silent : (up : List Ancestor) (l : Label) (all : Fields) (i : ℕ) (ks : List Text) → claims_in is_owned up ArrayExpression l all 0 i (strings ks) ≡ []
-strings-silent up l all i [] = refl
-strings-silent up l all i (k ∷ ks) = strings-silent up l all (suc i) ks
+module _ (ds : Trees) where
+  key-silent : (up : List Ancestor) (l : Label) (all : Fields) (i : ℕ) (k : Tree) → IsKey ds k → claims is_owned (above ArrayExpression l all i 0 ∷ up) k ≡ []
+  key-silent up l all i k (text_key x) = refl
+  key-silent up l all i k (name_key m lp lq lk xs ys a c v e d computed) = refl
 
-value-silent : (us : List Ancestor) (ls : Label) (ks : List Text) → claims is_owned us (rest_value (node Identifier ls done) ks) ≡ []
-value-silent us ls ks = λ i. (strings-silent (above CallExpression (made [] (false ∷ [])) done 1 0 ∷ us) (made [] []) (strings ks) 0 ks i ++ []) ++ []
+  keys-silent : (up : List Ancestor) (l : Label) (all : Fields) (i : ℕ) (ks : List Tree) → AreKeys ds ks → claims_in is_owned up ArrayExpression l all 0 i (keys ks) ≡ []
+  keys-silent up l all i [] h = refl
+  keys-silent up l all i (k ∷ ks) h = λ j. key-silent up l all i k h.0 j ++ keys-silent up l all (suc i) ks h.1 j
 
-strings-clear : (c : Around) (gs : List (List Name)) (all : Fields) (i : ℕ) (ks : List Text) → ClearIn c gs elsewhere ArrayExpression all i (strings ks)
-strings-clear c gs all i [] = tt
-strings-clear c gs all i (k ∷ ks) = ((tt, refl, tt), strings-clear c gs all (suc i) ks)
+  value-silent : (us : List Ancestor) (lp ls : Label) (ps fs : Trees) (e : Tree) → RestOf ds lp (node Identifier ls done) ps fs e → claims is_owned us e ≡ []
+  value-silent us lp ls ps fs e (beside ks) =
+      let texts = map string_node ks in
+      λ i. (keys-silent (above CallExpression (made [] (false ∷ [])) done 1 0 ∷ us) (made [] []) (keys texts) 0 texts (texts-are-keys ds ks) i ++ []) ++ []
+  value-silent us lp ls ps fs e (mapped ks h) =
+      let in_call = above CallExpression (made [] (false ∷ [])) done 0 0 ∷ above CallExpression (made [] (false ∷ [])) done 1 0 ∷ us in
+      λ i. (((keys-silent (above MemberExpression (made [] (false ∷ false ∷ [])) done 0 0 ∷ in_call) (made [] []) (keys ks) 0 ks h i ++ []) ++ []) ++ []) ++ []
+  value-silent us lp ls ps fs e alone = refl
 
-value-clear : (c : Around) (ls : Label) (ks : List Text) → Clear c elsewhere (rest_value (node Identifier ls done) ks)
-value-clear c ls ks = (tt, refl, ((tt, refl, ((tt, refl, tt), ((tt, refl, tt), tt))), (((tt, refl, tt), ((tt, refl, strings-clear c (owned elsewhere ArrayExpression (made [] []) (strings ks)) (strings ks) 0 ks), tt)), tt)))
+  key-clear : (c : Around) (gs : List (List Name)) (all : Fields) (i : ℕ) (k : Tree) → IsKey ds k → Clear (around_in c (in_body ArrayExpression i) gs) (stand_in elsewhere ArrayExpression all i) k
+  key-clear c gs all i k (text_key x) = (tt, refl, tt)
+  key-clear c gs all i k (name_key l lp lq lk xs ys a b v e d computed) = (tt, refl, tt)
+
+  keys-clear : (c : Around) (gs : List (List Name)) (all : Fields) (i : ℕ) (ks : List Tree) → AreKeys ds ks → ClearIn c gs elsewhere ArrayExpression all i (keys ks)
+  keys-clear c gs all i [] h = tt
+  keys-clear c gs all i (k ∷ ks) h = (key-clear c gs all i k h.0, keys-clear c gs all (suc i) ks h.1)
+
+  value-clear : (c : Around) (lp ls : Label) (ps fs : Trees) (e : Tree) → RestOf ds lp (node Identifier ls done) ps fs e → Clear c elsewhere e
+  value-clear c lp ls ps fs e (beside ks) =
+      let texts = map string_node ks in
+      (tt, refl, ((tt, refl, ((tt, refl, tt), ((tt, refl, tt), tt))), (((tt, refl, tt), ((tt, refl, keys-clear c (owned elsewhere ArrayExpression (made [] []) (keys texts)) (keys texts) 0 texts (texts-are-keys ds ks)), tt)), tt)))
+  value-clear c lp ls ps fs e (mapped ks h) =
+      let helper : Clear c elsewhere (helper_node (codes "toPropertyKey")) = (tt, refl, ((tt, refl, tt), ((tt, refl, tt), tt))) in
+      let member : Clear c elsewhere (member_node (array_node ks) (codes "map")) = (tt, refl, ((tt, refl, keys-clear c (owned elsewhere ArrayExpression (made [] []) (keys ks)) (keys ks) 0 ks h), ((tt, refl, tt), tt))) in
+      let called : Clear c elsewhere (call_node (member_node (array_node ks) (codes "map")) (helper_node (codes "toPropertyKey") ∷ [])) = (tt, refl, (member, ((helper, tt), tt))) in
+      (tt, refl, ((tt, refl, ((tt, refl, tt), ((tt, refl, tt), tt))), (((tt, refl, tt), (called, tt)), tt)))
+  value-clear c lp ls ps fs e alone =
+      let empties : Clear c elsewhere (call_node (helper_node (codes "objectDestructuringEmpty")) (node Identifier ls done ∷ [])) = (tt, refl, ((tt, refl, ((tt, refl, tt), ((tt, refl, tt), tt))), (((tt, refl, tt), tt), tt))) in
+      (tt, refl, ((tt, refl, ((tt, refl, tt), ((tt, refl, tt), tt))), (((tt, refl, (tt, tt)), ((tt, refl, ((empties, ((tt, refl, tt), tt)), tt)), tt)), tt)))
+
+pub front-clear : (c : Around) (lp ls : Label) (ps fs : Trees) → Front lp (node Identifier ls done) ps fs → ClearAll c elsewhere ps → ClearAll c elsewhere fs
+front-clear c lp ls ps fs of_some h = ((tt, refl, ((tt, refl, (h, tt)), ((tt, refl, tt), tt))), tt)
+front-clear c lp ls ps fs of_none h = tt
 
 -- RESTS
 
-module _ (m l lp lr ls : Label) (ps : Trees) (t : Tree) (ks : List Text) (up : List Ancestor) where
+-- what stands in front declares what the other properties do, wherever they were
+pub front-claims : (m lp ls : Label) (up us : List Ancestor) → Chain up (the_names m up) us → (ps fs : Trees) → Front lp (node Identifier ls done) ps fs → claims_all is_owned (in_declaration m up) fs ≡ claims_all is_owned us ps
+front-claims m lp ls up us h ps fs of_some =
+    let there : Fields = one (pattern_node lp ps) then one (node Identifier ls done) then done in
+    let in_new : List Ancestor = above ObjectPattern lp (many ps then done) 0 0 ∷ in_declared m up (made [] []) there in
+    front-new (claims_all is_owned in_new ps) ∙ same-trees up us in_new h (in-pattern up (the_names m up) _ lp (many ps then done) (in-declared m up (made [] []) there)) ps
+front-claims m lp ls up us h ps fs of_none = refl
+
+module _ (ds : Trees) (m l lp lr ls : Label) (ps : Trees) (t : Tree) (up : List Ancestor) where
   abbrev source : Tree
   source = node Identifier ls done
 
@@ -91,34 +132,26 @@ module _ (m l lp lr ls : Label) (ps : Trees) (t : Tree) (ks : List Text) (up : L
   abbrev pattern : Fields
   pattern = many (joined_trees ps (rest before empty)) then done
 
-  abbrev taken : Tree
-  taken = rest_value source ks
-
-  -- the pattern as it was, and what stays of it
+  -- the pattern as it was
   abbrev in_old : List Ancestor
-  in_old = above ObjectPattern lp pattern 0 0 ∷ in_declared m up l (one (pattern_node lp (joined_trees ps (rest before empty))) then one source then done)
-
-  abbrev in_new : List Ancestor
-  in_new = above ObjectPattern lp (many ps then done) 0 0 ∷ in_declared m up (made [] []) (one (pattern_node lp ps) then one source then done)
+  in_old = above ObjectPattern lp pattern 0 0 ∷ in_declared m up l (one (node ObjectPattern lp pattern) then one source then done)
 
   abbrev in_old_rest : List Ancestor
   in_old_rest = above RestElement lr (one t then done) 0 0 ∷ in_old
 
-  abbrev in_new_rest : List Ancestor
-  in_new_rest = in_declared m up (made [] []) (one t then one taken then done)
-
   old-chain : Chain up (the_names m up) in_old
-  old-chain = in-pattern up (the_names m up) _ lp pattern (in-declared m up l (one (pattern_node lp (joined_trees ps (rest before empty))) then one source then done))
+  old-chain = in-pattern up (the_names m up) _ lp pattern (in-declared m up l (one (node ObjectPattern lp pattern) then one source then done))
 
-  new-chain : Chain up (the_names m up) in_new
-  new-chain = in-pattern up (the_names m up) _ lp (many ps then done) (in-declared m up (made [] []) (one (pattern_node lp ps) then one source then done))
+  last-claims : (fs : Trees) (e : Tree) → RestOf ds lp source ps fs e → claims_all is_owned (in_declaration m up) (declarator_with t e before empty) ≡ claims is_owned in_old_rest t
+  last-claims fs e r =
+      let there : Fields = one t then one e then done in
+      last-new (claims is_owned (in_declared m up (made [] []) there) t) (claims is_owned (in_initial m up (made [] []) there) e) (value-silent ds (in_initial m up (made [] []) there) lp ls ps fs e r) ∙
+      same-tree up in_old_rest (in_declared m up (made [] []) there) (in-rest up (the_names m up) in_old lr (one t then done) old-chain) (in-declared m up (made [] []) there) t
 
-  taken-claims : claims is_owned (in_declaration m up) (declares_as l (pattern_node lp (joined_trees ps (rest before empty))) source) ≡ claims is_owned (in_declaration m up) (declarator_with (pattern_node lp ps) source) ++ claims is_owned (in_declaration m up) (declarator_with t taken)
-  taken-claims =
-      let kept = same-trees up in_old in_new old-chain new-chain ps in
-      let moved = same-tree up in_old_rest in_new_rest (in-rest up (the_names m up) in_old lr (one t then done) old-chain) (in-declared m up (made [] []) (one t then one taken then done)) t in
-      (λ i. (joined-lists in_old ps (rest before empty) i ++ []) ++ []) ∙ taken-old (claims_all is_owned in_old ps) (claims is_owned in_old_rest t) ∙ sym (λ i. kept i ++ moved i) ∙
-      sym (taken-new (claims_all is_owned in_new ps) (claims is_owned in_new_rest t) (claims is_owned (in_initial m up (made [] []) (one t then one taken then done)) taken) (value-silent (in_initial m up (made [] []) (one t then one taken then done)) ls ks))
+  taken-claims : (fs : Trees) (e : Tree) → RestOf ds lp source ps fs e → claims is_owned (in_declaration m up) (declares_as l (node ObjectPattern lp pattern) source) ≡ claims_all is_owned (in_declaration m up) (and_declarator fs t e)
+  taken-claims fs e r =
+      (λ i. (joined-lists in_old ps (rest before empty) i ++ []) ++ []) ∙ taken-old (claims_all is_owned in_old ps) (claims is_owned in_old_rest t) ∙
+      sym (joined-lists (in_declaration m up) fs (declarator_with t e before empty) ∙ (λ i. front-claims m lp ls up in_old old-chain ps fs (front-of ds lp source ps fs e r) i ++ last-claims fs e r i))
 
 -- A declarator in the place of which others come
 
@@ -137,21 +170,19 @@ replaced-clear c st m a b d es f h =
 pub takes-names : NameLawful TakesRest
 takes-names = record { at_nodes = nodes }
   where
-    clears : (c : Around) (l lp lr ls : Label) (ps : Trees) (t : Tree) (ks : List Text) → Clear c elsewhere (declares_as l (pattern_node lp (joined_trees ps (node RestElement lr (one t then done) before empty))) (node Identifier ls done)) → ClearAll c elsewhere (declarator_with (pattern_node lp ps) (node Identifier ls done) before declarator_with t (rest_value (node Identifier ls done) ks) before empty)
-    clears c l lp lr ls ps t ks h =
+    clears : (c : Around) (l lp lr ls : Label) (ds ps fs : Trees) (t e : Tree) → RestOf ds lp (node Identifier ls done) ps fs e → Clear c elsewhere (declares_as l (pattern_node lp (joined_trees ps (node RestElement lr (one t then done) before empty))) (node Identifier ls done)) → ClearAll c elsewhere (and_declarator fs t e)
+    clears c l lp lr ls ds ps fs t e r h =
         let parts = clear-parts c ps (node RestElement lr (one t then done) before empty) h.2.0.2.0 in
-        ((tt, refl, ((tt, refl, (parts.0, tt)), ((tt, refl, tt), tt))), ((tt, refl, (parts.1.0.2.0, (value-clear c ls ks, tt))), tt))
+        clear-joined c fs (declarator_with t e before empty) (front-clear c lp ls ps fs (front-of ds lp (node Identifier ls done) ps fs e r) parts.0) ((tt, refl, (parts.1.0.2.0, (value-clear ds c lp ls ps fs e r, tt))), tt)
 
     nodes : (n : Site) (s s' : Ledger) (t u : Tree) (a : Sort) → (is_slot n.above ≡ true → a ≡ s-Expression) → TakesRest n s (at_node t) s' (at_node u) → has_form a t ≡ true → has_form a u ≡ true → NodeKept s s' t u
-    nodes n s s' t u a slot (takes_rest m l lp lr ls xs ps cs e ks unbound used) f formed =
-        let d = declares_as l (pattern_node lp (joined_trees ps (node RestElement lr (one e then done) before empty))) (node Identifier ls done) in
-        let first = declarator_with (pattern_node lp ps) (node Identifier ls done) in
-        let second = declarator_with e (rest_value (node Identifier ls done) ks) in
-        let es = first before second before empty in
-        let same = λ (up : List Ancestor). replaced-claims m up xs cs d es (taken-claims m l lp lr ls ps e ks up ∙ (λ i. claims is_owned (in_declaration m up) first ++ sym (append-nil (claims is_owned (in_declaration m up) second)) i)) in
+    nodes n s s' t u a slot (takes_rest {fs = fs} {e = e} m l lp lr ls xs ps cs v r unbound used) f formed =
+        let d = declares_as l (pattern_node lp (joined_trees ps (node RestElement lr (one v then done) before empty))) (node Identifier ls done) in
+        let es = and_declarator fs v e in
+        let same = λ (up : List Ancestor). replaced-claims m up xs cs d es (taken-claims (joined_trees xs (d before empty)) m l lp lr ls ps v up fs e r) in
         record {
           grown = λ up. subst (λ (gs : List (List Name)). Grown (use_in s) (use_in s') (claims is_owned up t) gs) (same up) (grown-self (claims is_owned up t));
-          clear = λ c g h k more st z. clear-more c g more st u (replaced-clear c st m xs cs d es (clears c l lp lr ls ps e ks) z);
+          clear = λ c g h k more st z. clear-more c g more st u (replaced-clear c st m xs cs d es (clears c l lp lr ls (joined_trees xs (d before empty)) ps fs v e r) z);
           name = refl;
           key = λ z. z;
           imports = refl;

@@ -14,12 +14,13 @@ use Rattle.es_tree.specs.declared.table.Sort.{Sort}
 use Rattle.es_semantic.specs.declared.place.Role.{Role}
 use Rattle.es_resolution.specs.Declarations.{Bound}
 use Rattle.es_steps.specs.Nodes.{declarator_with, identifier, joined_trees, made}
-use Rattle.es_steps.specs.ObjectRest.{SplitRule, SplitsOff, declares_as, pattern_node}
+use Rattle.es_steps.specs.ObjectRest.{SplitRule, SplitsOff, declares_as, declares_some, pattern_node}
 use Rattle.es_steps.specs.ObjectRest.SplitRule.{splits}
 use Rattle.es_steps.specs.ObjectRest.SplitsOff.{source, nested, nested_default, key}
 use Rattle.es_steps.specs.Rules.{next_name}
 use Rattle.es_steps.specs.Steps.{Ledger, Site, Whole}
 use Rattle.es_steps.specs.Steps.Spot.{at_node}
+use Rattle.es_steps.proofs.Fronts.{front-some}
 use Rattle.es_valid_steps.specs.PlaceRules.{Keeps, KeepsAll, KeepsHere}
 use Rattle.es_valid_steps.proofs.Loose.{goes, loose}
 use Rattle.es_valid_steps.proofs.Loose.PlaceGoes.{within}
@@ -31,7 +32,7 @@ use Rattle.es_valid_rests.proofs.FacedSteps.{FaceLawful, NodeFaced}
 use Rattle.es_valid_rests.proofs.RestFormsDeclared.{declared-before, declared-joined, second-kind, split-nodes}
 use Rattle.es_valid_rests.proofs.RestPlaces.{Still, calm-here, declarator-loose, declarator-target, level-loose, name-keeps, valued-here}
 use Rattle.es_valid_rests.proofs.RestPlaces.Still.{still_declared, still_other}
-use Rattle.es_valid_rests.proofs.RestPlacesDeclared.{DeclaratorsLeft, declared-keeps}
+use Rattle.es_valid_rests.proofs.RestPlacesDeclared.{DeclaratorsLeft, declared-keeps, front-keeps}
 use Rattle.es_valid_rests.proofs.RestPlacesFunctions.{all-joined, all-parts}
 use Rattle.es_valid_rests.proofs.RestPlacesHeads.{no-name}
 use Rattle.es_valid_rests.proofs.RestPlacesPatterns.{binding-goes, clear-offers, clear-super, declarator-goes, members-go, moved-field, pattern-here}
@@ -105,7 +106,7 @@ module _ (m : Label) (fs : Fields) (up : List Ancestor) where
         ((declared-here l p (identifier b), (declarator-goes up m fs l l old second 0 p h.1.0, (name-read l second b, tt))), tt),
       )
 
-  nested-keeps : (l lp lq ls : Label) (a c : Trees) (k : Field) (q : Tree) (b : Bound) → is_binding_kind (kind_of q) ≡ true → Keeps vp (declares_as l (pattern_node lp (joined_trees a (node PatternProperty lq (k then one q then done) before c))) (node Identifier ls done)) → KeepsAll vp (declarator_with (pattern_node (made [] []) (joined_trees a (node PatternProperty lq (k then one (identifier b) then done) before empty))) (node Identifier ls done) before declarator_with q (identifier b) before declarator_with (pattern_node lp c) (node Identifier ls done) before empty)
+  nested-keeps : (l lp lq ls : Label) (a c : Trees) (k : Field) (q : Tree) (b : Bound) → is_binding_kind (kind_of q) ≡ true → Keeps vp (declares_as l (pattern_node lp (joined_trees a (node PatternProperty lq (k then one q then done) before c))) (node Identifier ls done)) → KeepsAll vp (declarator_with (pattern_node (made [] []) (joined_trees a (node PatternProperty lq (k then one (identifier b) then done) before empty))) (node Identifier ls done) before declarator_with q (identifier b) before declares_some lp (node Identifier ls done) c)
   nested-keeps l lp lq ls a c k q b e h =
       let it = identifier b in
       let s : Tree = node Identifier ls done in
@@ -129,10 +130,10 @@ module _ (m : Label) (fs : Fields) (up : List Ancestor) where
       let taken = binding-goes d second (from_field l d lp d lq old first was is all some 1) vp offers q e held.1.1.0 in
       let later = some-members l d lp lp old third all c c parts.1.1 in (
         (declared-here d (pattern_node d some) s, (pattern-of l d lp d old first all some left, (declarator-goes up m fs l d old first 1 s h.1.1.0, tt))),
-        ((declared-here d q it, (taken, (name-read d second b, tt))), ((declared-here d (pattern_node lp c) s, (pattern-of l d lp lp old third all c later, (declarator-goes up m fs l d old third 1 s h.1.1.0, tt))), tt)),
+        ((declared-here d q it, (taken, (name-read d second b, tt))), front-keeps vp lp s c (declares_some lp s c) (front-some lp s c) (declared-here d (pattern_node lp c) s, (pattern-of l d lp lp old third all c later, (declarator-goes up m fs l d old third 1 s h.1.1.0, tt)))),
       )
 
-  default-keeps : (l lp lq la ls : Label) (a c : Trees) (k : Field) (q e : Tree) (b : Bound) → is_binding_kind (kind_of q) ≡ true → Keeps vp (declares_as l (pattern_node lp (joined_trees a (node PatternProperty lq (k then one (node AssignmentPattern la (one q then one e then done)) then done) before c))) (node Identifier ls done)) → KeepsAll vp (declarator_with (pattern_node (made [] []) (joined_trees a (node PatternProperty lq (k then one (node AssignmentPattern la (one (identifier b) then one e then done)) then done) before empty))) (node Identifier ls done) before declarator_with q (identifier b) before declarator_with (pattern_node lp c) (node Identifier ls done) before empty)
+  default-keeps : (l lp lq la ls : Label) (a c : Trees) (k : Field) (q e : Tree) (b : Bound) → is_binding_kind (kind_of q) ≡ true → Keeps vp (declares_as l (pattern_node lp (joined_trees a (node PatternProperty lq (k then one (node AssignmentPattern la (one q then one e then done)) then done) before c))) (node Identifier ls done)) → KeepsAll vp (declarator_with (pattern_node (made [] []) (joined_trees a (node PatternProperty lq (k then one (node AssignmentPattern la (one (identifier b) then one e then done)) then done) before empty))) (node Identifier ls done) before declarator_with q (identifier b) before declares_some lp (node Identifier ls done) c)
   default-keeps l lp lq la ls a c k q e b binds h =
       let it = identifier b in
       let s : Tree = node Identifier ls done in
@@ -165,7 +166,7 @@ module _ (m : Label) (fs : Fields) (up : List Ancestor) where
       let taken = binding-goes d second (ancestor AssignmentPattern la whole 0 0 ∷ from) vp offers q binds held.1.1.0.1.0 in
       let later = some-members l d lp lp old third all c c parts.1.1 in (
         (declared-here d (pattern_node d some) s, (pattern-of l d lp d old first all some members, (declarator-goes up m fs l d old first 1 s h.1.1.0, tt))),
-        ((declared-here d q it, (taken, (name-read d second b, tt))), ((declared-here d (pattern_node lp c) s, (pattern-of l d lp lp old third all c later, (declarator-goes up m fs l d old third 1 s h.1.1.0, tt))), tt)),
+        ((declared-here d q it, (taken, (name-read d second b, tt))), front-keeps vp lp s c (declares_some lp s c) (front-some lp s c) (declared-here d (pattern_node lp c) s, (pattern-of l d lp lp old third all c later, (declarator-goes up m fs l d old third 1 s h.1.1.0, tt)))),
       )
 
   key-keeps : (l lp lq ls : Label) (a c : Trees) (k v : Tree) (b : Bound) → Keeps vp (declares_as l (pattern_node lp (joined_trees a (node PatternProperty lq (one k then one v then done) before c))) (node Identifier ls done)) → KeepsAll vp (declarator_with (pattern_node (made [] []) a) (node Identifier ls done) before declarator_with (identifier b) k before declarator_with (pattern_node lp (node PatternProperty lq (one (identifier b) then one v then done) before c)) (node Identifier ls done) before empty)
@@ -198,8 +199,8 @@ module _ (m : Label) (fs : Fields) (up : List Ancestor) where
 
 splits-left : (w : Whole) (r : Role) (x : Text) (d : Tree) (es : Trees) (m : Label) (up : List Ancestor) → SplitsOff w r x d es → all_declare es ≡ true → DeclaratorsLeft up m d es
 splits-left w r x d es m up (source l p e holds fresh silent) binds = record { pattern = no-name p holds; valued = refl; left = λ fs h. source-keeps m fs up l p e (next_name w x) h }
-splits-left w r x d es m up (nested l lp lq ls a c k q holds fresh) binds = record { pattern = refl; valued = refl; left = λ fs h. nested-keeps m fs up l lp lq ls a c k q (next_name w x) (second-kind (pattern_node (made [] []) (joined_trees a (node PatternProperty lq (k then one (identifier (next_name w x)) then done) before empty))) q (node Identifier ls done) (identifier (next_name w x)) (declarator_with (pattern_node lp c) (node Identifier ls done) before empty) binds) h }
-splits-left w r x d es m up (nested_default l lp lq la ls a c k q e holds fresh silent) binds = record { pattern = refl; valued = refl; left = λ fs h. default-keeps m fs up l lp lq la ls a c k q e (next_name w x) (second-kind (pattern_node (made [] []) (joined_trees a (node PatternProperty lq (k then one (node AssignmentPattern la (one (identifier (next_name w x)) then one e then done)) then done) before empty))) q (node Identifier ls done) (identifier (next_name w x)) (declarator_with (pattern_node lp c) (node Identifier ls done) before empty) binds) h }
+splits-left w r x d es m up (nested l lp lq ls a c k q holds fresh) binds = record { pattern = refl; valued = refl; left = λ fs h. nested-keeps m fs up l lp lq ls a c k q (next_name w x) (second-kind (pattern_node (made [] []) (joined_trees a (node PatternProperty lq (k then one (identifier (next_name w x)) then done) before empty))) q (node Identifier ls done) (identifier (next_name w x)) (declares_some lp (node Identifier ls done) c) binds) h }
+splits-left w r x d es m up (nested_default l lp lq la ls a c k q e holds fresh silent) binds = record { pattern = refl; valued = refl; left = λ fs h. default-keeps m fs up l lp lq la ls a c k q e (next_name w x) (second-kind (pattern_node (made [] []) (joined_trees a (node PatternProperty lq (k then one (node AssignmentPattern la (one (identifier (next_name w x)) then one e then done)) then done) before empty))) q (node Identifier ls done) (identifier (next_name w x)) (declares_some lp (node Identifier ls done) c) binds) h }
 splits-left w r x d es m up (key l lp lq ls a c k v fresh computed silent) binds = record { pattern = refl; valued = refl; left = λ fs h. key-keeps m fs up l lp lq ls a c k v (next_name w x) h }
 
 pub split-faced : FaceLawful (Binding SplitRule)

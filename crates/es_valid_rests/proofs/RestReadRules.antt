@@ -5,7 +5,6 @@ use Rattle.std.proofs.lemmas.List.{append-nil, append_assoc}
 use Rattle.es_tree.specs.BoundNames.{bound_identifiers, bound_in_trees}
 use Rattle.es_tree.specs.HasForm.{same_type}
 use Rattle.es_tree.specs.Tree.{Tree, node, Label, done, ◌then◌, one, Trees, empty, ◌before◌, kind_of}
-use Rattle.es_tree.specs.Words.{Text}
 use Rattle.es_tree.specs.declared.ast_type.AstType.{AstType}
 use Rattle.es_tree.specs.declared.ast_type.AstType.TheVariants.{Identifier, Program, RestElement}
 use Rattle.es_steps.specs.CatchPatterns.{CatchRest}
@@ -14,8 +13,8 @@ use Rattle.es_steps.specs.CoreRules.{where_on}
 use Rattle.es_steps.specs.LoopHeads.{HeadRest, IsForEach}
 use Rattle.es_steps.specs.LoopHeads.HeadRest.{lexical_head, var_head}
 use Rattle.es_steps.specs.LoopHeads.IsForEach.{for_in, for_of}
-use Rattle.es_steps.specs.Nodes.{declarator_with, joined_trees}
-use Rattle.es_steps.specs.ObjectRest.{SplitRule, TakesRest, declares_as, pattern_node, rest_value}
+use Rattle.es_steps.specs.Nodes.{joined_trees}
+use Rattle.es_steps.specs.ObjectRest.{SplitRule, TakesRest, and_declarator, declares_rest}
 use Rattle.es_steps.specs.ObjectRest.SplitRule.{splits}
 use Rattle.es_steps.specs.ObjectRest.TakesRest.{takes_rest}
 use Rattle.es_steps.specs.ParameterPatterns.{ParameterRest}
@@ -25,6 +24,8 @@ use Rattle.es_steps.specs.Steps.{Ledger, Site, Spot}
 use Rattle.es_steps.specs.Steps.Spot.{at_node}
 use Rattle.es_steps.proofs.CatchRests.{catch-rest-only}
 use Rattle.es_steps.proofs.FormRules.{AtNodes}
+use Rattle.es_steps.proofs.Fronts.{Front, front-of}
+use Rattle.es_steps.proofs.Fronts.Front.{of_none, of_some}
 use Rattle.es_steps.proofs.Heads.{head-only}
 use Rattle.es_steps.proofs.Parameters.{parameter-only}
 use Rattle.es_module_names.specs.Modules.{bound_texts, declarator_texts, texts_among}
@@ -102,20 +103,24 @@ among-joined : (a xs ys : Trees) → texts_among declarator_texts ys ≡ texts_a
 among-joined empty xs ys e = e
 among-joined (x before a) xs ys e = ap (λ zs. declarator_texts x ++ zs) (among-joined a xs ys e)
 
-taken-texts : (l lp lr ls : Label) (a ps c : Trees) (v : Tree) (ks : List Text) → texts_among declarator_texts (joined_trees a (declarator_with (pattern_node lp ps) (node Identifier ls done) before declarator_with v (rest_value (node Identifier ls done) ks) before c)) ≡ texts_among declarator_texts (joined_trees a (declares_as l (pattern_node lp (joined_trees ps (node RestElement lr (one v then done) before empty))) (node Identifier ls done) before c))
-taken-texts l lp lr ls a ps c v ks = among-joined a (declares_as l (pattern_node lp (joined_trees ps (node RestElement lr (one v then done) before empty))) (node Identifier ls done) before c) (declarator_with (pattern_node lp ps) (node Identifier ls done) before declarator_with v (rest_value (node Identifier ls done) ks) before c) (sym (append_assoc (texts_of (bound_in_trees ps)) (bound_texts v) (texts_among declarator_texts c)) ∙ ap (λ xs. xs ++ texts_among declarator_texts c) (sym (bound-joined ps lr v)))
+taken-own : (lp ls : Label) (ps fs c : Trees) (v e : Tree) → Front lp (node Identifier ls done) ps fs → texts_among declarator_texts (joined_trees (and_declarator fs v e) c) ≡ (texts_of (bound_in_trees ps) ++ bound_texts v) ++ texts_among declarator_texts c
+taken-own lp ls ps fs c v e of_some = sym (append_assoc (texts_of (bound_in_trees ps)) (bound_texts v) (texts_among declarator_texts c))
+taken-own lp ls ps fs c v e of_none = refl
+
+taken-texts : (l lp lr ls : Label) (a ps fs c : Trees) (v e : Tree) → Front lp (node Identifier ls done) ps fs → texts_among declarator_texts (joined_trees a (joined_trees (and_declarator fs v e) c)) ≡ texts_among declarator_texts (joined_trees a (declares_rest l lp ps lr v (node Identifier ls done) before c))
+taken-texts l lp lr ls a ps fs c v e h = among-joined a (declares_rest l lp ps lr v (node Identifier ls done) before c) (joined_trees (and_declarator fs v e) c) (taken-own lp ls ps fs c v e h ∙ ap (λ xs. xs ++ texts_among declarator_texts c) (sym (bound-joined ps lr v)))
 
 pub takes-read : ReadLawful (Binding TakesRest)
 takes-read = record { at_nodes = takes-nodes; leaves = leaves; beside = beside; within = within }
   where
     leaves : (n : Site) (s s' : Ledger) (t u : Tree) → Binding TakesRest n s (at_node t) s' (at_node u) → SameRead n.above t u
-    leaves n s s' t u (takes_rest m l lp lr ls a ps c v ks unbound used, binds) = record { kind = refl; label = refl; bound = refl; declarator = refl; declared = λ e. taken-texts l lp lr ls a ps c v ks; specifier = refl; request = refl; star = refl; exported = refl }
+    leaves n s s' t u (takes_rest {fs = fs} {e = e} m l lp lr ls a ps c v r unbound used, binds) = record { kind = refl; label = refl; bound = refl; declarator = refl; declared = λ z. taken-texts l lp lr ls a ps fs c v e (front-of _ lp (node Identifier ls done) ps fs e r); specifier = refl; request = refl; star = refl; exported = refl }
 
     beside : (n : Site) (s s' : Ledger) (t u : Tree) → Binding TakesRest n s (at_node t) s' (at_node u) → SameBeside s s'
-    beside n s s' t u (takes_rest m l lp lr ls a ps c v ks unbound used, binds) = record { pending = refl; this = refl; top = refl }
+    beside n s s' t u (takes_rest m l lp lr ls a ps c v r unbound used, binds) = record { pending = refl; this = refl; top = refl }
 
     within : (n : Site) (s s' : Ledger) (t u : Tree) → Binding TakesRest n s (at_node t) s' (at_node u) → same_type (kind_of t) Program ≡ false
-    within n s s' t u (takes_rest m l lp lr ls a ps c v ks unbound used, binds) = refl
+    within n s s' t u (takes_rest m l lp lr ls a ps c v r unbound used, binds) = refl
 
 -- where it isn't exported
 pub unexported-nodes : (n : Site) (s s' : Ledger) (x y : Spot) → Unexported (Binding SplitRule) n s x s' y → AtNodes x y

@@ -2,7 +2,7 @@
 -- rule as it stands can leave what is no program.
 use Rattle.std.specs.Prelude.{◌≡◌, List, [], ◌∷◌, true, false, Some, codes}
 use Rattle.es_tree.specs.CoreStaticRules.{Break}
-use Rattle.es_tree.specs.Fresh.{IsFreshName}
+use Rattle.es_tree.specs.Fresh.{IsFreshName, node_base}
 use Rattle.es_tree.specs.HasForm.{has_form}
 use Rattle.es_tree.specs.StaticRules.{breaks}
 use Rattle.es_tree.specs.Tree.{Tree, node, Fields, done, ◌then◌, missing, one, many, statements, empty, ◌before◌, trees}
@@ -13,7 +13,7 @@ use Rattle.es_tree.specs.declared.table.Sort.TheVariants.{Program as s-Program}
 use Rattle.es_resolution.specs.Declarations.{Bound}
 use Rattle.es_steps.specs.Laws.{nothing_beside}
 use Rattle.es_steps.specs.Nodes.{block_node, body_node, call_node, declaration_node, declarator_with, identifier, made, statement_node, word}
-use Rattle.es_steps.specs.ObjectRest.{SplitRule}
+use Rattle.es_steps.specs.ObjectRest.{SplitRule, mapped_value, whole_value}
 use Rattle.es_steps.specs.Open.{opened}
 use Rattle.es_steps.specs.Patterns.{let_statement}
 use Rattle.es_steps.specs.Rules.{next_name, with_made}
@@ -93,8 +93,37 @@ pub record HasToStay (p q : Tree) (b : Break) : Type 0 where
   pub kept : breaks p ≡ []
   pub broken : breaks q ≡ b ∷ []
 
--- DEFAULT VALUES: `let { k: { a, ...b } = d } = s;`, where the pattern moves with its default, as `let { k: _ref } = s, { a, ...b } = d = _ref,
--- {} = s;`, that is none
+-- A REST ALONE: `let { ...b } = s;` becomes `let _s = s, b = babelHelpers.extends({}, (babelHelpers.objectDestructuringEmpty(_s), _s));`
+
+abbrev pub the_source : Whole → Bound
+the_source w = next_name w (codes "_s")
+
+abbrev pub pattern_of : List Tree → Tree
+pattern_of ps = node ObjectPattern (made [] []) (many (trees ps) then done)
+
+abbrev pub the_rest : Tree
+the_rest = node RestElement (made [] []) (one (word (codes "b")) then done)
+
+abbrev pub declared_alone : Tree
+declared_alone = let_of (declarator_with (pattern_of (the_rest ∷ [])) (word (codes "s")) ∷ [])
+
+abbrev pub copied_whole : Whole → Tree
+copied_whole w = let_of (declarator_with (identifier (the_source w)) (word (codes "s")) ∷ declarator_with (word (codes "b")) (whole_value (identifier (the_source w))) ∷ [])
+
+-- BESIDE A COMPUTED KEY: `let { [k]: a, ...b } = s;` becomes
+-- `let _s = s, { [k]: a } = _s, b = babelHelpers.objectWithoutProperties(_s, [k].map(babelHelpers.toPropertyKey));`
+
+abbrev pub computed_property : Tree
+computed_property = node PatternProperty (made [] (false ∷ true ∷ [])) (one (word (codes "k")) then one (word (codes "a")) then done)
+
+abbrev pub declared_computed : Tree
+declared_computed = let_of (declarator_with (pattern_of (computed_property ∷ the_rest ∷ [])) (word (codes "s")) ∷ [])
+
+abbrev pub mapped_keys : Whole → Tree
+mapped_keys w = let_of (declarator_with (identifier (the_source w)) (word (codes "s")) ∷ declarator_with (pattern_of (computed_property ∷ [])) (identifier (the_source w)) ∷ declarator_with (word (codes "b")) (mapped_value (identifier (the_source w)) (word (codes "k") ∷ [])) ∷ [])
+
+-- DEFAULT VALUES: `let { k: { a, ...b } = d } = s;`, where the pattern moves with its default, as `let { k: _ref } = s, { a, ...b } = d = _ref;`,
+-- that is none
 
 abbrev pub with_default : Tree
 with_default = node AssignmentPattern (made [] []) (one rest_pattern then one (word (codes "d")) then done)
@@ -103,7 +132,7 @@ abbrev pub defaulted : Tree
 defaulted = let_of (declarator_with (keyed_pattern with_default) (word (codes "s")) ∷ [])
 
 abbrev pub moved_with_default : Whole → Tree
-moved_with_default w = let_of (declarator_with (keyed_pattern (identifier (the_ref w))) (word (codes "s")) ∷ declarator_with with_default (identifier (the_ref w)) ∷ declarator_with (node ObjectPattern (made [] []) (many empty then done)) (word (codes "s")) ∷ [])
+moved_with_default w = let_of (declarator_with (keyed_pattern (identifier (the_ref w))) (word (codes "s")) ∷ declarator_with with_default (identifier (the_ref w)) ∷ [])
 
 -- such a step has to be refused: it leaves no program
 pub record LosesForm (w : Whole) (b : Bound) (t u : Tree) : Type 0 where
@@ -116,5 +145,7 @@ pub record LosesForm (w : Whole) (b : Bound) (t u : Tree) : Type 0 where
 pub record LawRestExamples : Type 0 where
   pub catches : (w : Whole) → IsFreshName w.in_use (codes "ref") (codes "_ref") → BecomesProgram w (the_ref w) caught (caught_by_name w)
   pub parameters : (w : Whole) → IsFreshName w.in_use (codes "ref") (codes "_ref") → w.in_use (codes "a") ≡ true → w.in_use (codes "b") ≡ true → BecomesProgram w (the_ref w) (program_of (codes "script") (with_parameter ∷ [])) (program_of (codes "script") (parameter_moved w ∷ []))
+  pub copies : (w : Whole) → IsFreshName w.in_use (node_base (word (codes "s"))) (codes "_s") → w.in_use (codes "babelHelpers") ≡ true → BecomesProgram w (the_source w) (program_of (codes "script") (declared_alone ∷ [])) (program_of (codes "script") (copied_whole w ∷ []))
+  pub maps : (w : Whole) → IsFreshName w.in_use (node_base (word (codes "s"))) (codes "_s") → w.in_use (codes "babelHelpers") ≡ true → BecomesProgram w (the_source w) (program_of (codes "script") (declared_computed ∷ [])) (program_of (codes "script") (mapped_keys w ∷ []))
   pub stays : (w : Whole) → HasToStay (program_of (codes "script") (function_with rest_pattern (var_beside ∷ []) ∷ [])) (program_of (codes "script") (function_with (identifier (the_ref w)) (let_statement rest_pattern (the_ref w) ∷ var_beside ∷ []) ∷ [])) (DuplicateName, 0)
   pub defaults : (w : Whole) → IsFreshName w.in_use (codes "ref") (codes "_ref") → LosesForm w (the_ref w) defaulted (moved_with_default w)

@@ -27,8 +27,8 @@ pub fn law_rest_rules()
     ensures { LawRestRules }
 {}
 
-/// A catch clause and a function whose patterns move, and, of the rule as it stands, a step that a tool has to refuse, since it leaves no
-/// program.
+/// A catch clause and a function whose patterns move, a rest that stands alone, one beside a computed key, and, of the rule as it stands, a
+/// step that a tool has to refuse, since it leaves no program.
 pub fn law_rest_examples()
     ensures { LawRestExamples }
 {}
