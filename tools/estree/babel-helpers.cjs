@@ -1,14 +1,23 @@
-// The helpers that a lowered program calls under `--helpers=external`, as their names promise: `babelHelpers.objectSpread2` copies own
-// enumerable properties, `babelHelpers.objectWithoutProperties` those of an object but for some names, and `babelHelpers.usingCtx` makes
-// the context of a `try` in which resources are used.
+// The helpers that a lowered program calls under `--helpers=external`, as their names promise: `babelHelpers.objectSpread2` and
+// `babelHelpers.extends` copy own enumerable properties, `babelHelpers.objectWithoutProperties` those of an object but for some names,
+// `babelHelpers.objectDestructuringEmpty` throws where there is nothing to take apart, and `babelHelpers.usingCtx` makes the context of a
+// `try` in which resources are used.
 //   node -r ./tools/estree/babel-helpers.cjs FILE.js
 'use strict';
 
-globalThis.babelHelpers = { objectSpread2, objectWithoutProperties, usingCtx };
+globalThis.babelHelpers = { extends: extendsWith, objectDestructuringEmpty, objectSpread2, objectWithoutProperties, usingCtx };
 
 function objectSpread2(target, ...sources) {
   for (const source of sources) copy(target, source, []);
   return target;
+}
+
+function extendsWith(target, source) {
+  return copy(target, source, []);
+}
+
+function objectDestructuringEmpty(value) {
+  if (value === null || value === undefined) throw new TypeError(`Cannot destructure '${value}'`);
 }
 
 /** A copy of a source that is neither null nor undefined, of which a pattern took the properties before: what the pattern names is left out. */

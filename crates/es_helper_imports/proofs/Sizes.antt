@@ -1,4 +1,4 @@
--- The law that a program which imports its helpers has at most eighteen nodes more: at most three helpers are called, and a statement that imports
+-- The law that a program which imports its helpers has at most thirty nodes more: at most five helpers are called, and a statement that imports
 -- one has at most six nodes.
 use Rattle.std.proofs.Common.{◌≡◌, ℕ, ◌+◌, ◌*◌, ◌≤◌, refl, sym, ap, ◌∙◌, List, [], ◌∷◌, ◌++◌, length, length-append, arith}
 use Rattle.std.specs.Prelude.{Bool, true, false, ◌&&◌, ◌||◌, Option, Some, None, bytes_eq, codes, find, map, if◌then◌else◌}

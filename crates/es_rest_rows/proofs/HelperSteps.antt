@@ -20,7 +20,6 @@ use Rattle.es_steps.specs.Nodes.{declarator_with, identifier}
 use Rattle.es_steps.specs.ObjectRest.{SplitRule, TakesRest, declares_as}
 use Rattle.es_steps.specs.ObjectRest.SplitRule.{splits}
 use Rattle.es_steps.specs.ObjectRest.SplitsOff.{source as source_of}
-use Rattle.es_steps.specs.ObjectRest.TakesRest.{takes_rest}
 use Rattle.es_steps.specs.Open.{Open, finished, opened}
 use Rattle.es_steps.specs.Rules.{either_rule, next_name}
 use Rattle.es_steps.specs.Steps.{Ledger, Site, Spot, Step, Steps, Whole, the_program}
@@ -45,11 +44,12 @@ use Rattle.es_reached.specs.Reached.{built_rules}
 use Rattle.es_reached.proofs.BuiltRules.{built-all}
 use Rattle.es_rest_shapes.specs.HelperNames.{binds_helpers}
 use Rattle.es_rest_rows.specs.Laws.{LawHelpersUnbound, LawRestWalks}
-use Rattle.es_rest_rows.specs.RestRows.{RestRow, RestWalkRow, keys_of}
+use Rattle.es_rest_rows.specs.RestRows.{RestRow, RestWalkRow}
 use Rattle.es_rest_rows.specs.RestRows.RowsWhere.{stores, takes}
 use Rattle.es_rest_rows.proofs.HelperNames.{helpers_name, is_other_name, passes-unbound, unbound-passes}
 use Rattle.es_rest_rows.proofs.HelperSites.{step-there}
 use Rattle.es_rest_rows.proofs.PlainPatterns.{plain-holds}
+use Rattle.es_rest_rows.proofs.RowsAmongRules.{rest-taken}
 
 -- NEW NAMES
 
@@ -130,7 +130,7 @@ Parts = either_rule SplitRule TakesRest
 row-part : (n : Site) (s : Ledger) (x : Spot) (s' : Ledger) (y : Spot) → RestRow n s x s' y → Parts n s x s' y
 row-part n s x s' y (stores {w = w} m l a c p e z free word plain declares kept silent fresh) =
     inl (splits m a c (declares_as l p e) (declarator_with (identifier (next_name w z)) e before declares_as l p (identifier (next_name w z)) before empty) z fresh.free word (source_of l p e (plain-holds p plain) fresh silent))
-row-part n s x s' y (takes m l lp lr ls a ps c t free plain name declares kept none used) = inr (takes_rest m l lp lr ls a ps c t (keys_of ps) none used)
+row-part n s x s' y (takes m l lp lr ls a ps c t free plain name declares kept none used) = inr (rest-taken n s m l lp lr ls a ps c t none used)
 
 row-acts : ActsSo RestRow
 row-acts n s s' x y (stores m l a c p e z free word plain declares kept silent fresh) = record { moves = declared_name z fresh.free; list = tt }

@@ -7,12 +7,13 @@ use Rattle.es_tree.specs.Names.{first_text}
 use Rattle.es_tree.specs.Tree.{Tree, node, Label, Fields, done, ◌then◌, Field, one, many, Trees, empty, ◌before◌, fields, kind_of}
 use Rattle.es_tree.specs.Words.{Text}
 use Rattle.es_tree.specs.declared.ast_type.AstType.{AstType}
-use Rattle.es_tree.specs.declared.ast_type.AstType.TheVariants.{ArrayExpression, ArrowFunctionExpression, AssignmentExpression, BinaryExpression, CallExpression, CatchClause, ChainExpression, ExportAllDeclaration, Identifier, LogicalExpression, MemberExpression, ObjectExpression, ObjectPattern, ObjectTarget, RestElement, StringLiteral, VariableDeclaration, VariableDeclarator}
+use Rattle.es_tree.specs.declared.ast_type.AstType.TheVariants.{ArrayExpression, ArrowFunctionExpression, AssignmentExpression, BinaryExpression, CallExpression, CatchClause, ChainExpression, ExportAllDeclaration, Identifier, LogicalExpression, MemberExpression, ObjectExpression, ObjectPattern, ObjectTarget, RestElement, SequenceExpression, StringLiteral, VariableDeclaration, VariableDeclarator}
 use Rattle.es_tree.specs.declared.options.EnvOptions.{EnvOptions}
 use Rattle.es_resolution.specs.Declarations.{Bound}
-use Rattle.es_steps.specs.Nodes.{joined_trees, string_node}
-use Rattle.es_steps.specs.ObjectRest.{rest_value}
+use Rattle.es_steps.specs.Nodes.{call_node, declarator_with, identifier, joined_trees, string_node}
+use Rattle.es_steps.specs.ObjectRest.{declares_as, helper_node, rest_value, whole_value}
 use Rattle.es_steps.specs.Open.{Pending, body_with, opened, with_vars, written_body}
+use Rattle.es_steps.specs.Rules.{next_name}
 use Rattle.es_steps.specs.Steps.{Ledger, Site, Spot, Step, Steps, the_program}
 use Rattle.es_steps.specs.Steps.Spot.{at_node}
 use Rattle.es_steps.proofs.FormRules.{AtNodes, no-names}
@@ -20,7 +21,7 @@ use Rattle.es_steps.proofs.Opened.{finished-opened}
 use Rattle.es_reached.proofs.FreeTrees.{Free, FreeAll, FreeBy, FreeIn, PassesNoMade, body-free, free, free-body, free-joined, free-whole, joined-free, joined-kinds, none, vars-free, whole-free}
 use Rattle.es_reached.proofs.WalkTests.{Alike, AlikeBy, AlikeIn, IsBlind, alike-node, by-one, by-same, others-steady}
 use Rattle.es_rest_rows.specs.Laws.{LawRestsMakeNone, is_other_construct}
-use Rattle.es_rest_rows.specs.RestRows.{RestWalkRow, declaring, keys_of}
+use Rattle.es_rest_rows.specs.RestRows.{RestWalkRow, declaring, keys_of, taken, with_rest}
 use Rattle.es_rest_rows.specs.RestRows.RowsWhere.{stores, takes}
 use Rattle.es_rest_rows.proofs.Changes.{Changed, ChangedAll, ChangedBy, ChangedIn, Grown, in-a-row, nodes-change, opened-proper}
 use Rattle.es_rest_rows.proofs.Changes.Changed.{here, within}
@@ -36,11 +37,13 @@ is_row_kind ArrayExpression = true
 is_row_kind CallExpression = true
 is_row_kind MemberExpression = true
 is_row_kind ObjectPattern = true
+is_row_kind SequenceExpression = true
 is_row_kind _ = false
 
 record IsOther (T : AstType → Label → Fields → Bool) : Type 0 where
   made : PassesNoMade T
   rows : (k : AstType) (l : Label) (fs : Fields) → is_row_kind k ≡ true → T k l fs ≡ false
+  objects : (l : Label) → T ObjectExpression l (many empty then done) ≡ false
   same : (k : AstType) (l : Label) (fs gs : Fields) → AlikeIn fs gs → T k l fs ≡ T k l gs
 
 module _ (o : EnvOptions) where
@@ -78,7 +81,11 @@ module _ (o : EnvOptions) where
   rows-other CallExpression l fs h = nothing-on (o.es2026.explicit_resource_management && false) (off o.es2026.explicit_resource_management)
   rows-other MemberExpression l fs h = nothing-on (o.es2026.explicit_resource_management && false) (off o.es2026.explicit_resource_management)
   rows-other ObjectPattern l fs h = nothing-on (o.es2026.explicit_resource_management && false) (off o.es2026.explicit_resource_management)
+  rows-other SequenceExpression l fs h = nothing-on (o.es2026.explicit_resource_management && false) (off o.es2026.explicit_resource_management)
   rows-other _ l fs h = absurd (cc h)
+
+  objects-other : (l : Label) → T ObjectExpression l (many empty then done) ≡ false
+  objects-other l = nothing-on (o.es2026.explicit_resource_management && false) (off o.es2026.explicit_resource_management)
 
   -- but for arrows and patterns they are the tests of a walk that lowers arrows
   as-there : (a s f v p : Bool) → (a || (s && p) || (f && false) || v) ≡ ((a || (s && p)) || v)
@@ -105,7 +112,7 @@ module _ (o : EnvOptions) where
   same-other k l fs gs a = there k l fs ∙ (others-steady o).same k l fs gs a ∙ sym (there k l gs)
 
   others : IsOther T
-  others = record { made = made-other; rows = rows-other; same = same-other }
+  others = record { made = made-other; rows = rows-other; objects = objects-other; same = same-other }
 
 -- THE ROWS
 
@@ -113,12 +120,13 @@ or-twice : (a b : Bool) → (a || b) ≡ (a || (a || b))
 or-twice true b = refl
 or-twice false b = refl
 
--- a declarator becomes two
-two-kinds : (q : AstType → Bool) (a c : Trees) (d x y : Tree) → kind_of d ≡ VariableDeclarator → kind_of x ≡ VariableDeclarator → kind_of y ≡ VariableDeclarator → any_kind q (joined_trees a (d before c)) ≡ any_kind q (joined_trees a (x before y before c))
-two-kinds q a c d x y e f g =
-    joined-kinds q a (d before c)
-    ∙ ap (λ v. any_kind q a || v) (ap (λ k. q k || any_kind q c) e ∙ or-twice (q VariableDeclarator) (any_kind q c) ∙ sym (λ i. q (f i) || (q (g i) || any_kind q c)))
-    ∙ sym (joined-kinds q a (x before y before c))
+-- a declarator becomes others
+other-kinds : (q : AstType → Bool) (a c : Trees) (d : Tree) (us : Trees) → any_kind q (d before c) ≡ any_kind q (joined_trees us c) → any_kind q (joined_trees a (d before c)) ≡ any_kind q (joined_trees a (joined_trees us c))
+other-kinds q a c d us e = joined-kinds q a (d before c) ∙ ap (λ v. any_kind q a || v) e ∙ sym (joined-kinds q a (joined_trees us c))
+
+taken-kinds : (q : AstType → Bool) (l : Label) (fs : Fields) (lp : Label) (s : Tree) (ps : Trees) (t : Tree) (c : Trees) → any_kind q (node VariableDeclarator l fs before c) ≡ any_kind q (joined_trees (taken lp s ps t) c)
+taken-kinds q l fs lp s empty t c = refl
+taken-kinds q l fs lp s (p before ps) t c = or-twice (q VariableDeclarator) (any_kind q c)
 
 list-alike : (ts us : Trees) → ((q : AstType → Bool) → IsBlind q → any_kind q ts ≡ any_kind q us) → AlikeBy (many ts) (many us)
 list-alike ts us h = record { child = λ q b. refl; target = refl; members = h; there = refl }
@@ -138,40 +146,55 @@ module _ (T : AstType → Label → Fields → Bool) (other : IsOther T) where
     free : Free T t → Free T u
     alike : Alike t u
 
-  -- a declaration of which a declarator became two
-  two-declared : (m : Label) (a c : Trees) (d x y : Tree) → kind_of d ≡ VariableDeclarator → kind_of x ≡ VariableDeclarator → kind_of y ≡ VariableDeclarator → (Free T d → Free T x × Free T y) → Walked (declaring m (joined_trees a (d before c))) (declaring m (joined_trees a (x before y before c)))
-  two-declared m a c d x y e f g split = record { free = left; alike = record { kind = λ q b. refl; member = refl } }
+  -- a declaration of which a declarator became others
+  declared : (m : Label) (a c : Trees) (d : Tree) (us : Trees) → ((q : AstType → Bool) → any_kind q (d before c) ≡ any_kind q (joined_trees us c)) → (Free T d → FreeAll T us) → Walked (declaring m (joined_trees a (d before c))) (declaring m (joined_trees a (joined_trees us c)))
+  declared m a c d us e split = record { free = left; alike = record { kind = λ q b. refl; member = refl } }
     where
       old : Trees
       old = joined_trees a (d before c)
 
       new : Trees
-      new = joined_trees a (x before y before c)
+      new = joined_trees a (joined_trees us c)
 
       left : Free T (declaring m old) → Free T (declaring m new)
       left h =
           let parts = free-joined T a (d before c) h.1.0 in
-          let both = split parts.1.0 in
-          (sym (other.same VariableDeclaration m (many old then done) (many new then done) (first-alike (many old) (many new) done (list-alike old new (λ q b. two-kinds q a c d x y e f g)))) ∙ h.0, (joined-free T a (x before y before c) parts.0 (both.0, (both.1, parts.1.1)), tt))
+          let left_free = joined-free T us c (split parts.1.0) parts.1.1 in
+          (sym (other.same VariableDeclaration m (many old then done) (many new then done) (first-alike (many old) (many new) done (list-alike old new (λ q b. other-kinds q a c d us (e q))))) ∙ h.0, (joined-free T a (joined_trees us c) parts.0 left_free, tt))
 
   texts-free : (ks : List Text) → FreeIn T (fields (map (λ t. one t) (map string_node ks)))
   texts-free [] = tt
   texts-free (k ∷ ks) = ((other.made StringLiteral _ _ refl, tt), texts-free ks)
 
+  helper-free : (h : Text) → Free T (helper_node h)
+  helper-free h = (other.rows MemberExpression _ _ refl, ((other.made Identifier _ _ refl, tt), ((other.made Identifier _ _ refl, tt), tt)))
+
   value-free : (s : Tree) (ks : List Text) → Free T s → Free T (rest_value s ks)
-  value-free s ks h = (other.rows CallExpression _ _ refl, ((other.rows MemberExpression _ _ refl, ((other.made Identifier _ _ refl, tt), ((other.made Identifier _ _ refl, tt), tt))), ((h, ((other.rows ArrayExpression _ _ refl, texts-free ks), tt)), tt)))
+  value-free s ks h = (other.rows CallExpression _ _ refl, (helper-free (codes "objectWithoutProperties"), ((h, ((other.rows ArrayExpression _ _ refl, texts-free ks), tt)), tt)))
+
+  alone-free : (s : Tree) → Free T s → Free T (whole_value s)
+  alone-free s h =
+      let emptied : Free T (call_node (helper_node (codes "objectDestructuringEmpty")) (s ∷ [])) = (other.rows CallExpression _ _ refl, (helper-free (codes "objectDestructuringEmpty"), ((h, tt), tt))) in
+      (other.rows CallExpression _ _ refl, (helper-free (codes "extends"), (((other.objects _, (tt, tt)), ((other.rows SequenceExpression _ _ refl, ((emptied, (h, tt)), tt)), tt)), tt)))
+
+  taken-free : (lp : Label) (s : Tree) (ps : Trees) (t : Tree) → Free T s → FreeAll T ps → Free T t → FreeAll T (taken lp s ps t)
+  taken-free lp s empty t g h k = ((other.made VariableDeclarator _ _ refl, (k, (alone-free s g, tt))), tt)
+  taken-free lp s (p before ps) t g h k = ((other.made VariableDeclarator _ _ refl, ((other.rows ObjectPattern _ _ refl, (h, tt)), (g, tt))), ((other.made VariableDeclarator _ _ refl, (k, (value-free s (keys_of (p before ps)) g, tt))), tt))
 
   row-walked : (n : Site) (s s' : Ledger) (t u : Tree) → RestWalkRow n s (at_node t) s' (at_node u) → Walked t u × Grown (λ bs. bs ≡ []) s s'
-  row-walked n s s' t u (stores {q = q} m l a c p e x out declares plain bind kept silent fresh) = (
-    two-declared m a c _ _ _ refl refl refl (λ h. ((other.made VariableDeclarator _ _ refl, ((other.made Identifier _ _ refl, tt), (h.1.1.0, tt))), (other.made VariableDeclarator _ _ refl, (h.1.0, ((other.made Identifier _ _ refl, tt), tt))))),
+  row-walked n s s' t u (stores {w = w} {q = q} m l a c p e x out declares plain bind kept silent fresh) = (
+    declared m a c (declares_as l p e) (declarator_with (identifier (next_name w x)) e before declares_as l p (identifier (next_name w x)) before empty) (λ q. or-twice (q VariableDeclarator) (any_kind q c)) (λ h.
+        ((other.made VariableDeclarator _ _ refl, ((other.made Identifier _ _ refl, tt), (h.1.1.0, tt))), ((other.made VariableDeclarator _ _ refl, (h.1.0, ((other.made Identifier _ _ refl, tt), tt))), tt))),
     record { names = []; such = refl; pending = no-names q; top = refl },
   )
-  row-walked n s s' t u (takes {q = q} m l lp lr ls a ps c r out plain name bind kept asked used) = (
-    two-declared m a c _ _ _ refl refl refl (λ h.
-        let parts = free-joined T ps (node RestElement lr (one r then done) before empty) h.1.0.1.0 in
-        ((other.made VariableDeclarator _ _ refl, ((other.rows ObjectPattern _ _ refl, (parts.0, tt)), ((other.made Identifier _ _ refl, tt), tt))), (other.made VariableDeclarator _ _ refl, (parts.1.0.1.0, (value-free _ (keys_of ps) (other.made Identifier _ _ refl, tt), tt))))),
-    record { names = []; such = refl; pending = no-names q; top = refl },
-  )
+  row-walked n s s' t u (takes {q = q} m l lp lr ls a ps c r out plain name bind kept asked used) =
+      let it : Tree = node Identifier ls done in
+      let d = declares_as l (with_rest lp ps lr r) it in (
+        declared m a c d (taken lp it ps r) (λ q. taken-kinds q l (one (with_rest lp ps lr r) then one it then done) lp it ps r c) (λ h.
+            let parts = free-joined T ps (node RestElement lr (one r then done) before empty) h.1.0.1.0 in
+            taken-free lp it ps r (other.made Identifier _ _ refl, tt) parts.0 parts.1.0.1.0),
+        record { names = []; such = refl; pending = no-names q; top = refl },
+      )
 
   -- WHAT A CHANGE KEEPS
 

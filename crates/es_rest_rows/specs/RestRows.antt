@@ -1,7 +1,8 @@
 -- An object rest is taken where it is declared (ECMA-262, 14.3.3): `const { a, ...b } = f();` becomes
 -- `const _f = f(), { a } = _f, b = babelHelpers.objectWithoutProperties(_f, ["a"]);`. A source that gives the same each time is read again
 -- where it stands, and takes no name: `const { a, ...b } = c;` becomes `const { a } = c, b = babelHelpers.objectWithoutProperties(c, ["a"]);`.
--- Each row is a part of the rules of object rests.
+-- A rest that stands alone takes no pattern: `const { ...b } = c;` becomes
+-- `const b = babelHelpers.extends({}, (babelHelpers.objectDestructuringEmpty(c), c));`. Each row is a part of the rules of object rests.
 use Rattle.std.specs.Prelude.{◌≡◌, ◌&&◌, ◌||◌, not, Bool, true, false, List, ◌∷◌, Option, None, codes, bytes_eq, []}
 use Rattle.std.specs.List.{list_any}
 use Rattle.es_resolution.specs.Declarations.{Bound, symbol_of}
@@ -9,7 +10,7 @@ use Rattle.es_resolution.specs.Resolved.{bound_by}
 use Rattle.es_semantic.specs.RolesOf.{reads}
 use Rattle.es_steps.specs.Duplication.{is_among_symbols}
 use Rattle.es_steps.specs.Nodes.{identifier, declarator_with, joined_trees}
-use Rattle.es_steps.specs.ObjectRest.{Declares, declares_as, kind_of_declaration, pattern_node, rest_value}
+use Rattle.es_steps.specs.ObjectRest.{Declares, declares_as, kind_of_declaration, pattern_node, rest_value, whole_value}
 use Rattle.es_steps.specs.Open.{Additions, Pending}
 use Rattle.es_steps.specs.Patterns.{IsSilent}
 use Rattle.es_steps.specs.Rules.{next_name, with_made}
@@ -47,6 +48,12 @@ declaring m ds = node VariableDeclaration m (many ds then done)
 abbrev pub with_rest : Label → Trees → Label → Tree → Tree
 with_rest lp ps lr t = pattern_node lp (joined_trees ps (node RestElement lr (one t then done) before empty))
 
+-- `{ A.. } = s, r = babelHelpers.objectWithoutProperties(s, [keys of A])`, or the rest alone where it has no properties beside it:
+-- `r = babelHelpers.extends({}, (babelHelpers.objectDestructuringEmpty(s), s))`
+abbrev pub taken : Label → Tree → Trees → Tree → Trees
+taken lp s empty t = declarator_with t (whole_value s) before empty
+taken lp s (p before ps) t = declarator_with (pattern_node lp (p before ps)) s before declarator_with t (rest_value s (keys_of (p before ps))) before empty
+
 abbrev pub is_exported : Site → Bool
 is_exported n = stands_in ExportNamedDeclaration 0 n.above
 
@@ -57,12 +64,12 @@ pub data RowsWhere (asked : Site → Type 0) : Site → Ledger → Spot → Ledg
       all_declare (joined_trees a (declares_as l p e before c)) ≡ true → is_kept w p e ≡ false → IsSilent reads e → IsFreshName w.in_use (node_base e) x →
       RowsWhere asked n (ledger w q s y) (at_node (declaring m (joined_trees a (declares_as l p e before c)))) (ledger (with_made (next_name w x ∷ []) w) q s y)
       (at_node (declaring m (joined_trees a (declarator_with (identifier (next_name w x)) e before declares_as l p (identifier (next_name w x)) before c))))
-  -- `{ A.., ...r } = s` becomes `{ A.. } = s, r = babelHelpers.objectWithoutProperties(s, [keys of A])`
+  -- `{ A.., ...r } = s` becomes `{ A.. } = s, r = babelHelpers.objectWithoutProperties(s, [keys of A])`, and `{ ...r } = s` the rest's alone
   takes : {n : Site} {w : Whole} {q : Pending} {z : Option Bound} {y : Additions} (m l lp lr ls : Label) (a ps c : Trees) (t : Tree) → is_exported n ≡ false → are_plain ps ≡ true → is_name t ≡ true →
       all_declare (joined_trees a (declares_as l (with_rest lp ps lr t) (node Identifier ls done) before c)) ≡ true → is_kept w (with_rest lp ps lr t) (node Identifier ls done) ≡ true →
       asked n → w.in_use (codes "babelHelpers") ≡ true →
       RowsWhere asked n (ledger w q z y) (at_node (declaring m (joined_trees a (declares_as l (with_rest lp ps lr t) (node Identifier ls done) before c)))) (ledger w q z y)
-      (at_node (declaring m (joined_trees a (declarator_with (pattern_node lp ps) (node Identifier ls done) before declarator_with t (rest_value (node Identifier ls done) (keys_of ps)) before c))))
+      (at_node (declaring m (joined_trees a (joined_trees (taken lp (node Identifier ls done) ps t) c))))
 
 -- The rows: `babelHelpers`, of which the helper is a property, is bound nowhere around.
 abbrev pub RestRow : Site → Ledger → Spot → Ledger → Spot → Type 0

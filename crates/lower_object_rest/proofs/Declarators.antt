@@ -1,5 +1,5 @@
 -- What comes of one declarator, by the rows.
-use Rattle.std.proofs.Common.{ap, arith, length, refl, subst, sym, ◌+◌, ◌∙◌, ◌∷◌, ◌≡◌, [], Option, suc, ℕ}
+use Rattle.std.proofs.Common.{ap, arith, refl, subst, sym, ◌+◌, ◌∙◌, ◌∷◌, ◌≡◌, ◌≤◌, [], List, Option, ℕ}
 use Rattle.std.proofs.lemmas.Bool.{or_parts}
 use Rattle.std.specs.Prelude.{Bool, false, not, true, ◌&&◌, ◌||◌}
 use Rattle.es_tree.specs.Fresh.{node_base}
@@ -15,7 +15,7 @@ use Rattle.es_resolution.specs.Declarations.{Bound}
 use Rattle.es_resolution.specs.Seen.{seen, seen_among}
 use Rattle.es_steps.specs.Duplication.{IsNext, is_among_symbols}
 use Rattle.es_steps.specs.Nodes.{declarator_with, identifier, joined_trees}
-use Rattle.es_steps.specs.ObjectRest.{declares_as, pattern_node, rest_value}
+use Rattle.es_steps.specs.ObjectRest.{declares_as}
 use Rattle.es_steps.specs.Open.{Additions, Pending, opened}
 use Rattle.es_steps.specs.Patterns.{IsSilent}
 use Rattle.es_steps.specs.Rules.{with_made}
@@ -28,7 +28,7 @@ use Rattle.es_changes.specs.Moments.{Moment, whole_at}
 use Rattle.es_changes.proofs.Expressions.{law_expression_proof}
 use Rattle.es_valid_rests.specs.RestRules.{all_declare}
 use Rattle.es_valid_rests.proofs.RestFormsDeclared.{declarator-parts}
-use Rattle.es_rest_rows.specs.RestRows.{RestWalkRow, binds_name, declaring, is_exported, is_kept, keys_of, with_rest}
+use Rattle.es_rest_rows.specs.RestRows.{RestWalkRow, binds_name, declaring, is_exported, is_kept, taken, with_rest}
 use Rattle.es_rest_shapes.specs.RestShapes.{any_child, are_plain, is_misplaced, is_name, is_odd_pattern, is_plain_pattern, is_rest_declarator, is_rest_pattern, is_stray_rest}
 use Rattle.lower_nodes.specs.Nodes.{owed, owed_among}
 use Rattle.lower_temporaries.specs.SeenTrees.{no_bindings}
@@ -36,13 +36,13 @@ use Rattle.lower_temporaries.specs.Takings.{ReadsMore, TakesBound, moment_of}
 use Rattle.lower_temporaries.specs.declared.state.TransformState.{TransformState}
 use Rattle.lower_temporaries.proofs.SeenLaws.{base-seen, size-seen}
 use Rattle.lower_object_rest.specs.Declarators.{AreKnown, AreSettled, LowersAll}
-use Rattle.lower_object_rest.specs.Parts.{Stores, Takes}
+use Rattle.lower_object_rest.specs.Parts.{Stores, Takes, bare_label, taken_ids}
 use Rattle.lower_object_rest.specs.Profile.{number_of, rest_owes}
 use Rattle.lower_object_rest.specs.Shapes.{is_lowerable}
 use Rattle.lower_object_rest.specs.Rule.{all_declare_joined}
 use Rattle.lower_object_rest.proofs.Composition.{declarators-form}
-use Rattle.lower_object_rest.proofs.Costs.{number-of-trees, owed-name, owed-pattern, owed-value, owed-without, size-name, size-pattern, size-value}
-use Rattle.lower_object_rest.proofs.SeenShapes.{bare_label, keys-seen, lowerable-seen, name-seen, owed-seen, pattern-seen, plain-seen, rest-pattern-seen}
+use Rattle.lower_object_rest.proofs.Costs.{ids-enough, owed-made, owed-name, owed-pattern, size-made, size-name, size-pattern}
+use Rattle.lower_object_rest.proofs.SeenShapes.{ids-seen, lowerable-seen, name-seen, owed-among, owed-seen, pattern-seen, plain-seen, rest-pattern-seen, size-among}
 use Rattle.lower_object_rest.proofs.Steps.{IsNamed, last-made, name-node, settled-stored, settled-taken, stores-step, takes-step}
 
 -- A NAME THAT IS BOUND, and then read
@@ -67,23 +67,23 @@ seen-name t b e = sym (name-seen no_bindings t) ∙ ap is_name e
 pub seen-plain : (names : ℕ → Text → Option ℕ) (p : Tree) → is_plain_pattern p ≡ true → is_plain_pattern (seen names p) ≡ true
 seen-plain names p h = pattern-seen names p ∙ h
 
--- THE TWO DECLARATORS, as they are seen
+-- THE DECLARATORS, as they are seen
 
-module _ (old new : TraverseCtx TransformState) (p s first last : Tree) (k : Takes old new p s first last) (names : ℕ → Text → Option ℕ) (ls : Label) (is_source : node Identifier ls done ≡ seen names s) where
+module _ (old new : TraverseCtx TransformState) (p s : Tree) (us : List Tree) (k : Takes old new p s us) (names : ℕ → Text → Option ℕ) (ls : Label) (is_source : node Identifier ls done ≡ seen names s) where
   abbrev seen_properties : Trees
   seen_properties = seen_among names (trees k.ps)
 
   abbrev seen_pattern : Tree
   seen_pattern = with_rest (bare_label k.lp) seen_properties (bare_label k.parts.rest) (seen names k.t)
 
+  abbrev seen_taken : Tree → Trees
+  seen_taken e = taken (bare_label k.lp) e seen_properties (seen names k.t)
+
   pattern-is : seen_pattern ≡ seen names p
   pattern-is = sym (rest-pattern-seen names k.lp k.parts.rest (trees k.ps) k.t) ∙ ap (seen names) (sym k.parts.pattern)
 
-  first-is : declarator_with (pattern_node (bare_label k.lp) seen_properties) (node Identifier ls done) ≡ seen names first
-  first-is = ap (λ (e : Tree). declarator_with (pattern_node (bare_label k.lp) seen_properties) e) is_source ∙ sym (k.first_is names)
-
-  last-is : declarator_with (seen names k.t) (rest_value (node Identifier ls done) (keys_of seen_properties)) ≡ seen names last
-  last-is = (λ i. declarator_with (seen names k.t) (rest_value (is_source i) (keys-seen names (trees k.ps) i))) ∙ sym (k.last_is names)
+  taken-is : seen_taken (node Identifier ls done) ≡ seen_among names (trees us)
+  taken-is = ap seen_taken is_source ∙ sym (k.are names)
 
   properties-plain : are_plain seen_properties ≡ true
   properties-plain = plain-seen names (trees k.ps) ∙ k.parts.plain
@@ -95,58 +95,58 @@ module _ (old new : TraverseCtx TransformState) (p s first last : Tree) (k : Tak
   same-whole = sym (ap whole_at k.reads.moment_is)
 
   taken-step : (n : Site) (m l : Label) (cs fs : Trees) → is_exported n ≡ false → all_declare cs ≡ true → all_declare fs ≡ true → is_kept (whole_at (moment_of old)) (seen names p) (seen names s) ≡ true → (q : Pending) (x : Option Bound) (y : Additions) →
-      Step RestWalkRow n (ledger (whole_at (moment_of old)) q x y) (opened (declaring m (joined_trees cs (declares_as l (seen names p) (seen names s) before fs)))) (ledger (whole_at (moment_of new)) q x y) (opened (declaring m (joined_trees cs (seen names first before seen names last before fs))))
+      Step RestWalkRow n (ledger (whole_at (moment_of old)) q x y) (opened (declaring m (joined_trees cs (declares_as l (seen names p) (seen names s) before fs)))) (ledger (whole_at (moment_of new)) q x y) (opened (declaring m (joined_trees cs (joined_trees (seen_among names (trees us)) fs))))
   taken-step n m l cs fs inside earlier later kept q x y =
       let w = whole_at (moment_of old) in
       let it : Tree = node Identifier ls done in
       let start = λ (d : Tree). opened (declaring m (joined_trees cs (d before fs))) in
-      let end = λ (f v : Tree). opened (declaring m (joined_trees cs (f before v before fs))) in
-      let one_first = declarator_with (pattern_node (bare_label k.lp) seen_properties) it in
-      let one_last = declarator_with (seen names k.t) (rest_value it (keys_of seen_properties)) in
+      let end = λ (ts : Trees). opened (declaring m (joined_trees cs (joined_trees ts fs))) in
       let kept_so : is_kept w seen_pattern it ≡ true = (λ i. is_kept w (pattern-is i) (is_source i)) ∙ kept in
       let step = takes-step n m cs fs inside earlier later q x y w l (bare_label k.lp) (bare_label k.parts.rest) ls seen_properties (seen names k.t) properties-plain target-name kept_so refl in
       let from : declares_as l seen_pattern it ≡ declares_as l (seen names p) (seen names s) = λ i. declares_as l (pattern-is i) (is_source i) in
-      subst (λ (v : Whole). Step RestWalkRow n (ledger w q x y) (start (declares_as l (seen names p) (seen names s))) (ledger v q x y) (end (seen names first) (seen names last))) same-whole
-      (subst (λ (d : Tree). Step RestWalkRow n (ledger w q x y) (start d) (ledger w q x y) (end (seen names first) (seen names last))) from
-      (subst (λ (f : Tree). Step RestWalkRow n (ledger w q x y) (start (declares_as l seen_pattern it)) (ledger w q x y) (end f (seen names last))) first-is
-      (subst (λ (v : Tree). Step RestWalkRow n (ledger w q x y) (start (declares_as l seen_pattern it)) (ledger w q x y) (end one_first v)) last-is step)))
+      subst (λ (v : Whole). Step RestWalkRow n (ledger w q x y) (start (declares_as l (seen names p) (seen names s))) (ledger v q x y) (end (seen_among names (trees us)))) same-whole
+      (subst (λ (d : Tree). Step RestWalkRow n (ledger w q x y) (start d) (ledger w q x y) (end (seen_among names (trees us)))) from
+      (subst (λ (ts : Trees). Step RestWalkRow n (ledger w q x y) (start (declares_as l seen_pattern it)) (ledger w q x y) (end ts)) taken-is step))
 
-  taken-settled : (l : Label) (e : Tree) → AreKnown (declares_as l (seen names p) e before empty) → AreSettled (seen names first before seen names last before empty)
+  taken-settled : (l : Label) (e : Tree) → AreKnown (declares_as l (seen names p) e before empty) → AreSettled (seen_among names (trees us))
   taken-settled l e known =
       let known_so : AreKnown (declares_as l seen_pattern e before empty) = subst (λ (t : Tree). AreKnown (declares_as l t e before empty)) (sym pattern-is) known in
-      let settled = settled-taken l (bare_label k.lp) (bare_label k.parts.rest) ls seen_properties (seen names k.t) e properties-plain target-name known_so in
-      subst (λ (f : Tree). AreSettled (f before seen names last before empty)) first-is
-      (subst (λ (v : Tree). AreSettled (declarator_with (pattern_node (bare_label k.lp) seen_properties) (node Identifier ls done) before v before empty)) last-is settled)
+      subst (λ (ts : Trees). AreSettled ts) taken-is (settled-taken l (bare_label k.lp) (bare_label k.parts.rest) ls seen_properties (seen names k.t) e properties-plain target-name known_so)
 
--- IDS AND SIZES of the two
+-- THEIR IDS AND SIZES
 
-module _ (old new : TraverseCtx TransformState) (p s first last : Tree) (k : Takes old new p s first last) (source : is_name s ≡ true) where
-  abbrev seen_name : is_name (seen no_bindings s) ≡ true
-  seen_name = name-seen no_bindings s ∙ source
+module _ (old new : TraverseCtx TransformState) (p s : Tree) (us : List Tree) (k : Takes old new p s us) (source : is_name s ≡ true) where
+  abbrev made : Trees
+  made = taken (bare_label k.lp) (seen no_bindings s) (seen_among no_bindings (trees k.ps)) (seen no_bindings k.t)
 
-  pub owed-taken : owed rest_owes p ≡ owed rest_owes first + owed rest_owes last + (11 + length k.ps)
+  made-plain : are_plain (seen_among no_bindings (trees k.ps)) ≡ true
+  made-plain = plain-seen no_bindings (trees k.ps) ∙ k.parts.plain
+
+  made-source : is_name (seen no_bindings s) ≡ true
+  made-source = name-seen no_bindings s ∙ source
+
+  made-target : is_name (seen no_bindings k.t) ≡ true
+  made-target = name-seen no_bindings k.t ∙ k.parts.name
+
+  pub owed-taken : owed rest_owes p ≡ owed_among rest_owes (trees us) + (15 + number_of (trees k.ps))
   owed-taken =
-      let whole : owed rest_owes p ≡ 11 + number_of (trees k.ps) + owed_among rest_owes (trees k.ps) = ap (owed rest_owes) k.parts.pattern ∙ owed-pattern k.lp k.parts.rest (trees k.ps) k.t k.parts.name in
-      let one_first : owed rest_owes first ≡ owed rest_owes (declarator_with (seen no_bindings (pattern_node k.lp (trees k.ps))) (seen no_bindings s)) = sym (owed-seen no_bindings first) ∙ ap (owed rest_owes) (k.first_is no_bindings) in
-      let one_last : owed rest_owes last ≡ owed rest_owes (declarator_with (seen no_bindings k.t) (rest_value (seen no_bindings s) (keys_of (trees k.ps)))) = sym (owed-seen no_bindings last) ∙ ap (owed rest_owes) (k.last_is no_bindings) in
-      let pattern : owed rest_owes (seen no_bindings (pattern_node k.lp (trees k.ps))) ≡ owed_among rest_owes (trees k.ps) = owed-seen no_bindings (pattern_node k.lp (trees k.ps)) ∙ owed-without k.lp (trees k.ps) k.parts.plain in
-      let target : owed rest_owes (seen no_bindings k.t) ≡ 0 = owed-seen no_bindings k.t ∙ owed-name k.t k.parts.name in
-      owed-sum (owed rest_owes p) (owed rest_owes first) (owed rest_owes last) (number_of (trees k.ps)) (length k.ps) (owed_among rest_owes (trees k.ps)) (owed rest_owes (seen no_bindings (pattern_node k.lp (trees k.ps)))) (owed rest_owes (seen no_bindings s)) (owed rest_owes (seen no_bindings k.t)) (owed rest_owes (rest_value (seen no_bindings s) (keys_of (trees k.ps)))) whole one_first one_last pattern (owed-name (seen no_bindings s) seen_name) target (owed-value (seen no_bindings s) (keys_of (trees k.ps)) seen_name) (number-of-trees k.ps)
+      let whole : owed rest_owes p ≡ 15 + number_of (trees k.ps) + owed_among rest_owes (trees k.ps) = ap (owed rest_owes) k.parts.pattern ∙ owed-pattern k.lp k.parts.rest (trees k.ps) k.t k.parts.name in
+      let all : owed_among rest_owes (trees us) ≡ owed_among rest_owes made = sym (owed-among no_bindings (trees us)) ∙ ap (owed_among rest_owes) (k.are no_bindings) in
+      let parts = owed-made (bare_label k.lp) (seen no_bindings s) (seen_among no_bindings (trees k.ps)) (seen no_bindings k.t) made-plain made-source made-target in
+      owed-sum (owed rest_owes p) (owed_among rest_owes (trees us)) (number_of (trees k.ps)) (owed_among rest_owes (trees k.ps)) whole (all ∙ (parts ∙ owed-among no_bindings (trees k.ps)))
     where
-      owed-sum : (p f v number count among pattern s t value : ℕ) → p ≡ 11 + number + among → f ≡ 0 + (pattern + (s + 0)) → v ≡ 0 + (t + (value + 0)) → pattern ≡ among → s ≡ 0 → t ≡ 0 → value ≡ 0 → number ≡ count → p ≡ f + v + (11 + count)
-      owed-sum p f v number count among pattern s t value h g j e d c b a = omega arith
+      owed-sum : (p u number among : ℕ) → p ≡ 15 + number + among → u ≡ among → p ≡ u + (15 + number)
+      owed-sum p u number among h g = omega arith
 
-  pub size-taken : tree_size first + tree_size last ≡ tree_size p + (8 + length k.ps)
+  pub size-taken : trees_size (trees us) ≤ tree_size p + taken_ids (trees k.ps)
   size-taken =
       let whole : tree_size p ≡ 3 + trees_size (trees k.ps) = ap tree_size k.parts.pattern ∙ size-pattern k.lp k.parts.rest (trees k.ps) k.t k.parts.name in
-      let one_first : tree_size first ≡ tree_size (declarator_with (seen no_bindings (pattern_node k.lp (trees k.ps))) (seen no_bindings s)) = sym (size-seen no_bindings first) ∙ ap tree_size (k.first_is no_bindings) in
-      let one_last : tree_size last ≡ tree_size (declarator_with (seen no_bindings k.t) (rest_value (seen no_bindings s) (keys_of (trees k.ps)))) = sym (size-seen no_bindings last) ∙ ap tree_size (k.last_is no_bindings) in
-      let pattern : tree_size (seen no_bindings (pattern_node k.lp (trees k.ps))) ≡ tree_size (pattern_node k.lp (trees k.ps)) = size-seen no_bindings (pattern_node k.lp (trees k.ps)) in
-      let target : tree_size (seen no_bindings k.t) ≡ 1 = size-seen no_bindings k.t ∙ size-name k.t k.parts.name in
-      size-sum (tree_size p) (tree_size first) (tree_size last) (number_of (trees k.ps)) (length k.ps) (trees_size (trees k.ps)) (tree_size (seen no_bindings (pattern_node k.lp (trees k.ps)))) (tree_size (seen no_bindings s)) (tree_size (seen no_bindings k.t)) (tree_size (rest_value (seen no_bindings s) (keys_of (trees k.ps)))) whole one_first one_last pattern (size-name (seen no_bindings s) seen_name) target (size-value (seen no_bindings s) (trees k.ps) k.parts.plain seen_name) (number-of-trees k.ps)
+      let all : trees_size (trees us) ≡ trees_size made = sym (size-among no_bindings (trees us)) ∙ ap trees_size (k.are no_bindings) in
+      let most = size-made (bare_label k.lp) (seen no_bindings s) (seen_among no_bindings (trees k.ps)) (seen no_bindings k.t) made-plain made-source made-target in
+      size-sum (tree_size p) (trees_size (trees us)) (trees_size made) (trees_size (trees k.ps)) (trees_size (seen_among no_bindings (trees k.ps))) (taken_ids (trees k.ps)) (taken_ids (seen_among no_bindings (trees k.ps))) whole all most (size-among no_bindings (trees k.ps)) (ids-seen no_bindings (trees k.ps))
     where
-      size-sum : (p f v number count among pattern s t value : ℕ) → p ≡ 3 + among → f ≡ suc (pattern + (s + 0)) → v ≡ suc (t + (value + 0)) → pattern ≡ suc (among + 0) → s ≡ 1 → t ≡ 1 → value ≡ 6 + number → number ≡ count → f + v ≡ p + (8 + count)
-      size-sum p f v number count among pattern s t value h g j e d c b a = omega arith
+      size-sum : (p u m among seen_among ids seen_ids : ℕ) → p ≡ 3 + among → u ≡ m → m ≤ 3 + seen_among + seen_ids → seen_among ≡ among → seen_ids ≡ ids → u ≤ p + ids
+      size-sum p u m among seen_among ids seen_ids h g f e d = omega arith
 
 -- A SOURCE THAT IS KEPT
 
@@ -161,8 +161,8 @@ kept-source w p e h = sym (name-seen no_bindings e) ∙ kept-name w (seen no_bin
 seen-source : (names : ℕ → Text → Option ℕ) (t : Tree) → is_name t ≡ true → IsNamed (seen names t)
 seen-source names t h = name-node (seen names t) (name-seen names t ∙ h)
 
-pub lowers-kept-source : (old new : TraverseCtx TransformState) (l : Label) (p e first last : Tree) → is_name e ≡ true → ((names : ℕ → Text → Option ℕ) → is_kept (whole_at (moment_of old)) (seen names p) (seen names e) ≡ true) → Takes old new p e first last → LowersAll old new (declares_as l p e ∷ []) (first ∷ last ∷ [])
-lowers-kept-source old new l p e first last name kept k =
+pub lowers-kept-source : (old new : TraverseCtx TransformState) (l : Label) (p e : Tree) (us : List Tree) → is_name e ≡ true → ((names : ℕ → Text → Option ℕ) → is_kept (whole_at (moment_of old)) (seen names p) (seen names e) ≡ true) → Takes old new p e us → LowersAll old new (declares_as l p e ∷ []) us
+lowers-kept-source old new l p e us name kept k =
     let m = k.reads.moment_is in
     let next = ap (λ (a : Moment). a.next) m in
     record {
@@ -171,20 +171,20 @@ lowers-kept-source old new l p e first last name kept k =
         around = ap (λ (a : Moment). a.around) m;
         options = ap (λ (a : Moment). a.options) m;
         counted = omega (arith, next);
-        lighter = omega (arith, next, owed-taken old new p e first last k name, owed-name e name);
-        nodes = omega (arith, next, size-taken old new p e first last k name, size-name e name);
+        lighter = omega (arith, next, owed-taken old new p e us k name, owed-name e name, ids-enough (trees k.ps));
+        nodes = omega (arith, next, size-taken old new p e us k name, size-name e name);
       };
       rows = λ names.
           let it = seen-source names e name in
           record {
-            steps = λ known n v cs fs inside earlier later q x y. goes (taken-step old new p e first last k names it.label (sym it.is) n v (bare_label l) cs fs inside earlier later (kept names) q x y) stays;
-            settled = λ known. taken-settled old new p e first last k names it.label (sym it.is) (bare_label l) (seen names e) known;
+            steps = λ known n v cs fs inside earlier later q x y. goes (taken-step old new p e us k names it.label (sym it.is) n v (bare_label l) cs fs inside earlier later (kept names) q x y) stays;
+            settled = λ known. taken-settled old new p e us k names it.label (sym it.is) (bare_label l) (seen names e) known;
           };
     }
 
 -- ONE THAT IS STORED
 
-module _ (old mid new : TraverseCtx TransformState) (l : Label) (p e stored name first last : Tree) (plain : is_plain_pattern p ≡ true) (kept : (names : ℕ → Text → Option ℕ) → is_kept (whole_at (moment_of old)) (seen names p) (seen names e) ≡ false) (k : Stores old mid e stored name) (h : Takes mid new p name first last) where
+module _ (old mid new : TraverseCtx TransformState) (l : Label) (p e stored name : Tree) (us : List Tree) (plain : is_plain_pattern p ≡ true) (kept : (names : ℕ → Text → Option ℕ) → is_kept (whole_at (moment_of old)) (seen names p) (seen names e) ≡ false) (k : Stores old mid e stored name) (h : Takes mid new p name us) where
   source-name : is_name name ≡ true
   source-name = seen-name name k.name (k.read_is no_bindings)
 
@@ -199,12 +199,13 @@ module _ (old mid new : TraverseCtx TransformState) (l : Label) (p e stored name
       (λ i. is_kept (k.takes.whole_is i) (seen names p) (k.read_is names i)) ∙ (λ i. last-made w.made k.name i || (is_among_symbols w.steady k.name.symbol && not (binds_name k.name.name (seen names p))))
 
   stored-steps : (names : ℕ → Text → Option ℕ) → AreKnown (declares_as (bare_label l) (seen names p) (seen names e) before empty) → (n : Site) (m : Label) (cs fs : Trees) → is_exported n ≡ false → all_declare cs ≡ true → all_declare fs ≡ true → (q : Pending) (x : Option Bound) (y : Additions) →
-      Steps (Step RestWalkRow n) (ledger (whole_at (moment_of old)) q x y) (opened (declaring m (joined_trees cs (declares_as (bare_label l) (seen names p) (seen names e) before fs)))) (ledger (whole_at (moment_of new)) q x y) (opened (declaring m (joined_trees cs (seen names stored before seen names first before seen names last before fs))))
+      Steps (Step RestWalkRow n) (ledger (whole_at (moment_of old)) q x y) (opened (declaring m (joined_trees cs (declares_as (bare_label l) (seen names p) (seen names e) before fs)))) (ledger (whole_at (moment_of new)) q x y) (opened (declaring m (joined_trees cs (seen names stored before joined_trees (seen_among names (trees us)) fs))))
   stored-steps names known n m cs fs inside earlier later q x y =
       let w = whole_at (moment_of old) in
       let v = whole_at (moment_of mid) in
       let it = identifier k.name in
       let put = declarator_with it (seen names e) in
+      let left = joined_trees (seen_among names (trees us)) fs in
       let next : IsNext w (node_base (seen names e)) k.name = subst (λ (b : Text). IsNext w b k.name) (sym (base-seen names e)) k.next in
       let stores = stores-step n m cs fs inside earlier later q x y w (bare_label l) (seen names p) (seen names e) k.name (seen-plain names p plain) (kept names) (stored-silent names known) next in
       let from = opened (declaring m (joined_trees cs (declares_as (bare_label l) (seen names p) (seen names e) before fs))) in
@@ -214,18 +215,18 @@ module _ (old mid new : TraverseCtx TransformState) (l : Label) (p e stored name
       (subst (λ (d : Tree). Step RestWalkRow n (ledger w q x y) from (ledger (with_made (k.name ∷ []) w) q x y) (between d (seen names name))) (sym (k.declarator_is names))
       (subst (λ (s : Tree). Step RestWalkRow n (ledger w q x y) from (ledger (with_made (k.name ∷ []) w) q x y) (between put s)) (sym (k.read_is names)) stores)) in
       let declared : all_declare (seen names stored before empty) ≡ true = λ i. all_declare (k.declarator_is names i before empty) in
-      let second = taken-step mid new p name first last h names _ (sym (k.read_is names)) n m (bare_label l) (joined_trees cs (seen names stored before empty)) fs inside (all_declare_joined cs (seen names stored before empty) earlier declared) later (stored-kept names) q x y in
+      let second = taken-step mid new p name us h names _ (sym (k.read_is names)) n m (bare_label l) (joined_trees cs (seen names stored before empty)) fs inside (all_declare_joined cs (seen names stored before empty) earlier declared) later (stored-kept names) q x y in
       let after = λ (ts : Trees). opened (declaring m ts) in
       let apart = joined-twice cs (seen names stored before empty) in
-      let second_step : Step RestWalkRow n (ledger v q x y) (between (seen names stored) (seen names name)) (ledger (whole_at (moment_of new)) q x y) (after (joined_trees cs (seen names stored before seen names first before seen names last before fs))) =
-      subst (λ (ts : Trees). Step RestWalkRow n (ledger v q x y) (after ts) (ledger (whole_at (moment_of new)) q x y) (after (joined_trees cs (seen names stored before seen names first before seen names last before fs)))) (apart (declares_as (bare_label l) (seen names p) (seen names name) before fs))
-      (subst (λ (ts : Trees). Step RestWalkRow n (ledger v q x y) (after (joined_trees (joined_trees cs (seen names stored before empty)) (declares_as (bare_label l) (seen names p) (seen names name) before fs))) (ledger (whole_at (moment_of new)) q x y) (after ts)) (apart (seen names first before seen names last before fs)) second) in
+      let second_step : Step RestWalkRow n (ledger v q x y) (between (seen names stored) (seen names name)) (ledger (whole_at (moment_of new)) q x y) (after (joined_trees cs (seen names stored before left))) =
+      subst (λ (ts : Trees). Step RestWalkRow n (ledger v q x y) (after ts) (ledger (whole_at (moment_of new)) q x y) (after (joined_trees cs (seen names stored before left)))) (apart (declares_as (bare_label l) (seen names p) (seen names name) before fs))
+      (subst (λ (ts : Trees). Step RestWalkRow n (ledger v q x y) (after (joined_trees (joined_trees cs (seen names stored before empty)) (declares_as (bare_label l) (seen names p) (seen names name) before fs))) (ledger (whole_at (moment_of new)) q x y) (after ts)) (apart left) second) in
       goes first_step (goes second_step stays)
 
-  stored-settled : (names : ℕ → Text → Option ℕ) → AreKnown (declares_as (bare_label l) (seen names p) (seen names e) before empty) → AreSettled (seen names stored before seen names first before seen names last before empty)
+  stored-settled : (names : ℕ → Text → Option ℕ) → AreKnown (declares_as (bare_label l) (seen names p) (seen names e) before empty) → AreSettled (seen names stored before seen_among names (trees us))
   stored-settled names known =
-      let taken = taken-settled mid new p name first last h names _ (sym (k.read_is names)) (bare_label l) (seen names e) known in
-      subst (λ (d : Tree). AreSettled (d before seen names first before seen names last before empty)) (sym (k.declarator_is names)) (settled-stored (bare_label l) (seen names p) (seen names e) k.name (seen names first before seen names last before empty) known taken)
+      let settled = taken-settled mid new p name us h names _ (sym (k.read_is names)) (bare_label l) (seen names e) known in
+      subst (λ (d : Tree). AreSettled (d before seen_among names (trees us))) (sym (k.declarator_is names)) (settled-stored (bare_label l) (seen names p) (seen names e) k.name (seen_among names (trees us)) known settled)
 
   stored-size : tree_size stored ≡ 2 + tree_size e
   stored-size =
@@ -237,7 +238,7 @@ module _ (old mid new : TraverseCtx TransformState) (l : Label) (p e stored name
       let seen_owed : owed rest_owes stored ≡ owed rest_owes (declarator_with (identifier k.name) (seen no_bindings e)) = sym (owed-seen no_bindings stored) ∙ ap (owed rest_owes) (k.declarator_is no_bindings) in
       omega (arith, seen_owed, owed-seen no_bindings e)
 
-  pub lowers-stored-source : LowersAll old new (declares_as l p e ∷ []) (stored ∷ first ∷ last ∷ [])
+  pub lowers-stored-source : LowersAll old new (declares_as l p e ∷ []) (stored ∷ us)
   lowers-stored-source =
       let m = h.reads.moment_is in
       let next = ap (λ (a : Moment). a.next) m in
@@ -247,8 +248,8 @@ module _ (old mid new : TraverseCtx TransformState) (l : Label) (p e stored name
           around = ap (λ (a : Moment). a.around) m ∙ k.takes.around_is;
           options = ap (λ (a : Moment). a.options) m ∙ k.takes.options_are;
           counted = omega (arith, next, k.takes.next_is);
-          lighter = omega (arith, next, k.takes.next_is, owed-taken mid new p name first last h source-name, stored-owed);
-          nodes = omega (arith, next, k.takes.next_is, size-taken mid new p name first last h source-name, stored-size);
+          lighter = omega (arith, next, k.takes.next_is, owed-taken mid new p name us h source-name, stored-owed, ids-enough (trees h.ps));
+          nodes = omega (arith, next, k.takes.next_is, size-taken mid new p name us h source-name, stored-size);
         };
         rows = λ names. record { steps = stored-steps names; settled = stored-settled names };
       }

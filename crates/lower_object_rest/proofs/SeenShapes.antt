@@ -1,9 +1,9 @@
 -- What is seen of declarators and patterns: the same shapes, the same keys, and as many ids owed.
-use Rattle.std.proofs.Common.{ap, refl, ◌+◌, ◌∷◌, ◌≡◌, [], Option, ℕ}
+use Rattle.std.proofs.Common.{ap, refl, ◌+◌, ◌∷◌, ◌≡◌, Option, ℕ}
 use Rattle.std.specs.Prelude.{Bool, false, true, if◌then◌else◌, ◌&&◌, ◌||◌}
 use Rattle.es_tree.specs.Constructs.{any_kind, is_rest}
 use Rattle.es_tree.specs.Names.{has_computed}
-use Rattle.es_tree.specs.Tree.{Field, Fields, Label, Tree, Trees, done, empty, many, missing, node, one, statements, ◌before◌, ◌then◌}
+use Rattle.es_tree.specs.Tree.{Field, Fields, Label, Tree, Trees, done, empty, many, missing, node, one, statements, trees_size, ◌before◌, ◌then◌}
 use Rattle.es_tree.specs.Words.{Text}
 use Rattle.es_tree.specs.declared.ast_type.AstType.{AstType}
 use Rattle.es_tree.specs.declared.ast_type.AstType.TheVariants.{BigIntLiteral, Identifier, NumericLiteral, ObjectPattern, PatternProperty, RestElement, StringLiteral, VariableDeclarator}
@@ -13,13 +13,11 @@ use Rattle.es_steps.specs.ObjectRest.{pattern_node}
 use Rattle.es_rest_rows.specs.RestRows.{keys_of, with_rest}
 use Rattle.es_rest_shapes.specs.RestShapes.{are_plain, ends_in_rest, is_known_key, is_literal_key, is_name, is_named_rest, is_plain_key, is_plain_pattern, is_plain_property, key_text}
 use Rattle.lower_nodes.specs.Nodes.{owed, owed_among, owed_by, owed_in}
+use Rattle.lower_temporaries.proofs.SeenLaws.{size-seen}
 use Rattle.lower_temporaries.proofs.TwoFields.{two-seen}
+use Rattle.lower_object_rest.specs.Parts.{bare_label, taken_ids}
 use Rattle.lower_object_rest.specs.Profile.{number_of, rest_owes}
 use Rattle.lower_object_rest.specs.Shapes.{is_lowerable}
-
--- the label of a pattern, as it is seen
-abbrev pub bare_label : Label → Label
-bare_label l = record l { id = 0; marks = [] }
 
 module _ (names : ℕ → Text → Option ℕ) where
   joined-seen : (xs ys : Trees) → seen_among names (joined_trees xs ys) ≡ joined_trees (seen_among names xs) (seen_among names ys)
@@ -121,6 +119,12 @@ module _ (names : ℕ → Text → Option ℕ) where
   pub rest-pattern-seen : (lp lr : Label) (ps : Trees) (t : Tree) → seen names (with_rest lp ps lr t) ≡ with_rest (bare_label lp) (seen_among names ps) (bare_label lr) (seen names t)
   rest-pattern-seen lp lr ps t = ap (λ us. pattern_node (bare_label lp) us) (joined-seen ps (node RestElement lr (one t then done) before empty))
 
+  -- SIZES
+
+  pub size-among : (ts : Trees) → trees_size (seen_among names ts) ≡ trees_size ts
+  size-among empty = refl
+  size-among (t before ts) = λ i. size-seen names t i + size-among ts i
+
   -- IDS OWED
 
   kinds-seen : (ts : Trees) → any_kind is_rest (seen_among names ts) ≡ any_kind is_rest ts
@@ -131,8 +135,13 @@ module _ (names : ℕ → Text → Option ℕ) where
   number-seen empty = refl
   number-seen (t before ts) = ap (λ n. 1 + n) (number-seen ts)
 
+  -- and as many are given for it
+  pub ids-seen : (ts : Trees) → taken_ids (seen_among names ts) ≡ taken_ids ts
+  ids-seen empty = refl
+  ids-seen (t before ts) = ap (λ n. 8 + n) (number-seen (t before ts))
+
   own-seen : (k : AstType) (l m : Label) (fs : Fields) → rest_owes k m (seen_in names fs) ≡ rest_owes k l fs
-  own-seen ObjectPattern l m (many ps then fs) = λ i. if kinds-seen ps i then 10 + number-seen ps i else 0
+  own-seen ObjectPattern l m (many ps then fs) = λ i. if kinds-seen ps i then 14 + number-seen ps i else 0
   own-seen ObjectPattern l m done = refl
   own-seen ObjectPattern l m (missing then fs) = refl
   own-seen ObjectPattern l m (one t then fs) = refl
@@ -153,6 +162,6 @@ module _ (names : ℕ → Text → Option ℕ) where
     owed-by (many ts) = owed-among ts
     owed-by (statements ts) = owed-among ts
 
-    owed-among : (ts : Trees) → owed_among rest_owes (seen_among names ts) ≡ owed_among rest_owes ts
+    pub owed-among : (ts : Trees) → owed_among rest_owes (seen_among names ts) ≡ owed_among rest_owes ts
     owed-among empty = refl
     owed-among (t before ts) = λ i. owed-seen t i + owed-among ts i

@@ -16,7 +16,7 @@ use Rattle.es_resolution.specs.Declarations.{Bound, sought}
 use Rattle.es_resolution.specs.Resolved.{bound_by}
 use Rattle.es_steps.specs.Duplication.{IsNext}
 use Rattle.es_steps.specs.Nodes.{declarator_with, identifier, joined_trees, string_node}
-use Rattle.es_steps.specs.ObjectRest.{Declares, declares_as, kind_of_declaration, pattern_node, rest_value}
+use Rattle.es_steps.specs.ObjectRest.{Declares, declares_as, kind_of_declaration, pattern_node, rest_value, whole_value}
 use Rattle.es_steps.specs.ObjectRest.Declares.{by_var, lexically}
 use Rattle.es_steps.specs.Open.{Additions, Pending, opened}
 use Rattle.es_steps.specs.Patterns.{IsSilent}
@@ -26,7 +26,7 @@ use Rattle.es_steps.specs.Steps.Step.{acts}
 use Rattle.es_steps.proofs.BridgeDeclarations.{bound-right}
 use Rattle.es_resolution.proofs.Basics.{bytes_eq-self}
 use Rattle.es_valid_rests.specs.RestRules.{all_declare, is_binding_kind}
-use Rattle.es_rest_rows.specs.RestRows.{RestWalkRow, declaring, is_exported, is_kept, keys_of, with_rest}
+use Rattle.es_rest_rows.specs.RestRows.{RestWalkRow, declaring, is_exported, is_kept, keys_of, taken, with_rest}
 use Rattle.es_rest_rows.specs.RestRows.RowsWhere.{stores, takes}
 use Rattle.es_rest_shapes.specs.RestShapes.{are_plain, any_child, any_tree, is_misplaced, is_name, is_odd_pattern, is_plain_pattern, is_plain_property, is_rest_declaration, is_stray_rest}
 use Rattle.lower_object_rest.specs.Declarators.{AreKnown, AreSettled}
@@ -80,7 +80,7 @@ module _ (n : Site) (m : Label) (cs fs : Trees) (inside : is_exported n ≡ fals
 
   pub takes-step : (w : Whole) (l lp lr ls : Label) (ps : Trees) (t : Tree) → are_plain ps ≡ true → is_name t ≡ true → is_kept w (with_rest lp ps lr t) (node Identifier ls done) ≡ true → w.in_use (codes "babelHelpers") ≡ true →
       Step RestWalkRow n (ledger w q x y) (opened (declared_with (declares_as l (with_rest lp ps lr t) (node Identifier ls done) before empty)))
-      (ledger w q x y) (opened (declared_with (declarator_with (pattern_node lp ps) (node Identifier ls done) before declarator_with t (rest_value (node Identifier ls done) (keys_of ps)) before empty)))
+      (ledger w q x y) (opened (declared_with (taken lp (node Identifier ls done) ps t)))
   takes-step w l lp lr ls ps t plain name kept used =
       acts _ _ (takes m l lp lr ls cs ps fs t inside plain name (all_declare_joined cs (declares_as l (with_rest lp ps lr t) (node Identifier ls done) before fs) earlier later) kept tt used)
 
@@ -133,9 +133,9 @@ known-parts l p e k =
       value-placed = (or_parts (is_odd_pattern p) (is_misplaced e) both.0).1;
     }
 
-pub settled-taken : (l lp lr ls : Label) (ps : Trees) (t e : Tree) → are_plain ps ≡ true → is_name t ≡ true → AreKnown (declares_as l (with_rest lp ps lr t) e before empty) →
+settled-beside : (l lp lr ls : Label) (ps : Trees) (t e : Tree) → are_plain ps ≡ true → is_name t ≡ true → AreKnown (declares_as l (with_rest lp ps lr t) e before empty) →
     AreSettled (declarator_with (pattern_node lp ps) (node Identifier ls done) before declarator_with t (rest_value (node Identifier ls done) (keys_of ps)) before empty)
-settled-taken l lp lr ls ps (node Identifier lt done) e plain name k =
+settled-beside l lp lr ls ps (node Identifier lt done) e plain name k =
     let parts = known-parts l (with_rest lp ps lr (node Identifier lt done)) e k in
     let r : Trees = node RestElement lr (one (node Identifier lt done) then done) before empty in
     let kinds = plain-kinds ps plain in
@@ -150,8 +150,18 @@ settled-taken l lp lr ls ps (node Identifier lt done) e plain name k =
       patterns = refl;
       strays = λ i. ((((kinds i && not (is_plain_pattern (pattern_node lp ps))) || false) || false) || (((placed i || false) || (nodes i || false)) || false)) || ((value-strays ls (keys_of ps) i || false) || false);
     }
-settled-taken l lp lr ls ps (node Identifier lt (f then fs)) e plain name k = absurd (cc name)
-settled-taken l lp lr ls ps (node _ lt fs) e plain name k = absurd (cc name)
+settled-beside l lp lr ls ps (node Identifier lt (f then fs)) e plain name k = absurd (cc name)
+settled-beside l lp lr ls ps (node _ lt fs) e plain name k = absurd (cc name)
+
+-- of a pattern whose rest stands alone nothing is left
+settled-alone : (ls : Label) (t : Tree) → is_name t ≡ true → AreSettled (declarator_with t (whole_value (node Identifier ls done)) before empty)
+settled-alone ls (node Identifier lt done) name = record { declare = refl; rests = refl; inside = refl; patterns = refl; strays = refl }
+settled-alone ls (node Identifier lt (f then fs)) name = absurd (cc name)
+settled-alone ls (node _ lt fs) name = absurd (cc name)
+
+pub settled-taken : (l lp lr ls : Label) (ps : Trees) (t e : Tree) → are_plain ps ≡ true → is_name t ≡ true → AreKnown (declares_as l (with_rest lp ps lr t) e before empty) → AreSettled (taken lp (node Identifier ls done) ps t)
+settled-taken l lp lr ls empty t e plain name k = settled-alone ls t name
+settled-taken l lp lr ls (p before ps) t e plain name k = settled-beside l lp lr ls (p before ps) t e plain name k
 
 pub settled-stored : (l : Label) (p e : Tree) (b : Bound) (us : Trees) → AreKnown (declares_as l p e before empty) → AreSettled us → AreSettled (declarator_with (identifier b) e before us)
 settled-stored l p e b us k s =

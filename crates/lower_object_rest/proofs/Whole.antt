@@ -29,12 +29,13 @@ use Rattle.lower_nodes.specs.Nodes.Alike.{changed}
 use Rattle.lower_temporaries.specs.Takings.{moment_of}
 use Rattle.lower_temporaries.specs.declared.state.TransformState.{TransformState}
 use Rattle.lower_object_rest.specs.Declarators.{AreKnown}
+use Rattle.lower_object_rest.specs.Parts.{bare_label}
 use Rattle.lower_object_rest.specs.Profile.{barred_where, is_declaration, object_rest_profile, profile_where, rest_owes, test_where}
 use Rattle.lower_object_rest.specs.Rule.{members_rest}
 use Rattle.lower_object_rest.specs.Shapes.{is_lowerable, is_lowerable_declaration}
 use Rattle.lower_object_rest.specs.Whole.{LowersDeclaration}
 use Rattle.lower_object_rest.proofs.Declarators.{no-rest}
-use Rattle.lower_object_rest.proofs.SeenShapes.{bare_label, lowerable-seen}
+use Rattle.lower_object_rest.proofs.SeenShapes.{lowerable-seen}
 
 -- WHAT IS LOWERED, and what is seen of it
 

@@ -23,9 +23,10 @@ abbrev pub number_of : Trees → ℕ
 number_of empty = 0
 number_of (t before ts) = 1 + number_of ts
 
--- The nodes that are made for a pattern with a rest: those of its two further declarators, and a text for each property.
+-- The nodes that are made for a pattern with a rest: those of the declarator of its source, and those of its rest's and of the pattern's, with a
+-- text for each property, or of that of a rest that stands alone.
 abbrev pub rest_owes : AstType → Label → Fields → ℕ
-rest_owes ObjectPattern l (many ps then fs) = if any_kind is_rest ps then 10 + number_of ps else 0
+rest_owes ObjectPattern l (many ps then fs) = if any_kind is_rest ps then 14 + number_of ps else 0
 rest_owes _ l fs = 0
 
 -- a declaration becomes another

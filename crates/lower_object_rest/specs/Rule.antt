@@ -12,10 +12,9 @@ use Rattle.es_tree.specs.declared.table.Sort.{Sort}
 use Rattle.es_tree.specs.declared.table.Sort.TheVariants.{Expression as s-Expression}
 use Rattle.es_steps.specs.CoreRules.{where_on}
 use Rattle.es_steps.specs.Nodes.{declarator_with, identifier, joined_trees}
-use Rattle.es_steps.specs.ObjectRest.{declares_as, pattern_node, rest_value}
+use Rattle.es_steps.specs.ObjectRest.{declares_as}
 use Rattle.es_steps.specs.ObjectRest.SplitRule.{splits}
 use Rattle.es_steps.specs.ObjectRest.SplitsOff.{source}
-use Rattle.es_steps.specs.ObjectRest.TakesRest.{takes_rest}
 use Rattle.es_steps.specs.Open.{is_statement_body}
 use Rattle.es_steps.specs.Patterns.{holds_rest, some_holds_rest}
 use Rattle.es_steps.specs.Rules.{next_name}
@@ -26,8 +25,9 @@ use Rattle.es_steps.specs.Steps.Spot.{at_node}
 use Rattle.es_steps.proofs.FormRules.{AtNodes, NodeFormed, nodes-only}
 use Rattle.es_valid_rests.specs.RestRules.{all_declare, is_binding}
 use Rattle.es_valid_rests.proofs.RestFormsDeclared.{declared-before, declared-joined, split-form, takes-form}
-use Rattle.es_rest_rows.specs.RestRows.{RestWalkRow, is_exported, keys_of, with_rest}
+use Rattle.es_rest_rows.specs.RestRows.{RestWalkRow, is_exported}
 use Rattle.es_rest_rows.specs.RestRows.RowsWhere.{stores, takes}
+use Rattle.es_rest_rows.proofs.RowsAmongRules.{rest-declare, rest-taken}
 use Rattle.es_rest_shapes.specs.RestShapes.{ends_in_rest, is_named_rest, is_plain_pattern, is_plain_property}
 use Rattle.lower_nodes.specs.Nodes.{IsNodeRule, no_names}
 
@@ -87,13 +87,8 @@ keeps_form n s s' t u b slot (stores {w = w} m l a c p e z inside declares plain
     let it = identifier (next_name w z) in
     let left = declares_others a (declarator_with it e before declares_as l p it before empty) (declares_as l p e) c binds (λ g. g) in
     split-form.at_nodes the_program s s' t u b (λ k. no_slot k b) (splits m a c (declares_as l p e) (declarator_with it e before declares_as l p it before empty) z fresh.free declares (source l p e (pattern_rest p plain) fresh silent), left) h
-keeps_form n s s' t u b slot (takes m l lp lr ls a ps c (node Identifier lt done) inside plain name binds kept asked used) h =
-    let s : Tree = node Identifier ls done in
-    let v : Tree = node Identifier lt done in
-    let left = declares_others a (declarator_with (pattern_node lp ps) s before declarator_with v (rest_value s (keys_of ps)) before empty) (declares_as l (with_rest lp ps lr v) s) c binds (λ g. g) in
-    takes-form.at_nodes the_program _ s' t u b (λ k. no_slot k b) (takes_rest m l lp lr ls a ps c v (keys_of ps) refl used, left) h
-keeps_form n s s' t u b slot (takes m l lp lr ls a ps c (node Identifier lt (f then fs)) inside plain name binds kept asked used) h = absurd (cc name)
-keeps_form n s s' t u b slot (takes m l lp lr ls a ps c (node _ lt fs) inside plain name binds kept asked used) h = absurd (cc name)
+keeps_form n s s' t u b slot (takes m l lp lr ls a ps c v inside plain name binds kept asked used) h =
+    takes-form.at_nodes the_program s s' t u b (λ k. no_slot k b) (rest-taken the_program s m l lp lr ls a ps c v refl used, rest-declare l lp lr a ps c v (node Identifier ls done) name binds) h
 
 -- WHERE IT IS ON, and where it isn't
 

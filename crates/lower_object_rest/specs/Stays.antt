@@ -247,7 +247,7 @@ stray_alike _ l h none e = misplaced_child h e
 -- IDS OWED
 
 pub owes_alike : (k : AstType) (l : Label) {fs gs : Fields} → SameIn fs gs → rest_owes k l gs ≡ rest_owes k l fs
-owes_alike ObjectPattern l (fields_alike (many_alike h) r) = λ i. if kinds_alike h i then 10 + number_alike h i else 0
+owes_alike ObjectPattern l (fields_alike (many_alike h) r) = λ i. if kinds_alike h i then 14 + number_alike h i else 0
 owes_alike ObjectPattern l no_fields = refl
 owes_alike ObjectPattern l (fields_alike both_missing r) = refl
 owes_alike ObjectPattern l (fields_alike (one_alike h) r) = refl

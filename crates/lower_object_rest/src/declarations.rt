@@ -10,7 +10,7 @@ ghost use Rattle.lower_object_rest.specs.Shapes.{is_lowerable, is_lowerable_decl
 ghost use Rattle.lower_object_rest.specs.Whole.{LowersDeclaration};
 
 use crate::patterns::is_lowerable;
-use crate::rests::take_rest;
+use crate::rests::{open_pattern, take_all, take_rest};
 use crate::sources::{is_kept, store};
 use es_scope::context::TraverseCtx;
 use es_statements::program::{VariableDeclaration, VariableDeclarator};
@@ -109,7 +109,8 @@ fn add_lowered(
     Ok(())
 }
 
-/// `{ a } = s` and `b = babelHelpers.objectWithoutProperties(s, ["a"])` for the pattern `{ a, ...b }` and its source `s`, a name.
+/// `{ a } = s` and `b = babelHelpers.objectWithoutProperties(s, ["a"])` for the pattern `{ a, ...b }` and its source `s`, a name, and
+/// `b = babelHelpers.extends({}, (babelHelpers.objectDestructuringEmpty(s), s))` for the pattern `{ ...b }`.
 fn add_taken(
     pattern: Node,
     source: Node,
@@ -118,10 +119,16 @@ fn add_taken(
 ) -> Result<(), AllocError>
     requires plain { is_plain_pattern pattern ≡ true }
     requires name { is_name source ≡ true }
-    requires room { ctx.old.ast.next + 7 + members_of pattern < 2 ^ 32 }
+    requires room { ctx.old.ast.next + 11 + members_of pattern < 2 ^ 32 }
     ensures { OnOk result (AddsTaken ctx.old ctx.new pattern source made.old.items made.new.items) }
 {
-    let (first, last) = take_rest(pattern, source, ctx)?;
+    let rest = open_pattern(pattern);
+    if rest.properties.is_empty() {
+        let declarator = take_all(rest.target, source, ctx)?;
+        made.push(declarator)?;
+        return Ok(());
+    }
+    let (first, last) = take_rest(rest, source, ctx)?;
     made.push(first)?;
     made.push(last)?;
     Ok(())

@@ -1,5 +1,5 @@
 //! The lowering of object rests that are declared (ECMA-262, 14.3.3): the rest of a pattern is what a helper answers that copies all but the
-//! keys before.
+//! keys before. One that stands alone is what another copies, once a third has asked that there is something to take apart.
 //!
 //! | source | written |
 //! |---|---|
@@ -7,7 +7,8 @@
 //! | `const { a, ...b } = f();` | `const _f = f(), { a } = _f, b = babelHelpers.objectWithoutProperties(_f, ["a"]);` |
 //! | `const { "a": x = 1, ...b } = c, d = 2;` | `const { "a": x = 1 } = c, b = babelHelpers.objectWithoutProperties(c, ["a"]), d = 2;` |
 //! | `const { 0x10: x, ["a"]: y, ...b } = c;` | `const { 0x10: x, ["a"]: y } = c, b = babelHelpers.objectWithoutProperties(c, ["16", "a"]);` |
-//! | `var { ...a } = a;` | `var _a = a, {} = _a, a = babelHelpers.objectWithoutProperties(_a, []);` |
+//! | `const { ...b } = c;` | `const b = babelHelpers.extends({}, (babelHelpers.objectDestructuringEmpty(c), c));` |
+//! | `var { ...a } = a;` | `var _a = a, a = babelHelpers.extends({}, (babelHelpers.objectDestructuringEmpty(_a), _a));` |
 //!
 //! Before:
 //!

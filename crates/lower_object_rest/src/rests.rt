@@ -1,23 +1,29 @@
-//! A pattern with a rest, as declarators without one: the rest is what a helper answers that copies all but the keys before.
+//! A pattern with a rest, as declarators without one: the rest is what a helper answers that copies all but the keys before, or all where it
+//! stands alone.
 ghost use Rattle.std.specs.Prelude.{◌+◌, ◌-◌, ◌<◌, ◌≡◌, ◌^◌, ◌∷◌, IfOk, OnOk, Option, [], length, string_bytes, true, ℕ};
+ghost use Rattle.es_tree.specs.Helpers.{helper_text};
 ghost use Rattle.es_tree.specs.Tree.{node, trees};
 ghost use Rattle.es_tree.specs.Views.{plain_fields};
 ghost use Rattle.es_tree.specs.Words.{Text};
 ghost use Rattle.es_tree.specs.declared.ast_type.AstType.TheVariants.{ArrayExpression};
+ghost use Rattle.es_tree.specs.declared.helper.Helper.TheVariants.{ObjectDestructuringEmpty};
 ghost use Rattle.es_resolution.specs.Seen.{seen, seen_in};
 ghost use Rattle.es_steps.specs.Nodes.{call_node, made, string_node};
+ghost use Rattle.es_steps.specs.ObjectRest.{helper_node, whole_value};
 ghost use Rattle.es_rest_rows.specs.RestRows.{keys_of};
 ghost use Rattle.es_rest_shapes.specs.RestShapes.{are_plain, is_known_key, is_name, is_plain_pattern, is_plain_property, key_text};
-ghost use Rattle.lower_object_rest.specs.Parts.{Takes, TakesApart, key_of_property, members_of, rest_helper, text_elements};
+ghost use Rattle.lower_object_rest.specs.Parts.{TakesAlone, TakesApart, TakesBeside, key_of_property, rest_helper, text_elements};
 ghost use Rattle.lower_temporaries.specs.Takings.{ReadsMore};
 
-use es_expressions::composites::new_array_expression;
+use es_expressions::composites::{new_array_expression, new_object_expression};
 use es_expressions::literals::{new_identifier, new_string_literal};
 use es_expressions::members::{new_call_expression, new_member_expression};
+use es_expressions::operations::new_sequence_expression;
 use es_patterns::patterns::{ObjectPattern, RestElement};
 use es_scope::context::TraverseCtx;
 use es_statements::program::new_variable_declarator;
 use es_tree::builder::AstBuilder;
+use es_tree::helper::Helper;
 use es_tree::ids::{NodeId, Span};
 use es_tree::kind::Kind;
 use es_tree::node::{Field, Node};
@@ -38,24 +44,24 @@ pub(crate) struct RestPattern {
     pub(crate) target: Node,
 }
 
-/// The declarators `{ a } = s` and `b = babelHelpers.objectWithoutProperties(s, ["a"])` for the pattern `{ a, ...b }` and its source `s`,
-/// which is a name. Fails only for want of memory.
+/// The declarators `{ a } = s` and `b = babelHelpers.objectWithoutProperties(s, ["a"])` for the parts of the pattern `{ a, ...b }` and its
+/// source `s`, which is a name. Fails only for want of memory.
 pub(crate) fn take_rest(
-    pattern: Node,
+    pattern: RestPattern,
     source: Node,
     ctx: &mut TraverseCtx<TransformState>,
 ) -> Result<(Node, Node), AllocError>
-    requires plain { is_plain_pattern pattern ≡ true }
+    requires plain { are_plain (trees pattern.properties.items) ≡ true }
     requires name { is_name source ≡ true }
-    requires room { ctx.old.ast.next + 7 + members_of pattern < 2 ^ 32 }
-    ensures { IfOk result (λ made. Takes ctx.old ctx.new pattern source made.0 made.1) }
+    requires room { ctx.old.ast.next + 8 + length pattern.properties.items < 2 ^ 32 }
+    ensures { IfOk result (λ made. TakesBeside ctx.old ctx.new pattern source made.0 made.1) }
 {
     let RestPattern {
         id,
         span,
         properties,
         target,
-    } = open_pattern(pattern);
+    } = pattern;
     let keys = new_keys(properties.as_slice(), &mut ctx.ast)?;
     let without = ObjectPattern {
         id,
@@ -69,8 +75,24 @@ pub(crate) fn take_rest(
     Ok((first, last))
 }
 
+/// The declarator `b = babelHelpers.extends({}, (babelHelpers.objectDestructuringEmpty(s), s))` for the name of the rest of the pattern
+/// `{ ...b }` and its source `s`, which is a name. Fails only for want of memory.
+pub(crate) fn take_all(
+    target: Node,
+    source: Node,
+    ctx: &mut TraverseCtx<TransformState>,
+) -> Result<Node, AllocError>
+    requires name { is_name source ≡ true }
+    requires room { ctx.old.ast.next + 12 < 2 ^ 32 }
+    ensures { IfOk result (λ made. TakesAlone ctx.old ctx.new target source made) }
+{
+    let value = new_whole_value(source, ctx)?;
+    let declarator = new_variable_declarator(&mut ctx.ast, MADE, target, Some(value))?;
+    Ok(declarator)
+}
+
 /// Takes a pattern with a rest apart.
-fn open_pattern(pattern: Node) -> RestPattern
+pub(crate) fn open_pattern(pattern: Node) -> RestPattern
     requires { is_plain_pattern pattern ≡ true }
     ensures { TakesApart pattern result }
 {
@@ -152,7 +174,7 @@ fn new_value(
     ensures made { IfOk result (λ value. (names : ℕ → Text → Option ℕ) → seen names value ≡ call_node rest_helper (seen names source.now ∷ node ArrayExpression (made [] []) (seen_in names (plain_fields keys.items)) ∷ [])) }
     ensures reads { OnOk result (ReadsMore 6 ctx.old ctx.new) }
 {
-    let callee = new_helper(ctx)?;
+    let callee = new_helper(Helper::ObjectWithoutProperties, ctx)?;
     let again = read_once_more(source, ctx)?;
     let array = new_array_expression(&mut ctx.ast, MADE, keys)?;
     let arguments = Vec::from_array(ctx.ast.alloc, [again, array])?;
@@ -160,15 +182,47 @@ fn new_value(
     Ok(value)
 }
 
-/// `babelHelpers.objectWithoutProperties`.
-fn new_helper(ctx: &mut TraverseCtx<TransformState>) -> Result<Node, AllocError>
+/// `babelHelpers.extends({}, (babelHelpers.objectDestructuringEmpty(s), s))` for a source `s`.
+fn new_whole_value(source: Node, ctx: &mut TraverseCtx<TransformState>) -> Result<Node, AllocError>
+    requires name { is_name source ≡ true }
+    requires room { ctx.old.ast.next + 11 < 2 ^ 32 }
+    ensures made { IfOk result (λ value. (names : ℕ → Text → Option ℕ) → seen names value ≡ whole_value (seen names source)) }
+    ensures reads { OnOk result (ReadsMore 11 ctx.old ctx.new) }
+{
+    let asked = new_emptied(&source, ctx)?;
+    let callee = new_helper(Helper::Extends, ctx)?;
+    let expressions = Vec::from_array(ctx.ast.alloc, [asked, source])?;
+    let sequence = new_sequence_expression(&mut ctx.ast, MADE, expressions)?;
+    let properties = Vec::new(ctx.ast.alloc);
+    let object = new_object_expression(&mut ctx.ast, MADE, properties)?;
+    let arguments = Vec::from_array(ctx.ast.alloc, [object, sequence])?;
+    let value = new_call_expression(&mut ctx.ast, MADE, false, callee, arguments)?;
+    Ok(value)
+}
+
+/// `babelHelpers.objectDestructuringEmpty(s)` for a source `s`: it throws where `s` is undefined or null, as a pattern does.
+fn new_emptied(source: &Node, ctx: &mut TraverseCtx<TransformState>) -> Result<Node, AllocError>
+    requires name { is_name source.now ≡ true }
+    requires room { ctx.old.ast.next + 5 < 2 ^ 32 }
+    ensures made { IfOk result (λ value. (names : ℕ → Text → Option ℕ) → seen names value ≡ call_node (helper_node (helper_text ObjectDestructuringEmpty)) (seen names source.now ∷ [])) }
+    ensures reads { OnOk result (ReadsMore 5 ctx.old ctx.new) }
+{
+    let callee = new_helper(Helper::ObjectDestructuringEmpty, ctx)?;
+    let again = read_once_more(source, ctx)?;
+    let arguments = Vec::from_array(ctx.ast.alloc, [again])?;
+    let value = new_call_expression(&mut ctx.ast, MADE, false, callee, arguments)?;
+    Ok(value)
+}
+
+/// A helper, as a property of `babelHelpers`.
+fn new_helper(helper: Helper, ctx: &mut TraverseCtx<TransformState>) -> Result<Node, AllocError>
     requires room { ctx.old.ast.next + 3 < 2 ^ 32 }
-    ensures made { IfOk result (λ node. (names : ℕ → Text → Option ℕ) → seen names node ≡ rest_helper) }
+    ensures made { IfOk result (λ node. (names : ℕ → Text → Option ℕ) → seen names node ≡ helper_node (helper_text helper)) }
     ensures reads { OnOk result (ReadsMore 3 ctx.old ctx.new) }
 {
     let object = read_name("babelHelpers", None, ctx)?;
-    let name = String::from_str(ctx.ast.alloc, "objectWithoutProperties")?;
+    let name = String::from_str(ctx.ast.alloc, helper.name())?;
     let property = new_identifier(&mut ctx.ast, MADE, name)?;
-    let helper = new_member_expression(&mut ctx.ast, MADE, false, false, object, property)?;
-    Ok(helper)
+    let member = new_member_expression(&mut ctx.ast, MADE, false, false, object, property)?;
+    Ok(member)
 }

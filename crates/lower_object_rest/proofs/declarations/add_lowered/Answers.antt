@@ -56,8 +56,8 @@ returns-then-kept c =
     let opened : declares_as l x.binding c.in-Some.source ≡ c.args.declarator = ap (λ (o : Option Tree). node VariableDeclarator l (one x.binding then maybe o then done)) (sym c.in-Some.is) ∙ c.open-binding.ensures in
     let taken = c.in_ok-add_taken.ensures in
     let name = kept-source (whole_at (moment_of old)) x.binding c.in-Some.source (λ names. sym c.if-kept.true ∙ c.in_ok-kept.ensures names) in
-    let lowers = lowers-kept-source old c.add_taken.new.ctx l x.binding c.in-Some.source taken.first taken.last name (λ names. sym (c.in_ok-kept.ensures names) ∙ c.if-kept.true) taken.takes in
-    record { added = taken.first ∷ taken.last ∷ []; are = taken.are; lowers = subst (λ (d : Tree). LowersAll old c.add_taken.new.ctx (d ∷ []) (taken.first ∷ taken.last ∷ [])) opened lowers }
+    let lowers = lowers-kept-source old c.add_taken.new.ctx l x.binding c.in-Some.source taken.added name (λ names. sym (c.in_ok-kept.ensures names) ∙ c.if-kept.true) taken.takes in
+    record { added = taken.added; are = taken.are; lowers = subst (λ (d : Tree). LowersAll old c.add_taken.new.ctx (d ∷ []) taken.added) opened lowers }
 
 pub returns : goal.returns
 returns c =
@@ -69,9 +69,9 @@ returns c =
     let plain = declarator-pattern c.args.declarator l x.binding c.in-Some.source opened c.requires.lowerable in
     let stored = c.in_ok-stored.stored in
     let taken = c.in_ok-add_taken-2.ensures in
-    let lowers = lowers-stored-source old c.store.new.ctx new l x.binding c.in-Some.source stored c.in_ok-stored.name taken.first taken.last plain (λ names. sym (c.in_ok-kept.ensures names) ∙ c.if-kept.false) c.in_ok-stored.ensures taken.takes in
+    let lowers = lowers-stored-source old c.store.new.ctx new l x.binding c.in-Some.source stored c.in_ok-stored.name taken.added plain (λ names. sym (c.in_ok-kept.ensures names) ∙ c.if-kept.false) c.in_ok-stored.ensures taken.takes in
     record {
-      added = stored ∷ taken.first ∷ taken.last ∷ [];
-      are = taken.are ∙ (ap (λ (ts : List Tree). ts ++ taken.first ∷ taken.last ∷ []) c.in_ok-push.ensures.items ∙ append_assoc c.args.made.now.items (stored ∷ []) (taken.first ∷ taken.last ∷ []));
-      lowers = subst (λ (d : Tree). LowersAll old new (d ∷ []) (stored ∷ taken.first ∷ taken.last ∷ [])) opened lowers;
+      added = stored ∷ taken.added;
+      are = taken.are ∙ (ap (λ (ts : List Tree). ts ++ taken.added) c.in_ok-push.ensures.items ∙ append_assoc c.args.made.now.items (stored ∷ []) taken.added);
+      lowers = subst (λ (d : Tree). LowersAll old new (d ∷ []) (stored ∷ taken.added)) opened lowers;
     }
