@@ -9,12 +9,12 @@ use Rattle.es_tree.specs.Words.{Text}
 use Rattle.es_tree.specs.declared.ast_type.AstType.{AstType}
 use Rattle.es_tree.specs.declared.ast_type.AstType.TheVariants.{CallExpression, Identifier, MemberExpression}
 use Rattle.es_tree.specs.declared.helper.Helper.{Helper}
-use Rattle.es_tree.specs.declared.helper.Helper.TheVariants.{ObjectSpread2, ObjectWithoutProperties, UsingCtx}
+use Rattle.es_tree.specs.declared.helper.Helper.TheVariants.{Extends, ObjectDestructuringEmpty, ObjectSpread2, ObjectWithoutProperties, UsingCtx}
 use Rattle.es_resolution.specs.Declarations.{Bound}
 
 -- THE HELPERS that the built lowerings call
 abbrev pub made_helpers : List Helper
-made_helpers = ObjectSpread2 ∷ ObjectWithoutProperties ∷ UsingCtx ∷ []
+made_helpers = ObjectSpread2 ∷ Extends ∷ ObjectDestructuringEmpty ∷ ObjectWithoutProperties ∷ UsingCtx ∷ []
 
 -- the one of this name
 abbrev pub named_helper : Text → Option Helper

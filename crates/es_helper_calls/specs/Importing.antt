@@ -31,9 +31,9 @@ asks_helper o made k l fs = (is_some o.es2018.object_rest_spread && needs_helper
 abbrev pub imports_helpers : EnvOptions → Bool → Tree → Bool
 imports_helpers o made p = not (is_external o.helper_loader.mode) && any_node (asks_helper o made) p
 
--- the first call of a helper that a source itself makes
-abbrev pub own_call : Tree → Option ℕ
-own_call s = first_node calls_helper s
+-- the first call of a helper that a source itself makes, where helpers are imported
+abbrev pub own_call : EnvOptions → Tree → Option ℕ
+own_call o s = if is_external o.helper_loader.mode then None else first_node calls_helper s
 
 -- whether a program is a module (16.2)
 abbrev pub is_module : Tree → Bool

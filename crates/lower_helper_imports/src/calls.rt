@@ -17,8 +17,10 @@ use std::alloc::{AllocError, Global};
 pub(crate) const ID: NodeId = NodeId(0);
 
 /// The helpers that the built lowerings call.
-static MADE_HELPERS: [Helper; 3] = [
+static MADE_HELPERS: [Helper; 5] = [
     Helper::ObjectSpread2,
+    Helper::Extends,
+    Helper::ObjectDestructuringEmpty,
     Helper::ObjectWithoutProperties,
     Helper::UsingCtx,
 ];

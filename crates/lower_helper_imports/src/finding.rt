@@ -90,10 +90,13 @@ impl HelperImports {
     }
 }
 
-/// The first call of a helper that a source itself makes.
-pub fn own_call(source: &Node) -> Option<NodeId>
-    ensures { option_map number_of result ≡ own_call source.now }
+/// The first call of a helper that a source itself makes, where helpers are imported.
+pub fn own_call(source: &Node, options: &EnvOptions) -> Option<NodeId>
+    ensures { option_map number_of result ≡ own_call options.now source.now }
 {
+    if is_external(options.helper_loader.mode) {
+        return None;
+    }
     let sought = Sought {
         copies: false,
         calls: true,
