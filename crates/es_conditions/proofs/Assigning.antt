@@ -163,5 +163,5 @@ module _ (o : EnvOptions) where
     pub assignment-keeps : Keeps (is_wrapped o) (is_wrapped o) LogicalAssignmentRule
     assignment-keeps = record {
       outside = λ n w bs s t u form e r. (row-slot n w bs s t u r form e).outside;
-      known = λ n w bs s t u form e r. is-wrapped o n u (record { slot = (row-slot n w bs s t u r form e).none; known = known-made o n u (row-made n w bs t u r (wrapped-of o n t e).known) (no-chain n w bs t u r) });
+      known = λ n w bs s t u form e r. is-wrapped o n u (record { slot = (row-slot n w bs s t u r form e).none; known = known-made o n u (wrapped-of o n t e).known.past (row-made n w bs t u r (wrapped-of o n t e).known) (no-chain n w bs t u r) });
     }

@@ -57,6 +57,7 @@ module _ (o : EnvOptions) (n : Site) (m : Label) (body : Tree) (b : Bound) (othe
         placed = and_from (is_placed o n CatchClause m (clause_fields (one (identifier b)) body)) _ (plain o n CatchClause m (clause_fields (one (identifier b)) body) refl refl refl) (rw (name, passes) refl);
         marked = record { tidy = h.marked.tidy; full = h.marked.full };
         value = λ on c. absurd (true≢false (sym c));
+        past = h.past;
       }
 
   catch-free : is_free o n before ≡ true → is_free o n after ≡ true

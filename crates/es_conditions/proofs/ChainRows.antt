@@ -29,7 +29,7 @@ use Rattle.es_steps.specs.Steps.{Site, Whole, site_in}
 use Rattle.es_steps.specs.WrapRule.{is_wrapped_for, takes_one}
 use Rattle.es_steps.proofs.FormParts.{and-right}
 use Rattle.es_steps.proofs.FormRows.{two-parts}
-use Rattle.es_conditions.specs.CoreConditions.{each_passes, each_passes_among, inside_site, is_chain_inside, is_free, is_placed, is_settled, is_unmarked_chain, is_wrapped, put_inside}
+use Rattle.es_conditions.specs.CoreConditions.{each_passes, each_passes_among, inside_site, is_chain_inside, is_free, is_past_chains, is_placed, is_settled, is_unmarked_chain, is_wrapped, put_inside}
 use Rattle.es_conditions.specs.Laws.{Keeps, LawChains, LawChainsOff, called_by, callee_site}
 use Rattle.es_conditions.proofs.Inward.{Known, unmarked}
 use Rattle.es_conditions.proofs.Marks.{first-of, none-where}
@@ -96,8 +96,9 @@ module _ (o : EnvOptions) where
     chaining-keeps = record {
       outside = λ n w bs s t u form e r. and_right (takes_one bs) (in_open_slot n.above) (row-slot o.assumptions.no_document_all n w bs t u r e);
       known = λ n w bs s t u form e r.
-          let it = row-made o.assumptions.no_document_all n w bs t u r (wrapped-of o n t e).known in
-          free-of o n u (wrapped-made o n u (row-slot o.assumptions.no_document_all n w bs t u r e) it.made it.no_chain) it.settled;
+          let known = (wrapped-of o n t e).known in
+          let it = row-made o.assumptions.no_document_all n w bs t u r known in
+          free-of o n u (wrapped-made o n u (row-slot o.assumptions.no_document_all n w bs t u r e) known.past it.made it.no_chain) it.settled;
     }
 
     -- CALLEES
@@ -131,6 +132,7 @@ module _ (o : EnvOptions) where
     record CallKnown (n : Site) (l : Label) (f : Tree) (arguments : Trees) : Type 0 where
       unmarked : flag l.flags ≡ false
       slot : in_open_slot n.above ≡ false
+      past : is_past_chains o n ≡ true
       callee : Part o (scope_at n) f
       among : PartsAmong o (scope_at n) arguments
 
@@ -143,6 +145,7 @@ module _ (o : EnvOptions) where
         record {
           unmarked = unmarked o (flag l.flags) (strays_fields false fs) (h.marked.tidy on);
           slot = outside-slots o n (called_by l f arguments) e (or_right (is_wrapped_for o CallExpression l fs) _ (either-way (holds (is_wrapped_for o) f) _ (inside-holds on f c)));
+          past = h.past;
           callee = part-at o (scope_at n) (sites 0) f (record { scope = λ y u. refl; parameters = λ y u. refl }) passes.0 (record { tidy = λ d. (two-none (flag l.flags && true) (strays false f) (strays_nodes false arguments) (h.marked.tidy d)).0; full = λ d. (two-none false (any_node is_unmarked_chain f) (any_in_trees is_unmarked_chain arguments) (h.marked.full d)).0 });
           among = among-at o (scope_at n) (sites 1) arguments (record { scope = λ y u. refl; parameters = λ y u. refl }) passes.1 (λ d. (two-none (flag l.flags && true) (strays false f) (strays_nodes false arguments) (h.marked.tidy d)).1) (λ d. (two-none false (any_node is_unmarked_chain f) (any_in_trees is_unmarked_chain arguments) (h.marked.full d)).1);
         }
@@ -160,7 +163,7 @@ module _ (o : EnvOptions) where
         let it = called-made (scope_at n) o.assumptions.no_document_all (callee_site n l f arguments) w bs (without_parens f) d r (callee-level n l f arguments call.unmarked) c (part-bare o (scope_at n) f call.callee) in
         let formed = (two-parts (has_form s-Expression f) (trees_form s-Argument s-Argument arguments) (node_form sort CallExpression l (one f then many arguments then done) form).children).0 in
         let made = made-called o (scope_at n) l (put_inside f d) arguments call.unmarked (put-made (scope_at n) f d formed it.made) call.among in
-        free-of o n (called_by l (put_inside f d) arguments) (wrapped-made o n (called_by l (put_inside f d) arguments) call.slot made refl)
+        free-of o n (called_by l (put_inside f d) arguments) (wrapped-made o n (called_by l (put_inside f d) arguments) call.slot call.past made refl)
         (none-where o.es2020.optional_chaining _ (λ d'. and_right (not (flag_at 0 l.flags)) (is_chain_inside (put_inside f d)) (put-chain f d ∙ it.no_chain)))
 
 pub law_chains_proof : LawChains

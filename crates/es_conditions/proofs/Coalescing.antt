@@ -52,5 +52,5 @@ module _ (o : EnvOptions) where
     pub coalescing-keeps : Keeps (is_wrapped o) (is_wrapped o) NullishCoalescingRule
     coalescing-keeps = record {
       outside = λ n w bs s t u form e r. and_right (takes_one bs) (in_open_slot n.above) (row-slot n w bs t u r e);
-      known = λ n w bs s t u form e r. let it = row-made n w bs t u r (wrapped-of o n t e).known in wrapped-made o n u (row-slot n w bs t u r e) it.made it.no_chain;
+      known = λ n w bs s t u form e r. let known = (wrapped-of o n t e).known in let it = row-made n w bs t u r known in wrapped-made o n u (row-slot n w bs t u r e) known.past it.made it.no_chain;
     }

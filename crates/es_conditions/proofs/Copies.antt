@@ -20,7 +20,7 @@ use Rattle.es_steps.specs.Open.{is_body, opened_fields}
 use Rattle.es_steps.specs.Slots.{holds, holds_trees, in_open_slot}
 use Rattle.es_steps.specs.Steps.{Site, Whole, site_in}
 use Rattle.es_steps.specs.WrapRule.{is_wrapped_for, takes_one}
-use Rattle.es_conditions.specs.CoreConditions.{each_passes, each_passes_among, is_free, is_placed, is_unmarked_chain}
+use Rattle.es_conditions.specs.CoreConditions.{each_passes, each_passes_among, is_free, is_past_chains, is_placed, is_unmarked_chain}
 use Rattle.es_conditions.specs.Laws.{Keeps}
 use Rattle.es_conditions.proofs.Marks.{first-of, none-where, second-of}
 use Rattle.es_conditions.proofs.Parts.{Made, Part, PartsAmong, among-at, among-first, among-none, made-called, made-object, made-static, part-at, part-of, some_site}
@@ -168,18 +168,18 @@ module _ (o : EnvOptions) where
         none = λ d. first-of (holds_trees (is_wrapped_for o) ps) false (second-of (is_wrapped_for o ObjectExpression m fs) _ (h.slot d));
       }
 
-  placed-free : (n : Site) (m : Label) (u : Tree) → SoFar o (scope_at n) (in_open_slot n.above) (Some u) → is_free o n (placed m u) ≡ true
-  placed-free n m u (a_copy ts h) =
+  placed-free : (n : Site) (m : Label) (u : Tree) → is_past_chains o n ≡ true → SoFar o (scope_at n) (in_open_slot n.above) (Some u) → is_free o n (placed m u) ≡ true
+  placed-free n m u past (a_copy ts h) =
       let l = record (made [] (false ∷ [])) { start = m.start; stop = m.stop } in
       let v = placed m (call_node the_helper ts) in
       let inside = pieces-among o (scope_at n) (in_open_slot n.above) ts h in
-      let known = known-made o n v (call-made o (scope_at n) (in_open_slot n.above) l (trees ts) refl inside) refl in
+      let known = known-made o n v past (call-made o (scope_at n) (in_open_slot n.above) l (trees ts) refl inside) refl in
       free-of o n v (is-wrapped o n v (record { slot = call-holds o (scope_at n) (in_open_slot n.above) l (trees ts) inside; known = known })) (none-where o.es2020.optional_chaining false (λ on. refl))
 
   spread-free : (n : Site) (w : Whole) (bs : List Bound) (t u : Tree) → SpreadRule n w bs t u → is_free o n t ≡ true → is_free o n u ≡ true
   spread-free n w bs t u (spreads {m = m} {ps = ps} {u = v} unbound used some silent r) e =
       let it = wrapped-of o n t (wrapped-free o n t e) in
-      placed-free n m v (all-so o (scope_at n) (in_open_slot n.above) None [] ps v r some no_copy (no-properties o (scope_at n) (in_open_slot n.above)) (pieces-of n m ps it))
+      placed-free n m v it.known.past (all-so o (scope_at n) (in_open_slot n.above) None [] ps v r some no_copy (no-properties o (scope_at n) (in_open_slot n.above)) (pieces-of n m ps it))
 
   no-temporary : (n : Site) (w : Whole) (bs : List Bound) (t u : Tree) → SpreadRule n w bs t u → (takes_one bs && in_open_slot n.above) ≡ false
   no-temporary n w bs t u (spreads unbound used some silent r) = refl

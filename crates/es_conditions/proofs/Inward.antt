@@ -1,7 +1,7 @@
 -- The conditions of a visit by the core lowerings go inward.
 use Rattle.std.proofs.Common.{◌≡◌, ◌&&◌, ◌||◌, ◌==◌, ℕ, zero, suc, Bool, true, false, refl, sym, subst, ◌∙◌, true≢false, arith}
 use Rattle.std.specs.Prelude.{not}
-use Rattle.std.proofs.lemmas.Bool.{and_parts, and_from, and_right, ne_eqb}
+use Rattle.std.proofs.lemmas.Bool.{and_parts, and_from, and_right, ne_eqb, or_from}
 use Rattle.es_tree.specs.Ancestors.{ancestor, leads_by}
 use Rattle.es_tree.specs.HasForm.{has_form, same_type}
 use Rattle.es_tree.specs.Tree.{Tree, node, Label, Fields, done, ◌then◌, Field, missing, one, many, statements, Trees, empty, ◌before◌}
@@ -12,7 +12,7 @@ use Rattle.es_tree.specs.declared.options.EnvOptions.{EnvOptions}
 use Rattle.es_tree.specs.declared.table.Sort.{Sort}
 use Rattle.es_tree.proofs.NodeForm.{node_form}
 use Rattle.es_runs.specs.Core.{flag, flag_after}
-use Rattle.es_runs.specs.OptionalChaining.{takes_value}
+use Rattle.es_runs.specs.OptionalChaining.{is_chain_kind, takes_value}
 use Rattle.es_runs.specs.Rules.{on_spine, strays, strays_field, strays_fields, strays_nodes}
 use Rattle.es_steps.specs.Open.{OpenFields, is_body, is_statement_body, nothing_pending, opened_fields}
 use Rattle.es_steps.specs.Slots.{closes, holds, holds_field, holds_fields, holds_trees, in_open_slot, is_slot}
@@ -20,7 +20,7 @@ use Rattle.es_steps.specs.Steps.{Site, outline, site_in, site_in_body}
 use Rattle.es_steps.specs.WrapRule.{is_wrapped_for}
 use Rattle.es_changes.specs.Changes.{AsBody, Each, EachBy, EachIn}
 use Rattle.es_changes.specs.Conditions.{holds_before, may_bring}
-use Rattle.es_conditions.specs.CoreConditions.{accepts_chain, are_marked, body_site, core_conditions, each_passes, each_passes_among, each_passes_by, each_passes_in, holds_none_where, is_chain_inside, is_copy_free, is_delete, is_known, is_no_stray, is_placed, is_power_free, is_settled, is_taken_over, is_unmarked_chain, is_within_slot, is_wrapped}
+use Rattle.es_conditions.specs.CoreConditions.{accepts_chain, are_marked, body_site, core_conditions, each_passes, each_passes_among, each_passes_by, each_passes_in, holds_none_where, is_chain_inside, is_copy_free, is_delete, is_in_chain, is_known, is_no_stray, is_past_chains, is_placed, is_power_free, is_settled, is_taken_over, is_unmarked_chain, is_within_slot, is_wrapped}
 use Rattle.es_conditions.specs.Laws.{LawConditions}
 use Rattle.es_conditions.proofs.Marks.{Marked, first-flag, first-of, marked-of, marks-of, no-stray-of, none-where, of-no-stray, or-second, second-flag, second-of, where-asked, where-none}
 
@@ -151,47 +151,62 @@ module _ (o : EnvOptions) where
       let parts = and_parts (each_passes_by (is_placed o) (sites zero) (is_body k zero) f) (each_passes_in (is_placed o) (λ i. sites (suc i)) (λ i. is_body k (suc i)) fs) e in
       (first-by n s k l f fs h parts.0, loose-in (λ i. sites (suc i)) (λ i. is_body k (suc i)) fs (λ i on. taken-later n k l (opened_fields (is_body k) (f then fs)) i) parts.1)
 
+  -- NO CHAIN STANDS AROUND
+
+  abbrev Past : Site → Type 0
+  Past n = is_past_chains o n ≡ true
+
+  settled-kind : (k : AstType) (l : Label) (fs : Fields) → Lowers → is_settled o (node k l fs) ≡ true → is_chain_kind k ≡ false
+  settled-kind ChainExpression l fs on e = absurd (true≢false (where-none o.es2020.optional_chaining true e on))
+  settled-kind k l fs on e = refl
+
+  -- nor does one in a node after whose hooks no chain is left there
+  past-inside : (n : Site) (k : AstType) (l : Label) (fs : Fields) → is_settled o (node k l fs) ≡ true → Past n → (i : ℕ) → Past (site_in n k l (opened_fields (is_body k) fs) i)
+  past-inside n k l fs e q i =
+      none-where o.es2020.optional_chaining (is_chain_kind k || is_in_chain n.above) (λ on. or_from (is_chain_kind k) (is_in_chain n.above) (settled-kind k l fs on e) (where-none o.es2020.optional_chaining (is_in_chain n.above) q on))
+
   -- EACH NODE INSIDE
 
-  before-of : (n : Site) (t : Tree) → (is_within_slot n ≡ true → holds (is_wrapped_for o) t ≡ false) → each_passes (is_placed o) n t ≡ true → Marked o t → ValueOf n t → holds_before (core_conditions o) n t
-  before-of n t f p m v =
+  before-of : (n : Site) (t : Tree) → (is_within_slot n ≡ true → holds (is_wrapped_for o) t ≡ false) → each_passes (is_placed o) n t ≡ true → Marked o t → ValueOf n t → Past n → holds_before (core_conditions o) n t
+  before-of n t f p m v q =
       and_from (holds_none_where (is_within_slot n) o t) (is_known o n t) (none-where (is_within_slot n) (holds (is_wrapped_for o) t) f)
-      (and_from (each_passes (is_placed o) n t && are_marked o t) (is_no_stray o n t) (and_from (each_passes (is_placed o) n t) (are_marked o t) p (marks-of o t m)) (no-stray-of o n t v))
+      (and_from (each_passes (is_placed o) n t && are_marked o t && is_no_stray o n t) (is_past_chains o n)
+      (and_from (each_passes (is_placed o) n t && are_marked o t) (is_no_stray o n t) (and_from (each_passes (is_placed o) n t) (are_marked o t) p (marks-of o t m)) (no-stray-of o n t v)) q)
 
   abbrev None : Bool → Type 0
   None b = Lowers → b ≡ false
 
-  each-of : (n : Site) (ts : Trees) → (is_within_slot n ≡ true → holds_trees (is_wrapped_for o) ts ≡ false) → each_passes_among (is_placed o) n ts ≡ true → None (strays_nodes false ts) → None (any_in_trees is_unmarked_chain ts) → ValueAmong n ts → Each (holds_before (core_conditions o)) n ts
-  each-of n empty f p tidy full v = tt
-  each-of n (t before ts) f p tidy full v =
+  each-of : (n : Site) (ts : Trees) → (is_within_slot n ≡ true → holds_trees (is_wrapped_for o) ts ≡ false) → each_passes_among (is_placed o) n ts ≡ true → None (strays_nodes false ts) → None (any_in_trees is_unmarked_chain ts) → ValueAmong n ts → Past n → Each (holds_before (core_conditions o)) n ts
+  each-of n empty f p tidy full v q = tt
+  each-of n (t before ts) f p tidy full v q =
       let parts = and_parts (each_passes (is_placed o) n t) (each_passes_among (is_placed o) n ts) p in (
-        before-of n t (λ e. first-of (holds (is_wrapped_for o) t) (holds_trees (is_wrapped_for o) ts) (f e)) parts.0 (record { tidy = λ on. first-of (strays false t) (strays_nodes false ts) (tidy on); full = λ on. first-of (any_node is_unmarked_chain t) (any_in_trees is_unmarked_chain ts) (full on) }) v.0,
-        each-of n ts (λ e. second-of (holds (is_wrapped_for o) t) (holds_trees (is_wrapped_for o) ts) (f e)) parts.1 (λ on. second-of (strays false t) (strays_nodes false ts) (tidy on)) (λ on. second-of (any_node is_unmarked_chain t) (any_in_trees is_unmarked_chain ts) (full on)) v.1,
+        before-of n t (λ e. first-of (holds (is_wrapped_for o) t) (holds_trees (is_wrapped_for o) ts) (f e)) parts.0 (record { tidy = λ on. first-of (strays false t) (strays_nodes false ts) (tidy on); full = λ on. first-of (any_node is_unmarked_chain t) (any_in_trees is_unmarked_chain ts) (full on) }) v.0 q,
+        each-of n ts (λ e. second-of (holds (is_wrapped_for o) t) (holds_trees (is_wrapped_for o) ts) (f e)) parts.1 (λ on. second-of (strays false t) (strays_nodes false ts) (tidy on)) (λ on. second-of (any_node is_unmarked_chain t) (any_in_trees is_unmarked_chain ts) (full on)) v.1 q,
       )
 
-  as-body : (n : Site) (b : Bool) (t : Tree) → (is_within_slot n ≡ true → holds (is_wrapped_for o) t ≡ false) → each_passes (is_placed o) (body_site n b t) t ≡ true → Marked o t → ValueOf n t → AsBody (holds_before (core_conditions o)) n b t
-  as-body n true t f p m v = before-of n t f p m v
-  as-body n false t f p m v = before-of (site_in_body n nothing_pending t) t f p m v
+  as-body : (n : Site) (b : Bool) (t : Tree) → (is_within_slot n ≡ true → holds (is_wrapped_for o) t ≡ false) → each_passes (is_placed o) (body_site n b t) t ≡ true → Marked o t → ValueOf n t → Past n → AsBody (holds_before (core_conditions o)) n b t
+  as-body n true t f p m v q = before-of n t f p m v q
+  as-body n false t f p m v q = before-of (site_in_body n nothing_pending t) t f p m v q
 
-  each-by : (n : Site) (b : Bool) (x : Field) → (is_within_slot n ≡ true → holds_field (is_wrapped_for o) x ≡ false) → each_passes_by (is_placed o) n b x ≡ true → None (strays_field false x) → None (any_in_field is_unmarked_chain x) → ValueBy n x → EachBy (holds_before (core_conditions o)) n b x
-  each-by n true missing f p tidy full v = tt
-  each-by n false missing f p tidy full v = tt
-  each-by n true (one t) f p tidy full v = as-body n (is_statement_body t) t f p (record { tidy = tidy; full = full }) v
-  each-by n false (one t) f p tidy full v = before-of n t f p (record { tidy = tidy; full = full }) v
-  each-by n true (many ts) f p tidy full v = each-of n ts f p tidy full v
-  each-by n false (many ts) f p tidy full v = each-of n ts f p tidy full v
-  each-by n true (statements ts) f p tidy full v = each-of n ts f p tidy full v
-  each-by n false (statements ts) f p tidy full v = each-of n ts f p tidy full v
+  each-by : (n : Site) (b : Bool) (x : Field) → (is_within_slot n ≡ true → holds_field (is_wrapped_for o) x ≡ false) → each_passes_by (is_placed o) n b x ≡ true → None (strays_field false x) → None (any_in_field is_unmarked_chain x) → ValueBy n x → Past n → EachBy (holds_before (core_conditions o)) n b x
+  each-by n true missing f p tidy full v q = tt
+  each-by n false missing f p tidy full v q = tt
+  each-by n true (one t) f p tidy full v q = as-body n (is_statement_body t) t f p (record { tidy = tidy; full = full }) v q
+  each-by n false (one t) f p tidy full v q = before-of n t f p (record { tidy = tidy; full = full }) v q
+  each-by n true (many ts) f p tidy full v q = each-of n ts f p tidy full v q
+  each-by n false (many ts) f p tidy full v q = each-of n ts f p tidy full v q
+  each-by n true (statements ts) f p tidy full v q = each-of n ts f p tidy full v q
+  each-by n false (statements ts) f p tidy full v q = each-of n ts f p tidy full v q
 
   each-in : (around : Bool) (sites : ℕ → Site) (c bodies : ℕ → Bool) (fs : Fields) → ((i : ℕ) → is_within_slot (sites i) ≡ true → (c i ≡ false) × (around ≡ true)) → (around ≡ true → holds_fields (is_wrapped_for o) c fs ≡ false) → each_passes_in (is_placed o) sites bodies fs ≡ true →
-      None (strays_fields false fs) → None (any_in_fields is_unmarked_chain fs) → ValueIn sites fs → EachIn (holds_before (core_conditions o)) sites bodies fs
-  each-in around sites c bodies done inside f p tidy full v = tt
-  each-in around sites c bodies (x then fs) inside f p tidy full v =
+      None (strays_fields false fs) → None (any_in_fields is_unmarked_chain fs) → ValueIn sites fs → ((i : ℕ) → Past (sites i)) → EachIn (holds_before (core_conditions o)) sites bodies fs
+  each-in around sites c bodies done inside f p tidy full v q = tt
+  each-in around sites c bodies (x then fs) inside f p tidy full v q =
       let parts = and_parts (each_passes_by (is_placed o) (sites zero) (bodies zero) x) (each_passes_in (is_placed o) (λ i. sites (suc i)) (λ i. bodies (suc i)) fs) p in (
         each-by (sites zero) (bodies zero) x (λ e. let k = inside zero e in open-field (c zero) (holds_field (is_wrapped_for o) x) k.0 (first-of (not (c zero) && holds_field (is_wrapped_for o) x) (holds_fields (is_wrapped_for o) (λ i. c (suc i)) fs) (f k.1))) parts.0
-            (λ on. first-of (strays_field false x) (strays_fields false fs) (tidy on)) (λ on. first-of (any_in_field is_unmarked_chain x) (any_in_fields is_unmarked_chain fs) (full on)) v.0,
+            (λ on. first-of (strays_field false x) (strays_fields false fs) (tidy on)) (λ on. first-of (any_in_field is_unmarked_chain x) (any_in_fields is_unmarked_chain fs) (full on)) v.0 (q zero),
         each-in around (λ i. sites (suc i)) (λ i. c (suc i)) (λ i. bodies (suc i)) fs (λ i. inside (suc i)) (λ e. second-of (not (c zero) && holds_field (is_wrapped_for o) x) (holds_fields (is_wrapped_for o) (λ i. c (suc i)) fs) (f e)) parts.1
-            (λ on. second-of (strays_field false x) (strays_fields false fs) (tidy on)) (λ on. second-of (any_in_field is_unmarked_chain x) (any_in_fields is_unmarked_chain fs) (full on)) v.1,
+            (λ on. second-of (strays_field false x) (strays_fields false fs) (tidy on)) (λ on. second-of (any_in_field is_unmarked_chain x) (any_in_fields is_unmarked_chain fs) (full on)) v.1 (λ i. q (suc i)),
       )
 
   -- no chain is left, so that no spine goes on from the node
@@ -223,15 +238,19 @@ pub record Known (o : EnvOptions) (n : Site) (t : Tree) : Type 0 where
   pub placed : each_passes (is_placed o) n t ≡ true
   pub marked : Marked o t
   pub value : o.es2020.optional_chaining ≡ true → is_chain_inside t ≡ true → takes_value n.need.level ≡ true
+  pub past : is_past_chains o n ≡ true
 
 pub known-of : (o : EnvOptions) (n : Site) (t : Tree) → is_known o n t ≡ true → Known o n t
 known-of o n t e =
-    let all = and_parts (each_passes (is_placed o) n t && are_marked o t) (is_no_stray o n t) e in
+    let last = and_parts (each_passes (is_placed o) n t && are_marked o t && is_no_stray o n t) (is_past_chains o n) e in
+    let all = and_parts (each_passes (is_placed o) n t && are_marked o t) (is_no_stray o n t) last.0 in
     let parts = and_parts (each_passes (is_placed o) n t) (are_marked o t) all.0 in
-    record { placed = parts.0; marked = marked-of o t parts.1; value = of-no-stray o n t all.1 }
+    record { placed = parts.0; marked = marked-of o t parts.1; value = of-no-stray o n t all.1; past = last.1 }
 
 pub is-known : (o : EnvOptions) (n : Site) (t : Tree) → Known o n t → is_known o n t ≡ true
-is-known o n t h = and_from (each_passes (is_placed o) n t && are_marked o t) (is_no_stray o n t) (and_from (each_passes (is_placed o) n t) (are_marked o t) h.placed (marks-of o t h.marked)) (no-stray-of o n t h.value)
+is-known o n t h =
+    and_from (each_passes (is_placed o) n t && are_marked o t && is_no_stray o n t) (is_past_chains o n)
+    (and_from (each_passes (is_placed o) n t && are_marked o t) (is_no_stray o n t) (and_from (each_passes (is_placed o) n t) (are_marked o t) h.placed (marks-of o t h.marked)) (no-stray-of o n t h.value)) h.past
 
 pub law_conditions_proof : LawConditions
 law_conditions_proof o = record {
@@ -252,5 +271,5 @@ law_conditions_proof o = record {
       inside
       (λ on. subst (λ (b : Bool). strays_fields b fs ≡ false) (no-spine o k l fs on free.1) (second-of _ (strays_fields (on_spine k false) fs) (known.marked.tidy on)))
       (λ on. second-of (is_unmarked_chain k l fs) (any_in_fields is_unmarked_chain fs) (known.marked.full on))
-      (value-in o n s k l fs (record { formed = form; tidy = known.marked.tidy; stray = known.value; settled = free.1 }) inside);
+      (value-in o n s k l fs (record { formed = form; tidy = known.marked.tidy; stray = known.value; settled = free.1 }) inside) (past-inside o n k l fs free.1 known.past);
 }

@@ -25,7 +25,7 @@ use Rattle.es_conditions.specs.Laws.{Keeps}
 use Rattle.es_conditions.proofs.Inward.{Known}
 use Rattle.es_conditions.proofs.Marks.{first-of, none-where, second-of}
 use Rattle.es_conditions.proofs.Parts.{AreParts, Made, Part, among-first, among-list, among-none, both-parts, made-assignment, made-call, made-identifier, made-leaf, made-member, made-name, made-sequence, made-static, made-stored, part-bare, part-member, part-of}
-use Rattle.es_conditions.proofs.Rows.{free-of, is-wrapped, known-made, scope_at, outside-slots, parts-of-assignment, parts-of-binary, wrapped-free, wrapped-of}
+use Rattle.es_conditions.proofs.Rows.{free-of, is-wrapped, known-made, scope_at, outside-slots, parts-of-assignment, parts-of-binary, past-free, wrapped-free, wrapped-of}
 use Rattle.es_conditions.proofs.Unwrapped.{no-nullish, power-holds, static-holds, unwrapped}
 
 call-holds-none : (x a b c : Bool) → x ≡ false → a ≡ false → b ≡ false → c ≡ false → (x || (a || ((b || (c || false)) || false))) ≡ false
@@ -150,5 +150,5 @@ module _ (o : EnvOptions) where
       outside = λ n w bs s t u form e r. (row-slot n w bs t u r (wrapped-free o n t e)).outside;
       known = λ n w bs s t u form e r.
           let it = row-made n w bs t u r (wrapped-of o n t (wrapped-free o n t e)).known in
-          free-of o n u (is-wrapped o n u (record { slot = (row-slot n w bs t u r (wrapped-free o n t e)).none; known = known-made o n u it.made it.no_chain })) it.settled;
+          free-of o n u (is-wrapped o n u (record { slot = (row-slot n w bs t u r (wrapped-free o n t e)).none; known = known-made o n u (past-free o n t e) it.made it.no_chain })) it.settled;
     }

@@ -10,7 +10,7 @@ use Rattle.es_steps.specs.Open.{is_body, opened_fields}
 use Rattle.es_steps.specs.Slots.{holds, in_open_slot}
 use Rattle.es_steps.specs.Steps.{Site, site_in}
 use Rattle.es_steps.specs.WrapRule.{is_wrapped_for}
-use Rattle.es_conditions.specs.CoreConditions.{holds_none_where, is_chain_inside, is_free, is_known, is_placed, is_settled, is_wrapped}
+use Rattle.es_conditions.specs.CoreConditions.{holds_none_where, is_chain_inside, is_free, is_known, is_past_chains, is_placed, is_settled, is_wrapped}
 use Rattle.es_conditions.proofs.Inward.{Known, is-known, known-of}
 use Rattle.es_conditions.proofs.Marks.{none-where, where-none}
 use Rattle.es_conditions.proofs.Parts.{Made, Part, two-parts}
@@ -54,14 +54,17 @@ module _ (o : EnvOptions) where
 
   -- WHAT IT LEAVES
 
-  pub known-made : (n : Site) (u : Tree) → Made o (scope_at n) u → is_chain_inside u ≡ false → Known o n u
-  known-made n u h e = record { placed = h.anywhere n (λ y u. refl); marked = h.marked; value = λ on c. absurd (true≢false (sym c ∙ e)) }
+  pub known-made : (n : Site) (u : Tree) → is_past_chains o n ≡ true → Made o (scope_at n) u → is_chain_inside u ≡ false → Known o n u
+  known-made n u past h e = record { placed = h.anywhere n (λ y u. refl); marked = h.marked; value = λ on c. absurd (true≢false (sym c ∙ e)); past = past }
 
-  pub wrapped-made : (n : Site) (u : Tree) → in_open_slot n.above ≡ false → Made o (scope_at n) u → is_chain_inside u ≡ false → is_wrapped o n u ≡ true
-  wrapped-made n u slot h e = is-wrapped n u (record { slot = λ d. absurd (true≢false (sym d ∙ slot)); known = known-made n u h e })
+  pub wrapped-made : (n : Site) (u : Tree) → in_open_slot n.above ≡ false → is_past_chains o n ≡ true → Made o (scope_at n) u → is_chain_inside u ≡ false → is_wrapped o n u ≡ true
+  wrapped-made n u slot past h e = is-wrapped n u (record { slot = λ d. absurd (true≢false (sym d ∙ slot)); known = known-made n u past h e })
 
   pub free-of : (n : Site) (u : Tree) → is_wrapped o n u ≡ true → is_settled o u ≡ true → is_free o n u ≡ true
   free-of n u w e = and_from (is_wrapped o n u) (is_settled o u) w e
 
   pub wrapped-free : (n : Site) (t : Tree) → is_free o n t ≡ true → is_wrapped o n t ≡ true
   wrapped-free n t e = (and_parts (is_wrapped o n t) (is_settled o t) e).0
+
+  pub past-free : (n : Site) (t : Tree) → is_free o n t ≡ true → is_past_chains o n ≡ true
+  past-free n t e = (wrapped-of n t (wrapped-free n t e)).known.past

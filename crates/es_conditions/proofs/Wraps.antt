@@ -108,6 +108,7 @@ module _ (o : EnvOptions) where
         placed = and_from (is_placed o n CallExpression l call) _ (plain o n CallExpression l call refl refl refl) (rw in_arrow refl);
         marked = record { tidy = λ on. rw (known.marked.tidy on) refl; full = λ on. rw (known.marked.full on) refl };
         value = λ on c. absurd (true≢false (sym c));
+        past = known.past;
       }
 
   pub arrow-holds : (t : Tree) → holds (is_wrapped_for o) (called_arrow t) ≡ false

@@ -106,6 +106,15 @@ are_marked o t = not (o.es2020.optional_chaining && (strays false t || any_node 
 abbrev pub is_no_stray : EnvOptions → Site → Tree → Bool
 is_no_stray o n t = not (o.es2020.optional_chaining && is_chain_inside t) || takes_value n.need.level
 
+-- whether a chain is among what stands around
+abbrev pub is_in_chain : List Ancestor → Bool
+is_in_chain [] = false
+is_in_chain (a ∷ up) = is_chain_kind a.kind || is_in_chain up
+
+-- where chains are lowered none stands around: each is lowered before what stands in it is visited
+abbrev pub is_past_chains : EnvOptions → Site → Bool
+is_past_chains o n = not (o.es2020.optional_chaining && is_in_chain n.above)
+
 -- whether a node is a chain, or a chain is lowered with it: one that it calls, without a mark, or deletes
 abbrev pub is_lowered_with_chain : AstType → Label → Fields → Bool
 is_lowered_with_chain ChainExpression l fs = true
@@ -140,7 +149,7 @@ is_placed o n k l fs = is_power_free o n k l fs && is_copy_free o n k l fs && is
 
 -- what is known at every stage
 abbrev pub is_known : EnvOptions → Site → Tree → Bool
-is_known o n t = each_passes (is_placed o) n t && are_marked o t && is_no_stray o n t
+is_known o n t = each_passes (is_placed o) n t && are_marked o t && is_no_stray o n t && is_past_chains o n
 
 abbrev pub is_fit : EnvOptions → Site → Tree → Bool
 is_fit o n t = holds_none_where (is_within_slot n) o t && is_known o n t

@@ -1,6 +1,7 @@
 -- Each rule of a lowering is lawful alone: the core rules that options ask for are together, and what a row asks of its site it asks alone.
 use Rattle.std.proofs.Common.{◌∙◌, refl, ap, inl, inr}
-use Rattle.std.specs.Prelude.{Bool, true, false, ◌&&◌, List, codes, is_some}
+use Rattle.std.specs.Prelude.{Bool, true, false, not, ◌&&◌, List, codes, is_some}
+use Rattle.es_tree.specs.Ancestors.{Ancestor}
 use Rattle.es_tree.specs.Tree.{Tree}
 use Rattle.es_tree.specs.declared.options.EnvOptions.{EnvOptions}
 use Rattle.es_runs.specs.OptionalChaining.{takes_value}
@@ -37,6 +38,7 @@ use Rattle.es_steps.proofs.Spreads.{spread-makes}
 use Rattle.es_valid_steps.specs.Laws.{with_further_rules}
 use Rattle.es_valid_steps.proofs.FurtherForms.{catch-form, spread-form}
 use Rattle.es_changes.specs.Rules.{IsLawfulRule, is_asked_for}
+use Rattle.es_conditions.specs.CoreConditions.{is_in_chain}
 use Rattle.es_changes.proofs.Lawful.{law_lawful_proof}
 use Rattle.es_row_laws.specs.Laws.{LawLawfulRows, exponentiation_under, logical_assignment_under, nullish_coalescing_under, object_spread_under, optional_catch_under, optional_chaining_under, writing_under}
 use Rattle.es_row_laws.proofs.Fewer.{fewer-formed, fewer-lawful}
@@ -68,7 +70,7 @@ on-anywhere true n s x s' y h = spread-anywhere n s x s' y h
 on-anywhere false n s x s' y h = h
 
 pub object-spread-under : (o : EnvOptions) (n : Site) (s : Ledger) (x : Spot) (s' : Ledger) (y : Spot) → object_spread_under o n s x s' y → with_further_rules o n s x s' y
-object-spread-under o n s x s' y h = inr (inr (inr (on-anywhere (is_some o.es2018.object_rest_spread) n s x s' y h)))
+object-spread-under o n s x s' y h = inr (inr (inr (on-anywhere (is_some o.es2018.object_rest_spread) n s x s' y h.0)))
 
 -- WHAT A ROW ASKS OF ITS SITE
 
@@ -146,8 +148,8 @@ optional-catch-lawful o =
 spread-outside : (n : Site) (w : Whole) (bs : List Bound) (t u : Tree) → OutsideSlots SpreadRule n w bs t u → Makes n w bs t u
 spread-outside n w bs t u h = spread-makes n w bs t u h.rule
 
-pub object-spread-lawful : (o : EnvOptions) → IsLawfulRule (object_spread_under o)
-object-spread-lawful o =
+spread-row-lawful : (o : EnvOptions) → IsLawfulRule (where_on (is_some o.es2018.object_rest_spread) (RowRule SpreadRule))
+spread-row-lawful o =
     let on = is_some o.es2018.object_rest_spread in
     let R = RowRule SpreadRule in
     record {
@@ -156,6 +158,16 @@ object-spread-lawful o =
       form = on-form on R (fewer-formed spread-anywhere spread-form);
       local = on-local on R (row-local SpreadRule spreading-local);
     }
+
+-- and fewer where no chain may stand around
+spread-row : (o : EnvOptions) (n : Site) (s : Ledger) (x : Spot) (s' : Ledger) (y : Spot) → object_spread_under o n s x s' y → where_on (is_some o.es2018.object_rest_spread) (RowRule SpreadRule) n s x s' y
+spread-row o n s x s' y h = h.0
+
+past-local : (o : EnvOptions) → IsLocal (λ s. is_asked_for) (object_spread_under o)
+past-local o n m s s' x y a h = ((spread-row-lawful o).local n m s s' x y a h.0, ap (λ (up : List Ancestor). not (o.es2020.optional_chaining && is_in_chain up)) a.above ∙ h.1)
+
+pub object-spread-lawful : (o : EnvOptions) → IsLawfulRule (object_spread_under o)
+object-spread-lawful o = fewer-lawful (spread-row o) (spread-row-lawful o) (past-local o)
 
 pub law_lawful_rows_proof : LawLawfulRows
 law_lawful_rows_proof o = record {

@@ -457,5 +457,5 @@ law_stable_rows_proof o = record {
   optional_chaining = fewer-constructs o (optional-chaining-under o);
   exponentiation = fewer-constructs o (exponentiation-under o);
   optional_catch = all-stable (optional_catch_under o) (optional-catch-lawful o) (on-acts o.es2019.optional_catch_binding CatchRule catch-acts);
-  object_spread = all-stable (object_spread_under o) (object-spread-lawful o) (on-acts (is_some o.es2018.object_rest_spread) (RowRule SpreadRule) (row-acts SpreadRule spreading-acts));
+  object_spread = all-stable (object_spread_under o) (object-spread-lawful o) (λ n s s' t u slot h. on-acts (is_some o.es2018.object_rest_spread) (RowRule SpreadRule) (row-acts SpreadRule spreading-acts) n s s' t u slot h.0);
 }

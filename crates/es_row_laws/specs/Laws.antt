@@ -1,5 +1,5 @@
 -- The rules of lowerings one by one: each is lawful alone, and the constructs of a lowering stay what they are under steps of all.
-use Rattle.std.specs.Prelude.{◌&&◌, is_some, not, Bool, true, false}
+use Rattle.std.specs.Prelude.{◌≡◌, ◌&&◌, is_some, not, Bool, true, false}
 use Rattle.es_tree.specs.Constructs.{field_at, is_chain, is_exponentiation, is_logical_assignment, is_nullish_coalescing, is_object_spread, is_optional_catch}
 use Rattle.es_tree.specs.Parens.{without_parens}
 use Rattle.es_tree.specs.Tree.{Tree, node, Label, Fields, Field, one}
@@ -18,6 +18,7 @@ use Rattle.es_steps.specs.Rules.{Writing, either_rule}
 use Rattle.es_steps.specs.Steps.{Ledger, Site, Spot}
 use Rattle.es_steps.specs.WrapRule.{WrapRule}
 use Rattle.es_changes.specs.Rules.{IsLawfulRule}
+use Rattle.es_conditions.specs.CoreConditions.{is_past_chains}
 use Rattle.es_traverse.specs.Laws.{IsStable}
 
 -- THE RULE OF EACH LOWERING under some options
@@ -37,8 +38,9 @@ exponentiation_under o = where_on o.es2016.exponentiation_operator (RowRule Expo
 abbrev pub optional_catch_under : EnvOptions → Site → Ledger → Spot → Ledger → Spot → Type 0
 optional_catch_under o = where_on o.es2019.optional_catch_binding CatchRule
 
+-- object spread, where no chain stands around that is lowered
 abbrev pub object_spread_under : EnvOptions → Site → Ledger → Spot → Ledger → Spot → Type 0
-object_spread_under o = where_on (is_some o.es2018.object_rest_spread) (RowRule SpreadRule)
+object_spread_under o n s x s' y = where_on (is_some o.es2018.object_rest_spread) (RowRule SpreadRule) n s x s' y × (is_past_chains o n ≡ true)
 
 -- that of the type that keeps what is pending
 abbrev pub writing_under : EnvOptions → Site → Ledger → Spot → Ledger → Spot → Type 0

@@ -345,5 +345,5 @@ law_first_conditions_proof o p form right none =
     let placed = both-pass (names_free o) (chain_test o) the_program u (names-free o p form none) chains in
     let tidy = sym (strays-bare false u) ∙ (ap (strays false) same ∙ (strays-bare false p ∙ tidy-tree [] p keeps)) in
     let full = sym (full-bare u) ∙ (ap (any_node is_unmarked_chain) same ∙ (full-bare p ∙ full-tree [] p keeps)) in
-    let known = is-known o the_program u (record { placed = placed; marked = record { tidy = λ on. tidy; full = λ on. full }; value = λ on c. absurd (true≢false (sym c ∙ no-chain u (source-form p form))) }) in
+    let known = is-known o the_program u (record { placed = placed; marked = record { tidy = λ on. tidy; full = λ on. full }; value = λ on c. absurd (true≢false (sym c ∙ no-chain u (source-form p form))); past = none-where o.es2020.optional_chaining false (λ on. refl) }) in
     and_from (is_wrapped o the_program u) (is_settled o u) (and_from (holds_none_where false o u) (is_known o the_program u) refl known) (settled o u (source-form p form))

@@ -4,7 +4,7 @@ use Rattle.std.proofs.lemmas.Bool.{or_parts}
 use Rattle.std.specs.Prelude.{not, ◌&&◌, ◌||◌, bytes_eq, codes}
 use Rattle.es_changes.specs.Fits.{Fits}
 use Rattle.es_changes.specs.Moments.{Moment, ledger_with, whole_at}
-use Rattle.es_conditions.specs.CoreConditions.{are_marked, each_passes, holds_none_where, is_chain_inside, is_free, is_known, is_lowered_with_chain, is_no_stray, is_placed, is_settled, is_unmarked_chain, is_wrapped, put_inside}
+use Rattle.es_conditions.specs.CoreConditions.{are_marked, each_passes, holds_none_where, is_chain_inside, is_free, is_known, is_lowered_with_chain, is_no_stray, is_past_chains, is_placed, is_settled, is_unmarked_chain, is_wrapped, put_inside}
 use Rattle.es_conditions.specs.Laws.{ChainsKnown, Keeps, LawChains, LawChainsOff, called_by, callee_site}
 use Rattle.es_resolution.specs.Declarations.{Bound}
 use Rattle.es_resolution.specs.Seen.{seen}
@@ -147,7 +147,7 @@ module _ (laws : LawChains) (rows : RowKeeps) (o : EnvOptions) (on : o.es2020.op
   marked-here : (n : Site) → is_wrapped o n t ≡ true → AreMarked t
   marked-here n k =
       let known = right (holds_none_where (in_open_slot n.above) o t) (is_known o n t) k in
-      let marks = right (each_passes (is_placed o) n t) (are_marked o t) (left (each_passes (is_placed o) n t && are_marked o t) (is_no_stray o n t) known) in
+      let marks = right (each_passes (is_placed o) n t) (are_marked o t) (left (each_passes (is_placed o) n t && are_marked o t) (is_no_stray o n t) (left (each_passes (is_placed o) n t && are_marked o t && is_no_stray o n t) (is_past_chains o n) known)) in
       let none = un-not (o.es2020.optional_chaining && (strays false t || any_node is_unmarked_chain t)) marks in
       (or_parts (strays false t) (any_node is_unmarked_chain t) (sym (ap (λ b. b && (strays false t || any_node is_unmarked_chain t)) on) ∙ none)).1
 

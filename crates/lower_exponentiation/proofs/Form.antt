@@ -20,7 +20,7 @@ use Rattle.es_runs.specs.Rules.{is_marked}
 use Rattle.es_steps.specs.Open.{is_body, opened_fields}
 use Rattle.es_steps.specs.Slots.{in_open_slot}
 use Rattle.es_steps.specs.Steps.{Site, site_in}
-use Rattle.es_conditions.specs.CoreConditions.{are_marked, each_passes, each_passes_in, holds_none_where, is_chain_placed, is_copy_free, is_free, is_known, is_no_stray, is_placed, is_power_free, is_settled, is_wrapped}
+use Rattle.es_conditions.specs.CoreConditions.{are_marked, each_passes, each_passes_in, holds_none_where, is_chain_placed, is_copy_free, is_free, is_known, is_no_stray, is_past_chains, is_placed, is_power_free, is_settled, is_wrapped}
 use Rattle.es_traverse.specs.Laws.{is_construct}
 use Rattle.lower_exponentiation.specs.Exponentiations.{has_exponentiation_key, has_exponentiation_member, is_exponentiation_target, is_lowerable_exponentiation}
 use Rattle.lower_temporaries.proofs.ParensForm.{inside-form}
@@ -37,7 +37,8 @@ pub passed : (o : EnvOptions) (n : Site) (t : Tree) → is_free o n t ≡ true �
 passed o n (node k l fs) h =
     let t = node k l fs in
     let known = and_right (holds_none_where (in_open_slot n.above) o t) (is_known o n t) (and_left (is_wrapped o n t) (is_settled o t) h) in
-    let two = and_left (each_passes (is_placed o) n t && are_marked o t) (is_no_stray o n t) known in
+    let three = and_left (each_passes (is_placed o) n t && are_marked o t && is_no_stray o n t) (is_past_chains o n) known in
+    let two = and_left (each_passes (is_placed o) n t && are_marked o t) (is_no_stray o n t) three in
     let each = and_left (each_passes (is_placed o) n t) (are_marked o t) two in
     record {
       power = and_left (is_power_free o n k l fs) (is_copy_free o n k l fs) (and_left (is_power_free o n k l fs && is_copy_free o n k l fs) (is_chain_placed o n k) (and_left (is_placed o n k l fs) (each_passes_in (is_placed o) (site_in n k l (opened_fields (is_body k) fs)) (is_body k) fs) each));

@@ -20,7 +20,8 @@ use Rattle.es_steps.specs.Slots.{in_open_slot}
 use Rattle.es_steps.specs.Steps.{Site, site_in}
 use Rattle.es_valid_steps.proofs.FurtherForms.{or-later, or-none}
 use Rattle.es_changes.specs.Moments.{whole_at}
-use Rattle.es_conditions.specs.CoreConditions.{are_marked, each_passes, each_passes_in, holds_none_where, is_chain_placed, is_copy_free, is_free, is_known, is_no_stray, is_placed, is_power_free, is_settled, is_wrapped}
+use Rattle.es_conditions.specs.CoreConditions.{are_marked, each_passes, each_passes_in, holds_none_where, is_chain_placed, is_copy_free, is_free, is_known, is_no_stray, is_past_chains, is_placed, is_power_free, is_settled, is_wrapped}
+use Rattle.es_conditions.proofs.Rows.{past-free}
 use Rattle.es_traverse.specs.Laws.{Seen, is_construct}
 use Rattle.es_traverse.specs.Loads.{load}
 use Rattle.lower_temporaries.specs.Takings.{moment_of}
@@ -95,7 +96,8 @@ copies-free : (o : EnvOptions) (n : Site) (t : Tree) → is_free o n t ≡ true 
 copies-free o n (node k l fs) h =
     let t = node k l fs in
     let known = (and_parts (holds_none_where (in_open_slot n.above) o t) (is_known o n t) (and_parts (is_wrapped o n t) (is_settled o t) h).0).1 in
-    let each = (and_parts (each_passes (is_placed o) n t) (are_marked o t) (and_parts (each_passes (is_placed o) n t && are_marked o t) (is_no_stray o n t) known).0).0 in
+    let all = (and_parts (each_passes (is_placed o) n t && are_marked o t && is_no_stray o n t) (is_past_chains o n) known).0 in
+    let each = (and_parts (each_passes (is_placed o) n t) (are_marked o t) (and_parts (each_passes (is_placed o) n t && are_marked o t) (is_no_stray o n t) all).0).0 in
     let names = (and_parts (is_placed o n k l fs) (each_passes_in (is_placed o) (site_in n k l (opened_fields (is_body k) fs)) (is_body k) fs) each).0 in
     (and_parts (is_power_free o n k l fs) (is_copy_free o n k l fs) (and_parts (is_power_free o n k l fs && is_copy_free o n k l fs) (is_chain_placed o n k) names).0).1
 
@@ -119,8 +121,11 @@ literal-lowers old new names l ps c some on all =
         made = [];
         ids = all.ids;
         takes = takes-none all.reads;
-        row = λ n fits free. subst (λ u. SpreadRule n (whole_at (moment_of old)) [] (seen names (literal l ps)) u) made
-            (spreads (copies-unbound old.options n (seen names (literal l ps)) on spread free) (fits.stands.asked (codes "babelHelpers") refl) spread (properties-declare fits.sort m (seen_among names (trees ps)) fits.formed) way);
+        row = λ n fits free. (
+          subst (λ u. SpreadRule n (whole_at (moment_of old)) [] (seen names (literal l ps)) u) made
+              (spreads (copies-unbound old.options n (seen names (literal l ps)) on spread free) (fits.stands.asked (codes "babelHelpers") refl) spread (properties-declare fits.sort m (seen_among names (trees ps)) fits.formed) way),
+          past-free old.options n (seen names (literal l ps)) free,
+        );
         nodes = omega (arith, all.nodes, size-seen names (placed l c), placed-size l c, size-seen names (literal l ps));
         lighter = omega (arith, all.lighter, load-seen names (placed l c), placed-load l c, load-seen names (literal l ps));
       };

@@ -1,15 +1,18 @@
 -- How the properties of a literal are copied one by one: what was copied so far, and what stands in the place of the literal at the end.
-use Rattle.std.specs.Prelude.{◌≡◌, ◌||◌, ℕ, ◌+◌, ◌≤◌, List, [], ◌∷◌, map, Option, Some, None, codes, is_some}
+use Rattle.std.specs.Prelude.{◌≡◌, ◌||◌, true, ℕ, ◌+◌, ◌≤◌, List, [], ◌∷◌, map, Option, Some, None, codes, is_some}
 use Rattle.es_tree.specs.Constructs.{is_spread}
 use Rattle.es_tree.specs.Tree.{Tree, Trees, ◌before◌, kind_of, tree_size, trees, trees_size}
 use Rattle.es_tree.specs.Words.{Text}
 use Rattle.es_tree.specs.declared.ast_type.AstType.TheVariants.{CallExpression}
+use Rattle.es_tree.specs.declared.options.EnvOptions.{EnvOptions}
 use Rattle.es_scope.specs.declared.context.TraverseCtx.{TraverseCtx}
+use Rattle.es_resolution.specs.Declarations.{Bound}
 use Rattle.es_resolution.specs.Seen.{seen, seen_among}
 use Rattle.es_steps.specs.Nodes.{object_node}
 use Rattle.es_steps.specs.ObjectRest.{helper_node}
 use Rattle.es_steps.specs.ObjectSpread.{Copies, SpreadRule, last_copied}
-use Rattle.es_conditions.specs.CoreConditions.{is_free}
+use Rattle.es_steps.specs.Steps.{Site, Whole}
+use Rattle.es_conditions.specs.CoreConditions.{is_free, is_past_chains}
 use Rattle.es_traverse.specs.Laws.{Known}
 use Rattle.es_traverse.specs.Loads.{load, trees_load}
 use Rattle.lower_temporaries.specs.Replacings.{Replaces}
@@ -75,7 +78,11 @@ pub record CopiesAll (old new : TraverseCtx TransformState) (ps : List Tree) (u 
   pub nodes : tree_size u ≤ trees_size (trees ps) + ids
   pub lighter : ids + load u ≤ trees_load (trees ps)
 
--- A literal became a call by the rule, wherever it fits and `babelHelpers` is unbound.
+-- the row, where no chain stands around that is lowered
+abbrev pub SpreadRow : EnvOptions → Site → Whole → List Bound → Tree → Tree → Type 0
+SpreadRow o n w bs t u = SpreadRule n w bs t u × (is_past_chains o n ≡ true)
+
+-- A literal became a call by the rule, wherever it fits, `babelHelpers` is unbound and no chain stands around that is lowered.
 pub record Lowers (old new : TraverseCtx TransformState) (t u : Tree) : Type 0 where
-  pub replaces : Replaces (Known (is_free old.options)) SpreadRule (moment_of old) t (moment_of new) u
+  pub replaces : Replaces (Known (is_free old.options)) (SpreadRow old.options) (moment_of old) t (moment_of new) u
   pub made : kind_of u ≡ CallExpression

@@ -15,6 +15,6 @@ use Rattle.lower_temporaries.specs.RowProfiles.{constructs_where, row_profile}
 abbrev pub object_spread_constructs : Bool → Hook → AstType → Label → Fields → Bool
 object_spread_constructs = constructs_where is_object_spread
 
--- It counts on chains being lowered, and leaves them so.
+-- It counts on chains being lowered, and leaves them so; none stands around what it lowers.
 abbrev pub object_spread_profile : EnvOptions → Profile
 object_spread_profile o = row_profile o (is_free o) (is_free o) (object_spread_under o) (object_spread_constructs (is_some o.es2018.object_rest_spread)) (λ t. kind_of t ≡ CallExpression)
