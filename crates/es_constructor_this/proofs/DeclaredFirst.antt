@@ -21,7 +21,7 @@ use Rattle.es_resolution.specs.Resolved.{Place, Resolved, around, bound_by, fram
 use Rattle.es_steps.specs.Patterns.{no_name_of}
 use Rattle.es_steps.specs.Steps.{Site, Whole}
 use Rattle.es_pattern_moves.proofs.MovedInward.{sites}
-use Rattle.es_constructor_this.specs.ConstructorThis.{is_var}
+use Rattle.es_set_this.specs.ConstructorThis.{is_var}
 use Rattle.es_constructor_this.specs.SetRows.{Finds, names_apart}
 use Rattle.es_constructor_this.proofs.SameSites.{SameField, SameTrees, sites-are}
 use Rattle.es_constructor_this.proofs.ThisNames.{this_declared}

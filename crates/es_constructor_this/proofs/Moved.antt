@@ -24,7 +24,7 @@ use Rattle.es_steps.proofs.FormOpen.{AreProperFields, AreProperTrees, IsProper, 
 use Rattle.es_steps.proofs.Opened.{finished-opened, finished-trees}
 use Rattle.es_steps.proofs.Taken.{pending_in, this_in, top_in, whole_in}
 use Rattle.es_super_calls.specs.SuperCalls.{calls_it}
-use Rattle.es_constructor_this.specs.ConstructorThis.{then_set}
+use Rattle.es_set_this.specs.ConstructorThis.{then_set}
 use Rattle.es_constructor_this.specs.SetRows.{Puts, Settles, SuperRow, body_with}
 use Rattle.es_constructor_this.specs.SetRows.Settles.{ended, settled}
 use Rattle.es_constructor_this.specs.SetRows.SuperRow.{after_call, in_block, in_case}

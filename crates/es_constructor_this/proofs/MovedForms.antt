@@ -22,7 +22,7 @@ use Rattle.es_steps.proofs.FormMembers.{formed-first, one-sort}
 use Rattle.es_steps.proofs.FormParts.{IsFormed, IsText, formed-stored}
 use Rattle.es_steps.proofs.FormPlaces.{agree-kept, outlined, outlined_field, outlined_trees}
 use Rattle.es_steps.proofs.FormSorts.{form-narrower}
-use Rattle.es_constructor_this.specs.ConstructorThis.{set_statement, then_set}
+use Rattle.es_set_this.specs.ConstructorThis.{set_statement, then_set}
 use Rattle.es_constructor_this.specs.SetRows.{Puts}
 use Rattle.es_constructor_this.specs.SetRows.Puts.{behind, further, nowhere}
 use Rattle.es_constructor_this.proofs.Moved.{Moved, MovedAll, MovedBy, MovedIn, takes_none}

@@ -27,7 +27,7 @@ use Rattle.es_valid_names.proofs.ClearSteps.{FieldKept, FieldsKept, TreeKept, in
 use Rattle.es_valid_names.proofs.Grown.{Grown, grown-both, grown-self, new_list, no_list, same_list}
 use Rattle.es_valid_names.proofs.MoreAround.{Allows, allows-in, clear-more, clear-more-all, clear-more-by, clear-more-in}
 use Rattle.es_valid_names.proofs.Mute.{mute-expression}
-use Rattle.es_constructor_this.specs.ConstructorThis.{then_set}
+use Rattle.es_set_this.specs.ConstructorThis.{then_set}
 use Rattle.es_constructor_this.specs.SetRows.{Puts}
 use Rattle.es_constructor_this.specs.SetRows.Puts.{behind, further, nowhere}
 use Rattle.es_constructor_this.proofs.Moved.{Moved, MovedAll, MovedBy, MovedIn}

@@ -38,7 +38,7 @@ use Rattle.es_valid_steps.proofs.Moves.{in-moved}
 use Rattle.es_valid_steps.proofs.Offers.{Alike, Near, Offers, near-self, near-within, offers-self, offers-within}
 use Rattle.es_valid_rests.proofs.FacedNodes.{alike-faced, here-faced}
 use Rattle.es_valid_using.proofs.UsingPlaces.{below-rest}
-use Rattle.es_constructor_this.specs.ConstructorThis.{set_statement, then_set}
+use Rattle.es_set_this.specs.ConstructorThis.{set_statement, then_set}
 use Rattle.es_constructor_this.specs.SetRows.{Puts}
 use Rattle.es_constructor_this.specs.SetRows.Puts.{behind, further, nowhere}
 use Rattle.es_constructor_this.proofs.Moved.{Moved, MovedAll, MovedBy, MovedIn}

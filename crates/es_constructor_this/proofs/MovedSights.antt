@@ -159,7 +159,7 @@ module _ {B : Bound → Type 0} where
     tested _ _ same (later {fs = fs} {gs = gs} m) (suc n) = tested fs gs same m n
 
   -- KINDS
-  pub kind-same : {c : Bool} (q : AstType → Bool) → q CallExpression ≡ false → ((b : Bound) (l : Label) (fs : Fields) → q (kind_of (Rattle.es_constructor_this.specs.ConstructorThis.then_set (Rattle.es_steps.specs.Nodes.identifier b) l fs)) ≡ false) → (t u : Tree) → Moved B c t u → q (kind_of u) ≡ q (kind_of t)
+  pub kind-same : {c : Bool} (q : AstType → Bool) → q CallExpression ≡ false → ((b : Bound) (l : Label) (fs : Fields) → q (kind_of (Rattle.es_set_this.specs.ConstructorThis.then_set (Rattle.es_steps.specs.Nodes.identifier b) l fs)) ≡ false) → (t u : Tree) → Moved B c t u → q (kind_of u) ≡ q (kind_of t)
   kind-same q e d t u (called {l = l} {fs = fs} b h calls) = d b l fs ∙ sym e
   kind-same q e d t u (blocked b h p) = refl
   kind-same q e d t u (cased b h p) = refl

@@ -15,7 +15,7 @@ use Rattle.es_resolution.proofs.Roles.{role-same}
 use Rattle.es_steps.specs.Identifiers.{HasIdentifier, IsIdentifier, OwnPasses, Passes, PassesAll, PassesBy, PassesIn}
 use Rattle.es_steps.specs.Nodes.{identifier}
 use Rattle.es_steps.proofs.Written.{nil-right}
-use Rattle.es_constructor_this.specs.ConstructorThis.{set_statement, then_set}
+use Rattle.es_set_this.specs.ConstructorThis.{set_statement, then_set}
 use Rattle.es_constructor_this.specs.SetRows.{Puts}
 use Rattle.es_constructor_this.specs.SetRows.Puts.{behind, further, nowhere}
 use Rattle.es_constructor_this.proofs.Moved.{Moved, MovedAll, MovedBy, MovedIn, takes_none}

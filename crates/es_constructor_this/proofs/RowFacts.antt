@@ -24,7 +24,7 @@ use Rattle.es_steps.proofs.Sites.{alike-in, site-inwards}
 use Rattle.es_steps.proofs.Taken.{pending_in}
 use Rattle.es_using_rows.proofs.UsedQuiet.{IsQuiet}
 use Rattle.es_using_rows.proofs.UsedRows.{Kept}
-use Rattle.es_constructor_this.specs.ConstructorThis.{without_value}
+use Rattle.es_set_this.specs.ConstructorThis.{without_value}
 use Rattle.es_constructor_this.specs.SetRows.{Finds, Settles, SetRow, SuperRow, inside_body, is_constructor_body}
 use Rattle.es_constructor_this.specs.SetRows.Settles.{ended, settled}
 use Rattle.es_constructor_this.specs.SetRows.SetRow.{sets, settles}

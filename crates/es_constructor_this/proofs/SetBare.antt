@@ -12,7 +12,7 @@ use Rattle.es_tree.specs.declared.ast_type.AstType.TheVariants.{FunctionBody, Id
 use Rattle.es_super_calls.specs.Constructors.{is_body, standing_in}
 use Rattle.es_super_calls.specs.declared.standing.ClassStanding.{ClassStanding}
 use Rattle.es_super_calls.proofs.BareStandings.{standing-bare}
-use Rattle.es_constructor_this.specs.ConstructorThis.{is_made_name, is_this, is_var, names_among, plain_name, set_this, this_name, up_to_super, with_this_set, without_value}
+use Rattle.es_set_this.specs.ConstructorThis.{is_made_name, is_this, is_var, names_among, plain_name, set_this, this_name, up_to_super, with_this_set, without_value}
 use Rattle.es_constructor_this.proofs.SuperBare.{among-bare, bare-twice, field-twice, fields-twice, trees-twice, up-bare, with-alike}
 use Rattle.es_constructor_this.proofs.Written.{Writes, as_declared, as_word, tree-words, write_behind, write_here, write_in_body, write_statements, write_this, write_this_among, write_this_by, write_this_in}
 

@@ -30,7 +30,7 @@ use Rattle.es_steps.proofs.RulesWrite.{writes-nodes}
 use Rattle.es_steps.proofs.Stays.{stand-all}
 use Rattle.es_steps.proofs.Taken.{Allows, Lawful, LedgerPasses, NodesKept, Outcome, Writes, at-least, nothing_new, whole_in}
 use Rattle.es_steps.proofs.Written.{nil-right}
-use Rattle.es_constructor_this.specs.ConstructorThis.{is_var, without_value}
+use Rattle.es_set_this.specs.ConstructorThis.{is_var, without_value}
 use Rattle.es_constructor_this.specs.SetRows.{DeclaresThis, Puts, SetRow, body_with, names_apart}
 use Rattle.es_constructor_this.specs.SetRows.DeclaresThis.{declares_this}
 use Rattle.es_constructor_this.specs.SetRows.SetRow.{sets, settles}

@@ -15,7 +15,7 @@ use Rattle.es_super_calls.specs.Constructors.{is_body, standing_in}
 use Rattle.es_super_calls.specs.SuperCalls.{calls_it, is_super_statement}
 use Rattle.es_super_calls.specs.declared.standing.ClassStanding.{ClassStanding}
 use Rattle.es_super_calls.specs.declared.standing.ClassStanding.TheVariants.{Elsewhere}
-use Rattle.es_constructor_this.specs.ConstructorThis.{after_super, after_super_among, after_super_by, after_super_in, in_arguments, is_left, is_list, names_among, plain_name, set_behind, set_here, set_in_body, set_statement, set_statements, set_this, set_this_among, set_this_by, set_this_in, settled, then_set, this_name, up_to_super, with_this_set, without_value}
+use Rattle.es_set_this.specs.ConstructorThis.{after_super, after_super_among, after_super_by, after_super_in, in_arguments, is_left, is_list, names_among, plain_name, set_behind, set_here, set_in_body, set_statement, set_statements, set_this, set_this_among, set_this_by, set_this_in, settled, then_set, this_name, up_to_super, with_this_set, without_value}
 use Rattle.es_constructor_this.specs.Laws.{LawSetNone}
 use Rattle.es_constructor_this.proofs.SameConstructs.{Blind, FieldAlike, FieldsAlike, construct-same, field-alike, list-alike, many-alike, one-alike}
 use Rattle.es_constructor_this.proofs.SetKept.{not-both}

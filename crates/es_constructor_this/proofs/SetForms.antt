@@ -20,7 +20,7 @@ use Rattle.es_steps.specs.Steps.Spot.{at_node}
 use Rattle.es_steps.proofs.FormMembers.{formed-first}
 use Rattle.es_steps.proofs.FormParts.{IsText}
 use Rattle.es_steps.proofs.FormRules.{FormLawful, NodeFormed, nodes-only, nothing-new}
-use Rattle.es_constructor_this.specs.ConstructorThis.{without_value}
+use Rattle.es_set_this.specs.ConstructorThis.{without_value}
 use Rattle.es_constructor_this.specs.SetRows.{DeclaresThis, Puts, SetRow, Settles, body_with, inside_body}
 use Rattle.es_constructor_this.specs.SetRows.DeclaresThis.{declares_this}
 use Rattle.es_constructor_this.specs.SetRows.SetRow.{sets, settles}

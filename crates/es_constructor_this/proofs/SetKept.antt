@@ -11,7 +11,7 @@ use Rattle.es_tree.specs.declared.ast_type.AstType.TheVariants.{CallExpression, 
 use Rattle.es_super_calls.specs.Constructors.{is_body, standing_in}
 use Rattle.es_super_calls.specs.SuperCalls.{calls_it, is_super_call, is_super_statement}
 use Rattle.es_super_calls.specs.declared.standing.ClassStanding.{ClassStanding}
-use Rattle.es_constructor_this.specs.ConstructorThis.{is_closed, names_among, names_by, names_first, names_in, names_it}
+use Rattle.es_set_this.specs.ConstructorThis.{is_closed, names_among, names_by, names_first, names_in, names_it}
 use Rattle.es_constructor_this.proofs.Written.{Writes, write_here, write_in_body, write_this, write_this_among, write_this_by, write_this_in}
 use Rattle.es_constructor_this.proofs.SameSites.{SameField, SameFields, SameTree, SameTrees, fields-same, fields-then, first-same, later-same, many-same, missing-same, node-same, one-same, statements-same}
 use Rattle.es_constructor_this.proofs.UnnamedParts.{scope-none}

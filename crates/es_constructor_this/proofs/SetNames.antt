@@ -19,7 +19,7 @@ use Rattle.es_valid_names.proofs.ClearSteps.{TreeKept}
 use Rattle.es_valid_names.proofs.Grown.{Grown, grown-self}
 use Rattle.es_valid_names.proofs.MoreAround.{clear-more}
 use Rattle.es_valid_rests.proofs.RestNamesRules.{GoodLawful, named-good}
-use Rattle.es_constructor_this.specs.ConstructorThis.{without_value}
+use Rattle.es_set_this.specs.ConstructorThis.{without_value}
 use Rattle.es_constructor_this.specs.SetRows.{DeclaresThis, Puts, SetRow, body_with}
 use Rattle.es_constructor_this.specs.SetRows.DeclaresThis.{declares_this}
 use Rattle.es_constructor_this.specs.SetRows.SetRow.{sets, settles}

@@ -20,7 +20,7 @@ use Rattle.es_valid_steps.proofs.Loose.{Loose, loose}
 use Rattle.es_valid_rests.proofs.FacedNodes.{alike-faced, here-faced}
 use Rattle.es_valid_rests.proofs.FacedSteps.{FaceLawful, NodeFaced}
 use Rattle.es_valid_rests.proofs.RestPlaces.{declaration-here, declarator-loose, still_other}
-use Rattle.es_constructor_this.specs.ConstructorThis.{is_var, without_value}
+use Rattle.es_set_this.specs.ConstructorThis.{is_var, without_value}
 use Rattle.es_constructor_this.specs.SetRows.{DeclaresThis, Puts, SetRow, body_with}
 use Rattle.es_constructor_this.specs.SetRows.DeclaresThis.{declares_this}
 use Rattle.es_constructor_this.specs.SetRows.SetRow.{sets, settles}

@@ -7,7 +7,7 @@ use Rattle.es_steps.specs.Nodes.{made}
 use Rattle.es_steps.specs.Steps.{Ledger, Site, Spot}
 use Rattle.es_steps.proofs.RuleLaws.{AtNodes}
 use Rattle.es_super_calls.specs.SuperCalls.{is_super_statement}
-use Rattle.es_constructor_this.specs.ConstructorThis.{set_statement, with_this_set}
+use Rattle.es_set_this.specs.ConstructorThis.{set_statement, with_this_set}
 use Rattle.es_constructor_this.specs.SetRows.{Puts, SetRow, SuperRow}
 use Rattle.es_constructor_this.specs.SetRows.Puts.{behind, further, nowhere}
 use Rattle.es_constructor_this.specs.SetRows.SetRow.{sets, settles}

@@ -9,7 +9,7 @@ use Rattle.es_tree.specs.declared.ast_type.AstType.{AstType}
 use Rattle.es_tree.specs.declared.ast_type.AstType.TheVariants.{FunctionBody, Identifier, VariableDeclaration, VariableDeclarator}
 use Rattle.es_super_calls.specs.Constructors.{is_body, standing_in}
 use Rattle.es_super_calls.specs.declared.standing.ClassStanding.{ClassStanding}
-use Rattle.es_constructor_this.specs.ConstructorThis.{is_made_name, is_this, is_var, set_behind, set_here, set_in_body, set_statements, set_this, set_this_among, set_this_by, set_this_in, this_name}
+use Rattle.es_set_this.specs.ConstructorThis.{is_made_name, is_this, is_var, set_behind, set_here, set_in_body, set_statements, set_this, set_this_among, set_this_by, set_this_in, this_name}
 use Rattle.es_constructor_this.specs.Laws.{LawSetStays}
 
 module _ (made : Text → Bool) (none : (x : Text) → made x ≡ false) where

@@ -30,7 +30,7 @@ use Rattle.es_pattern_moves.proofs.Settled.{Sound}
 use Rattle.es_valid_steps.specs.PlaceRules.{Keeps, KeepsAll, KeepsBy, KeepsIn}
 use Rattle.es_super_calls.specs.Constructors.{is_body as is_standing_body, standing_in}
 use Rattle.es_super_calls.specs.declared.standing.ClassStanding.{ClassStanding}
-use Rattle.es_constructor_this.specs.ConstructorThis.{is_var, names_among, this_name, up_to_super, with_this_set, without_value}
+use Rattle.es_set_this.specs.ConstructorThis.{is_var, names_among, this_name, up_to_super, with_this_set, without_value}
 use Rattle.es_constructor_this.specs.SetRows.{SetRow, Settles, inside_body, is_constructor_body, names_apart}
 use Rattle.es_constructor_this.specs.SetRows.DeclaresThis.{declares_this}
 use Rattle.es_constructor_this.specs.SetRows.SetRow.{sets, settles}

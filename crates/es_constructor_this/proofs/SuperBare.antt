@@ -13,7 +13,7 @@ use Rattle.es_steps.specs.Nodes.{made, this_expression}
 use Rattle.es_pattern_moves.proofs.BareMoves.{place-bare}
 use Rattle.es_super_calls.specs.SuperCalls.{calls_it, is_super_statement}
 use Rattle.es_super_calls.proofs.BareCalls.{call-bare, calls_it-bare, statement-bare}
-use Rattle.es_constructor_this.specs.ConstructorThis.{after_super, after_super_among, after_super_by, after_super_in, in_arguments, is_closed, is_left, is_list, names_among, names_by, names_first, names_in, names_it, set_statement, settled, then_set, up_to_super, with_this_set}
+use Rattle.es_set_this.specs.ConstructorThis.{after_super, after_super_among, after_super_by, after_super_in, in_arguments, is_closed, is_left, is_list, names_among, names_by, names_first, names_in, names_it, set_statement, settled, then_set, up_to_super, with_this_set}
 
 -- TWICE
 

@@ -28,7 +28,7 @@ use Rattle.es_steps.proofs.Stays.{stand-all, standing}
 use Rattle.es_steps.proofs.Taken.{Allows, Lawful, LedgerPasses, NodesKept, Outcome, Writes, at-least, none-some, nothing_new, whole_in}
 use Rattle.es_steps.proofs.Taken.Goes.{to_list}
 use Rattle.es_steps.proofs.Written.{body_place}
-use Rattle.es_constructor_this.specs.ConstructorThis.{then_set}
+use Rattle.es_set_this.specs.ConstructorThis.{then_set}
 use Rattle.es_constructor_this.specs.SetRows.{Finds, Puts, SuperRow}
 use Rattle.es_constructor_this.specs.SetRows.Puts.{behind, further, nowhere}
 use Rattle.es_constructor_this.specs.SetRows.SuperRow.{after_call, in_block, in_case}

@@ -34,7 +34,7 @@ use Rattle.es_valid_steps.specs.PlaceRules.{Keeps, KeepsAll, KeepsBy, KeepsIn}
 use Rattle.es_super_calls.specs.Constructors.{standing_in}
 use Rattle.es_super_calls.specs.declared.standing.ClassStanding.{ClassStanding}
 use Rattle.es_super_calls.specs.SuperCalls.{calls_it, is_super_call, is_super_statement}
-use Rattle.es_constructor_this.specs.ConstructorThis.{after_super, after_super_among, after_super_by, after_super_in, in_arguments, is_closed, is_left, names_among, names_by, names_first, names_in, names_it, set_statement, settled as settled_node, then_set, up_to_super, with_this_set}
+use Rattle.es_set_this.specs.ConstructorThis.{after_super, after_super_among, after_super_by, after_super_in, in_arguments, is_closed, is_left, names_among, names_by, names_first, names_in, names_it, set_statement, settled as settled_node, then_set, up_to_super, with_this_set}
 use Rattle.es_constructor_this.proofs.Written.{Writes, write_here, write_this, write_this_among, write_this_by, write_this_in}
 use Rattle.es_constructor_this.specs.SetRows.{Finds, Puts, Settles, SuperRow}
 use Rattle.es_constructor_this.specs.SetRows.Puts.{behind, further, nowhere}

@@ -8,7 +8,7 @@ use Rattle.es_tree.specs.Words.{Text}
 use Rattle.es_tree.specs.declared.ast_type.AstType.TheVariants.{Identifier, ThisExpression, VariableDeclaration, VariableDeclarator}
 use Rattle.es_super_calls.specs.Constructors.{standing_in}
 use Rattle.es_super_calls.specs.declared.standing.ClassStanding.{ClassStanding}
-use Rattle.es_constructor_this.specs.ConstructorThis.{is_made_name, is_this, is_var, this_name}
+use Rattle.es_set_this.specs.ConstructorThis.{is_made_name, is_this, is_var, this_name}
 use Rattle.es_constructor_this.proofs.SetKept.{here-other}
 use Rattle.es_constructor_this.proofs.Written.{Writes, write_here, write_this, write_this_among, write_this_in}
 

@@ -27,7 +27,7 @@ use Rattle.es_pattern_moves.proofs.MovedInward.{sites}
 use Rattle.es_pattern_moves.proofs.NamesApart.{place-role}
 use Rattle.es_pattern_moves.proofs.PatternNames.{both-out, if-out, none-out}
 use Rattle.es_pattern_moves.proofs.Settled.{Sound}
-use Rattle.es_constructor_this.specs.ConstructorThis.{is_closed, names_among, names_by, names_in, names_it}
+use Rattle.es_set_this.specs.ConstructorThis.{is_closed, names_among, names_by, names_in, names_it}
 use Rattle.es_constructor_this.proofs.SameSites.{sites-are}
 
 -- NOTHING IS DECLARED around a body, a function expression and an arrow

@@ -10,7 +10,7 @@ use Rattle.es_resolution.specs.Declarations.{symbol_of}
 use Rattle.es_steps.specs.Nodes.{identifier}
 use Rattle.es_super_calls.specs.Constructors.{is_body, standing_in}
 use Rattle.es_super_calls.specs.declared.standing.ClassStanding.{ClassStanding}
-use Rattle.es_constructor_this.specs.ConstructorThis.{names_among, plain_name, set_behind, set_here, set_in_body, set_statements, set_this, set_this_among, set_this_by, set_this_in, this_name, up_to_super, with_this_set, without_value}
+use Rattle.es_set_this.specs.ConstructorThis.{names_among, plain_name, set_behind, set_here, set_in_body, set_statements, set_this, set_this_among, set_this_by, set_this_in, this_name, up_to_super, with_this_set, without_value}
 
 -- for this name, which this statement declares
 abbrev pub Writes : Type 0

@@ -20,7 +20,7 @@ use Rattle.es_valid_names.specs.Laws.{StepsKeepRules}
 use Rattle.es_valid_rests.specs.Laws.{with_rests}
 use Rattle.es_super_calls.specs.declared.standing.ClassStanding.{ClassStanding}
 use Rattle.es_super_calls.specs.declared.standing.ClassStanding.TheVariants.{Elsewhere}
-use Rattle.es_constructor_this.specs.ConstructorThis.{set_this}
+use Rattle.es_set_this.specs.ConstructorThis.{set_this}
 use Rattle.es_constructor_this.specs.SetRows.{SetRow}
 
 -- STEPS OF THE ROW, those of the other lowerings among them, keep form,

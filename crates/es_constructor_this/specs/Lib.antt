@@ -1,4 +1,2 @@
-pub mod ConstructorThis
 pub mod SetRows
 pub mod Laws
-pub mod Examples

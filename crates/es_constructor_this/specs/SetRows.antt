@@ -14,7 +14,7 @@ use Rattle.es_steps.specs.Open.{Additions, Pending, opened, opened_fields, is_bo
 use Rattle.es_steps.specs.Patterns.{no_name_of}
 use Rattle.es_steps.specs.Steps.{Ledger, ledger, Site, Spot, Step, Steps, Whole, at_node, site_in}
 use Rattle.es_super_calls.specs.SuperCalls.{calls_it}
-use Rattle.es_constructor_this.specs.ConstructorThis.{is_var, set_statement, then_set, without_value}
+use Rattle.es_set_this.specs.ConstructorThis.{is_var, set_statement, then_set, without_value}
 
 -- WHAT THE NAME FINDS at a place: its binding, which is in use
 

@@ -2,7 +2,6 @@
 //! that steps of one row reach it, and what they keep. The functions do nothing: their contracts are laws over the definitions.
 #![tactic(auto)]
 
-ghost use Rattle.es_constructor_this.specs.Examples.{LawSetExamples};
 ghost use Rattle.es_constructor_this.specs.Laws.{LawSetBindings, LawSetBound, LawSetForm, LawSetNone, LawSetOutside, LawSetRules, LawSetSize, LawSetStays, LawSetSteps};
 
 /// Whatever steps of the row and of the other lowerings' rules are taken, as options ask for them, from a program that has form, at whatever places and
@@ -49,9 +48,4 @@ pub fn law_set_none()
 /// Where no name was made a tree stays as it is.
 pub fn law_set_stays()
     ensures { LawSetStays }
-{}
-
-/// A constructor and what becomes of it, one that calls no `super`, one of a class that extends none, and one whose first name wasn't made.
-pub fn law_set_examples()
-    ensures { LawSetExamples }
 {}

@@ -3,7 +3,7 @@ use Rattle.std.proofs.Common.{[], inr}
 use Rattle.es_steps.specs.Steps.{Ledger, Site, Spot}
 use Rattle.es_valid_rests.specs.Laws.{with_rests}
 use Rattle.es_super_calls.specs.declared.standing.ClassStanding.TheVariants.{Elsewhere}
-use Rattle.es_constructor_this.specs.ConstructorThis.{set_this}
+use Rattle.es_set_this.specs.ConstructorThis.{set_this}
 use Rattle.es_constructor_this.specs.SetRows.{SetRow}
 use Rattle.es_constructor_this.proofs.SetLaws.{law_set_steps_proof}
 use Rattle.es_constructor_this.proofs.SetPrograms.{set_bindings_proof, set_form_proof, set_outside_proof, set_rules_proof}

@@ -9,7 +9,7 @@ use Rattle.es_steps.specs.CoreRules.{where_on}
 use Rattle.es_steps.specs.Steps.{Ledger, Site, Spot}
 use Rattle.es_reached.specs.Reached.{IsResultOf}
 use Rattle.es_super_calls.specs.declared.standing.ClassStanding.TheVariants.{Elsewhere}
-use Rattle.es_constructor_this.specs.ConstructorThis.{set_this}
+use Rattle.es_set_this.specs.ConstructorThis.{set_this}
 use Rattle.es_constructor_this.specs.SetRows.{SetRow}
 
 -- the row, where arrows are lowered

@@ -6,7 +6,7 @@ use Rattle.es_tree.specs.HasForm.{same_type}
 use Rattle.es_tree.specs.Tree.{Tree, node, Label, Fields, done, ◌then◌, missing, one, many, statements, kind_of}
 use Rattle.es_tree.specs.declared.ast_type.AstType.{AstType}
 use Rattle.es_tree.specs.declared.ast_type.AstType.TheVariants.{CallExpression, ChainExpression, ExpressionStatement, Super}
-use Rattle.es_constructor_this.specs.ConstructorThis.{after_super, after_super_in, in_arguments, is_left, is_list, settled, then_set}
+use Rattle.es_set_this.specs.ConstructorThis.{after_super, after_super_in, in_arguments, is_left, is_list, settled, then_set}
 use Rattle.es_super_calls.specs.SuperCalls.{calls_it, is_super_call, is_super_statement}
 
 -- NO CALL

@@ -4,7 +4,7 @@ use Rattle.std.specs.Prelude.{◌||◌}
 use Rattle.es_tree.specs.Views.{plain_field, plain_fields}
 use Rattle.es_tree.specs.Words.{Text}
 use Rattle.es_tree.specs.declared.node.Field.{Field as NodeField}
-use Rattle.es_constructor_this.specs.ConstructorThis.{names_by, names_in}
+use Rattle.es_set_this.specs.ConstructorThis.{names_by, names_in}
 
 both-false : (a b : Bool) → a ≡ false → b ≡ false → (a || b) ≡ false
 both-false a b e d = rw (e, d) refl

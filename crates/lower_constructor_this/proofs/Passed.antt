@@ -9,7 +9,7 @@ use Rattle.es_tree.specs.Views.{plain_field, plain_fields}
 use Rattle.es_tree.specs.declared.ast_type.AstType.{AstType}
 use Rattle.es_tree.specs.declared.node.Field.{Field as NodeField}
 use Rattle.es_tree.specs.declared.node.Field.TheVariants.{Many, Missing, One, Statements}
-use Rattle.es_constructor_this.specs.ConstructorThis.{after_super, after_super_among, after_super_by, after_super_in, in_arguments}
+use Rattle.es_set_this.specs.ConstructorThis.{after_super, after_super_among, after_super_by, after_super_in, in_arguments}
 use Rattle.lower_constructor_this.specs.Parts.{arguments_by}
 
 -- what is left to go through is as it was

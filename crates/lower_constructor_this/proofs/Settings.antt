@@ -13,7 +13,7 @@ use Rattle.es_tree.specs.Words.{Text}
 use Rattle.es_tree.specs.declared.ast_type.AstType.TheVariants.{Identifier, VariableDeclaration, VariableDeclarator}
 use Rattle.es_tree.specs.declared.node.Field.{Field as NodeField}
 use Rattle.es_tree.specs.declared.node.Field.TheVariants.{Many, Missing, One, Statements}
-use Rattle.es_constructor_this.specs.ConstructorThis.{after_super, in_arguments, is_made_name, is_this, is_var, names_among, set_behind, set_in_body, set_statement, set_statements, this_name, up_to_super, with_this_set, without_value}
+use Rattle.es_set_this.specs.ConstructorThis.{after_super, in_arguments, is_made_name, is_this, is_var, names_among, set_behind, set_in_body, set_statement, set_statements, this_name, up_to_super, with_this_set, without_value}
 use Rattle.es_super_calls.specs.SuperCalls.{is_super_statement}
 use Rattle.lower_fresh_names.specs.Names.{name_with}
 use Rattle.lower_constructor_this.specs.Parts.{declaration_without, name_to_set, unless_named}

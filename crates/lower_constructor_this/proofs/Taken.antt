@@ -8,7 +8,7 @@ use Rattle.es_tree.specs.Words.{Text}
 use Rattle.es_tree.specs.declared.ast_type.AstType.TheVariants.{Identifier, ThisExpression}
 use Rattle.es_tree.specs.declared.node.Field.{Field as NodeField}
 use Rattle.es_tree.specs.declared.node.Field.TheVariants.{Many, Missing, One, Statements}
-use Rattle.es_constructor_this.specs.ConstructorThis.{is_made_name, is_this}
+use Rattle.es_set_this.specs.ConstructorThis.{is_made_name, is_this}
 use Rattle.lower_constructor_this.specs.Parts.{in_declarations, in_declarators, in_parts, parts_without}
 
 -- NO FIELDS

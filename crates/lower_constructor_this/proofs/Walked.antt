@@ -5,7 +5,7 @@ use Rattle.es_tree.specs.Tree.{Tree, node, Label, kind_of, label_of, fields_of, 
 use Rattle.es_tree.specs.Views.{plain_field, plain_fields}
 use Rattle.es_tree.specs.Words.{Text}
 use Rattle.es_tree.specs.declared.node.Field.{Field as NodeField}
-use Rattle.es_constructor_this.specs.ConstructorThis.{set_here, set_this, set_this_among, set_this_by, set_this_in}
+use Rattle.es_set_this.specs.ConstructorThis.{set_here, set_this, set_this_among, set_this_by, set_this_in}
 use Rattle.es_super_calls.specs.Constructors.{standing_in}
 use Rattle.es_super_calls.specs.declared.standing.ClassStanding.{ClassStanding}
 use Rattle.es_tree.specs.declared.ast_type.AstType.{AstType}

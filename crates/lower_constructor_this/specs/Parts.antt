@@ -5,7 +5,7 @@ use Rattle.es_tree.specs.Tree.{Tree, node, Fields, done, ◌then◌, Field, miss
 use Rattle.es_tree.specs.Words.{Text}
 use Rattle.es_tree.specs.declared.ast_type.AstType.TheVariants.{Identifier, VariableDeclarator}
 use Rattle.es_steps.specs.Nodes.{assign_node, placed, sequence_node, this_expression}
-use Rattle.es_constructor_this.specs.ConstructorThis.{after_super_in, is_made_name, is_this, names_among, set_here, settled, this_name}
+use Rattle.es_set_this.specs.ConstructorThis.{after_super_in, is_made_name, is_this, names_among, set_here, settled, this_name}
 use Rattle.es_super_calls.specs.declared.standing.ClassStanding.{ClassStanding}
 use Rattle.es_super_calls.specs.declared.standing.ClassStanding.TheVariants.{Elsewhere}
 use Rattle.lower_constructor_this.specs.declared.places.Standings.{Standings}

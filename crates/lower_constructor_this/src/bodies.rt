@@ -14,7 +14,7 @@ ghost use Rattle.es_tree.specs.Fresh.{is_among};
 ghost use Rattle.es_tree.specs.Tree.{trees};
 ghost use Rattle.es_tree.specs.Views.{plain_fields};
 ghost use Rattle.es_scope.specs.Contexts.{made_of};
-ghost use Rattle.es_constructor_this.specs.ConstructorThis.{set_in_body, set_statements};
+ghost use Rattle.es_set_this.specs.ConstructorThis.{set_in_body, set_statements};
 ghost use Rattle.lower_constructor_this.specs.Parts.{name_to_set};
 
 use crate::calls::set_in_list;

@@ -14,7 +14,7 @@ ghost use Rattle.std.specs.List.{position};
 ghost use Rattle.es_tree.specs.Heads.{head_of};
 ghost use Rattle.es_tree.specs.Tree.{fields_of, kind_of, trees};
 ghost use Rattle.es_tree.specs.Views.{plain_field, plain_fields};
-ghost use Rattle.es_constructor_this.specs.ConstructorThis.{after_super, after_super_among, after_super_by, after_super_in, in_arguments, is_closed, is_left, is_list, up_to_super, with_this_set};
+ghost use Rattle.es_set_this.specs.ConstructorThis.{after_super, after_super_among, after_super_by, after_super_in, in_arguments, is_closed, is_left, is_list, up_to_super, with_this_set};
 ghost use Rattle.es_super_calls.specs.SuperCalls.{is_super_statement};
 ghost use Rattle.lower_constructor_this.specs.Parts.{arguments_by, parts_passed, set_in_place};
 ghost use Rattle.lower_fresh_names.specs.Names.{name_with};

@@ -14,7 +14,7 @@ ghost use Rattle.es_tree.specs.Fresh.{is_among};
 ghost use Rattle.es_tree.specs.Tree.{trees};
 ghost use Rattle.es_tree.specs.Views.{plain_field, plain_fields};
 ghost use Rattle.es_scope.specs.Contexts.{made_of};
-ghost use Rattle.es_constructor_this.specs.ConstructorThis.{is_made_name, is_this, this_name};
+ghost use Rattle.es_set_this.specs.ConstructorThis.{is_made_name, is_this, this_name};
 ghost use Rattle.lower_constructor_this.specs.Parts.{declaration_without, declarators_without, in_declarations, in_declarator, in_declarators, in_parts, name_by, name_for, parts_without, text_of};
 
 use es_scope::context::TraverseCtx;

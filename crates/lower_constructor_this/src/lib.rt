@@ -25,7 +25,7 @@ mod walk;
 ghost use Rattle.es_tree.specs.Fresh.{is_among};
 ghost use Rattle.es_scope.specs.Contexts.{made_of};
 ghost use Rattle.std.specs.Prelude.{◌≡◌, OnOk};
-ghost use Rattle.es_constructor_this.specs.ConstructorThis.{set_this};
+ghost use Rattle.es_set_this.specs.ConstructorThis.{set_this};
 ghost use Rattle.es_super_calls.specs.declared.standing.ClassStanding.TheVariants.{Elsewhere};
 
 use crate::walk::walk_node;

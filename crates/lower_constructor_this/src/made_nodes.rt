@@ -13,7 +13,7 @@
 ghost use Rattle.std.specs.Prelude.{◌≡◌, IfOk};
 ghost use Rattle.es_tree.specs.Tree.{label_of};
 ghost use Rattle.es_steps.specs.Nodes.{assign_node, this_expression};
-ghost use Rattle.es_constructor_this.specs.ConstructorThis.{set_statement};
+ghost use Rattle.es_set_this.specs.ConstructorThis.{set_statement};
 ghost use Rattle.lower_fresh_names.specs.Names.{name_with};
 ghost use Rattle.lower_constructor_this.specs.Parts.{sequence_of};
 

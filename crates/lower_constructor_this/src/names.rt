@@ -12,7 +12,7 @@ ghost use Rattle.es_tree.specs.Tree.{trees};
 ghost use Rattle.es_tree.specs.Views.{plain_field, plain_fields};
 ghost use Rattle.es_tree.specs.declared.ids.NodeId.{NodeId};
 ghost use Rattle.es_tree.specs.declared.ids.Span.{Span};
-ghost use Rattle.es_constructor_this.specs.ConstructorThis.{names_among, names_by, names_first, names_in, names_it};
+ghost use Rattle.es_set_this.specs.ConstructorThis.{names_among, names_by, names_first, names_in, names_it};
 ghost use Rattle.lower_constructor_this.specs.Parts.{is_called};
 
 use crate::calls::is_closed;

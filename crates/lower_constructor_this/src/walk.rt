@@ -14,7 +14,7 @@ ghost use Rattle.es_tree.specs.Fresh.{is_among};
 ghost use Rattle.es_tree.specs.Tree.{trees};
 ghost use Rattle.es_tree.specs.Views.{plain_field, plain_fields};
 ghost use Rattle.es_scope.specs.Contexts.{made_of};
-ghost use Rattle.es_constructor_this.specs.ConstructorThis.{set_this, set_this_among, set_this_by, set_this_in};
+ghost use Rattle.es_set_this.specs.ConstructorThis.{set_this, set_this_among, set_this_by, set_this_in};
 ghost use Rattle.lower_constructor_this.specs.Parts.{set_at, standing_at};
 
 use crate::bodies::set_in_body;

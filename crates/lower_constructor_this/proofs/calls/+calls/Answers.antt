@@ -4,7 +4,7 @@ use Rattle.std.proofs.lemmas.List.Quantifiers.{position-Some}
 use Rattle.std.specs.List.{position}
 use Rattle.es_tree.specs.Heads.{head_of, label}
 use Rattle.es_super_calls.specs.SuperCalls.{is_super_statement}
-use Rattle.es_constructor_this.specs.ConstructorThis.{in_arguments}
+use Rattle.es_set_this.specs.ConstructorThis.{in_arguments}
 use Rattle.lower_fresh_names.specs.Names.{name_with}
 use Rattle.lower_constructor_this.proofs.Passed.{arguments-gone, fields-all, fields-more, fields-smaller, list-all, list-more, list-smaller}
 use Rattle.lower_constructor_this.proofs.Settings.{set-at, set-nowhere}

@@ -5,7 +5,7 @@ use Rattle.es_tree.specs.Heads.{head_of, label}
 use Rattle.es_tree.specs.Views.{plain, plain_fields}
 use Rattle.es_tree.specs.declared.kind.Kind.TheVariants.{Identifier as k-Identifier}
 use Rattle.es_scope.specs.Contexts.{made_of}
-use Rattle.es_constructor_this.specs.ConstructorThis.{is_made_name}
+use Rattle.es_set_this.specs.ConstructorThis.{is_made_name}
 use Rattle.lower_constructor_this.proofs.Taken.{no-name}
 use Rattle.lower_constructor_this.proofs.declarations.is_made_name.Goals as goal
 

@@ -3,7 +3,7 @@ use Rattle.std.specs.Prelude.{◌==◌}
 use Rattle.es_tree.specs.Heads.{head_of, label}
 use Rattle.es_tree.specs.Views.{plain, plain_fields}
 use Rattle.es_tree.specs.declared.kind.Kind.TheVariants.{ThisExpression as k-ThisExpression}
-use Rattle.es_constructor_this.specs.ConstructorThis.{is_this}
+use Rattle.es_set_this.specs.ConstructorThis.{is_this}
 use Rattle.lower_constructor_this.proofs.Taken.{this-alone}
 use Rattle.lower_constructor_this.proofs.declarations.is_this.Goals as goal
 

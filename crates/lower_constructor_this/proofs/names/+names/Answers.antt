@@ -3,7 +3,7 @@ use Rattle.es_tree.proofs.Sizes.{fields_size-within, trees_size-within}
 use Rattle.es_tree.specs.Heads.{head_of, label}
 use Rattle.es_tree.specs.Names.{is_name_place}
 use Rattle.es_tree.specs.Views.{plain_field}
-use Rattle.es_constructor_this.specs.ConstructorThis.{names_by}
+use Rattle.es_set_this.specs.ConstructorThis.{names_by}
 use Rattle.lower_constructor_this.proofs.NamePlaces.{none-in, one-in}
 use Rattle.lower_constructor_this.proofs.names.+names.Goals as goal
 

@@ -5,7 +5,7 @@ use Rattle.es_tree.specs.Tree.{field_size, fields_size, tree_size, trees, trees_
 use Rattle.es_tree.specs.Views.{plain_field, plain_fields}
 use Rattle.es_tree.specs.declared.ids.NodeId.{NodeId}
 use Rattle.es_tree.specs.declared.ids.Span.{Span}
-use Rattle.es_constructor_this.specs.ConstructorThis.{names_among, names_in}
+use Rattle.es_set_this.specs.ConstructorThis.{names_among, names_in}
 use Rattle.lower_constructor_this.proofs.names.+names.Given as goal
 
 -- each call goes to a smaller part, or to one of the same size at a lower rank

@@ -7,7 +7,7 @@ use Rattle.es_tree.specs.Words.{Text}
 use Rattle.es_tree.specs.declared.ast_type.AstType.TheVariants.{ClassDeclaration, FunctionBody, FunctionExpression, MethodDefinition, Super, VariableDeclaration, VariableDeclarator}
 use Rattle.es_steps.specs.Nodes.{assign_node, block_node, call_node, made, sequence_node, statement_node, this_expression, this_statement, word}
 use Rattle.es_super_calls.specs.declared.standing.ClassStanding.TheVariants.{Elsewhere}
-use Rattle.es_constructor_this.specs.ConstructorThis.{plain_name, set_this}
+use Rattle.es_set_this.specs.ConstructorThis.{plain_name, set_this}
 
 -- `f();`, `super(a)` and `super(a);`
 abbrev pub calls : Text → Tree

@@ -1,0 +1,2 @@
+pub mod ConstructorThis
+pub mod Examples
