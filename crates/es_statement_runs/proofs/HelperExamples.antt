@@ -22,10 +22,10 @@ abbrev moves : List Move
 moves = answer (a_host 1) ∷ answer (a_host 2) ∷ answer (a_host 3) ∷ answer (a_host 4) ∷ answer (a_host 5) ∷ answer (a_host 6) ∷ answer (a_host 7) ∷ answer (a_host 8) ∷ []
 
 -- `y = { a: 1, ...b, c: 2 }`
-abbrev nested_source : Tree
+abbrev pub nested_source : Tree
 nested_source = script (statement (assign (x_ (codes "y")) (object (property (codes "a") (numeral (codes "1")) before spread_of (x_ (codes "b")) before property (codes "c") (numeral (codes "2")) before empty))) before empty)
 
-abbrev nested_lowered : Tree
+abbrev pub nested_lowered : Tree
 nested_lowered = script (statement (assign (x_ (codes "y")) (helper_of (codes "objectSpread2") (helper_of (codes "objectSpread2") (object (property (codes "a") (numeral (codes "1")) before empty) before x_ (codes "b") before empty) before object empty before object (property (codes "c") (numeral (codes "2")) before empty) before empty))) before empty)
 
 nested_asks : questions (run by_global 0 nested_lowered undefined moves) ≡ questions (run by_global 0 nested_source undefined moves)
@@ -36,40 +36,40 @@ nested_asked : questions (run by_global 0 nested_source undefined moves) ≡
 nested_asked = refl
 
 -- `const { a, [k]: b, ...r } = e;`
-abbrev declares : Text → Trees → Tree
+abbrev pub declares : Text → Trees → Tree
 declares kind ds = worded VariableDeclaration kind (many ds then done)
 
-abbrev declarator : Tree → Tree → Tree
+abbrev pub declarator : Tree → Tree → Tree
 declarator p e = plain VariableDeclarator (one p then one e then done)
 
-abbrev pattern : Trees → Tree
+abbrev pub pattern : Trees → Tree
 pattern ms = plain ObjectPattern (many ms then done)
 
-abbrev named : Text → Tree
+abbrev pub named : Text → Tree
 named a = node PatternProperty (made [] (true ∷ false ∷ [])) (one (x_ a) then one (x_ a) then done)
 
-abbrev computed : Tree → Text → Tree
+abbrev pub computed : Tree → Text → Tree
 computed k b = node PatternProperty (made [] (false ∷ true ∷ [])) (one k then one (x_ b) then done)
 
-abbrev rest : Text → Tree
+abbrev pub rest : Text → Tree
 rest r = plain RestElement (one (x_ r) then done)
 
 abbrev array_of : Fields → Tree
 array_of es = plain ArrayExpression es
 
-abbrev split_source : Tree
+abbrev pub split_source : Tree
 split_source = script (declares (codes "const") (declarator (pattern (named (codes "a") before computed (x_ (codes "k")) (codes "b") before rest (codes "r") before empty)) (x_ (codes "e")) before empty) before empty)
 
-abbrev key_array : Tree
-key_array = called (member (array_of (one (string (codes "a")) then one (x_ (codes "_k")) then done)) (codes "map")) (member (x_ (codes "babelHelpers")) (codes "toPropertyKey") before empty)
+abbrev pub key_array : Text → Tree
+key_array k = called (member (array_of (one (string (codes "a")) then one (x_ k) then done)) (codes "map")) (member (x_ (codes "babelHelpers")) (codes "toPropertyKey") before empty)
 
-abbrev split_lowered : Tree
+abbrev pub split_lowered : Tree
 split_lowered = script (declares (codes "const") (
     declarator (x_ (codes "_e")) (x_ (codes "e")) before
     declarator (pattern (named (codes "a") before empty)) (x_ (codes "_e")) before
     declarator (x_ (codes "_k")) (x_ (codes "k")) before
     declarator (pattern (computed (x_ (codes "_k")) (codes "b") before empty)) (x_ (codes "_e")) before
-    declarator (x_ (codes "r")) (helper_of (codes "objectWithoutProperties") (x_ (codes "_e") before key_array before empty)) before empty) before empty)
+    declarator (x_ (codes "r")) (helper_of (codes "objectWithoutProperties") (x_ (codes "_e") before key_array (codes "_k") before empty)) before empty) before empty)
 
 split_asks : questions (run by_global 0 split_lowered undefined moves) ≡ questions (run by_global 0 split_source undefined moves)
 split_asks = refl

@@ -10,6 +10,7 @@ pub mod RunLaws
 pub mod HelperExamples
 pub mod SpreadExamples
 pub mod WorkedRuns
+pub mod ThrownRuns
 pub mod Instances
 pub mod Rows
 pub mod Kernels

@@ -59,13 +59,13 @@ inner_closed : questions (run no_helpers 2 two_loops undefined (answer (a_host 1
 inner_closed = refl
 
 -- `l: for (using x = a; b; ) { continue l; }`, with the labels inside the made `try`
-abbrev for_using : Tree
+abbrev pub for_using : Tree
 for_using = script (label_l (plain ForStatement (one (declaration (codes "using") (codes "x") (x_ (codes "a"))) then one (x_ (codes "b")) then missing then one (block (continue_l before empty)) then done)) before empty)
 
-abbrev for_lowered : Tree
+abbrev pub for_lowered : Tree
 for_lowered = script (wrap (label_l (plain ForStatement (one (taken_by_ctx (codes "x") (x_ (codes "a"))) then one (x_ (codes "b")) then missing then one (block (continue_l before empty)) then done)) before empty) before empty)
 
-abbrev for_moves : List Move
+abbrev pub for_moves : List Move
 for_moves = answer (a_host 1) ∷ answer (a_host 2) ∷ yes_answer ∷ answer null ∷ answer null ∷ []
 
 for_asks : questions (run by_global 1 for_using undefined for_moves) ≡ of_statement (dispose (a_host 1) (a_host 2)) ∷ read (codes "b") ∷ read (codes "b") ∷ of_statement (method (a_host 1)) ∷ read (codes "a") ∷ []

@@ -23,7 +23,7 @@ use Rattle.es_statement_runs.proofs.HelperExamples.{import_of, default_of}
 abbrev moves : List Move
 moves = answer (a_host 1) ∷ answer (a_host 2) ∷ answer (a_host 3) ∷ answer (a_host 4) ∷ answer (a_host 5) ∷ answer (a_host 6) ∷ answer (a_host 7) ∷ []
 
-abbrev throw_statement : Tree → Tree
+abbrev pub throw_statement : Tree → Tree
 throw_statement e = plain ThrowStatement (one e then done)
 
 abbrev break_statement : Tree
