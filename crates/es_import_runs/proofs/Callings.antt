@@ -2,7 +2,8 @@
 use Rattle.std.proofs.Common.{◌≡◌, ◌∙◌, ℕ, zero, suc, refl, sym, ap, List, [], ◌∷◌, ◌++◌}
 use Rattle.std.proofs.lemmas.Bool.{and_parts}
 use Rattle.std.proofs.lemmas.Slice.Eq.{bytes_eq-Decides}
-use Rattle.std.specs.Prelude.{◌&&◌, ◌||◌, Bool, true, false, not, Option, Some, None, bytes_eq, codes, if◌then◌else◌}
+use Rattle.std.specs.Prelude.{◌&&◌, ◌||◌, Bool, true, false, not, Option, Some, None, bytes_eq, codes, find, if◌then◌else◌}
+use Rattle.std.specs.List.{list_all}
 use Rattle.es_tree.specs.Helpers.{helper_text}
 use Rattle.es_tree.specs.Names.{first_text, flag_at}
 use Rattle.es_tree.specs.Scopes.{Declared}
@@ -11,7 +12,6 @@ use Rattle.es_tree.specs.Words.{Text}
 use Rattle.es_tree.specs.declared.ast_type.AstType.{AstType}
 use Rattle.es_tree.specs.declared.ast_type.AstType.TheVariants.{CallExpression, Identifier, MemberExpression}
 use Rattle.es_tree.specs.declared.helper.Helper.{Helper}
-use Rattle.es_tree.specs.declared.helper.Helper.TheVariants.{ObjectSpread2, ObjectWithoutProperties, UsingCtx}
 use Rattle.es_resolution.specs.Declarations.{Bound}
 use Rattle.es_resolution.proofs.AllForms.{All, AllAmong, AllBy, AllIn}
 use Rattle.es_runs.specs.Alike.{Frame, Level, SameWorld, bad_names, is_bad, the_callee, the_value}
@@ -45,7 +45,7 @@ use Rattle.es_statement_runs.proofs.KindsAlike.{inner, nothing_sense}
 use Rattle.es_statement_runs.proofs.SensesAlike.{call_sense_like}
 use Rattle.es_import_runs.proofs.CalledNames.{Plainly, label_now, own_now, use_now}
 use Rattle.es_import_runs.specs.Laws.{bad_calls}
-use Rattle.es_helper_calls.specs.HelperCalls.{called_helper, calling, calling_among, calling_by, calling_here, calling_in, helper_of, helpers_among, helpers_in, helpers_in_field, helpers_in_fields, is_called, is_dotted, named_helper, own_helper}
+use Rattle.es_helper_calls.specs.HelperCalls.{called_helper, calling, calling_among, calling_by, calling_here, calling_in, helper_of, helpers_among, helpers_in, helpers_in_field, helpers_in_fields, is_called, is_dotted, made_helpers, named_helper, own_helper}
 
 abbrev pub helpers_ : Text
 helpers_ = codes "babelHelpers"
@@ -80,7 +80,7 @@ of_callee h l (node MemberExpression j (one o then (one (node Identifier m hs) t
     of_object h l j m hs fs o mark (neither (flag_at 0 j.flags) (flag_at 1 j.flags) d.0) d.1.0 d.1.1
 of_callee h l _ fs mark e = absurd (cc e)
 
-helper_shape : (k : AstType) (l : Label) (fs : Fields) (h : Helper) → called_helper k l fs ≡ Some h → HelperCall h k l fs
+pub helper_shape : (k : AstType) (l : Label) (fs : Fields) (h : Helper) → called_helper k l fs ≡ Some h → HelperCall h k l fs
 helper_shape CallExpression l (one f then fs) h e = let d = not_marked (flag_at 0 l.flags) (helper_of f) h e in of_callee h l f fs d.0 d.1
 helper_shape _ l fs h e = absurd (cc e)
 
@@ -100,15 +100,20 @@ known_text x g k r e n =
     let j : g ≡ k = cc in
     (ap helper_text (sym j) ∙ i, ap is_helper_text (sym i) ∙ r)
 
-text_named : (x : Text) (k : Helper) → named_helper x ≡ Some k → (helper_text k ≡ x) × (is_helper_text x ≡ true)
-text_named x k n = at (bytes_eq (helper_text ObjectSpread2) x) (bytes_eq (helper_text ObjectWithoutProperties) x) (bytes_eq (helper_text UsingCtx) x) refl refl refl n
+-- each of these helpers is one of the runtime's
+abbrev are_known : List Helper → Bool
+are_known gs = list_all (λ g. is_helper_text (helper_text g)) gs
+
+found_text : (x : Text) (k : Helper) (gs : List Helper) → are_known gs ≡ true → find (λ g. bytes_eq (helper_text g) x) gs ≡ Some k → (helper_text k ≡ x) × (is_helper_text x ≡ true)
+found_text x k [] r n = absurd (cc n)
+found_text x k (g ∷ gs) r n = let d = and_parts (is_helper_text (helper_text g)) (are_known gs) r in at (bytes_eq (helper_text g) x) refl d.0 (found_text x k gs d.1) n
   where
-    at : (a b d : Bool) → bytes_eq (helper_text ObjectSpread2) x ≡ a → bytes_eq (helper_text ObjectWithoutProperties) x ≡ b → bytes_eq (helper_text UsingCtx) x ≡ d →
-        (if a then Some ObjectSpread2 else (if b then Some ObjectWithoutProperties else (if d then Some UsingCtx else None))) ≡ Some k → (helper_text k ≡ x) × (is_helper_text x ≡ true)
-    at true b d e f j n = known_text x ObjectSpread2 k refl e n
-    at false true d e f j n = known_text x ObjectWithoutProperties k refl f n
-    at false false true e f j n = known_text x UsingCtx k refl j n
-    at false false false e f j n = absurd (cc n)
+    at : (b : Bool) → bytes_eq (helper_text g) x ≡ b → is_helper_text (helper_text g) ≡ true → (find (λ g. bytes_eq (helper_text g) x) gs ≡ Some k → (helper_text k ≡ x) × (is_helper_text x ≡ true)) → (if b then Some g else find (λ g. bytes_eq (helper_text g) x) gs) ≡ Some k → (helper_text k ≡ x) × (is_helper_text x ≡ true)
+    at true e d rest n = known_text x g k d e n
+    at false e d rest n = rest n
+
+text_named : (x : Text) (k : Helper) → named_helper x ≡ Some k → (helper_text k ≡ x) × (is_helper_text x ≡ true)
+text_named x k n = found_text x k made_helpers refl n
 
 not_so : (a : Bool) → not a ≡ true → a ≡ false
 not_so true h = absurd (cc h)

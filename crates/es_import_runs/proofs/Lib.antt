@@ -4,4 +4,8 @@ pub mod Constants
 pub mod Tops
 pub mod Modules
 pub mod Sources
+pub mod OnlyCopies
+pub mod CopySteps
+pub mod AskedModules
+pub mod ImportingResults
 pub mod Examples

@@ -35,7 +35,6 @@ use Rattle.es_statement_runs.specs.Runs.{program_world, run, silent_or}
 use Rattle.es_statement_runs.proofs.BareVars.{start_same, top_bound}
 use Rattle.es_statement_runs.proofs.Catches.{one_quiet, one_stack, undeclared_hidden}
 use Rattle.es_statement_runs.proofs.Everywhere.PlaceLike.{place_like}
-use Rattle.es_statement_runs.proofs.NoHelpers.{law_no_helper_proof}
 use Rattle.es_statement_runs.proofs.Programs.{body_taken}
 use Rattle.es_statement_runs.proofs.RunLaws.{same_run}
 use Rattle.es_helper_calls.specs.HelperCalls.{bound_of, nameless, calling, calling_among, helpers_among, helpers_in, is_helper as is_this}
@@ -78,7 +77,7 @@ module _ (c : Helper → Tree) (m : Text) where
 -- THE LAW
 
 -- with the name of the helper alone, none excludes keys
-none_excludes : (m x : Text) (f : Tree) → is_helper (by_import m) ((x, helper_name (codes "objectSpread2")) ∷ []) (codes "objectWithoutProperties") f ≡ false
+pub none_excludes : (m x : Text) (f : Tree) → is_helper (by_import m) ((x, helper_name (codes "objectSpread2")) ∷ []) (codes "objectWithoutProperties") f ≡ false
 none_excludes m x (node Identifier l fs) = at (bytes_eq x (first_text l.texts))
   where
     at : (b : Bool) → is_named (codes "objectWithoutProperties") (if b then Some (helper_name (codes "objectSpread2")) else None) ≡ false
@@ -112,8 +111,8 @@ module _ (m : Text) (l : Label) (ds body : Trees) (b : Bound) (h : CallsSpread m
   parts = formed_plainly p h.form
 
   -- names
-  imported : imported_helpers m after ≡ (x, said) ∷ []
-  imported = imported_after m (import_of item) (x, said) (ap (named_helper x) (source_helper m)) us (imports_now (spread_name b) m body ∙ law_no_helper_proof (by_import m) p h.helpers)
+  pub imported : imported_helpers m after ≡ (x, said) ∷ []
+  imported = imported_after m (import_of item) (x, said) (ap (named_helper x) (source_helper m)) us (imports_now (spread_name b) m body ∙ h.helpers)
 
   silents : silent_names (by_import m) q ≡ (x, said) ∷ []
   silents = (λ i. imported i ++ constants_in (by_import m) (imported i) q after) ∙ (λ i. (x, said) ∷ none_listed (by_import m) ((x, said) ∷ []) (none_excludes m x) q after i)

@@ -16,19 +16,18 @@ use Rattle.es_statement_runs.specs.Places.{placed_at}
 use Rattle.es_statement_runs.specs.Runs.{SameRun, outcome, program_world, run, silent_or, start_cells}
 use Rattle.es_statement_runs.specs.Senses.{Sense}
 use Rattle.es_statement_runs.proofs.AkinSupplies.{akin-sense, import-akin}
-use Rattle.es_statement_runs.proofs.NoHelpers.{law_no_helper_proof}
 use Rattle.es_import_runs.specs.Laws.{LawImportedModule, UsesNone}
 use Rattle.es_import_runs.proofs.Constants.{none_listed}
 use Rattle.es_import_runs.proofs.Modules.{law_importing_module_proof}
 
-none_named : (m : Text) (f : Tree) → is_helper (by_import m) [] (codes "objectWithoutProperties") f ≡ false
+pub none_named : (m : Text) (f : Tree) → is_helper (by_import m) [] (codes "objectWithoutProperties") f ≡ false
 none_named m (node Identifier l fs) = refl
 none_named m _ = refl
 
 module _ (m : Text) (p : Tree) (h : UsesNone m p) where
   silents : silent_names (by_import m) p ≡ []
   silents =
-      let none = law_no_helper_proof (by_import m) p h.helpers in
+      let none = h.helpers in
       (λ i. none i ++ constants_in (by_import m) (none i) p (program_list p)) ∙ none_listed (by_import m) [] (none_named m) p (program_list p)
 
   -- the world in which these names stand for something
@@ -38,7 +37,7 @@ module _ (m : Text) (p : Tree) (h : UsesNone m p) where
   abbrev run_with : Supply → List (Text × Silent) → ℕ → Value → List Move → Result Value
   run_with u es n this moves = value (world_with this es) (sense (placed_at u (world_with this es) [] []) p).core (state (start_cells n (declared_at_top p)) moves [])
 
-  supplies_same : (n : ℕ) (this : Value) (moves : List Move) → run (by_import m) n p this moves ≡ run by_global n p this moves
+  pub supplies_same : (n : ℕ) (this : Value) (moves : List Move) → run (by_import m) n p this moves ≡ run by_global n p this moves
   supplies_same n this moves =
       ap (λ (es : List (Text × Silent)). run_with (by_import m) es n this moves) silents ∙
       ap (λ (e : Sense). value (world_with this []) e.core (state (start_cells n (declared_at_top p)) moves [])) (sym (akin-sense by_global (by_import m) (import-akin m) p h.global (world_with this []) [] [])) ∙

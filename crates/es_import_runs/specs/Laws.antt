@@ -1,30 +1,39 @@
 -- The law of programs that import their helpers: they run, as helpers are imported, as the program runs whose helpers are members of `babelHelpers`.
-use Rattle.std.specs.Prelude.{◌≡◌, ℕ, List, [], ◌∷◌, Bool, true, false, bytes_eq, codes}
+use Rattle.std.specs.Prelude.{◌≡◌, ◌||◌, ℕ, List, [], ◌∷◌, Bool, true, false, not, bytes_eq, codes, is_some}
 use Rattle.std.specs.List.{list_all}
+use Rattle.es_tree.specs.Fresh.{is_among}
 use Rattle.es_tree.specs.HasForm.{has_form}
-use Rattle.es_tree.specs.Tree.{Tree, Trees, Label}
+use Rattle.es_tree.specs.Names.{first_text}
+use Rattle.es_tree.specs.Tree.{Fields, Label, Tree, Trees}
 use Rattle.es_tree.specs.Walks.{all_nodes}
 use Rattle.es_tree.specs.Words.{Text}
+use Rattle.es_tree.specs.declared.ast_type.AstType.{AstType}
+use Rattle.es_tree.specs.declared.ast_type.AstType.TheVariants.{Identifier}
 use Rattle.es_tree.specs.declared.helper.Helper.{Helper}
 use Rattle.es_tree.specs.declared.helper.Helper.TheVariants.{ObjectSpread2}
+use Rattle.es_tree.specs.declared.options.EnvOptions.{EnvOptions}
 use Rattle.es_tree.specs.declared.table.Sort.TheVariants.{Program as s-Program}
 use Rattle.es_resolution.specs.Declarations.{Bound}
 use Rattle.es_runs.specs.Machine.{Move, Value}
 use Rattle.es_runs.specs.Runs.{is_declared, only, program}
 use Rattle.es_runs.specs.Alike.{Level, bad_names, the_value}
+use Rattle.es_steps.specs.CoreBridge.{first_whole}
 use Rattle.es_steps.specs.Nodes.{identifier}
-use Rattle.es_statement_runs.specs.Helpers.{Supply, silent_names}
+use Rattle.es_module_names.specs.Modules.{requests_of}
+use Rattle.es_reached.specs.Reached.{IsResult}
+use Rattle.es_statement_runs.specs.Helpers.{Supply, helper_in, helper_names, silent_names}
 use Rattle.es_statement_runs.specs.Helpers.Supply.{by_global, by_import}
 use Rattle.es_statement_runs.specs.Names.{declared_at_top, top_in}
 use Rattle.es_statement_runs.specs.Places.{HelpersSeen, avoids_trees, take}
-use Rattle.es_statement_runs.specs.Programs.{names_other, uses_no_helper}
+use Rattle.es_statement_runs.specs.Programs.{IsStatementProgram, names_other}
 use Rattle.es_statement_runs.specs.Laws.{apart_from}
 use Rattle.es_statement_runs.specs.Runs.{RunAlike, SameRun, outcome, run}
 use Rattle.es_statement_runs.specs.Runs.Outcome.{outside}
 use Rattle.es_statement_runs.specs.Scopes.{is_own_cell}
 use Rattle.es_helper_calls.specs.HelperCalls.{bound_of, calling, helpers_in, is_helper}
-use Rattle.es_helper_imports.specs.Imported.{imported_as}
+use Rattle.es_helper_imports.specs.Imported.{ImportsTo, imported_as}
 use Rattle.es_helper_calls.specs.Importing.{is_module}
+use Rattle.es_statement_steps.specs.Laws.{assignments_there, chains_there, powers_there}
 
 -- Under one supply and another: the same outcome, the same questions, and the same cells of the names that the source declares, unless its run is outside.
 abbrev pub RunUnder : Supply → Supply → Tree → Tree → Type 0
@@ -48,7 +57,7 @@ pub record CallsSpread (m : Text) (l : Label) (ds body : Trees) (b : Bound) : Ty
   pub global : is_declared (top_in body) (codes "babelHelpers") ≡ false
   -- no name of its stands for a helper or for keys
   pub silent : silent_names by_global (program l ds body) ≡ []
-  pub helpers : uses_no_helper (by_import m) (program l ds body) ≡ true
+  pub helpers : helper_names (by_import m) (program l ds body) ≡ []
   -- the name stands nowhere in it
   pub name : avoids_trees (bad_calls (only b.name)) (take the_value true) body ≡ true
   pub undeclared : is_declared (top_in body) b.name ≡ false
@@ -64,9 +73,33 @@ LawImportingModule = (m : Text) (l : Label) (ds body : Trees) (b : Bound) → is
 -- So what a source that uses no helper itself becomes runs as it does, importing the helper, too.
 pub record UsesNone (m : Text) (p : Tree) : Type 0 where
   pub global : all_nodes names_other p ≡ true
-  pub helpers : uses_no_helper (by_import m) p ≡ true
+  pub helpers : helper_names (by_import m) p ≡ []
   pub silent : silent_names by_global p ≡ []
 
 abbrev pub LawImportedModule : Type 0
 LawImportedModule = (m : Text) (no_all : Bool) (p : Tree) (l : Label) (ds body : Trees) (b : Bound) → is_module (program l ds body) ≡ true → CallsSpread m l ds body b → UsesNone m p →
     ((y : Text) → is_declared (declared_at_top p) y ≡ true → is_declared (top_in body) y ≡ true) → RunAlike by_global no_all p (program l ds body) → RunAlike (by_import m) no_all p (imported_as m (ObjectSpread2 ∷ []) (b ∷ []) (program l ds body))
+
+-- WHAT A MODULE BECOMES
+
+-- the module asks for none of the helpers' modules
+abbrev pub asks_no_helper : Text → Tree → Bool
+asks_no_helper m p = list_all (λ t. not (is_some (helper_in m t))) (requests_of p)
+
+-- A module of which the law speaks: it holds no identifier `babelHelpers`, as a key either, asks for no helper, and has nothing by which chains, logical
+-- assignment or exponentiation are lowered.
+pub record RunsImporting (o : EnvOptions) (m : Text) (p : Tree) : Type 0 where
+  pub module_code : is_module p ≡ true
+  pub names : all_nodes names_other p ≡ true
+  pub asks : asks_no_helper m p ≡ true
+  pub beside : (chains_there o p || (assignments_there o p || powers_there o p)) ≡ false
+
+-- no identifier is one of these names, also no key and no label, which are no names in use
+abbrev pub names_apart : List Text → AstType → Label → Fields → Bool
+names_apart xs Identifier l fs = not (is_among xs (first_text l.texts))
+names_apart xs k l fs = true
+
+-- What such a module becomes, q, runs as it does, when it imports its helpers, as r, by names that are no keys and labels of it.
+abbrev pub LawImportingResult : Type 0
+LawImportingResult = (o : EnvOptions) (m : Text) (p q r : Tree) (names last : List Text) → IsStatementProgram p → RunsImporting o m p → IsResult o p q names → is_module q ≡ is_module p → ImportsTo (first_whole q).in_use m q r last → all_nodes (names_apart last) q ≡ true →
+    RunAlike (by_import m) false p r

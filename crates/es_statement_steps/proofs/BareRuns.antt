@@ -141,7 +141,7 @@ module _ (hs : List (Text × Silent)) where
     constants-in-bare (node VariableDeclaration l done before ts) = constants-in-bare ts
     constants-in-bare (node _ l fs before ts) = constants-in-bare ts
 
-list-bare : (p : Tree) → program_list (bare p) ≡ bare_trees (program_list p)
+pub list-bare : (p : Tree) → program_list (bare p) ≡ bare_trees (program_list p)
 list-bare (node k l done) = refl
 list-bare (node k l (f then done)) = refl
 list-bare (node k l (f then (missing then fs))) = refl
@@ -168,11 +168,15 @@ silent-bare _ e p = absurd (cc e)
 abbrev placed_by : Supply → Value → List (Text × Silent) → List Declared → Place
 placed_by u this es ds = record { world = record { scope = λ x. silent_or (entry es x) (scope_of ds x); this = this; counts_all = true; other = λ e. stop unknown; spreads = false }; labels = []; word = []; supply = u }
 
+-- where as many names stand for helpers and keys
+pub run-told : (u : Supply) (n : ℕ) (p : Tree) (this : Value) (moves : List Move) → silent_names u (bare p) ≡ silent_names u p → run u n (bare p) this moves ≡ run u n p this moves
+run-told u n p this moves silent =
+    ap (λ (e : Sense). value (place_of u this (bare p)).world e.core (state (start_cells n (declared_at_top (bare p))) moves [])) (sense-bare (place_of u this (bare p)) p)
+    ∙ (λ i. run_in (placed_by u this (silent i) (declared-bare p i)) n (declared-bare p i) p moves)
+
 module _ (u : Supply) (plain : is_plain_supply u ≡ true) where
   run-bare : (n : ℕ) (p : Tree) (this : Value) (moves : List Move) → run u n (bare p) this moves ≡ run u n p this moves
-  run-bare n p this moves =
-      ap (λ (e : Sense). value (place_of u this (bare p)).world e.core (state (start_cells n (declared_at_top (bare p))) moves [])) (sense-bare (place_of u this (bare p)) p)
-      ∙ (λ i. run_in (placed_by u this (silent-bare u plain p i) (declared-bare p i)) n (declared-bare p i) p moves)
+  run-bare n p this moves = run-told u n p this moves (silent-bare u plain p)
 
   -- programs that are the same but for ids and marks
   pub run-seen : (n : ℕ) (p q : Tree) → bare p ≡ bare q → (this : Value) (moves : List Move) → run u n p this moves ≡ run u n q this moves

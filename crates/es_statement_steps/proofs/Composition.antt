@@ -192,8 +192,8 @@ module _ (o : EnvOptions) (at : Site → Spot → Bool) (no_all : Bool) (u : Sup
     rules-there s x from alone = law_further_rules_proof o source first (whole_in s) x source_form source_rules bound (subst (λ (z : Ledger). From z x) alone from)
 
     pub composed : (ends : ℕ → Text) {s s' : Ledger} {x x' : Open} → From s x → IsAlone s → Steps (Step (only_where at (built_rules o)) the_program) s x s' x' → ((m : ℕ) → m < (whole_in s').free_symbol → ends m ≡ (whole_in s').called m) → is_var_scope (kind_of (finished x)) ≡ true →
-        Named (whole_in s).in_use (whole_in s).free_symbol reads (finished x) → LedgerPasses (is_called ends) s → Passes (is_called ends) (finished x) → IsResolved (finished x) → IsClean s' → Shaped (spread x) → Clean (whole_in s) (finished x) → StepAlike no_all u (finished x) (finished x')
-    composed ends {x = x} from alone stays end kind used beside names resolved last shaped clean = unchanged no_all u (finished x) (finished x) refl
+        Named (whole_in s).in_use (whole_in s).free_symbol reads (finished x) → LedgerPasses (is_called ends) s → Passes (is_called ends) (finished x) → IsResolved (finished x) → IsClean s' → Shaped (spread x) → Clean (whole_in s) (finished x) → StepAlike no_all u (finished x) (finished x') × Clean (whole_in s') (finished x')
+    composed ends {x = x} from alone stays end kind used beside names resolved last shaped clean = (unchanged no_all u (finished x) (finished x) refl, clean)
     composed ends {x = x} {x' = x'} from alone (goes {s = s} {s' = m} {s'' = s'} {u = y} step rest) end kind used beside names resolved last shaped clean =
         let one = arrows-apart o at step refl (subst (λ (t : Tree). Class t) (finished-spread x) shaped.class) in
         let all = step_under (only_where at (built_rules o)) (AllRules o) (λ n s x s' y r. built-all o n s x s' y r.0) step in
@@ -215,7 +215,8 @@ module _ (o : EnvOptions) (at : Site → Spot → Bool) (no_all : Bool) (u : Sup
         let known = known-of s x shaped alone (rules-there s x from alone) resolved used in
         let known_after = known-of m y shaped_after alone_after (rules-there m y from_after alone_after) resolved_after first.named in
         let clean_after = clean-after x y (split one) known known_after clean in
-        then-alike (finished x) (finished y) (finished x') (alike-after x y (split one) known known_after clean clean_after) (composed ends from_after alone_after rest end kind_after first.named k.1 k.0 resolved_after last shaped_after clean_after)
+        let further = composed ends from_after alone_after rest end kind_after first.named k.1 k.0 resolved_after last shaped_after clean_after in
+        (then-alike (finished x) (finished y) (finished x') (alike-after x y (split one) known known_after clean clean_after) further.0, further.1)
       where
         longer-free : (k : ℕ) → k < (whole_in m).free_symbol → (whole_in m).free_symbol ≤ (whole_in s').free_symbol → k < (whole_in s').free_symbol
         longer-free k d e = omega arith

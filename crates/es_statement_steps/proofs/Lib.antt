@@ -24,10 +24,7 @@ pub mod WrittenAgain
 pub mod Unspread
 pub mod RaisedTargets
 pub mod RaisedRows
-pub mod ChainCopies
-pub mod ChainsFirst
-pub mod CopylessRows
-pub mod CopylessSteps
+pub mod ChainsApart
 pub mod Nameless
 pub mod SameSenses
 pub mod Doublings

@@ -1,6 +1,7 @@
 -- Steps put the name of the object of helpers into no chain, where no spread is lowered while a chain stands around it.
 use Rattle.std.proofs.Common.{inr, ◌≡◌, ℕ, zero, suc, refl, sym, ap, subst, ◌∙◌, List, [], ◌∷◌}
 use Rattle.std.proofs.lemmas.Bool.{and_parts, and_from}
+use Rattle.std.proofs.lemmas.Slice.Eq.{bytes_eq-Decides}
 use Rattle.std.specs.Prelude.{Bool, true, false, not, ◌&&◌, ◌||◌, bytes_eq, codes, map}
 use Rattle.es_tree.specs.Bare.{bare_fields, bare_label}
 use Rattle.es_tree.specs.Fresh.{IsFreshName}
@@ -11,9 +12,10 @@ use Rattle.es_tree.specs.Tree.{Tree, node, Label, Fields, Trees, empty, trees}
 use Rattle.es_tree.specs.Walks.{all_nodes, all_in_fields, all_in_trees}
 use Rattle.es_tree.specs.Words.{Text}
 use Rattle.es_tree.specs.declared.ast_type.AstType.{AstType}
-use Rattle.es_tree.specs.declared.ast_type.AstType.TheVariants.{ChainExpression, Identifier}
+use Rattle.es_tree.specs.declared.ast_type.AstType.TheVariants.{ChainExpression, Identifier, ObjectExpression}
 use Rattle.es_tree.specs.declared.options.EnvOptions.{EnvOptions}
 use Rattle.es_tree.specs.declared.table.Sort.TheVariants.{Program as s-Program}
+use Rattle.es_runs.specs.OptionalChaining.{is_chain_kind}
 use Rattle.es_runs.specs.Runs.{program}
 use Rattle.es_resolution.specs.Declarations.{Bound}
 use Rattle.es_resolution.specs.Laws.{source}
@@ -30,6 +32,7 @@ use Rattle.es_steps.specs.OptionalCatch.{CatchRule}
 use Rattle.es_steps.specs.OptionalChaining.{OptionalChainingRule}
 use Rattle.es_steps.specs.Rules.{Replacing, Writing}
 use Rattle.es_steps.specs.Rules.Replacing.{replaces}
+use Rattle.es_steps.specs.Slots.{is_slot}
 use Rattle.es_steps.specs.Steps.{FieldStep, FieldsStep, Ledger, Site, Spot, Step, TreesStep, Whole, site_in, the_program}
 use Rattle.es_steps.specs.Steps.Spot.{at_node}
 use Rattle.es_steps.specs.Steps.Step.{acts, inside}
@@ -41,7 +44,7 @@ use Rattle.es_steps.proofs.FormRules.{FormLawful}
 use Rattle.es_steps.proofs.Opened.{finished-opened, finished-trees}
 use Rattle.es_steps.proofs.RuleLaws.{writes-lists}
 use Rattle.es_steps.proofs.Taken.{whole_in}
-use Rattle.es_unsupported.specs.Shapes.{is_chain_kind}
+use Rattle.es_conditions.specs.CoreConditions.{is_in_chain}
 use Rattle.es_statement_runs.specs.Helpers.Supply.{spread_by_global}
 use Rattle.es_statement_runs.specs.Laws.{among_names}
 use Rattle.es_statement_runs.specs.Places.{Take}
@@ -49,7 +52,8 @@ use Rattle.es_statement_runs.specs.Programs.{is_statement_node}
 use Rattle.es_statement_runs.proofs.Moved.{MovedFields, MovedList, Room}
 use Rattle.es_statement_runs.proofs.AkinSupplies.{Apart}
 use Rattle.es_statement_runs.specs.Programs.{names_other}
-use Rattle.es_statement_steps.specs.Orders.{is_in_chain, is_outside, no_name_in_chain, only_where}
+use Rattle.es_statement_steps.specs.Laws.{no_name_in_chain}
+use Rattle.es_statement_steps.specs.Orders.{is_in_order, only_where}
 use Rattle.es_statement_steps.proofs.Assignments.{AssigningRow, assigning-shape}
 use Rattle.es_statement_steps.proofs.BareTests.{fields-bare, source-passes}
 use Rattle.es_statement_steps.proofs.Below.{Below, BelowField, BelowTrees, both_below, nodes_below}
@@ -57,11 +61,11 @@ use Rattle.es_statement_steps.proofs.Catchings.{CatchRow, catch-rule}
 use Rattle.es_statement_steps.proofs.Catchings.CatchMade.{made_catch}
 use Rattle.es_statement_steps.proofs.ChainPlaces.{chains-program}
 use Rattle.es_statement_steps.proofs.Chainings.{ChainingRow, chaining-shape}
-use Rattle.es_statement_steps.proofs.ChainsFirst.{apart-keeps, fresh-other, other-passes, other_name, chain-apart}
+use Rattle.es_statement_steps.proofs.ChainsApart.{apart-keeps, chain-apart, fresh-other, other-passes, other_name}
 use Rattle.es_statement_steps.proofs.Coalescings.{CoalescingRow, coalescing-shape}
 use Rattle.es_statement_steps.proofs.Composition.{Known, known-fine}
-use Rattle.es_statement_steps.proofs.CopylessSteps.{made-other}
 use Rattle.es_statement_steps.proofs.ExportSplits.{is_export_kind}
+use Rattle.es_statement_steps.proofs.MadeNames.{all_made, made_among}
 use Rattle.es_statement_steps.proofs.MadeOf.{PassesMade, any_name, assigning-of, chaining-of, coalescing-of, is_made_kind, passes-any, raising-of}
 use Rattle.es_statement_steps.proofs.MovedTests.{Alone, fields-so, form_alone, list-so, name_alone}
 use Rattle.es_statement_steps.proofs.OperandSteps.{ChainSteady, Suited, chain-steady-inwards, steady-program}
@@ -72,13 +76,44 @@ use Rattle.es_statement_steps.proofs.Replacings.{Row, replacing-rule}
 use Rattle.es_statement_steps.proofs.RowRuns.{KeepsRuns, StepAlike}
 use Rattle.es_statement_steps.proofs.SpreadParts.{spread-so}
 use Rattle.es_statement_steps.proofs.StepMoves.{Acted, NodeRule, below-after}
-use Rattle.es_statement_steps.proofs.StepRules.{Does, StatementRules, chains_under, on-does, on-rule, spreads_under, statement-does-where, statement-form, under-form, where-does, writing-form}
+use Rattle.es_statement_steps.proofs.StepRules.{Does, OffSlots, StatementRules, chains_under, on-does, on-rule, spreads_under, statement-does-where, statement-form, under-form, where-does, writing-form}
 use Rattle.es_statement_steps.proofs.Tamed.{Class, no-arrow, node-kind}
 use Rattle.es_statement_steps.proofs.WholeLists.{fields-pass, whole-below}
 use Rattle.es_statement_steps.proofs.Writings.{written-same}
 
 abbrev pub Nameless : Tree → Type 0
 Nameless t = all_nodes no_name_in_chain t ≡ true
+
+-- PLACES: at no object literal in a chain
+
+abbrev pub is_outside : Site → Spot → Bool
+is_outside n (at_node (node ObjectExpression l fs)) = not (is_in_chain n.above)
+is_outside n x = true
+
+left-of : (slot on c : Bool) → slot ≡ false → on ≡ true → (slot || not (on && c)) ≡ true → not c ≡ true
+left-of true on c e d h = absurd (cc e)
+left-of false true c e d h = h
+left-of false false c e d h = absurd (cc d)
+
+-- so it is in no slot of steps in order, where chains are lowered
+pub outside-slots : (o : EnvOptions) → o.es2020.optional_chaining ≡ true → OffSlots (is_in_order o) is_outside
+outside-slots o on = record { nodes = nodes; lists = λ n p x a ts h. refl }
+  where
+    nodes : (n : Site) (t : Tree) → is_slot n.above ≡ false → is_in_order o n (at_node t) ≡ true → is_outside n (at_node t) ≡ true
+    nodes n (node ObjectExpression l fs) slot h = left-of (is_slot n.above) o.es2020.optional_chaining (is_in_chain n.above) slot on h
+    nodes n (node _ l fs) slot h = refl
+
+-- NAMES that are made are others than the object of helpers
+
+pub made-other : (xs : List Text) → all_made xs ≡ true → (x : Text) → among_names xs x ≡ true → bytes_eq x (codes "babelHelpers") ≡ false
+made-other xs h x e = at (bytes_eq x (codes "babelHelpers")) refl
+  where
+    at : (b : Bool) → bytes_eq x (codes "babelHelpers") ≡ b → b ≡ false
+    at false g = refl
+    at true g =
+        let same : x ≡ codes "babelHelpers" = (bytes_eq-Decides x (codes "babelHelpers")).0 g in
+        let no : among_names xs (codes "babelHelpers") ≡ false = made_among (codes "babelHelpers") xs refl h in
+        absurd (let yes : true ≡ false = sym e ∙ ap (among_names xs) same ∙ no in cc yes)
 
 -- ROWS but that of spreads
 

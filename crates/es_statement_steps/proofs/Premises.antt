@@ -15,13 +15,11 @@ use Rattle.es_steps.specs.Steps.Step.{acts, inside}
 use Rattle.es_steps.specs.Steps.FieldsStep.{in_first, in_later}
 use Rattle.es_steps.specs.Steps.FieldStep.{acts_on_body, acts_on_list, in_body, in_child, in_children, in_list, in_program, in_target}
 use Rattle.es_steps.specs.Steps.TreesStep.{acts_on_flanked, after_flanked, flanks, in_flanked, in_head, in_tail}
-use Rattle.es_steps.proofs.BridgeInclusion.{step_under}
 use Rattle.es_steps.proofs.FormOpen.{AreProperFields, AreProperTrees, IsProper, IsProperField}
 use Rattle.es_steps.proofs.Opened.{finished-opened}
 use Rattle.es_steps.proofs.Taken.{whole_in}
 use Rattle.es_statement_runs.specs.Helpers.{Supply, silent_names}
 use Rattle.es_statement_runs.specs.Programs.{is_statement_node}
-use Rattle.es_statement_steps.specs.Orders.{only_where}
 use Rattle.es_statement_steps.proofs.Below.{Below, BelowField, BelowTrees, nodes_below}
 use Rattle.es_statement_steps.proofs.Composition.{Known, known-fine}
 use Rattle.es_statement_steps.proofs.Replacings.{RowShape, replacing-hoists, replacing-rule}
@@ -110,17 +108,3 @@ module _ (no_all : Bool) (u : Supply) (H : Premise) (R : Site → Whole → List
 pub premised-runs : (no_all : Bool) (u : Supply) (H : Premise) → Inwards H → (R : Site → Whole → List Bound → Tree → Tree → Type 0) (shape : RowShape R) → KeepsRuns no_all u true (RowWith R shape H) → {s s' : Ledger} {x y : Open} → Step (Replacing R) the_program s x s' y → Known s x → Known s' y →
     silent_names u (finished x) ≡ [] → silent_names u (finished y) ≡ [] → H the_program (whole_in s) (finished x) → StepAlike no_all u (finished x) (finished y)
 premised-runs no_all u H inwards R shape keeps h k m silent silent_after premise = with-runs no_all u H R shape keeps (premised (Replacing R) H inwards h k.proper k.class premise) k m silent silent_after
-
--- and of one at some places alone
-abbrev pub There : Premise → (Site → Spot → Bool) → Premise
-There H at n w a = H n w a × (at n (at_node a) ≡ true)
-
-seen-there : (Q : Site → Ledger → Spot → Ledger → Spot → Type 0) (H : Premise) (at : Site → Spot → Bool) (n : Site) (s : Ledger) (x : Spot) (s' : Ledger) (y : Spot) → With (only_where at Q) H n s x s' y → With Q (There H at) n s x s' y
-seen-there Q H at n s (at_node t) s' y h = (h.0.0, (h.1, h.0.1))
-seen-there Q H at n s _ s' y h = (h.0.0, tt)
-
-pub there-runs : (no_all : Bool) (u : Supply) (H : Premise) (at : Site → Spot → Bool) → Inwards H → (R : Site → Whole → List Bound → Tree → Tree → Type 0) (shape : RowShape R) → KeepsRuns no_all u true (RowWith R shape (There H at)) → {s s' : Ledger} {x y : Open} → Step (only_where at (Replacing R)) the_program s x s' y → Known s x → Known s' y →
-    silent_names u (finished x) ≡ [] → silent_names u (finished y) ≡ [] → H the_program (whole_in s) (finished x) → StepAlike no_all u (finished x) (finished y)
-there-runs no_all u H at inwards R shape keeps h k m silent silent_after premise =
-    let Q = only_where at (Replacing R) in
-    with-runs no_all u (There H at) R shape keeps (step_under (With Q H) (With (Replacing R) (There H at)) (seen-there (Replacing R) H at) (premised Q H inwards h k.proper k.class premise)) k m silent silent_after

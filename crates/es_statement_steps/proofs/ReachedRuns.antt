@@ -1,4 +1,4 @@
--- What steps reach from a program of the class runs as the program does.
+-- What steps reach from a program of the class runs as the program does, and what is kept on the way holds of it.
 use Rattle.std.proofs.Common.{arith, ◌≡◌, refl, sym, ap, subst, ◌∙◌, List, []}
 use Rattle.std.specs.Prelude.{Bool, true, ◌&&◌}
 use Rattle.es_tree.specs.Bare.{bare, bare_field, bare_fields, bare_label, bare_trees}
@@ -58,7 +58,7 @@ bare-node MetaProperty l fs = refl
 bare-node _ l fs = refl
 
 mutual
-  class-bare : (t : Tree) → all_nodes is_statement_node (bare t) ≡ all_nodes is_statement_node t
+  pub class-bare : (t : Tree) → all_nodes is_statement_node (bare t) ≡ all_nodes is_statement_node t
   class-bare (node k l fs) = λ i. bare-node k l fs i && class-bare-in fs i
 
   class-bare-in : (fs : Fields) → all_in_fields is_statement_node (bare_fields fs) ≡ all_in_fields is_statement_node fs
@@ -154,7 +154,7 @@ source-alike no_all u p form silent =
 
 -- STEPS
 
-pub reached-runs : (o : EnvOptions) (at : Site → Spot → Bool) (no_all : Bool) (u : Supply) (Clean : Whole → Tree → Type 0) → AloneRuns o at no_all u Clean → NamespaceRuns o no_all u Clean → (p q : Tree) (names : List Text) → IsStatementProgram p → AllSilent u p → Clean (first_whole p) (source p) → Reached (only_where at (built_rules o)) p (first_whole p) names q → StepAlike no_all u p q
+pub reached-runs : (o : EnvOptions) (at : Site → Spot → Bool) (no_all : Bool) (u : Supply) (Clean : Whole → Tree → Type 0) → AloneRuns o at no_all u Clean → NamespaceRuns o no_all u Clean → (p q : Tree) (names : List Text) → IsStatementProgram p → AllSilent u p → Clean (first_whole p) (source p) → (reached : Reached (only_where at (built_rules o)) p (first_whole p) names q) → StepAlike no_all u p q × Clean reached.whole q
 reached-runs o at no_all u Clean alone exports p q names h silent clean reached =
     let w = first_whole p in
     let w' = reached.whole in
@@ -177,7 +177,7 @@ reached-runs o at no_all u Clean alone exports p q names h silent clean reached 
     let led = composed o at no_all u Clean alone exports t w form rules bound w'.called stays refl reached.steps (λ m e. refl) (ap (λ (a : Tree). is_var_scope (kind_of a)) (finished-opened t) ∙ ap is_var_scope (program-kind t form))
     (opens (λ a. Named w.in_use w.free_symbol reads a) bound.named) (none-beside (is_called w'.called) w) (opens (λ a. Passes (is_called w'.called) a) called) (opens (λ a. IsResolved a) bound.resolved)
     (record { vars = refl; this = refl }) shaped (opens (Clean w) clean) in
-    then-alike no_all u p t q (source-alike no_all u p h.form silent) (subst (λ (x : Tree). StepAlike no_all u x q) (finished-opened t) (subst (λ (y : Tree). StepAlike no_all u (finished (opened t)) y) (finished-opened q) led))
+    (then-alike no_all u p t q (source-alike no_all u p h.form silent) (subst (λ (x : Tree). StepAlike no_all u x q) (finished-opened t) (subst (λ (y : Tree). StepAlike no_all u (finished (opened t)) y) (finished-opened q) led.0)), subst (λ (y : Tree). Clean w' y) (finished-opened q) led.1)
   where
     program-kind : (t : Tree) → has_form s-Program t ≡ true → kind_of t ≡ Program
     program-kind (node k l fs) f = (form-placed (node k l fs) f).0

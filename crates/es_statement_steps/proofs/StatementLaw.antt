@@ -1,6 +1,6 @@
 -- The law of steps and runs, from what is known of the rows.
 use Rattle.std.proofs.Common.{arith, ◌≡◌, refl, sym, subst, ◌∙◌, List, []}
-use Rattle.std.proofs.lemmas.Bool.{or_parts}
+use Rattle.std.proofs.lemmas.Bool.{and_from, and_parts, or_parts}
 use Rattle.std.specs.Prelude.{◌&&◌, ◌||◌, Bool, true, false, codes, is_some, length, not, if◌then◌else◌}
 use Rattle.es_tree.specs.Fresh.{is_among}
 use Rattle.es_tree.specs.Names.{names_of}
@@ -34,37 +34,35 @@ use Rattle.es_statement_runs.specs.Helpers.Supply.{no_helpers, spread_by_global,
 use Rattle.es_statement_runs.specs.Programs.{IsStatementProgram, uses_no_helper}
 use Rattle.es_statement_runs.specs.Runs.{RunAlike}
 use Rattle.es_statement_runs.proofs.Spreads.{has_global_spread}
-use Rattle.es_statement_steps.specs.Laws.{LawSpreadsOutside, LawStatementRules, TagsAreNoChains, assignments_there, assumes_no_all, chains_there, mixes_helpers, no_copy_in_chain, powers_there, spreads_there, supply_there}
-use Rattle.es_statement_steps.specs.Orders.{chains_first, is_before_copies, is_outside, no_name_in_chain, only_where, spreads_outside}
+use Rattle.es_statement_steps.specs.Laws.{LawStatementRules, TagsAreNoChains, assignments_there, assumes_no_all, chains_there, no_name_in_chain, powers_there, spreads_there, supply_there}
+use Rattle.es_statement_steps.specs.Orders.{in_order, is_in_order, only_where}
 use Rattle.es_statement_steps.proofs.Absent.{Absent, Never, absent-alone, absent-exports, absent-source, no-assignment, no-chain, no-power, no-spread, not-there}
-use Rattle.es_statement_steps.proofs.ChainCopies.{CopylessChains}
-use Rattle.es_statement_steps.proofs.ChainsFirst.{first-runs}
 use Rattle.es_statement_steps.proofs.Composition.{AloneRuns, Exports, Known, NamespaceRuns, anywhere}
-use Rattle.es_statement_steps.proofs.CopylessSteps.{copyless-runs, export-copyless, source-copyless, statement-copyless}
 use Rattle.es_statement_steps.proofs.Exports.{exports-run, exports-so, keyless-parts, namespace-runs}
 use Rattle.es_statement_steps.proofs.KeylessPrograms.{IsKeyless, keyless_silent}
 use Rattle.es_statement_steps.proofs.KeylessSources.{named-keyless, same-keyless}
 use Rattle.es_statement_steps.proofs.KeylessSteps.{NoneBeside, statement-keyless}
-use Rattle.es_statement_steps.proofs.Nameless.{Nameless, export-nameless, nameless-runs, source-nameless, statement-nameless}
+use Rattle.es_statement_steps.proofs.Nameless.{Nameless, export-nameless, is_outside, nameless-runs, outside-slots, source-nameless, statement-nameless}
 use Rattle.es_statement_steps.proofs.OperandSteps.{Suited, assigning-runs, chaining-runs, no-silent, raising-runs, suited-export, suited-start, suited-step}
 use Rattle.es_statement_steps.proofs.PlainSupplies.{is_core_supply, none-silent}
 use Rattle.es_statement_steps.proofs.ReachedRuns.{AllSilent, reached-runs, source-bare}
+use Rattle.es_statement_steps.proofs.RowRuns.{StepAlike}
 use Rattle.es_statement_steps.proofs.SpreadRuns.{spread-keeps, spread-shape}
-use Rattle.es_statement_steps.proofs.StepRules.{Does, EachDoesWhere, Keeping, Runs, StatementRules, catch-runs, chains_under, spreads_under, coalescing-runs, off-does, on-does, on-where-does, replacing-runs, statement-does-where, tamed-step, tamed-where, where-does, writing-runs}
+use Rattle.es_statement_steps.proofs.StepRules.{Does, EachDoesWhere, Keeping, OffSlots, Runs, StatementRules, catch-runs, chains_under, spreads_under, coalescing-runs, off-does, on-does, on-where-does, replacing-runs, same-places, statement-does-where, tamed-step, tamed-where, where-does, writing-runs}
 
 -- THE LAW, from what each rule does and what is kept of a program on the way
 
-module _ (o : EnvOptions) (at : Site → Spot → Bool) (no_all : Bool) (u : Supply) (Clean : Whole → Tree → Type 0) (quiet : (w : Whole) (t : Tree) → Clean w t → silent_names u t ≡ [])
-    (each : EachDoesWhere (Keeping no_all u Clean quiet) o at) (clean : (s s' : Ledger) (x y : Open) → Step (only_where at (alone o)) the_program s x s' y → Known s x → Known s' y → Clean (whole_in s) (finished x) → Clean (whole_in s') (finished y)) (exports : NamespaceRuns o no_all u Clean) where
+module _ (o : EnvOptions) (at there : Site → Spot → Bool) (off : OffSlots at there) (no_all : Bool) (u : Supply) (Clean : Whole → Tree → Type 0) (quiet : (w : Whole) (t : Tree) → Clean w t → silent_names u t ≡ [])
+    (each : EachDoesWhere (Keeping no_all u Clean quiet) o there) (clean : (s s' : Ledger) (x y : Open) → Step (only_where at (alone o)) the_program s x s' y → Known s x → Known s' y → Clean (whole_in s) (finished x) → Clean (whole_in s') (finished y)) (exports : NamespaceRuns o no_all u Clean) where
   alone-runs : AloneRuns o at no_all u Clean
   alone-runs = record {
     class = λ h proper after class. (tamed-step o h proper after class).1;
     clean = λ h k m c. clean _ _ _ _ h k m c;
-    runs = λ h k m c d. statement-does-where (Keeping no_all u Clean quiet) o at each _ _ _ _ (tamed-where o at h k.proper m.proper k.class) k m c d;
+    runs = λ h k m c d. statement-does-where (Keeping no_all u Clean quiet) o there each _ _ _ _ (tamed-where o at there off h k.proper m.proper k.class) k m c d;
   }
 
-  rules-run : (p q : Tree) (names : List Text) → IsStatementProgram p → AllSilent u p → Clean (first_whole p) (source p) → Reached (only_where at (built_rules o)) p (first_whole p) names q → RunAlike u no_all p q
-  rules-run p q names h silent first reached = (reached-runs o at no_all u Clean alone-runs exports p q names h silent first reached).runs
+  rules-run : (p q : Tree) (names : List Text) → IsStatementProgram p → AllSilent u p → Clean (first_whole p) (source p) → (reached : Reached (only_where at (built_rules o)) p (first_whole p) names q) → StepAlike no_all u p q × Clean reached.whole q
+  rules-run p q names h silent first reached = reached-runs o at no_all u Clean alone-runs exports p q names h silent first reached
 
 -- steps at whatever places
 abbrev all_places : Site → Spot → Bool
@@ -95,13 +93,18 @@ module _ (no_all : Bool) (u : Supply) (p : Tree) (Clean : Whole → Tree → Typ
 
 -- WITH THE OBJECT OF ALL HELPERS, beside which no row of chains, logical assignment and exponentiation acts
 
-abbrev IsWithoutKeys : Whole → Tree → Type 0
-IsWithoutKeys w t = IsKeyless t
+-- what else may be asked of programs then: what these steps and exports of namespaces keep
+pub record KeptBeside (o : EnvOptions) (p : Tree) (Asked : Tree → Type 0) : Type 0 where
+  pub steps : (s s' : Ledger) (x y : Open) → Step (StatementRules o) the_program s x s' y → Known s x → Known s' y → Absent p (finished x) → Asked (finished x) → Asked (finished y)
+  pub exports : (s s' : Ledger) (x y : Open) → Step (Exports o) the_program s x s' y → Known s (spread x) → Known s' (spread y) → Asked (finished x) → Asked (finished y)
 
-without-keys-silent : (w : Whole) (t : Tree) → IsWithoutKeys w t → silent_names by_global t ≡ []
-without-keys-silent w t h = keyless_silent t h
+module _ (o : EnvOptions) (no_all : Bool) (p : Tree) (off : NoneBeside o p) (Asked : Tree → Type 0) (kept : KeptBeside o p Asked) where
+  abbrev IsWithoutKeys : Whole → Tree → Type 0
+  IsWithoutKeys w t = IsKeyless t × Asked t
 
-module _ (o : EnvOptions) (no_all : Bool) (p : Tree) (off : NoneBeside o p) where
+  without-keys-silent : (w : Whole) (t : Tree) → IsWithoutKeys w t → silent_names by_global t ≡ []
+  without-keys-silent w t h = keyless_silent t h.0
+
   abbrev Helped : Whole → Tree → Type 0
   Helped = Lacking p IsWithoutKeys
 
@@ -121,27 +124,35 @@ module _ (o : EnvOptions) (no_all : Bool) (p : Tree) (off : NoneBeside o p) wher
   }
 
   helped-exports : NamespaceRuns o no_all by_global Helped
-  helped-exports = namespace-runs o no_all by_global IsKeyless keyless_silent keyless-parts Helped (λ w t c. c.0) (λ s s' x y h k m c. ((exports-run o no_all by_global IsKeyless keyless_silent keyless-parts h k c.0).1, absent-exports o p h k.alone c.1))
+  helped-exports = namespace-runs o no_all by_global IsKeyless keyless_silent keyless-parts Helped (λ w t c. c.0.0)
+      (λ s s' x y h k m c. (((exports-run o no_all by_global IsKeyless keyless_silent keyless-parts h k c.0.0).1, kept.exports s s' x y h k m c.0.1), absent-exports o p h k.alone c.1))
 
-  helped-run : (q : Tree) (names : List Text) → IsStatementProgram p → uses_no_helper by_global p ≡ true → Reached (built_rules o) p (first_whole p) names q → RunAlike by_global no_all p q
-  helped-run q names h none reached =
+  helped-clean : (s s' : Ledger) (x y : Open) → Step (only_where all_places (alone o)) the_program s x s' y → Known s x → Known s' y → Helped (whole_in s) (finished x) → Helped (whole_in s') (finished y)
+  helped-clean s s' x y r k m c =
+      let a = anywhere all_places (alone o) r in
+      let tame = (tamed-step o a k.proper m.proper k.class).0 in
+      ((statement-keyless p o off s s' x y tame k m c.1 c.0.0, kept.steps s s' x y tame k m c.1 c.0.1), absent-alone o p a k.alone c.1)
+
+  -- what is reached runs alike, and holds no such call, and what is asked is so of it
+  pub helped-run : (q : Tree) (names : List Text) → IsStatementProgram p → uses_no_helper by_global p ≡ true → Asked (source p) → Reached (built_rules o) p (first_whole p) names q → StepAlike no_all by_global p q × (IsKeyless q × Asked q)
+  helped-run q names h none asked reached =
       let keyless : IsKeyless (source p) = named-keyless (length (symbols_of p)) (is_among (names_of p)) (not-so (is_among (names_of p) (codes "babelHelpers")) none) reads (source p) (law_named_proof p (is_among (names_of p)) (length (symbols_of p)) h.form h.rules (λ x e. e) (omega arith)) in
-      rules-run o all_places no_all by_global Helped helped-silent helped-does (λ s s' x y r k m c. let a = anywhere all_places (alone o) r in (statement-keyless p o off s s' x y (tamed-step o a k.proper m.proper k.class).0 k m c.1 c.0, absent-alone o p a k.alone c.1)) helped-exports
-      p q names h (λ t e. keyless_silent t (same-keyless t (source p) (e ∙ source-bare p) keyless)) (keyless, absent-source p) (reached-anywhere o p (first_whole p) names q reached)
+      let r = rules-run o all_places all_places (same-places all_places) no_all by_global Helped helped-silent helped-does helped-clean helped-exports
+      p q names h (λ t e. keyless_silent t (same-keyless t (source p) (e ∙ source-bare p) keyless)) ((keyless, asked), absent-source p) (reached-anywhere o p (first_whole p) names q reached) in
+      (r.0, r.1.0)
     where
       not-so : (b : Bool) → not b ≡ true → b ≡ false
       not-so true h = absurd (cc h)
       not-so false h = refl
 
--- WITHOUT HELPERS, or with that of object spread alone; where chains act beside that, none holds a copy, or each acts before the copies in it
+-- WITHOUT HELPERS, or with that of object spread alone; where chains act beside that, none holds the name of the object of helpers
 
 -- what is asked of chains on the way
 data Asked : Type 0 where
-  nothing no_copies no_names : Asked
+  nothing no_names : Asked
 
 abbrev ChainsAsked : Asked → Tree → Type 0
 ChainsAsked nothing t = Unit {0}
-ChainsAsked no_copies t = CopylessChains t
 ChainsAsked no_names t = Nameless t
 
 abbrev Plain : EnvOptions → Asked → Whole → Tree → Type 0
@@ -149,7 +160,6 @@ Plain o asked w t = Suited o w t × ChainsAsked asked t
 
 asked-export : (o : EnvOptions) (asked : Asked) {s s' : Ledger} {x y : Open} → Step (Exports o) the_program s x s' y → Known s (spread x) → ChainsAsked asked (finished x) → ChainsAsked asked (finished y)
 asked-export o nothing h k c = tt
-asked-export o no_copies {x = x} h k c = exports-so no_copy_in_chain export-copyless o h (subst (λ (t : Tree). has_form s-Program t ≡ true) (finished-spread x) k.form) c
 asked-export o no_names {x = x} h k c = exports-so no_name_in_chain export-nameless o h (subst (λ (t : Tree). has_form s-Program t ≡ true) (finished-spread x) k.form) c
 
 module _ (o : EnvOptions) (p : Tree) (no_all : Bool) (u : Supply) (plain : is_core_supply u ≡ true) (asked : Asked) (at : Site → Spot → Bool) where
@@ -199,10 +209,14 @@ module _ (o : EnvOptions) (p : Tree) (no_all : Bool) (u : Supply) (plain : is_co
   abbrev StaysAsked : Type 0
   StaysAsked = (s s' : Ledger) (x y : Open) → Step (only_where at (StatementRules o)) the_program s x s' y → Known s x → Known s' y → ChainsAsked asked (finished x) → ChainsAsked asked (finished y)
 
-  plain-run : Chains → Spreads → StaysAsked → (q : Tree) (names : List Text) → IsStatementProgram p → TagsAreNoChains o p → ChainsAsked asked (source p) → Reached (only_where at (built_rules o)) p (first_whole p) names q → RunAlike u no_all p q
-  plain-run chains spreads stays q names h untagged copyless reached =
-      rules-run o at no_all u (Lacking p (Plain o asked)) kept-silent (plain-does chains spreads)
-      (λ s s' x y r k m c. let a = anywhere at (alone o) r in ((suited-step o s s' x y a k m c.0.0, stays s s' x y (tamed-where o at r k.proper m.proper k.class) k m c.0.1), absent-alone o p a k.alone c.1)) plain-exports p q names h (λ t e. none-silent u plain t) ((suited-start o p h untagged, copyless), absent-source p) reached
+  plain-run : (first : Site → Spot → Bool) → OffSlots first at → Chains → Spreads → StaysAsked → (q : Tree) (names : List Text) → IsStatementProgram p → TagsAreNoChains o p → ChainsAsked asked (source p) → Reached (only_where first (built_rules o)) p (first_whole p) names q → RunAlike u no_all p q
+  plain-run first off chains spreads stays q names h untagged so reached =
+      (rules-run o first at off no_all u (Lacking p (Plain o asked)) kept-silent (plain-does chains spreads)
+      (λ s s' x y r k m c. let a = anywhere first (alone o) r in ((suited-step o s s' x y a k m c.0.0, stays s s' x y (tamed-where o first at off r k.proper m.proper k.class) k m c.0.1), absent-alone o p a k.alone c.1)) plain-exports p q names h (λ t e. none-silent u plain t) ((suited-start o p h untagged, so), absent-source p) reached).0.runs
+
+  -- in whatever order, where nothing is asked of chains
+  anyhow : Chains → Spreads → StaysAsked → (q : Tree) (names : List Text) → IsStatementProgram p → TagsAreNoChains o p → ChainsAsked asked (source p) → Reached (only_where at (built_rules o)) p (first_whole p) names q → RunAlike u no_all p q
+  anyhow = plain-run at (same-places at)
 
   -- rows that don't act
   no-chains : chains_there o p ≡ false → Chains
@@ -235,16 +249,6 @@ module _ (o : EnvOptions) (p : Tree) (u : Supply) (plain : is_core_supply u ≡ 
       chosen true false e d = where-does Kept-there at (chains_under o) (plain-rests o p assumed u plain asked at o.es2020.optional_chaining false Row-there (λ i. e i && false) (λ r. no-chain o.assumptions.no_document_all p d))
       chosen false there e d = where-does Kept-there at (chains_under o) (off-does Kept-there o.es2020.optional_chaining Row-there e)
 
--- WHAT STANDS BESIDE HELPERS
-
--- chains hold no copy where they act beside object spread
-copyless-beside : (o : EnvOptions) (p : Tree) → spreads_there o p ≡ true → chains_there o p ≡ true → mixes_helpers o p ≡ false → CopylessChains (source p)
-copyless-beside o p e d h = source-copyless p (not-false (all_nodes no_copy_in_chain p) (sym (λ i. (e i && d i) && not (all_nodes no_copy_in_chain p)) ∙ h))
-  where
-    not-false : (b : Bool) → not b ≡ false → b ≡ true
-    not-false true h = refl
-    not-false false h = absurd (cc h)
-
 -- THE LAWS
 
 module _ (o : EnvOptions) (p q : Tree) (names : List Text) (h : IsStatementProgram p) (untagged : TagsAreNoChains o p) where
@@ -254,30 +258,20 @@ module _ (o : EnvOptions) (p q : Tree) (names : List Text) (h : IsStatementProgr
   abbrev Chains-row : Site → Ledger → Spot → Ledger → Spot → Type 0
   Chains-row = RowRule (OptionalChainingRule o.assumptions.no_document_all)
 
-  -- object spread beside chains: none holds a copy, or each is lowered before the copies in it
-  beside-chains : spreads_there o p ≡ true → chains_there o p ≡ true → (mixes_helpers o p ≡ true → Reached (chains_first o) p (first_whole p) names q) → Reached (built_rules o) p (first_whole p) names q → RunAlike spread_by_global assumes p q
-  beside-chains e d first reached = chosen (mixes_helpers o p) refl
-    where
-      chosen : (b : Bool) → mixes_helpers o p ≡ b → RunAlike spread_by_global assumes p q
-      chosen false off = plain-run o p assumes spread_by_global refl no_copies all_places
-          (with-chains o p spread_by_global refl no_copies all_places (λ a s s' x y r k m c d. copyless-runs o o.assumptions.no_document_all a s s' x y (anywhere all_places Chains-row r) k m c d))
-          (with-spreads o p assumes spread_by_global refl no_copies all_places refl) (λ s s' x y r k m c. statement-copyless o s s' x y (anywhere all_places (StatementRules o) r) k m c) q names h untagged (copyless-beside o p e d off) (reached-anywhere o p (first_whole p) names q reached)
-      chosen true on = plain-run o p assumes spread_by_global refl nothing is_before_copies
-          (with-chains o p spread_by_global refl nothing is_before_copies (λ a s s' x y r k m c d. first-runs o o.assumptions.no_document_all a s s' x y r k m c.0))
-          (with-spreads o p assumes spread_by_global refl nothing is_before_copies refl) (λ s s' x y r k m c. tt) q names h untagged tt (first on)
-
-  -- or no spread is lowered while a chain stands around it
-  outside-chains : all_nodes no_name_in_chain p ≡ true → Reached (spreads_outside o) p (first_whole p) names q → RunAlike spread_by_global assumes p q
-  outside-chains nameless reached = plain-run o p assumes spread_by_global refl no_names is_outside
+  -- object spread beside chains: no spread is lowered while a chain stands around it, and no chain holds that name at first
+  beside-chains : chains_there o p ≡ true → all_nodes no_name_in_chain p ≡ true → Reached (in_order o) p (first_whole p) names q → RunAlike spread_by_global assumes p q
+  beside-chains d nameless reached =
+      let on : o.es2020.optional_chaining ≡ true = (and_parts o.es2020.optional_chaining (any_node (is_sought of_chains) p) d).0 in
+      plain-run o p assumes spread_by_global refl no_names is_outside (is_in_order o) (outside-slots o on)
       (with-chains o p spread_by_global refl no_names is_outside (λ a s s' x y r k m c d. nameless-runs o o.assumptions.no_document_all a s s' x y (anywhere is_outside Chains-row r) k m c.0 c.1))
       (with-spreads o p assumes spread_by_global refl no_names is_outside refl) (statement-nameless o) q names h untagged (source-nameless p nameless) reached
 
   -- object spread beside assignments and powers, and the others without helpers
   without-chains : chains_there o p ≡ false → Reached (built_rules o) p (first_whole p) names q → RunAlike spread_by_global assumes p q
-  without-chains d reached = plain-run o p assumes spread_by_global refl nothing all_places (no-chains o p assumes spread_by_global refl nothing all_places d) (with-spreads o p assumes spread_by_global refl nothing all_places refl) (λ s s' x y r k m c. tt) q names h untagged tt (reached-anywhere o p (first_whole p) names q reached)
+  without-chains d reached = anyhow o p assumes spread_by_global refl nothing all_places (no-chains o p assumes spread_by_global refl nothing all_places d) (with-spreads o p assumes spread_by_global refl nothing all_places refl) (λ s s' x y r k m c. tt) q names h untagged tt (reached-anywhere o p (first_whole p) names q reached)
 
   without-spreads : spreads_there o p ≡ false → Reached (built_rules o) p (first_whole p) names q → RunAlike no_helpers assumes p q
-  without-spreads e reached = plain-run o p assumes no_helpers refl nothing all_places
+  without-spreads e reached = anyhow o p assumes no_helpers refl nothing all_places
       (with-chains o p no_helpers refl nothing all_places (λ a s s' x y r k m c d. chaining-runs o o.assumptions.no_document_all a s s' x y (anywhere all_places Chains-row r) k m c.0 d.0))
       (no-spreads o p assumes no_helpers refl nothing all_places e) (λ s s' x y r k m c. tt) q names h untagged tt (reached-anywhere o p (first_whole p) names q reached)
 
@@ -291,13 +285,9 @@ module _ (o : EnvOptions) (p q : Tree) (names : List Text) (h : IsStatementProgr
       chosen true false true e d g none = without-chains d reached
       chosen true false false e d g none =
           let v = or_parts (assignments_there o p) (powers_there o p) g in
-          helped-run o assumes p (record { chains = d; assignments = v.0; powers = v.1 }) q names h none reached
+          (helped-run o assumes p (record { chains = d; assignments = v.0; powers = v.1 }) (λ t. Unit {0}) (record { steps = λ s s' x y r k m a c. tt; exports = λ s s' x y r k m c. tt }) q names h none tt reached).0.runs
       chosen false d c e f g none = without-spreads e reached
 
 pub law_statement_rules_proof : LawStatementRules
-law_statement_rules_proof o p q names h first untagged none reached = by-rows o p q names h untagged (λ e d. beside-chains o p q names h untagged e d first reached) none reached
-
-pub law_spreads_outside_proof : LawSpreadsOutside
-law_spreads_outside_proof o p q names h nameless untagged none reached =
-    by-rows o p q names h untagged (λ e d. outside-chains o p q names h untagged nameless reached) none
-    (record { whole = reached.whole; steps = all_under (spreads_outside o) (built_rules o) (λ n s x s' y r. r.0) reached.steps; made = reached.made })
+law_statement_rules_proof o p q names h untagged none nameless reached ordered =
+    by-rows o p q names h untagged (λ e d. let both = and_from (spreads_there o p) (chains_there o p) e d in beside-chains o p q names h untagged d (nameless both) (ordered both)) none reached

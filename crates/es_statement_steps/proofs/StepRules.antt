@@ -19,6 +19,7 @@ use Rattle.es_steps.specs.OptionalCatch.CatchRule.{catches}
 use Rattle.es_steps.specs.OptionalChaining.{OptionalChainingRule}
 use Rattle.es_steps.specs.Rules.{Replacing, Writing, either_rule}
 use Rattle.es_steps.specs.Rules.Replacing.{replaces}
+use Rattle.es_steps.specs.Slots.{is_slot}
 use Rattle.es_steps.specs.Steps.{Ledger, Site, Spot, Step, Whole, the_program}
 use Rattle.es_steps.specs.Steps.Spot.{at_beside, at_body, at_list, at_node}
 use Rattle.es_steps.specs.WrapRule.{OutsideSlots, WrapRule}
@@ -139,6 +140,14 @@ rows-class no_all = record {
   spreading = spread-so is_statement_node refl (λ given. refl) (λ ps. refl) placed-class;
 }
 
+-- places of the one kind that are in no slot are of the other
+pub record OffSlots (at there : Site → Spot → Bool) : Type 0 where
+  pub nodes : (n : Site) (t : Tree) → is_slot n.above ≡ false → at n (at_node t) ≡ true → there n (at_node t) ≡ true
+  pub lists : (n : Site) (p : Pending) (x : Option Bound) (a : Additions) (ts : Trees) → at n (at_list p x a ts) ≡ true → there n (at_list p x a ts) ≡ true
+
+pub same-places : (at : Site → Spot → Bool) → OffSlots at at
+same-places at = record { nodes = λ n t slot h. h; lists = λ n p x a ts h. h }
+
 module _ (o : EnvOptions) where
   tame-nodes : (n : Site) (s s' : Ledger) (t u : Tree) → NoSlot n.above → alone o n s (at_node t) s' (at_node u) → Class t → StatementRules o n s (at_node t) s' (at_node u) × Class u
   tame-nodes n s s' t u slot (inl (inl h)) c = absurd (writes-lists h)
@@ -158,11 +167,11 @@ module _ (o : EnvOptions) where
   pub tamed-step : {s s' : Ledger} {x y : Open} → Step (alone o) the_program s x s' y → IsProper x → IsProper y → Class (finished x) → Step (StatementRules o) the_program s x s' y × Class (finished y)
   tamed-step h proper after class = tamed (alone o) (StatementRules o) (alone-form o) tame-alone h none-above proper after class
 
-  -- at some places alone
-  tame-where : (at : Site → Spot → Bool) → Tame (only_where at (alone o)) (only_where at (StatementRules o))
-  tame-where at = record {
-    nodes = λ n s s' t u slot h c. let r = tame-nodes n s s' t u slot h.0 c in ((r.0, h.1), r.1);
-    lists = λ n s s' p q x y a b ts us h. (tame-lists n s s' p q x y a b ts us h.0, h.1);
+  -- at some places alone, which are others in no slot
+  tame-where : (at there : Site → Spot → Bool) → OffSlots at there → Tame (only_where at (alone o)) (only_where there (StatementRules o))
+  tame-where at there off = record {
+    nodes = λ n s s' t u slot h c. let r = tame-nodes n s s' t u slot h.0 c in ((r.0, off.nodes n t slot.slot h.1), r.1);
+    lists = λ n s s' p q x y a b ts us h. (tame-lists n s s' p q x y a b ts us h.0, off.lists n p x a ts h.1);
   }
 
 -- a part of a rule keeps form as the rule does
@@ -182,8 +191,9 @@ statement-alone o n s x s' y (inr (inr h)) = inr h
 pub statement-form : (o : EnvOptions) → FormLawful (StatementRules o)
 statement-form o = under-form (StatementRules o) (alone o) (statement-alone o) (alone-form o)
 
-pub tamed-where : (o : EnvOptions) (at : Site → Spot → Bool) {s s' : Ledger} {x y : Open} → Step (only_where at (alone o)) the_program s x s' y → IsProper x → IsProper y → Class (finished x) → Step (only_where at (StatementRules o)) the_program s x s' y
-tamed-where o at h proper after class = (tamed (only_where at (alone o)) (only_where at (StatementRules o)) (under-form (only_where at (alone o)) (alone o) (λ n s x s' y r. r.0) (alone-form o)) (tame-where o at) h none-above proper after class).0
+pub tamed-where : (o : EnvOptions) (at there : Site → Spot → Bool) → OffSlots at there → {s s' : Ledger} {x y : Open} → Step (only_where at (alone o)) the_program s x s' y → IsProper x → IsProper y → Class (finished x) → Step (only_where there (StatementRules o)) the_program s x s' y
+tamed-where o at there off h proper after class =
+    (tamed (only_where at (alone o)) (only_where there (StatementRules o)) (under-form (only_where at (alone o)) (alone o) (λ n s x s' y r. r.0) (alone-form o)) (tame-where o at there off) h none-above proper after class).0
 
 pub writing-form : (o : EnvOptions) → FormLawful Writing
 writing-form o = under-form Writing (alone o) (λ n s x s' y h. inl (inl h)) (alone-form o)

@@ -174,4 +174,4 @@ generated-finds o n =
     let core = (generated-core n).core in
     let rests = no-rest (generated n) core in
     let unused = off-anyway o.es2026.explicit_resource_management (any_node is_using (generated n)) (no-using (generated n) core) in
-    finds-itself o (generated n) None unused (off-anyway (is_some o.es2018.object_rest_spread) (any_node is_object_rest (generated n)) rests) (none-refused o (lowers_using o (generated n)) (own_call (generated n)) (generated n) (generated-taken o n) (core-unimporting o (lowers_using o (generated n)) (generated n) (unasked-off o (generated n) unused) core rests))
+    finds-itself o (generated n) None unused (off-anyway (is_some o.es2018.object_rest_spread) (any_node is_object_rest (generated n)) rests) (none-refused o (lowers_using o (generated n)) (own_call o (generated n)) (generated n) (generated-taken o n) (core-unimporting o (lowers_using o (generated n)) (generated n) (unasked-off o (generated n) unused) core rests))

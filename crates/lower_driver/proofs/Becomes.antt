@@ -1,6 +1,6 @@
 -- From what the visit and the walk over arrows lead to, to what a source becomes: the walk that takes object rests.
 use Rattle.std.proofs.Common.{◌≡◌, ◌∙◌, ◌+◌, ◌*◌, ◌≤◌, ◌<◌, ◌^◌, ◌-◌, ℕ, [], Option, None, arith, refl, sym, ap, subst, true≢false}
-use Rattle.std.specs.Prelude.{Bool, true, false, ◌&&◌, is_some, if◌then◌else◌}
+use Rattle.std.specs.Prelude.{Bool, true, false, ◌&&◌, ◌||◌, is_some, if◌then◌else◌}
 use Rattle.es_tree.specs.Bare.{bare}
 use Rattle.es_tree.specs.Constructs.{any_kind, has_enabled_construct, is_arrow, is_object_rest, is_rest}
 use Rattle.es_tree.specs.HasForm.{has_form}
@@ -9,7 +9,7 @@ use Rattle.es_tree.specs.Tree.{Tree, node, Label, Fields, done, ◌then◌, miss
 use Rattle.es_tree.specs.Walks.{any_node}
 use Rattle.es_tree.specs.Words.{Text}
 use Rattle.es_tree.specs.declared.ast_type.AstType.{AstType}
-use Rattle.es_tree.specs.declared.ast_type.AstType.TheVariants.{ObjectPattern, Program as k-Program}
+use Rattle.es_tree.specs.declared.ast_type.AstType.TheVariants.{ObjectPattern, Program as k-Program, RestElement, TargetRest}
 use Rattle.es_tree.specs.declared.options.EnvOptions.{EnvOptions}
 use Rattle.es_tree.specs.declared.table.Sort.TheVariants.{Program as s-Program}
 use Rattle.es_tree.proofs.BareForm.{has_form-bare}
@@ -45,7 +45,10 @@ use Rattle.es_rest_rows.proofs.StraySteps.{law_strays_not_made_proof}
 use Rattle.es_lowered.specs.Lowered.{IsLowered}
 use Rattle.es_lowered.proofs.Idle.{law_idle_proof}
 use Rattle.es_lowered.proofs.Lowered.{law_lowered_alone_proof, law_lowered_proof}
+use Rattle.es_import_runs.proofs.ImportingResults.{law_importing_result_proof}
+use Rattle.es_statement_steps.specs.Orders.{in_order}
 use Rattle.es_statement_steps.proofs.Results.{law_statement_result_proof}
+use Rattle.es_top_names.proofs.SameSort.{law_same_sort_proof}
 use Rattle.es_unsupported.specs.FirstUnsupported.{first_unsupported}
 use Rattle.es_unsupported.proofs.ArrowsTaken.{law_arrows_taken_proof}
 use Rattle.es_unsupported.proofs.Built.{law_strays_taken_proof}
@@ -61,6 +64,7 @@ use Rattle.lower_driver.specs.Visits.{AreTaken}
 use Rattle.lower_driver.proofs.BareConstructs.{same-constructs}
 use Rattle.lower_driver.proofs.CoreNodes.{no-rest}
 use Rattle.lower_driver.proofs.CopiedOptions.{copied-enabled, copied-reached, copied-unsupported}
+use Rattle.lower_driver.proofs.InOrder.{anyhow}
 use Rattle.lower_driver.proofs.NoneLeft.{none-beside-rests, none-enabled, none-with-rests}
 use Rattle.lower_driver.proofs.NoneUnsupported.{none-unsupported}
 use Rattle.lower_driver.proofs.Untagged.{tags-are-no-chains}
@@ -76,11 +80,19 @@ children (one t then fs) = 1 + children fs
 children (many ts then fs) = number_of ts + children fs
 children (statements ts then fs) = number_of ts + children fs
 
-either-owed : (b : Bool) (n m : ℕ) → (if b then 10 + n else 0) ≤ 10 + (n + m)
+-- what a rest among the members of a pattern has for it
+abbrev for_pattern : Bool → ℕ
+for_pattern b = if b then 10 else 0
+
+abbrev of_rests : Fields → ℕ
+of_rests (many ps then fs) = for_pattern (any_kind is_rest ps)
+of_rests _ = 0
+
+either-owed : (b : Bool) (n m : ℕ) → (if b then 14 + n else 0) ≤ 10 + (n + m) + for_pattern b
 either-owed true n m = omega arith
 either-owed false n m = omega arith
 
-own-owed : (k : AstType) (l : Label) (fs : Fields) → rest_owes k l fs ≤ 10 + children fs
+own-owed : (k : AstType) (l : Label) (fs : Fields) → rest_owes k l fs ≤ 10 + children fs + of_rests fs
 own-owed ObjectPattern l (many ps then fs) = either-owed (any_kind is_rest ps) (number_of ps) (children fs)
 own-owed ObjectPattern l done = omega arith
 own-owed ObjectPattern l (missing then fs) = omega arith
@@ -88,21 +100,31 @@ own-owed ObjectPattern l (one t then fs) = omega arith
 own-owed ObjectPattern l (statements ts then fs) = omega arith
 own-owed k l fs = omega arith
 
--- at most eleven for each node; what a node may have for those in its fields is one of them
-mutual
-  few-owed : (t : Tree) → owed rest_owes t + 1 ≤ 11 * tree_size t
-  few-owed (node k l fs) = omega (arith, own-owed k l fs, few-owed-in fs)
+among-owed : (a b : Bool) (own later n size sizes : ℕ) → own + 1 + for_pattern a ≤ 11 * size → later + n + for_pattern b ≤ 11 * sizes → own + later + (1 + n) + for_pattern (a || b) ≤ 11 * (size + sizes)
+among-owed true b own later n size sizes first rest = omega arith
+among-owed false b own later n size sizes first rest = omega arith
 
-  few-owed-in : (fs : Fields) → owed_in rest_owes fs + children fs ≤ 11 * fields_size fs
+-- at most eleven for each node: what a node may have for those in its fields is one of them, and ten of a rest, which owes none itself, are for its
+-- pattern
+mutual
+  few-owed-of : (t : Tree) → owed rest_owes t + 1 + for_pattern (is_rest (kind_of t)) ≤ 11 * tree_size t
+  few-owed-of (node RestElement l fs) = omega (arith, few-owed-in fs)
+  few-owed-of (node TargetRest l fs) = omega (arith, few-owed-in fs)
+  few-owed-of (node k l fs) = omega (arith, own-owed k l fs, few-owed-in fs)
+
+  few-owed-in : (fs : Fields) → owed_in rest_owes fs + children fs + of_rests fs ≤ 11 * fields_size fs
   few-owed-in done = omega arith
   few-owed-in (missing then fs) = omega (arith, few-owed-in fs)
-  few-owed-in (one t then fs) = omega (arith, few-owed t, few-owed-in fs)
+  few-owed-in (one t then fs) = omega (arith, few-owed-of t, few-owed-in fs)
   few-owed-in (many ts then fs) = omega (arith, few-owed-among ts, few-owed-in fs)
   few-owed-in (statements ts then fs) = omega (arith, few-owed-among ts, few-owed-in fs)
 
-  few-owed-among : (ts : Trees) → owed_among rest_owes ts + number_of ts ≤ 11 * trees_size ts
+  few-owed-among : (ts : Trees) → owed_among rest_owes ts + number_of ts + for_pattern (any_kind is_rest ts) ≤ 11 * trees_size ts
   few-owed-among empty = omega arith
-  few-owed-among (t before ts) = omega (arith, few-owed t, few-owed-among ts)
+  few-owed-among (t before ts) = among-owed (is_rest (kind_of t)) (any_kind is_rest ts) (owed rest_owes t) (owed_among rest_owes ts) (number_of ts) (tree_size t) (trees_size ts) (few-owed-of t) (few-owed-among ts)
+
+few-owed : (t : Tree) → owed rest_owes t + 1 ≤ 11 * tree_size t
+few-owed t = omega (arith, few-owed-of t)
 
 pub owed-room : (p : Tree) (z : Program) (next start : ℕ) → tree_size (plain_program z) ≤ 31 * tree_size p → next ≤ 61 * tree_size p + start → start < 2 ^ 20 → tree_size p < 10 * 2 ^ 20 → next + owed rest_owes (plain_program z) < 2 ^ 32 - 1
 owed-room p z next start size given first small = omega (arith, few-owed (plain_program z), size, given, first, small)
@@ -135,10 +157,14 @@ module _ (o c : EnvOptions) (copy : IsCopy o c) (p : Tree) (form : has_form s-Pr
   same-on : is_some o.es2018.object_rest_spread ≡ is_some c.es2018.object_rest_spread
   same-on = λ i. is_some (sym copy.es2018 i).object_rest_spread
 
-  reached-so : (z : Program) (ctx : TraverseCtx TransformState) → Steps (Step (built_rules c) the_program) (nothing_beside (first_whole p)) (opened (source p)) (nothing_beside (whole_at (moment_of ctx))) (opened (seen names (plain_program z))) →
-      Reached (built_rules o) p (first_whole p) (made_of ctx) (seen names (plain_program z))
-  reached-so z ctx steps =
+  ordered-so : (z : Program) (ctx : TraverseCtx TransformState) → Steps (Step (in_order c) the_program) (nothing_beside (first_whole p)) (opened (source p)) (nothing_beside (whole_at (moment_of ctx))) (opened (seen names (plain_program z))) →
+      Reached (in_order o) p (first_whole p) (made_of ctx) (seen names (plain_program z))
+  ordered-so z ctx steps =
       copied-reached o c copy p (seen names (plain_program z)) (first_whole p) (made_of ctx) (record { whole = whole_at (moment_of ctx); steps = steps; made = names-bound (whole_at (moment_of ctx)).free_symbol (made_of ctx) })
+
+  reached-so : (z : Program) (ctx : TraverseCtx TransformState) → Steps (Step (in_order c) the_program) (nothing_beside (first_whole p)) (opened (source p)) (nothing_beside (whole_at (moment_of ctx))) (opened (seen names (plain_program z))) →
+      Reached (built_rules o) p (first_whole p) (made_of ctx) (seen names (plain_program z))
+  reached-so z ctx steps = anyhow o p (seen names (plain_program z)) (first_whole p) (made_of ctx) (ordered-so z ctx steps)
 
   result-so : (z : Program) (ctx : TraverseCtx TransformState) → Reached (built_rules o) p (first_whole p) (made_of ctx) (seen names (plain_program z)) → IsResult o p (plain_program z) (made_of ctx)
   result-so z ctx reached = law_result_proof o p (plain_program z) (seen names (plain_program z)) (made_of ctx) form right (λ on. law_arrows_taken_proof o p on taken_so) reached (law_bare_seen_proof names (plain_program z))
@@ -148,7 +174,7 @@ module _ (o c : EnvOptions) (copy : IsCopy o c) (p : Tree) (form : has_form s-Pr
 
   -- WHERE NO REST IS TAKEN
 
-  ends : (z : Program) (ctx : TraverseCtx TransformState) → Steps (Step (built_rules c) the_program) (nothing_beside (first_whole p)) (opened (source p)) (nothing_beside (whole_at (moment_of ctx))) (opened (seen names (plain_program z))) →
+  ends : (z : Program) (ctx : TraverseCtx TransformState) → Steps (Step (in_order c) the_program) (nothing_beside (first_whole p)) (opened (source p)) (nothing_beside (whole_at (moment_of ctx))) (opened (seen names (plain_program z))) →
       any_node (is_other_construct c) (seen names (plain_program z)) ≡ false → (is_some c.es2015.arrow_function && any_node is_arrow (seen names (plain_program z))) ≡ false → (is_some c.es2018.object_rest_spread && any_node is_object_rest (seen names (plain_program z))) ≡ false →
       tree_size (plain_program z) ≤ 31 * tree_size p → rests_there o p ≡ false → LowersInPlace o p (plain_program z) (made_of ctx)
   ends z ctx steps other arrows rests size none =
@@ -158,7 +184,8 @@ module _ (o c : EnvOptions) (copy : IsCopy o c) (p : Tree) (form : has_form s-Pr
         result = law_lowered_alone_proof o p (plain_program z) (made_of ctx) becomes;
         none = sym (copied-enabled o c copy (plain_program z)) ∙ same-constructs c there (plain_program z) (sym (law_bare_seen_proof names (plain_program z))) ∙ none-enabled c there other rests arrows;
         core = λ core. law_core_result_proof o p (plain_program z) (made_of ctx) core right becomes;
-        statements = λ no_rests runs. law_statement_result_proof o p (plain_program z) (made_of ctx) runs (tags-are-no-chains o p taken_so) becomes;
+        statements = λ no_rests runs. law_statement_result_proof o p (plain_program z) there (made_of ctx) runs (tags-are-no-chains o p taken_so) (ordered-so z ctx steps) (law_bare_seen_proof names (plain_program z));
+        importing = λ no_rests class m imported last runs goes apart. law_importing_result_proof o m p (plain_program z) imported (made_of ctx) last class runs becomes (law_same_sort_proof o p (plain_program z) (made_of ctx) form right (law_lowered_alone_proof o p (plain_program z) (made_of ctx) becomes)) goes apart;
         size = rw none (omega (arith, size));
       }
 
@@ -196,8 +223,8 @@ module _ (o c : EnvOptions) (copy : IsCopy o c) (p : Tree) (form : has_form s-Pr
           let size : tree_size (plain_program u) ≡ tree_size (plain_program z) = sym (size-seen names (plain_program u)) ∙ ap tree_size same ∙ size-seen names (plain_program z) in
           let small = arrived.size in
           ends u d
-          (subst (λ (t : Tree). Steps (Step (built_rules c) the_program) (nothing_beside (first_whole p)) (opened (source p)) (nothing_beside (whole_at (moment_of d))) (opened t)) (sym same)
-          (subst (λ (w : Whole). Steps (Step (built_rules c) the_program) (nothing_beside (first_whole p)) (opened (source p)) (nothing_beside w) (opened there)) (sym idle.1) arrived.steps))
+          (subst (λ (t : Tree). Steps (Step (in_order c) the_program) (nothing_beside (first_whole p)) (opened (source p)) (nothing_beside (whole_at (moment_of d))) (opened t)) (sym same)
+          (subst (λ (w : Whole). Steps (Step (in_order c) the_program) (nothing_beside (first_whole p)) (opened (source p)) (nothing_beside w) (opened there)) (sym idle.1) arrived.steps))
           (ap (any_node (is_other_construct c)) same ∙ arrived.other)
           (ap (λ (t : Tree). is_some c.es2015.arrow_function && any_node is_arrow t) same ∙ arrived.arrows)
           (off-second (is_some c.es2018.object_rest_spread) (any_node is_object_rest last) (ap (any_node is_object_rest) same ∙ free))
@@ -212,14 +239,14 @@ module _ (o c : EnvOptions) (copy : IsCopy o c) (p : Tree) (form : has_form s-Pr
             at false e = absurd (true≢false (sym has ∙ law_none_left_proof p (misplaced-program p (program-kind p form)) strays-source e))
 
         well : IsWellBound (whole_at (moment_of ctx)) there
-        unfolding reached reached-so
+        unfolding reached reached-so ordered-so
         well = law_reached_proof o (source p) there (first_whole p) (whole_at (moment_of ctx)) (program-kind (source p) (source-form p form)) (source-well-bound p form right) (all_under (built_rules o) (AllRules o) (built-all o) reached.steps)
 
         rows : Steps (Step RestRow the_program) (nothing_beside (whole_at (moment_of ctx))) (opened there) (nothing_beside (whole_at (moment_of d))) (opened last)
         rows = law_rest_walks_proof there (whole_at (moment_of ctx)) (whole_at (moment_of d)) (opened last) (program-kind there formed) well (law_helpers_unbound_proof o p there (made_of ctx) form right (law_helpers_free_proof o p on taken_so declared) reached) refl walk
 
         lowered : IsLowered o p (plain_program u) (made_of d)
-        unfolding reached reached-so
+        unfolding reached reached-so ordered-so
         lowered =
             law_lowered_proof o p (plain_program u) there last (made_of ctx) (made_of d) (whole_at (moment_of d)) form right (λ asked. law_arrows_taken_proof o p asked taken_so) on reached rows (names-bound (whole_at (moment_of d)).free_symbol (made_of d)) (law_bare_seen_proof names (plain_program u))
 
@@ -241,6 +268,7 @@ module _ (o c : EnvOptions) (copy : IsCopy o c) (p : Tree) (form : has_form s-Pr
               none = sym (copied-enabled o c copy (plain_program u)) ∙ same-constructs c last (plain_program u) (sym (law_bare_seen_proof names (plain_program u))) ∙ none-with-rests c last others (off-second (is_some c.es2018.object_rest_spread) (any_node is_object_rest last) none-last);
               core = λ core. absurd (true≢false (sym has ∙ no-rest p core.core));
               statements = λ no_rests runs. absurd (true≢false (sym there-is ∙ no_rests));
+              importing = λ no_rests class m imported last runs goes apart. absurd (true≢false (sym there-is ∙ no_rests));
               size = rw there-is (omega (arith, small, few, light, more));
             }
 
@@ -269,7 +297,8 @@ stays-in-place o p form right none =
       result = law_lowered_alone_proof o p p [] becomes;
       none = none;
       core = λ core. law_core_result_proof o p p [] core right becomes;
-      statements = λ no_rests runs. law_statement_result_proof o p p [] runs (tags-are-no-chains o p taken) becomes;
+      statements = λ no_rests runs. law_statement_result_proof o p p (source p) [] runs (tags-are-no-chains o p taken) (record { whole = first_whole p; steps = stays; made = refl }) (law_bare_source_proof p);
+      importing = λ no_rests class m imported last runs goes apart. law_importing_result_proof o m p p imported [] last class runs becomes refl goes apart;
       size = at (rests_there o p);
     }
   where

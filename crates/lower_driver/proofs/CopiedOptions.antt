@@ -1,11 +1,12 @@
 -- Options that are the same ask for the same.
 use Rattle.std.proofs.Common.{◌≡◌, ℕ, suc, ◌+◌, refl, sym, ap, ◌∙◌, subst, List, Option, inl, inr}
-use Rattle.std.specs.Prelude.{Bool, is_some}
+use Rattle.std.specs.Prelude.{◌||◌, ◌&&◌, Bool, is_some, not}
 use Rattle.std.specs.Option.{option_or}
 use Rattle.es_tree.specs.Constructs.{has_enabled_construct}
 use Rattle.es_tree.specs.Options.{first_fault}
 use Rattle.es_tree.specs.Tree.{Tree, node, Label, Fields, done, ◌then◌, Field, missing, one, many, statements, Trees, empty, ◌before◌}
 use Rattle.es_tree.specs.declared.ast_type.AstType.{AstType}
+use Rattle.es_tree.specs.declared.ast_type.AstType.TheVariants.{ObjectExpression}
 use Rattle.es_tree.specs.declared.options.EnvOptions.{EnvOptions}
 use Rattle.es_semantic.specs.Places.{Place, outermost, own_scope, own_scope_count, place_in, scope_count_in, scope_count_in_field}
 use Rattle.es_semantic.specs.SymbolsOf.{Declared, symbols_of}
@@ -16,13 +17,16 @@ use Rattle.es_steps.specs.NamespaceExports.{NamespaceRule}
 use Rattle.es_steps.specs.ObjectSpread.{SpreadRule}
 use Rattle.es_steps.specs.OptionalCatch.{CatchRule}
 use Rattle.es_steps.specs.Rules.{Replacing}
-use Rattle.es_steps.specs.Slots.{holds}
+use Rattle.es_steps.specs.Slots.{holds, is_slot}
 use Rattle.es_steps.specs.Steps.{Ledger, Site, Spot, Whole}
+use Rattle.es_steps.specs.Steps.Spot.{at_node}
 use Rattle.es_steps.specs.WrapRule.{WrapRule, is_wrapped_for}
 use Rattle.es_steps.specs.WrapRule.WrapRule.{wraps}
 use Rattle.es_steps.proofs.BridgeInclusion.{all_under}
 use Rattle.es_valid_steps.specs.Laws.{with_further_rules}
+use Rattle.es_conditions.specs.CoreConditions.{is_in_chain}
 use Rattle.es_reached.specs.Reached.{built_rules}
+use Rattle.es_statement_steps.specs.Orders.{in_order, is_in_order}
 use Rattle.es_unsupported.specs.ArrowShapes.{arrow_place_in, arrow_shape, binds_arguments, outside, refers_by}
 use Rattle.es_unsupported.specs.FirstUnsupported.{first_of, first_of_field, first_of_fields, first_of_trees, first_unsupported, found_at}
 use Rattle.es_unsupported.specs.Shapes.{shape_at}
@@ -110,5 +114,13 @@ module _ (o c : EnvOptions) (copy : IsCopy o c) where
   copied-built n s x s' y (inl r) = inl (copied-further n s x s' y r)
   copied-built n s x s' y (inr h) = inr (subst (λ (z : Type 0). z) (λ i. where_on (is_some (copy.es2015 i).arrow_function) ArrowRule n s x s' y) h)
 
-  abbrev pub copied-reached : (p q : Tree) (w : Whole) (names : List _) → Reached (built_rules c) p w names q → Reached (built_rules o) p w names q
-  copied-reached p q w names h = record { whole = h.whole; steps = all_under (built_rules c) (built_rules o) copied-built h.steps; made = h.made }
+  copied-order : (n : Site) (x : Spot) → is_in_order c n x ≡ is_in_order o n x
+  copied-order n (at_node (node ObjectExpression l fs)) = λ i. is_slot n.above || not ((copy.es2020 i).optional_chaining && is_in_chain n.above)
+  copied-order n (at_node (node _ l fs)) = refl
+  copied-order n _ = refl
+
+  pub copied-in-order : (n : Site) (s : Ledger) (x : Spot) (s' : Ledger) (y : Spot) → in_order c n s x s' y → in_order o n s x s' y
+  copied-in-order n s x s' y h = (copied-built n s x s' y h.0, sym (copied-order n x) ∙ h.1)
+
+  abbrev pub copied-reached : (p q : Tree) (w : Whole) (names : List _) → Reached (in_order c) p w names q → Reached (in_order o) p w names q
+  copied-reached p q w names h = record { whole = h.whole; steps = all_under (in_order c) (in_order o) copied-in-order h.steps; made = h.made }

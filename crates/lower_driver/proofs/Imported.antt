@@ -129,9 +129,9 @@ module _ (o : EnvOptions) (made : Bool) (own : Option ℕ) (q lowered written : 
           same-constructs o (imported_as module_text hs (unmarked last) lowered) written (m.goes on).written ∙ law_no_constructs_proof o module_text hs (unmarked last) lowered earlier
       at false off = ap (has_enabled_construct o) (m.stays off).0 ∙ earlier
 
-  pub size-after : tree_size written ≤ tree_size lowered + (if imports_helpers o made q then 18 else 0)
+  pub size-after : tree_size written ≤ tree_size lowered + (if imports_helpers o made q then 30 else 0)
   size-after = at (imports_helpers o made q) refl
     where
-      at : (b : Bool) → imports_helpers o made q ≡ b → tree_size written ≤ tree_size lowered + (if b then 18 else 0)
+      at : (b : Bool) → imports_helpers o made q ≡ b → tree_size written ≤ tree_size lowered + (if b then 30 else 0)
       at true on = law_imported_size_proof (first_whole lowered).in_use module_text lowered written last (m.goes on)
       at false off = rw (m.stays off).0 (omega arith)

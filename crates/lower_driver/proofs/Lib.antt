@@ -14,6 +14,7 @@ pub mod EitherTest
 pub mod Becomes
 pub mod FewScopes
 pub mod Imported
+pub mod InOrder
 pub mod Set
 pub mod Moved
 pub mod HeadNames

@@ -6,9 +6,10 @@ use Rattle.std.specs.Prelude.{Bool, true, false, ◌&&◌, Err, IfErr, IsErrAnd,
 use Rattle.es_tree.specs.Constructs.{has_enabled_construct, is_object_rest, is_using}
 use Rattle.es_tree.specs.Core.{IsCoreProgram}
 use Rattle.es_tree.specs.HasForm.{has_form}
+use Rattle.es_tree.specs.Options.{is_external}
 use Rattle.es_tree.specs.StaticRules.{breaks}
 use Rattle.es_tree.specs.Tree.{Tree, tree_size}
-use Rattle.es_tree.specs.Walks.{any_node}
+use Rattle.es_tree.specs.Walks.{all_nodes, any_node, first_node}
 use Rattle.es_tree.specs.Words.{Text}
 use Rattle.es_tree.specs.declared.error.LowerError.{LowerError}
 use Rattle.es_tree.specs.declared.error.LowerError.TheVariants.{OutOfMemory, Unsupported}
@@ -23,11 +24,14 @@ use Rattle.es_pattern_moves.proofs.MovedSize.{law_moved_size_proof}
 use Rattle.es_lowered.specs.Moved.{IsMoved}
 use Rattle.es_lowered.specs.Used.{IsUsed}
 use Rattle.es_reached.specs.Reached.{IsCoreResult}
+use Rattle.es_import_runs.specs.Laws.{RunsImporting, names_apart}
+use Rattle.es_statement_runs.specs.Helpers.Supply.{by_import}
+use Rattle.es_statement_runs.specs.Programs.{IsStatementProgram}
 use Rattle.es_statement_runs.specs.Runs.{RunAlike}
 use Rattle.es_statement_steps.specs.Laws.{RunsAsStatements, assumes_no_all, supply_there}
 use Rattle.es_export_splits.specs.Laws.{IsSplit}
 use Rattle.es_export_splits.specs.Splits.{has_split}
-use Rattle.es_helper_calls.specs.Importing.{imports_helpers, own_call}
+use Rattle.es_helper_calls.specs.Importing.{calls_helper, imports_helpers, own_call}
 use Rattle.es_using_modules.specs.Laws.{IsTopped}
 use Rattle.es_using_modules.specs.ModuleTops.{uses_at_top}
 use Rattle.es_super_calls.specs.Constructors.{is_derived_class}
@@ -62,11 +66,14 @@ finds-one o p a b f g =
     let topped : f.topped ≡ g.topped = one-topped (lowers_top o g.split g.used) g.used f.topped g.topped f.top_names g.top_names tops g.tops in
     let there = subst (λ (t : Tree). Moves (is_some o.es2018.object_rest_spread) t f.moved f.names) topped f.moves in
     let moved : f.moved ≡ g.moved = one-program (is_some o.es2018.object_rest_spread) g.topped f.moved g.moved f.names g.names there g.moves in
-    sym f.first ∙ ap (λ (s : Tree). first_refused o (lowers_using o s) (own_call s) f.moved) first ∙ ap (first_refused o (lowers_using o g.split) (own_call g.split)) moved ∙ g.first
+    sym f.first ∙ ap (λ (s : Tree). first_refused o (lowers_using o s) (own_call o s) f.moved) first ∙ ap (first_refused o (lowers_using o g.split) (own_call o g.split)) moved ∙ g.first
 
 -- whatever copy of the options it is
 copied-lowers : (o c : EnvOptions) → IsCopy o c → (p : Tree) → lowers_using c p ≡ lowers_using o p
 copied-lowers o c copy p = λ i. ((copy.es2026 i).explicit_resource_management && any_node is_using p) && not (binds_helpers (symbols_of p))
+
+copied-own : (o c : EnvOptions) → IsCopy o c → (p : Tree) → own_call c p ≡ own_call o p
+copied-own o c copy p = λ i. if is_external (copy.mode i) then None else first_node calls_helper p
 
 copied-splits : (o c : EnvOptions) → IsCopy o c → (p : Tree) → splits_exports c p ≡ splits_exports o p
 copied-splits o c copy p = λ i. is_some (copy.es2018 i).object_rest_spread && has_split p
@@ -87,11 +94,11 @@ copied-finds o c copy p a f = record {
   moved = f.moved;
   names = f.names;
   moves = subst (λ (b : Bool). Moves b f.topped f.moved f.names) (λ i. is_some (copy.es2018 i).object_rest_spread) f.moves;
-  first = ap (λ (b : Bool). first_refused o b (own_call f.split) f.moved) (sym (copied-lowers o c copy f.split)) ∙ sym (copied-refused o c copy (lowers_using c f.split) (own_call f.split) f.moved) ∙ f.first;
+  first = ap (λ (b : Bool). first_refused o b (own_call o f.split) f.moved) (sym (copied-lowers o c copy f.split)) ∙ ap (λ (own : Option ℕ). first_refused o (lowers_using c f.split) own f.moved) (sym (copied-own o c copy f.split)) ∙ sym (copied-refused o c copy (lowers_using c f.split) (own_call c f.split) f.moved) ∙ f.first;
 }
 
 -- in which neither `using` nor an object rest stands that is asked for
-pub finds-itself : (o : EnvOptions) (p : Tree) (a : Option (UnsupportedKind × ℕ)) → using_there o p ≡ false → (is_some o.es2018.object_rest_spread && any_node is_object_rest p) ≡ false → first_refused o (lowers_using o p) (own_call p) p ≡ a → Finds o p a
+pub finds-itself : (o : EnvOptions) (p : Tree) (a : Option (UnsupportedKind × ℕ)) → using_there o p ≡ false → (is_some o.es2018.object_rest_spread && any_node is_object_rest p) ≡ false → first_refused o (lowers_using o p) (own_call o p) p ≡ a → Finds o p a
 finds-itself o p a none rests first =
     let on = is_some o.es2018.object_rest_spread in
     let off = unasked-off o p none in
@@ -134,7 +141,7 @@ none-more (x ∷ xs) = ap (λ ys. x ∷ ys) (none-more xs)
 
 module _
     (o : EnvOptions) (s p t v z q lowered imported written : Tree) (heads contexts top_names names later last : List Text) (form : has_form s-Program s ≡ true) (right : breaks s ≡ []) (x : Splits (splits_exports o s) s p) (h : Heads (lowers_using o p) p t heads) (u : Uses (lowers_using o p) t v contexts)
-    (y : Tops (lowers_top o p v) v z top_names) (m : Moves (is_some o.es2018.object_rest_spread) z q names) (none : first_refused o (lowers_using o p) (own_call p) q ≡ None) (in_place : LowersInPlace o q lowered later) (imports : Imports (imports_helpers o (lowers_using o p) q) (string_bytes o.helper_loader.module_name) lowered imported last)
+    (y : Tops (lowers_top o p v) v z top_names) (m : Moves (is_some o.es2018.object_rest_spread) z q names) (none : first_refused o (lowers_using o p) (own_call o p) q ≡ None) (in_place : LowersInPlace o q lowered later) (imports : Imports (imports_helpers o (lowers_using o p) q) (string_bytes o.helper_loader.module_name) lowered imported last)
     (sets : Sets (sets_this o s) later imported written) where
   abbrev on : Bool
   on = is_some o.es2018.object_rest_spread
@@ -143,7 +150,7 @@ module _
   made = lowers_using o p
 
   abbrev own : Option ℕ
-  own = own_call p
+  own = own_call o p
 
   abbrev all_names : List Text
   all_names = heads ++ contexts ++ top_names ++ names ++ later ++ last
@@ -217,6 +224,16 @@ module _
       let there : RunAlike (supply_there o s) (assumes_no_all o s) s lowered = subst (λ (t : Tree). RunAlike (supply_there o t) (assumes_no_all o t) t lowered) same.moved (in_place.statements (ap (rests_there o) same.moved ∙ no_rests) (subst (λ (t : Tree). RunsAsStatements o t) (sym same.moved) runs)) in
       subst (λ (t : Tree). RunAlike (supply_there o s) (assumes_no_all o s) s t) (sym (as-before same off (no-class-among-statements s runs.class.without_functions)).0) there
 
+  -- a module that imports a helper
+  importing-there : using_there o s ≡ false → rests_there o s ≡ false → imports_helpers o false s ≡ true → IsStatementProgram s → RunsImporting o (string_bytes o.helper_loader.module_name) s → all_nodes (names_apart last) lowered ≡ true → RunAlike (by_import (string_bytes o.helper_loader.module_name)) false s written
+  importing-there no_using no_rests on_here class runs apart =
+      let m : Text = string_bytes o.helper_loader.module_name in
+      let same = same-there no_using no_rests in
+      let goes = imports.goes (ap (imports_helpers o made) same.moved ∙ ap (λ (b : Bool). imports_helpers o b s) same.unmade ∙ on_here) in
+      let there : RunAlike (by_import m) false q imported = in_place.importing (ap (rests_there o) same.moved ∙ no_rests) (subst (λ (t : Tree). IsStatementProgram t) (sym same.moved) class) m imported last (subst (λ (t : Tree). RunsImporting o m t) (sym same.moved) runs) goes apart in
+      let unset : written ≡ imported = sets.stays (off-anyway (is_some o.es2015.arrow_function) (any_node is_derived_class s) (no-class-among-statements s class.without_functions)) in
+      subst (λ (t : Tree). RunAlike (by_import m) false s t) (sym unset) (subst (λ (t : Tree). RunAlike (by_import m) false t imported) same.moved there)
+
   -- SIZE
 
   moved-size : z ≡ p → 2 * tree_size q ≤ (if splits_exports o s then 8 else 7) * tree_size s
@@ -246,14 +263,14 @@ module _
           let same = same-there e d in
           subst (λ (n : ℕ). tree_size lowered ≤ n * tree_size s + 64) (ap (λ b. if b then 384 else 64) (ap (rests_there o) same.moved ∙ d)) (subst (λ (t : Tree). tree_size lowered ≤ (if rests_there o q then 384 else 64) * tree_size t + 64) same.moved in_place.size)
 
-  imported-size : tree_size imported ≤ most_for_each (using_there o s) (rests_there o s) (splits_exports o s) * tree_size s + (if imports_helpers o made q then 82 else 64)
+  imported-size : tree_size imported ≤ most_for_each (using_there o s) (rests_there o s) (splits_exports o s) * tree_size s + (if imports_helpers o made q then 94 else 64)
   imported-size = at (imports_helpers o made q) (size-after o made own q lowered imported later last moved_there.form moved_there.kept none in_place.result imports)
     where
-      at : (b : Bool) → tree_size imported ≤ tree_size lowered + (if b then 18 else 0) → tree_size imported ≤ most_for_each (using_there o s) (rests_there o s) (splits_exports o s) * tree_size s + (if b then 82 else 64)
+      at : (b : Bool) → tree_size imported ≤ tree_size lowered + (if b then 30 else 0) → tree_size imported ≤ most_for_each (using_there o s) (rests_there o s) (splits_exports o s) * tree_size s + (if b then 94 else 64)
       at true more = let least = lowered-size in omega (arith, least, more)
       at false more = let least = lowered-size in omega (arith, least, more)
 
-  sized : tree_size written ≤ (if sets_this o s then 3 else 1) * (most_for_each (using_there o s) (rests_there o s) (splits_exports o s) * tree_size s + (if imports_helpers o made q then 82 else 64))
+  sized : tree_size written ≤ (if sets_this o s then 3 else 1) * (most_for_each (using_there o s) (rests_there o s) (splits_exports o s) * tree_size s + (if imports_helpers o made q then 94 else 64))
   sized = set-size (sets_this o s) later imported written sets _ imported-size
 
   -- what is imported is a program that breaks no static rule
@@ -298,12 +315,13 @@ module _
     none = none-after (sets_this o s) later imported written sets o (none-left o made own q lowered imported later last moved_there.form moved_there.kept none in_place.result imports in_place.none);
     core = core-there;
     statements = statements-there;
+    statements_importing = importing-there;
     unchanged = λ unasked. absurd (true≢false (sym some ∙ unasked));
     size = sized;
   }
 
 -- A program in which no construct stands that the options ask to lower becomes itself: no name is made, so none is set.
-pub becomes-itself : (o : EnvOptions) (p : Tree) → has_form s-Program p ≡ true → breaks p ≡ [] → using_there o p ≡ false → (is_some o.es2018.object_rest_spread && any_node is_object_rest p) ≡ false → imports_helpers o (lowers_using o p) p ≡ false → first_refused o (lowers_using o p) (own_call p) p ≡ None → LowersInPlace o p p [] → Lowers o p p []
+pub becomes-itself : (o : EnvOptions) (p : Tree) → has_form s-Program p ≡ true → breaks p ≡ [] → using_there o p ≡ false → (is_some o.es2018.object_rest_spread && any_node is_object_rest p) ≡ false → imports_helpers o (lowers_using o p) p ≡ false → first_refused o (lowers_using o p) (own_call o p) p ≡ None → LowersInPlace o p p [] → Lowers o p p []
 becomes-itself o p form right unused rests off none in_place =
     let on = is_some o.es2018.object_rest_spread in
     let off_here = unasked-off o p unused in
@@ -349,6 +367,7 @@ becomes-itself o p form right unused rests off none in_place =
       none = in_place.none;
       core = in_place.core;
       statements = λ no_using no_rests unasked runs. in_place.statements no_rests runs;
+      statements_importing = λ no_using no_rests on_here class runs apart. absurd (true≢false (sym on_here ∙ ap (λ (b : Bool). imports_helpers o b p) (sym off_here) ∙ off));
       unchanged = λ unasked. record { same = refl; no_names = refl };
       size = sized o p p p p p p p p p [] [] [] [] [] [] form right x h u y m none in_place imports sets;
     }
@@ -356,7 +375,7 @@ becomes-itself o p form right unused rests off none in_place =
 -- WHY IT IS REFUSED
 
 pub cause-of : (o : EnvOptions) (s p t v z q : Tree) (heads contexts top_names names : List Text) (error : LowerError) → Splits (splits_exports o s) s p → Heads (lowers_using o p) p t heads → Uses (lowers_using o p) t v contexts → Tops (lowers_top o p v) v z top_names → Moves (is_some o.es2018.object_rest_spread) z q names →
-    IsFirstOrMemory o (lowers_using o p) (own_call p) q error → IsUnsupportedOrMemory o s error
+    IsFirstOrMemory o (lowers_using o p) (own_call o p) q error → IsUnsupportedOrMemory o s error
 cause-of o s p t v z q heads contexts top_names names (Unsupported kind id) x h u y m e = record { split = p; splits = x; headed = t; head_names = heads; heads = h; used = v; context_names = contexts; uses = u; topped = z; top_names = top_names; tops = y; moved = q; names = names; moves = m; first = e }
 cause-of o s p t v z q heads contexts top_names names OutOfMemory x h u y m e = tt
 cause-of o s p t v z q heads contexts top_names names _ x h u y m e = absurd e

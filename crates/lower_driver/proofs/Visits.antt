@@ -80,6 +80,7 @@ use Rattle.es_starts.proofs.FirstContext.{first-of-context}
 use Rattle.es_starts.proofs.FirstFits.{law_fits_proof}
 use Rattle.es_starts.proofs.FirstTable.{law_first_of_table_proof}
 use Rattle.es_reached.specs.Reached.{IsResult, built_rules}
+use Rattle.es_statement_steps.specs.Orders.{in_order}
 use Rattle.es_reached.specs.Walks.{is_other_construct}
 use Rattle.es_reached.proofs.BuiltRules.{built-all}
 use Rattle.es_reached.proofs.Results.{law_first_proof, law_result_proof}
@@ -93,6 +94,7 @@ use Rattle.lower_driver.specs.Visits.{IsWalked, visit_ending, visit_profile}
 use Rattle.lower_driver.proofs.BareConstructs.{same-arrows}
 use Rattle.lower_driver.specs.Constructs.{is_lowered_construct, is_lowered_export}
 use Rattle.lower_driver.proofs.EitherTest.{none-of-trees}
+use Rattle.lower_driver.proofs.InOrder.{anyhow, arrow-order, whole-order, writing-order}
 use Rattle.lower_driver.proofs.NoneLeft.{no-exports, no-usings, none-came, none-other, none-written}
 use Rattle.lower_driver.proofs.Settled.{tree-settled}
 
@@ -189,19 +191,19 @@ whole-options o n s x s' y (inr (inr (inr (inr (inl never))))) = absurd never
 whole-options o n s x s' y (inr (inr (inr (inr (inr (inl never)))))) = absurd never
 whole-options o n s x s' y (inr (inr (inr (inr (inr (inr never)))))) = absurd never
 
--- they are among those that are built
-among-built : (o : EnvOptions) (n : Site) (s : Ledger) (x : Spot) (s' : Ledger) (y : Spot) → whole_rule (visit_profile o) (visit_ending o) n s x s' y → built_rules o n s x s' y
-among-built o n s x s' y r = inl (whole-options o n s x s' y r)
+-- they are among those that are built, and in order
+among-built : (o : EnvOptions) (n : Site) (s : Ledger) (x : Spot) (s' : Ledger) (y : Spot) → whole_rule (visit_profile o) (visit_ending o) n s x s' y → in_order o n s x s' y
+among-built o n s x s' y r = (inl (whole-options o n s x s' y r), whole-order o n s x s' y r)
 
 -- those of a walk over arrows are, or are of the walk
-walk-among : (o : EnvOptions) (n : Site) (s : Ledger) (x : Spot) (s' : Ledger) (y : Spot) → walk_rule n s x s' y → either_rule (built_rules o) ArrowWalkRule n s x s' y
-walk-among o n s x s' y (inl w) = inl (inl (inl (inl w)))
+walk-among : (o : EnvOptions) (n : Site) (s : Ledger) (x : Spot) (s' : Ledger) (y : Spot) → walk_rule n s x s' y → either_rule (in_order o) ArrowWalkRule n s x s' y
+walk-among o n s x s' y (inl w) = inl (inl (inl (inl w)), writing-order o n s x s' y w)
 walk-among o n s x s' y (inr r) = inr r
 
-has-arrows : (o : EnvOptions) → is_some o.es2015.arrow_function ≡ true → HasArrows o (built_rules o)
+has-arrows : (o : EnvOptions) → is_some o.es2015.arrow_function ≡ true → HasArrows o (in_order o)
 has-arrows o on = record {
-  among = λ n s s' x y r. built-all o n s x s' y r;
-  arrows = λ n s s' x y r. inr (subst (λ (b : Bool). where_on b ArrowRule n s x s' y) (sym on) r);
+  among = λ n s s' x y r. built-all o n s x s' y r.0;
+  arrows = λ n s s' x y r. (inr (subst (λ (b : Bool). where_on b ArrowRule n s x s' y) (sym on) r), arrow-order o n s x s' y r);
 }
 
 -- what is taken away there
@@ -234,7 +236,7 @@ source-formed p form = sym (has_form-bare s-Program (source p)) ∙ ap (has_form
 
 -- A program that was reached, with no other construct left but object rests, and how large it is, where the first id to be given was this.
 pub record Arrived (c : EnvOptions) (p : Tree) (start : ℕ) (z : Program) (ctx : TraverseCtx TransformState) : Type 0 where
-  pub steps : Steps (Step (built_rules c) the_program) (nothing_beside (first_whole p)) (opened (source p)) (nothing_beside (whole_at (moment_of ctx))) (opened (seen (symbol_in (symbols_of p)) (plain_program z)))
+  pub steps : Steps (Step (in_order c) the_program) (nothing_beside (first_whole p)) (opened (source p)) (nothing_beside (whole_at (moment_of ctx))) (opened (seen (symbol_in (symbols_of p)) (plain_program z)))
   pub other : any_node (is_other_construct c) (seen (symbol_in (symbols_of p)) (plain_program z)) ≡ false
   pub arrows : (is_some c.es2015.arrow_function && any_node is_arrow (seen (symbol_in (symbols_of p)) (plain_program z))) ≡ false
   pub options : (moment_of ctx).options ≡ c
@@ -266,7 +268,7 @@ module _ (c : EnvOptions) (p : Tree) (ctx ctx' : TraverseCtx TransformState) (x 
   known : holds_after (core_conditions c) the_program (seen names (plain_program x))
   known = subst (λ (t : Tree). holds_after (core_conditions c) the_program t) (sym there) (law_first_conditions_proof c p form right taken)
 
-  visited-reached : VisitedProgram (visit_profile c) (visit_ending c) (moment_of ctx) (seen names (plain_program x)) (moment_of ctx') result → top (moment_of ctx').lists ≡ nothing_pending → Reached (built_rules c) p (first_whole p) (made_of ctx') result
+  visited-reached : VisitedProgram (visit_profile c) (visit_ending c) (moment_of ctx) (seen names (plain_program x)) (moment_of ctx') result → top (moment_of ctx').lists ≡ nothing_pending → Reached (in_order c) p (first_whole p) (made_of ctx') result
   visited-reached visited finished =
       let a = moment_of ctx in
       let b = moment_of ctx' in
@@ -278,7 +280,7 @@ module _ (c : EnvOptions) (p : Tree) (ctx ctx' : TraverseCtx TransformState) (x 
       let whole = whole-first p ctx new in
       record {
         whole = whole_at b;
-        steps = all_under R (built_rules c) (among-built c) (subst (λ (z : Type 0). z) (λ i. Steps (Step R the_program) (ledger (whole i) nothing_pending None no_additions) (before i) (ledger (whole_at b) nothing_pending None no_additions) (after i)) steps);
+        steps = all_under R (in_order c) (among-built c) (subst (λ (z : Type 0). z) (λ i. Steps (Step R the_program) (ledger (whole i) nothing_pending None no_additions) (before i) (ledger (whole_at b) nothing_pending None no_additions) (after i)) steps);
         made = names-bound (whole_at b).free_symbol (made_of ctx');
       }
 
@@ -310,11 +312,14 @@ module _ (c : EnvOptions) (p : Tree) (ctx ctx' : TraverseCtx TransformState) (x 
   unbuilt = law_built_proof c p taken
 
   module _ (visited : VisitedProgram (visit_profile c) (visit_ending c) (moment_of ctx) (seen names (plain_program x)) (moment_of ctx') result) (finished : top (moment_of ctx').lists ≡ nothing_pending) where
-    between : Reached (built_rules c) p (first_whole p) (made_of ctx') result
-    between = visited-reached visited finished
+    ordered : Reached (in_order c) p (first_whole p) (made_of ctx') result
+    ordered = visited-reached visited finished
 
-    reached_whole : between.whole ≡ whole_at (moment_of ctx')
-    unfolding between visited-reached
+    between : Reached (built_rules c) p (first_whole p) (made_of ctx') result
+    between = anyhow c p result (first_whole p) (made_of ctx') ordered
+
+    reached_whole : ordered.whole ≡ whole_at (moment_of ctx')
+    unfolding ordered visited-reached
     reached_whole = refl
 
     visited_result : IsResult c p (plain_program y) (made_of ctx')
@@ -354,13 +359,13 @@ module _ (c : EnvOptions) (p : Tree) (ctx ctx' : TraverseCtx TransformState) (x 
 
       -- STEPS OF THE WALK
 
-      walked : is_some c.es2015.arrow_function ≡ true → ArrowsLowered (moment_of ctx') result (moment_of ctx'') last → Steps (Step (built_rules c) the_program) (nothing_beside (first_whole p)) (opened (source p)) (nothing_beside (whole_at (moment_of ctx''))) (opened last)
-      unfolding between visited-reached
+      walked : is_some c.es2015.arrow_function ≡ true → ArrowsLowered (moment_of ctx') result (moment_of ctx'') last → Steps (Step (in_order c) the_program) (nothing_beside (first_whole p)) (opened (source p)) (nothing_beside (whole_at (moment_of ctx''))) (opened last)
+      unfolding ordered visited-reached
       walked on steps =
-          let W = either_rule (built_rules c) ArrowWalkRule in
-          let first_steps = all_under (built_rules c) W (λ n s x s' y r. inl r) between.steps in
+          let W = either_rule (in_order c) ArrowWalkRule in
+          let first_steps = all_under (in_order c) W (λ n s x s' y r. inl r) ordered.steps in
           let later_steps = all_under walk_rule W (walk-among c) steps in
-          walks-are-steps c (built_rules c) (has-arrows c on) (source p) (first_whole p) (whole_at (moment_of ctx'')) (opened last) (kind-of-program (source p) (source-formed p form)) (law_start_proof p (first_whole p) form right (λ x e. rw e refl) (omega arith) (λ s. refl)) (law_first_uses_proof p form right) (steps-trans first_steps later_steps)
+          walks-are-steps c (in_order c) (has-arrows c on) (source p) (first_whole p) (whole_at (moment_of ctx'')) (opened last) (kind-of-program (source p) (source-formed p form)) (law_start_proof p (first_whole p) form right (λ x e. rw e refl) (omega arith) (λ s. refl)) (law_first_uses_proof p form right) (steps-trans first_steps later_steps)
 
       walked_none : ArrowsLowered (moment_of ctx') result (moment_of ctx'') last → any_node (is_other_construct c) last ≡ false
       walked_none steps = law_walk_makes_none_proof c result last (whole_at (moment_of ctx')) (whole_at (moment_of ctx'')) steps other_none
@@ -405,7 +410,7 @@ module _ (c : EnvOptions) (p : Tree) (ctx ctx' : TraverseCtx TransformState) (x 
         at false off =
             let small = small-last y ctx' kept (kept-itself (moment_of ctx') (plain_program y)) in
             let there : Arrived c p ctx.ast.next y ctx' = record {
-              steps = subst (λ (w : Whole). Steps (Step (built_rules c) the_program) (nothing_beside (first_whole p)) (opened (source p)) (nothing_beside w) (opened result)) reached_whole between.steps;
+              steps = subst (λ (w : Whole). Steps (Step (in_order c) the_program) (nothing_beside (first_whole p)) (opened (source p)) (nothing_beside w) (opened result)) reached_whole ordered.steps;
               other = other_none;
               arrows = ap (λ b. b && any_node is_arrow result) off;
               options = options-there;

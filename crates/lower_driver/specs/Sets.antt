@@ -6,7 +6,7 @@ use Rattle.es_tree.specs.Tree.{Tree}
 use Rattle.es_tree.specs.Walks.{any_node}
 use Rattle.es_tree.specs.Words.{Text}
 use Rattle.es_tree.specs.declared.options.EnvOptions.{EnvOptions}
-use Rattle.es_constructor_this.specs.ConstructorThis.{set_this}
+use Rattle.es_set_this.specs.ConstructorThis.{set_this}
 use Rattle.es_super_calls.specs.Constructors.{is_derived_class}
 use Rattle.es_super_calls.specs.declared.standing.ClassStanding.TheVariants.{Elsewhere}
 

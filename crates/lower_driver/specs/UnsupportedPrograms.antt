@@ -38,7 +38,7 @@ pub record Finds (o : EnvOptions) (source : Tree) (found : Option (UnsupportedKi
   pub moved : Tree
   pub names : List Text
   pub moves : Moves (is_some o.es2018.object_rest_spread) topped moved names
-  pub first : first_refused o (lowers_using o split) (own_call split) moved ≡ found
+  pub first : first_refused o (lowers_using o split) (own_call o split) moved ≡ found
 
 abbrev pub IsUnsupported : EnvOptions → Tree → UnsupportedKind → NodeId → Type 0
 IsUnsupported o p kind id = Finds o p (Some (kind, id.0))

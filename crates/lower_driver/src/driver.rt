@@ -205,7 +205,7 @@ fn lower_constructs(
     let sets = sets_this(&read.program, options);
     let split = split_exports(alloc, read, options)?;
     let asked = asks_for_using(&split.program, options);
-    let own = own_call(&split.program);
+    let own = own_call(&split.program, options);
     let (headed, mut names) = move_heads(alloc, split, asked)?;
     let (used, mut contexts) = lower_using(alloc, headed, asked)?;
     let (topped, mut top) = lower_top(alloc, used, asked)?;

@@ -60,7 +60,7 @@ returns-clause-lowers c =
     let in_place : LowersInPlace o q c.in_ok-lowered.lowered (map string_bytes later) = subst (λ (names : List Text). LowersInPlace o q c.in_ok-lowered.lowered names) (sym c.into_uids.ensures) c.in_ok-lowered.ensures.lowers in
     let sets : Sets (sets_this o s) (map string_bytes later) imported written =
     subst (λ (names : List Text). Sets (sets_this o s) names imported written) (sym c.into_uids.ensures) (subst (λ (on : Bool). Sets on (made_of c.in_ok-lowered.ctx) imported written) c.sets_this-sets.ensures c.in_ok-program.ensures) in
-    let none : first_refused o (lowers_using o p) (own_call p) q ≡ None = (λ i. first_refused o (sym made i) (sym own i) q) ∙ c.in_ok-lowered.ensures.taken in
+    let none : first_refused o (lowers_using o p) (own_call o p) q ≡ None = (λ i. first_refused o (sym made i) (sym own i) q) ∙ c.in_ok-lowered.ensures.taken in
     let made : Lowers o s written (map string_bytes heads ++ map string_bytes contexts ++ map string_bytes tops ++ map string_bytes first ++ map string_bytes later ++ map string_bytes last) =
     lowers o s p c.in_ok-headed.headed.program c.in_ok-used.used.program c.in_ok-topped.topped.program q c.in_ok-lowered.lowered imported written (map string_bytes heads) (map string_bytes contexts) (map string_bytes tops) (map string_bytes first) (map string_bytes later) (map string_bytes last) c.requires.form c.requires.kept c.in_ok-split.ensures.splits (heads-as c.asks_for_using-asked.ensures c.in_ok-headed.ensures.heads) (uses-as c.asks_for_using-asked.ensures c.in_ok-used.ensures.uses) (tops-as c.asks_for_using-asked.ensures c.in_ok-topped.ensures.tops) c.in_ok-moved.ensures.moves none in_place imports sets c.requires.some in
     let four = ((heads ++ contexts) ++ tops) ++ first in
@@ -96,6 +96,6 @@ returns-in_err-lowered-clause-cause c =
     let p = c.in_ok-split.split.program in
     let q = c.in_ok-moved.moved.program in
     let error = c.in_err-lowered.field-0.0 in
-    let first = subst (λ (b : Bool). IsFirstOrMemory o b (own_call p) q error) c.asks_for_using-asked.ensures (subst (λ (n : Option ℕ). IsFirstOrMemory o c.asks_for_using-asked.result n q error) c.own_call-own.ensures c.in_err-lowered.ensures.cause) in
+    let first = subst (λ (b : Bool). IsFirstOrMemory o b (own_call o p) q error) c.asks_for_using-asked.ensures (subst (λ (n : Option ℕ). IsFirstOrMemory o c.asks_for_using-asked.result n q error) c.own_call-own.ensures c.in_err-lowered.ensures.cause) in
     given-on c.from_residual-in_err-lowered.result error (IsUnsupportedOrMemory o s) c.from_residual-in_err-lowered.ensures.1
     (cause-of o s p c.in_ok-headed.headed.program c.in_ok-used.used.program c.in_ok-topped.topped.program q (map string_bytes c.in_ok-headed.names.items) (map string_bytes c.in_ok-used.contexts.items) (map string_bytes c.in_ok-topped.top.items) (map string_bytes c.in_ok-moved.first.items) error c.in_ok-split.ensures.splits (heads-as c.asks_for_using-asked.ensures c.in_ok-headed.ensures.heads) (uses-as c.asks_for_using-asked.ensures c.in_ok-used.ensures.uses) (tops-as c.asks_for_using-asked.ensures c.in_ok-topped.ensures.tops) c.in_ok-moved.ensures.moves first)

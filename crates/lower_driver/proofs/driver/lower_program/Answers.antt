@@ -20,7 +20,7 @@ returns-then-not-has_enabled_construct-clause-lowered c =
     let unused = using-none o p none in
     let rests = rests-none o p none in
     let off = none-unimporting o (lowers_using o p) p (unasked-off o p unused) (spreads-none o p none) rests in
-    let refused = none-refused o (lowers_using o p) (own_call p) p (none-unsupported o p none) off in
+    let refused = none-refused o (lowers_using o p) (own_call o p) p (none-unsupported o p none) off in
     record {
       lowers = subst (λ (names : List (String Global)). Lowers o p p (map string_bytes names)) (sym c.new.ensures.items) (becomes-itself o p c.requires.form c.requires.kept unused rests off refused (stays-in-place o p c.requires.form c.requires.kept none));
       warnings = c.in_ok-warnings.ensures;

@@ -1,31 +1,25 @@
 -- Optional chaining keeps runs beside object spread where the name of the object of helpers doesn't stand in the chain: both sides mean what they do without
 -- helpers.
-use Rattle.std.proofs.Common.{◌≡◌, ℕ, zero, suc, refl, sym, ap, subst, List}
+use Rattle.std.proofs.Common.{◌≡◌, ℕ, zero, suc, refl, sym, subst, List}
 use Rattle.std.proofs.lemmas.Bool.{and_from, and_parts}
-use Rattle.std.specs.Prelude.{Bool, true, false, not, ◌||◌, bytes_eq, codes}
+use Rattle.std.specs.Prelude.{Bool, true, not, bytes_eq, codes}
 use Rattle.es_tree.specs.Fresh.{candidate}
 use Rattle.es_tree.specs.Parens.{without_parens}
 use Rattle.es_tree.specs.Scopes.{Declared}
-use Rattle.es_tree.specs.Tree.{Tree, node, Label, Fields, done, ◌then◌, missing, one, many, statements, kind_of}
+use Rattle.es_tree.specs.Tree.{Tree, node, Label, Fields, done, ◌then◌, missing, one, many, statements}
 use Rattle.es_tree.specs.Walks.{all_in_fields, all_nodes}
 use Rattle.es_tree.specs.Words.{Text}
 use Rattle.es_tree.specs.declared.ast_type.AstType.{AstType}
-use Rattle.es_tree.specs.declared.ast_type.AstType.TheVariants.{ChainExpression, Identifier, ParenthesizedExpression, UnaryExpression}
-use Rattle.es_tree.specs.declared.options.EnvOptions.{EnvOptions}
+use Rattle.es_tree.specs.declared.ast_type.AstType.TheVariants.{ChainExpression, Identifier, ParenthesizedExpression}
 use Rattle.es_runs.specs.Alike.{SameWorld}
 use Rattle.es_runs.specs.Core.{World}
 use Rattle.es_resolution.specs.Declarations.{Bound}
 use Rattle.es_resolution.specs.Resolved.{Resolved}
 use Rattle.es_steps.specs.CoreBridge.{names_among}
-use Rattle.es_steps.specs.CoreRules.{RowRule}
-use Rattle.es_steps.specs.Open.{Open, finished}
 use Rattle.es_steps.specs.Duplication.{is_alone}
 use Rattle.es_steps.specs.OptionalChaining.{OptionalChainingRule}
 use Rattle.es_steps.specs.OptionalChaining.OptionalChainingRule.{as_callee, by_tests, in_delete}
-use Rattle.es_steps.specs.Steps.{Ledger, Site, Step, Whole, the_program}
-use Rattle.es_steps.specs.Steps.Spot.{at_node}
-use Rattle.es_steps.proofs.Taken.{whole_in}
-use Rattle.es_unsupported.specs.Shapes.{is_chain_kind}
+use Rattle.es_steps.specs.Steps.{Site, Whole}
 use Rattle.es_statement_runs.specs.Alike.{Quiet, SenseLike, StackSeen}
 use Rattle.es_statement_runs.specs.Helpers.Supply.{no_helpers, spread_by_global}
 use Rattle.es_statement_runs.specs.Kinds.{sense}
@@ -34,15 +28,13 @@ use Rattle.es_statement_runs.specs.Places.{Take, avoids, placed_at}
 use Rattle.es_statement_runs.specs.Senses.{Sense}
 use Rattle.es_statement_runs.proofs.AkinSupplies.{Apart, apart-sense}
 use Rattle.es_statement_runs.specs.Programs.{names_other}
-use Rattle.es_statement_steps.specs.Orders.{is_before_copies, no_name_in_chain, only_where}
-use Rattle.es_statement_steps.proofs.ChainPlaces.{chains-program}
+use Rattle.es_statement_steps.specs.Laws.{no_name_in_chain}
 use Rattle.es_statement_steps.proofs.Chainings.{ChainingRow, chaining-shape}
-use Rattle.es_statement_steps.proofs.Composition.{Known, known-fine}
 use Rattle.es_statement_steps.proofs.FoundNames.{Finds}
 use Rattle.es_statement_steps.proofs.MadeOf.{PassesMade, chaining-of, is_made_kind}
-use Rattle.es_statement_steps.proofs.OperandSteps.{ChainSteady, Suited, chain-steady-inwards, chaining-keeps-steady, steady-program}
-use Rattle.es_statement_steps.proofs.Premises.{RowWith, There, there-runs}
-use Rattle.es_statement_steps.proofs.RowRuns.{KeepsRuns, StepAlike, WorldsKnown, bad_temporaries, temporaries_frame}
+use Rattle.es_statement_steps.proofs.OperandSteps.{ChainSteady, chaining-keeps-steady}
+use Rattle.es_statement_steps.proofs.Premises.{RowWith}
+use Rattle.es_statement_steps.proofs.RowRuns.{WorldsKnown, bad_temporaries, temporaries_frame}
 use Rattle.es_statement_steps.proofs.StepMoves.{Fine, taken_at}
 
 -- WHAT THE ROW MAKES names no helper
@@ -89,26 +81,3 @@ pub chain-apart : (no_all : Bool) (n : Site) (w : Whole) (bs : List Bound) (t u 
 chain-apart no_all n w bs _ _ (by_tests {m = m} {e = e} level r some) h = (and_parts (all_in_fields names_other (one e then done)) (all_in_fields no_name_in_chain (one e then done)) h).0
 chain-apart no_all n w bs _ _ (as_callee {m = m} {e = e} level r some callee) h = (and_parts (all_in_fields names_other (one e then done)) (all_in_fields no_name_in_chain (one e then done)) h).0
 chain-apart no_all n w bs _ _ (in_delete {m = m} {l = l} {t = t} {e = e} texts alone target r some) h = and_from (all_nodes names_other t) true (apart-inside t l (one e then done) alone target (and_parts (all_nodes no_name_in_chain t) true h).0) refl
-
--- A STEP before the copies in the chain
-
-implied : (a b : Bool) → (not a || b) ≡ true → a ≡ true → b ≡ true
-implied true b h e = h
-implied false b h e = absurd (cc e)
-
-first-apart : (no_all : Bool) (n : Site) (w : Whole) (bs : List Bound) (t u : Tree) → OptionalChainingRule no_all n w bs t u → is_before_copies n (at_node t) ≡ true → Apart t
-first-apart no_all n w bs _ _ (by_tests {m = m} {e = e} level r some) h = h
-first-apart no_all n w bs _ _ (as_callee {m = m} {e = e} level r some callee) h = h
-first-apart no_all n w bs _ _ (in_delete {m = m} {l = l} {t = t} {e = e} texts alone target r some) h =
-    implied (is_chain_kind (kind_of (without_parens t))) (all_nodes names_other (node UnaryExpression m (one t then done))) h (ap (λ (c : Tree). is_chain_kind (kind_of c)) target)
-
-first-keeps : (no_all : Bool) → KeepsRuns no_all spread_by_global true (RowWith (ChainingRow no_all) (chaining-shape no_all) (There ChainSteady is_before_copies))
-first-keeps no_all = record {
-  alike = λ new n whole a b h t taken ds resolved found fine away quiet stack seen w v same known ls x.
-      apart-keeps no_all new n whole a b (h.0, h.1.0) (first-apart no_all n whole new a b h.0.rule h.1.1) t taken ds resolved found fine away quiet stack w v same known ls x;
-}
-
-pub first-runs : (o : EnvOptions) (no_all : Bool) → o.es2020.optional_chaining ≡ true → (s s' : Ledger) (x y : Open) → Step (only_where is_before_copies (RowRule (OptionalChainingRule no_all))) the_program s x s' y → Known s x → Known s' y → Suited o (whole_in s) (finished x) → StepAlike no_all spread_by_global (finished x) (finished y)
-first-runs o no_all asked s s' x y h k m c =
-    there-runs no_all spread_by_global ChainSteady is_before_copies chain-steady-inwards (ChainingRow no_all) (chaining-shape no_all) (first-keeps no_all) h k m refl refl
-    (steady-program o k c, chains-program (whole_in s) (finished x) k.form (known-fine k) (c.tags asked) k.keeps)
