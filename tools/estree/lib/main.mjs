@@ -8,8 +8,9 @@ export function isMain(url) {
   return started !== undefined && fs.existsSync(started) && fs.realpathSync(started) === fileURLToPath(url);
 }
 
-/** Runs a program. An error is told in one line on standard error, and the status is then 1. */
+/** Runs a program. An error is told in one line on standard error, and the status is then 1. Who reads the output may have enough of it, as head does. */
 export function runMain(program) {
+  process.stdout.on('error', error => { if (error.code !== 'EPIPE') throw error; });
   try {
     program();
   } catch (error) {
