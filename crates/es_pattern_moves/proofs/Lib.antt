@@ -15,7 +15,6 @@ pub mod MovedSize
 pub mod MovedAlike
 pub mod MovedCounts
 pub mod MovedAgree
-pub mod RowsInside
 pub mod RowsLead
 pub mod MovedRows
 pub mod MovedInward

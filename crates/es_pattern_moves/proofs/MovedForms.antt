@@ -32,32 +32,14 @@ use Rattle.es_steps.proofs.FormRules.{FormLawful, NodeFormed, no-names, nodes-on
 use Rattle.es_valid_rests.proofs.RestForms.{at-sort, catch-rest-form, for-each-form, formed-declaration, formed-declarator}
 use Rattle.es_valid_rests.proofs.RestFormsDeclared.{list-joined, list-parts, rest-joined, rest-parts}
 use Rattle.es_valid_rests.proofs.RestFormsMoved.{body-statements, body-with}
-use Rattle.es_rest_shapes.specs.RestShapes.{ends_in_rest, is_named_rest, is_plain_pattern, is_plain_property}
+use Rattle.es_rest_shapes.specs.RestShapes.{is_plain_pattern}
+use Rattle.es_rest_rows.proofs.PlainPatterns.{plain-holds}
 use Rattle.es_arrow_bodies.specs.ArrowBodies.BodyRule.{returns}
 use Rattle.es_arrow_bodies.proofs.BodyForms.{body-form}
 use Rattle.es_pattern_moves.specs.MoveRows.{MoveWalkRow, MovesOne}
 use Rattle.es_pattern_moves.specs.MoveRows.MovesOne.{moves_one}
 use Rattle.es_pattern_moves.specs.MoveRows.MoveWalkRow.{from_arrow, from_catch, from_declaration, from_expression, from_head, from_value}
 use Rattle.es_pattern_moves.proofs.MovedRows.{walk-only}
-
--- a pattern that moves holds a rest
-
-named-kind : (t : Tree) → is_named_rest t ≡ true → is_rest (kind_of t) ≡ true
-named-kind (node RestElement l fs) h = refl
-named-kind (node _ l fs) h = absurd (cc h)
-
-ends-rest : (ps : Trees) → ends_in_rest ps ≡ true → any_kind is_rest ps ≡ true
-ends-rest empty h = absurd (cc h)
-ends-rest (t before empty) h = or_left (is_rest (kind_of t)) _ (named-kind t h)
-ends-rest (t before u before ts) h = rw (ends-rest (u before ts) (and_parts (is_plain_property t) (ends_in_rest (u before ts)) h).1) (or-true (is_rest (kind_of t)))
-  where
-    or-true : (b : Bool) → (b || true) ≡ true
-    or-true true = refl
-    or-true false = refl
-
-plain-holds : (p : Tree) → is_plain_pattern p ≡ true → holds_rest p ≡ true
-plain-holds (node ObjectPattern l (many ps then done)) h = or_left (any_kind is_rest ps) (some_holds_rest ps) (ends-rest ps h)
-plain-holds (node _ l fs) h = absurd (cc h)
 
 -- PARAMETERS
 

@@ -23,7 +23,7 @@ use Rattle.es_steps.proofs.FormRules.{AtNodes, FormLawful}
 use Rattle.es_steps.proofs.FormSteps.{formed-after}
 use Rattle.es_steps.proofs.Opened.{finished-opened}
 use Rattle.es_steps.proofs.Taken.{pending_in, this_in, top_in, whole_in}
-use Rattle.es_pattern_moves.proofs.RowsInside.{body-row as body-inside, no_names}
+use Rattle.es_rest_steps.proofs.RowsInside.{body-row as body-inside, no_names}
 use Rattle.es_pattern_moves.specs.MoveRows.{MoveWalkRow}
 use Rattle.es_pattern_moves.specs.MoveRows.MoveWalkRow.{from_arrow, from_catch, from_declaration, from_expression, from_head, from_value}
 

@@ -50,7 +50,7 @@ use Rattle.es_pattern_moves.proofs.MovedParameters.{AreReady, SilentDefault, row
 use Rattle.es_pattern_moves.proofs.InnerTrees.{holds_inner}
 use Rattle.es_pattern_moves.proofs.MovedQuiet.{tree-none}
 use Rattle.es_pattern_moves.proofs.MovedRows.{body-row, formed-tree, same-body, walk-local}
-use Rattle.es_pattern_moves.proofs.RowsInside.{row-inside}
+use Rattle.es_rest_steps.proofs.RowsInside.{row-inside}
 use Rattle.es_pattern_moves.proofs.RowsLead.{LeadAmong, LeadBy, LeadIn, LeadTo, body-by as value-body-by, child-by, many-by, more-among, more-in, none-among, none-by, none-in, statement-body-by, statements-by}
 use Rattle.es_pattern_moves.proofs.MovedSupply.{At, at-next, is-bound, is-fresh, taking}
 

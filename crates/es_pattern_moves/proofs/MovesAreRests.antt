@@ -9,18 +9,10 @@ use Rattle.es_tree.specs.declared.ast_type.AstType.{AstType}
 use Rattle.es_tree.specs.declared.ast_type.AstType.TheVariants.{ArrowFunctionExpression, AssignmentPattern, CatchClause, ForInStatement, ForOfStatement, FunctionBody, FunctionDeclaration, FunctionExpression, ObjectPattern, RestElement, VariableDeclaration, VariableDeclarator}
 use Rattle.es_pattern_moves.specs.Laws.{LawMovesAreRests}
 use Rattle.es_pattern_moves.specs.PatternMoves.{all_may_move, all_move, is_rest_parameter, is_value, moves_from_arrow, moves_from_catch, moves_from_function, moves_from_head, moves_pattern, moves_with_body}
-use Rattle.es_rest_shapes.specs.RestShapes.{any_tree, ends_in_rest, is_named_rest, is_plain_pattern, is_plain_property}
+use Rattle.es_rest_shapes.specs.RestShapes.{any_tree, is_plain_pattern}
+use Rattle.es_rest_rows.proofs.PlainPatterns.{ends-rest}
 
 -- PATTERNS
-
-named-kind : (t : Tree) → is_named_rest t ≡ true → is_rest (kind_of t) ≡ true
-named-kind (node RestElement l fs) h = refl
-named-kind (node _ l fs) h = absurd (cc h)
-
-ends-rest : (ps : Trees) → ends_in_rest ps ≡ true → any_kind is_rest ps ≡ true
-ends-rest empty h = absurd (cc h)
-ends-rest (t before empty) h = or_left (is_rest (kind_of t)) false (named-kind t h)
-ends-rest (t before u before ts) h = or_right (is_rest (kind_of t)) (any_kind is_rest (u before ts)) (ends-rest (u before ts) (and_parts (is_plain_property t) (ends_in_rest (u before ts)) h).1)
 
 plain-rest : (p : Tree) → is_plain_pattern p ≡ true → any_node is_object_rest p ≡ true
 plain-rest (node ObjectPattern l (many ps then done)) h = or_left (any_kind is_rest ps) (any_in_fields is_object_rest (many ps then done)) (ends-rest ps h)

@@ -11,7 +11,7 @@ use Rattle.es_steps.specs.Steps.FieldStep.{in_child, in_children}
 use Rattle.es_steps.specs.Steps.FieldsStep.{in_first, in_later}
 use Rattle.es_steps.specs.Steps.Steps.{stays}
 use Rattle.es_steps.specs.Steps.TreesStep.{in_head, in_tail}
-use Rattle.es_pattern_moves.proofs.RowsInside.{list-row, program-row, target-row}
+use Rattle.es_rest_steps.proofs.RowsInside.{list-row, program-row, target-row}
 
 module _ (R : Site → Ledger → Spot → Ledger → Spot → Type 0) (There : Whole → ℕ → Type 0) where
   -- WHERE ROWS LEAD, with the number that is reached

@@ -1,14 +1,14 @@
 -- Tests of patterns with a rest, as the code has them, and as they are defined.
-use Rattle.std.proofs.Common.{◌≡◌, ◌∙◌, ◌<◌, ℕ, zero, suc, refl, ap, arith, List, [], ◌∷◌, Bool, true, false, get_or, length, take}
-use Rattle.std.specs.Prelude.{◌||◌, ◌&&◌}
+use Rattle.std.proofs.Common.{◌≡◌, ◌≢◌, true≢false, ◌∙◌, ◌<◌, ℕ, zero, suc, refl, ap, arith, List, [], ◌∷◌, Bool, true, false, get_or, length, take}
+use Rattle.std.specs.Prelude.{◌||◌, ◌&&◌, ◌==◌, None}
 use Rattle.std.specs.List.{list_all, list_any}
-use Rattle.es_tree.specs.Tree.{Tree, Trees, node, Label, Fields, done, ◌then◌, Field, missing, one, many, statements, trees}
+use Rattle.es_tree.specs.Tree.{Tree, Trees, node, Label, Fields, done, ◌then◌, Field, missing, one, many, statements, empty, ◌before◌, trees}
 use Rattle.es_tree.specs.Views.{plain_field, plain_fields}
-use Rattle.es_tree.specs.declared.ast_type.AstType.TheVariants.{ObjectPattern, RestElement, VariableDeclaration, VariableDeclarator}
+use Rattle.es_tree.specs.declared.ast_type.AstType.TheVariants.{ObjectPattern, RestElement, TemplateElement, VariableDeclaration, VariableDeclarator}
 use Rattle.es_tree.specs.declared.node.Field.{Field as NodeField}
 use Rattle.es_runs.specs.Duplication.{has_no_fields}
-use Rattle.es_rest_shapes.specs.RestShapes.{any_child, any_child_by, any_tree, ends_in_rest, is_misplaced, is_named_rest, is_odd_pattern, is_plain_pattern, is_plain_property, is_rest_declaration, is_rest_declarator, is_rest_pattern, is_stray_rest}
-use Rattle.es_rest_nodes.specs.RestFields.{are_plain_parts, declares_pattern, holds_rest_declarator, is_one_name, is_stray_declaration, is_stray_declarator, on_list, on_one, on_two}
+use Rattle.es_rest_shapes.specs.RestShapes.{any_child, any_child_by, any_tree, ends_in_rest, is_misplaced, is_named_rest, is_odd_pattern, is_plain_pattern, is_plain_property, is_rest_declaration, is_rest_declarator, is_rest_pattern, is_stray_rest, template_text}
+use Rattle.es_rest_nodes.specs.RestFields.{are_plain_parts, declares_pattern, holds_rest_declarator, is_one_name, is_stray_declaration, is_stray_declarator, on_list, on_one, on_two, lists_text, sole_text}
 
 -- LISTS
 
@@ -151,3 +151,73 @@ module _ (P : Tree → Tree → Bool) where
   more-than-two (f ∷ []) h = absurd (omega (arith, h))
   more-than-two (f ∷ g ∷ []) h = absurd (omega (arith, h))
   more-than-two (f ∷ g ∷ i ∷ fs) h = three-children (plain_field f) (plain_field g) (plain_field i) (plain_fields fs)
+
+-- TEMPLATES
+
+sole-template : (ts us : Trees) → sole_text ts us ≡ template_text (many ts then (many us then done))
+sole-template empty us = refl
+sole-template (node TemplateElement l fs before empty) empty = refl
+sole-template (node TemplateElement l fs before empty) (u before us) = refl
+sole-template (node TemplateElement l fs before t before ts) us = refl
+sole-template (node _ l fs before empty) empty = refl
+sole-template (node _ l fs before empty) (u before us) = refl
+sole-template (node _ l fs before t before ts) us = refl
+
+lists-template : (f g : Field) → lists_text f g ≡ template_text (f then g then done)
+lists-template missing g = refl
+lists-template (one t) g = refl
+lists-template (statements ts) g = refl
+lists-template (many ts) (many us) = sole-template ts us
+lists-template (many empty) g = refl
+lists-template (many (node TemplateElement l fs before empty)) missing = refl
+lists-template (many (node TemplateElement l fs before empty)) (one t) = refl
+lists-template (many (node TemplateElement l fs before empty)) (statements ts) = refl
+lists-template (many (node TemplateElement l fs before t before ts)) g = refl
+lists-template (many (node _ l fs before ts)) g = refl
+
+one-list : (f : Field) → template_text (f then done) ≡ None
+one-list missing = refl
+one-list (one t) = refl
+one-list (statements ts) = refl
+one-list (many empty) = refl
+one-list (many (node TemplateElement l fs before empty)) = refl
+one-list (many (node TemplateElement l fs before t before ts)) = refl
+one-list (many (node _ l fs before ts)) = refl
+
+three-lists : (f g h : Field) (fs : Fields) → template_text (f then g then h then fs) ≡ None
+three-lists missing g h fs = refl
+three-lists (one t) g h fs = refl
+three-lists (statements ts) g h fs = refl
+three-lists (many empty) g h fs = refl
+three-lists (many (node TemplateElement l gs before empty)) missing h fs = refl
+three-lists (many (node TemplateElement l gs before empty)) (one t) h fs = refl
+three-lists (many (node TemplateElement l gs before empty)) (statements ts) h fs = refl
+three-lists (many (node TemplateElement l gs before empty)) (many empty) h fs = refl
+three-lists (many (node TemplateElement l gs before empty)) (many (t before ts)) h fs = refl
+three-lists (many (node TemplateElement l gs before t before ts)) g h fs = refl
+three-lists (many (node _ l gs before ts)) g h fs = refl
+
+pub other-lists : (fs : List NodeField) → length fs ≢ 2 → template_text (plain_fields fs) ≡ None
+other-lists [] h = refl
+other-lists (f ∷ []) h = one-list (plain_field f)
+other-lists (f ∷ g ∷ []) h = absurd (omega (arith, h))
+other-lists (f ∷ g ∷ i ∷ fs) h = three-lists (plain_field f) (plain_field g) (plain_field i) (plain_fields fs)
+
+pub two-lists-of : (fs : List NodeField) (f g : NodeField) → length fs ≡ 2 → f ≡ get_or fs 0 f → g ≡ get_or fs 1 g → lists_text (plain_field f) (plain_field g) ≡ template_text (plain_fields fs)
+two-lists-of [] f g h d e = absurd (omega (arith, h))
+two-lists-of (f ∷ []) x y h d e = absurd (omega (arith, h))
+two-lists-of (f ∷ g ∷ []) x y h d e = (λ i. lists_text (plain_field (d i)) (plain_field (e i))) ∙ lists-template (plain_field f) (plain_field g)
+two-lists-of (f ∷ g ∷ i ∷ fs) x y h d e = absurd (omega (arith, h))
+
+-- elements of a template: one, and no expressions
+
+pub more-elements : (ts us : List Tree) → length ts ≢ 1 → sole_text (trees ts) (trees us) ≡ None
+more-elements [] us h = refl
+more-elements (t ∷ s ∷ ts) us h = refl
+more-elements (t ∷ []) us h = absurd (h refl)
+
+pub some-expressions : (ts us : List Tree) → (length us == 0) ≡ false → sole_text (trees ts) (trees us) ≡ None
+some-expressions ts [] h = absurd (true≢false h)
+some-expressions [] (u ∷ us) h = refl
+some-expressions (t ∷ []) (u ∷ us) h = refl
+some-expressions (t ∷ s ∷ ts) (u ∷ us) h = refl

@@ -1,7 +1,9 @@
 -- Tests of patterns with a rest, as the code has them: each of what stands in a node's fields.
-use Rattle.std.specs.Prelude.{◌&&◌, ◌||◌, Bool, false, not, true}
-use Rattle.es_tree.specs.Tree.{Tree, Trees, Fields, done, ◌then◌, one, many}
-use Rattle.es_rest_shapes.specs.RestShapes.{any_child, any_tree, declares_rest, ends_in_rest, is_misplaced, is_name, is_odd_pattern, is_plain_key, is_rest_declarator, is_rest_pattern}
+use Rattle.std.specs.Prelude.{◌&&◌, ◌||◌, Bool, false, not, true, Option, None}
+use Rattle.es_tree.specs.Tree.{Tree, node, Trees, empty, ◌before◌, Fields, done, ◌then◌, Field, one, many}
+use Rattle.es_tree.specs.Words.{Text}
+use Rattle.es_tree.specs.declared.ast_type.AstType.TheVariants.{TemplateElement}
+use Rattle.es_rest_shapes.specs.RestShapes.{any_child, any_tree, declares_rest, ends_in_rest, is_misplaced, is_name, is_odd_pattern, is_plain_key, is_read_key, is_rest_declarator, is_rest_pattern, second_text}
 
 -- one child, of which this holds
 abbrev pub on_one : (Tree → Bool) → Fields → Bool
@@ -55,5 +57,23 @@ are_plain_parts fs = on_list ends_in_rest fs
 abbrev pub has_plain_key : Bool → Fields → Bool
 has_plain_key computed fs = on_two (λ k v. is_plain_key computed k) fs
 
+abbrev pub has_read_key : Bool → Fields → Bool
+has_read_key computed fs = on_two (λ k v. is_read_key computed k) fs
+
 abbrev pub is_one_name : Fields → Bool
 is_one_name fs = on_one is_name fs
+
+-- the text of a template's element, if it gives one
+abbrev pub element_text : Tree → Option Text
+element_text (node TemplateElement l fs) = second_text l.texts
+element_text _ = None
+
+-- of a template of these elements and expressions: of one element, and no expressions
+abbrev pub sole_text : Trees → Trees → Option Text
+sole_text (t before empty) empty = element_text t
+sole_text ts us = None
+
+-- of a template of these fields
+abbrev pub lists_text : Field → Field → Option Text
+lists_text (many ts) (many us) = sole_text ts us
+lists_text f g = None

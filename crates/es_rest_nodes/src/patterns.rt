@@ -1,13 +1,13 @@
-//! Patterns with a rest (ECMA-262, 14.3.3), and which of them are plain: the text of each property's key stands in the program, and the
-//! rest at the end is a name.
+//! Patterns with a rest (ECMA-262, 14.3.3), and which of them are plain: the rest at the end is a name, and the text of each property's key stands in
+//! the program, or it is computed.
 ghost use Rattle.std.specs.Prelude.{◌≡◌};
 ghost use Rattle.std.specs.List.{list_all};
 ghost use Rattle.es_tree.specs.Tree.{trees};
 ghost use Rattle.es_tree.specs.Views.{plain_fields};
-ghost use Rattle.es_runs.specs.Duplication.{has_no_fields};
-ghost use Rattle.es_rest_shapes.specs.RestShapes.{ends_in_rest, is_known_key, is_literal_key, is_name, is_named_rest, is_plain_pattern, is_plain_property, is_rest_declarator, is_rest_pattern};
-ghost use Rattle.es_rest_nodes.specs.RestFields.{are_plain_parts, declares_pattern, has_plain_key, is_one_name};
+ghost use Rattle.es_rest_shapes.specs.RestShapes.{ends_in_rest, is_known_key, is_name, is_named_rest, is_plain_pattern, is_plain_property, is_rest_declarator, is_rest_pattern, reads_key};
+ghost use Rattle.es_rest_nodes.specs.RestFields.{are_plain_parts, declares_pattern, has_plain_key, has_read_key, is_one_name};
 
+use crate::keys::{has_no_fields, is_literal_key};
 use es_nodes::construct::is_object_rest;
 use es_tree::kind::Kind;
 use es_tree::node::{Field, Node};
@@ -38,7 +38,7 @@ fn declares_pattern(fields: &[Field]) -> bool
     }
 }
 
-/// Whether the node is a pattern of plain properties, and a rest that is a name at its end: `{ a, "b": c = 1, [2]: d, ...e }`.
+/// Whether the node is a pattern of plain properties, and a rest that is a name at its end: `{ a, "b": c = 1, [2]: d, [k]: e, ...g }`.
 pub fn is_plain_pattern(node: &Node) -> bool
     ensures { result ≡ is_plain_pattern node.now }
 {
@@ -74,7 +74,7 @@ fn are_plain(properties: &[Node]) -> bool
         .all(|property| is_plain_property(property))
 }
 
-/// Whether the text of a property's key stands in the program: a key that is computed is a text or a number, and another may also be a name.
+/// Whether the node is a property whose key is computed, or a name, a text or a number.
 fn is_plain_property(property: &Node) -> bool
     ensures { result ≡ is_plain_property property.now }
 {
@@ -90,10 +90,28 @@ fn has_plain_key(computed: bool, fields: &[Field]) -> bool
     ensures { result ≡ has_plain_key computed (plain_fields fields.now) }
 {
     match fields {
-        [Field::One(key), Field::One(..)] => match computed {
-            true => is_literal_key(key),
-            false => is_known_key(key),
-        },
+        [Field::One(key), Field::One(..)] => computed || is_known_key(key),
+        _ => false,
+    }
+}
+
+/// Whether the node is a property whose key is read: it is computed, and no text and no number.
+pub fn reads_key(property: &Node) -> bool
+    ensures { result ≡ reads_key property.now }
+{
+    match &property.kind {
+        Kind::PatternProperty { computed, .. } => {
+            has_read_key(*computed, property.fields.as_slice())
+        }
+        _ => false,
+    }
+}
+
+fn has_read_key(computed: bool, fields: &[Field]) -> bool
+    ensures { result ≡ has_read_key computed (plain_fields fields.now) }
+{
+    match fields {
+        [Field::One(key), Field::One(..)] => computed && !is_literal_key(key),
         _ => false,
     }
 }
@@ -103,18 +121,6 @@ fn is_known_key(key: &Node) -> bool
     ensures { result ≡ is_known_key key.now }
 {
     is_name(key) || is_literal_key(key)
-}
-
-/// Whether a key is a text or a number.
-fn is_literal_key(key: &Node) -> bool
-    ensures { result ≡ is_literal_key key.now }
-{
-    match &key.kind {
-        Kind::BigIntLiteral { .. } | Kind::NumericLiteral { .. } | Kind::StringLiteral { .. } => {
-            has_no_fields(key.fields.as_slice())
-        }
-        _ => false,
-    }
 }
 
 /// Whether a member of a pattern is a rest that is a name.
@@ -144,10 +150,4 @@ pub fn is_name(node: &Node) -> bool
         Kind::Identifier { .. } => has_no_fields(node.fields.as_slice()),
         _ => false,
     }
-}
-
-fn has_no_fields(fields: &[Field]) -> bool
-    ensures { result ≡ has_no_fields (plain_fields fields.now) }
-{
-    matches!(fields, [])
 }

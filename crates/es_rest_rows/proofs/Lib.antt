@@ -1,8 +1,8 @@
 pub mod HelperNames
-pub mod HelperSites
 pub mod HelperSteps
 pub mod PlainPatterns
 pub mod RowsAmongRules
+pub mod PartsForm
 pub mod Changes
 pub mod RestsMakeNone
 pub mod StrayNodes

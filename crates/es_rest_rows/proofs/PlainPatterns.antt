@@ -12,7 +12,7 @@ named-kind : (t : Tree) → is_named_rest t ≡ true → is_rest (kind_of t) ≡
 named-kind (node RestElement l fs) h = refl
 named-kind (node _ l fs) h = absurd (cc h)
 
-ends-rest : (ps : Trees) → ends_in_rest ps ≡ true → any_kind is_rest ps ≡ true
+pub ends-rest : (ps : Trees) → ends_in_rest ps ≡ true → any_kind is_rest ps ≡ true
 ends-rest empty h = absurd (cc h)
 ends-rest (t before empty) h = or_left (is_rest (kind_of t)) false (named-kind t h)
 ends-rest (t before u before ts) h = or_right (is_rest (kind_of t)) (any_kind is_rest (u before ts)) (ends-rest (u before ts) (and_parts (is_plain_property t) (ends_in_rest (u before ts)) h).1)

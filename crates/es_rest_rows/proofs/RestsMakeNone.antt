@@ -4,25 +4,28 @@ use Rattle.std.specs.Prelude.{Bool, true, false, ◌&&◌, ◌||◌, not, bytes_
 use Rattle.es_tree.specs.Ancestors.{Ancestor}
 use Rattle.es_tree.specs.Constructs.{any_kind, field_at, is_chain, is_enabled_statement, is_exponentiation, is_logical_assignment, is_nullish_coalescing, is_object_spread}
 use Rattle.es_tree.specs.Names.{first_text}
-use Rattle.es_tree.specs.Tree.{Tree, node, Label, Fields, done, ◌then◌, Field, one, many, Trees, empty, ◌before◌, fields, kind_of}
+use Rattle.es_tree.specs.Tree.{Tree, node, Label, Fields, done, ◌then◌, Field, missing, one, many, statements, Trees, empty, ◌before◌, fields, kind_of}
 use Rattle.es_tree.specs.Words.{Text}
 use Rattle.es_tree.specs.declared.ast_type.AstType.{AstType}
-use Rattle.es_tree.specs.declared.ast_type.AstType.TheVariants.{ArrayExpression, ArrowFunctionExpression, AssignmentExpression, BinaryExpression, CallExpression, CatchClause, ChainExpression, ExportAllDeclaration, Identifier, LogicalExpression, MemberExpression, ObjectExpression, ObjectPattern, ObjectTarget, RestElement, SequenceExpression, StringLiteral, VariableDeclaration, VariableDeclarator}
+use Rattle.es_tree.specs.declared.ast_type.AstType.TheVariants.{ArrayExpression, ArrowFunctionExpression, AssignmentExpression, BinaryExpression, CallExpression, CatchClause, ChainExpression, ExportAllDeclaration, Identifier, LogicalExpression, MemberExpression, ObjectExpression, ObjectPattern, ObjectTarget, PatternProperty, RestElement, SequenceExpression, StringLiteral, VariableDeclaration, VariableDeclarator}
 use Rattle.es_tree.specs.declared.options.EnvOptions.{EnvOptions}
 use Rattle.es_resolution.specs.Declarations.{Bound}
-use Rattle.es_steps.specs.Nodes.{call_node, declarator_with, identifier, joined_trees, string_node}
-use Rattle.es_steps.specs.ObjectRest.{declares_as, helper_node, rest_value, whole_value}
+use Rattle.es_steps.specs.Nodes.{array_node, call_node, declarator_with, identifier, joined_trees, made as made_label, member_node}
+use Rattle.es_steps.specs.ObjectRest.{declares_as, helper_node, whole_value}
 use Rattle.es_steps.specs.Open.{Pending, body_with, opened, with_vars, written_body}
 use Rattle.es_steps.specs.Rules.{next_name}
-use Rattle.es_steps.specs.Steps.{Ledger, Site, Spot, Step, Steps, the_program}
+use Rattle.es_steps.specs.Steps.{Ledger, Site, Spot, Step, Steps, Whole, the_program}
 use Rattle.es_steps.specs.Steps.Spot.{at_node}
 use Rattle.es_steps.proofs.FormRules.{AtNodes, no-names}
 use Rattle.es_steps.proofs.Opened.{finished-opened}
+use Rattle.es_steps.proofs.Written.{joined-twice}
 use Rattle.es_reached.proofs.FreeTrees.{Free, FreeAll, FreeBy, FreeIn, PassesNoMade, body-free, free, free-body, free-joined, free-whole, joined-free, joined-kinds, none, vars-free, whole-free}
 use Rattle.es_reached.proofs.WalkTests.{Alike, AlikeBy, AlikeIn, IsBlind, alike-node, by-one, by-same, others-steady}
 use Rattle.es_rest_rows.specs.Laws.{LawRestsMakeNone, is_other_construct}
-use Rattle.es_rest_rows.specs.RestRows.{RestWalkRow, declaring, keys_of, taken, with_rest}
+use Rattle.es_rest_rows.specs.RestRows.{NamesKeys, RestWalkRow, declaring, group, groups, groups_by, keyed_by, keys_by, keys_of, left_of, names_key, taken, text_of_key, with_rest}
+use Rattle.es_rest_rows.specs.RestRows.NamesKeys.{knows, no_properties, reads_one}
 use Rattle.es_rest_rows.specs.RestRows.RowsWhere.{stores, takes}
+use Rattle.es_rest_shapes.specs.RestShapes.{any_tree, reads_key}
 use Rattle.es_rest_rows.proofs.Changes.{Changed, ChangedAll, ChangedBy, ChangedIn, Grown, in-a-row, nodes-change, opened-proper}
 use Rattle.es_rest_rows.proofs.Changes.Changed.{here, within}
 use Rattle.es_rest_rows.proofs.Changes.ChangedIn.{first, later}
@@ -37,6 +40,7 @@ is_row_kind ArrayExpression = true
 is_row_kind CallExpression = true
 is_row_kind MemberExpression = true
 is_row_kind ObjectPattern = true
+is_row_kind PatternProperty = true
 is_row_kind SequenceExpression = true
 is_row_kind _ = false
 
@@ -81,6 +85,7 @@ module _ (o : EnvOptions) where
   rows-other CallExpression l fs h = nothing-on (o.es2026.explicit_resource_management && false) (off o.es2026.explicit_resource_management)
   rows-other MemberExpression l fs h = nothing-on (o.es2026.explicit_resource_management && false) (off o.es2026.explicit_resource_management)
   rows-other ObjectPattern l fs h = nothing-on (o.es2026.explicit_resource_management && false) (off o.es2026.explicit_resource_management)
+  rows-other PatternProperty l fs h = nothing-on (o.es2026.explicit_resource_management && false) (off o.es2026.explicit_resource_management)
   rows-other SequenceExpression l fs h = nothing-on (o.es2026.explicit_resource_management && false) (off o.es2026.explicit_resource_management)
   rows-other _ l fs h = absurd (cc h)
 
@@ -124,9 +129,33 @@ or-twice false b = refl
 other-kinds : (q : AstType → Bool) (a c : Trees) (d : Tree) (us : Trees) → any_kind q (d before c) ≡ any_kind q (joined_trees us c) → any_kind q (joined_trees a (d before c)) ≡ any_kind q (joined_trees a (joined_trees us c))
 other-kinds q a c d us e = joined-kinds q a (d before c) ∙ ap (λ v. any_kind q a || v) e ∙ sym (joined-kinds q a (joined_trees us c))
 
-taken-kinds : (q : AstType → Bool) (l : Label) (fs : Fields) (lp : Label) (s : Tree) (ps : Trees) (t : Tree) (c : Trees) → any_kind q (node VariableDeclarator l fs before c) ≡ any_kind q (joined_trees (taken lp s ps t) c)
-taken-kinds q l fs lp s empty t c = refl
-taken-kinds q l fs lp s (p before ps) t c = or-twice (q VariableDeclarator) (any_kind q c)
+names-kind : (q : AstType → Bool) (x : Bound) (p : Tree) → q (kind_of (names_key x p)) ≡ q VariableDeclarator
+names-kind q x (node k l done) = refl
+names-kind q x (node k l (missing then fs)) = refl
+names-kind q x (node k l (one e then fs)) = refl
+names-kind q x (node k l (many ts then fs)) = refl
+names-kind q x (node k l (statements ts then fs)) = refl
+
+or-thrice : (a b c d : Bool) → c ≡ a → d ≡ (a || b) → (a || (c || d)) ≡ (a || b)
+or-thrice true b c d e f = refl
+or-thrice false b c d e f = (λ i. e i || f i)
+
+-- groups are declarators
+groups-kinds : (q : AstType → Bool) (lp : Label) (s : Tree) (xs : List Bound) (b ps us : Trees) → any_kind q (joined_trees (groups lp s xs b ps) us) ≡ (q VariableDeclarator || any_kind q us)
+groups-kinds q lp s xs b empty us = refl
+groups-kinds q lp s xs b (p before ps) us = at (reads_key p) xs (λ ys these. groups-kinds q lp s ys these ps us)
+  where
+    at : (v : Bool) (xs : List Bound) → ((ys : List Bound) (these : Trees) → any_kind q (joined_trees (groups lp s ys these ps) us) ≡ (q VariableDeclarator || any_kind q us)) →
+        any_kind q (joined_trees (groups_by v lp s xs b p (λ ys these. groups lp s ys these ps)) us) ≡ (q VariableDeclarator || any_kind q us)
+    at true (x ∷ xs) behind = or-thrice (q VariableDeclarator) (any_kind q us) (q (kind_of (names_key x p))) (any_kind q (joined_trees (groups lp s xs (keyed_by x p before empty) ps) us)) (names-kind q x p) (behind xs (keyed_by x p before empty))
+    at true [] behind = behind [] (joined_trees b (p before empty))
+    at false xs behind = behind xs (joined_trees b (p before empty))
+
+taken-kinds : (q : AstType → Bool) (l : Label) (fs : Fields) (lp : Label) (s : Tree) (xs : List Bound) (ps : Trees) (t : Tree) (c : Trees) → any_kind q (node VariableDeclarator l fs before c) ≡ any_kind q (joined_trees (taken lp s xs ps t) c)
+taken-kinds q l fs lp s xs empty t c = refl
+taken-kinds q l fs lp s xs (p before ps) t c =
+    let last = declarator_with t (left_of (any_tree reads_key (p before ps)) s (keys_of xs (p before ps))) in
+    or-twice (q VariableDeclarator) (any_kind q c) ∙ (sym (groups-kinds q lp s xs empty (p before ps) (last before c)) ∙ ap (λ (ds : Trees). any_kind q ds) (sym (joined-twice (groups lp s xs empty (p before ps)) (last before empty) c)))
 
 list-alike : (ts us : Trees) → ((q : AstType → Bool) → IsBlind q → any_kind q ts ≡ any_kind q us) → AlikeBy (many ts) (many us)
 list-alike ts us h = record { child = λ q b. refl; target = refl; members = h; there = refl }
@@ -162,24 +191,63 @@ module _ (T : AstType → Label → Fields → Bool) (other : IsOther T) where
           let left_free = joined-free T us c (split parts.1.0) parts.1.1 in
           (sym (other.same VariableDeclaration m (many old then done) (many new then done) (first-alike (many old) (many new) done (list-alike old new (λ q b. other-kinds q a c d us (e q))))) ∙ h.0, (joined-free T a (joined_trees us c) parts.0 left_free, tt))
 
-  texts-free : (ks : List Text) → FreeIn T (fields (map (λ t. one t) (map string_node ks)))
-  texts-free [] = tt
-  texts-free (k ∷ ks) = ((other.made StringLiteral _ _ refl, tt), texts-free ks)
-
   helper-free : (h : Text) → Free T (helper_node h)
   helper-free h = (other.rows MemberExpression _ _ refl, ((other.made Identifier _ _ refl, tt), ((other.made Identifier _ _ refl, tt), tt)))
 
-  value-free : (s : Tree) (ks : List Text) → Free T s → Free T (rest_value s ks)
-  value-free s ks h = (other.rows CallExpression _ _ refl, (helper-free (codes "objectWithoutProperties"), ((h, ((other.rows ArrayExpression _ _ refl, texts-free ks), tt)), tt)))
+  array-free : (ks : List Tree) → FreeIn T (fields (map one ks)) → Free T (array_node ks)
+  array-free ks h = (other.rows ArrayExpression _ _ refl, h)
+
+  left-free : (v : Bool) (s : Tree) (ks : List Tree) → Free T s → FreeIn T (fields (map one ks)) → Free T (left_of v s ks)
+  left-free false s ks h k = (other.rows CallExpression _ _ refl, (helper-free (codes "objectWithoutProperties"), ((h, (array-free ks k, tt)), tt)))
+  left-free true s ks h k =
+      let mapping : Free T (member_node (array_node ks) (codes "map")) = (other.rows MemberExpression _ _ refl, (array-free ks k, ((other.made Identifier _ _ refl, tt), tt))) in
+      let mapped : Free T (call_node (member_node (array_node ks) (codes "map")) (helper_node (codes "toPropertyKey") ∷ [])) = (other.rows CallExpression _ _ refl, (mapping, ((helper-free (codes "toPropertyKey"), tt), tt))) in
+      (other.rows CallExpression _ _ refl, (helper-free (codes "objectWithoutProperties"), ((h, (mapped, tt)), tt)))
 
   alone-free : (s : Tree) → Free T s → Free T (whole_value s)
   alone-free s h =
       let emptied : Free T (call_node (helper_node (codes "objectDestructuringEmpty")) (s ∷ [])) = (other.rows CallExpression _ _ refl, (helper-free (codes "objectDestructuringEmpty"), ((h, tt), tt))) in
       (other.rows CallExpression _ _ refl, (helper-free (codes "extends"), (((other.objects _, (tt, tt)), ((other.rows SequenceExpression _ _ refl, ((emptied, (h, tt)), tt)), tt)), tt)))
 
-  taken-free : (lp : Label) (s : Tree) (ps : Trees) (t : Tree) → Free T s → FreeAll T ps → Free T t → FreeAll T (taken lp s ps t)
-  taken-free lp s empty t g h k = ((other.made VariableDeclarator _ _ refl, (k, (alone-free s g, tt))), tt)
-  taken-free lp s (p before ps) t g h k = ((other.made VariableDeclarator _ _ refl, ((other.rows ObjectPattern _ _ refl, (h, tt)), (g, tt))), ((other.made VariableDeclarator _ _ refl, (k, (value-free s (keys_of (p before ps)) g, tt))), tt))
+  text-free : (p : Tree) → Free T (text_of_key p)
+  text-free (node k l done) = (other.made StringLiteral _ _ refl, tt)
+  text-free (node k l (missing then fs)) = (other.made StringLiteral _ _ refl, tt)
+  text-free (node k l (one e then fs)) = (other.made StringLiteral _ _ refl, tt)
+  text-free (node k l (many ts then fs)) = (other.made StringLiteral _ _ refl, tt)
+  text-free (node k l (statements ts then fs)) = (other.made StringLiteral _ _ refl, tt)
+
+  keys-free : (xs : List Bound) (ps : Trees) → FreeIn T (fields (map one (keys_of xs ps)))
+  keys-free xs empty = tt
+  keys-free xs (p before ps) = at (reads_key p) xs (λ ys. keys-free ys ps)
+    where
+      at : (v : Bool) (xs : List Bound) → ((ys : List Bound) → FreeIn T (fields (map one (keys_of ys ps)))) → FreeIn T (fields (map one (keys_by v xs p (λ ys. keys_of ys ps))))
+      at true (x ∷ xs) behind = ((other.made Identifier _ _ refl, tt), behind xs)
+      at true [] behind = (text-free p, behind [])
+      at false xs behind = (text-free p, behind xs)
+
+  group-free : (lp : Label) (s : Tree) (ps : Trees) → Free T s → FreeAll T ps → Free T (group lp s ps)
+  group-free lp s ps g h = (other.made VariableDeclarator _ _ refl, ((other.rows ObjectPattern _ _ refl, (h, tt)), (g, tt)))
+
+  groups-free : {w w' : Whole} {ps : Trees} {xs : List Bound} (lp : Label) (s : Tree) (b : Trees) → NamesKeys w ps xs w' → Free T s → FreeAll T b → FreeAll T ps → FreeAll T (groups lp s xs b ps)
+  groups-free lp s b no_properties g h k = (group-free lp s b g h, tt)
+  groups-free lp s b (knows {p = p} {ps = ps} {xs = xs} known names) g h k =
+      let rest = groups-free lp s (joined_trees b (p before empty)) names g (joined-free T b (p before empty) h (k.0, tt)) k.1 in
+      subst (λ (v : Bool). FreeAll T (groups_by v lp s xs b p (λ ys these. groups lp s ys these ps))) (sym known) rest
+  groups-free lp s b (reads_one {w = w} {l = l} {k = e} {v = v} {ps = ps} {xs = xs} x read silent fresh names) g h k =
+      let p = node PatternProperty l (one e then one v then done) in
+      let y = next_name w x in
+      let named : Free T (names_key y p) = (other.made VariableDeclarator _ _ refl, ((other.made Identifier _ _ refl, tt), (k.0.1.0, tt))) in
+      let keyed : Free T (keyed_by y p) = (other.rows PatternProperty _ _ refl, ((other.made Identifier _ _ refl, tt), k.0.1.1)) in
+      let rest = groups-free lp s (keyed_by y p before empty) names g (keyed, tt) k.1 in
+      subst (λ (u : Bool). FreeAll T (groups_by u lp s (y ∷ xs) b p (λ ys these. groups lp s ys these ps))) (sym read) (group-free (made_label [] []) s b g h, (named, rest))
+
+  taken-free : {w w' : Whole} {ps : Trees} {xs : List Bound} (lp : Label) (s : Tree) (t : Tree) → NamesKeys w ps xs w' → Free T s → FreeAll T ps → Free T t → FreeAll T (taken lp s xs ps t)
+  taken-free {ps = empty} lp s t names g h k = ((other.made VariableDeclarator _ _ refl, (k, (alone-free s g, tt))), tt)
+  taken-free {ps = p before ps} {xs = xs} lp s t names g h k =
+      let keys = keys_of xs (p before ps) in
+      let value = left_of (any_tree reads_key (p before ps)) s keys in
+      let last : Free T (declarator_with t value) = (other.made VariableDeclarator _ _ refl, (k, (left-free (any_tree reads_key (p before ps)) s keys g (keys-free xs (p before ps)), tt))) in
+      joined-free T (groups lp s xs empty (p before ps)) (declarator_with t value before empty) (groups-free lp s empty names g tt h) (last, tt)
 
   row-walked : (n : Site) (s s' : Ledger) (t u : Tree) → RestWalkRow n s (at_node t) s' (at_node u) → Walked t u × Grown (λ bs. bs ≡ []) s s'
   row-walked n s s' t u (stores {w = w} {q = q} m l a c p e x out declares plain bind kept silent fresh) = (
@@ -187,12 +255,12 @@ module _ (T : AstType → Label → Fields → Bool) (other : IsOther T) where
         ((other.made VariableDeclarator _ _ refl, ((other.made Identifier _ _ refl, tt), (h.1.1.0, tt))), ((other.made VariableDeclarator _ _ refl, (h.1.0, ((other.made Identifier _ _ refl, tt), tt))), tt))),
     record { names = []; such = refl; pending = no-names q; top = refl },
   )
-  row-walked n s s' t u (takes {q = q} m l lp lr ls a ps c r out plain name bind kept asked used) =
+  row-walked n s s' t u (takes {q = q} m l lp lr ls a ps c r xs out declares plain name bind kept names asked used) =
       let it : Tree = node Identifier ls done in
       let d = declares_as l (with_rest lp ps lr r) it in (
-        declared m a c d (taken lp it ps r) (λ q. taken-kinds q l (one (with_rest lp ps lr r) then one it then done) lp it ps r c) (λ h.
+        declared m a c d (taken lp it xs ps r) (λ q. taken-kinds q l (one (with_rest lp ps lr r) then one it then done) lp it xs ps r c) (λ h.
             let parts = free-joined T ps (node RestElement lr (one r then done) before empty) h.1.0.1.0 in
-            taken-free lp it ps r (other.made Identifier _ _ refl, tt) parts.0 parts.1.0.1.0),
+            taken-free lp it r names (other.made Identifier _ _ refl, tt) parts.0 parts.1.0.1.0),
         record { names = []; such = refl; pending = no-names q; top = refl },
       )
 
@@ -261,7 +329,7 @@ module _ (T : AstType → Label → Fields → Bool) (other : IsOther T) where
 
   walk-nodes : (n : Site) (s s' : Ledger) (x y : Spot) → RestWalkRow n s x s' y → AtNodes x y
   walk-nodes n s s' x y (stores m l a c p e z out declares plain bind kept silent fresh) = tt
-  walk-nodes n s s' x y (takes m l lp lr ls a ps c r out plain name bind kept asked used) = tt
+  walk-nodes n s s' x y (takes m l lp lr ls a ps c r xs out declares plain name bind kept names asked used) = tt
 
   all-walked : (s s' : Ledger) (p q : Tree) → Steps (Step RestWalkRow the_program) s (opened p) s' (opened q) → Free T p → Free T q
   all-walked s s' p q steps d =

@@ -1,20 +1,21 @@
--- What the nodes around see of a tree in which something changed: no pattern with a rest where none was, and what is plain is still so, outside
--- parameters. Where the tree stands in a slot it may be wrapped, whatever it is: also a key of a parameter that is computed.
+-- What the nodes around see of a tree in which something changed: no pattern with a rest where none was, and what is plain is still so. Where the
+-- tree stands in a slot it may be wrapped, whatever it is: also a key of a parameter that is computed, which may be any expression.
 use Rattle.std.proofs.Common.{◌≡◌, ◌∙◌, ℕ, zero, suc, refl, sym, ap, true≢false, List, ◌∷◌}
-use Rattle.std.specs.Prelude.{Bool, true, false, ◌&&◌, ◌||◌, not}
+use Rattle.std.specs.Prelude.{Bool, true, false, ◌&&◌, ◌||◌, not, is_some}
 use Rattle.std.proofs.lemmas.Bool.{and_from, and_left, and_parts, and_right, or_from, or_parts}
 use Rattle.es_tree.specs.Ancestors.{Ancestor, ancestor}
 use Rattle.es_tree.specs.Constructs.{any_kind, field_at, has_member, is_object_rest, is_rest}
 use Rattle.es_tree.specs.Names.{has_computed}
 use Rattle.es_tree.specs.Tree.{Tree, node, Label, Fields, done, ◌then◌, Field, missing, one, many, statements, Trees, empty, ◌before◌, kind_of}
 use Rattle.es_tree.specs.declared.ast_type.AstType.{AstType}
-use Rattle.es_tree.specs.declared.ast_type.AstType.TheVariants.{BigIntLiteral, ExportNamedDeclaration, Identifier, NumericLiteral, ObjectPattern, ObjectTarget, PatternProperty, RestElement, StringLiteral, VariableDeclaration, VariableDeclarator}
+use Rattle.es_tree.specs.declared.ast_type.AstType.TheVariants.{BigIntLiteral, ExportNamedDeclaration, Identifier, NumericLiteral, ObjectPattern, ObjectTarget, PatternProperty, RestElement, StringLiteral, TemplateElement, TemplateLiteral, VariableDeclaration, VariableDeclarator}
 use Rattle.es_steps.specs.Nodes.{joined_trees}
 use Rattle.es_steps.specs.Open.{is_body}
 use Rattle.es_steps.specs.Slots.{is_in_parameter, is_slot}
 use Rattle.es_reached.proofs.FreeTrees.{Free, FreeAll, neither}
-use Rattle.es_rest_shapes.specs.RestShapes.{any_child, any_child_by, any_tree, declares_rest, ends_in_rest, is_known_key, is_literal_key, is_misplaced, is_name, is_named_rest, is_odd_pattern, is_plain_key, is_plain_pattern, is_plain_property, is_rest_declaration, is_rest_declarator, is_rest_pattern, is_stray_rest}
-use Rattle.es_rest_rows.proofs.StrayNodes.{Mark, passes, is_acting, acting-named, acting-property}
+use Rattle.es_rest_shapes.specs.RestShapes.{any_child, any_child_by, any_tree, declares_rest, ends_in_rest, is_known_key, is_misplaced, is_name, is_named_rest, is_odd_pattern, is_plain_key, is_plain_pattern, is_plain_property, is_rest_declaration, is_rest_declarator, is_rest_pattern, is_stray_rest, template_text}
+use Rattle.es_rest_rows.proofs.Changes.{is_body_place}
+use Rattle.es_rest_rows.proofs.StrayNodes.{Mark, passes, is_acting, is_text_element, acting-element, acting-named, acting-property}
 use Rattle.es_rest_rows.proofs.StrayNodes.Mark.{a_declaration, a_declarator, a_pattern, a_rest, a_stray, an_export}
 use Rattle.es_rest_rows.proofs.WholeLists.{joined-none}
 
@@ -22,14 +23,16 @@ use Rattle.es_rest_rows.proofs.WholeLists.{joined-none}
 
 pub record LikeOne (up : List Ancestor) (t u : Tree) : Type 0 where
   pub marks : (m : Mark) → passes m t ≡ false → passes m u ≡ false
-  pub odd : is_in_parameter up ≡ false → is_odd_pattern t ≡ false → is_odd_pattern u ≡ false
-  pub fixed : is_slot up ≡ false → is_known_key t ≡ false
+  pub odd : is_odd_pattern t ≡ false → is_odd_pattern u ≡ false
+  pub fixed : is_slot up ≡ false → is_name t ≡ false
+  pub known : is_slot up ≡ false → is_body_place up ≡ false → is_known_key t ≡ true → is_known_key u ≡ true
 
 -- and where it stands in a list
 pub record Like (up : List Ancestor) (t u : Tree) : Type 0 where
   pub alone : LikeOne up t u
-  pub property : is_slot up ≡ false → is_in_parameter up ≡ false → is_plain_property t ≡ true → is_plain_property u ≡ true
+  pub property : is_slot up ≡ false → is_plain_property t ≡ true → is_plain_property u ≡ true
   pub named : is_slot up ≡ false → is_named_rest t ≡ true → is_named_rest u ≡ true
+  pub element : is_slot up ≡ false → is_text_element t ≡ true → is_text_element u ≡ true
 
 -- what comes for a node with others beside it
 pub record Besides (t : Tree) (us : Trees) : Type 0 where
@@ -77,14 +80,14 @@ ends-more : (t : Tree) (us : Trees) → is_plain_property t ≡ true → ends_in
 ends-more t empty e f = absurd (true≢false (sym f))
 ends-more t (u before us) e f = and_from (is_plain_property t) (ends_in_rest (u before us)) e f
 
-all-ends : {up : List Ancestor} {ts us : Trees} → is_slot up ≡ false → is_in_parameter up ≡ false → LikeAll up ts us → ends_in_rest ts ≡ true → ends_in_rest us ≡ true
-all-ends out free (head_like {ts = empty} h) e = h.named out e
-all-ends out free (head_like {t = t} {u = u} {ts = x before xs} h) e = let k = and_parts (is_plain_property t) (ends_in_rest (x before xs)) e in and_from (is_plain_property u) (ends_in_rest (x before xs)) (h.property out free k.0) k.1
-all-ends out free (tail_like {ts = empty} equal_trees) e = e
-all-ends out free (tail_like {t = t} {ts = x before xs} {us = us} h) e = let k = and_parts (is_plain_property t) (ends_in_rest (x before xs)) e in ends-more t us k.0 (all-ends out free h k.1)
-all-ends out free (beside_like {t = t} {ts = empty} h) e = absurd (true≢false (sym e ∙ acting-named t h.source))
-all-ends out free (beside_like {t = t} {ts = x before xs} h) e = absurd (true≢false (sym (and_parts (is_plain_property t) (ends_in_rest (x before xs)) e).0 ∙ acting-property t h.source))
-all-ends out free equal_trees e = e
+all-ends : {up : List Ancestor} {ts us : Trees} → is_slot up ≡ false → LikeAll up ts us → ends_in_rest ts ≡ true → ends_in_rest us ≡ true
+all-ends out (head_like {ts = empty} h) e = h.named out e
+all-ends out (head_like {t = t} {u = u} {ts = x before xs} h) e = let k = and_parts (is_plain_property t) (ends_in_rest (x before xs)) e in and_from (is_plain_property u) (ends_in_rest (x before xs)) (h.property out k.0) k.1
+all-ends out (tail_like {ts = empty} equal_trees) e = e
+all-ends out (tail_like {t = t} {ts = x before xs} {us = us} h) e = let k = and_parts (is_plain_property t) (ends_in_rest (x before xs)) e in ends-more t us k.0 (all-ends out h k.1)
+all-ends out (beside_like {t = t} {ts = empty} h) e = absurd (true≢false (sym e ∙ acting-named t h.source))
+all-ends out (beside_like {t = t} {ts = x before xs} h) e = absurd (true≢false (sym (and_parts (is_plain_property t) (ends_in_rest (x before xs)) e).0 ∙ acting-property t h.source))
+all-ends out equal_trees e = e
 
 -- MARKS of a node in whose fields something changed
 
@@ -145,32 +148,57 @@ node-marks k l {fs} {gs} h an_export e = neither (is_misplaced (node k l fs)) (d
 
 -- WHAT IS PLAIN
 
-key-of : (k : AstType) (l : Label) (f : Field) (fs : Fields) → is_known_key (node k l (f then fs)) ≡ false
-key-of BigIntLiteral l f fs = refl
-key-of Identifier l f fs = refl
-key-of NumericLiteral l f fs = refl
-key-of StringLiteral l f fs = refl
-key-of _ l f fs = refl
+name-of : (k : AstType) (l : Label) (f : Field) (fs : Fields) → is_name (node k l (f then fs)) ≡ false
+name-of Identifier l f fs = refl
+name-of _ l f fs = refl
 
-no-key : {c : ℕ → List Ancestor} (k : AstType) (l : Label) {fs gs : Fields} → LikeIn c fs gs → is_known_key (node k l fs) ≡ false
-no-key k l (first_like {f = f} {fs = fs} h) = key-of k l f fs
-no-key k l (later_like {f = f} {fs = fs} h) = key-of k l f fs
+no-name : {c : ℕ → List Ancestor} (k : AstType) (l : Label) {fs gs : Fields} → LikeIn c fs gs → is_name (node k l fs) ≡ false
+no-name k l (first_like {f = f} {fs = fs} h) = name-of k l f fs
+no-name k l (later_like {f = f} {fs = fs} h) = name-of k l f fs
 
-name-key : (t : Tree) → is_name t ≡ true → is_known_key t ≡ true
-name-key (node Identifier l done) e = refl
-name-key (node Identifier l (f then fs)) e = absurd (true≢false (sym e))
-name-key (node _ l fs) e = absurd (true≢false (sym e))
+key-stays : (computed : Bool) (k u : Tree) → (computed ≡ false → is_known_key k ≡ true → is_known_key u ≡ true) → is_plain_key computed k ≡ true → is_plain_key computed u ≡ true
+key-stays true k u f e = refl
+key-stays false k u f e = f refl e
 
-literal-known : (k : Tree) → is_literal_key k ≡ true → is_known_key k ≡ true
-literal-known (node Identifier l fs) e = absurd (true≢false (sym e))
-literal-known (node BigIntLiteral l fs) e = e
-literal-known (node NumericLiteral l fs) e = e
-literal-known (node StringLiteral l fs) e = e
-literal-known (node _ l fs) e = absurd (true≢false (sym e))
+-- a template without expressions, whose one element gives a text
+data IsText : Fields → Type 0 where
+  of_element : (t : Tree) → is_text_element t ≡ true → IsText (many (t before empty) then (many empty then done))
 
-plain-known : (computed : Bool) (k : Tree) → is_plain_key computed k ≡ true → is_known_key k ≡ true
-plain-known true k e = literal-known k e
-plain-known false k e = e
+is-text : (fs : Fields) → is_some (template_text fs) ≡ true → IsText fs
+is-text (many (node TemplateElement l gs before empty) then (many empty then done)) e = of_element (node TemplateElement l gs) e
+is-text (many (node TemplateElement l gs before empty) then (many empty then f then fs)) e = absurd (true≢false (sym e))
+is-text (many (node TemplateElement l gs before empty) then (many (t before ts) then fs)) e = absurd (true≢false (sym e))
+is-text (many (node TemplateElement l gs before empty) then (one t then fs)) e = absurd (true≢false (sym e))
+is-text (many (node TemplateElement l gs before empty) then (statements ts then fs)) e = absurd (true≢false (sym e))
+is-text (many (node TemplateElement l gs before empty) then (missing then fs)) e = absurd (true≢false (sym e))
+is-text (many (node TemplateElement l gs before empty) then done) e = absurd (true≢false (sym e))
+is-text (many (node TemplateElement l gs before t before ts) then fs) e = absurd (true≢false (sym e))
+is-text (many (node _ l gs before ts) then fs) e = absurd (true≢false (sym e))
+is-text (many empty then fs) e = absurd (true≢false (sym e))
+is-text (one t then fs) e = absurd (true≢false (sym e))
+is-text (statements ts then fs) e = absurd (true≢false (sym e))
+is-text (missing then fs) e = absurd (true≢false (sym e))
+is-text done e = absurd (true≢false (sym e))
+
+text-is : (t : Tree) → is_text_element t ≡ true → is_some (template_text (many (t before empty) then (many empty then done))) ≡ true
+text-is (node TemplateElement l fs) e = e
+text-is (node _ l fs) e = absurd (true≢false (sym e))
+
+sole-like : {up : List Ancestor} (t : Tree) {us : Trees} → is_slot up ≡ false → LikeAll up (t before empty) us → is_text_element t ≡ true → is_some (template_text (many us then (many empty then done))) ≡ true
+sole-like t out (head_like {u = u} h) e = text-is u (h.element out e)
+sole-like t out (tail_like equal_trees) e = text-is t e
+sole-like t out (beside_like h) e = absurd (true≢false (sym e ∙ acting-element t h.source))
+sole-like t out equal_trees e = text-is t e
+
+sole-in : {c : ℕ → List Ancestor} (t : Tree) {gs : Fields} → is_slot (c zero) ≡ false → LikeIn c (many (t before empty) then (many empty then done)) gs → is_text_element t ≡ true → is_some (template_text gs) ≡ true
+sole-in t out (first_like (many_like h)) e = sole-like t out h e
+sole-in t out (first_like equal_field) e = text-is t e
+sole-in t out (later_like (first_like (many_like equal_trees))) e = text-is t e
+sole-in t out (later_like (first_like equal_field)) e = text-is t e
+sole-in t out (later_like (later_like h)) e = elim h [ ]
+
+text-like : {c : ℕ → List Ancestor} {fs gs : Fields} → is_slot (c zero) ≡ false → IsText fs → LikeIn c fs gs → is_some (template_text gs) ≡ true
+text-like out (of_element t e) h = sole-in t out h e
 
 so : (b : Bool) → not b ≡ false → b ≡ true
 so true e = refl
@@ -181,26 +209,26 @@ module _ (all : Fields) (up : List Ancestor) where
   abbrev places : AstType → Label → ℕ → List Ancestor
   places k l i = ancestor k l all i 0 ∷ up
 
-  property-like : (l : Label) (fs gs : Fields) → LikeIn (places PatternProperty l) fs gs → is_in_parameter up ≡ false → is_plain_property (node PatternProperty l fs) ≡ true → is_plain_property (node PatternProperty l gs) ≡ true
-  property-like l (one k then one v then done) gs (first_like (one_like h)) out e =
+  property-like : (l : Label) (fs gs : Fields) → LikeIn (places PatternProperty l) fs gs → is_plain_property (node PatternProperty l fs) ≡ true → is_plain_property (node PatternProperty l gs) ≡ true
+  property-like l (one k then one v then done) gs (first_like (one_like {u = u} h)) e =
       let computed = has_computed PatternProperty l.flags in
-      absurd (true≢false (sym (plain-known computed k e) ∙ h.fixed (and_right computed (is_in_parameter up) out)))
-  property-like l (one k then one v then done) gs (first_like equal_field) out e = e
-  property-like l (one k then one v then done) gs (later_like (first_like (one_like h))) out e = e
-  property-like l (one k then one v then done) gs (later_like (first_like equal_field)) out e = e
-  property-like l (one k then one v then done) gs (later_like (later_like h)) out e = elim h [ ]
-  property-like l (one k then one v then f then fs) gs h out e = absurd (true≢false (sym e))
-  property-like l (one k then missing then fs) gs h out e = absurd (true≢false (sym e))
-  property-like l (one k then many ts then fs) gs h out e = absurd (true≢false (sym e))
-  property-like l (one k then statements ts then fs) gs h out e = absurd (true≢false (sym e))
-  property-like l (one k then done) gs h out e = absurd (true≢false (sym e))
-  property-like l (missing then fs) gs h out e = absurd (true≢false (sym e))
-  property-like l (many ts then fs) gs h out e = absurd (true≢false (sym e))
-  property-like l (statements ts then fs) gs h out e = absurd (true≢false (sym e))
-  property-like l done gs h out e = absurd (true≢false (sym e))
+      key-stays computed k u (λ c. h.known (and_left computed (is_in_parameter up) c) refl) e
+  property-like l (one k then one v then done) gs (first_like equal_field) e = e
+  property-like l (one k then one v then done) gs (later_like (first_like (one_like h))) e = e
+  property-like l (one k then one v then done) gs (later_like (first_like equal_field)) e = e
+  property-like l (one k then one v then done) gs (later_like (later_like h)) e = elim h [ ]
+  property-like l (one k then one v then f then fs) gs h e = absurd (true≢false (sym e))
+  property-like l (one k then missing then fs) gs h e = absurd (true≢false (sym e))
+  property-like l (one k then many ts then fs) gs h e = absurd (true≢false (sym e))
+  property-like l (one k then statements ts then fs) gs h e = absurd (true≢false (sym e))
+  property-like l (one k then done) gs h e = absurd (true≢false (sym e))
+  property-like l (missing then fs) gs h e = absurd (true≢false (sym e))
+  property-like l (many ts then fs) gs h e = absurd (true≢false (sym e))
+  property-like l (statements ts then fs) gs h e = absurd (true≢false (sym e))
+  property-like l done gs h e = absurd (true≢false (sym e))
 
   named-like : (l : Label) (fs gs : Fields) → LikeIn (places RestElement l) fs gs → is_named_rest (node RestElement l fs) ≡ true → is_named_rest (node RestElement l gs) ≡ true
-  named-like l (one t then done) gs (first_like (one_like h)) e = absurd (true≢false (sym (name-key t e) ∙ h.fixed refl))
+  named-like l (one t then done) gs (first_like (one_like h)) e = absurd (true≢false (sym e ∙ h.fixed refl))
   named-like l (one t then done) gs (first_like equal_field) e = e
   named-like l (one t then done) gs (later_like h) e = elim h [ ]
   named-like l (one t then f then fs) gs h e = absurd (true≢false (sym e))
@@ -209,27 +237,43 @@ module _ (all : Fields) (up : List Ancestor) where
   named-like l (statements ts then fs) gs h e = absurd (true≢false (sym e))
   named-like l done gs h e = absurd (true≢false (sym e))
 
-  plain-like : (l : Label) (fs gs : Fields) → LikeIn (places ObjectPattern l) fs gs → is_in_parameter up ≡ false → is_plain_pattern (node ObjectPattern l fs) ≡ true → is_plain_pattern (node ObjectPattern l gs) ≡ true
-  plain-like l (many ps then done) gs (first_like (many_like h)) out e = all-ends refl out h e
-  plain-like l (many ps then done) gs (first_like equal_field) out e = e
-  plain-like l (many ps then done) gs (later_like h) out e = elim h [ ]
-  plain-like l (many ps then f then fs) gs h out e = absurd (true≢false (sym e))
-  plain-like l (missing then fs) gs h out e = absurd (true≢false (sym e))
-  plain-like l (one t then fs) gs h out e = absurd (true≢false (sym e))
-  plain-like l (statements ts then fs) gs h out e = absurd (true≢false (sym e))
-  plain-like l done gs h out e = absurd (true≢false (sym e))
+  plain-like : (l : Label) (fs gs : Fields) → LikeIn (places ObjectPattern l) fs gs → is_plain_pattern (node ObjectPattern l fs) ≡ true → is_plain_pattern (node ObjectPattern l gs) ≡ true
+  plain-like l (many ps then done) gs (first_like (many_like h)) e = all-ends refl h e
+  plain-like l (many ps then done) gs (first_like equal_field) e = e
+  plain-like l (many ps then done) gs (later_like h) e = elim h [ ]
+  plain-like l (many ps then f then fs) gs h e = absurd (true≢false (sym e))
+  plain-like l (missing then fs) gs h e = absurd (true≢false (sym e))
+  plain-like l (one t then fs) gs h e = absurd (true≢false (sym e))
+  plain-like l (statements ts then fs) gs h e = absurd (true≢false (sym e))
+  plain-like l done gs h e = absurd (true≢false (sym e))
 
-  plain-node : (k : AstType) (l : Label) (fs gs : Fields) → LikeIn (places k l) fs gs → is_in_parameter up ≡ false → is_plain_pattern (node k l fs) ≡ true → is_plain_pattern (node k l gs) ≡ true
-  plain-node ObjectPattern l fs gs h out e = plain-like l fs gs h out e
-  plain-node _ l fs gs h out e = absurd (true≢false (sym e))
+  plain-node : (k : AstType) (l : Label) (fs gs : Fields) → LikeIn (places k l) fs gs → is_plain_pattern (node k l fs) ≡ true → is_plain_pattern (node k l gs) ≡ true
+  plain-node ObjectPattern l fs gs h e = plain-like l fs gs h e
+  plain-node _ l fs gs h e = absurd (true≢false (sym e))
 
-  property-node : (k : AstType) (l : Label) (fs gs : Fields) → LikeIn (places k l) fs gs → is_in_parameter up ≡ false → is_plain_property (node k l fs) ≡ true → is_plain_property (node k l gs) ≡ true
-  property-node PatternProperty l fs gs h out e = property-like l fs gs h out e
-  property-node _ l fs gs h out e = absurd (true≢false (sym e))
+  property-node : (k : AstType) (l : Label) (fs gs : Fields) → LikeIn (places k l) fs gs → is_plain_property (node k l fs) ≡ true → is_plain_property (node k l gs) ≡ true
+  property-node PatternProperty l fs gs h e = property-like l fs gs h e
+  property-node _ l fs gs h e = absurd (true≢false (sym e))
 
   named-node : (k : AstType) (l : Label) (fs gs : Fields) → LikeIn (places k l) fs gs → is_named_rest (node k l fs) ≡ true → is_named_rest (node k l gs) ≡ true
   named-node RestElement l fs gs h e = named-like l fs gs h e
   named-node _ l fs gs h e = absurd (true≢false (sym e))
+
+  known-node : (k : AstType) (l : Label) {fs gs : Fields} → LikeIn (places k l) fs gs → is_known_key (node k l fs) ≡ true → is_known_key (node k l gs) ≡ true
+  known-node TemplateLiteral l {fs} h e = text-like refl (is-text fs e) h
+  known-node BigIntLiteral l (first_like h) e = absurd (true≢false (sym e))
+  known-node BigIntLiteral l (later_like h) e = absurd (true≢false (sym e))
+  known-node Identifier l (first_like h) e = absurd (true≢false (sym e))
+  known-node Identifier l (later_like h) e = absurd (true≢false (sym e))
+  known-node NumericLiteral l (first_like h) e = absurd (true≢false (sym e))
+  known-node NumericLiteral l (later_like h) e = absurd (true≢false (sym e))
+  known-node StringLiteral l (first_like h) e = absurd (true≢false (sym e))
+  known-node StringLiteral l (later_like h) e = absurd (true≢false (sym e))
+  known-node _ l h e = absurd (true≢false (sym e))
+
+  element-node : (k : AstType) (l : Label) (fs gs : Fields) → is_text_element (node k l fs) ≡ true → is_text_element (node k l gs) ≡ true
+  element-node TemplateElement l fs gs e = e
+  element-node _ l fs gs e = absurd (true≢false (sym e))
 
   odd-bools : (a p d x y z : Bool) → (a ≡ false → x ≡ false) → (p ≡ true → y ≡ true) → (d ≡ false → z ≡ false) → ((a && not p) || d) ≡ false → ((x && not y) || z) ≡ false
   odd-bools false p d x y z f g h e = or_from (x && not y) z (and_left x (not y) (f refl)) (h e)
@@ -240,18 +284,20 @@ module _ (all : Fields) (up : List Ancestor) where
   node-like k l fs gs h = record {
     alone = record {
       marks = node-marks k l h;
-      odd = λ out. odd-bools (is_rest_pattern (node k l fs)) (is_plain_pattern (node k l fs)) (is_rest_declarator (node k l fs)) (is_rest_pattern (node k l gs)) (is_plain_pattern (node k l gs)) (is_rest_declarator (node k l gs)) (pattern-like k l h) (plain-node k l fs gs h out) (declarator-like k l h);
-      fixed = λ out. no-key k l h;
+      odd = odd-bools (is_rest_pattern (node k l fs)) (is_plain_pattern (node k l fs)) (is_rest_declarator (node k l fs)) (is_rest_pattern (node k l gs)) (is_plain_pattern (node k l gs)) (is_rest_declarator (node k l gs)) (pattern-like k l h) (plain-node k l fs gs h) (declarator-like k l h);
+      fixed = λ out. no-name k l h;
+      known = λ out place. known-node k l h;
     };
     property = λ out. property-node k l fs gs h;
     named = λ out. named-node k l fs gs h;
+    element = λ out. element-node k l fs gs;
   }
 
 -- STRAYS: a node that held none holds none
 
 module _ (all : Fields) (up : List Ancestor) where
   declarator-stray : (l : Label) {fs gs : Fields} → LikeIn (places all up VariableDeclarator l) fs gs → (any_child is_misplaced fs ≡ false → any_child is_misplaced gs ≡ false) → is_stray_rest VariableDeclarator l fs ≡ false → is_stray_rest VariableDeclarator l gs ≡ false
-  declarator-stray l (first_like {fs = one v then done} (one_like {t = t} {u = u} h)) k e = neither (is_odd_pattern t) (is_misplaced v) (is_odd_pattern u) (is_misplaced v) (h.odd refl) (λ x. x) e
+  declarator-stray l (first_like {fs = one v then done} (one_like {t = t} {u = u} h)) k e = neither (is_odd_pattern t) (is_misplaced v) (is_odd_pattern u) (is_misplaced v) h.odd (λ x. x) e
   declarator-stray l (first_like {fs = one v then f then fs} (one_like h)) k e = k e
   declarator-stray l (first_like {fs = missing then fs} (one_like h)) k e = k e
   declarator-stray l (first_like {fs = many ts then fs} (one_like h)) k e = k e

@@ -1,15 +1,15 @@
 -- Trees without a pattern with a rest that isn't lowered, and that are at their place wherever they stand; and nodes that are made of them.
 use Rattle.std.proofs.Common.{◌≡◌, ◌∙◌, List, [], ◌∷◌, ◌++◌, refl, sym, subst}
-use Rattle.std.specs.Prelude.{Bool, true, false, ◌||◌}
+use Rattle.std.specs.Prelude.{Bool, true, false, ◌||◌, is_some}
 use Rattle.std.proofs.lemmas.Bool.{or_from, or_parts}
 use Rattle.es_tree.specs.Constructs.{is_rest}
 use Rattle.es_tree.specs.Parens.{without_parens}
 use Rattle.es_tree.specs.Tree.{Tree, node, Label, Fields, done, ◌then◌, Field, missing, one, many, statements, Trees, empty, ◌before◌, kind_of, trees}
 use Rattle.es_tree.specs.declared.ast_type.AstType.{AstType}
-use Rattle.es_tree.specs.declared.ast_type.AstType.TheVariants.{BigIntLiteral, ExportNamedDeclaration, Identifier, NumericLiteral, ObjectPattern, ObjectTarget, ParenthesizedExpression, PatternProperty, RestElement, StringLiteral, TargetRest, VariableDeclaration, VariableDeclarator}
+use Rattle.es_tree.specs.declared.ast_type.AstType.TheVariants.{BigIntLiteral, ExportNamedDeclaration, Identifier, NumericLiteral, ObjectPattern, ObjectTarget, ParenthesizedExpression, PatternProperty, RestElement, StringLiteral, TargetRest, TemplateElement, TemplateLiteral, VariableDeclaration, VariableDeclarator}
 use Rattle.es_steps.specs.Nodes.{placed}
 use Rattle.es_reached.proofs.FreeTrees.{Free, FreeAll, FreeBy, FreeIn}
-use Rattle.es_rest_shapes.specs.RestShapes.{any_child, any_child_by, any_tree, declares_rest, is_known_key, is_misplaced, is_named_rest, is_plain_property, is_rest_declarator, is_rest_pattern, is_stray_rest}
+use Rattle.es_rest_shapes.specs.RestShapes.{any_child, any_child_by, any_tree, declares_rest, is_known_key, is_misplaced, is_name, is_named_rest, is_plain_property, is_rest_declarator, is_rest_pattern, is_stray_rest, second_text}
 
 -- MARKS: what a node may be, as far as those around it see
 
@@ -63,7 +63,7 @@ ordinary-stray VariableDeclaration l fs e = absurd (cc e)
 ordinary-stray VariableDeclarator l fs e = absurd (cc e)
 ordinary-stray _ l fs e = refl
 
--- kinds of nodes on which rows act: no key, property or rest among them
+-- kinds of nodes on which rows act: no key whose text stands in the program, no property and no rest among them
 abbrev pub is_acting : AstType → Bool
 is_acting BigIntLiteral = false
 is_acting Identifier = false
@@ -71,6 +71,8 @@ is_acting NumericLiteral = false
 is_acting PatternProperty = false
 is_acting RestElement = false
 is_acting StringLiteral = false
+is_acting TemplateElement = false
+is_acting TemplateLiteral = false
 is_acting _ = true
 
 pub acting-key : (t : Tree) → is_acting (kind_of t) ≡ true → is_known_key t ≡ false
@@ -78,7 +80,12 @@ acting-key (node BigIntLiteral l fs) e = absurd (cc e)
 acting-key (node Identifier l fs) e = absurd (cc e)
 acting-key (node NumericLiteral l fs) e = absurd (cc e)
 acting-key (node StringLiteral l fs) e = absurd (cc e)
+acting-key (node TemplateLiteral l fs) e = absurd (cc e)
 acting-key (node _ l fs) e = refl
+
+pub acting-name : (t : Tree) → is_acting (kind_of t) ≡ true → is_name t ≡ false
+acting-name (node Identifier l fs) e = absurd (cc e)
+acting-name (node _ l fs) e = refl
 
 pub acting-property : (t : Tree) → is_acting (kind_of t) ≡ true → is_plain_property t ≡ false
 acting-property (node PatternProperty l fs) e = absurd (cc e)
@@ -87,6 +94,15 @@ acting-property (node _ l fs) e = refl
 pub acting-named : (t : Tree) → is_acting (kind_of t) ≡ true → is_named_rest t ≡ false
 acting-named (node RestElement l fs) e = absurd (cc e)
 acting-named (node _ l fs) e = refl
+
+-- an element of a template that gives a text
+abbrev pub is_text_element : Tree → Bool
+is_text_element (node TemplateElement l fs) = is_some (second_text l.texts)
+is_text_element _ = false
+
+pub acting-element : (t : Tree) → is_acting (kind_of t) ≡ true → is_text_element t ≡ false
+acting-element (node TemplateElement l fs) e = absurd (cc e)
+acting-element (node _ l fs) e = refl
 
 -- TREES without such a pattern, and those that are at their place wherever they stand
 

@@ -14,7 +14,7 @@ use Rattle.es_steps.proofs.Opened.{finished-opened}
 use Rattle.es_reached.specs.Reached.{built_rules}
 use Rattle.es_reached.proofs.FreeTrees.{Free, FreeAll, FreeBy, FreeIn, append-free, free, joined-free, none}
 use Rattle.es_reached.proofs.Sources.{law_bare_source_proof}
-use Rattle.es_rest_shapes.specs.RestShapes.{any_child, any_child_by, any_tree, is_known_key, is_misplaced, is_plain_pattern, is_rest_declarator, is_rest_pattern, is_stray_rest}
+use Rattle.es_rest_shapes.specs.RestShapes.{any_child, any_child_by, any_tree, is_misplaced, is_name, is_plain_pattern, is_rest_declarator, is_rest_pattern, is_stray_rest}
 use Rattle.es_rest_shapes.proofs.BareRests.{law_bare_rests_proof}
 use Rattle.es_rest_rows.specs.Laws.{LawStraysNotMade}
 use Rattle.es_rest_rows.proofs.Changes.{Changed, ChangedAll, ChangedBy, ChangedIn, in-a-row, is_body_place, opened-proper}
@@ -26,7 +26,7 @@ use Rattle.es_rest_rows.proofs.StrayLikes.{Besides, Like, LikeAll, LikeBy, LikeI
 use Rattle.es_rest_rows.proofs.StrayLikes.LikeAll.{beside_like, equal_trees, head_like, tail_like}
 use Rattle.es_rest_rows.proofs.StrayLikes.LikeBy.{equal_field, many_like, one_like, statements_like}
 use Rattle.es_rest_rows.proofs.StrayLikes.LikeIn.{first_like, later_like}
-use Rattle.es_rest_rows.proofs.StrayNodes.{Clean, Mark, Replaced, Sound, SoundAll, above, acting-key, acting-named, acting-property, below, ordinary-marks, passes}
+use Rattle.es_rest_rows.proofs.StrayNodes.{Clean, Mark, Replaced, Sound, SoundAll, above, acting-element, acting-key, acting-name, acting-named, acting-property, below, ordinary-marks, passes}
 use Rattle.es_rest_rows.proofs.StrayNodes.Mark.{a_declaration, a_declarator, a_pattern, a_rest, a_stray, an_export}
 use Rattle.es_rest_rows.proofs.StrayRules.{Acted, built-changes}
 use Rattle.es_rest_rows.proofs.WholeLists.{Each, Grows, body-each, declaring, each-free, each-list, each-none, free-each, list-each, more-none, none-each}
@@ -120,15 +120,15 @@ body-free [] (x ∷ ls) (b ∷ bs) t u k h d = sound-body (body_statements (map 
 body-free (v ∷ vs) ls bs t u k h d = sound-body (body_statements ((v ∷ vs) ++ map declarator bs) ls u) (body-each Sound sound-grows (v ∷ vs) ls bs (return_node t before empty) (return_node u before empty) (λ e. returned u h) (body-sound (body_statements (v ∷ vs) ls t) d))
 
 module _ {up : List Ancestor} where
-  whole-body : (t : Tree) (l : Label) (fs : Fields) → (is_slot up ≡ false → is_known_key t ≡ false) → LikeOne up t (node FunctionBody l fs)
-  whole-body t l fs f = record { marks = λ m e. ordinary-marks m FunctionBody l fs refl; odd = λ out e. refl; fixed = f }
+  whole-body : (t : Tree) (l : Label) (fs : Fields) → is_body_place up ≡ true → (is_slot up ≡ false → is_name t ≡ false) → LikeOne up t (node FunctionBody l fs)
+  whole-body t l fs place f = record { marks = λ m e. ordinary-marks m FunctionBody l fs refl; odd = λ e. refl; fixed = f; known = λ out elsewhere e. absurd (true≢false (sym place ∙ elsewhere)) }
 
-  body-like : (vs ls : List Tree) (bs : List Bound) (t u : Tree) → LikeOne up t u → LikeOne up (body_with vs ls t) (body_with (vs ++ map declarator bs) ls u)
-  body-like [] [] [] t u h = h
-  body-like [] [] (x ∷ bs) t u h = whole-body t _ _ h.fixed
-  body-like [] (d ∷ ls) [] t u h = whole-body _ _ _ (λ e. refl)
-  body-like [] (d ∷ ls) (x ∷ bs) t u h = whole-body _ _ _ (λ e. refl)
-  body-like (v ∷ vs) ls bs t u h = whole-body _ _ _ (λ e. refl)
+  body-like : (vs ls : List Tree) (bs : List Bound) (t u : Tree) → is_body_place up ≡ true → LikeOne up t u → LikeOne up (body_with vs ls t) (body_with (vs ++ map declarator bs) ls u)
+  body-like [] [] [] t u place h = h
+  body-like [] [] (x ∷ bs) t u place h = whole-body t _ _ place h.fixed
+  body-like [] (d ∷ ls) [] t u place h = whole-body _ _ _ place (λ e. refl)
+  body-like [] (d ∷ ls) (x ∷ bs) t u place h = whole-body _ _ _ place (λ e. refl)
+  body-like (v ∷ vs) ls bs t u place h = whole-body _ _ _ place (λ e. refl)
 
 -- WHAT A CHANGE KEEPS
 
@@ -158,11 +158,13 @@ acted up t u a r = record {
   like = record {
     alone = record {
       marks = λ m e. replaced-marks u r m;
-      odd = λ out e. or_from (is_rest_pattern u && not (is_plain_pattern u)) (is_rest_declarator u) (and_left (is_rest_pattern u) (not (is_plain_pattern u)) (replaced-marks u r a_pattern)) (replaced-marks u r a_declarator);
-      fixed = λ out. acting-key t (a.source out);
+      odd = λ e. or_from (is_rest_pattern u && not (is_plain_pattern u)) (is_rest_declarator u) (and_left (is_rest_pattern u) (not (is_plain_pattern u)) (replaced-marks u r a_pattern)) (replaced-marks u r a_declarator);
+      fixed = λ out. acting-name t (a.source out);
+      known = λ out place e. absurd (true≢false (sym e ∙ acting-key t (a.source out)));
     };
-    property = λ out free e. absurd (true≢false (sym e ∙ acting-property t (a.source out)));
+    property = λ out e. absurd (true≢false (sym e ∙ acting-property t (a.source out)));
     named = λ out e. absurd (true≢false (sym e ∙ acting-named t (a.source out)));
+    element = λ out e. absurd (true≢false (sym e ∙ acting-element t (a.source out)));
   };
 }
 
@@ -189,7 +191,7 @@ mutual
   kept-by (of_body {up = up} {t = t} {u = u} q bs such place h) d p =
       let k = held q.vars q.lets t d (p (or_right (is_slot up) (is_body_place up) place)) in
       let m = kept h k.free.nodes (λ e. k.placed) in
-      record { free = body-free q.vars q.lets bs t u k (record { free = record { nodes = m.free }; placed = m.like.alone.marks a_stray k.placed }) d; like = one_like (body-like q.vars q.lets bs t u m.like.alone) }
+      record { free = body-free q.vars q.lets bs t u k (record { free = record { nodes = m.free }; placed = m.like.alone.marks a_stray k.placed }) d; like = one_like (body-like q.vars q.lets bs t u place m.like.alone) }
   kept-by (of_list {ts = ts} {us = us} q x y a bs such h) d p =
       let all = each-free is_stray_rest (whole_list q x a ts) d in
       let m = kept-all h (free-each is_stray_rest ts (each-list (λ t. Free is_stray_rest t) q x a ts all)) (λ e. none-each is_misplaced ts (each-list (λ t. is_misplaced t ≡ false) q x a ts (each-none is_misplaced (whole_list q x a ts) (p e)))) in

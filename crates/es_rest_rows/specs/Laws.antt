@@ -4,19 +4,19 @@ use Rattle.std.specs.Prelude.{◌≡◌, ◌&&◌, ◌||◌, ℕ, List, [], Opti
 use Rattle.es_resolution.specs.Declarations.{symbol_of}
 use Rattle.es_semantic.specs.SymbolsOf.{symbols_of}
 use Rattle.es_steps.specs.CoreBridge.{Reached, first_whole}
-use Rattle.es_steps.specs.Laws.{IsWellBound, nothing_beside}
-use Rattle.es_steps.specs.Open.{Open, opened}
-use Rattle.es_steps.specs.Steps.{Ledger, Site, Spot, Step, Steps, Whole, the_program}
+use Rattle.es_steps.specs.Laws.{nothing_beside}
+use Rattle.es_steps.specs.Open.{opened}
+use Rattle.es_steps.specs.Steps.{Ledger, Site, Spot, Step, Steps, Whole, at_node, the_program}
 use Rattle.es_tree.specs.Constructs.{is_arrow, is_chain, is_enabled_statement, is_exponentiation, is_logical_assignment, is_nullish_coalescing, is_object_spread}
 use Rattle.es_tree.specs.HasForm.{has_form}
 use Rattle.es_tree.specs.Names.{first_text}
 use Rattle.es_tree.specs.Scopes.{name_in}
 use Rattle.es_tree.specs.StaticRules.{breaks}
-use Rattle.es_tree.specs.Tree.{Tree, Label, Fields, kind_of}
+use Rattle.es_tree.specs.Tree.{Tree, Label, Fields}
 use Rattle.es_tree.specs.Walks.{any_node}
 use Rattle.es_tree.specs.Words.{Text}
 use Rattle.es_tree.specs.declared.ast_type.AstType.{AstType}
-use Rattle.es_tree.specs.declared.ast_type.AstType.TheVariants.{ClassDeclaration, ClassExpression, Identifier, Program}
+use Rattle.es_tree.specs.declared.ast_type.AstType.TheVariants.{ClassDeclaration, ClassExpression, Identifier}
 use Rattle.es_tree.specs.declared.options.EnvOptions.{EnvOptions}
 use Rattle.es_tree.specs.declared.table.Sort.TheVariants.{Program as s-Program}
 use Rattle.es_reached.specs.Reached.{built_rules}
@@ -25,9 +25,14 @@ use Rattle.es_rest_shapes.specs.HelperNames.{binds_helpers}
 use Rattle.es_rest_shapes.specs.RestShapes.{is_stray_rest}
 use Rattle.es_valid_rests.specs.RestRules.{OutsidePart}
 
--- THE ROWS are steps of the rules of object rests.
+-- a rule at one node
+abbrev pub AtNode : (Site → Ledger → Spot → Ledger → Spot → Type 0) → Site → Ledger → Tree → Ledger → Tree → Type 0
+AtNode R n s t s' u = R n s (at_node t) s' (at_node u)
+
+-- THE ROWS, each at one node, are steps of the rules of object rests at that node: one where a source is stored, and where a rest is taken one for
+-- each key that is read, and one.
 abbrev pub LawRestRows : Type 0
-LawRestRows = (n : Site) (s s' : Ledger) (x y : Spot) → RestRow n s x s' y → OutsidePart n s x s' y
+LawRestRows = (n : Site) (s s' : Ledger) (t u : Tree) → AtNode RestRow n s t s' u → Steps (AtNode OutsidePart n) s t s' u
 
 -- STEPS of the built lowerings bring no pattern with a rest where it isn't lowered.
 abbrev pub LawStraysNotMade : Type 0
@@ -46,11 +51,6 @@ is_bound_helper _ l fs = false
 -- Where a program binds no such name, what they reach from it binds none.
 abbrev pub LawHelpersUnbound : Type 0
 LawHelpersUnbound = (o : EnvOptions) (p r : Tree) (names : List Text) → has_form s-Program p ≡ true → breaks p ≡ [] → binds_helpers (symbols_of p) ≡ false → Reached (built_rules o) p (first_whole p) names r → any_node is_bound_helper r ≡ false
-
--- STEPS OF A WALK, from a program whose names are bound, are steps of the rows, where it binds no such name.
-abbrev pub LawRestWalks : Type 0
-LawRestWalks = (t : Tree) (w w' : Whole) (x : Open) → kind_of t ≡ Program → IsWellBound w t → any_node is_bound_helper t ≡ false → w.in_use (codes "babelHelpers") ≡ true →
-    Steps (Step RestWalkRow the_program) (nothing_beside w) (opened t) (nothing_beside w') x → Steps (Step RestRow the_program) (nothing_beside w) (opened t) (nothing_beside w') x
 
 -- the constructs that options ask to lower, but for object rests
 abbrev pub is_other_construct : EnvOptions → AstType → Label → Fields → Bool

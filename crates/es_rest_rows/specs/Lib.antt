@@ -1,2 +1,3 @@
 pub mod RestRows
+pub mod RestParts
 pub mod Laws

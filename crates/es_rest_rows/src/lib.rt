@@ -1,9 +1,9 @@
 //! What becomes of an object rest that is declared. The functions do nothing: their contracts are laws over the definitions.
 #![tactic(auto)]
 
-ghost use Rattle.es_rest_rows.specs.Laws.{LawHelpersUnbound, LawRestRows, LawRestWalks, LawRestsMakeNone, LawStraysNotMade};
+ghost use Rattle.es_rest_rows.specs.Laws.{LawHelpersUnbound, LawRestRows, LawRestsMakeNone, LawStraysNotMade};
 
-/// A step of the rows is one of the rules of object rests.
+/// A row at a node is steps of the rules of object rests there.
 pub fn law_rest_rows()
     ensures { LawRestRows }
 {}
@@ -16,11 +16,6 @@ pub fn law_strays_not_made()
 /// Where a program binds no `babelHelpers`, what the built lowerings reach from it binds none.
 pub fn law_helpers_unbound()
     ensures { LawHelpersUnbound }
-{}
-
-/// Steps of a walk from a program that binds no `babelHelpers` are steps of the rows.
-pub fn law_rest_walks()
-    ensures { LawRestWalks }
 {}
 
 /// They make no other construct.

@@ -1,15 +1,15 @@
 -- Ids and marks mean nothing to patterns with a rest, whether they are declared or stray.
 use Rattle.std.proofs.Common.{◌≡◌, ◌∙◌, refl, sym, ap}
-use Rattle.std.specs.Prelude.{Bool, false, true, ◌||◌, ◌&&◌, not}
+use Rattle.std.specs.Prelude.{Bool, ◌||◌, ◌&&◌, not, is_some}
 use Rattle.es_tree.specs.Bare.{bare, bare_field, bare_fields, bare_label, bare_trees}
 use Rattle.es_tree.specs.Constructs.{any_kind, field_at, has_member, is_object_rest, is_rest}
 use Rattle.es_tree.specs.Names.{has_computed}
 use Rattle.es_tree.specs.Tree.{Tree, node, Label, Fields, done, ◌then◌, Field, missing, one, many, statements, Trees, empty, ◌before◌}
 use Rattle.es_tree.specs.Walks.{any_in_field, any_in_fields, any_in_trees, any_node}
 use Rattle.es_tree.specs.declared.ast_type.AstType.{AstType}
-use Rattle.es_tree.specs.declared.ast_type.AstType.TheVariants.{BigIntLiteral, ExportNamedDeclaration, Identifier, NumericLiteral, ObjectPattern, ObjectTarget, PatternProperty, RestElement, StringLiteral, VariableDeclaration, VariableDeclarator}
+use Rattle.es_tree.specs.declared.ast_type.AstType.TheVariants.{BigIntLiteral, ExportNamedDeclaration, Identifier, NumericLiteral, ObjectPattern, ObjectTarget, PatternProperty, RestElement, StringLiteral, TemplateElement, TemplateLiteral, VariableDeclaration, VariableDeclarator}
 use Rattle.es_rest_shapes.specs.Laws.{LawBareRests}
-use Rattle.es_rest_shapes.specs.RestShapes.{any_child, any_child_by, any_tree, declares_rest, ends_in_rest, is_known_key, is_literal_key, is_misplaced, is_name, is_named_rest, is_odd_pattern, is_plain_key, is_plain_pattern, is_plain_property, is_rest_declaration, is_rest_declarator, is_rest_pattern, is_stray_rest}
+use Rattle.es_rest_shapes.specs.RestShapes.{any_child, any_child_by, any_tree, declares_rest, ends_in_rest, is_known_key, is_literal_key, is_misplaced, is_name, is_named_rest, is_odd_pattern, is_plain_key, is_plain_pattern, is_plain_property, is_rest_declaration, is_rest_declarator, is_rest_pattern, is_stray_rest, template_text}
 
 -- CHILDREN
 
@@ -54,6 +54,22 @@ name-bare (node Identifier l done) = refl
 name-bare (node Identifier l (f then fs)) = refl
 name-bare (node _ l fs) = refl
 
+template-bare : (fs : Fields) → template_text (bare_fields fs) ≡ template_text fs
+template-bare (many (node TemplateElement l gs before empty) then (many empty then done)) = refl
+template-bare (many (node TemplateElement l gs before empty) then (many empty then f then fs)) = refl
+template-bare (many (node TemplateElement l gs before empty) then (many (t before ts) then fs)) = refl
+template-bare (many (node TemplateElement l gs before empty) then (one t then fs)) = refl
+template-bare (many (node TemplateElement l gs before empty) then (statements ts then fs)) = refl
+template-bare (many (node TemplateElement l gs before empty) then (missing then fs)) = refl
+template-bare (many (node TemplateElement l gs before empty) then done) = refl
+template-bare (many (node TemplateElement l gs before t before ts) then fs) = refl
+template-bare (many (node _ l gs before ts) then fs) = refl
+template-bare (many empty then fs) = refl
+template-bare (one t then fs) = refl
+template-bare (statements ts then fs) = refl
+template-bare (missing then fs) = refl
+template-bare done = refl
+
 literal-bare : (t : Tree) → is_literal_key (bare t) ≡ is_literal_key t
 literal-bare (node BigIntLiteral l done) = refl
 literal-bare (node BigIntLiteral l (f then fs)) = refl
@@ -61,6 +77,7 @@ literal-bare (node NumericLiteral l done) = refl
 literal-bare (node NumericLiteral l (f then fs)) = refl
 literal-bare (node StringLiteral l done) = refl
 literal-bare (node StringLiteral l (f then fs)) = refl
+literal-bare (node TemplateLiteral l fs) = ap (λ x. is_some x) (template-bare fs)
 literal-bare (node _ l fs) = refl
 
 known-bare : (t : Tree) → is_known_key (bare t) ≡ is_known_key t
@@ -69,11 +86,11 @@ known-bare (node Identifier l (f then fs)) = refl
 known-bare (node BigIntLiteral l fs) = literal-bare (node BigIntLiteral l fs)
 known-bare (node NumericLiteral l fs) = literal-bare (node NumericLiteral l fs)
 known-bare (node StringLiteral l fs) = literal-bare (node StringLiteral l fs)
+known-bare (node TemplateLiteral l fs) = literal-bare (node TemplateLiteral l fs)
 known-bare (node _ l fs) = refl
 
 pub key-bare : (b : Bool) (t : Tree) → is_plain_key b (bare t) ≡ is_plain_key b t
-key-bare true t = literal-bare t
-key-bare false t = known-bare t
+key-bare computed t = ap (λ v. computed || v) (known-bare t)
 
 pub property-bare : (t : Tree) → is_plain_property (bare t) ≡ is_plain_property t
 property-bare (node PatternProperty l (one k then one v then done)) = key-bare (has_computed PatternProperty l.flags) k

@@ -1,13 +1,13 @@
--- Which object patterns with a rest are lowered (ECMA-262, 14.3.3): those that a declarator with a value declares, and that no module exports,
--- where the text of each property's key stands in the program: `const { a, "b": c = 1, [2]: d, ...e } = f`. What stands in the properties holds
--- none itself.
-use Rattle.std.specs.Prelude.{◌&&◌, ◌||◌, not, Bool, true, false, List, [], ◌∷◌, Option}
+-- Which object patterns with a rest are lowered (ECMA-262, 14.3.3): those that a declarator with a value declares, and that no module exports:
+-- `const { a, "b": c = 1, [2]: d, [k]: e, ...g } = f`. What stands in the properties holds none itself. The text of a key that isn't computed stands
+-- in the program, and so it does of a computed text, number or template without expressions; any other computed key is read.
+use Rattle.std.specs.Prelude.{◌&&◌, ◌||◌, not, Bool, true, false, List, [], ◌∷◌, Option, None, Some, is_some}
 use Rattle.es_tree.specs.Constructs.{is_object_rest}
 use Rattle.es_tree.specs.Names.{first_text, has_computed}
 use Rattle.es_tree.specs.Tree.{Tree, node, Label, Fields, done, ◌then◌, Field, missing, one, many, statements, Trees, empty, ◌before◌}
 use Rattle.es_tree.specs.Words.{Text}
 use Rattle.es_tree.specs.declared.ast_type.AstType.{AstType}
-use Rattle.es_tree.specs.declared.ast_type.AstType.TheVariants.{BigIntLiteral, ExportNamedDeclaration, Identifier, NumericLiteral, ObjectPattern, PatternProperty, RestElement, StringLiteral, VariableDeclaration, VariableDeclarator}
+use Rattle.es_tree.specs.declared.ast_type.AstType.TheVariants.{BigIntLiteral, ExportNamedDeclaration, Identifier, NumericLiteral, ObjectPattern, PatternProperty, RestElement, StringLiteral, TemplateElement, TemplateLiteral, VariableDeclaration, VariableDeclarator}
 
 -- PATTERNS
 
@@ -19,11 +19,22 @@ abbrev pub is_name : Tree → Bool
 is_name (node Identifier l done) = true
 is_name _ = false
 
+abbrev pub second_text : List (Option Text) → Option Text
+second_text [] = None
+second_text (t ∷ []) = None
+second_text (t ∷ u ∷ us) = u
+
+-- the text of a template without expressions, as it is evaluated (13.2.8)
+abbrev pub template_text : Fields → Option Text
+template_text (many (node TemplateElement l fs before empty) then (many empty then done)) = second_text l.texts
+template_text fs = None
+
 -- a text or a number, as a key: where it is computed, it is evaluated without an effect, and gives the same key (13.2.5)
 abbrev pub is_literal_key : Tree → Bool
 is_literal_key (node BigIntLiteral l done) = true
 is_literal_key (node NumericLiteral l done) = true
 is_literal_key (node StringLiteral l done) = true
+is_literal_key (node TemplateLiteral l fs) = is_some (template_text fs)
 is_literal_key _ = false
 
 -- a key, not computed, whose text stands in the program: a name, a text or a number
@@ -31,24 +42,33 @@ abbrev pub is_known_key : Tree → Bool
 is_known_key (node Identifier l done) = true
 is_known_key k = is_literal_key k
 
--- the same for a key that is computed, or isn't: a computed name is read, and may be any key
+-- the same where a key may be computed, which any expression may be
 abbrev pub is_plain_key : Bool → Tree → Bool
-is_plain_key true k = is_literal_key k
-is_plain_key false k = is_known_key k
+is_plain_key computed k = computed || is_known_key k
 
-abbrev pub second_text : List (Option Text) → Text
-second_text [] = []
-second_text (t ∷ ts) = first_text ts
+-- whether it is read: it is computed, and no text and no number
+abbrev pub is_read_key : Bool → Tree → Bool
+is_read_key computed k = computed && not (is_literal_key k)
+
+abbrev pub text_of : Option Text → Text
+text_of None = []
+text_of (Some x) = x
 
 -- The text of such a key. A number has two texts: as it stands in the source, and as a key (docs/TREE.md).
 abbrev pub key_text : Tree → Text
-key_text (node BigIntLiteral l fs) = second_text l.texts
-key_text (node NumericLiteral l fs) = second_text l.texts
+key_text (node BigIntLiteral l fs) = text_of (second_text l.texts)
+key_text (node NumericLiteral l fs) = text_of (second_text l.texts)
+key_text (node TemplateLiteral l fs) = text_of (template_text fs)
 key_text (node k l fs) = first_text l.texts
 
 abbrev pub is_plain_property : Tree → Bool
 is_plain_property (node PatternProperty l (one k then one v then done)) = is_plain_key (has_computed PatternProperty l.flags) k
 is_plain_property _ = false
+
+-- a property whose key is read
+abbrev pub reads_key : Tree → Bool
+reads_key (node PatternProperty l (one k then one v then done)) = is_read_key (has_computed PatternProperty l.flags) k
+reads_key _ = false
 
 abbrev pub are_plain : Trees → Bool
 are_plain empty = true

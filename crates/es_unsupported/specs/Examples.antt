@@ -4,7 +4,7 @@ use Rattle.es_tree.specs.HasForm.{has_form}
 use Rattle.es_tree.specs.Order.{renumber}
 use Rattle.es_tree.specs.Tree.{Tree, node, done, ◌then◌, missing, one, many, statements, empty, trees}
 use Rattle.es_tree.specs.Words.{Text}
-use Rattle.es_tree.specs.declared.ast_type.AstType.TheVariants.{ArrayPattern, ArrayTarget, ArrowFunctionExpression, AssignmentExpression, AssignmentPattern, ClassDeclaration, EmptyStatement, ForOfStatement, FunctionDeclaration, FunctionExpression, LogicalExpression, MethodDefinition, ObjectPattern, ObjectTarget, Program, RestElement, Super, TargetRest, UnaryExpression, VariableDeclaration, VariableDeclarator}
+use Rattle.es_tree.specs.declared.ast_type.AstType.TheVariants.{ArrayPattern, ArrayTarget, ArrowFunctionExpression, AssignmentExpression, AssignmentPattern, ClassDeclaration, EmptyStatement, ForOfStatement, FunctionDeclaration, FunctionExpression, LogicalExpression, MethodDefinition, ObjectPattern, ObjectTarget, PatternProperty, Program, RestElement, Super, TargetRest, UnaryExpression, VariableDeclaration, VariableDeclarator}
 use Rattle.es_tree.specs.declared.error.UnsupportedKind.{UnsupportedKind}
 use Rattle.es_tree.specs.declared.error.UnsupportedKind.TheVariants.{ArrowOuter, ArrowThis, HeadName, HelperName, RestInArray, RestNested, RestParameter, UsingFunction}
 use Rattle.es_tree.specs.declared.options.EnvOptions.{EnvOptions}
@@ -82,6 +82,13 @@ rest_pattern x =
     let rest : Tree = node RestElement (made [] []) (one (word x) then done) in
     node ObjectPattern (made [] []) (many (trees (rest ∷ [])) then done)
 
+-- `{ [k]: a, ...x }`
+abbrev pub computed_pattern : Text → Tree
+computed_pattern x =
+    let property : Tree = node PatternProperty (made [] (false ∷ true ∷ [])) (one (word (codes "k")) then one (word (codes "a")) then done) in
+    let rest : Tree = node RestElement (made [] []) (one (word x) then done) in
+    node ObjectPattern (made [] []) (many (trees (property ∷ rest ∷ [])) then done)
+
 -- `w p = b;`, where w is `let` or `using`
 abbrev pub declaration : Text → Tree → Tree
 declaration w p =
@@ -155,6 +162,9 @@ pub record LawShapeExamples : Type 0 where
   -- where object rests are lowered, `let { ...a } = b;`, `function f({ ...a }) {}` and `let { ...babelHelpers } = b;`
   pub object_rest : Finds false true (rest_declaration (codes "a") ∷ []) None
   pub rest_parameter : Finds false true (function_node (rest_pattern (codes "a") ∷ []) [] ∷ []) (Some (RestParameter, 1))
+  -- `let { [k]: a, ...c } = b;` and `function f({ [k]: a, ...c }) {}`
+  pub computed_key : Finds false true (declaration (codes "let") (computed_pattern (codes "c")) ∷ []) None
+  pub computed_parameter : Finds false true (function_node (computed_pattern (codes "c") ∷ []) [] ∷ []) (Some (RestParameter, 1))
   -- `function f({ ...a } = b) {}`: the function has it, not the parameter; `for (let { ...a } of a) ;`
   pub rest_default : Finds false true (function_node (with_default (rest_pattern (codes "a")) ∷ []) [] ∷ []) (Some (RestParameter, 1))
   pub rest_head : Finds false true (loop_over (codes "let") (rest_pattern (codes "a")) (word (codes "a")) ∷ []) (Some (HeadName, 3))

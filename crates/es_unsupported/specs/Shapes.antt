@@ -19,7 +19,7 @@ use Rattle.es_unsupported.specs.SpreadLiterals.{is_uncopied}
 
 -- THE SHAPES, each told by the options, the symbols of the program, the scopes around a node, the innermost first, and the node
 
--- whether the first child is an object pattern with a rest, and with names or texts as keys
+-- whether the first child is an object pattern with a rest that may move, or is lowered where it is declared with a value
 abbrev pub begins_with_rest : Fields → Bool
 begins_with_rest (one p then fs) = is_plain_pattern p
 begins_with_rest _ = false
@@ -35,8 +35,8 @@ has_rest_parameter FunctionExpression fs = any_child is_rest_parameter fs
 has_rest_parameter ArrowFunctionExpression fs = any_child is_rest_parameter fs
 has_rest_parameter _ fs = false
 
--- A node that holds an object pattern with a rest that no declarator with a value declares, that has a rest inside or a key that isn't known,
--- or that is exported (14.3.3, 13.15.5); or a function with such a parameter.
+-- A node that holds an object pattern with a rest that no declarator with a value declares, that has a rest inside, or that is exported (14.3.3,
+-- 13.15.5); or a function with such a parameter.
 abbrev pub holds_stray : AstType → Label → Fields → Bool
 holds_stray k l fs = is_stray_rest k l fs || has_rest_parameter k fs
 

@@ -36,7 +36,7 @@ use Rattle.es_steps.proofs.Opened.{finished-opened}
 use Rattle.es_steps.proofs.Taken.{pending_in, this_in, top_in, whole_in}
 use Rattle.es_valid_rests.proofs.RestForms.{for-each-form}
 use Rattle.es_pattern_moves.proofs.MovedRows.{same-body}
-use Rattle.es_pattern_moves.proofs.RowsInside.{body-row as body-inside, no_names}
+use Rattle.es_rest_steps.proofs.RowsInside.{body-row as body-inside, no_names}
 use Rattle.es_using_rows.specs.Used.{const_label}
 use Rattle.es_using_heads.specs.HeadRows.{HeadWalkRow}
 use Rattle.es_using_heads.specs.HeadRows.HeadWalkRow.{from_head}

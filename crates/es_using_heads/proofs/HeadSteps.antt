@@ -22,7 +22,7 @@ use Rattle.es_pattern_moves.specs.Moved.{Makes, name_of, with_symbols}
 use Rattle.es_pattern_moves.proofs.MovedInward.{FitsAt, IsField, are-fields, each-in, each-of, inward, sites}
 use Rattle.es_pattern_moves.proofs.MovedRows.{same-body}
 use Rattle.es_pattern_moves.proofs.MovedSupply.{taking}
-use Rattle.es_pattern_moves.proofs.RowsInside.{row-inside}
+use Rattle.es_rest_steps.proofs.RowsInside.{row-inside}
 use Rattle.es_pattern_moves.proofs.RowsLead.{LeadAmong, LeadBy, LeadIn, LeadTo, body-by as value-body-by, child-by, many-by, more-among, more-in, none-among, none-by, none-in, statement-body-by, statements-by}
 use Rattle.es_using_heads.specs.HeadRows.{HeadWalkRow}
 use Rattle.es_using_heads.specs.HeadRows.HeadWalkRow.{from_head}

@@ -26,7 +26,7 @@ use Rattle.es_steps.specs.UsingLoops as loops
 use Rattle.es_steps.proofs.FormRules.{AtNodes}
 use Rattle.es_steps.proofs.Opened.{finished-opened}
 use Rattle.es_steps.proofs.Taken.{pending_in, this_in, top_in, whole_in}
-use Rattle.es_pattern_moves.proofs.RowsInside.{body-row as body-inside, no_names, same-roles}
+use Rattle.es_rest_steps.proofs.RowsInside.{body-row as body-inside, no_names, same-roles}
 use Rattle.es_using_rows.specs.Used.{Makes, constants, tried, used_arrow, used_body, used_function, used_node, used_static_block}
 use Rattle.es_using_rows.specs.UsingPlaces.{uses_here, uses_in_arrow, uses_in_body, uses_in_function, uses_in_static_block}
 use Rattle.es_using_rows.specs.UsingRows.{StandsSo, UsingWalkRow, making}

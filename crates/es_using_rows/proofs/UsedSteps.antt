@@ -17,7 +17,7 @@ use Rattle.es_steps.specs.Steps.Steps.{goes, stays}
 use Rattle.es_pattern_moves.specs.Moved.{name_of}
 use Rattle.es_pattern_moves.proofs.MovedInward.{FitsAt, IsField, are-fields, each-in, each-of, inward, sites}
 use Rattle.es_pattern_moves.proofs.MovedRows.{same-body}
-use Rattle.es_pattern_moves.proofs.RowsInside.{row-inside}
+use Rattle.es_rest_steps.proofs.RowsInside.{row-inside}
 use Rattle.es_pattern_moves.proofs.RowsLead.{LeadAmong, LeadBy, LeadIn, LeadTo, body-by as value-body-by, child-by, many-by, more-among, more-in, none-among, none-by, none-in, statement-body-by, statements-by}
 use Rattle.es_using_rows.specs.Used.{Makes, constants, context_bound, error_bound, tried, used, used_among, used_block, used_by, used_here, used_in, used_node, used_static_block, used_switch, with_symbols}
 use Rattle.es_using_rows.specs.UsingPlaces.{is_labelled, is_part, standing_in, uses_here}

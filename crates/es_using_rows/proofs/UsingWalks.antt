@@ -53,7 +53,7 @@ use Rattle.es_valid_using.proofs.UsingPlacesSteps.{using-keeps-form}
 use Rattle.es_valid_using.proofs.UsingRules.{all-using}
 use Rattle.es_valid_using.proofs.UsingTrees.{TreeAfter, tree-after}
 use Rattle.es_rest_rows.specs.Laws.{is_bound_helper}
-use Rattle.es_rest_rows.proofs.HelperSites.{body-none}
+use Rattle.es_rest_steps.proofs.HelperSites.{body-none}
 use Rattle.es_rest_rows.proofs.HelperSteps.{Unbound, first-unbound, still-unbound}
 use Rattle.es_rest_rows.proofs.HelperNames.{FindsNone, is_other_name, place-none, unbound-passes}
 use Rattle.es_pattern_moves.proofs.MoveWalks.{all-after, all-body}

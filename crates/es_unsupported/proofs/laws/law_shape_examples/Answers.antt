@@ -17,6 +17,8 @@ returns c = record {
   in_parameter = record { formed = refl; first = λ o. refl };
   object_rest = record { formed = refl; first = λ o. refl };
   rest_parameter = record { formed = refl; first = λ o. refl };
+  computed_key = record { formed = refl; first = λ o. refl };
+  computed_parameter = record { formed = refl; first = λ o. refl };
   rest_default = record { formed = refl; first = λ o. refl };
   rest_head = record { formed = refl; first = λ o. refl };
   rest_in_array = record { formed = refl; first = λ o. refl };

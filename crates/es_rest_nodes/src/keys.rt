@@ -1,0 +1,77 @@
+//! Keys whose text stands in the program: a text, a number, or a template without expressions (ECMA-262, 13.2.5 and 13.2.8).
+ghost use Rattle.std.specs.Prelude.{◌≡◌, option_copied};
+ghost use Rattle.es_tree.specs.Tree.{trees};
+ghost use Rattle.es_tree.specs.Views.{plain_field, plain_fields};
+ghost use Rattle.es_runs.specs.Duplication.{has_no_fields};
+ghost use Rattle.es_rest_shapes.specs.RestShapes.{is_literal_key, template_text};
+ghost use Rattle.es_rest_nodes.specs.RestFields.{element_text, lists_text, sole_text};
+
+use es_tree::kind::Kind;
+use es_tree::node::{Field, Node};
+
+/// Whether a key is a text, a number or a template without expressions.
+pub(crate) fn is_literal_key(key: &Node) -> bool
+    ensures { result ≡ is_literal_key key.now }
+{
+    match &key.kind {
+        Kind::BigIntLiteral { .. } | Kind::NumericLiteral { .. } | Kind::StringLiteral { .. } => {
+            has_no_fields(key.fields.as_slice())
+        }
+        Kind::TemplateLiteral => template_text(key.fields.as_slice()).is_some(),
+        _ => false,
+    }
+}
+
+pub(crate) fn has_no_fields(fields: &[Field]) -> bool
+    ensures { result ≡ has_no_fields (plain_fields fields.now) }
+{
+    matches!(fields, [])
+}
+
+/// The text of a template of these fields, as it is evaluated, where it has no expressions.
+pub fn template_text(fields: &[Field]) -> Option<&str>
+    ensures { option_copied result ≡ template_text (plain_fields fields.now) }
+{
+    if fields.len() != 2 {
+        return None;
+    }
+    lists_text(&fields[0], &fields[1])
+}
+
+/// The same of its two lists.
+fn lists_text<'a>(elements: &'a Field, expressions: &Field) -> Option<&'a str>
+    ensures { option_copied result ≡ lists_text (plain_field elements.now) (plain_field expressions.now) }
+{
+    match (elements, expressions) {
+        (Field::Many(elements), Field::Many(expressions)) => {
+            sole_text(elements.as_slice(), expressions.as_slice())
+        }
+        _ => None,
+    }
+}
+
+/// The same of what stands in them.
+fn sole_text<'a>(elements: &'a [Node], expressions: &[Node]) -> Option<&'a str>
+    ensures { option_copied result ≡ sole_text (trees elements.now) (trees expressions.now) }
+{
+    if elements.len() != 1 {
+        return None;
+    }
+    if !expressions.is_empty() {
+        return None;
+    }
+    element_text(&elements[0])
+}
+
+/// The text of an element of a template, if it gives one.
+fn element_text(element: &Node) -> Option<&str>
+    ensures { option_copied result ≡ element_text element.now }
+{
+    match &element.kind {
+        Kind::TemplateElement {
+            cooked: Some(text),
+            ..
+        } => Some(text.as_str()),
+        _ => None,
+    }
+}

@@ -1,0 +1,4 @@
+pub mod RowsInside
+pub mod FormedRows
+pub mod HelperSites
+pub mod WalkSteps
