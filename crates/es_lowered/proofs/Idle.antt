@@ -1,6 +1,6 @@
 -- Where no pattern with a rest stands, no row of object rests has a step.
 use Rattle.std.proofs.Common.{◌≡◌, ◌∙◌, ℕ, List, Option, refl, sym, ap, subst, true≢false}
-use Rattle.std.specs.Prelude.{Bool, true, false, ◌&&◌, ◌||◌}
+use Rattle.std.specs.Prelude.{Bool, true, false, ◌||◌}
 use Rattle.es_tree.specs.Constructs.{any_kind, is_object_rest, is_rest}
 use Rattle.es_tree.specs.Tree.{Tree, node, Label, done, ◌then◌, one, many, Trees, empty, ◌before◌, kind_of}
 use Rattle.es_tree.specs.declared.ast_type.AstType.TheVariants.{ObjectPattern, RestElement}
@@ -20,29 +20,17 @@ use Rattle.es_reached.proofs.FreeTrees.{Free, FreeAll, FreeBy, FreeIn, free, fre
 use Rattle.es_lowered.specs.Lowered.{LawIdle}
 use Rattle.es_rest_rows.specs.RestRows.{RestWalkRow}
 use Rattle.es_rest_rows.specs.RestRows.RowsWhere.{stores, takes}
-use Rattle.es_rest_shapes.specs.RestShapes.{ends_in_rest, is_named_rest, is_plain_pattern, is_plain_property}
+use Rattle.es_rest_rows.proofs.PlainPatterns.{ends-rest}
+use Rattle.es_rest_shapes.specs.RestShapes.{is_plain_pattern}
 
 -- A PATTERN WITH A REST
-
-named-kind : (t : Tree) → is_named_rest t ≡ true → is_rest (kind_of t) ≡ true
-named-kind (node RestElement l fs) h = refl
-named-kind (node _ l fs) h = absurd (cc h)
 
 or-later : (a b : Bool) → b ≡ true → (a || b) ≡ true
 or-later true b e = refl
 or-later false b e = e
 
-ends-so : (ps : Trees) → ends_in_rest ps ≡ true → any_kind is_rest ps ≡ true
-ends-so empty h = absurd (cc h)
-ends-so (t before empty) h = ap (λ b. b || false) (named-kind t h)
-ends-so (t before (u before ps)) h = or-later (is_rest (kind_of t)) (any_kind is_rest (u before ps)) (ends-so (u before ps) (second (is_plain_property t) (ends_in_rest (u before ps)) h))
-  where
-    second : (a b : Bool) → (a && b) ≡ true → b ≡ true
-    second true b e = e
-    second false b e = absurd (cc e)
-
 plain-rest : (p : Tree) → is_plain_pattern p ≡ true → Free is_object_rest p → ⊥
-plain-rest (node ObjectPattern l (many ps then done)) h f = absurd (true≢false (sym (ends-so ps h) ∙ f.0))
+plain-rest (node ObjectPattern l (many ps then done)) h f = absurd (true≢false (sym (ends-rest ps h) ∙ f.0))
 plain-rest (node _ l fs) h f = absurd (cc h)
 
 joined-rest : (ps : Trees) (l : Label) (t : Tree) → any_kind is_rest (joined_trees ps (node RestElement l (one t then done) before empty)) ≡ true
@@ -54,7 +42,7 @@ joined-rest (p before ps) l t = or-later (is_rest (kind_of p)) (any_kind is_rest
 idle-row : (n : Site) (s s' : Ledger) (t : Tree) (y : Spot) → RestWalkRow n s (at_node t) s' y → Free is_object_rest t → ⊥
 idle-row n s s' t y (stores m l a c p e x exported declares plain all kept silent fresh) f =
     plain-rest p plain (free-joined is_object_rest a (node _ l (one p then (one e then done)) before c) f.1.0).1.0.1.0
-idle-row n s s' t y (takes m l lp lr ls a ps c r exported plain name all kept helper used) f =
+idle-row n s s' t y (takes m l lp lr ls a ps c r xs exported declares plain name all kept names helper used) f =
     absurd (true≢false (sym (joined-rest ps lr r) ∙ (free-joined is_object_rest a (node _ l (one (node ObjectPattern lp (many (joined_trees ps (node RestElement lr (one r then done) before empty)) then done)) then (one (node _ ls done) then done)) before c) f.1.0).1.0.1.0.0))
 
 not-in-lists : (n : Site) (s s' : Ledger) (p : Pending) (x : Option Bound) (a : Additions) (ts : Trees) (y : Spot) → RestWalkRow n s (at_list p x a ts) s' y → ⊥

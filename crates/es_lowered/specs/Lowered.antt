@@ -19,20 +19,28 @@ use Rattle.es_steps.specs.Steps.{Ledger, Site, Spot, Step, Steps, Whole, the_pro
 use Rattle.es_valid_arrows.specs.ArrowPlaces.{fits_arrows}
 use Rattle.es_reached.specs.Reached.{IsResultOf, built_rules}
 use Rattle.es_rest_rows.specs.RestRows.{RestRow, RestWalkRow}
+use Rattle.es_rest_shapes.specs.HelperNames.{binds_helpers}
+use Rattle.es_semantic.specs.SymbolsOf.{symbols_of}
+use Rattle.es_valid_rests.specs.RestRules.{OutsidePart}
 
 -- the rules of the lowerings, as far as options ask for them
 abbrev pub lowered_rules : EnvOptions → Site → Ledger → Spot → Ledger → Spot → Type 0
 lowered_rules o = either_rule (built_rules o) (where_on (is_some o.es2018.object_rest_spread) RestRow)
 
--- what a program becomes by them
-abbrev pub IsLowered : EnvOptions → Tree → Tree → List Text → Type 0
-IsLowered o p q names = IsResultOf (lowered_rules o) p q names
+-- the same by the rules of object rests, of which a step takes one name at most, where a row may take several
+abbrev pub part_rules : EnvOptions → Site → Ledger → Spot → Ledger → Spot → Type 0
+part_rules o = either_rule (built_rules o) (where_on (is_some o.es2018.object_rest_spread) OutsidePart)
 
--- So it is of what steps of the rows of object rests lead to from what the others reach, as they reach it from a program that has form and
--- breaks no static rule.
+-- what a program becomes by them, in rows and in single steps
+pub record IsLowered (o : EnvOptions) (p q : Tree) (names : List Text) : Type 0 where
+  pub result : IsResultOf (lowered_rules o) p q names
+  pub parts : IsResultOf (part_rules o) p q names
+
+-- So it is of what steps of a walk that takes object rests lead to from what the others reach, as they reach it from a program that has form, breaks
+-- no static rule and binds no `babelHelpers`.
 abbrev pub LawLowered : Type 0
-LawLowered = (o : EnvOptions) (p q r t : Tree) (names more : List Text) (w : Whole) → has_form s-Program p ≡ true → breaks p ≡ [] → (is_some o.es2015.arrow_function ≡ true → fits_arrows o p ≡ true) → is_some o.es2018.object_rest_spread ≡ true →
-    (h : Reached (built_rules o) p (first_whole p) names r) → Steps (Step RestRow the_program) (nothing_beside h.whole) (opened r) (nothing_beside w) (opened t) → names_among w.made ≡ more → bare t ≡ bare q → IsLowered o p q more
+LawLowered = (o : EnvOptions) (p q r t : Tree) (names more : List Text) (w : Whole) → has_form s-Program p ≡ true → breaks p ≡ [] → (is_some o.es2015.arrow_function ≡ true → fits_arrows o p ≡ true) → is_some o.es2018.object_rest_spread ≡ true → binds_helpers (symbols_of p) ≡ false →
+    (h : Reached (built_rules o) p (first_whole p) names r) → Steps (Step RestWalkRow the_program) (nothing_beside h.whole) (opened r) (nothing_beside w) (opened t) → names_among w.made ≡ more → bare t ≡ bare q → IsLowered o p q more
 
 -- And of what the others reach alone.
 abbrev pub LawLoweredAlone : Type 0

@@ -21,14 +21,14 @@ use Rattle.es_steps.specs.Steps.{Ledger, Site, Spot}
 use Rattle.es_steps.proofs.BridgeInclusion.{all_under}
 use Rattle.es_steps.proofs.Laws.{law_reached_proof}
 use Rattle.es_steps.proofs.Opened.{finished-opened}
-use Rattle.es_lowered.specs.Lowered.{IsLowered, lowered_rules}
+use Rattle.es_lowered.specs.Lowered.{IsLowered, part_rules}
 use Rattle.es_reached.specs.Reached.{IsResultOf}
 use Rattle.es_reached.proofs.Results.{form-same, program-kind, source-form, source-well-bound}
 use Rattle.es_reached.proofs.Sources.{law_bare_source_proof}
 use Rattle.es_top_imports.specs.Laws.{list_place}
 use Rattle.es_top_names.specs.TopNames.{LawRequireFree}
 use Rattle.es_top_names.proofs.BareLists.{lists-alike}
-use Rattle.es_top_names.proofs.RootRules.{lowered-all}
+use Rattle.es_top_names.proofs.RootRules.{parts-all}
 use Rattle.es_top_names.proofs.RootSteps.{list-kept}
 use Rattle.es_top_names.proofs.SameSort.{law_same_sort_proof}
 use Rattle.es_top_names.proofs.SourceList.{source-found}
@@ -52,7 +52,7 @@ found-after o R among p q names form right h x used =
     ∙ ap is_some (kept ∙ source-found p form x)
 
 pub lowered-finds : (o : EnvOptions) (p q : Tree) (names : List Text) → has_form s-Program p ≡ true → breaks p ≡ [] → IsLowered o p q names → (x : Text) → (first_whole p).in_use x ≡ true → is_some ((list_place (source q)).scope x) ≡ is_some (find (symbols_of p) (0 ∷ []) x)
-lowered-finds o p q names form right h x used = found-after o (lowered_rules o) (lowered-all o) p q names form right h x used
+lowered-finds o p q names form right h x used = found-after o (part_rules o) (parts-all o) p q names form right h.parts x used
 
 -- in a script, as `binds_require` asks
 unbound-script : (is found : Bool) → is ≡ false → (not is && found) ≡ false → found ≡ false

@@ -53,11 +53,9 @@ use Rattle.es_steps.specs.UsingSwitches.{SwitchUsing}
 use Rattle.es_steps.specs.UsingSwitches.SwitchUsing.{of_switch}
 use Rattle.es_steps.specs.WrapRule.{WrapRule}
 use Rattle.es_steps.specs.WrapRule.WrapRule.{wraps}
-use Rattle.es_rest_rows.proofs.RowsAmongRules.{law_rest_rows_proof}
-use Rattle.es_rest_rows.specs.RestRows.{RestRow}
 use Rattle.es_reached.proofs.BuiltRules.{built-all}
 use Rattle.es_valid_rests.specs.RestRules.{OutsidePart}
-use Rattle.es_lowered.specs.Lowered.{lowered_rules}
+use Rattle.es_lowered.specs.Lowered.{part_rules}
 
 -- what a rule acts at is no program
 abbrev pub OffProgram : Spot → Type 0
@@ -203,10 +201,10 @@ rests-all n s x s' y (inl r) = inl r.0.0
 rests-all n s x s' y (inr (inl r)) = inr (inl r.0)
 rests-all n s x s' y (inr (inr r)) = inr (inr r)
 
-on-rests : (b : Bool) (n : Site) (s : Ledger) (x : Spot) (s' : Ledger) (y : Spot) → where_on b RestRow n s x s' y → where_on b (either_rule (Replacing SpreadRule) RestRule) n s x s' y
-on-rests true n s x s' y r = inr (rests-all n s x s' y (law_rest_rows_proof n s s' x y r))
+on-rests : (b : Bool) (n : Site) (s : Ledger) (x : Spot) (s' : Ledger) (y : Spot) → where_on b OutsidePart n s x s' y → where_on b (either_rule (Replacing SpreadRule) RestRule) n s x s' y
+on-rests true n s x s' y r = inr (rests-all n s x s' y r)
 on-rests false n s x s' y r = absurd r
 
-pub lowered-all : (o : EnvOptions) (n : Site) (s : Ledger) (x : Spot) (s' : Ledger) (y : Spot) → lowered_rules o n s x s' y → AllRules o n s x s' y
-lowered-all o n s x s' y (inl r) = built-all o n s x s' y r
-lowered-all o n s x s' y (inr r) = inr (inr (inr (inl (on-rests (is_some o.es2018.object_rest_spread) n s x s' y r))))
+pub parts-all : (o : EnvOptions) (n : Site) (s : Ledger) (x : Spot) (s' : Ledger) (y : Spot) → part_rules o n s x s' y → AllRules o n s x s' y
+parts-all o n s x s' y (inl r) = built-all o n s x s' y r
+parts-all o n s x s' y (inr r) = inr (inr (inr (inl (on-rests (is_some o.es2018.object_rest_spread) n s x s' y r))))
