@@ -30,7 +30,7 @@ use Rattle.es_rest_shapes.specs.RestShapes.{any_tree, is_rest_declaration, is_re
 use Rattle.lower_nodes.specs.Nodes.{owed, owed_among}
 use Rattle.lower_temporaries.specs.Takings.{moment_of}
 use Rattle.lower_temporaries.specs.declared.state.TransformState.{TransformState}
-use Rattle.lower_object_rest.specs.Declarators.{AddsDeclarators, AreKnown, LowersAll, Rows}
+use Rattle.lower_object_rest.specs.Declarators.{AddsDeclarators, AreKnown, AreSettled, LowersAll, Rows}
 use Rattle.lower_object_rest.specs.Profile.{rest_owes}
 use Rattle.lower_object_rest.specs.Rule.{all_declare_joined}
 
@@ -45,7 +45,7 @@ owed-append [] ys = omega arith
 owed-append (x ∷ xs) ys = omega (arith, owed-append xs ys)
 
 module _ (p : Tree → Bool) where
-  any-joined : (xs ys : Trees) → any_tree p xs ≡ false → any_tree p ys ≡ false → any_tree p (joined_trees xs ys) ≡ false
+  pub any-joined : (xs ys : Trees) → any_tree p xs ≡ false → any_tree p ys ≡ false → any_tree p (joined_trees xs ys) ≡ false
   any-joined empty ys h k = k
   any-joined (x before xs) ys h k = let parts = or_parts (p x) (any_tree p xs) h in or_from (p x) (any_tree p (joined_trees xs ys)) parts.0 (any-joined xs ys parts.1 k)
 
@@ -54,7 +54,7 @@ module _ (p : Tree → Bool) where
   any-before (x before xs) ys h = let parts = or_parts (p x) (any_tree p (joined_trees xs ys)) h in or_from (p x) (any_tree p xs) parts.0 (any-before xs ys parts.1)
 
 module _ (p : AstType → Label → Fields → Bool) where
-  nodes-joined : (xs ys : Trees) → any_in_trees p xs ≡ false → any_in_trees p ys ≡ false → any_in_trees p (joined_trees xs ys) ≡ false
+  pub nodes-joined : (xs ys : Trees) → any_in_trees p xs ≡ false → any_in_trees p ys ≡ false → any_in_trees p (joined_trees xs ys) ≡ false
   nodes-joined empty ys h k = k
   nodes-joined (x before xs) ys h k = let parts = or_parts (any_node p x) (any_in_trees p xs) h in or_from (any_node p x) (any_in_trees p (joined_trees xs ys)) parts.0 (nodes-joined xs ys parts.1 k)
 
@@ -97,6 +97,17 @@ known-parts ds es k =
     let inside = nodes-parts is_rest_declaration ds es k.inside in
     (record { formed = formed.0; strays = strays.0; inside = inside.0 }, record { formed = formed.1; strays = strays.1; inside = inside.1 })
 
+-- WHAT IS SETTLED
+
+pub settled-joined : (us vs : Trees) → AreSettled us → AreSettled vs → AreSettled (joined_trees us vs)
+settled-joined us vs first last = record {
+  declare = all_declare_joined us vs first.declare last.declare;
+  rests = any-joined is_rest_declarator us vs first.rests last.rests;
+  inside = nodes-joined is_rest_declaration us vs first.inside last.inside;
+  patterns = any-joined is_rest_pattern us vs first.patterns last.patterns;
+  strays = nodes-joined is_stray_rest us vs first.strays last.strays;
+}
+
 -- ROWS
 
 abbrev at_declaration : Label → Trees → Trees → Tree
@@ -123,15 +134,7 @@ module _ (a b c : Moment) (ds us es vs : Trees) (g : Rows a ds b us) (h : Rows b
     steps = rows-steps;
     settled = λ k.
         let parts = known-parts ds es k in
-        let first = g.settled parts.0 in
-        let last = h.settled parts.1 in
-        record {
-          declare = all_declare_joined us vs first.declare last.declare;
-          rests = any-joined is_rest_declarator us vs first.rests last.rests;
-          inside = nodes-joined is_rest_declaration us vs first.inside last.inside;
-          patterns = any-joined is_rest_pattern us vs first.patterns last.patterns;
-          strays = nodes-joined is_stray_rest us vs first.strays last.strays;
-        };
+        settled-joined us vs (g.settled parts.0) (h.settled parts.1);
   }
 
 -- LOWERED, one after another

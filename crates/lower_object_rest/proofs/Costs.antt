@@ -1,34 +1,38 @@
 -- How many ids a pattern with a rest owes, and the sizes of what comes of it.
-use Rattle.std.proofs.Common.{ap, arith, length, map, refl, ◌+◌, ◌≤◌, ◌∙◌, ◌∷◌, ◌≡◌, [], List}
-use Rattle.std.proofs.lemmas.Bool.{and_parts}
+use Rattle.std.proofs.Common.{ap, arith, length, refl, subst, sym, ◌+◌, ◌≤◌, ◌∙◌, ◌∷◌, ◌≡◌, [], List, ℕ}
+use Rattle.std.proofs.lemmas.Bool.{and_from, and_parts}
 use Rattle.std.specs.Prelude.{Bool, false, if◌then◌else◌, true, ◌||◌}
 use Rattle.es_tree.specs.Constructs.{any_kind, is_rest}
-use Rattle.es_tree.specs.Tree.{Label, Tree, Trees, done, empty, fields, fields_size, kind_of, many, missing, node, one, statements, tree_size, trees, trees_size, ◌before◌, ◌then◌}
-use Rattle.es_tree.specs.Words.{Text}
-use Rattle.es_tree.specs.declared.ast_type.AstType.TheVariants.{Identifier, ObjectPattern, PatternProperty, RestElement}
-use Rattle.es_steps.specs.Nodes.{joined_trees, string_node}
-use Rattle.es_steps.specs.ObjectRest.{declares_as, pattern_node, rest_value, whole_value}
-use Rattle.es_rest_rows.specs.RestRows.{keys_of, taken, with_rest}
-use Rattle.es_rest_shapes.specs.RestShapes.{are_plain, is_name, is_plain_pattern, is_plain_property}
+use Rattle.es_tree.specs.Tree.{Label, Tree, Trees, done, empty, fields_size, kind_of, many, missing, node, one, statements, tree_size, trees, trees_size, ◌before◌, ◌then◌}
+use Rattle.es_tree.specs.declared.ast_type.AstType.TheVariants.{Identifier, ObjectPattern, RestElement}
+use Rattle.es_resolution.specs.Declarations.{Bound}
+use Rattle.es_steps.specs.Nodes.{declarator_with, joined_trees, made}
+use Rattle.es_steps.specs.ObjectRest.{declares_as, pattern_node, whole_value}
+use Rattle.es_rest_rows.specs.RestRows.{group, groups, groups_by, keyed_by, keys_of, left_of, names_key, taken, with_rest}
+use Rattle.es_rest_rows.proofs.PlainPatterns.{ends-rest}
+use Rattle.es_rest_shapes.specs.RestShapes.{any_tree, are_plain, is_name, is_plain_pattern, is_plain_property, reads_key}
 use Rattle.lower_nodes.specs.Nodes.{owed, owed_among, owed_in}
-use Rattle.lower_object_rest.specs.Parts.{Parts, members_of, taken_ids}
-use Rattle.lower_object_rest.specs.Profile.{number_of, rest_owes}
-use Rattle.lower_object_rest.specs.Rule.{members_rest}
+use Rattle.lower_object_rest.specs.Groups.{elements, mapped_ids}
+use Rattle.lower_object_rest.specs.Parts.{Parts, pattern_ids, taken_ids}
+use Rattle.lower_object_rest.specs.Profile.{key_ids, key_ids_by, number_of, rest_owes}
+use Rattle.lower_object_rest.proofs.Keys.{AreLeaves, IsLeaf, keys-leaves, keys-number}
+use Rattle.lower_object_rest.proofs.Keys.IsLeaf.{text_leaf, word_leaf}
+use Rattle.lower_object_rest.proofs.PatternShapes.{keyed-plain, plain-joined, plain-property}
 use Rattle.lower_object_rest.proofs.Steps.{plain-kinds}
 
 -- THE MEMBERS of a pattern
 
-ends-rest : (ps : Trees) (r : Tree) → is_rest (kind_of r) ≡ true → any_kind is_rest (joined_trees ps (r before empty)) ≡ true
-ends-rest empty r h = ap (λ b. b || false) h
-ends-rest (p before ps) r h = at (is_rest (kind_of p)) (ends-rest ps r h)
+joined-rest : (ps : Trees) (r : Tree) → is_rest (kind_of r) ≡ true → any_kind is_rest (joined_trees ps (r before empty)) ≡ true
+joined-rest empty r h = ap (λ b. b || false) h
+joined-rest (p before ps) r h = at (is_rest (kind_of p)) (joined-rest ps r h)
   where
     at : (b : Bool) {c : Bool} → c ≡ true → (b || c) ≡ true
     at true h = refl
     at false h = h
 
-number-joined : (ps : Trees) (r : Tree) → number_of (joined_trees ps (r before empty)) ≡ number_of ps + 1
-number-joined empty r = refl
-number-joined (p before ps) r = omega (arith, number-joined ps r)
+keys-joined : (ps : Trees) (lr : Label) (t : Tree) → key_ids (joined_trees ps (node RestElement lr (one t then done) before empty)) ≡ key_ids ps + 1
+keys-joined empty lr t = refl
+keys-joined (p before ps) lr t = omega (arith, keys-joined ps lr t)
 
 owed-joined : (ps : Trees) (r : Tree) → owed_among rest_owes (joined_trees ps (r before empty)) ≡ owed_among rest_owes ps + owed rest_owes r
 owed-joined empty r = omega arith
@@ -38,20 +42,6 @@ size-joined : (ps : Trees) (r : Tree) → trees_size (joined_trees ps (r before 
 size-joined empty r = omega arith
 size-joined (p before ps) r = omega (arith, size-joined ps r)
 
-pub number-of-trees : (ps : List Tree) → number_of (trees ps) ≡ length ps
-number-of-trees [] = refl
-number-of-trees (p ∷ ps) = omega (arith, number-of-trees ps)
-
--- one key for each property
-keys-of : (ps : Trees) → are_plain ps ≡ true → length (keys_of ps) ≡ number_of ps
-keys-of empty h = refl
-keys-of (node PatternProperty l (one k then fs) before ps) h = omega (arith, keys-of ps (and_parts (is_plain_property (node PatternProperty l (one k then fs))) (are_plain ps) h).1)
-keys-of (node PatternProperty l done before ps) h = absurd (cc h)
-keys-of (node PatternProperty l (missing then fs) before ps) h = absurd (cc h)
-keys-of (node PatternProperty l (many ts then fs) before ps) h = absurd (cc h)
-keys-of (node PatternProperty l (statements ts then fs) before ps) h = absurd (cc h)
-keys-of (node _ l fs before ps) h = absurd (cc h)
-
 -- IDS OWED
 
 pub owed-name : (t : Tree) → is_name t ≡ true → owed rest_owes t ≡ 0
@@ -59,37 +49,72 @@ owed-name (node Identifier l done) h = refl
 owed-name (node Identifier l (f then fs)) h = absurd (cc h)
 owed-name (node _ l fs) h = absurd (cc h)
 
-owed-texts : (ks : List Text) → owed_in rest_owes (fields (map one (map string_node ks))) ≡ 0
-owed-texts [] = refl
-owed-texts (k ∷ ks) = omega (arith, owed-texts ks)
-
-pub owed-pattern : (lp lr : Label) (ps : Trees) (t : Tree) → is_name t ≡ true → owed rest_owes (with_rest lp ps lr t) ≡ 15 + number_of ps + owed_among rest_owes ps
+pub owed-pattern : (lp lr : Label) (ps : Trees) (t : Tree) → is_name t ≡ true → owed rest_owes (with_rest lp ps lr t) ≡ 17 + key_ids ps + owed_among rest_owes ps
 owed-pattern lp lr ps t name =
     let r : Tree = node RestElement lr (one t then done) in
     let all = joined_trees ps (r before empty) in
-    let own : (if any_kind is_rest all then 14 + number_of all else 0) ≡ 14 + number_of all = ap (λ b. if b then 14 + number_of all else 0) (ends-rest ps r refl) in
-    omega (arith, own, number-joined ps r, owed-joined ps r, owed-name t name)
+    let own : (if any_kind is_rest all then 16 + key_ids all else 0) ≡ 16 + key_ids all = ap (λ b. if b then 16 + key_ids all else 0) (joined-rest ps r refl) in
+    omega (arith, own, keys-joined ps lr t, owed-joined ps r, owed-name t name)
 
 owed-without : (lp : Label) (ps : Trees) → are_plain ps ≡ true → owed rest_owes (pattern_node lp ps) ≡ owed_among rest_owes ps
 owed-without lp ps plain =
-    let own : (if any_kind is_rest ps then 14 + number_of ps else 0) ≡ 0 = ap (λ b. if b then 14 + number_of ps else 0) (plain-kinds ps plain) in
+    let own : (if any_kind is_rest ps then 16 + key_ids ps else 0) ≡ 0 = ap (λ b. if b then 16 + key_ids ps else 0) (plain-kinds ps plain) in
     omega (arith, own)
 
-owed-value : (s : Tree) (ks : List Text) → is_name s ≡ true → owed rest_owes (rest_value s ks) ≡ 0
-owed-value s ks name = omega (arith, owed-name s name, owed-texts ks)
+-- the keys in the array owe none
+owed-leaf : (k : Tree) → IsLeaf k → owed rest_owes k ≡ 0
+owed-leaf k (word_leaf l) = refl
+owed-leaf k (text_leaf l) = refl
+
+owed-leaves : (ks : List Tree) → AreLeaves ks → owed_in rest_owes (elements ks) ≡ 0
+owed-leaves [] h = refl
+owed-leaves (k ∷ ks) h = omega (arith, owed-leaf k h.0, owed-leaves ks h.1)
+
+owed-value : (b : Bool) (s : Tree) (xs : List Bound) (ps : Trees) → is_name s ≡ true → owed rest_owes (left_of b s (keys_of xs ps)) ≡ 0
+owed-value true s xs ps name = omega (arith, owed-name s name, owed-leaves (keys_of xs ps) (keys-leaves xs ps))
+owed-value false s xs ps name = omega (arith, owed-name s name, owed-leaves (keys_of xs ps) (keys-leaves xs ps))
 
 owed-whole : (s : Tree) → is_name s ≡ true → owed rest_owes (whole_value s) ≡ 0
 owed-whole s name = omega (arith, owed-name s name)
 
+-- a group owes what its properties do
+owed-group : (lp : Label) (s : Tree) (ps : Trees) → is_name s ≡ true → are_plain ps ≡ true → owed rest_owes (group lp s ps) ≡ owed_among rest_owes ps
+owed-group lp s ps name plain = omega (arith, owed-without lp ps plain, owed-name s name)
+
+-- a key owes as much behind its name as in its property
+owed-keyed : (x : Bound) (p : Tree) → is_plain_property p ≡ true → owed rest_owes (names_key x p) + owed rest_owes (keyed_by x p) ≡ owed rest_owes p
+owed-keyed x p h = let q = plain-property p h in subst (λ (t : Tree). owed rest_owes (names_key x t) + owed rest_owes (keyed_by x t) ≡ owed rest_owes t) (sym q.is) (omega arith)
+
+module _ (lp : Label) (s : Tree) (name : is_name s ≡ true) where
+  owed-by : (b : Bool) (xs : List Bound) (these : Trees) (p : Tree) (behind : List Bound → Trees → Trees) (n : ℕ) → are_plain these ≡ true → is_plain_property p ≡ true →
+      ((ys : List Bound) (qs : Trees) → are_plain qs ≡ true → owed_among rest_owes (behind ys qs) ≡ owed_among rest_owes qs + n) → owed_among rest_owes (groups_by b lp s xs these p behind) ≡ owed_among rest_owes these + (owed rest_owes p + n)
+  owed-by true (x ∷ xs) these p behind n plain own later =
+      omega (arith, owed-group (made [] []) s these name plain, owed-keyed x p own, later xs (keyed_by x p before empty) (and_from (is_plain_property (keyed_by x p)) true (keyed-plain x p own) refl))
+  owed-by true [] these p behind n plain own later = omega (arith, owed-joined these p, later [] (joined_trees these (p before empty)) (plain-joined these p plain own))
+  owed-by false xs these p behind n plain own later = omega (arith, owed-joined these p, later xs (joined_trees these (p before empty)) (plain-joined these p plain own))
+
+  owed-groups : (xs : List Bound) (these ps : Trees) → are_plain these ≡ true → are_plain ps ≡ true → owed_among rest_owes (groups lp s xs these ps) ≡ owed_among rest_owes these + owed_among rest_owes ps
+  owed-groups xs these empty plain more = omega (arith, owed-group lp s these name plain)
+  owed-groups xs these (p before ps) plain more =
+      let parts = and_parts (is_plain_property p) (are_plain ps) more in
+      owed-by (reads_key p) xs these p (λ ys qs. groups lp s ys qs ps) (owed_among rest_owes ps) plain parts.0 (λ ys qs h. owed-groups ys qs ps h parts.1)
+
 -- what is made of a pattern owes what its properties do
-pub owed-made : (lp : Label) (s : Tree) (ps : Trees) (t : Tree) → are_plain ps ≡ true → is_name s ≡ true → is_name t ≡ true → owed_among rest_owes (taken lp s ps t) ≡ owed_among rest_owes ps
-owed-made lp s empty t plain source name = omega (arith, owed-name t name, owed-whole s source)
-owed-made lp s (p before ps) t plain source name = omega (arith, owed-without lp (p before ps) plain, owed-name s source, owed-name t name, owed-value s (keys_of (p before ps)) source)
+pub owed-made : (lp : Label) (s : Tree) (xs : List Bound) (ps : Trees) (t : Tree) → are_plain ps ≡ true → is_name s ≡ true → is_name t ≡ true → owed_among rest_owes (taken lp s xs ps t) ≡ owed_among rest_owes ps
+owed-made lp s xs empty t plain source name = omega (arith, owed-name t name, owed-whole s source)
+owed-made lp s xs (p before ps) t plain source name =
+    let all : Trees = p before ps in
+    let value = left_of (any_tree reads_key all) s (keys_of xs all) in
+    omega (arith, owed-joined (groups lp s xs empty all) (declarator_with t value), owed-groups lp s source xs empty all refl plain, owed-name t name, owed-value (any_tree reads_key all) s xs all source)
 
 -- and what is owed for a pattern is enough for the ids that are given for it, and for those of a stored source
-pub ids-enough : (ps : Trees) → 3 + taken_ids ps ≤ 15 + number_of ps
+pub few-mapped : (b : Bool) → mapped_ids b ≤ 6
+few-mapped true = omega arith
+few-mapped false = omega arith
+
+pub ids-enough : (ps : Trees) → 3 + taken_ids ps ≤ 17 + key_ids ps
 ids-enough empty = omega arith
-ids-enough (p before ps) = omega arith
+ids-enough (p before ps) = omega (arith, few-mapped (any_tree reads_key (p before ps)))
 
 -- SIZES
 
@@ -98,33 +123,59 @@ size-name (node Identifier l done) h = refl
 size-name (node Identifier l (f then fs)) h = absurd (cc h)
 size-name (node _ l fs) h = absurd (cc h)
 
-size-texts : (ks : List Text) → fields_size (fields (map one (map string_node ks))) ≡ length ks
-size-texts [] = refl
-size-texts (k ∷ ks) = omega (arith, size-texts ks)
+size-leaf : (k : Tree) → IsLeaf k → tree_size k ≡ 1
+size-leaf k (word_leaf l) = refl
+size-leaf k (text_leaf l) = refl
+
+size-leaves : (ks : List Tree) → AreLeaves ks → fields_size (elements ks) ≡ length ks
+size-leaves [] h = refl
+size-leaves (k ∷ ks) h = omega (arith, size-leaf k h.0, size-leaves ks h.1)
 
 pub size-pattern : (lp lr : Label) (ps : Trees) (t : Tree) → is_name t ≡ true → tree_size (with_rest lp ps lr t) ≡ 3 + trees_size ps
 size-pattern lp lr ps t name = omega (arith, size-joined ps (node RestElement lr (one t then done)), size-name t name)
 
-size-value : (s : Tree) (ps : Trees) → are_plain ps ≡ true → is_name s ≡ true → tree_size (rest_value s (keys_of ps)) ≡ 6 + number_of ps
-size-value s ps plain name = omega (arith, size-texts (keys_of ps), keys-of ps plain, size-name s name)
+size-value : (b : Bool) (s : Tree) (xs : List Bound) (ps : Trees) → is_name s ≡ true → tree_size (left_of b s (keys_of xs ps)) ≡ 6 + number_of ps + mapped_ids b
+size-value true s xs ps name = omega (arith, size-leaves (keys_of xs ps) (keys-leaves xs ps), keys-number xs ps, size-name s name)
+size-value false s xs ps name = omega (arith, size-leaves (keys_of xs ps) (keys-leaves xs ps), keys-number xs ps, size-name s name)
+
+-- the declarator of a name and the property that has it in the place of its key
+size-keyed : (x : Bound) (p : Tree) → is_plain_property p ≡ true → tree_size (names_key x p) + tree_size (keyed_by x p) ≡ 3 + tree_size p
+size-keyed x p h = let q = plain-property p h in subst (λ (t : Tree). tree_size (names_key x t) + tree_size (keyed_by x t) ≡ 3 + tree_size t) (sym q.is) (omega arith)
+
+-- groups have no more nodes than the properties and the ids that are given for them, but for those of the keys in the array
+module _ (lp : Label) (s : Tree) (name : is_name s ≡ true) where
+  size-by : (b : Bool) (xs : List Bound) (these : Trees) (p : Tree) (behind : List Bound → Trees → Trees) (number size ids : ℕ) → is_plain_property p ≡ true →
+      ((ys : List Bound) (qs : Trees) → trees_size (behind ys qs) + number ≤ 3 + trees_size qs + size + ids) → trees_size (groups_by b lp s xs these p behind) + (1 + number) ≤ 3 + trees_size these + (tree_size p + size) + (key_ids_by b + ids)
+  size-by true (x ∷ xs) these p behind number size ids own later = omega (arith, size-name s name, size-keyed x p own, later xs (keyed_by x p before empty))
+  size-by true [] these p behind number size ids own later = omega (arith, size-joined these p, later [] (joined_trees these (p before empty)))
+  size-by false xs these p behind number size ids own later = omega (arith, size-joined these p, later xs (joined_trees these (p before empty)))
+
+  size-groups : (xs : List Bound) (these ps : Trees) → are_plain ps ≡ true → trees_size (groups lp s xs these ps) + number_of ps ≤ 3 + trees_size these + trees_size ps + key_ids ps
+  size-groups xs these empty plain = omega (arith, size-name s name)
+  size-groups xs these (p before ps) plain =
+      let parts = and_parts (is_plain_property p) (are_plain ps) plain in
+      size-by (reads_key p) xs these p (λ ys qs. groups lp s ys qs ps) (number_of ps) (trees_size ps) (key_ids ps) parts.0 (λ ys qs. size-groups ys qs ps parts.1)
 
 size-whole : (s : Tree) → is_name s ≡ true → tree_size (whole_value s) ≡ 12
 size-whole s name = omega (arith, size-name s name)
 
 -- what is made of a pattern has no more nodes than it and the ids that are given
-pub size-made : (lp : Label) (s : Tree) (ps : Trees) (t : Tree) → are_plain ps ≡ true → is_name s ≡ true → is_name t ≡ true → trees_size (taken lp s ps t) ≤ 3 + trees_size ps + taken_ids ps
-size-made lp s empty t plain source name = omega (arith, size-name t name, size-whole s source)
-size-made lp s (p before ps) t plain source name = omega (arith, size-name s source, size-name t name, size-value s (p before ps) plain source)
+pub size-made : (lp : Label) (s : Tree) (xs : List Bound) (ps : Trees) (t : Tree) → are_plain ps ≡ true → is_name s ≡ true → is_name t ≡ true → trees_size (taken lp s xs ps t) ≤ 3 + trees_size ps + taken_ids ps
+size-made lp s xs empty t plain source name = omega (arith, size-name t name, size-whole s source)
+size-made lp s xs (p before ps) t plain source name =
+    let all : Trees = p before ps in
+    let read = any_tree reads_key all in
+    omega (arith, size-joined (groups lp s xs empty all) (declarator_with t (left_of read s (keys_of xs all))), size-groups lp s source xs empty all plain, size-value read s xs all source, size-name t name)
 
 -- MEMBERS
 
-pub members-parts : (p : Tree) (lp : Label) (ps : List Tree) (t : Tree) → Parts p lp ps t → members_of p ≡ length ps + 1
-members-parts p lp ps t h = ap members_of h.pattern ∙ (number-joined (trees ps) _ ∙ ap (λ n. n + 1) (number-of-trees ps))
+pub members-parts : (p : Tree) (lp : Label) (ps : List Tree) (t : Tree) → Parts p lp ps t → pattern_ids p ≡ key_ids (trees ps) + 1
+members-parts p lp ps t h = ap pattern_ids h.pattern ∙ keys-joined (trees ps) h.rest t
 
 -- what is owed for a pattern is enough for its members
-pub owed-members : (p : Tree) → is_plain_pattern p ≡ true → 14 + members_of p ≤ owed rest_owes p
+pub owed-members : (p : Tree) → is_plain_pattern p ≡ true → 16 + pattern_ids p ≤ owed rest_owes p
 owed-members (node ObjectPattern l (many ps then done)) h =
-    let own : (if any_kind is_rest ps then 14 + number_of ps else 0) ≡ 14 + number_of ps = ap (λ b. if b then 14 + number_of ps else 0) (members_rest ps h) in
+    let own : (if any_kind is_rest ps then 16 + key_ids ps else 0) ≡ 16 + key_ids ps = ap (λ b. if b then 16 + key_ids ps else 0) (ends-rest ps h) in
     omega (arith, own)
 owed-members (node ObjectPattern l done) h = absurd (cc h)
 owed-members (node ObjectPattern l (missing then fs)) h = absurd (cc h)
@@ -134,7 +185,7 @@ owed-members (node ObjectPattern l (many ts then (f then fs))) h = absurd (cc h)
 owed-members (node _ l fs) h = absurd (cc h)
 
 -- of a declarator of such a pattern
-pub owed-declarator : (d : Tree) (l : Label) (p e : Tree) → declares_as l p e ≡ d → is_plain_pattern p ≡ true → 14 + members_of p ≤ owed rest_owes d
+pub owed-declarator : (d : Tree) (l : Label) (p e : Tree) → declares_as l p e ≡ d → is_plain_pattern p ≡ true → 16 + pattern_ids p ≤ owed rest_owes d
 owed-declarator d l p e is plain =
     let whole = ap (owed rest_owes) is in
     omega (arith, whole, owed-members p plain)

@@ -2,13 +2,15 @@
 use Rattle.std.proofs.Common.{ap, arith, refl, subst, sym, ◌+◌, ◌∙◌, ◌∷◌, ◌≡◌, ◌≤◌, [], List, Option, ℕ}
 use Rattle.std.proofs.lemmas.Bool.{or_parts}
 use Rattle.std.specs.Prelude.{Bool, false, not, true, ◌&&◌, ◌||◌}
+use Rattle.es_tree.specs.Bare.{bare_label}
 use Rattle.es_tree.specs.Fresh.{node_base}
+use Rattle.es_tree.specs.HasForm.{has_form, trees_form}
 use Rattle.es_tree.specs.Tree.{Fields, Label, Tree, Trees, done, empty, many, missing, node, one, statements, tree_size, trees, trees_size, ◌before◌, ◌then◌}
-use Rattle.es_tree.specs.HasForm.{has_form}
 use Rattle.es_tree.specs.Walks.{any_in_fields, any_node}
-use Rattle.es_tree.proofs.NodeForm.{node_form}
 use Rattle.es_tree.specs.Words.{Text}
-use Rattle.es_tree.specs.declared.ast_type.AstType.TheVariants.{Identifier, VariableDeclarator}
+use Rattle.es_tree.specs.declared.ast_type.AstType.TheVariants.{Identifier, RestElement, VariableDeclarator}
+use Rattle.es_tree.specs.declared.table.Sort.TheVariants.{Binding as s-Binding, PatternMember as s-PatternMember, PatternMemberRest as s-PatternMemberRest, VariableDeclarator as s-VariableDeclarator}
+use Rattle.es_tree.proofs.NodeForm.{node_form}
 use Rattle.es_scope.specs.declared.context.TraverseCtx.{TraverseCtx}
 use Rattle.es_semantic.specs.RolesOf.{reads}
 use Rattle.es_resolution.specs.Declarations.{Bound}
@@ -23,11 +25,10 @@ use Rattle.es_steps.specs.Steps.{Site, Step, Steps, Whole, ledger}
 use Rattle.es_steps.specs.Steps.Steps.{goes, stays}
 use Rattle.es_steps.proofs.FormLists.{first-formed}
 use Rattle.es_steps.proofs.Written.{joined-twice}
-use Rattle.es_tree.specs.declared.table.Sort.TheVariants.{VariableDeclarator as s-VariableDeclarator}
 use Rattle.es_changes.specs.Moments.{Moment, whole_at}
 use Rattle.es_changes.proofs.Expressions.{law_expression_proof}
 use Rattle.es_valid_rests.specs.RestRules.{all_declare}
-use Rattle.es_valid_rests.proofs.RestFormsDeclared.{declarator-parts}
+use Rattle.es_valid_rests.proofs.RestFormsDeclared.{declarator-parts, pattern-members, rest-parts}
 use Rattle.es_rest_rows.specs.RestRows.{RestWalkRow, binds_name, declaring, is_exported, is_kept, taken, with_rest}
 use Rattle.es_rest_shapes.specs.RestShapes.{any_child, are_plain, is_misplaced, is_name, is_odd_pattern, is_plain_pattern, is_rest_declarator, is_rest_pattern, is_stray_rest}
 use Rattle.lower_nodes.specs.Nodes.{owed, owed_among}
@@ -36,14 +37,14 @@ use Rattle.lower_temporaries.specs.Takings.{ReadsMore, TakesBound, moment_of}
 use Rattle.lower_temporaries.specs.declared.state.TransformState.{TransformState}
 use Rattle.lower_temporaries.proofs.SeenLaws.{base-seen, size-seen}
 use Rattle.lower_object_rest.specs.Declarators.{AreKnown, AreSettled, LowersAll}
-use Rattle.lower_object_rest.specs.Parts.{Stores, Takes, bare_label, taken_ids}
-use Rattle.lower_object_rest.specs.Profile.{number_of, rest_owes}
-use Rattle.lower_object_rest.specs.Shapes.{is_lowerable}
+use Rattle.lower_object_rest.specs.Parts.{Stores, Takes, taken_ids}
+use Rattle.lower_object_rest.specs.Profile.{key_ids, rest_owes}
 use Rattle.lower_object_rest.specs.Rule.{all_declare_joined}
+use Rattle.lower_object_rest.specs.Shapes.{is_lowerable}
 use Rattle.lower_object_rest.proofs.Composition.{declarators-form}
 use Rattle.lower_object_rest.proofs.Costs.{ids-enough, owed-made, owed-name, owed-pattern, size-made, size-name, size-pattern}
 use Rattle.lower_object_rest.proofs.SeenShapes.{ids-seen, lowerable-seen, name-seen, owed-among, owed-seen, pattern-seen, plain-seen, rest-pattern-seen, size-among}
-use Rattle.lower_object_rest.proofs.Steps.{IsNamed, last-made, name-node, settled-stored, settled-taken, stores-step, takes-step}
+use Rattle.lower_object_rest.proofs.Steps.{IsNamed, last-made, name-node, names-keys, settled-stored, settled-taken, stores-step, takes-step}
 
 -- A NAME THAT IS BOUND, and then read
 pub bound-read : (b : Bound) (m n : ℕ) (old mid new : TraverseCtx TransformState) → TakesBound b m (moment_of old) (moment_of mid) → ReadsMore n mid new → TakesBound b (m + n) (moment_of old) (moment_of new)
@@ -76,14 +77,14 @@ module _ (old new : TraverseCtx TransformState) (p s : Tree) (us : List Tree) (k
   abbrev seen_pattern : Tree
   seen_pattern = with_rest (bare_label k.lp) seen_properties (bare_label k.parts.rest) (seen names k.t)
 
-  abbrev seen_taken : Tree → Trees
-  seen_taken e = taken (bare_label k.lp) e seen_properties (seen names k.t)
+  abbrev taken_from : Tree → Trees
+  taken_from e = taken (bare_label k.lp) e k.bound seen_properties (seen names k.t)
 
   pattern-is : seen_pattern ≡ seen names p
   pattern-is = sym (rest-pattern-seen names k.lp k.parts.rest (trees k.ps) k.t) ∙ ap (seen names) (sym k.parts.pattern)
 
-  taken-is : seen_taken (node Identifier ls done) ≡ seen_among names (trees us)
-  taken-is = ap seen_taken is_source ∙ sym (k.are names)
+  taken-is : taken_from (node Identifier ls done) ≡ seen_among names (trees us)
+  taken-is = ap taken_from is_source ∙ sym (k.are names)
 
   properties-plain : are_plain seen_properties ≡ true
   properties-plain = plain-seen names (trees k.ps) ∙ k.parts.plain
@@ -91,33 +92,37 @@ module _ (old new : TraverseCtx TransformState) (p s : Tree) (us : List Tree) (k
   target-name : is_name (seen names k.t) ≡ true
   target-name = name-seen names k.t ∙ k.parts.name
 
-  same-whole : whole_at (moment_of old) ≡ whole_at (moment_of new)
-  same-whole = sym (ap whole_at k.reads.moment_is)
+  properties-formed : (l : Label) (e : Tree) → AreKnown (declares_as l (seen names p) e before empty) → trees_form s-PatternMember s-PatternMember seen_properties ≡ true
+  properties-formed l e known =
+      let r : Tree = node RestElement (bare_label k.parts.rest) (one (seen names k.t) then done) in
+      let formed = (first-formed s-VariableDeclarator (declares_as l (seen names p) e) empty known.formed).0 in
+      let target = subst (λ (t : Tree). has_form s-Binding t ≡ true) (sym pattern-is) (declarator-parts l (seen names p) e formed).target in
+      (rest-parts s-PatternMember s-PatternMemberRest seen_properties r empty (pattern-members (bare_label k.lp) (joined_trees seen_properties (r before empty)) target)).earlier
 
-  taken-step : (n : Site) (m l : Label) (cs fs : Trees) → is_exported n ≡ false → all_declare cs ≡ true → all_declare fs ≡ true → is_kept (whole_at (moment_of old)) (seen names p) (seen names s) ≡ true → (q : Pending) (x : Option Bound) (y : Additions) →
+  taken-step : trees_form s-PatternMember s-PatternMember seen_properties ≡ true → (n : Site) (m l : Label) (cs fs : Trees) → is_exported n ≡ false → all_declare cs ≡ true → all_declare fs ≡ true → is_kept (whole_at (moment_of old)) (seen names p) (seen names s) ≡ true → (q : Pending) (x : Option Bound) (y : Additions) →
       Step RestWalkRow n (ledger (whole_at (moment_of old)) q x y) (opened (declaring m (joined_trees cs (declares_as l (seen names p) (seen names s) before fs)))) (ledger (whole_at (moment_of new)) q x y) (opened (declaring m (joined_trees cs (joined_trees (seen_among names (trees us)) fs))))
-  taken-step n m l cs fs inside earlier later kept q x y =
+  taken-step formed n m l cs fs inside earlier later kept q x y =
       let w = whole_at (moment_of old) in
+      let v = whole_at (moment_of new) in
       let it : Tree = node Identifier ls done in
       let start = λ (d : Tree). opened (declaring m (joined_trees cs (d before fs))) in
       let end = λ (ts : Trees). opened (declaring m (joined_trees cs (joined_trees ts fs))) in
       let kept_so : is_kept w seen_pattern it ≡ true = (λ i. is_kept w (pattern-is i) (is_source i)) ∙ kept in
-      let step = takes-step n m cs fs inside earlier later q x y w l (bare_label k.lp) (bare_label k.parts.rest) ls seen_properties (seen names k.t) properties-plain target-name kept_so refl in
+      let step = takes-step n m cs fs inside earlier later q x y w v l (bare_label k.lp) (bare_label k.parts.rest) ls seen_properties (seen names k.t) k.bound properties-plain target-name kept_so (names-keys names k.named formed) refl in
       let from : declares_as l seen_pattern it ≡ declares_as l (seen names p) (seen names s) = λ i. declares_as l (pattern-is i) (is_source i) in
-      subst (λ (v : Whole). Step RestWalkRow n (ledger w q x y) (start (declares_as l (seen names p) (seen names s))) (ledger v q x y) (end (seen_among names (trees us)))) same-whole
-      (subst (λ (d : Tree). Step RestWalkRow n (ledger w q x y) (start d) (ledger w q x y) (end (seen_among names (trees us)))) from
-      (subst (λ (ts : Trees). Step RestWalkRow n (ledger w q x y) (start (declares_as l seen_pattern it)) (ledger w q x y) (end ts)) taken-is step))
+      subst (λ (d : Tree). Step RestWalkRow n (ledger w q x y) (start d) (ledger v q x y) (end (seen_among names (trees us)))) from
+      (subst (λ (ts : Trees). Step RestWalkRow n (ledger w q x y) (start (declares_as l seen_pattern it)) (ledger v q x y) (end ts)) taken-is step)
 
   taken-settled : (l : Label) (e : Tree) → AreKnown (declares_as l (seen names p) e before empty) → AreSettled (seen_among names (trees us))
   taken-settled l e known =
       let known_so : AreKnown (declares_as l seen_pattern e before empty) = subst (λ (t : Tree). AreKnown (declares_as l t e before empty)) (sym pattern-is) known in
-      subst (λ (ts : Trees). AreSettled ts) taken-is (settled-taken l (bare_label k.lp) (bare_label k.parts.rest) ls seen_properties (seen names k.t) e properties-plain target-name known_so)
+      subst (λ (ts : Trees). AreSettled ts) taken-is (settled-taken l (bare_label k.lp) (bare_label k.parts.rest) ls k.bound seen_properties (seen names k.t) e properties-plain target-name known_so)
 
 -- THEIR IDS AND SIZES
 
 module _ (old new : TraverseCtx TransformState) (p s : Tree) (us : List Tree) (k : Takes old new p s us) (source : is_name s ≡ true) where
   abbrev made : Trees
-  made = taken (bare_label k.lp) (seen no_bindings s) (seen_among no_bindings (trees k.ps)) (seen no_bindings k.t)
+  made = taken (bare_label k.lp) (seen no_bindings s) k.bound (seen_among no_bindings (trees k.ps)) (seen no_bindings k.t)
 
   made-plain : are_plain (seen_among no_bindings (trees k.ps)) ≡ true
   made-plain = plain-seen no_bindings (trees k.ps) ∙ k.parts.plain
@@ -128,21 +133,21 @@ module _ (old new : TraverseCtx TransformState) (p s : Tree) (us : List Tree) (k
   made-target : is_name (seen no_bindings k.t) ≡ true
   made-target = name-seen no_bindings k.t ∙ k.parts.name
 
-  pub owed-taken : owed rest_owes p ≡ owed_among rest_owes (trees us) + (15 + number_of (trees k.ps))
+  pub owed-taken : owed rest_owes p ≡ owed_among rest_owes (trees us) + (17 + key_ids (trees k.ps))
   owed-taken =
-      let whole : owed rest_owes p ≡ 15 + number_of (trees k.ps) + owed_among rest_owes (trees k.ps) = ap (owed rest_owes) k.parts.pattern ∙ owed-pattern k.lp k.parts.rest (trees k.ps) k.t k.parts.name in
+      let whole : owed rest_owes p ≡ 17 + key_ids (trees k.ps) + owed_among rest_owes (trees k.ps) = ap (owed rest_owes) k.parts.pattern ∙ owed-pattern k.lp k.parts.rest (trees k.ps) k.t k.parts.name in
       let all : owed_among rest_owes (trees us) ≡ owed_among rest_owes made = sym (owed-among no_bindings (trees us)) ∙ ap (owed_among rest_owes) (k.are no_bindings) in
-      let parts = owed-made (bare_label k.lp) (seen no_bindings s) (seen_among no_bindings (trees k.ps)) (seen no_bindings k.t) made-plain made-source made-target in
-      owed-sum (owed rest_owes p) (owed_among rest_owes (trees us)) (number_of (trees k.ps)) (owed_among rest_owes (trees k.ps)) whole (all ∙ (parts ∙ owed-among no_bindings (trees k.ps)))
+      let parts = owed-made (bare_label k.lp) (seen no_bindings s) k.bound (seen_among no_bindings (trees k.ps)) (seen no_bindings k.t) made-plain made-source made-target in
+      owed-sum (owed rest_owes p) (owed_among rest_owes (trees us)) (key_ids (trees k.ps)) (owed_among rest_owes (trees k.ps)) whole (all ∙ (parts ∙ owed-among no_bindings (trees k.ps)))
     where
-      owed-sum : (p u number among : ℕ) → p ≡ 15 + number + among → u ≡ among → p ≡ u + (15 + number)
+      owed-sum : (p u number among : ℕ) → p ≡ 17 + number + among → u ≡ among → p ≡ u + (17 + number)
       owed-sum p u number among h g = omega arith
 
   pub size-taken : trees_size (trees us) ≤ tree_size p + taken_ids (trees k.ps)
   size-taken =
       let whole : tree_size p ≡ 3 + trees_size (trees k.ps) = ap tree_size k.parts.pattern ∙ size-pattern k.lp k.parts.rest (trees k.ps) k.t k.parts.name in
       let all : trees_size (trees us) ≡ trees_size made = sym (size-among no_bindings (trees us)) ∙ ap trees_size (k.are no_bindings) in
-      let most = size-made (bare_label k.lp) (seen no_bindings s) (seen_among no_bindings (trees k.ps)) (seen no_bindings k.t) made-plain made-source made-target in
+      let most = size-made (bare_label k.lp) (seen no_bindings s) k.bound (seen_among no_bindings (trees k.ps)) (seen no_bindings k.t) made-plain made-source made-target in
       size-sum (tree_size p) (trees_size (trees us)) (trees_size made) (trees_size (trees k.ps)) (trees_size (seen_among no_bindings (trees k.ps))) (taken_ids (trees k.ps)) (taken_ids (seen_among no_bindings (trees k.ps))) whole all most (size-among no_bindings (trees k.ps)) (ids-seen no_bindings (trees k.ps))
     where
       size-sum : (p u m among seen_among ids seen_ids : ℕ) → p ≡ 3 + among → u ≡ m → m ≤ 3 + seen_among + seen_ids → seen_among ≡ among → seen_ids ≡ ids → u ≤ p + ids
@@ -163,13 +168,12 @@ seen-source names t h = name-node (seen names t) (name-seen names t ∙ h)
 
 pub lowers-kept-source : (old new : TraverseCtx TransformState) (l : Label) (p e : Tree) (us : List Tree) → is_name e ≡ true → ((names : ℕ → Text → Option ℕ) → is_kept (whole_at (moment_of old)) (seen names p) (seen names e) ≡ true) → Takes old new p e us → LowersAll old new (declares_as l p e ∷ []) us
 lowers-kept-source old new l p e us name kept k =
-    let m = k.reads.moment_is in
-    let next = ap (λ (a : Moment). a.next) m in
+    let next = k.gives.next_is in
     record {
       paid = record {
-        lists = ap (λ (a : Moment). a.lists) m;
-        around = ap (λ (a : Moment). a.around) m;
-        options = ap (λ (a : Moment). a.options) m;
+        lists = k.gives.lists_are;
+        around = k.gives.around_is;
+        options = k.gives.options_are;
         counted = omega (arith, next);
         lighter = omega (arith, next, owed-taken old new p e us k name, owed-name e name, ids-enough (trees k.ps));
         nodes = omega (arith, next, size-taken old new p e us k name, size-name e name);
@@ -177,7 +181,7 @@ lowers-kept-source old new l p e us name kept k =
       rows = λ names.
           let it = seen-source names e name in
           record {
-            steps = λ known n v cs fs inside earlier later q x y. goes (taken-step old new p e us k names it.label (sym it.is) n v (bare_label l) cs fs inside earlier later (kept names) q x y) stays;
+            steps = λ known n v cs fs inside earlier later q x y. goes (taken-step old new p e us k names it.label (sym it.is) (properties-formed old new p e us k names it.label (sym it.is) (bare_label l) (seen names e) known) n v (bare_label l) cs fs inside earlier later (kept names) q x y) stays;
             settled = λ known. taken-settled old new p e us k names it.label (sym it.is) (bare_label l) (seen names e) known;
           };
     }
@@ -215,7 +219,8 @@ module _ (old mid new : TraverseCtx TransformState) (l : Label) (p e stored name
       (subst (λ (d : Tree). Step RestWalkRow n (ledger w q x y) from (ledger (with_made (k.name ∷ []) w) q x y) (between d (seen names name))) (sym (k.declarator_is names))
       (subst (λ (s : Tree). Step RestWalkRow n (ledger w q x y) from (ledger (with_made (k.name ∷ []) w) q x y) (between put s)) (sym (k.read_is names)) stores)) in
       let declared : all_declare (seen names stored before empty) ≡ true = λ i. all_declare (k.declarator_is names i before empty) in
-      let second = taken-step mid new p name us h names _ (sym (k.read_is names)) n m (bare_label l) (joined_trees cs (seen names stored before empty)) fs inside (all_declare_joined cs (seen names stored before empty) earlier declared) later (stored-kept names) q x y in
+      let formed = properties-formed mid new p name us h names _ (sym (k.read_is names)) (bare_label l) (seen names e) known in
+      let second = taken-step mid new p name us h names _ (sym (k.read_is names)) formed n m (bare_label l) (joined_trees cs (seen names stored before empty)) fs inside (all_declare_joined cs (seen names stored before empty) earlier declared) later (stored-kept names) q x y in
       let after = λ (ts : Trees). opened (declaring m ts) in
       let apart = joined-twice cs (seen names stored before empty) in
       let second_step : Step RestWalkRow n (ledger v q x y) (between (seen names stored) (seen names name)) (ledger (whole_at (moment_of new)) q x y) (after (joined_trees cs (seen names stored before left))) =
@@ -240,13 +245,12 @@ module _ (old mid new : TraverseCtx TransformState) (l : Label) (p e stored name
 
   pub lowers-stored-source : LowersAll old new (declares_as l p e ∷ []) (stored ∷ us)
   lowers-stored-source =
-      let m = h.reads.moment_is in
-      let next = ap (λ (a : Moment). a.next) m in
+      let next = h.gives.next_is in
       record {
         paid = record {
-          lists = ap (λ (a : Moment). a.lists) m ∙ k.takes.lists_are;
-          around = ap (λ (a : Moment). a.around) m ∙ k.takes.around_is;
-          options = ap (λ (a : Moment). a.options) m ∙ k.takes.options_are;
+          lists = h.gives.lists_are ∙ k.takes.lists_are;
+          around = h.gives.around_is ∙ k.takes.around_is;
+          options = h.gives.options_are ∙ k.takes.options_are;
           counted = omega (arith, next, k.takes.next_is);
           lighter = omega (arith, next, k.takes.next_is, owed-taken mid new p name us h source-name, stored-owed, ids-enough (trees h.ps));
           nodes = omega (arith, next, k.takes.next_is, size-taken mid new p name us h source-name, stored-size);

@@ -5,6 +5,7 @@ pub mod Costs
 pub mod Declarators
 pub mod PatternShapes
 pub mod Opened
+pub mod GroupsMade
 pub mod Keys
 pub mod KeptSources
 pub mod Taken

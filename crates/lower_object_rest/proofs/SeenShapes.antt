@@ -1,22 +1,24 @@
 -- What is seen of declarators and patterns: the same shapes, the same keys, and as many ids owed.
-use Rattle.std.proofs.Common.{ap, refl, ◌+◌, ◌∷◌, ◌≡◌, Option, ℕ}
-use Rattle.std.specs.Prelude.{Bool, false, true, if◌then◌else◌, ◌&&◌, ◌||◌}
+use Rattle.std.proofs.Common.{ap, refl, ◌+◌, ◌≡◌, Option, ℕ}
+use Rattle.std.specs.Prelude.{Bool, if◌then◌else◌, is_some, not, ◌&&◌, ◌||◌}
+use Rattle.es_tree.specs.Bare.{bare_label}
 use Rattle.es_tree.specs.Constructs.{any_kind, is_rest}
 use Rattle.es_tree.specs.Names.{has_computed}
 use Rattle.es_tree.specs.Tree.{Field, Fields, Label, Tree, Trees, done, empty, many, missing, node, one, statements, trees_size, ◌before◌, ◌then◌}
 use Rattle.es_tree.specs.Words.{Text}
 use Rattle.es_tree.specs.declared.ast_type.AstType.{AstType}
-use Rattle.es_tree.specs.declared.ast_type.AstType.TheVariants.{BigIntLiteral, Identifier, NumericLiteral, ObjectPattern, PatternProperty, RestElement, StringLiteral, VariableDeclarator}
+use Rattle.es_tree.specs.declared.ast_type.AstType.TheVariants.{BigIntLiteral, Identifier, NumericLiteral, ObjectPattern, PatternProperty, RestElement, StringLiteral, TemplateElement, TemplateLiteral, VariableDeclarator}
 use Rattle.es_resolution.specs.Seen.{seen, seen_among, seen_by, seen_in, seen_marks}
-use Rattle.es_steps.specs.Nodes.{joined_trees}
+use Rattle.es_steps.specs.Nodes.{joined_trees, string_node}
 use Rattle.es_steps.specs.ObjectRest.{pattern_node}
-use Rattle.es_rest_rows.specs.RestRows.{keys_of, with_rest}
-use Rattle.es_rest_shapes.specs.RestShapes.{are_plain, ends_in_rest, is_known_key, is_literal_key, is_name, is_named_rest, is_plain_key, is_plain_pattern, is_plain_property, key_text}
+use Rattle.es_rest_rows.specs.RestRows.{text_of_key, with_rest}
+use Rattle.es_rest_shapes.specs.RestShapes.{any_tree, are_plain, ends_in_rest, is_known_key, is_literal_key, is_name, is_named_rest, is_plain_key, is_plain_pattern, is_plain_property, key_text, reads_key, template_text, text_of}
 use Rattle.lower_nodes.specs.Nodes.{owed, owed_among, owed_by, owed_in}
 use Rattle.lower_temporaries.proofs.SeenLaws.{size-seen}
 use Rattle.lower_temporaries.proofs.TwoFields.{two-seen}
-use Rattle.lower_object_rest.specs.Parts.{bare_label, taken_ids}
-use Rattle.lower_object_rest.specs.Profile.{number_of, rest_owes}
+use Rattle.lower_object_rest.specs.Groups.{mapped_ids}
+use Rattle.lower_object_rest.specs.Parts.{taken_ids}
+use Rattle.lower_object_rest.specs.Profile.{key_ids, key_ids_by, rest_owes}
 use Rattle.lower_object_rest.specs.Shapes.{is_lowerable}
 
 module _ (names : ℕ → Text → Option ℕ) where
@@ -31,6 +33,22 @@ module _ (names : ℕ → Text → Option ℕ) where
   name-seen (node Identifier l (f then fs)) = refl
   name-seen (node _ l fs) = refl
 
+  template-seen : (fs : Fields) → template_text (seen_in names fs) ≡ template_text fs
+  template-seen (many (node TemplateElement l gs before empty) then (many empty then done)) = refl
+  template-seen (many (node TemplateElement l gs before empty) then (many empty then (f then fs))) = refl
+  template-seen (many (node TemplateElement l gs before empty) then (many (t before ts) then fs)) = refl
+  template-seen (many (node TemplateElement l gs before empty) then (one t then fs)) = refl
+  template-seen (many (node TemplateElement l gs before empty) then (statements ts then fs)) = refl
+  template-seen (many (node TemplateElement l gs before empty) then (missing then fs)) = refl
+  template-seen (many (node TemplateElement l gs before empty) then done) = refl
+  template-seen (many (node TemplateElement l gs before (t before ts)) then fs) = refl
+  template-seen (many (node _ l gs before ts) then fs) = refl
+  template-seen (many empty then fs) = refl
+  template-seen (one t then fs) = refl
+  template-seen (statements ts then fs) = refl
+  template-seen (missing then fs) = refl
+  template-seen done = refl
+
   literal-seen : (t : Tree) → is_literal_key (seen names t) ≡ is_literal_key t
   literal-seen (node BigIntLiteral l done) = refl
   literal-seen (node BigIntLiteral l (f then fs)) = refl
@@ -38,6 +56,7 @@ module _ (names : ℕ → Text → Option ℕ) where
   literal-seen (node NumericLiteral l (f then fs)) = refl
   literal-seen (node StringLiteral l done) = refl
   literal-seen (node StringLiteral l (f then fs)) = refl
+  literal-seen (node TemplateLiteral l fs) = ap is_some (template-seen fs)
   literal-seen (node _ l fs) = refl
 
   known-seen : (t : Tree) → is_known_key (seen names t) ≡ is_known_key t
@@ -46,11 +65,11 @@ module _ (names : ℕ → Text → Option ℕ) where
   known-seen (node BigIntLiteral l fs) = literal-seen (node BigIntLiteral l fs)
   known-seen (node NumericLiteral l fs) = literal-seen (node NumericLiteral l fs)
   known-seen (node StringLiteral l fs) = literal-seen (node StringLiteral l fs)
+  known-seen (node TemplateLiteral l fs) = literal-seen (node TemplateLiteral l fs)
   known-seen (node _ l fs) = refl
 
   key-seen : (computed : Bool) (t : Tree) → is_plain_key computed (seen names t) ≡ is_plain_key computed t
-  key-seen true t = literal-seen t
-  key-seen false t = known-seen t
+  key-seen computed t = ap (λ b. computed || b) (known-seen t)
 
   property-seen : (t : Tree) → is_plain_property (seen names t) ≡ is_plain_property t
   property-seen (node PatternProperty l (one k then (one v then done))) = key-seen (has_computed PatternProperty l.flags) k
@@ -98,22 +117,35 @@ module _ (names : ℕ → Text → Option ℕ) where
 
   -- KEYS
 
+  pub reads-seen : (t : Tree) → reads_key (seen names t) ≡ reads_key t
+  reads-seen (node PatternProperty l (one k then (one v then done))) = ap (λ b. has_computed PatternProperty l.flags && not b) (literal-seen k)
+  reads-seen (node PatternProperty l done) = refl
+  reads-seen (node PatternProperty l (missing then fs)) = refl
+  reads-seen (node PatternProperty l (many ts then fs)) = refl
+  reads-seen (node PatternProperty l (statements ts then fs)) = refl
+  reads-seen (node PatternProperty l (one k then done)) = refl
+  reads-seen (node PatternProperty l (one k then (missing then fs))) = refl
+  reads-seen (node PatternProperty l (one k then (many ts then fs))) = refl
+  reads-seen (node PatternProperty l (one k then (statements ts then fs))) = refl
+  reads-seen (node PatternProperty l (one k then (one v then (f then fs)))) = refl
+  reads-seen (node _ l fs) = refl
+
+  pub any-read-seen : (ts : Trees) → any_tree reads_key (seen_among names ts) ≡ any_tree reads_key ts
+  any-read-seen empty = refl
+  any-read-seen (t before ts) = λ i. reads-seen t i || any-read-seen ts i
+
   key-text-seen : (t : Tree) → key_text (seen names t) ≡ key_text t
   key-text-seen (node BigIntLiteral l fs) = refl
   key-text-seen (node NumericLiteral l fs) = refl
+  key-text-seen (node TemplateLiteral l fs) = ap text_of (template-seen fs)
   key-text-seen (node _ l fs) = refl
 
-  keys-of-property : (l : Label) (fs : Fields) (ts : Trees) → keys_of (seen_among names ts) ≡ keys_of ts → keys_of (seen names (node PatternProperty l fs) before seen_among names ts) ≡ keys_of (node PatternProperty l fs before ts)
-  keys-of-property l (one k then fs) ts h = λ i. key-text-seen k i ∷ h i
-  keys-of-property l done ts h = h
-  keys-of-property l (missing then fs) ts h = h
-  keys-of-property l (many us then fs) ts h = h
-  keys-of-property l (statements us then fs) ts h = h
-
-  pub keys-seen : (ts : Trees) → keys_of (seen_among names ts) ≡ keys_of ts
-  keys-seen empty = refl
-  keys-seen (node PatternProperty l fs before ts) = keys-of-property l fs ts (keys-seen ts)
-  keys-seen (node _ l fs before ts) = keys-seen ts
+  pub key-of-seen : (t : Tree) → text_of_key (seen names t) ≡ text_of_key t
+  key-of-seen (node k l (one e then fs)) = ap string_node (key-text-seen e)
+  key-of-seen (node k l done) = refl
+  key-of-seen (node k l (missing then fs)) = refl
+  key-of-seen (node k l (many ts then fs)) = refl
+  key-of-seen (node k l (statements ts then fs)) = refl
 
   -- a pattern with its rest
   pub rest-pattern-seen : (lp lr : Label) (ps : Trees) (t : Tree) → seen names (with_rest lp ps lr t) ≡ with_rest (bare_label lp) (seen_among names ps) (bare_label lr) (seen names t)
@@ -131,17 +163,17 @@ module _ (names : ℕ → Text → Option ℕ) where
   kinds-seen empty = refl
   kinds-seen (node k l fs before ts) = ap (λ b. is_rest k || b) (kinds-seen ts)
 
-  number-seen : (ts : Trees) → number_of (seen_among names ts) ≡ number_of ts
-  number-seen empty = refl
-  number-seen (t before ts) = ap (λ n. 1 + n) (number-seen ts)
+  key_ids-seen : (ts : Trees) → key_ids (seen_among names ts) ≡ key_ids ts
+  key_ids-seen empty = refl
+  key_ids-seen (t before ts) = λ i. key_ids_by (reads-seen t i) + key_ids-seen ts i
 
   -- and as many are given for it
   pub ids-seen : (ts : Trees) → taken_ids (seen_among names ts) ≡ taken_ids ts
   ids-seen empty = refl
-  ids-seen (t before ts) = ap (λ n. 8 + n) (number-seen (t before ts))
+  ids-seen (t before ts) = λ i. 8 + key_ids-seen (t before ts) i + mapped_ids (any-read-seen (t before ts) i)
 
   own-seen : (k : AstType) (l m : Label) (fs : Fields) → rest_owes k m (seen_in names fs) ≡ rest_owes k l fs
-  own-seen ObjectPattern l m (many ps then fs) = λ i. if kinds-seen ps i then 14 + number-seen ps i else 0
+  own-seen ObjectPattern l m (many ps then fs) = λ i. if kinds-seen ps i then 16 + key_ids-seen ps i else 0
   own-seen ObjectPattern l m done = refl
   own-seen ObjectPattern l m (missing then fs) = refl
   own-seen ObjectPattern l m (one t then fs) = refl

@@ -2,6 +2,7 @@
 use Rattle.std.proofs.Common.{ap, arith, refl, subst, sym, true≢false, ◌==◌, ◌∙◌, ◌≡◌, Option, ℕ}
 use Rattle.std.proofs.lemmas.Bool.{and_parts, or_from, or_parts}
 use Rattle.std.specs.Prelude.{Bool, false, is_some, true, ◌&&◌, ◌||◌}
+use Rattle.es_tree.specs.Bare.{bare_label}
 use Rattle.es_tree.specs.HasForm.{has_form, same_type}
 use Rattle.es_tree.specs.Tree.{Field, Fields, Label, Tree, Trees, done, empty, many, missing, node, one, statements, tree_size, trees, ◌before◌, ◌then◌}
 use Rattle.es_tree.specs.Walks.{any_in_field, any_in_fields, any_in_trees, any_node}
@@ -23,15 +24,14 @@ use Rattle.es_changes.specs.Moments.{whole_at}
 use Rattle.es_traverse.specs.Laws.{Seen, is_construct}
 use Rattle.es_valid_rests.proofs.RestFormsDeclared.{declaration-parts}
 use Rattle.es_rest_rows.specs.RestRows.{RestWalkRow, declaring, is_exported}
+use Rattle.es_rest_rows.proofs.PlainPatterns.{ends-rest}
 use Rattle.es_rest_shapes.specs.RestShapes.{any_tree, declares_rest, is_plain_pattern, is_rest_declaration, is_rest_declarator, is_rest_pattern, is_stray_rest}
 use Rattle.lower_nodes.specs.Nodes.{Alike, Lowered, PaidTree, Stands, owed}
 use Rattle.lower_nodes.specs.Nodes.Alike.{changed}
 use Rattle.lower_temporaries.specs.Takings.{moment_of}
 use Rattle.lower_temporaries.specs.declared.state.TransformState.{TransformState}
 use Rattle.lower_object_rest.specs.Declarators.{AreKnown}
-use Rattle.lower_object_rest.specs.Parts.{bare_label}
 use Rattle.lower_object_rest.specs.Profile.{barred_where, is_declaration, object_rest_profile, profile_where, rest_owes, test_where}
-use Rattle.lower_object_rest.specs.Rule.{members_rest}
 use Rattle.lower_object_rest.specs.Shapes.{is_lowerable, is_lowerable_declaration}
 use Rattle.lower_object_rest.specs.Whole.{LowersDeclaration}
 use Rattle.lower_object_rest.proofs.Declarators.{no-rest}
@@ -43,7 +43,7 @@ lowerable-rest : (d : Tree) → is_lowerable d ≡ true → is_rest_declarator d
 lowerable-rest (node VariableDeclarator l (one p then (one e then done))) h = pattern p h
   where
     pattern : (p : Tree) → is_plain_pattern p ≡ true → is_rest_pattern p ≡ true
-    pattern (node ObjectPattern m (many ps then done)) h = members_rest ps h
+    pattern (node ObjectPattern m (many ps then done)) h = ends-rest ps h
     pattern (node ObjectPattern m done) h = absurd (cc h)
     pattern (node ObjectPattern m (missing then fs)) h = absurd (cc h)
     pattern (node ObjectPattern m (one t then fs)) h = absurd (cc h)

@@ -1,5 +1,6 @@
 pub mod Shapes
 pub mod Profile
+pub mod Groups
 pub mod Parts
 pub mod Declarators
 pub mod Whole

@@ -1,11 +1,12 @@
 -- A pattern with a rest taken apart, and what is made of its parts.
-use Rattle.std.specs.Prelude.{◌+◌, ◌++◌, ◌≡◌, Bool, List, Option, [], bytes_eq, codes, false, length, map, true, ℕ}
+use Rattle.std.specs.Prelude.{◌+◌, ◌++◌, ◌≡◌, Bool, List, Option, bytes_eq, codes, false, true, ℕ}
 use Rattle.std.specs.List.{list_any}
+use Rattle.es_tree.specs.Bare.{bare_label}
 use Rattle.es_tree.specs.BoundNames.{bound_identifiers}
 use Rattle.es_tree.specs.Fresh.{node_base}
 use Rattle.es_tree.specs.Heads.{head_of, label}
 use Rattle.es_tree.specs.Names.{first_text}
-use Rattle.es_tree.specs.Tree.{Fields, Label, Tree, Trees, empty, fields, fields_of, many, node, one, trees, ◌then◌}
+use Rattle.es_tree.specs.Tree.{Fields, Label, Tree, Trees, empty, fields_of, many, node, trees, ◌before◌, ◌then◌}
 use Rattle.es_tree.specs.Words.{Text}
 use Rattle.es_tree.specs.declared.ast_type.AstType.TheVariants.{Identifier}
 use Rattle.es_tree.specs.declared.kind.Kind.TheVariants.{ObjectPattern as k-ObjectPattern}
@@ -13,32 +14,21 @@ use Rattle.es_scope.specs.declared.context.TraverseCtx.{TraverseCtx}
 use Rattle.es_resolution.specs.Declarations.{Bound}
 use Rattle.es_resolution.specs.Seen.{seen, seen_among}
 use Rattle.es_steps.specs.Duplication.{IsNext}
-use Rattle.es_steps.specs.Nodes.{declarator_with, identifier, string_node}
-use Rattle.es_steps.specs.ObjectRest.{helper_node, pattern_node, rest_value, whole_value}
+use Rattle.es_steps.specs.Nodes.{declarator_with, identifier, joined_trees}
+use Rattle.es_steps.specs.ObjectRest.{helper_node, whole_value}
 use Rattle.es_changes.specs.Moments.{whole_at}
-use Rattle.es_rest_rows.specs.RestRows.{keys_of, taken, with_rest}
-use Rattle.es_rest_shapes.specs.RestShapes.{are_plain, is_name, key_text}
+use Rattle.es_rest_rows.specs.RestRows.{groups, keys_of, left_of, taken, with_rest}
+use Rattle.es_rest_shapes.specs.RestShapes.{any_tree, are_plain, is_name, reads_key}
 use Rattle.lower_temporaries.specs.SeenTrees.{IsSeenAs}
 use Rattle.lower_temporaries.specs.Takings.{ReadsMore, TakesBound, moment_of}
 use Rattle.lower_temporaries.specs.declared.state.TransformState.{TransformState}
-use Rattle.lower_object_rest.specs.Profile.{number_of}
+use Rattle.lower_object_rest.specs.Groups.{Gives, NamesRead, mapped_ids}
+use Rattle.lower_object_rest.specs.Profile.{key_ids}
 use Rattle.lower_object_rest.specs.declared.rests.RestPattern.{RestPattern}
 
 -- `babelHelpers.objectWithoutProperties`
 abbrev pub rest_helper : Tree
 rest_helper = helper_node (codes "objectWithoutProperties")
-
--- the elements of the array of these texts
-abbrev pub text_elements : List Text → Fields
-text_elements ks = fields (map one (map string_node ks))
-
--- the text of a property's key
-abbrev pub first_key : Fields → Text
-first_key (one k then fs) = key_text k
-first_key _ = []
-
-abbrev pub key_of_property : Tree → Text
-key_of_property t = first_key (fields_of t)
 
 -- whether a node is an identifier of this name
 abbrev pub is_called : Text → Tree → Bool
@@ -49,17 +39,13 @@ is_called x _ = false
 abbrev pub binds_called : Text → Tree → Bool
 binds_called x p = list_any (is_called x) (bound_identifiers p)
 
--- the label of a pattern, as it is seen
-abbrev pub bare_label : Label → Label
-bare_label l = record l { id = 0; marks = [] }
+-- the ids for the keys of a pattern, of which its rest has one
+abbrev pub pattern_ids_in : Fields → ℕ
+pattern_ids_in (many ps then fs) = key_ids ps
+pattern_ids_in _ = 0
 
--- how many members a pattern has
-abbrev pub members_in : Fields → ℕ
-members_in (many ps then fs) = number_of ps
-members_in _ = 0
-
-abbrev pub members_of : Tree → ℕ
-members_of p = members_in (fields_of p)
+abbrev pub pattern_ids : Tree → ℕ
+pattern_ids p = pattern_ids_in (fields_of p)
 
 -- These properties and this name of the rest make the pattern.
 pub record Parts (p : Tree) (lp : Label) (ps : List Tree) (t : Tree) : Type 0 where
@@ -74,29 +60,39 @@ pattern_label r = label r.id r.span (head_of k-ObjectPattern)
 abbrev pub TakesApart : Tree → RestPattern → Type 0
 TakesApart p r = Parts p (pattern_label r) r.properties.items r.target
 
--- Such a pattern and the name that is its source, as two declarators: one of the pattern without its rest, and one of the rest;
-pub record TakesBeside (old new : TraverseCtx TransformState) (r : RestPattern) (s first last : Tree) : Type 0 where
-  pub first_is : (names : ℕ → Text → Option ℕ) → seen names first ≡ declarator_with (seen names (pattern_node (pattern_label r) (trees r.properties.items))) (seen names s)
-  pub last_is : (names : ℕ → Text → Option ℕ) → seen names last ≡ declarator_with (seen names r.target) (rest_value (seen names s) (keys_of (trees r.properties.items)))
-  pub reads : ReadsMore (8 + length r.properties.items) old new
+-- what is seen of the parts of a pattern, as it is taken from this source with these names of keys
+abbrev pub seen_taken : (ℕ → Text → Option ℕ) → Label → Tree → List Bound → List Tree → Tree → Trees
+seen_taken names lp s xs ps t = taken (bare_label lp) (seen names s) xs (seen_among names (trees ps)) (seen names t)
+
+-- so many ids are given for the declarators of a pattern with these properties beside its rest, or for one whose rest stands alone
+abbrev pub taken_ids : Trees → ℕ
+taken_ids empty = 12
+taken_ids ps = 8 + key_ids ps + mapped_ids (any_tree reads_key ps)
+
+-- Such a pattern and the name that is its source, as declarators: those of the pattern without its rest, in groups, and one of the rest;
+pub record TakesBeside (old new : TraverseCtx TransformState) (r : RestPattern) (s : Tree) (us : List Tree) : Type 0 where
+  pub bound : List Bound
+  pub named : NamesRead (whole_at (moment_of old)) (trees r.properties.items) bound (whole_at (moment_of new))
+  pub are : (names : ℕ → Text → Option ℕ) → seen_among names (trees us) ≡
+      joined_trees (groups (bare_label (pattern_label r)) (seen names s) bound empty (seen_among names (trees r.properties.items)))
+      (declarator_with (seen names r.target) (left_of (any_tree reads_key (trees r.properties.items)) (seen names s) (keys_of bound (seen_among names (trees r.properties.items)))) before empty)
+  pub gives : Gives (8 + key_ids (trees r.properties.items) + mapped_ids (any_tree reads_key (trees r.properties.items))) (moment_of old) (moment_of new)
 
 -- the name of a rest that stands alone, and that source, as one;
 pub record TakesAlone (old new : TraverseCtx TransformState) (t s last : Tree) : Type 0 where
   pub last_is : (names : ℕ → Text → Option ℕ) → seen names last ≡ declarator_with (seen names t) (whole_value (seen names s))
   pub reads : ReadsMore 12 old new
 
--- and the declarators that come of any pattern with a rest: so many ids are given for these properties.
-abbrev pub taken_ids : Trees → ℕ
-taken_ids empty = 12
-taken_ids ps = 8 + number_of ps
-
+-- and the declarators that come of any pattern with a rest.
 pub record Takes (old new : TraverseCtx TransformState) (p s : Tree) (us : List Tree) : Type 0 where
   pub lp : Label
   pub ps : List Tree
   pub t : Tree
   pub parts : Parts p lp ps t
-  pub are : (names : ℕ → Text → Option ℕ) → seen_among names (trees us) ≡ taken (bare_label lp) (seen names s) (seen_among names (trees ps)) (seen names t)
-  pub reads : ReadsMore (taken_ids (trees ps)) old new
+  pub bound : List Bound
+  pub named : NamesRead (whole_at (moment_of old)) (trees ps) bound (whole_at (moment_of new))
+  pub are : (names : ℕ → Text → Option ℕ) → seen_among names (trees us) ≡ seen_taken names lp s bound ps t
+  pub gives : Gives (taken_ids (trees ps)) (moment_of old) (moment_of new)
 
 -- An expression that is stored: a declarator of the next name of its base, and that name as it is read.
 pub record Stores (old new : TraverseCtx TransformState) (e declarator read : Tree) : Type 0 where

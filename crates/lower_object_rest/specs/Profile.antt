@@ -6,7 +6,7 @@ use Rattle.es_tree.specs.declared.ast_type.AstType.{AstType}
 use Rattle.es_tree.specs.declared.ast_type.AstType.TheVariants.{ExportNamedDeclaration, ObjectPattern, VariableDeclaration}
 use Rattle.es_tree.specs.declared.options.EnvOptions.{EnvOptions}
 use Rattle.es_rest_rows.specs.RestRows.{RestWalkRow}
-use Rattle.es_rest_shapes.specs.RestShapes.{declares_rest, is_rest_declaration, is_stray_rest}
+use Rattle.es_rest_shapes.specs.RestShapes.{declares_rest, is_rest_declaration, is_stray_rest, reads_key}
 use Rattle.es_steps.specs.CoreRules.{where_on}
 use Rattle.lower_nodes.specs.Nodes.{NodeProfile}
 
@@ -23,10 +23,18 @@ abbrev pub number_of : Trees → ℕ
 number_of empty = 0
 number_of (t before ts) = 1 + number_of ts
 
--- The nodes that are made for a pattern with a rest: those of the declarator of its source, and those of its rest's and of the pattern's, with a
--- text for each property, or of that of a rest that stands alone.
+-- the ids for a property: one for its key, and six more where that is read, for a group and a name
+abbrev pub key_ids_by : Bool → ℕ
+key_ids_by read = if read then 7 else 1
+
+abbrev pub key_ids : Trees → ℕ
+key_ids empty = 0
+key_ids (p before ps) = key_ids_by (reads_key p) + key_ids ps
+
+-- The nodes that are made for a pattern with a rest: those of the declarator of its source, those of its rest's and of the pattern's with the keys,
+-- or those of a rest that stands alone. The rest is one of the members.
 abbrev pub rest_owes : AstType → Label → Fields → ℕ
-rest_owes ObjectPattern l (many ps then fs) = if any_kind is_rest ps then 14 + number_of ps else 0
+rest_owes ObjectPattern l (many ps then fs) = if any_kind is_rest ps then 16 + key_ids ps else 0
 rest_owes _ l fs = 0
 
 -- a declaration becomes another

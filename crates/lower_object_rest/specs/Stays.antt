@@ -1,20 +1,20 @@
 -- Shapes of what is alike save in declarations: patterns and declarators are the same ones.
 use Rattle.std.proofs.Common.{ap, refl, ◌+◌, ◌∙◌, ◌≡◌}
 use Rattle.std.proofs.lemmas.Bool.{or_from, or_parts}
-use Rattle.std.specs.Prelude.{Bool, false, if◌then◌else◌, not, true, ◌&&◌, ◌||◌}
+use Rattle.std.specs.Prelude.{Bool, false, if◌then◌else◌, is_some, not, true, ◌&&◌, ◌||◌}
 use Rattle.es_tree.specs.Constructs.{any_kind, is_object_rest, is_rest}
 use Rattle.es_tree.specs.Names.{has_computed}
-use Rattle.es_tree.specs.Tree.{Fields, Label, Tree, Trees, node, ◌then◌}
+use Rattle.es_tree.specs.Tree.{Fields, Label, Tree, Trees, empty, many, node, ◌before◌, ◌then◌}
 use Rattle.es_tree.specs.Walks.{any_in_fields, any_in_trees, any_node}
 use Rattle.es_tree.specs.declared.ast_type.AstType.{AstType}
-use Rattle.es_tree.specs.declared.ast_type.AstType.TheVariants.{BigIntLiteral, ExportNamedDeclaration, Identifier, NumericLiteral, ObjectPattern, ObjectTarget, PatternProperty, RestElement, StringLiteral, VariableDeclaration, VariableDeclarator}
-use Rattle.es_rest_shapes.specs.RestShapes.{any_child, any_tree, declares_rest, ends_in_rest, is_known_key, is_literal_key, is_misplaced, is_name, is_named_rest, is_odd_pattern, is_plain_key, is_plain_pattern, is_plain_property, is_rest_declaration, is_rest_declarator, is_rest_pattern, is_stray_rest}
+use Rattle.es_tree.specs.declared.ast_type.AstType.TheVariants.{BigIntLiteral, ExportNamedDeclaration, Identifier, NumericLiteral, ObjectPattern, ObjectTarget, PatternProperty, RestElement, StringLiteral, TemplateElement, TemplateLiteral, VariableDeclaration, VariableDeclarator}
+use Rattle.es_rest_shapes.specs.RestShapes.{any_child, any_tree, declares_rest, ends_in_rest, is_known_key, is_literal_key, is_misplaced, is_name, is_named_rest, is_odd_pattern, is_plain_key, is_plain_pattern, is_plain_property, is_rest_declaration, is_rest_declarator, is_rest_pattern, is_stray_rest, reads_key, template_text}
 use Rattle.lower_nodes.specs.Nodes.{Alike, AlikeAmong, AlikeIn}
 use Rattle.lower_nodes.specs.Nodes.Alike.{changed, within}
 use Rattle.lower_nodes.specs.Nodes.AlikeIn.{no_fields, fields_alike}
 use Rattle.lower_nodes.specs.Nodes.AlikeBy.{both_missing, one_alike, many_alike, statements_alike}
 use Rattle.lower_nodes.specs.Nodes.AlikeAmong.{no_trees, trees_alike}
-use Rattle.lower_object_rest.specs.Profile.{is_declaration, number_of, rest_owes}
+use Rattle.lower_object_rest.specs.Profile.{is_declaration, key_ids, key_ids_by, rest_owes}
 
 abbrev pub Same : Tree → Tree → Type 0
 Same = Alike is_declaration
@@ -51,10 +51,6 @@ kinds_alike no_trees = refl
 kinds_alike (trees_alike (changed {k = k} e) r) = ap (λ b. is_rest k || b) (kinds_alike r)
 kinds_alike (trees_alike (within {k = k} h) r) = ap (λ b. is_rest k || b) (kinds_alike r)
 
-number_alike : {ts us : Trees} → SameAmong ts us → number_of us ≡ number_of ts
-number_alike no_trees = refl
-number_alike (trees_alike h r) = ap (λ n. 1 + n) (number_alike r)
-
 rests_alike : (k : AstType) (l : Label) {fs gs : Fields} → SameIn fs gs → is_object_rest k l gs ≡ is_object_rest k l fs
 rests_alike ObjectPattern l no_fields = refl
 rests_alike ObjectPattern l (fields_alike both_missing r) = refl
@@ -81,6 +77,33 @@ name_alike : {t u : Tree} → Same t u → is_name u ≡ is_name t
 name_alike (changed {k = k} {l = l} {fs = fs} {gs = gs} e) = changed_only (λ j. is_name (node j l gs) ≡ is_name (node j l fs)) refl k e
 name_alike (within {k = k} {l = l} h) = name_within k l h
 
+-- of the fields of a template, kinds and labels stay, and so does its text
+last_within : (l : Label) (hs js : Fields) {fs gs : Fields} → SameIn fs gs → template_text (many (node TemplateElement l js before empty) then gs) ≡ template_text (many (node TemplateElement l hs before empty) then fs)
+last_within l hs js no_fields = refl
+last_within l hs js (fields_alike both_missing r) = refl
+last_within l hs js (fields_alike (one_alike h) r) = refl
+last_within l hs js (fields_alike (statements_alike h) r) = refl
+last_within l hs js (fields_alike (many_alike no_trees) no_fields) = refl
+last_within l hs js (fields_alike (many_alike no_trees) (fields_alike h r)) = refl
+last_within l hs js (fields_alike (many_alike (trees_alike h q)) r) = refl
+
+part_within : (k : AstType) (l : Label) (hs js : Fields) {ts us : Trees} {fs gs : Fields} → SameAmong ts us → SameIn fs gs → template_text (many (node k l js before us) then gs) ≡ template_text (many (node k l hs before ts) then fs)
+part_within TemplateElement l hs js no_trees r = last_within l hs js r
+part_within TemplateElement l hs js (trees_alike h q) r = refl
+part_within _ l hs js q r = refl
+
+part_alike : {t u : Tree} {ts us : Trees} {fs gs : Fields} → Same t u → SameAmong ts us → SameIn fs gs → template_text (many (u before us) then gs) ≡ template_text (many (t before ts) then fs)
+part_alike {ts = ts} {us = us} {fs = fs} {gs = gs} (changed {k = k} {l = l} {fs = hs} {gs = js} e) q r = changed_only (λ j. template_text (many (node j l js before us) then gs) ≡ template_text (many (node j l hs before ts) then fs)) refl k e
+part_alike (within {k = k} {l = l} {fs = hs} {gs = js} h) q r = part_within k l hs js q r
+
+template_within : {fs gs : Fields} → SameIn fs gs → template_text gs ≡ template_text fs
+template_within no_fields = refl
+template_within (fields_alike both_missing r) = refl
+template_within (fields_alike (one_alike h) r) = refl
+template_within (fields_alike (statements_alike h) r) = refl
+template_within (fields_alike (many_alike no_trees) r) = refl
+template_within (fields_alike (many_alike (trees_alike h q)) r) = part_alike h q r
+
 literal_within : (k : AstType) (l : Label) {fs gs : Fields} → SameIn fs gs → is_literal_key (node k l gs) ≡ is_literal_key (node k l fs)
 literal_within BigIntLiteral l no_fields = refl
 literal_within BigIntLiteral l (fields_alike h r) = refl
@@ -88,6 +111,7 @@ literal_within NumericLiteral l no_fields = refl
 literal_within NumericLiteral l (fields_alike h r) = refl
 literal_within StringLiteral l no_fields = refl
 literal_within StringLiteral l (fields_alike h r) = refl
+literal_within TemplateLiteral l h = ap is_some (template_within h)
 literal_within _ l h = refl
 
 known_within : (k : AstType) (l : Label) {fs gs : Fields} → SameIn fs gs → is_known_key (node k l gs) ≡ is_known_key (node k l fs)
@@ -96,16 +120,15 @@ known_within Identifier l (fields_alike h r) = refl
 known_within BigIntLiteral l h = literal_within BigIntLiteral l h
 known_within NumericLiteral l h = literal_within NumericLiteral l h
 known_within StringLiteral l h = literal_within StringLiteral l h
+known_within TemplateLiteral l h = literal_within TemplateLiteral l h
 known_within _ l h = refl
 
-key_within : (computed : Bool) (k : AstType) (l : Label) {fs gs : Fields} → SameIn fs gs → is_plain_key computed (node k l gs) ≡ is_plain_key computed (node k l fs)
-key_within true k l h = literal_within k l h
-key_within false k l h = known_within k l h
+known_alike : {t u : Tree} → Same t u → is_known_key u ≡ is_known_key t
+known_alike (changed {k = k} {l = l} {fs = fs} {gs = gs} e) = changed_only (λ j. is_known_key (node j l gs) ≡ is_known_key (node j l fs)) refl k e
+known_alike (within {k = k} {l = l} h) = known_within k l h
 
 key_alike : (computed : Bool) {t u : Tree} → Same t u → is_plain_key computed u ≡ is_plain_key computed t
-key_alike true (changed {k = k} {l = l} {fs = fs} {gs = gs} e) = changed_only (λ j. is_literal_key (node j l gs) ≡ is_literal_key (node j l fs)) refl k e
-key_alike false (changed {k = k} {l = l} {fs = fs} {gs = gs} e) = changed_only (λ j. is_known_key (node j l gs) ≡ is_known_key (node j l fs)) refl k e
-key_alike computed (within {k = k} {l = l} h) = key_within computed k l h
+key_alike computed h = ap (λ b. computed || b) (known_alike h)
 
 property_within : (k : AstType) (l : Label) {fs gs : Fields} → SameIn fs gs → is_plain_property (node k l gs) ≡ is_plain_property (node k l fs)
 property_within PatternProperty l (fields_alike (one_alike h) (fields_alike (one_alike v) no_fields)) = key_alike (has_computed PatternProperty l.flags) h
@@ -123,6 +146,27 @@ property_within _ l h = refl
 property_alike : {t u : Tree} → Same t u → is_plain_property u ≡ is_plain_property t
 property_alike (changed {k = k} {l = l} {fs = fs} {gs = gs} e) = changed_only (λ j. is_plain_property (node j l gs) ≡ is_plain_property (node j l fs)) refl k e
 property_alike (within {k = k} {l = l} h) = property_within k l h
+
+literal_alike : {t u : Tree} → Same t u → is_literal_key u ≡ is_literal_key t
+literal_alike (changed {k = k} {l = l} {fs = fs} {gs = gs} e) = changed_only (λ j. is_literal_key (node j l gs) ≡ is_literal_key (node j l fs)) refl k e
+literal_alike (within {k = k} {l = l} h) = literal_within k l h
+
+reads_within : (k : AstType) (l : Label) {fs gs : Fields} → SameIn fs gs → reads_key (node k l gs) ≡ reads_key (node k l fs)
+reads_within PatternProperty l (fields_alike (one_alike h) (fields_alike (one_alike v) no_fields)) = ap (λ b. has_computed PatternProperty l.flags && not b) (literal_alike h)
+reads_within PatternProperty l no_fields = refl
+reads_within PatternProperty l (fields_alike both_missing r) = refl
+reads_within PatternProperty l (fields_alike (many_alike h) r) = refl
+reads_within PatternProperty l (fields_alike (statements_alike h) r) = refl
+reads_within PatternProperty l (fields_alike (one_alike h) no_fields) = refl
+reads_within PatternProperty l (fields_alike (one_alike h) (fields_alike both_missing r)) = refl
+reads_within PatternProperty l (fields_alike (one_alike h) (fields_alike (many_alike v) r)) = refl
+reads_within PatternProperty l (fields_alike (one_alike h) (fields_alike (statements_alike v) r)) = refl
+reads_within PatternProperty l (fields_alike (one_alike h) (fields_alike (one_alike v) (fields_alike w r))) = refl
+reads_within _ l h = refl
+
+reads_alike : {t u : Tree} → Same t u → reads_key u ≡ reads_key t
+reads_alike (changed {k = k} {l = l} {fs = fs} {gs = gs} e) = changed_only (λ j. reads_key (node j l gs) ≡ reads_key (node j l fs)) refl k e
+reads_alike (within {k = k} {l = l} h) = reads_within k l h
 
 rest_within : (k : AstType) (l : Label) {fs gs : Fields} → SameIn fs gs → is_named_rest (node k l gs) ≡ is_named_rest (node k l fs)
 rest_within RestElement l (fields_alike (one_alike h) no_fields) = name_alike h
@@ -246,8 +290,12 @@ stray_alike _ l h none e = misplaced_child h e
 
 -- IDS OWED
 
+keys_alike : {ts us : Trees} → SameAmong ts us → key_ids us ≡ key_ids ts
+keys_alike no_trees = refl
+keys_alike (trees_alike h r) = λ i. key_ids_by (reads_alike h i) + keys_alike r i
+
 pub owes_alike : (k : AstType) (l : Label) {fs gs : Fields} → SameIn fs gs → rest_owes k l gs ≡ rest_owes k l fs
-owes_alike ObjectPattern l (fields_alike (many_alike h) r) = λ i. if kinds_alike h i then 14 + number_alike h i else 0
+owes_alike ObjectPattern l (fields_alike (many_alike h) r) = λ i. if kinds_alike h i then 16 + keys_alike h i else 0
 owes_alike ObjectPattern l no_fields = refl
 owes_alike ObjectPattern l (fields_alike both_missing r) = refl
 owes_alike ObjectPattern l (fields_alike (one_alike h) r) = refl

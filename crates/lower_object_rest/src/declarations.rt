@@ -4,7 +4,7 @@ ghost use Rattle.es_tree.specs.Tree.{fields_of, kind_of, label_of, trees};
 ghost use Rattle.es_rest_shapes.specs.RestShapes.{is_name, is_plain_pattern};
 ghost use Rattle.lower_nodes.specs.Nodes.{owed, owed_among};
 ghost use Rattle.lower_object_rest.specs.Declarators.{AddsDeclarators, LowersAll};
-ghost use Rattle.lower_object_rest.specs.Parts.{AddsTaken, members_of};
+ghost use Rattle.lower_object_rest.specs.Parts.{AddsTaken, pattern_ids};
 ghost use Rattle.lower_object_rest.specs.Profile.{rest_owes};
 ghost use Rattle.lower_object_rest.specs.Shapes.{is_lowerable, is_lowerable_declaration};
 ghost use Rattle.lower_object_rest.specs.Whole.{LowersDeclaration};
@@ -109,8 +109,9 @@ fn add_lowered(
     Ok(())
 }
 
-/// `{ a } = s` and `b = babelHelpers.objectWithoutProperties(s, ["a"])` for the pattern `{ a, ...b }` and its source `s`, a name, and
-/// `b = babelHelpers.extends({}, (babelHelpers.objectDestructuringEmpty(s), s))` for the pattern `{ ...b }`.
+/// `{ a } = s` and `b = babelHelpers.objectWithoutProperties(s, ["a"])` for the pattern `{ a, ...b }` and its source `s`, a name, with
+/// more for each key that is read, and `b = babelHelpers.extends({}, (babelHelpers.objectDestructuringEmpty(s), s))` for the pattern
+/// `{ ...b }`.
 fn add_taken(
     pattern: Node,
     source: Node,
@@ -119,7 +120,7 @@ fn add_taken(
 ) -> Result<(), AllocError>
     requires plain { is_plain_pattern pattern ≡ true }
     requires name { is_name source ≡ true }
-    requires room { ctx.old.ast.next + 11 + members_of pattern < 2 ^ 32 }
+    requires room { ctx.old.ast.next + 13 + pattern_ids pattern < 2 ^ 32 }
     ensures { OnOk result (AddsTaken ctx.old ctx.new pattern source made.old.items made.new.items) }
 {
     let rest = open_pattern(pattern);
@@ -128,8 +129,7 @@ fn add_taken(
         made.push(declarator)?;
         return Ok(());
     }
-    let (first, last) = take_rest(rest, source, ctx)?;
-    made.push(first)?;
-    made.push(last)?;
+    let mut declarators = take_rest(rest, source, ctx)?;
+    made.append(&mut declarators)?;
     Ok(())
 }

@@ -7,6 +7,8 @@
 //! | `const { a, ...b } = f();` | `const _f = f(), { a } = _f, b = babelHelpers.objectWithoutProperties(_f, ["a"]);` |
 //! | `const { "a": x = 1, ...b } = c, d = 2;` | `const { "a": x = 1 } = c, b = babelHelpers.objectWithoutProperties(c, ["a"]), d = 2;` |
 //! | `const { 0x10: x, ["a"]: y, ...b } = c;` | `const { 0x10: x, ["a"]: y } = c, b = babelHelpers.objectWithoutProperties(c, ["16", "a"]);` |
+//! | `const { a, [k()]: b, ...d } = c;` | `const { a } = c, _k = k(), { [_k]: b } = c, d = babelHelpers.objectWithoutProperties(c, ["a", _k].map(babelHelpers.toPropertyKey));` |
+//! | `const { [k]: a, ["b"]: x, ...d } = c;` | `const {} = c, _k = k, { [_k]: a, ["b"]: x } = c, d = babelHelpers.objectWithoutProperties(c, [_k, "b"].map(babelHelpers.toPropertyKey));` |
 //! | `const { ...b } = c;` | `const b = babelHelpers.extends({}, (babelHelpers.objectDestructuringEmpty(c), c));` |
 //! | `var { ...a } = a;` | `var _a = a, a = babelHelpers.extends({}, (babelHelpers.objectDestructuringEmpty(_a), _a));` |
 //!
@@ -19,7 +21,8 @@
 //!     const _settings = settings(), { size } = _settings, others = babelHelpers.objectWithoutProperties(_settings, ["size"]);
 //!
 //! A value that gives the same each time is read where it stands: a name that nothing writes and that the pattern doesn't bind, or a made
-//! name. Any other is evaluated once, and stored. The properties come before the rest, as in the source. `babelHelpers` is an unbound name
+//! name. Any other is evaluated once, and stored. The properties come before the rest, as in the source. A computed key that is no text, no
+//! number and no template without expressions is read once, where it stood, and has a name from there on. `babelHelpers` is an unbound name
 //! of the written program, whose meaning is the host's: a run refuses a program that declares such a pattern and binds the name anywhere.
 //!
 //! Its rule is `RestWalkRow` of es_rest_rows.
@@ -32,6 +35,7 @@ ghost use Rattle.lower_object_rest.specs.Profile.{object_rest_profile};
 ghost use Rattle.lower_object_rest.specs.Shapes.{is_lowerable_declaration};
 
 mod declarations;
+mod groups;
 mod patterns;
 mod rests;
 mod sources;

@@ -1,37 +1,36 @@
 //! A pattern with a rest, as declarators without one: the rest is what a helper answers that copies all but the keys before, or all where it
 //! stands alone.
-ghost use Rattle.std.specs.Prelude.{◌+◌, ◌-◌, ◌<◌, ◌≡◌, ◌^◌, ◌∷◌, IfOk, OnOk, Option, [], length, string_bytes, true, ℕ};
+ghost use Rattle.std.specs.Prelude.{◌+◌, ◌-◌, ◌<◌, ◌≡◌, ◌^◌, ◌∷◌, IfOk, OnOk, Option, [], true, ℕ};
 ghost use Rattle.es_tree.specs.Helpers.{helper_text};
-ghost use Rattle.es_tree.specs.Tree.{node, trees};
+ghost use Rattle.es_tree.specs.Tree.{trees};
 ghost use Rattle.es_tree.specs.Views.{plain_fields};
 ghost use Rattle.es_tree.specs.Words.{Text};
-ghost use Rattle.es_tree.specs.declared.ast_type.AstType.TheVariants.{ArrayExpression};
 ghost use Rattle.es_tree.specs.declared.helper.Helper.TheVariants.{ObjectDestructuringEmpty};
 ghost use Rattle.es_resolution.specs.Seen.{seen, seen_in};
-ghost use Rattle.es_steps.specs.Nodes.{call_node, made, string_node};
+ghost use Rattle.es_steps.specs.Nodes.{call_node};
 ghost use Rattle.es_steps.specs.ObjectRest.{helper_node, whole_value};
-ghost use Rattle.es_rest_rows.specs.RestRows.{keys_of};
-ghost use Rattle.es_rest_shapes.specs.RestShapes.{are_plain, is_known_key, is_name, is_plain_pattern, is_plain_property, key_text};
-ghost use Rattle.lower_object_rest.specs.Parts.{TakesAlone, TakesApart, TakesBeside, key_of_property, rest_helper, text_elements};
+ghost use Rattle.es_rest_shapes.specs.RestShapes.{are_plain, is_name, is_plain_pattern};
+ghost use Rattle.lower_object_rest.specs.Groups.{keys_value, mapped_ids};
+ghost use Rattle.lower_object_rest.specs.Parts.{TakesAlone, TakesApart, TakesBeside, rest_helper};
+ghost use Rattle.lower_object_rest.specs.Profile.{key_ids};
 ghost use Rattle.lower_temporaries.specs.Takings.{ReadsMore};
 
+use crate::groups::{Groups, split_groups};
 use es_expressions::composites::{new_array_expression, new_object_expression};
-use es_expressions::literals::{new_identifier, new_string_literal};
+use es_expressions::literals::new_identifier;
 use es_expressions::members::{new_call_expression, new_member_expression};
 use es_expressions::operations::new_sequence_expression;
 use es_patterns::patterns::{ObjectPattern, RestElement};
 use es_scope::context::TraverseCtx;
 use es_statements::program::new_variable_declarator;
-use es_tree::builder::AstBuilder;
 use es_tree::helper::Helper;
 use es_tree::ids::{NodeId, Span};
-use es_tree::kind::Kind;
 use es_tree::node::{Field, Node};
 use lower_temporaries::declarations::MADE;
 use lower_temporaries::readings::read_once_more;
 use lower_temporaries::state::TransformState;
 use lower_temporaries::temporaries::read_name;
-use std::alloc::{AllocError, Global};
+use std::alloc::AllocError;
 
 /// A pattern with a rest, taken apart.
 #[derive(Drop)]
@@ -44,17 +43,18 @@ pub(crate) struct RestPattern {
     pub(crate) target: Node,
 }
 
-/// The declarators `{ a } = s` and `b = babelHelpers.objectWithoutProperties(s, ["a"])` for the parts of the pattern `{ a, ...b }` and its
-/// source `s`, which is a name. Fails only for want of memory.
+/// The declarators `{ a } = s, _k = k(), { [_k]: b } = s` and
+/// `d = babelHelpers.objectWithoutProperties(s, ["a", _k].map(babelHelpers.toPropertyKey))` for the parts of the pattern
+/// `{ a, [k()]: b, ...d }` and its source `s`, which is a name. Fails only for want of memory.
 pub(crate) fn take_rest(
     pattern: RestPattern,
     source: Node,
     ctx: &mut TraverseCtx<TransformState>,
-) -> Result<(Node, Node), AllocError>
+) -> Result<Vec<Node>, AllocError>
     requires plain { are_plain (trees pattern.properties.items) ≡ true }
     requires name { is_name source ≡ true }
-    requires room { ctx.old.ast.next + 8 + length pattern.properties.items < 2 ^ 32 }
-    ensures { IfOk result (λ made. TakesBeside ctx.old ctx.new pattern source made.0 made.1) }
+    requires room { ctx.old.ast.next + 14 + key_ids (trees pattern.properties.items) < 2 ^ 32 }
+    ensures { IfOk result (λ made. TakesBeside ctx.old ctx.new pattern source made.items) }
 {
     let RestPattern {
         id,
@@ -62,17 +62,24 @@ pub(crate) fn take_rest(
         properties,
         target,
     } = pattern;
-    let keys = new_keys(properties.as_slice(), &mut ctx.ast)?;
+    let Groups {
+        mut declarators,
+        properties,
+        keys,
+        is_read,
+    } = split_groups(properties, &source, ctx)?;
+    let value = new_value(&source, keys, is_read, ctx)?;
     let without = ObjectPattern {
         id,
         span,
         properties,
     };
     let pattern = without.close(ctx.ast.alloc)?;
-    let value = new_value(&source, keys, ctx)?;
-    let first = new_variable_declarator(&mut ctx.ast, MADE, pattern, Some(source))?;
-    let last = new_variable_declarator(&mut ctx.ast, MADE, target, Some(value))?;
-    Ok((first, last))
+    let last = new_variable_declarator(&mut ctx.ast, MADE, pattern, Some(source))?;
+    declarators.push(last)?;
+    let rest = new_variable_declarator(&mut ctx.ast, MADE, target, Some(value))?;
+    declarators.push(rest)?;
+    Ok(declarators)
 }
 
 /// The declarator `b = babelHelpers.extends({}, (babelHelpers.objectDestructuringEmpty(s), s))` for the name of the rest of the pattern
@@ -118,68 +125,49 @@ pub(crate) fn open_pattern(pattern: Node) -> RestPattern
     }
 }
 
-/// The keys of these properties, as texts: `"a"` for `a: x`, `"a": x` and `["a"]: x`, and `"16"` for `0x10: x`.
-fn new_keys(properties: &[Node], ast: &mut AstBuilder) -> Result<Vec<Field>, AllocError>
-    requires plain { are_plain (trees properties.now) ≡ true }
-    requires room { ast.old.next + length properties.now < 2 ^ 32 }
-    ensures made { IfOk result (λ keys. (names : ℕ → Text → Option ℕ) → seen_in names (plain_fields keys.items) ≡ text_elements (keys_of (trees properties.now))) }
-    ensures counted { OnOk result (ast.new.next ≡ ast.old.next + length properties.now) }
-{
-    let mut keys = Vec::new(ast.alloc);
-    for property in properties {
-        let key = new_key(property, ast)?;
-        keys.push(Field::One(key))?;
-    }
-    Ok(keys)
-}
-
-/// The key of a property, as a text.
-fn new_key(property: &Node, ast: &mut AstBuilder) -> Result<Node, AllocError>
-    requires plain { is_plain_property property.now ≡ true }
-    requires room { ast.old.next + 1 < 2 ^ 32 }
-    ensures made { IfOk result (λ key. (names : ℕ → Text → Option ℕ) → seen names key ≡ string_node (key_of_property property.now)) }
-    ensures counted { OnOk result (ast.new.next ≡ ast.old.next + 1) }
-{
-    let key = match property.child_at(0) {
-        Some(key) => key,
-        None => unreachable!(),
-    };
-    let text = key_text(key, ast.alloc)?;
-    let made = new_string_literal(ast, MADE, text)?;
-    Ok(made)
-}
-
-/// The text of a key that is a name, a text or a number.
-fn key_text(node: &Node, alloc: Global) -> Result<String, AllocError>
-    requires { is_known_key node.now ≡ true }
-    ensures { IfOk result (λ text. string_bytes text ≡ key_text node.now) }
-{
-    match &node.kind {
-        Kind::Identifier { name, .. } => String::from_str(alloc, name.as_str()),
-        Kind::StringLiteral { value } => String::from_str(alloc, value.as_str()),
-        Kind::NumericLiteral { key, .. } => String::from_str(alloc, key.as_str()),
-        Kind::BigIntLiteral { key, .. } => String::from_str(alloc, key.as_str()),
-        _ => unreachable!(),
-    }
-}
-
-/// `babelHelpers.objectWithoutProperties(s, ["a"])` for a source `s` and the texts of these keys.
+/// `babelHelpers.objectWithoutProperties(s, ["a"])` for a source `s` and these keys, and
+/// `babelHelpers.objectWithoutProperties(s, ["a", _k].map(babelHelpers.toPropertyKey))` where one of them is read.
 fn new_value(
     source: &Node,
     keys: Vec<Field>,
+    is_read: bool,
     ctx: &mut TraverseCtx<TransformState>,
 ) -> Result<Node, AllocError>
     requires name { is_name source.now ≡ true }
-    requires room { ctx.old.ast.next + 6 < 2 ^ 32 }
-    ensures made { IfOk result (λ value. (names : ℕ → Text → Option ℕ) → seen names value ≡ call_node rest_helper (seen names source.now ∷ node ArrayExpression (made [] []) (seen_in names (plain_fields keys.items)) ∷ [])) }
-    ensures reads { OnOk result (ReadsMore 6 ctx.old ctx.new) }
+    requires room { ctx.old.ast.next + 12 < 2 ^ 32 }
+    ensures made { IfOk result (λ value. (names : ℕ → Text → Option ℕ) → seen names value ≡ call_node rest_helper (seen names source.now ∷ keys_value is_read (seen_in names (plain_fields keys.items)) ∷ [])) }
+    ensures reads { OnOk result (ReadsMore (6 + mapped_ids is_read) ctx.old ctx.new) }
 {
     let callee = new_helper(Helper::ObjectWithoutProperties, ctx)?;
     let again = read_once_more(source, ctx)?;
-    let array = new_array_expression(&mut ctx.ast, MADE, keys)?;
-    let arguments = Vec::from_array(ctx.ast.alloc, [again, array])?;
+    let left_out = new_keys(keys, is_read, ctx)?;
+    let arguments = Vec::from_array(ctx.ast.alloc, [again, left_out])?;
     let value = new_call_expression(&mut ctx.ast, MADE, false, callee, arguments)?;
     Ok(value)
+}
+
+/// `["a"]` for these keys, and `["a", _k].map(babelHelpers.toPropertyKey)` where one of them is read: an object has it under what
+/// ECMA-262, 7.1.19 makes of it.
+fn new_keys(
+    keys: Vec<Field>,
+    is_read: bool,
+    ctx: &mut TraverseCtx<TransformState>,
+) -> Result<Node, AllocError>
+    requires room { ctx.old.ast.next + 7 < 2 ^ 32 }
+    ensures made { IfOk result (λ node. (names : ℕ → Text → Option ℕ) → seen names node ≡ keys_value is_read (seen_in names (plain_fields keys.items))) }
+    ensures reads { OnOk result (ReadsMore (1 + mapped_ids is_read) ctx.old ctx.new) }
+{
+    let array = new_array_expression(&mut ctx.ast, MADE, keys)?;
+    if !is_read {
+        return Ok(array);
+    }
+    let map = String::from_str(ctx.ast.alloc, "map")?;
+    let property = new_identifier(&mut ctx.ast, MADE, map)?;
+    let callee = new_member_expression(&mut ctx.ast, MADE, false, false, array, property)?;
+    let convert = new_helper(Helper::ToPropertyKey, ctx)?;
+    let arguments = Vec::from_array(ctx.ast.alloc, [convert])?;
+    let mapped = new_call_expression(&mut ctx.ast, MADE, false, callee, arguments)?;
+    Ok(mapped)
 }
 
 /// `babelHelpers.extends({}, (babelHelpers.objectDestructuringEmpty(s), s))` for a source `s`.

@@ -1,5 +1,4 @@
-use Rattle.std.proofs.Common.{List, ap, append_assoc, arith, sym, ◌++◌, ◌∙◌, ◌∷◌, []}
-use Rattle.es_tree.specs.Tree.{Tree}
+use Rattle.std.proofs.Common.{arith, sym, ◌∙◌, ◌∷◌, []}
 use Rattle.lower_object_rest.specs.Parts.{pattern_label}
 use Rattle.lower_object_rest.proofs.Costs.{members-parts}
 use Rattle.lower_object_rest.proofs.Taken.{taken-alone, taken-beside}
@@ -26,11 +25,8 @@ returns-then-is_empty c = record {
 }
 
 pub returns : goal.returns
-returns c =
-    let first = c.in_ok-first.first in
-    let last = c.in_ok-first.last in
-    record {
-      added = first ∷ last ∷ [];
-      are = c.in_ok-push-3.ensures.items ∙ (ap (λ (ts : List Tree). ts ++ last ∷ []) c.in_ok-push-2.ensures.items ∙ append_assoc c.args.made.now.items (first ∷ []) (last ∷ []));
-      takes = taken-beside c.args.ctx.now c.take_rest.new.ctx c.args.pattern c.args.source c.open_pattern-rest.result first last c.open_pattern-rest.result.properties.len (omega (arith, c.open_pattern-rest.result.properties.ok.0)) (sym c.is_empty.ensures ∙ c.if-is_empty.false) c.open_pattern-rest.ensures c.in_ok-first.ensures;
-    }
+returns c = record {
+  added = c.in_ok-declarators.declarators.items;
+  are = c.in_ok-append.ensures.items;
+  takes = taken-beside c.args.ctx.now c.take_rest.new.ctx c.args.pattern c.args.source c.open_pattern-rest.result c.in_ok-declarators.declarators.items c.open_pattern-rest.result.properties.len (omega (arith, c.open_pattern-rest.result.properties.ok.0)) (sym c.is_empty.ensures ∙ c.if-is_empty.false) c.open_pattern-rest.ensures c.in_ok-declarators.ensures;
+}
