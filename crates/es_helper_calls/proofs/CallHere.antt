@@ -21,7 +21,7 @@ use Rattle.es_semantic.proofs.FormEdges.{EdgesAll, EdgesIn}
 use Rattle.es_valid_steps.specs.PlaceRules.{KeepsHere}
 use Rattle.es_valid_steps.proofs.Edges.{declarator-kind, stands}
 use Rattle.es_valid_steps.proofs.Offers.{Alike}
-use Rattle.es_helper_calls.specs.HelperCalls.{called_helper, calling_here}
+use Rattle.es_helper_calls.specs.HelperCalls.{used_helper, calling_here}
 use Rattle.es_helper_calls.proofs.CallNodes.{has-child-now, inner-kind-now, kept-child-now, loop-body-now, name-child-now, name-now, named, no-parameter-now, now, now_among, now_in, one-parameter-now, optional-in-now, text-now}
 
 -- a list of declarators alone
@@ -49,7 +49,7 @@ edges-alone _ fs h = refl
 module _ (c : Helper → Bound) where
   -- the fields of a node
   abbrev pub fields_now : AstType → Label → Fields → Fields
-  fields_now k l fs = calling_here (named c) (called_helper k l fs) (now_in c fs)
+  fields_now k l fs = calling_here (named c) (used_helper k l fs) (now_in c fs)
 
   jump-same : (up : List Ancestor) (k : AstType) (l : Label) (fs : Fields) → is_missing_label up (node k l (fields_now k l fs)) ≡ is_missing_label up (node k l fs)
   jump-same up BreakStatement l done = refl

@@ -13,9 +13,9 @@ use Rattle.es_tree.specs.declared.ast_type.AstType.TheVariants.{CallExpression, 
 use Rattle.es_tree.specs.declared.helper.Helper.{Helper}
 use Rattle.es_resolution.specs.Declarations.{Bound}
 use Rattle.es_steps.specs.Nodes.{identifier}
-use Rattle.es_helper_calls.specs.HelperCalls.{called_helper, calling, calling_among, calling_by, calling_here, calling_in}
-use Rattle.es_helper_calls.proofs.Callees.{IsCall, IsCallee, call-shape}
-use Rattle.es_helper_calls.proofs.Callees.IsCall.{a_call}
+use Rattle.es_helper_calls.specs.HelperCalls.{calling, calling_among, calling_by, calling_here, calling_in, used_helper}
+use Rattle.es_helper_calls.proofs.Callees.{IsCallee, IsUse, callee-shape, here-called, here-passed, use-shape}
+use Rattle.es_helper_calls.proofs.Callees.IsUse.{a_call, a_pass}
 use Rattle.es_helper_calls.proofs.Callees.IsCallee.{a_member}
 
 -- a spine through the callee has no optional mark
@@ -105,17 +105,18 @@ module _ (c : Helper → Bound) where
 
   -- CHAINS
 
-  at-call : (l : Label) (fs : Fields) (o : Option Helper) → called_helper CallExpression l fs ≡ o → has_optional_in (now_in fs) ≡ has_optional_in fs → has_optional_in (calling_here named o (now_in fs)) ≡ has_optional_in fs
+  at-call : (l : Label) (fs : Fields) (o : Option Helper) → used_helper CallExpression l fs ≡ o → has_optional_in (now_in fs) ≡ has_optional_in fs → has_optional_in (calling_here named o (now_in fs)) ≡ has_optional_in fs
   at-call l fs None e h = h
-  at-call l fs (Some x) e h = of-shape fs (call-shape CallExpression l fs x e)
+  at-call l fs (Some x) e h = of-shape fs (use-shape CallExpression l fs x e) h
     where
-      of-shape : (fs : Fields) → IsCall x CallExpression l fs → has_optional_in (calling_here named (Some x) (now_in fs)) ≡ has_optional_in fs
-      of-shape fs (a_call {f = f} mark it) = sym (callee-plain f it)
+      of-shape : (fs : Fields) → IsUse x CallExpression l fs → has_optional_in (now_in fs) ≡ has_optional_in fs → has_optional_in (calling_here named (Some x) (now_in fs)) ≡ has_optional_in fs
+      of-shape _ (a_call {f = f} {fs = fs} mark it) h = ap (λ gs. has_optional_in gs) (here-called named f fs x it) ∙ sym (callee-plain f (callee-shape f x it))
+      of-shape _ (a_pass {f = f} {t = t} {fs = fs} mark none it) h = ap (λ gs. has_optional_in gs) (here-passed named f t fs x none) ∙ h
 
   mutual
     optional-now : (t : Tree) → has_optional (now t) ≡ has_optional t
     optional-now (node MemberExpression l fs) = ap (λ b. is_optional MemberExpression l || b) (optional-in-now fs)
-    optional-now (node CallExpression l fs) = ap (λ b. is_optional CallExpression l || b) (at-call l fs (called_helper CallExpression l fs) refl (optional-in-now fs))
+    optional-now (node CallExpression l fs) = ap (λ b. is_optional CallExpression l || b) (at-call l fs (used_helper CallExpression l fs) refl (optional-in-now fs))
     optional-now (node _ l fs) = refl
 
     pub optional-in-now : (fs : Fields) → has_optional_in (now_in fs) ≡ has_optional_in fs

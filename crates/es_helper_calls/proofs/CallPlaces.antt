@@ -1,5 +1,5 @@
 -- A program in which helpers are called by names keeps the static rules of places.
-use Rattle.std.proofs.Common.{◌≡◌, ℕ, suc, refl, List, [], ◌∷◌}
+use Rattle.std.proofs.Common.{◌≡◌, ℕ, suc, refl, sym, subst, List, [], ◌∷◌}
 use Rattle.std.specs.Prelude.{true, false, Option, Some, None}
 use Rattle.es_tree.specs.Ancestors.{Ancestor, ancestor, place_of}
 use Rattle.es_tree.specs.CoreStaticRules.{is_bad_target, link_place}
@@ -23,9 +23,9 @@ use Rattle.es_valid_steps.proofs.Loose.{loose}
 use Rattle.es_valid_steps.proofs.Moves.{in-moved}
 use Rattle.es_valid_steps.proofs.Offers.{Near, Offers, near-self, near-within, offers-self, offers-within}
 use Rattle.es_valid_steps.proofs.Visits.{law_places_proof}
-use Rattle.es_helper_calls.specs.HelperCalls.{called_helper, calling_here}
-use Rattle.es_helper_calls.proofs.Callees.{IsCall, call-shape}
-use Rattle.es_helper_calls.proofs.Callees.IsCall.{a_call}
+use Rattle.es_helper_calls.specs.HelperCalls.{used_helper, calling_here}
+use Rattle.es_helper_calls.proofs.Callees.{IsUse, here-called, here-passed, use-shape}
+use Rattle.es_helper_calls.proofs.Callees.IsUse.{a_call, a_pass}
 use Rattle.es_helper_calls.proofs.CallHere.{alike-now, fields_now, here-now}
 use Rattle.es_helper_calls.proofs.CallNodes.{named, now, now_among, now_by, now_in}
 
@@ -47,19 +47,25 @@ module _ (c : Helper → Bound) where
       let there = ancestor CallExpression l all 0 0 ∷ up in
       (made-there there Identifier (label_of (named c h)) done (loose l all 0 0 up CallExpression refl) (no-target (place_of up) (named c h)) refl refl refl, tt)
 
-  -- with the callee, where it is a call of a helper
-  with-callee : (up : List Ancestor) (k : AstType) (l : Label) (fs : Fields) (o : Option Helper) → called_helper k l fs ≡ o → KeepsIn up k l fs 0 (now_in c fs) → KeepsIn up k l fs 0 (calling_here (named c) o (now_in c fs))
-  with-callee up k l fs None e h = h
-  with-callee up k l fs (Some x) e h = at k fs fs (call-shape k l fs x e) h
+  argument-keeps : (up : List Ancestor) (l : Label) (all : Fields) (h : Helper) → Keeps (ancestor CallExpression l all 1 0 ∷ up) (named c h)
+  argument-keeps up l all h =
+      let there = ancestor CallExpression l all 1 0 ∷ up in
+      (made-there there Identifier (label_of (named c h)) done (loose l all 1 0 up CallExpression refl) refl refl refl refl, tt)
+
+  -- with the name, where it uses a helper
+  with-name : (up : List Ancestor) (k : AstType) (l : Label) (fs : Fields) (o : Option Helper) → used_helper k l fs ≡ o → KeepsIn up k l fs 0 (now_in c fs) → KeepsIn up k l fs 0 (calling_here (named c) o (now_in c fs))
+  with-name up k l fs None e h = h
+  with-name up k l fs (Some x) e h = at k fs fs (use-shape k l fs x e) h
     where
-      at : (k : AstType) (all fs : Fields) → IsCall x k l fs → KeepsIn up k l all 0 (now_in c fs) → KeepsIn up k l all 0 (calling_here (named c) (Some x) (now_in c fs))
-      at k all fs (a_call mark it) h = (callee-keeps up l all x, h.1)
+      at : (k : AstType) (all fs : Fields) → IsUse x k l fs → KeepsIn up k l all 0 (now_in c fs) → KeepsIn up k l all 0 (calling_here (named c) (Some x) (now_in c fs))
+      at k all _ (a_call {f = f} {fs = fs} mark it) h = subst (λ gs. KeepsIn up CallExpression l all 0 gs) (sym (here-called (named c) f fs x it)) (callee-keeps up l all x, h.1)
+      at k all _ (a_pass {f = f} {t = t} {fs = fs} mark none it) h = subst (λ gs. KeepsIn up CallExpression l all 0 gs) (sym (here-passed (named c) f t fs x none)) (h.0, ((argument-keeps up l all x, tt), h.1.1))
 
   mutual
     tree-keeps : (up : List Ancestor) (t : Tree) → All Stands t → Keeps up t → Keeps up (now c t)
     tree-keeps up (node k l fs) q h =
         let new = fields_now c k l fs in
-        let inner = with-callee up k l fs (called_helper k l fs) refl (fields-keep up k l fs 0 fs q.1 h.1) in
+        let inner = with-name up k l fs (used_helper k l fs) refl (fields-keep up k l fs 0 fs q.1 h.1) in
         let offers : (j : ℕ) → Offers true (ancestor k l fs j 0 ∷ up) (ancestor k l new j 0 ∷ up) = λ j. offers-within true up up (ancestor k l fs j 0) (ancestor k l new j 0) (alike-now c k l fs j) (offers-self up) (λ e. absurd (cc e)) in
         let near : (j : ℕ) → Near (ancestor k l fs j 0 ∷ up) (ancestor k l new j 0 ∷ up) = λ j. near-within up up (ancestor k l fs j 0) (ancestor k l new j 0) (alike-now c k l fs j) (near-self up) in
         (here-now c up k l fs q.0 h.0, in-moved true up up k l fs new 0 new offers near (λ e. absurd (cc e)) inner)

@@ -1,11 +1,10 @@
 -- Steps lead from a program that has form to what it becomes where helpers are called by names, in the fields of each node first, and then at
 -- the node itself.
 use Rattle.std.proofs.Common.{◌≡◌, ◌∙◌, ℕ, zero, suc, refl, sym, ap, subst, List, [], ◌∷◌, ◌++◌}
-use Rattle.std.specs.Prelude.{Bool, true, false, ◌&&◌, Option, Some, None, if◌then◌else◌}
+use Rattle.std.specs.Prelude.{Bool, true, false, ◌&&◌, Option, Some, None}
 use Rattle.std.proofs.lemmas.Bool.{and_parts}
 use Rattle.es_tree.specs.Attributes.{child_entries}
 use Rattle.es_tree.specs.HasForm.{fields_form, has_form, trees_form}
-use Rattle.es_tree.specs.Names.{flag_at}
 use Rattle.es_tree.specs.Table.{rest_sort}
 use Rattle.es_tree.specs.Tree.{Tree, node, Label, Fields, done, ◌then◌, Field, missing, one, many, statements, Trees, empty, ◌before◌}
 use Rattle.es_tree.specs.declared.ast_type.AstType.{AstType}
@@ -30,14 +29,14 @@ use Rattle.es_steps.specs.Steps.TreesStep.{in_head, in_tail}
 use Rattle.es_steps.proofs.FormOpen.{IsProper, opened-proper}
 use Rattle.es_steps.proofs.FormSteps.{formed-after}
 use Rattle.es_steps.proofs.Opened.{finished-opened}
-use Rattle.es_helper_calls.specs.CallRows.CallRow.{calls}
-use Rattle.es_helper_calls.specs.HelperCalls.{called_helper, calling_here, helper_of, helpers_among, helpers_in, helpers_in_field, helpers_in_fields, own_helper}
+use Rattle.es_helper_calls.specs.CallRows.{CallRow}
+use Rattle.es_helper_calls.specs.CallRows.CallRow.{calls, passes}
+use Rattle.es_helper_calls.specs.HelperCalls.{calling_here, handed_on, helpers_among, helpers_in, helpers_in_field, helpers_in_fields, own_helper, used_helper}
 use Rattle.es_helper_calls.specs.Laws.{HaveNames}
-use Rattle.es_helper_calls.proofs.Callees.{IsCall, IsCallee, call-shape}
-use Rattle.es_helper_calls.proofs.Callees.IsCall.{a_call}
-use Rattle.es_helper_calls.proofs.Callees.IsCallee.{a_member}
+use Rattle.es_helper_calls.proofs.Callees.{IsUse, helper-now, here-called, here-passed, use-shape}
+use Rattle.es_helper_calls.proofs.Callees.IsUse.{a_call, a_pass}
 use Rattle.es_helper_calls.proofs.CallNodes.{named, now, now_among, now_by, now_in}
-use Rattle.es_helper_calls.proofs.CallRules.{NamedCall, call-form}
+use Rattle.es_helper_calls.proofs.CallRules.{call-form}
 
 -- ROWS: steps in a row, each of which may be taken wherever a node stands and whatever is known there
 
@@ -54,17 +53,17 @@ rows-map f lift none = none
 rows-map f lift (more h r) = more (lift _ _ h) (rows-map f lift r)
 
 abbrev AnyStep : Open → Open → Type 0
-AnyStep t u = (n : Site) (s : Ledger) → Step NamedCall n s t s u
+AnyStep t u = (n : Site) (s : Ledger) → Step CallRow n s t s u
 
 -- the body of an arrow reads
 abbrev AnyFields : (ℕ → Bool) → OpenFields → OpenFields → Type 0
-AnyFields bodies fs gs = (at : ℕ → Site) (s : Ledger) → ((i : ℕ) → bodies i ≡ true → (at i).role ≡ reads) → FieldsStep NamedCall at s fs s gs
+AnyFields bodies fs gs = (at : ℕ → Site) (s : Ledger) → ((i : ℕ) → bodies i ≡ true → (at i).role ≡ reads) → FieldsStep CallRow at s fs s gs
 
 abbrev AnyField : Bool → OpenField → OpenField → Type 0
-AnyField b f g = (n : Site) (s : Ledger) → (b ≡ true → n.role ≡ reads) → FieldStep NamedCall n s f s g
+AnyField b f g = (n : Site) (s : Ledger) → (b ≡ true → n.role ≡ reads) → FieldStep CallRow n s f s g
 
 abbrev AnyTrees : OpenTrees → OpenTrees → Type 0
-AnyTrees ts us = (n : Site) (s : Ledger) → TreesStep NamedCall n s ts s us
+AnyTrees ts us = (n : Site) (s : Ledger) → TreesStep CallRow n s ts s us
 
 -- NODES AND LISTS
 
@@ -78,7 +77,7 @@ children-rows : (b : Bool) {ts us : OpenTrees} → Rows AnyTrees ts us → Rows 
 children-rows b = rows-map (λ ts. children ts) (λ ts us h n s e. in_children (h n s))
 
 -- a list, whatever list it is
-list-step : (ts us : OpenTrees) → AnyTrees ts us → (n : Site) (s : Ledger) (target whole : Bool) → is_target n.above ≡ target → is_program_list n.above ≡ whole → FieldStep NamedCall n s (list nothing_pending None no_additions ts) s (list nothing_pending None no_additions us)
+list-step : (ts us : OpenTrees) → AnyTrees ts us → (n : Site) (s : Ledger) (target whole : Bool) → is_target n.above ≡ target → is_program_list n.above ≡ whole → FieldStep CallRow n s (list nothing_pending None no_additions ts) s (list nothing_pending None no_additions us)
 list-step ts us h n (ledger w o x a) true whole e d = in_target e (h n (ledger w nothing_pending None a))
 list-step ts us h n (ledger w o x a) false true e d = in_program d (h n (ledger w nothing_pending None no_additions))
 list-step ts us h n (ledger w o x a) false false e d = in_list e d (h n (ledger w nothing_pending x a))
@@ -155,7 +154,7 @@ module _ (w : Whole) where
     proper : IsProper t
 
   formed-step : (t u : Open) → AnyStep t u → Formed t → Formed u
-  formed-step t u h f = let r = formed-after NamedCall call-form (h the_program (nothing_beside w)) s-Expression (λ e. absurd (cc e)) f.proper f.form in record { form = r.formed; proper = r.proper }
+  formed-step t u h f = let r = formed-after CallRow call-form (h the_program (nothing_beside w)) s-Expression (λ e. absurd (cc e)) f.proper f.form in record { form = r.formed; proper = r.proper }
 
   body-step : (t u : Open) → AnyStep t u → Formed t → Formed u → AnyField true (body nothing_pending t) (body nothing_pending u)
   body-step t u h f g n (ledger v o x a) e = in_body (e refl) (law_expression_proof (finished t) f.form) (law_expression_proof (finished u) g.form) (h (site_in_body n nothing_pending (finished t)) (ledger v nothing_pending x a))
@@ -171,26 +170,27 @@ module _ (w : Whole) where
 
     -- THE NODE ITSELF
 
-    called-now : (f : Tree) → IsCallee f → helper_of (now c f) ≡ helper_of f
-    called-now f (a_member e) = refl
-
-    call-rows : (s : Sort) (x : Helper) (k : AstType) (l : Label) (fs : Fields) → IsCall x k l fs → called_helper k l fs ≡ Some x → NodeForm s k l fs → HaveNames c (x ∷ []) → Rows AnyStep (opened (node k l (now_in c fs))) (opened (node k l (calling_here (named c) (Some x) (now_in c fs))))
-    call-rows s x k l fs (a_call {f = f} {fs = rest} mark it) e form have = at rest (arguments-shape l f rest form.children) (ap (λ o. if flag_at 0 l.flags then None else o) (called-now f it) ∙ e)
+    use-rows : (s : Sort) (x : Helper) (k : AstType) (l : Label) (fs : Fields) → IsUse x k l fs → NodeForm s k l fs → HaveNames c (x ∷ []) → Rows AnyStep (opened (node k l (now_in c fs))) (opened (node k l (calling_here (named c) (Some x) (now_in c fs))))
+    use-rows s x _ l _ (a_call {f = f} {fs = fs} mark it) form have = subst (λ gs. Rows AnyStep (opened (node CallExpression l (now_in c (one f then fs)))) (opened (node CallExpression l gs))) (sym (here-called (named c) f fs x it)) (at fs (arguments-shape l f fs form.children))
       where
-        at : (fs : Fields) → IsArguments fs → (if flag_at 0 l.flags then None else helper_of (now c f)) ≡ Some x → Rows AnyStep (opened (node CallExpression l (one (now c f) then now_in c fs))) (opened (node CallExpression l (one (named c x) then now_in c fs)))
-        at fs (arguments ts) d = more (λ n s. acts (node CallExpression l (one (now c f) then many (now_among c ts) then done)) (node CallExpression l (one (named c x) then many (now_among c ts) then done)) (calls (c x) d, have.0)) none
+        at : (fs : Fields) → IsArguments fs → Rows AnyStep (opened (node CallExpression l (one (now c f) then now_in c fs))) (opened (node CallExpression l (one (named c x) then now_in c fs)))
+        at _ (arguments ts) = more (λ n s. acts (node CallExpression l (one (now c f) then many (now_among c ts) then done)) (node CallExpression l (one (named c x) then many (now_among c ts) then done)) (calls (c x) mark (helper-now (named c) f ∙ it) have.0)) none
+    use-rows s x _ l _ (a_pass {f = f} {t = t} {fs = fs} mark other it) form have = subst (λ gs. Rows AnyStep (opened (node CallExpression l (now_in c (one f then many (t before empty) then fs)))) (opened (node CallExpression l gs))) (sym (here-passed (named c) f t fs x other)) (at fs (arguments-shape l f (many (t before empty) then fs) form.children))
+      where
+        at : (fs : Fields) → IsArguments (many (t before empty) then fs) → Rows AnyStep (opened (node CallExpression l (one (now c f) then many (now c t before empty) then now_in c fs))) (opened (node CallExpression l (one (now c f) then many (named c x before empty) then now_in c fs)))
+        at _ (arguments _) = more (λ n s. acts (node CallExpression l (one (now c f) then many (now c t before empty) then done)) (node CallExpression l (one (now c f) then many (named c x before empty) then done)) (passes (c x) mark (helper-now (named c) f ∙ other) (ap (λ o. handed_on o) (helper-now (named c) t) ∙ it) have.0)) none
 
-    own-rows : (s : Sort) (k : AstType) (l : Label) (fs : Fields) (o : Option Helper) → called_helper k l fs ≡ o → NodeForm s k l fs → HaveNames c (own_helper o) → Rows AnyStep (opened (node k l (now_in c fs))) (opened (node k l (calling_here (named c) o (now_in c fs))))
+    own-rows : (s : Sort) (k : AstType) (l : Label) (fs : Fields) (o : Option Helper) → used_helper k l fs ≡ o → NodeForm s k l fs → HaveNames c (own_helper o) → Rows AnyStep (opened (node k l (now_in c fs))) (opened (node k l (calling_here (named c) o (now_in c fs))))
     own-rows s k l fs None e form have = none
-    own-rows s k l fs (Some x) e form have = call-rows s x k l fs (call-shape k l fs x e) e form have
+    own-rows s k l fs (Some x) e form have = use-rows s x k l fs (use-shape k l fs x e) form have
 
     -- A TREE
 
     mutual
       tree-rows : (t : Tree) → All HasForm t → HaveNames c (helpers_in t) → Rows AnyStep (opened t) (opened (now c t))
       tree-rows (node k l fs) q have =
-          let names = have-both c (helpers_in_fields fs) (own_helper (called_helper k l fs)) have in
-          rows-trans (node-rows k l (fields-rows (is_body k) fs q.1 (formed-bodies q.0.sort k l fs q.0.form) names.0)) (own-rows q.0.sort k l fs (called_helper k l fs) refl q.0.form names.1)
+          let names = have-both c (helpers_in_fields fs) (own_helper (used_helper k l fs)) have in
+          rows-trans (node-rows k l (fields-rows (is_body k) fs q.1 (formed-bodies q.0.sort k l fs q.0.form) names.0)) (own-rows q.0.sort k l fs (used_helper k l fs) refl q.0.form names.1)
 
       fields-rows : (bodies : ℕ → Bool) (fs : Fields) → AllIn HasForm fs → FormedBodies bodies fs → HaveNames c (helpers_in_fields fs) → Rows (AnyFields bodies) (opened_fields bodies fs) (opened_fields bodies (now_in c fs))
       fields-rows bodies done q f have = none
@@ -217,9 +217,9 @@ module _ (w : Whole) where
 
   -- A PROGRAM
 
-  to-steps : {t u : Open} → Rows AnyStep t u → Steps (Step NamedCall the_program) (nothing_beside w) t (nothing_beside w) u
+  to-steps : {t u : Open} → Rows AnyStep t u → Steps (Step CallRow the_program) (nothing_beside w) t (nothing_beside w) u
   to-steps none = stays
   to-steps (more h r) = goes (h the_program (nothing_beside w)) (to-steps r)
 
-  pub call-steps : (c : Helper → Bound) (p : Tree) → has_form s-Program p ≡ true → HaveNames c (helpers_in p) → Steps (Step NamedCall the_program) (nothing_beside w) (opened p) (nothing_beside w) (opened (now c p))
+  pub call-steps : (c : Helper → Bound) (p : Tree) → has_form s-Program p ≡ true → HaveNames c (helpers_in p) → Steps (Step CallRow the_program) (nothing_beside w) (opened p) (nothing_beside w) (opened (now c p))
   call-steps c p f have = to-steps (tree-rows c p (all-formed s-Program p f) have)

@@ -31,15 +31,16 @@ use Rattle.es_valid_names.proofs.ExportStatements.{program-exports}
 use Rattle.es_valid_names.proofs.ExportTexts.{lists}
 use Rattle.es_valid_names.proofs.NameSteps.{Good, around, clear-breaks, clear-exports, one-step, start-clear}
 use Rattle.es_valid_names.proofs.StartUsed.{start-used}
+use Rattle.es_helper_calls.specs.CallRows.{CallRow}
 use Rattle.es_helper_calls.specs.HelperCalls.{helpers_in}
 use Rattle.es_helper_calls.specs.Laws.{HaveNames, LawCallsKept}
 use Rattle.es_helper_calls.proofs.CallNodes.{now}
 use Rattle.es_helper_calls.proofs.CallPlaces.{places-kept}
-use Rattle.es_helper_calls.proofs.CallRules.{NamedCall, call-form, call-names, call-quiet}
+use Rattle.es_helper_calls.proofs.CallRules.{call-form, call-names, call-quiet}
 use Rattle.es_helper_calls.proofs.CallSteps.{call-steps}
 
 abbrev Row : Ledger → Open → Ledger → Open → Type 0
-Row = Steps (Step NamedCall the_program)
+Row = Steps (Step CallRow the_program)
 
 -- OTHER MODULES: what is read off the list of the program
 
@@ -49,14 +50,14 @@ Read read t = texts_among read (statements_of t)
 read-in-a-row : (read : Tree → List Text) → IsReading read → {s s' : Ledger} {t u : Open} → Row s t s' u → IsProper t → has_form s-Program (finished t) ≡ true → Read read (finished u) ≡ Read read (finished t)
 read-in-a-row read r stays proper f = refl
 read-in-a-row read r (goes h rest) proper f =
-    let next = formed-after NamedCall call-form h s-Program (λ e. absurd (cc e)) proper f in
-    read-in-a-row read r rest next.proper next.formed ∙ texts-after read r top-imports (λ up. false) none-hides NamedCall call-form (named-read (λ up. false) NamedCall call-quiet) h (λ e. absurd (cc e)) (λ e. absurd (cc e)) proper next.proper f
+    let next = formed-after CallRow call-form h s-Program (λ e. absurd (cc e)) proper f in
+    read-in-a-row read r rest next.proper next.formed ∙ texts-after read r top-imports (λ up. false) none-hides CallRow call-form (named-read (λ up. false) CallRow call-quiet) h (λ e. absurd (cc e)) (λ e. absurd (cc e)) proper next.proper f
 
 -- DECLARED NAMES
 
 good-in-a-row : {s s' : Ledger} {t u : Open} → Row s t s' u → Good s t → Good s' u
 good-in-a-row stays g = g
-good-in-a-row (goes h rest) g = good-in-a-row rest (one-step NamedCall call-form call-names h g)
+good-in-a-row (goes h rest) g = good-in-a-row rest (one-step CallRow call-form call-names h g)
 
 module _ (p : Tree) (w : Whole) (c : Helper → Bound) (formed : has_form s-Program p ≡ true) (have : HaveNames c (helpers_in p)) where
   abbrev after : Tree
@@ -69,7 +70,7 @@ module _ (p : Tree) (w : Whole) (c : Helper → Bound) (formed : has_form s-Prog
   opened-formed = subst (λ (y : Tree). has_form s-Program y ≡ true) (sym (finished-opened p)) formed
 
   formed-now : has_form s-Program after ≡ true
-  formed-now = subst (λ (y : Tree). has_form s-Program y ≡ true) (finished-opened after) (steps-keep-form NamedCall call-form p w w (opened after) formed row)
+  formed-now = subst (λ (y : Tree). has_form s-Program y ≡ true) (finished-opened after) (steps-keep-form CallRow call-form p w w (opened after) formed row)
 
   read-same : (read : Tree → List Text) → IsReading read → Read read after ≡ Read read p
   read-same read r = sym (ap (λ t. Read read t) (finished-opened after)) ∙ read-in-a-row read r row (opened-proper p) opened-formed ∙ ap (λ t. Read read t) (finished-opened p)

@@ -12,28 +12,28 @@ use Rattle.es_tree.specs.declared.error.UnsupportedKind.TheVariants.{HelperName}
 use Rattle.es_tree.specs.declared.options.EnvOptions.{EnvOptions}
 use Rattle.es_semantic.specs.SymbolsOf.{find, symbols_of}
 use Rattle.es_rest_shapes.specs.RestShapes.{is_rest_declaration}
-use Rattle.es_helper_calls.specs.HelperCalls.{called_helper}
+use Rattle.es_helper_calls.specs.HelperCalls.{used_helper}
 
 -- a node for which a helper copies: an object literal with a spread (ECMA-262, 13.2.5), or a declaration of an object rest (14.3.3)
 abbrev pub needs_helper : AstType → Label → Fields → Bool
 needs_helper k l fs = is_object_spread k l fs || is_rest_declaration k l fs
 
--- a call of a helper
-abbrev pub calls_helper : AstType → Label → Fields → Bool
-calls_helper k l fs = is_some (called_helper k l fs)
+-- a call of a helper, or one that hands one on
+abbrev pub uses_helper : AstType → Label → Fields → Bool
+uses_helper k l fs = is_some (used_helper k l fs)
 
--- A node that asks for a helper: one for which one copies, where that is lowered, and a call of one, where `using` was lowered, which makes such
+-- A node that asks for a helper: one for which one copies, where that is lowered, and a use of one, where `using` was lowered, which makes such
 -- calls.
 abbrev pub asks_helper : EnvOptions → Bool → AstType → Label → Fields → Bool
-asks_helper o made k l fs = (is_some o.es2018.object_rest_spread && needs_helper k l fs) || (made && calls_helper k l fs)
+asks_helper o made k l fs = (is_some o.es2018.object_rest_spread && needs_helper k l fs) || (made && uses_helper k l fs)
 
 -- whether one stands, and helpers are imported
 abbrev pub imports_helpers : EnvOptions → Bool → Tree → Bool
 imports_helpers o made p = not (is_external o.helper_loader.mode) && any_node (asks_helper o made) p
 
--- the first call of a helper that a source itself makes, where helpers are imported
+-- the first use of a helper that a source itself makes, where helpers are imported
 abbrev pub own_call : EnvOptions → Tree → Option ℕ
-own_call o s = if is_external o.helper_loader.mode then None else first_node calls_helper s
+own_call o s = if is_external o.helper_loader.mode then None else first_node uses_helper s
 
 -- whether a program is a module (16.2)
 abbrev pub is_module : Tree → Bool
@@ -43,8 +43,8 @@ is_module p = bytes_eq (first_text (label_of p).texts) (codes "module")
 abbrev pub binds_require : Tree → Bool
 binds_require p = not (is_module p) && is_some (find (symbols_of p) (0 ∷ []) (codes "require"))
 
--- The first node at which a program can't import helpers, where its source makes this call: one that asks for a helper, where a script binds
--- `require`, or else that call.
+-- The first node at which a program can't import helpers, where its source makes this use: one that asks for a helper, where a script binds
+-- `require`, or else that use.
 abbrev pub unimported_where : EnvOptions → Bool → Option ℕ → Bool → Tree → Option ℕ
 unimported_where o made own bound p = option_or (if bound then first_node (asks_helper o made) p else None) own
 

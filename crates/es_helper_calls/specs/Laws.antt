@@ -1,4 +1,4 @@
--- The laws of helpers that are called by names: what a program becomes so is one, and to other modules it is as before.
+-- The law of helpers that are called, or handed on, by names: what a program becomes so is one, and to other modules it is as before.
 use Rattle.std.specs.Prelude.{◌≡◌, ◌==◌, List, [], ◌∷◌, length, true, false}
 use Rattle.es_tree.specs.HasForm.{has_form}
 use Rattle.es_tree.specs.StaticRules.{breaks}
@@ -23,6 +23,6 @@ abbrev pub HaveNames : (Helper → Bound) → List Helper → Type 0
 HaveNames c [] = Unit {0}
 HaveNames c (h ∷ hs) = ((length (c h).name == 0) ≡ false) × HaveNames c hs
 
--- So it is of a program that has form, breaks no static rule, and whose names are bound and in use, where each helper that it calls has a name.
+-- So it is of a program that has form, breaks no static rule, and whose names are bound and in use, where each helper that it uses has a name.
 abbrev pub LawCallsKept : Type 0
 LawCallsKept = (p : Tree) (w : Whole) (c : Helper → Bound) → has_form s-Program p ≡ true → breaks p ≡ [] → IsWellBound w p → HaveNames c (helpers_in p) → IsKept p (calling (λ h. identifier (c h)) p)

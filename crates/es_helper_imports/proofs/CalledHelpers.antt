@@ -1,4 +1,4 @@
--- The helpers that a program calls, each once: each has one of the names that these have.
+-- The helpers that a program uses, each once: each has one of the names that these have.
 use Rattle.std.proofs.Common.{◌≡◌, ℕ, suc, refl, List, [], ◌∷◌, ◌++◌}
 use Rattle.std.specs.Prelude.{Bool, true, false, ◌||◌, Some, None, if◌then◌else◌}
 use Rattle.std.specs.List.{list_any}
@@ -74,7 +74,7 @@ module _ (P : Bound → Type 0) where
   holds-from c known [] named = tt
   holds-from c known (h ∷ hs) named = (named h (noted-old hs (noting known h) h (noting-it known h)), holds-from c (noting known h) hs named)
 
-  -- so each that a program calls has one
+  -- so each that a program uses has one
   pub names-hold : (u : Text → Bool) (hs : List Helper) (names : List Text) (n : ℕ) → AreFresh u (noted [] hs) names → Each P (marked_from n names) → Hold P (bound_of (noted [] hs) (marked_from n names)) hs
   names-hold u hs names n fresh all = holds-from (bound_of (noted [] hs) (marked_from n names)) [] hs (name-holds u (noted [] hs) names n fresh all)
 

@@ -16,7 +16,7 @@ use Rattle.es_resolution.specs.Declarations.{Bound}
 use Rattle.es_steps.specs.Nodes.{joined_trees}
 use Rattle.es_steps.specs.Open.{after_imports, is_import}
 use Rattle.es_valid_names.proofs.Grown.{never}
-use Rattle.es_helper_calls.specs.HelperCalls.{bound_of, called_helper, calling_here}
+use Rattle.es_helper_calls.specs.HelperCalls.{bound_of, calling_here, calls_one, used_helper, with_argument, with_callee}
 use Rattle.es_helper_calls.specs.Importing.{is_module}
 use Rattle.es_helper_calls.proofs.CallNodes.{kind-now, named, now, now_among, now_by, now_in, parens-now}
 use Rattle.es_top_imports.specs.TopImports.{Import, top_of, with_top}
@@ -28,7 +28,7 @@ use Rattle.es_helper_imports.specs.Laws.{LawNoConstructs}
 module _ (c : Helper → Bound) where
   -- what a node's fields become
   abbrev becomes : AstType → Label → Fields → Fields
-  becomes k l fs = calling_here (named c) (called_helper k l fs) (now_in c fs)
+  becomes k l fs = calling_here (named c) (used_helper k l fs) (now_in c fs)
 
   field-now : (n : ℕ) (fs : Fields) → field_at n (now_in c fs) ≡ now_by c (field_at n fs)
   field-now n done = refl
@@ -154,16 +154,33 @@ module _ (o : EnvOptions) where
   -- A TREE in which helpers are called by names has no construct where it had none before
 
   module _ (c : Helper → Bound) where
+    none-named : (h : Helper) → any_node test (named c h) ≡ false
+    none-named h = or_from _ false no-row refl
+
+    none-callee : (h : Helper) (fs : Fields) → any_in_fields test fs ≡ false → any_in_fields test (with_callee (named c h) fs) ≡ false
+    none-callee h (one f then fs) e = or_from (any_node test (named c h)) (any_in_fields test fs) (none-named h) (or_parts (any_node test f) (any_in_fields test fs) e).1
+    none-callee h _ e = e
+
+    none-argument : (h : Helper) (fs : Fields) → any_in_fields test fs ≡ false → any_in_fields test (with_argument (named c h) fs) ≡ false
+    none-argument h (f then (many us then fs)) e =
+        let parts = or_parts (any_in_field test f) (any_in_trees test us || any_in_fields test fs) e in
+        or_from (any_in_field test f) (any_in_trees test (named c h before empty) || any_in_fields test fs) parts.0
+        (or_from (any_in_trees test (named c h before empty)) (any_in_fields test fs) (or_from (any_node test (named c h)) false (none-named h) refl) (or_parts (any_in_trees test us) (any_in_fields test fs) parts.1).1)
+    none-argument h _ e = e
+
     none-here : (h : Option Helper) (fs : Fields) → any_in_fields test fs ≡ false → any_in_fields test (calling_here (named c) h fs) ≡ false
     none-here None fs e = e
-    none-here (Some h) (one f then fs) e = or_from (any_node test (named c h)) (any_in_fields test fs) (or_from _ false no-row refl) (or_parts (any_node test f) (any_in_fields test fs) e).1
-    none-here (Some h) _ e = e
+    none-here (Some h) fs e = at (calls_one fs)
+      where
+        at : (b : Bool) → any_in_fields test (if b then with_callee (named c h) fs else with_argument (named c h) fs) ≡ false
+        at true = none-callee h fs e
+        at false = none-argument h fs e
 
     mutual
       none-now : (t : Tree) → any_node test t ≡ false → any_node test (now c t) ≡ false
       none-now (node k l fs) e =
           let parts = or_parts (test k l fs) (any_in_fields test fs) e in
-          or_from (test k l (becomes c k l fs)) (any_in_fields test (becomes c k l fs)) (enabled-now c o k l fs ∙ parts.0) (none-here (called_helper k l fs) (now_in c fs) (none-now-in fs parts.1))
+          or_from (test k l (becomes c k l fs)) (any_in_fields test (becomes c k l fs)) (enabled-now c o k l fs ∙ parts.0) (none-here (used_helper k l fs) (now_in c fs) (none-now-in fs parts.1))
 
       none-now-in : (fs : Fields) → any_in_fields test fs ≡ false → any_in_fields test (now_in c fs) ≡ false
       none-now-in done e = refl

@@ -1,8 +1,9 @@
--- The law that a program which imports its helpers has at most thirty nodes more: at most five helpers are called, and a statement that imports
+-- The law that a program which imports its helpers has at most thirty-six nodes more: at most six helpers are used, and a statement that imports
 -- one has at most six nodes.
 use Rattle.std.proofs.Common.{◌≡◌, ℕ, ◌+◌, ◌*◌, ◌≤◌, refl, sym, ap, ◌∙◌, List, [], ◌∷◌, ◌++◌, length, length-append, arith}
 use Rattle.std.specs.Prelude.{Bool, true, false, ◌&&◌, ◌||◌, Option, Some, None, bytes_eq, codes, find, map, if◌then◌else◌}
 use Rattle.std.specs.List.{list_any}
+use Rattle.std.specs.Option.{option_or}
 use Rattle.std.proofs.lemmas.List.Folds.{list_any-append}
 use Rattle.es_tree.specs.Helpers.{helper_text}
 use Rattle.es_tree.specs.Names.{first_text, flag_at}
@@ -11,14 +12,17 @@ use Rattle.es_tree.specs.Words.{Text}
 use Rattle.es_tree.specs.declared.ast_type.AstType.{AstType}
 use Rattle.es_tree.specs.declared.ast_type.AstType.TheVariants.{CallExpression, Identifier, MemberExpression}
 use Rattle.es_tree.specs.declared.helper.Helper.{Helper}
+use Rattle.es_tree.specs.declared.helper.Helper.TheVariants.{ToPropertyKey}
 use Rattle.es_resolution.specs.Declarations.{Bound}
 use Rattle.es_resolution.proofs.Basics.{bytes_eq-self}
 use Rattle.es_runs.proofs.Weights.{tree_size-bare}
 use Rattle.es_steps.specs.Nodes.{joined_trees}
 use Rattle.es_steps.specs.Open.{after_imports, is_import}
-use Rattle.es_helper_calls.specs.HelperCalls.{bound_of, called_helper, calling_here, helper_of, helpers_among, helpers_called, helpers_in, helpers_in_field, helpers_in_fields, is_called, is_dotted, is_helper, made_helpers, named_helper, noted, own_helper}
+use Rattle.es_helper_calls.specs.HelperCalls.{bound_of, calling_here, handed_on, helper_of, helpers_among, helpers_called, helpers_in, helpers_in_field, helpers_in_fields, is_called, is_dotted, is_helper, made_helpers, named_helper, noted, own_helper, passed_helper, used_helper}
 use Rattle.es_helper_calls.specs.Importing.{is_module}
 use Rattle.es_helper_calls.proofs.CallNodes.{named, now, now_among, now_by, now_in}
+use Rattle.es_helper_calls.proofs.Callees.{IsUse, here-called, here-passed, use-shape}
+use Rattle.es_helper_calls.proofs.Callees.IsUse.{a_call, a_pass}
 use Rattle.es_top_imports.specs.TopImports.{Import, top_of, with_top}
 use Rattle.es_helper_imports.specs.Imported.{imported_as, imports_of, unmarked}
 use Rattle.es_helper_imports.specs.Laws.{LawImportedSize}
@@ -26,14 +30,17 @@ use Rattle.es_helper_imports.specs.Laws.{LawImportedSize}
 -- WHERE HELPERS ARE CALLED BY NAMES a tree has no more nodes
 
 module _ (c : Helper → Bound) where
-  size-here : (h : Option Helper) (fs : Fields) → fields_size (calling_here (named c) h fs) ≤ fields_size fs
-  size-here None fs = omega arith
-  size-here (Some h) (one (node k l gs) then fs) = omega arith
-  size-here (Some h) _ = omega arith
+  size-used : (h : Helper) (k : AstType) (l : Label) (fs : Fields) → IsUse h k l fs → fields_size (calling_here (named c) (Some h) (now_in c fs)) ≤ fields_size (now_in c fs)
+  size-used h k l _ (a_call {f = node j m gs} {fs = fs} mark e) = rw (here-called (named c) (node j m gs) fs h e) (omega arith)
+  size-used h k l _ (a_pass {f = f} {t = node j m gs} {fs = fs} mark e d) = rw (here-passed (named c) f (node j m gs) fs h e) (omega arith)
+
+  size-here : (h : Option Helper) (k : AstType) (l : Label) (fs : Fields) → used_helper k l fs ≡ h → fields_size (calling_here (named c) h (now_in c fs)) ≤ fields_size (now_in c fs)
+  size-here None k l fs e = omega arith
+  size-here (Some h) k l fs e = size-used h k l fs (use-shape k l fs h e)
 
   mutual
     size-now : (t : Tree) → tree_size (now c t) ≤ tree_size t
-    size-now (node k l fs) = let here = size-here (called_helper k l fs) (now_in c fs) in let inner = size-now-in fs in omega arith
+    size-now (node k l fs) = let here = size-here (used_helper k l fs) k l fs refl in let inner = size-now-in fs in omega arith
 
     size-now-in : (fs : Fields) → fields_size (now_in c fs) ≤ fields_size fs
     size-now-in done = omega arith
@@ -82,7 +89,7 @@ size-of-imports m [] bs = omega arith
 size-of-imports m (h ∷ hs) [] = omega arith
 size-of-imports m (h ∷ hs) (b ∷ bs) = let rest = size-of-imports m hs bs in omega arith
 
--- HOW MANY HELPERS a program calls
+-- HOW MANY HELPERS a program uses
 
 -- one of these
 data IsAmong (h : Helper) : List Helper → Type 0 where
@@ -123,9 +130,21 @@ callee-made : (f : Tree) → MayBeMade (helper_of f)
 callee-made (node MemberExpression l (one o then (one (node Identifier m fs) then done))) = either-made (is_dotted l && is_called (codes "babelHelpers") o) (named_helper (first_text m.texts)) None (named-made (first_text m.texts)) tt
 callee-made _ = tt
 
-called-made : (k : AstType) (l : Label) (fs : Fields) → MayBeMade (called_helper k l fs)
-called-made CallExpression l (one f then fs) = either-made (flag_at 0 l.flags) None (helper_of f) tt (callee-made f)
-called-made _ l fs = tt
+handed-made : (o : Option Helper) → MayBeMade o → MayBeMade (handed_on o)
+handed-made (Some ToPropertyKey) a = a
+handed-made _ a = tt
+
+passed-made : (fs : Fields) → MayBeMade (passed_helper fs)
+passed-made (many (t before empty) then fs) = handed-made (helper_of t) (callee-made t)
+passed-made _ = tt
+
+first-made : (g h : Option Helper) → MayBeMade g → MayBeMade h → MayBeMade (option_or g h)
+first-made None h a b = b
+first-made (Some g) h a b = a
+
+used-made : (k : AstType) (l : Label) (fs : Fields) → MayBeMade (used_helper k l fs)
+used-made CallExpression l (one f then fs) = either-made (flag_at 0 l.flags) None (option_or (helper_of f) (passed_helper fs)) tt (first-made (helper_of f) (passed_helper fs) (callee-made f) (passed-made fs))
+used-made _ l fs = tt
 
 own-made : (h : Option Helper) → MayBeMade h → AreMade (own_helper h)
 own-made None a = tt
@@ -137,7 +156,7 @@ both-made (g ∷ gs) hs a b = (a.0, both-made gs hs a.1 b)
 
 mutual
   all-made : (t : Tree) → AreMade (helpers_in t)
-  all-made (node k l fs) = both-made (helpers_in_fields fs) (own_helper (called_helper k l fs)) (all-made-in fs) (own-made (called_helper k l fs) (called-made k l fs))
+  all-made (node k l fs) = both-made (helpers_in_fields fs) (own_helper (used_helper k l fs)) (all-made-in fs) (own-made (used_helper k l fs) (used-made k l fs))
 
   all-made-in : (fs : Fields) → AreMade (helpers_in_fields fs)
   all-made-in done = tt

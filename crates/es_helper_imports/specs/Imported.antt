@@ -1,6 +1,6 @@
--- A PROGRAM THAT IMPORTS ITS HELPERS: each call of a helper of `babelHelpers` calls a fresh name of the program's, which it imports of the
--- helper's module, or requires where it is a script. `x = babelHelpers.objectSpread2({}, a);` becomes in a module
--- `import _objectSpread from "@oxc-project/runtime/helpers/objectSpread2"; x = _objectSpread({}, a);`.
+-- A PROGRAM THAT IMPORTS ITS HELPERS: each call of a helper of `babelHelpers` calls a fresh name of the program's, and what hands one on hands on
+-- such a name, which the program imports of the helper's module, or requires where it is a script. In a module
+-- `x = babelHelpers.objectSpread2({}, a);` becomes `import _objectSpread from "@oxc-project/runtime/helpers/objectSpread2"; x = _objectSpread({}, a);`.
 use Rattle.std.specs.Prelude.{◌≡◌, ℕ, suc, List, [], ◌∷◌, ◌++◌, Bool, Some, None, codes, map}
 use Rattle.es_tree.specs.Bare.{bare}
 use Rattle.es_tree.specs.Fresh.{IsFreshName, also, text_base}
@@ -23,7 +23,7 @@ abbrev pub imports_of : Text → List Helper → List Bound → List Import
 imports_of m (h ∷ hs) (b ∷ bs) = record { source = helper_source m h; local = b } ∷ imports_of m hs bs
 imports_of m hs bs = []
 
--- the program that calls these helpers by these names
+-- the program that uses these helpers by these names
 abbrev pub imported_as : Text → List Helper → List Bound → Tree → Tree
 imported_as m hs bs p = with_top (trees (map (top_of (is_module p)) (imports_of m hs bs))) (calling (λ h. identifier (bound_of hs bs h)) p)
 

@@ -45,6 +45,6 @@ LawImported = (m : Text) (p q : Tree) (names : List Text) → has_form s-Program
 abbrev pub LawNoConstructs : Type 0
 LawNoConstructs = (o : EnvOptions) (m : Text) (hs : List Helper) (bs : List Bound) (p : Tree) → has_enabled_construct o p ≡ false → has_enabled_construct o (imported_as m hs bs p) ≡ false
 
--- and at most thirty nodes more.
+-- and at most thirty-six nodes more.
 abbrev pub LawImportedSize : Type 0
-LawImportedSize = (in_use : Text → Bool) (m : Text) (p q : Tree) (names : List Text) → ImportsTo in_use m p q names → tree_size q ≤ tree_size p + 30
+LawImportedSize = (in_use : Text → Bool) (m : Text) (p q : Tree) (names : List Text) → ImportsTo in_use m p q names → tree_size q ≤ tree_size p + 36

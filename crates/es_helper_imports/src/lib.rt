@@ -15,7 +15,7 @@ pub fn law_no_constructs()
     ensures { LawNoConstructs }
 {}
 
-/// It has at most eighteen nodes more.
+/// It has at most thirty-six nodes more.
 pub fn law_imported_size()
     ensures { LawImportedSize }
 {}

@@ -1,9 +1,9 @@
--- Where calls of helpers become calls of names, what is declared stays: the frames of each node, the places in it, and how many scopes bind a symbol.
+-- Where helpers are called, or handed on, by names, what is declared stays: the frames of each node, the places in it, and how many scopes bind a symbol.
 use Rattle.std.proofs.Common.{◌≡◌, ◌+◌, ◌∙◌, ℕ, zero, suc, refl, sym, [], ◌++◌}
 use Rattle.std.specs.Prelude.{Bool, true, false, ◌&&◌, ◌||◌, map, if◌then◌else◌}
 use Rattle.std.specs.List.{list_any}
 use Rattle.es_tree.specs.Names.{is_name_place}
-use Rattle.es_tree.specs.Tree.{Tree, node, Label, Fields, done, ◌then◌, Field, one, Trees}
+use Rattle.es_tree.specs.Tree.{Tree, node, Label, Fields, done, ◌then◌, Field, one, many, Trees, empty, ◌before◌}
 use Rattle.es_tree.specs.Words.{Text}
 use Rattle.es_tree.specs.declared.ast_type.AstType.{AstType}
 use Rattle.es_tree.specs.declared.ast_type.AstType.TheVariants.{CallExpression, ClassDeclaration, ClassExpression, FunctionExpression, Identifier, MemberExpression}
@@ -16,13 +16,13 @@ use Rattle.es_resolution.specs.Declarations.{Bound, declared, declared_among, de
 use Rattle.es_resolution.specs.Resolved.{Place, bound_by, class_frame, first_declared, frame, name_frame, no_name, parameters_in, place_in, var_frame, with_symbol, within, within_vars}
 use Rattle.es_resolution.specs.Single.{binds, is_var_of, one_if, own_binds, scopes_among, scopes_by, scopes_in, scopes_with}
 use Rattle.es_steps.specs.Nodes.{identifier}
-use Rattle.es_helper_names.proofs.CalledTrees.{Calls, CallsAll, CallsBy, CallsIn, first-stays, member_of, roles-stay}
-use Rattle.es_helper_names.proofs.CalledTrees.Calls.{calls, stays}
+use Rattle.es_helper_names.proofs.CalledTrees.{Calls, CallsAll, CallsBy, CallsIn, first-stays, member_of, own-stays, roles-stay}
+use Rattle.es_helper_names.proofs.CalledTrees.Calls.{calls, passes, stays}
 use Rattle.es_helper_names.proofs.CalledTrees.CallsAll.{next, none}
 use Rattle.es_helper_names.proofs.CalledTrees.CallsBy.{at_many, at_none, at_one, at_statements}
 use Rattle.es_helper_names.proofs.CalledTrees.CallsIn.{ends, goes}
 
--- WHAT IS DECLARED: nothing by the member that was called, and nothing by the name
+-- WHAT IS DECLARED: nothing by the member that was called or handed on, and nothing by the name
 
 property-declares : (v b : Bool) (e : Label) → declared v (if b then reads else Nothing) (node Identifier e done) ≡ []
 property-declares v true e = refl
@@ -36,12 +36,19 @@ called-declares : (v b : Bool) (m d e : Label) (x : Bound) → (if b then declar
 called-declares v true m d e x = sym (member-declares v m d e)
 called-declares v false m d e x = refl
 
+passed-declares : (v b : Bool) (m d e : Label) (x : Bound) → (if b then declared v reads (identifier x) ++ [] else []) ≡ (if b then declared v reads (member_of m d e) ++ [] else [])
+passed-declares v true m d e x = λ i. sym (member-declares v m d e) i ++ []
+passed-declares v false m d e x = refl
+
 module _ (P : Bound → Type 0) where
   mutual
     pub declares-same : (v : Bool) (r : Role) {t u : Tree} → Calls P t u → declared v r u ≡ declared v r t
     declares-same v r (stays {k} {l} {fs} {gs} h) = (λ i. own_declared v r k l ++ declared_in v (reaches_out v k) (roles-stay r k l h i) gs) ∙ (λ i. own_declared v r k l ++ declares-same-in v (reaches_out v k) (role_at r k l fs) h i)
     declares-same v r (calls {l} {m} {d} {e} {fs} {gs} b p h) =
         (λ i. called-declares v (reaches_out v CallExpression zero) m d e b i ++ declares-same-in v (λ j. reaches_out v CallExpression (suc j)) (λ j. role_at r CallExpression l fs (suc j)) h i)
+    declares-same v r (passes {l} {m} {d} {e} {fs = fs} b p k h) =
+        (λ i. (if reaches_out v CallExpression zero then declares-same v (role_at r CallExpression l fs zero) k i else [])
+        ++ (passed-declares v (reaches_out v CallExpression 1) m d e b i ++ declares-same-in v (λ j. reaches_out v CallExpression (suc (suc j))) (λ j. role_at r CallExpression l fs (suc (suc j))) h i))
 
     pub declares-same-in : (v : Bool) (counts : ℕ → Bool) (roles : ℕ → Role) {fs gs : Fields} → CallsIn P fs gs → declared_in v counts roles gs ≡ declared_in v counts roles fs
     declares-same-in v counts roles ends = refl
@@ -72,6 +79,13 @@ call-alike P r l m d e b {fs} {gs} h = record {
   roles = refl;
   first = refl;
   inside = λ v counts i. called-declares v (counts zero) m d e b i ++ declares-same-in P v (λ j. counts (suc j)) (λ j. role_at r CallExpression l fs (suc j)) h i;
+}
+
+pub pass-alike : (P : Bound → Type 0) (r : Role) (l m d e : Label) (b : Bound) {f g : Tree} {fs gs : Fields} → Calls P f g → CallsIn P fs gs → FieldsAlike r CallExpression l (one f then (many (member_of m d e before empty) then fs)) (one g then (many (identifier b before empty) then gs))
+pass-alike P r l m d e b {fs = fs} k h = record {
+  roles = refl;
+  first = own-stays (role_at r CallExpression l fs zero) k;
+  inside = λ v counts i. (if counts zero then declares-same P v (role_at r CallExpression l fs zero) k i else []) ++ (passed-declares v (counts 1) m d e b i ++ declares-same-in P v (λ j. counts (suc (suc j))) (λ j. role_at r CallExpression l fs (suc (suc j))) h i);
 }
 
 module _ (k : AstType) (l : Label) (roles : ℕ → Role) (fs gs : Fields) (first : first_declared roles gs ≡ first_declared roles fs) (inside : (v : Bool) (counts : ℕ → Bool) → declared_in v counts roles gs ≡ declared_in v counts roles fs) where
@@ -147,6 +161,7 @@ module _ (P : Bound → Type 0) (s : ℕ) where
     pub scopes-same : (ps : Text → Bool) (r : Role) {t u : Tree} → Calls P t u → scopes_with s ps r u ≡ scopes_with s ps r t
     scopes-same ps r (stays {k} {l} {fs} {gs} h) = node-scopes s ps r k l fs gs (fields-alike P r k l h) (λ qs. scopes-same-in qs (role_at r k l fs) h)
     scopes-same ps r (calls {l} {m} {d} {e} {fs} {gs} b p h) = λ j. 0 + 0 + (0 + scopes-same-in no_name (λ i. role_at r CallExpression l fs (suc i)) h j)
+    scopes-same ps r (passes {l} {fs = fs} b p k h) = λ j. 0 + 0 + (scopes-same no_name (role_at r CallExpression l fs zero) k j + (0 + scopes-same-in no_name (λ i. role_at r CallExpression l fs (suc (suc i))) h j))
 
     scopes-same-in : (ps : Text → Bool) (roles : ℕ → Role) {fs gs : Fields} → CallsIn P fs gs → scopes_in s ps roles gs ≡ scopes_in s ps roles fs
     scopes-same-in ps roles ends = refl

@@ -1,7 +1,7 @@
--- Where calls of helpers become calls of names that are found from there and that nothing on the way binds, all names are found as before.
+-- Where helpers are called, or handed on, by names that are found from there and that nothing on the way binds, all names are found as before.
 use Rattle.std.proofs.Common.{◌≡◌, ◌∙◌, ℕ, zero, suc, refl, sym, subst}
 use Rattle.std.specs.Prelude.{Bool, true, false, ◌&&◌, Option, None, if◌then◌else◌}
-use Rattle.es_tree.specs.Tree.{Tree, Label, Fields, ◌then◌, Field, one, Trees}
+use Rattle.es_tree.specs.Tree.{Tree, Label, Fields, ◌then◌, Field, one, many, Trees, empty, ◌before◌}
 use Rattle.es_tree.specs.Words.{Text}
 use Rattle.es_tree.specs.declared.ast_type.AstType.{AstType}
 use Rattle.es_tree.specs.declared.ast_type.AstType.TheVariants.{CallExpression, ClassDeclaration, ClassExpression, FunctionExpression, Identifier}
@@ -16,9 +16,9 @@ use Rattle.es_resolution.proofs.Basics.{every, none-append, sought-symbols}
 use Rattle.es_steps.specs.Identifiers.{OwnPasses, Passes, PassesAll, PassesBy, PassesIn}
 use Rattle.es_steps.specs.Nodes.{identifier}
 use Rattle.es_steps.proofs.Names.{declared-free-in, first-free}
-use Rattle.es_helper_names.proofs.CalledFrames.{call-alike, class-alike, fields-alike, places-alike}
+use Rattle.es_helper_names.proofs.CalledFrames.{call-alike, class-alike, fields-alike, pass-alike, places-alike}
 use Rattle.es_helper_names.proofs.CalledTrees.{Calls, CallsAll, CallsBy, CallsIn, first-identifier, member_of, name-stays}
-use Rattle.es_helper_names.proofs.CalledTrees.Calls.{calls, stays}
+use Rattle.es_helper_names.proofs.CalledTrees.Calls.{calls, passes, stays}
 use Rattle.es_helper_names.proofs.CalledTrees.CallsAll.{next, none}
 use Rattle.es_helper_names.proofs.CalledTrees.CallsBy.{at_many, at_none, at_one, at_statements}
 use Rattle.es_helper_names.proofs.CalledTrees.CallsIn.{ends, goes}
@@ -94,6 +94,20 @@ module _ (P : Bound → Type 0) (u : Text → Bool) (n : ℕ) (free : (b : Bound
             resolved-same-in (λ i. role_at r CallExpression l fs (suc i)) (λ i. place_in p CallExpression l (role_at r CallExpression l fs) (one (member_of m d e) then fs) (suc i)) used.1.1 (λ i. find-inward p CallExpression l (role_at r CallExpression l fs) (one (member_of m d e) then fs) used.1 found (suc i)) h z.2.1,
           ),
         )
+    resolved-same r p used found (passes {l} {m} {d} {e} {f} {g} {fs} {gs} b k c h) z =
+        let a = pass-alike P r l m d e b c h in
+        let was : Fields = one f then (many (member_of m d e before empty) then fs) in
+        let inward = find-inward p CallExpression l (role_at r CallExpression l was) was used.1 found in (
+          z.0,
+          z.1,
+          subst (λ (q : ℕ → Place). ResolvedIn (role_at r CallExpression l (one g then (many (identifier b before empty) then gs))) q (one g then (many (identifier b before empty) then gs))) (sym (places-alike r CallExpression l was (one g then (many (identifier b before empty) then gs)) a p)) (
+            resolved-same (role_at r CallExpression l was 0) (place_in p CallExpression l (role_at r CallExpression l was) was 0) used.1.0 (inward 0) c z.2.0,
+            (
+              ((found b k, refl, tt), tt),
+              resolved-same-in (λ i. role_at r CallExpression l was (suc (suc i))) (λ i. place_in p CallExpression l (role_at r CallExpression l was) was (suc (suc i))) used.1.1.1 (λ i. inward (suc (suc i))) h z.2.1.1,
+            ),
+          ),
+        )
 
     pub resolved-same-in : (roles : ℕ → Role) (places : ℕ → Place) {fs gs : Fields} → NamedIn u n roles fs → ((i : ℕ) → FindEach P (places i)) → CallsIn P fs gs → ResolvedIn roles places fs → ResolvedIn roles places gs
     resolved-same-in roles places used found ends d = tt
@@ -122,6 +136,7 @@ module _ (P : Bound → Type 0) (q : Text → Option ℕ → Bool) (new : (b : B
     pub passes-same : {t u : Tree} → Calls P t u → Passes q t → Passes q u
     passes-same (stays {k} {l} h) e = (own-passes k l h e.0, passes-same-in h e.1)
     passes-same (calls b k h) e = (e.0, ((new b k, tt), passes-same-in h e.1.1))
+    passes-same (passes b k c h) e = (e.0, (passes-same c e.1.0, (((new b k, tt), tt), passes-same-in h e.1.1.1)))
 
     passes-same-in : {fs gs : Fields} → CallsIn P fs gs → PassesIn q fs → PassesIn q gs
     passes-same-in ends e = tt
@@ -150,6 +165,7 @@ module _ (P : Bound → Type 0) (called : ℕ → Text) (new : (b : Bound) → P
     pub called-same : {t u : Tree} → Calls P t u → Called called t → Called called u
     called-same (stays {k} {l} h) e = (own-called k l h e.0, called-same-in h e.1)
     called-same (calls b k h) e = (e.0, ((new b k, tt), called-same-in h e.1.1))
+    called-same (passes b k c h) e = (e.0, (called-same c e.1.0, (((new b k, tt), tt), called-same-in h e.1.1.1)))
 
     called-same-in : {fs gs : Fields} → CallsIn P fs gs → CalledIn called fs → CalledIn called gs
     called-same-in ends e = tt

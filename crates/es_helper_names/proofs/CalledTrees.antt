@@ -1,4 +1,4 @@
--- Trees in which calls of helpers become calls of names: what stays of each node.
+-- Trees in which calls of helpers become calls of names, and helpers that are handed on become names: what stays of each node.
 use Rattle.std.proofs.Common.{◌≡◌, ℕ, zero, suc, refl}
 use Rattle.std.specs.Prelude.{is_some}
 use Rattle.es_tree.specs.Children.{child_at}
@@ -18,11 +18,12 @@ use Rattle.es_steps.specs.Nodes.{identifier}
 abbrev pub member_of : Label → Label → Label → Tree
 member_of m d e = node MemberExpression m (one (node Identifier d done) then (one (node Identifier e done) then done))
 
--- a tree, and the same where some calls of such members are of these names
+-- a tree, and the same where some calls of such members are of these names, or hand on these names alone
 mutual
   pub data Calls (P : Bound → Type 0) : Tree → Tree → Type 0 where
     stays : {k : AstType} {l : Label} {fs gs : Fields} → CallsIn P fs gs → Calls P (node k l fs) (node k l gs)
     calls : {l m d e : Label} {fs gs : Fields} (b : Bound) → P b → CallsIn P fs gs → Calls P (node CallExpression l (one (member_of m d e) then fs)) (node CallExpression l (one (identifier b) then gs))
+    passes : {l m d e : Label} {f g : Tree} {fs gs : Fields} (b : Bound) → P b → Calls P f g → CallsIn P fs gs → Calls P (node CallExpression l (one f then (many (member_of m d e before empty) then fs))) (node CallExpression l (one g then (many (identifier b before empty) then gs)))
 
   pub data CallsIn (P : Bound → Type 0) : Fields → Fields → Type 0 where
     ends : CallsIn P done done
@@ -63,6 +64,7 @@ module _ (P : Bound → Type 0) where
 pub own-stays : {P : Bound → Type 0} {t u : Tree} (r : Role) → Calls P t u → own_of r u ≡ own_of r t
 own-stays r (stays h) = refl
 own-stays r (calls b p h) = refl
+own-stays r (passes b p k h) = refl
 
 pub first-stays : {P : Bound → Type 0} {fs gs : Fields} (roles : ℕ → Role) → CallsIn P fs gs → first_declared roles gs ≡ first_declared roles fs
 first-stays roles ends = refl
@@ -76,6 +78,7 @@ name-stays ends = refl
 name-stays (goes at_none h) = refl
 name-stays (goes (at_one (stays k)) h) = refl
 name-stays (goes (at_one (calls b p k)) h) = refl
+name-stays (goes (at_one (passes b p c k)) h) = refl
 name-stays (goes (at_many k) h) = refl
 name-stays (goes (at_statements k) h) = refl
 
@@ -83,6 +86,7 @@ identifier-stays : {P : Bound → Type 0} {t u : Tree} → Calls P t u → IsIde
 identifier-stays (stays {k = Identifier} h) e = tt
 identifier-stays (stays {k = k} h) e = absurd e
 identifier-stays (calls b p h) e = absurd e
+identifier-stays (passes b p k h) e = absurd e
 
 pub first-identifier : {P : Bound → Type 0} {fs gs : Fields} → CallsIn P fs gs → HasIdentifier fs → HasIdentifier gs
 first-identifier ends e = tt

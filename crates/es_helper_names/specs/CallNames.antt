@@ -1,4 +1,4 @@
--- Helpers that are called by names which a program declares at its top: names keep their bindings.
+-- Helpers that are called, or handed on, by names which a program declares at its top: names keep their bindings.
 use Rattle.std.specs.Prelude.{◌≡◌, ◌≤◌, ℕ, List, [], ◌∷◌, Some, true, false}
 use Rattle.es_tree.specs.HasForm.{has_form}
 use Rattle.es_tree.specs.Tree.{Tree, Trees}
@@ -26,14 +26,14 @@ abbrev pub AreTopNames : Whole → Whole → Tree → (Helper → Bound) → Lis
 AreTopNames w w' t c [] = Unit {0}
 AreTopNames w w' t c (h ∷ hs) = IsTopName w w' t (c h) × AreTopNames w w' t c hs
 
--- What is known then of q, which calls helpers by such names as t declares them at its top beside p: the names of q are those of p, with the symbols
+-- What is known then of q, which uses helpers by such names as t declares them at its top beside p: the names of q are those of p, with the symbols
 -- that they had there, and new ones, and each is bound; and from its list names find what they find from that of t.
 pub record KeepsNames (p t q : Tree) (w w' : Whole) : Type 0 where
   pub bindings : Bindings p q w w'
   pub place : list_place q ≡ list_place t
 
--- So it is of a program with its names bound that gets these statements at its top, which call no helper, where the names that they declare are
--- bound then, and each helper that it calls is called by one of these names.
+-- So it is of a program with its names bound that gets these statements at its top, which use no helper, where the names that they declare are
+-- bound then, and each helper that it uses has one of these names.
 abbrev pub LawCallNames : Type 0
 LawCallNames = (p : Tree) (w w' : Whole) (news : Trees) (c : Helper → Bound) → has_form s-Program p ≡ true → IsWellBound w p → IsWellBound w' (with_top news p) → Bindings p (with_top news p) w w' → helpers_among news ≡ [] →
     AreTopNames w w' (with_top news p) c (helpers_in p) → KeepsNames p (with_top news p) (calling (λ h. identifier (c h)) (with_top news p)) w w'

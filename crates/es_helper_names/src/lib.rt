@@ -1,5 +1,5 @@
-//! Helpers that are called by names which a program declares at its top: names keep their bindings. The function does nothing: its contract is a
-//! law over the definitions.
+//! Helpers that are called, or handed on, by names which a program declares at its top: names keep their bindings. The function does nothing: its
+//! contract is a law over the definitions.
 #![tactic(auto)]
 
 ghost use Rattle.es_helper_names.specs.CallNames.{LawCallNames};

@@ -7,7 +7,7 @@ use Rattle.es_tree.specs.Tree.{Tree, fields_of, kind_of, label_of, node, trees}
 use Rattle.es_tree.specs.Views.{plain_field, plain_fields}
 use Rattle.es_tree.specs.declared.helper.Helper.{Helper}
 use Rattle.es_tree.specs.declared.node.Field.{Field as NodeField}
-use Rattle.es_helper_calls.specs.HelperCalls.{called_helper, helpers_among, helpers_in, helpers_in_field, helpers_in_fields, is_helper, noted, own_helper}
+use Rattle.es_helper_calls.specs.HelperCalls.{used_helper, helpers_among, helpers_in, helpers_in_field, helpers_in_fields, is_helper, noted, own_helper}
 
 -- those of two lists one after the other
 pub noted-joined : (known hs gs : List Helper) → noted known (hs ++ gs) ≡ noted (noted known hs) gs
@@ -35,6 +35,6 @@ fields-more first now next xs i x l is before here =
     ∙ ap (noted first) (sym (fields-joined (take i xs) x) ∙ ap (λ fs. helpers_in_fields (plain_fields fs)) (ap (λ y. take i xs ++ y ∷ []) is ∙ sym (take_more xs i x l)))
 
 -- what a node calls is noted behind what is called in its fields
-pub noted-node : (first now next : List Helper) (h : Helper) (t : Tree) → now ≡ noted first (helpers_in_fields (fields_of t)) → called_helper (kind_of t) (label_of t) (fields_of t) ≡ Some h → next ≡ noted now (h ∷ []) → next ≡ noted first (helpers_in t)
+pub noted-node : (first now next : List Helper) (h : Helper) (t : Tree) → now ≡ noted first (helpers_in_fields (fields_of t)) → used_helper (kind_of t) (label_of t) (fields_of t) ≡ Some h → next ≡ noted now (h ∷ []) → next ≡ noted first (helpers_in t)
 noted-node first now next h (node k l fs) inside calls here =
     here ∙ ap (λ ks. noted ks (h ∷ [])) inside ∙ sym (noted-joined first (helpers_in_fields fs) (h ∷ [])) ∙ ap (λ o. noted first (helpers_in_fields fs ++ own_helper o)) (sym calls)

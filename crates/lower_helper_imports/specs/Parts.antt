@@ -1,8 +1,8 @@
 -- What is made, as the program is read: with the id 0 and at no place, and with no marks of scope tables.
-use Rattle.std.specs.Prelude.{ℕ, suc, List, [], ◌∷◌, Bool, false, Option, Some, None, String, codes, map, string_bytes, if◌then◌else◌}
+use Rattle.std.specs.Prelude.{ℕ, suc, List, [], ◌∷◌, Bool, true, false, Option, Some, None, String, codes, map, string_bytes, if◌then◌else◌}
 use Rattle.std.specs.declared.alloc.Global.{Global}
 use Rattle.es_tree.specs.Names.{first_text}
-use Rattle.es_tree.specs.Tree.{Tree, node, done, ◌then◌, one, many, empty, ◌before◌, trees}
+use Rattle.es_tree.specs.Tree.{Tree, node, Fields, done, ◌then◌, one, many, empty, ◌before◌, trees}
 use Rattle.es_tree.specs.Words.{Text}
 use Rattle.es_tree.specs.declared.ast_type.AstType.TheVariants.{CallExpression, Identifier, ImportDeclaration, ImportDefaultSpecifier, StringLiteral, VariableDeclaration, VariableDeclarator}
 use Rattle.es_tree.specs.declared.helper.Helper.{Helper}
@@ -21,6 +21,11 @@ name_node x = name_with 0 x
 abbrev pub property_helper : Tree → Tree → Option Helper
 property_helper o (node Identifier l fs) = if is_called (codes "babelHelpers") o then named_helper (first_text l.texts) else None
 property_helper o t = None
+
+-- whether the second field is a list
+abbrev pub has_arguments : Fields → Bool
+has_arguments (f then (many ts then fs)) = true
+has_arguments fs = false
 
 -- what a helper is called by, where these helpers have these names
 abbrev pub callee_of : List Helper → List (String Global) → Helper → Tree

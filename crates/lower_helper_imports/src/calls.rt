@@ -1,9 +1,10 @@
-//! Calls of helpers: `babelHelpers.objectSpread2({}, a)` becomes `_objectSpread({}, a)` (ECMA-262, 13.3.6).
+//! Uses of helpers: `babelHelpers.objectSpread2({}, a)` becomes `_objectSpread({}, a)` (ECMA-262, 13.3.6), and a helper that is handed on becomes a
+//! name, too, as `[k].map(babelHelpers.toPropertyKey)` becomes `[k].map(_toPropertyKey)`.
 ghost use Rattle.std.specs.Prelude.{◌≡◌, ◌∷◌, [], IfOk, OnOk};
 ghost use Rattle.es_tree.specs.Tree.{fields_of, kind_of, label_of, trees};
 ghost use Rattle.es_tree.specs.Views.{plain_field, plain_fields};
-ghost use Rattle.es_helper_calls.specs.HelperCalls.{called_helper, calling, calling_among, calling_by, calling_in, helper_of, helpers_called, helpers_in, helpers_in_field, is_called, named_helper, noted};
-ghost use Rattle.lower_helper_imports.specs.Parts.{callee_of, property_helper};
+ghost use Rattle.es_helper_calls.specs.HelperCalls.{calling, calling_among, calling_by, calling_in, calls_one, handed_on, helper_of, helpers_called, helpers_in, helpers_in_field, in_its_place, is_called, lone_helper, named_helper, noted, passed_helper, used_helper};
+ghost use Rattle.lower_helper_imports.specs.Parts.{callee_of, has_arguments, property_helper};
 
 use crate::names::name_of;
 use es_tree::helper::Helper;
@@ -16,16 +17,17 @@ use std::alloc::{AllocError, Global};
 /// The id of made nodes.
 pub(crate) const ID: NodeId = NodeId(0);
 
-/// The helpers that the built lowerings call.
-static MADE_HELPERS: [Helper; 5] = [
+/// The helpers that the built lowerings call, or hand on.
+static MADE_HELPERS: [Helper; 6] = [
     Helper::ObjectSpread2,
     Helper::Extends,
     Helper::ObjectDestructuringEmpty,
     Helper::ObjectWithoutProperties,
+    Helper::ToPropertyKey,
     Helper::UsingCtx,
 ];
 
-/// The helpers that a program calls, each once, in the order of their first calls, those in a call's arguments before its own. Fails only for
+/// The helpers that a program uses, each once, in the order of their first uses, those in a call's arguments before its own. Fails only for
 /// want of memory.
 pub(crate) fn helpers_called(alloc: Global, program: &Node) -> Result<Vec<Helper>, AllocError>
     ensures { IfOk result (λ helpers. helpers.items ≡ helpers_called program.now) }
@@ -35,7 +37,7 @@ pub(crate) fn helpers_called(alloc: Global, program: &Node) -> Result<Vec<Helper
     Ok(known)
 }
 
-/// Adds the helpers that are called in a tree and aren't known yet.
+/// Adds the helpers that are used in a tree and aren't known yet.
 #[cycle(note)]
 fn note_in(node: &Node, known: &mut Vec<Helper>) -> Result<(), AllocError>
     ensures { OnOk result (known.new.items ≡ noted known.old.items (helpers_in node.now)) }
@@ -43,7 +45,7 @@ fn note_in(node: &Node, known: &mut Vec<Helper>) -> Result<(), AllocError>
     for field in &node.fields {
         note_in_field(field, known)?;
     }
-    if let Some(helper) = called_helper(node) {
+    if let Some(helper) = used_helper(node) {
         note(helper, known)?;
     }
     Ok(())
@@ -76,12 +78,44 @@ fn note(helper: Helper, known: &mut Vec<Helper>) -> Result<(), AllocError>
     Ok(())
 }
 
-/// The helper that a node calls, if it calls one.
-pub(crate) fn called_helper(node: &Node) -> Option<Helper>
-    ensures { result ≡ called_helper (kind_of node.now) (label_of node.now) (fields_of node.now) }
+/// The helper that a node calls, or hands on, if there is one.
+pub(crate) fn used_helper(node: &Node) -> Option<Helper>
+    ensures { result ≡ used_helper (kind_of node.now) (label_of node.now) (fields_of node.now) }
 {
     match (&node.kind, node.fields.as_slice()) {
-        (Kind::CallExpression { optional: false }, [Field::One(callee), ..]) => helper_of(callee),
+        (Kind::CallExpression { optional: false }, [Field::One(callee), arguments @ ..]) => {
+            helper_of(callee).or(passed_helper(arguments))
+        }
+        _ => None,
+    }
+}
+
+/// The helper that is the one argument, behind a callee, if it is one that is handed on.
+fn passed_helper(arguments: &[Field]) -> Option<Helper>
+    ensures { result ≡ passed_helper (plain_fields arguments.now) }
+{
+    match arguments {
+        [Field::Many(nodes), ..] => lone_helper(nodes.as_slice()),
+        _ => None,
+    }
+}
+
+/// The helper that is handed on, if it is alone.
+fn lone_helper(arguments: &[Node]) -> Option<Helper>
+    ensures { result ≡ lone_helper (trees arguments.now) }
+{
+    match arguments {
+        [argument] => handed_on(helper_of(argument)),
+        _ => None,
+    }
+}
+
+/// This helper, if it is one that is handed on: the one that makes a key of a value (7.1.19).
+fn handed_on(helper: Option<Helper>) -> Option<Helper>
+    ensures { result ≡ handed_on helper }
+{
+    match helper {
+        Some(Helper::ToPropertyKey) => helper,
         _ => None,
     }
 }
@@ -134,7 +168,7 @@ fn named_helper(name: &str) -> Option<Helper>
         .find(|helper| helper.name() == name)
 }
 
-/// Calls each of these helpers in a tree by its name.
+/// Calls each of these helpers in a tree by its name, and hands it on by it.
 #[cycle(call)]
 pub(crate) fn call_by_names(
     node: &mut Node,
@@ -144,12 +178,42 @@ pub(crate) fn call_by_names(
 ) -> Result<(), AllocError>
     ensures { OnOk result (node.new ≡ calling (callee_of helpers.now names.now) node.old) }
 {
-    let helper = called_helper(node);
+    let helper = used_helper(node);
     call_in_fields(&mut node.fields, helpers, names, alloc)?;
     if let Some(helper) = helper {
-        node.fields[0] = Field::One(new_name(ID, name_of(helper, helpers, names), alloc)?);
+        let name = new_name(ID, name_of(helper, helpers, names), alloc)?;
+        put_in_place(&mut node.fields, name, alloc)?;
     }
     Ok(())
+}
+
+/// Puts a name where the helper stood: as the callee, where one is called, or else as the one argument.
+fn put_in_place(fields: &mut Vec<Field>, name: Node, alloc: Global) -> Result<(), AllocError>
+    ensures { OnOk result (plain_fields fields.new.items ≡ in_its_place name (plain_fields fields.old.items)) }
+{
+    if calls_one(fields) {
+        fields[0] = Field::One(name);
+    } else if has_arguments(fields) {
+        fields[1] = Field::Many(Vec::from_array(alloc, [name])?);
+    }
+    Ok(())
+}
+
+/// Whether a helper is what is called.
+fn calls_one(fields: &[Field]) -> bool
+    ensures { result ≡ calls_one (plain_fields fields.now) }
+{
+    match fields {
+        [Field::One(callee), ..] => helper_of(callee).is_some(),
+        _ => false,
+    }
+}
+
+/// Whether the second field is a list, as a call's arguments are.
+fn has_arguments(fields: &[Field]) -> bool
+    ensures { result ≡ has_arguments (plain_fields fields.now) }
+{
+    matches!(fields, [_, Field::Many(..), ..])
 }
 
 /// Calls them so in fields.

@@ -11,7 +11,7 @@ ghost use Rattle.es_semantic.specs.TableOf.{IsTableOf};
 ghost use Rattle.es_helper_calls.specs.Importing.{binds_require, imports_helpers, is_module, needs_helper, own_call, unimported};
 ghost use Rattle.lower_helper_imports.specs.HelperImports.{Tells, first_asking, number_of, sought_test};
 
-use crate::calls::called_helper;
+use crate::calls::used_helper;
 use es_nodes::construct::is_object_spread;
 use es_rest_nodes::strays::is_rest_declaration;
 use es_scope::scoping::Scoping;
@@ -27,7 +27,7 @@ pub struct HelperImports {
     is_module: bool,
     /// The first node that asks for a helper.
     asking: Option<NodeId>,
-    /// The first call of a helper that the source itself makes.
+    /// The first use of a helper that the source itself makes.
     calling: Option<NodeId>,
 }
 
@@ -36,12 +36,12 @@ pub struct HelperImports {
 struct Sought {
     /// Nodes for which a helper copies.
     copies: bool,
-    /// Calls of helpers.
+    /// Uses of helpers.
     calls: bool,
 }
 
 impl HelperImports {
-    /// What a program under these options tells, where `using` was lowered (`made`), or wasn't, whose source makes this call itself.
+    /// What a program under these options tells, where `using` was lowered (`made`), or wasn't, whose source makes this use itself.
     pub fn of_program(
         program: &Node,
         options: &EnvOptions,
@@ -90,7 +90,7 @@ impl HelperImports {
     }
 }
 
-/// The first call of a helper that a source itself makes, where helpers are imported.
+/// The first use of a helper that a source itself makes, where helpers are imported.
 pub fn own_call(source: &Node, options: &EnvOptions) -> Option<NodeId>
     ensures { option_map number_of result ≡ own_call options.now source.now }
 {
@@ -104,7 +104,7 @@ pub fn own_call(source: &Node, options: &EnvOptions) -> Option<NodeId>
     first_node(source, sought)
 }
 
-/// The first node that asks for a helper, where helpers are imported: one for which a helper copies, or a call of a helper, where `using` was
+/// The first node that asks for a helper, where helpers are imported: one for which a helper copies, or a use of a helper, where `using` was
 /// lowered.
 fn first_asking(program: &Node, options: &EnvOptions, made: bool) -> Option<NodeId>
     ensures { option_map number_of result ≡ first_asking options.now made program.now }
@@ -173,7 +173,7 @@ fn first_in_field(field: &Field, sought: Sought) -> Option<NodeId>
 fn is_sought(node: &Node, sought: Sought) -> bool
     ensures { result ≡ sought_test sought (kind_of node.now) (label_of node.now) (fields_of node.now) }
 {
-    (sought.copies && needs_helper(node)) || (sought.calls && called_helper(node).is_some())
+    (sought.copies && needs_helper(node)) || (sought.calls && used_helper(node).is_some())
 }
 
 /// Whether a helper copies for the node, where it is lowered.

@@ -1,5 +1,6 @@
 //! Helpers that are imported. The lowerings call a helper as a property of `babelHelpers`; where helpers come from a module, each such call
-//! becomes one of a fresh name, which the program imports at its top, behind the imports that it has. A script requires it.
+//! becomes one of a fresh name, which the program imports at its top, behind the imports that it has. A script requires it. A helper that is handed on
+//! to a call becomes such a name, too.
 //!
 //! Before:
 //!
