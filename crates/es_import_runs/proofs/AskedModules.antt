@@ -1,18 +1,17 @@
 -- A module that asks for none of the helpers' modules has no name that stands for a helper that it imports; and ids and marks say nothing of such names.
-use Rattle.std.proofs.Common.{◌≡◌, ℕ, zero, suc, refl, List, [], ◌∷◌, ◌++◌}
+use Rattle.std.proofs.Common.{◌≡◌, refl, List, [], ◌∷◌, ◌++◌, sym, ap, ◌∙◌}
 use Rattle.std.proofs.lemmas.Bool.{and_from, and_parts}
 use Rattle.std.specs.List.{list_all}
-use Rattle.std.specs.Prelude.{◌&&◌, ◌||◌, Bool, true, false, not, Option, Some, None, bytes_eq, codes, is_some, if◌then◌else◌}
-use Rattle.es_tree.specs.Bare.{bare, bare_trees}
-use Rattle.es_tree.specs.Fresh.{is_among}
+use Rattle.std.specs.Prelude.{◌&&◌, Bool, true, false, not, Option, Some, None, is_some}
+use Rattle.es_tree.specs.Bare.{bare, bare_trees, bare_fields, bare_label}
 use Rattle.es_tree.specs.HasForm.{has_form, trees_form}
-use Rattle.es_tree.specs.Names.{first_text, is_name_place, is_reexport, names_if, names_in_field, names_in_fields, names_in_trees, names_of, own_name}
+use Rattle.es_tree.specs.Names.{first_text}
 use Rattle.es_tree.specs.Scopes.{own_text}
-use Rattle.es_tree.specs.Tree.{Tree, node, Label, Fields, done, ◌then◌, Field, missing, one, many, statements, Trees, empty, ◌before◌}
-use Rattle.es_tree.specs.Walks.{all_in_field, all_in_fields, all_in_trees, all_nodes}
+use Rattle.es_tree.specs.Tree.{Tree, node, Label, Fields, done, ◌then◌, missing, one, many, statements, Trees, empty, ◌before◌}
+use Rattle.es_tree.specs.Walks.{all_in_fields, all_nodes}
 use Rattle.es_tree.specs.Words.{Text}
 use Rattle.es_tree.specs.declared.ast_type.AstType.{AstType}
-use Rattle.es_tree.specs.declared.ast_type.AstType.TheVariants.{Identifier, ImportDeclaration, ImportDefaultSpecifier, StringLiteral}
+use Rattle.es_tree.specs.declared.ast_type.AstType.TheVariants.{Identifier, ImportDeclaration, ImportDefaultSpecifier, StringLiteral, ChainExpression, MemberExpression, ParenthesizedExpression, VariableDeclarator}
 use Rattle.es_tree.specs.declared.table.Sort.{Sort}
 use Rattle.es_tree.specs.declared.table.Sort.TheVariants.{ImportItem as s-ImportItem, Program as s-Program, StringLiteral as s-StringLiteral}
 use Rattle.es_tree.proofs.NodeForm.{NodeForm, node_form}
@@ -20,7 +19,8 @@ use Rattle.es_resolution.proofs.AllForms.{All, AllAmong, all-tree}
 use Rattle.es_module_names.specs.Modules.{request, texts_among}
 use Rattle.es_runs.specs.Runs.{program}
 use Rattle.es_statement_runs.specs.Helpers.{helper_in, imported_helper, imported_helpers, named_helper}
-use Rattle.es_statement_runs.specs.Programs.{names_other}
+use Rattle.es_statement_runs.specs.HelperMembers.{first_is_helpers, is_helpers_object, no_helper_member}
+use Rattle.es_statement_steps.proofs.BareTests.{fields-bare}
 use Rattle.es_import_runs.specs.Laws.{asks_no_helper}
 
 -- AN IMPORT has a text for its source
@@ -80,53 +80,28 @@ module _ (m : Text) where
   imports_bare empty = refl
   imports_bare (t before ts) = λ i. import_bare t i ++ imports_bare ts i
 
--- NO NAME IN USE is `babelHelpers` where no identifier is
-
-among_both : (xs ys : List Text) (z : Text) → is_among xs z ≡ false → is_among ys z ≡ false → is_among (xs ++ ys) z ≡ false
-among_both [] ys z h g = g
-among_both (x ∷ xs) ys z h g = at (bytes_eq x z) h (λ k. among_both xs ys z k g)
-  where
-    at : (b : Bool) → (b || is_among xs z) ≡ false → (is_among xs z ≡ false → is_among (xs ++ ys) z ≡ false) → (b || is_among (xs ++ ys) z) ≡ false
-    at true h k = absurd (cc h)
-    at false h k = k h
-
-abbrev helpers_name : Text
-helpers_name = codes "babelHelpers"
-
-chosen : (b : Bool) (xs : List Text) → is_among xs helpers_name ≡ false → is_among (if b then [] else xs) helpers_name ≡ false
-chosen true xs h = refl
-chosen false xs h = h
-
-not_named : (counts : Bool) (k : AstType) (l : Label) (fs : Fields) → names_other k l fs ≡ true → is_among (own_name counts k l) helpers_name ≡ false
-not_named true Identifier l fs h = at (bytes_eq (first_text l.texts) helpers_name) h
-  where
-    at : (b : Bool) → not b ≡ true → (b || false) ≡ false
-    at true h = absurd (cc h)
-    at false h = refl
-not_named false Identifier l fs h = refl
-not_named counts _ l fs h = refl
-
+-- nor of members of `babelHelpers`
 mutual
-  unnamed : (counts : Bool) (t : Tree) → all_nodes names_other t ≡ true → is_among (names_if counts t) helpers_name ≡ false
-  unnamed counts (node k l fs) h =
-      let d = and_parts (names_other k l fs) (all_in_fields names_other fs) h in
-      among_both (own_name counts k l) (if is_reexport k fs then [] else names_in_fields (is_name_place k l) fs) helpers_name (not_named counts k l fs d.0) (chosen (is_reexport k fs) (names_in_fields (is_name_place k l) fs) (unnamed_in (is_name_place k l) fs d.1))
+  object_bare : (t : Tree) → is_helpers_object (bare t) ≡ is_helpers_object t
+  object_bare (node Identifier l fs) = refl
+  object_bare (node ParenthesizedExpression l fs) = first_bare fs
+  object_bare (node ChainExpression l fs) = first_bare fs
+  object_bare (node VariableDeclarator l fs) = first_bare fs
+  object_bare (node _ l fs) = refl
 
-  unnamed_in : (counts : ℕ → Bool) (fs : Fields) → all_in_fields names_other fs ≡ true → is_among (names_in_fields counts fs) helpers_name ≡ false
-  unnamed_in counts done h = refl
-  unnamed_in counts (f then fs) h =
-      let d = and_parts (all_in_field names_other f) (all_in_fields names_other fs) h in
-      among_both (names_in_field (counts zero) f) (names_in_fields (λ n. counts (suc n)) fs) helpers_name (unnamed_by (counts zero) f d.0) (unnamed_in (λ n. counts (suc n)) fs d.1)
+  first_bare : (fs : Fields) → first_is_helpers (bare_fields fs) ≡ first_is_helpers fs
+  first_bare done = refl
+  first_bare (missing then fs) = refl
+  first_bare (one t then fs) = object_bare t
+  first_bare (many ts then fs) = refl
+  first_bare (statements ts then fs) = refl
 
-  unnamed_by : (counts : Bool) (f : Field) → all_in_field names_other f ≡ true → is_among (names_in_field counts f) helpers_name ≡ false
-  unnamed_by counts missing h = refl
-  unnamed_by counts (one t) h = unnamed counts t h
-  unnamed_by counts (many ts) h = unnamed_among ts h
-  unnamed_by counts (statements ts) h = unnamed_among ts h
+member_bare : (k : AstType) (l : Label) (fs : Fields) → no_helper_member k (bare_label l) (bare_fields fs) ≡ no_helper_member k l fs
+member_bare MemberExpression l fs = ap not (first_bare fs)
+member_bare _ l fs = refl
 
-  unnamed_among : (ts : Trees) → all_in_trees names_other ts ≡ true → is_among (names_in_trees ts) helpers_name ≡ false
-  unnamed_among empty h = refl
-  unnamed_among (t before ts) h = let d = and_parts (all_nodes names_other t) (all_in_trees names_other ts) h in among_both (names_if true t) (names_in_trees ts) helpers_name (unnamed true t d.0) (unnamed_among ts d.1)
-
-pub names_none : (t : Tree) → all_nodes names_other t ≡ true → is_among (names_of t) (codes "babelHelpers") ≡ false
-names_none t h = unnamed true t h
+pub same_members : (t u : Tree) → bare t ≡ bare u → all_nodes no_helper_member t ≡ true → all_nodes no_helper_member u ≡ true
+same_members t u e h =
+    let both : all_in_fields no_helper_member (one u then done) ≡ all_in_fields no_helper_member (one t then done) =
+    sym (fields-bare no_helper_member member_bare (one u then done)) ∙ ap (λ (z : Tree). all_nodes no_helper_member z && true) (sym e) ∙ fields-bare no_helper_member member_bare (one t then done) in
+    (and_parts (all_nodes no_helper_member u) true (both ∙ and_from (all_nodes no_helper_member t) true h refl)).0

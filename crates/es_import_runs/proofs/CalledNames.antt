@@ -1,7 +1,7 @@
--- What scopes declare where helpers are called by other expressions: the same as before, since no call is a name or a pattern.
+-- What scopes declare where helpers are called, or handed on, by other expressions: the same as before, since no call is a name or a pattern.
 use Rattle.std.proofs.Common.{◌≡◌, refl, sym, ap, ◌∙◌, List, [], ◌∷◌, ◌++◌}
 use Rattle.std.proofs.lemmas.Bool.{and_parts}
-use Rattle.std.specs.Prelude.{◌||◌, Option, Some, None, Bool, true, false, not, codes}
+use Rattle.std.specs.Prelude.{◌||◌, Option, Some, None, Bool, true, false, not, codes, if◌then◌else◌}
 use Rattle.es_tree.specs.BoundNames.{bound_identifiers, bound_in_field, bound_in_fields, bound_in_first, bound_in_second, bound_in_trees}
 use Rattle.es_tree.specs.HasForm.{has_form, is_of_sort, same_type, trees_form}
 use Rattle.es_tree.specs.Names.{first_text}
@@ -17,10 +17,10 @@ use Rattle.es_tree.proofs.NodeForm.{NodeForm, node_form}
 use Rattle.es_resolution.proofs.AllForms.{All, AllAmong, AllBy, AllIn, all-tree}
 use Rattle.es_statement_runs.specs.Kinds.{label_in}
 use Rattle.es_statement_runs.specs.Names.{binding_word, cases_names, cases_use, declarations_names, declarator_bound, declarators_names, declared_as, first_bound, import_names, is_word, last_name, lexical_in, lexical_names, names_where, own_names, own_use, top_in, top_names, using_here, using_in, var_names, var_names_all, var_names_at, var_names_in}
-use Rattle.es_helper_calls.proofs.Callees.{IsCall, IsCallee, call-shape}
-use Rattle.es_helper_calls.proofs.Callees.IsCall.{a_call}
+use Rattle.es_helper_calls.proofs.Callees.{IsCallee, IsUse, callee-shape, handed-some, here-called, here-passed, use-shape}
+use Rattle.es_helper_calls.proofs.Callees.IsUse.{a_call, a_pass}
 use Rattle.es_helper_calls.proofs.Callees.IsCallee.{a_member}
-use Rattle.es_helper_calls.specs.HelperCalls.{called_helper, calling, calling_among, calling_by, calling_here, calling_in}
+use Rattle.es_helper_calls.specs.HelperCalls.{calling, calling_among, calling_by, calling_here, calling_in, calls_one, helper_of, used_helper, with_argument, with_callee}
 
 as_append : (word : Text) (a b : List Tree) → declared_as word (a ++ b) ≡ declared_as word a ++ declared_as word b
 as_append word [] b = refl
@@ -152,25 +152,35 @@ module _ (c : Helper → Tree) (bare : (h : Helper) → var_names (c h) ≡ []) 
 
   case_here : (o : Option Helper) (k : AstType) (l : Label) (f : Field) (fs : Fields) (cs : Trees) → cases_names (node k l (calling_here c o (f then fs)) before cs) ≡ cases_names (node k l (f then fs) before cs)
   case_here None k l f fs cs = refl
-  case_here (Some h) k l (one t) (statements ts then fs) cs = refl
-  case_here (Some h) k l (one t) _ cs = refl
-  case_here (Some h) k l _ fs cs = refl
+  case_here (Some h) k l f fs cs = at (calls_one (f then fs)) f fs
+    where
+      at : (b : Bool) (f : Field) (fs : Fields) → cases_names (node k l (if b then with_callee (c h) (f then fs) else with_argument (c h) (f then fs)) before cs) ≡ cases_names (node k l (f then fs) before cs)
+      at true (one t) (statements ts then fs) = refl
+      at true (one t) _ = refl
+      at true _ fs = refl
+      at false f (many ts then fs) = refl
+      at false f _ = refl
 
   use_here : (o : Option Helper) (k : AstType) (l : Label) (f : Field) (fs : Fields) (cs : Trees) → cases_use (node k l (calling_here c o (f then fs)) before cs) ≡ cases_use (node k l (f then fs) before cs)
   use_here None k l f fs cs = refl
-  use_here (Some h) k l (one t) (statements ts then fs) cs = refl
-  use_here (Some h) k l (one t) _ cs = refl
-  use_here (Some h) k l _ fs cs = refl
+  use_here (Some h) k l f fs cs = at (calls_one (f then fs)) f fs
+    where
+      at : (b : Bool) (f : Field) (fs : Fields) → cases_use (node k l (if b then with_callee (c h) (f then fs) else with_argument (c h) (f then fs)) before cs) ≡ cases_use (node k l (f then fs) before cs)
+      at true (one t) (statements ts then fs) = refl
+      at true (one t) _ = refl
+      at true _ fs = refl
+      at false f (many ts then fs) = refl
+      at false f _ = refl
 
   case_names_now : (cs : Trees) → AllAmong Plainly cs → cases_names (calling_among c cs) ≡ cases_names cs
   case_names_now empty h = refl
   case_names_now (node k l (f then (statements ts then fs)) before cs) h =
-      case_here (called_helper k l (f then (statements ts then fs))) k l (calling_by c f) (statements (calling_among c ts) then calling_in c fs) (calling_among c cs) ∙ (λ i. lexical_all_now ts h.0.1.1.0 i ++ case_names_now cs h.1 i)
-  case_names_now (node k l (f then (missing then fs)) before cs) h = case_here (called_helper k l (f then (missing then fs))) k l (calling_by c f) (missing then calling_in c fs) (calling_among c cs) ∙ case_names_now cs h.1
-  case_names_now (node k l (f then (one t then fs)) before cs) h = case_here (called_helper k l (f then (one t then fs))) k l (calling_by c f) (one (calling c t) then calling_in c fs) (calling_among c cs) ∙ case_names_now cs h.1
-  case_names_now (node k l (f then (many ts then fs)) before cs) h = case_here (called_helper k l (f then (many ts then fs))) k l (calling_by c f) (many (calling_among c ts) then calling_in c fs) (calling_among c cs) ∙ case_names_now cs h.1
-  case_names_now (node k l (f then done) before cs) h = case_here (called_helper k l (f then done)) k l (calling_by c f) done (calling_among c cs) ∙ case_names_now cs h.1
-  case_names_now (node k l done before cs) h = none_here (called_helper k l done) ∙ case_names_now cs h.1
+      case_here (used_helper k l (f then (statements ts then fs))) k l (calling_by c f) (statements (calling_among c ts) then calling_in c fs) (calling_among c cs) ∙ (λ i. lexical_all_now ts h.0.1.1.0 i ++ case_names_now cs h.1 i)
+  case_names_now (node k l (f then (missing then fs)) before cs) h = case_here (used_helper k l (f then (missing then fs))) k l (calling_by c f) (missing then calling_in c fs) (calling_among c cs) ∙ case_names_now cs h.1
+  case_names_now (node k l (f then (one t then fs)) before cs) h = case_here (used_helper k l (f then (one t then fs))) k l (calling_by c f) (one (calling c t) then calling_in c fs) (calling_among c cs) ∙ case_names_now cs h.1
+  case_names_now (node k l (f then (many ts then fs)) before cs) h = case_here (used_helper k l (f then (many ts then fs))) k l (calling_by c f) (many (calling_among c ts) then calling_in c fs) (calling_among c cs) ∙ case_names_now cs h.1
+  case_names_now (node k l (f then done) before cs) h = case_here (used_helper k l (f then done)) k l (calling_by c f) done (calling_among c cs) ∙ case_names_now cs h.1
+  case_names_now (node k l done before cs) h = none_here (used_helper k l done) ∙ case_names_now cs h.1
     where
       none_here : (o : Option Helper) → cases_names (node k l (calling_here c o done) before calling_among c cs) ≡ cases_names (calling_among c cs)
       none_here None = refl
@@ -179,12 +189,12 @@ module _ (c : Helper → Tree) (bare : (h : Helper) → var_names (c h) ≡ []) 
   case_use_now : (cs : Trees) → cases_use (calling_among c cs) ≡ cases_use cs
   case_use_now empty = refl
   case_use_now (node k l (f then (statements ts then fs)) before cs) =
-      use_here (called_helper k l (f then (statements ts then fs))) k l (calling_by c f) (statements (calling_among c ts) then calling_in c fs) (calling_among c cs) ∙ (λ i. using_all_now ts i || case_use_now cs i)
-  case_use_now (node k l (f then (missing then fs)) before cs) = use_here (called_helper k l (f then (missing then fs))) k l (calling_by c f) (missing then calling_in c fs) (calling_among c cs) ∙ case_use_now cs
-  case_use_now (node k l (f then (one t then fs)) before cs) = use_here (called_helper k l (f then (one t then fs))) k l (calling_by c f) (one (calling c t) then calling_in c fs) (calling_among c cs) ∙ case_use_now cs
-  case_use_now (node k l (f then (many ts then fs)) before cs) = use_here (called_helper k l (f then (many ts then fs))) k l (calling_by c f) (many (calling_among c ts) then calling_in c fs) (calling_among c cs) ∙ case_use_now cs
-  case_use_now (node k l (f then done) before cs) = use_here (called_helper k l (f then done)) k l (calling_by c f) done (calling_among c cs) ∙ case_use_now cs
-  case_use_now (node k l done before cs) = none_here (called_helper k l done) ∙ case_use_now cs
+      use_here (used_helper k l (f then (statements ts then fs))) k l (calling_by c f) (statements (calling_among c ts) then calling_in c fs) (calling_among c cs) ∙ (λ i. using_all_now ts i || case_use_now cs i)
+  case_use_now (node k l (f then (missing then fs)) before cs) = use_here (used_helper k l (f then (missing then fs))) k l (calling_by c f) (missing then calling_in c fs) (calling_among c cs) ∙ case_use_now cs
+  case_use_now (node k l (f then (one t then fs)) before cs) = use_here (used_helper k l (f then (one t then fs))) k l (calling_by c f) (one (calling c t) then calling_in c fs) (calling_among c cs) ∙ case_use_now cs
+  case_use_now (node k l (f then (many ts then fs)) before cs) = use_here (used_helper k l (f then (many ts then fs))) k l (calling_by c f) (many (calling_among c ts) then calling_in c fs) (calling_among c cs) ∙ case_use_now cs
+  case_use_now (node k l (f then done) before cs) = use_here (used_helper k l (f then done)) k l (calling_by c f) done (calling_among c cs) ∙ case_use_now cs
+  case_use_now (node k l done before cs) = none_here (used_helper k l done) ∙ case_use_now cs
     where
       none_here : (o : Option Helper) → cases_use (node k l (calling_here c o done) before calling_among c cs) ≡ cases_use (calling_among c cs)
       none_here None = refl
@@ -240,20 +250,24 @@ module _ (c : Helper → Tree) (bare : (h : Helper) → var_names (c h) ≡ []) 
   now_bare : (f : Tree) → IsCallee f → All Plainly f → var_names (calling c f) ≡ []
   now_bare f (a_member e) h = rw (h.1.0.0, h.1.1.0.0) refl
 
-  vars_called : (g : Helper) (l : Label) (fs : Fields) → IsCall g CallExpression l fs → var_names_in (calling_in c fs) ≡ var_names_in fs → AllIn Plainly fs → var_names_in (calling_here c (Some g) (calling_in c fs)) ≡ var_names_in fs
-  vars_called g l _ (a_call {f = f} {fs = fs} mark it) same h =
+  vars_called : (g : Helper) (l : Label) (fs : Fields) → IsUse g CallExpression l fs → var_names_in (calling_in c fs) ≡ var_names_in fs → AllIn Plainly fs → var_names_in (calling_here c (Some g) (calling_in c fs)) ≡ var_names_in fs
+  vars_called g l _ (a_call {f = f} {fs = fs} mark e) same h =
+      let it = callee-shape f g e in
       let before_it : var_names (calling c f) ++ var_names_in (calling_in c fs) ≡ var_names f ++ var_names_in fs = same in
       let rest : var_names_in (calling_in c fs) ≡ var_names_in fs = (λ i. sym (now_bare f it h.0) i ++ var_names_in (calling_in c fs)) ∙ before_it ∙ (λ i. callee_bare f it h.0 i ++ var_names_in fs) in
-      (λ i. bare g i ++ var_names_in (calling_in c fs)) ∙ rest ∙ (λ i. sym (callee_bare f it h.0) i ++ var_names_in fs)
+      ap var_names_in (here-called c f fs g e) ∙ (λ i. bare g i ++ var_names_in (calling_in c fs)) ∙ rest ∙ (λ i. sym (callee_bare f it h.0) i ++ var_names_in fs)
+  vars_called g l _ (a_pass {f = f} {t = t} {fs = fs} mark other e) same h =
+      let none = now_bare t (callee-shape t g (handed-some (helper_of t) g e)) h.1.0.0 in
+      ap var_names_in (here-passed c f t fs g other) ∙ (λ i. var_names (calling c f) ++ ((bare g i ++ []) ++ var_names_in (calling_in c fs))) ∙ (λ i. var_names (calling c f) ++ ((sym none i ++ []) ++ var_names_in (calling_in c fs))) ∙ same
 
-  vars_here : (o : Option Helper) (l : Label) (fs : Fields) → called_helper CallExpression l fs ≡ o → var_names_in (calling_in c fs) ≡ var_names_in fs → AllIn Plainly fs → var_names_in (calling_here c o (calling_in c fs)) ≡ var_names_in fs
+  vars_here : (o : Option Helper) (l : Label) (fs : Fields) → used_helper CallExpression l fs ≡ o → var_names_in (calling_in c fs) ≡ var_names_in fs → AllIn Plainly fs → var_names_in (calling_here c o (calling_in c fs)) ≡ var_names_in fs
   vars_here None l fs e same h = same
-  vars_here (Some g) l fs e same h = vars_called g l fs (call-shape CallExpression l fs g e) same h
+  vars_here (Some g) l fs e same h = vars_called g l fs (use-shape CallExpression l fs g e) same h
 
   mutual
     vars_now : (t : Tree) → All Plainly t → var_names (calling c t) ≡ var_names t
     vars_now (node VariableDeclaration l fs) h = where_now (is_word (codes "var") (first_text l.texts)) (first_text l.texts) l fs h.0
-    vars_now (node CallExpression l fs) h = vars_here (called_helper CallExpression l fs) l fs refl (vars_in_now fs h.1) h.1
+    vars_now (node CallExpression l fs) h = vars_here (used_helper CallExpression l fs) l fs refl (vars_in_now fs h.1) h.1
     vars_now (node _ l fs) h = vars_in_now fs h.1
 
     vars_in_now : (fs : Fields) → AllIn Plainly fs → var_names_in (calling_in c fs) ≡ var_names_in fs
@@ -270,7 +284,7 @@ module _ (c : Helper → Tree) (bare : (h : Helper) → var_names (c h) ≡ []) 
     vars_all_now empty h = refl
     vars_all_now (t before ts) h = λ i. vars_now t h.0 i ++ vars_all_now ts h.1 i
 
-  item_now : (k : AstType) (l : Label) (fs : Fields) → same_type k CallExpression ≡ false → last_name (calling_here c (called_helper k l fs) (calling_in c fs)) ≡ last_name fs
+  item_now : (k : AstType) (l : Label) (fs : Fields) → same_type k CallExpression ≡ false → last_name (calling_here c (used_helper k l fs) (calling_in c fs)) ≡ last_name fs
   item_now CallExpression l fs h = absurd (cc h)
   item_now _ l fs h = last_now fs
 

@@ -1,5 +1,5 @@
 -- Steps of the rules that act beside object spread leave `babelHelpers` in calls of its helper alone.
-use Rattle.std.proofs.Common.{◌≡◌, ◌∙◌, ℕ, refl, sym, ap, subst, List, [], ◌∷◌, ◌++◌}
+use Rattle.std.proofs.Common.{◌≡◌, ◌∙◌, ℕ, refl, sym, ap, subst, List, [], ◌∷◌, ◌++◌, zero, suc}
 use Rattle.std.proofs.lemmas.Bool.{and_from, and_parts}
 use Rattle.std.specs.Prelude.{◌&&◌, ◌||◌, Bool, true, false, not, Option, Some, None, bytes_eq, codes, is_some, if◌then◌else◌}
 use Rattle.es_tree.specs.HasForm.{has_form}
@@ -8,7 +8,7 @@ use Rattle.es_tree.specs.Scopes.{Declared}
 use Rattle.es_tree.specs.Tree.{Tree, node, Label, Fields, done, ◌then◌, Field, one, Trees, empty, ◌before◌, kind_of, trees}
 use Rattle.es_tree.specs.Words.{Text}
 use Rattle.es_tree.specs.declared.ast_type.AstType.{AstType}
-use Rattle.es_tree.specs.declared.ast_type.AstType.TheVariants.{CallExpression, Identifier, MemberExpression}
+use Rattle.es_tree.specs.declared.ast_type.AstType.TheVariants.{CallExpression, Identifier, MemberExpression, Program}
 use Rattle.es_tree.specs.declared.helper.Helper.{Helper}
 use Rattle.es_tree.specs.declared.options.EnvOptions.{EnvOptions}
 use Rattle.es_tree.specs.declared.table.Sort.TheVariants.{Program as s-Program}
@@ -16,6 +16,12 @@ use Rattle.es_tree.specs.Fresh.{IsFreshName}
 use Rattle.es_resolution.specs.Declarations.{Bound}
 use Rattle.es_runs.specs.Runs.{program}
 use Rattle.es_runs.proofs.Temporary.{bytes_eq-flip, bytes_eq-self}
+use Rattle.es_semantic.specs.RolesOf.{binding_of, reads, role_at}
+use Rattle.es_semantic.specs.declared.place.Role.{Role}
+use Rattle.es_semantic.specs.declared.place.Role.TheVariants.{Binds, Nothing, Top}
+use Rattle.es_semantic.specs.declared.place.Binding.{Binding}
+use Rattle.es_resolution.proofs.Roles.{role-same}
+use Rattle.es_tree.specs.Children.{child_at}
 use Rattle.es_steps.specs.CoreBridge.{names_among}
 use Rattle.es_steps.specs.CoreRules.{RowRule}
 use Rattle.es_steps.specs.Exponentiation.{ExponentiationRule}
@@ -38,14 +44,13 @@ use Rattle.es_statement_runs.specs.BareVars.{GrownDeclarators}
 use Rattle.es_statement_runs.specs.BareVars.GrownDeclarators.{as_named, none_grown, one_grown}
 use Rattle.es_statement_runs.specs.Laws.{among_names}
 use Rattle.es_statement_runs.specs.Places.{Take}
-use Rattle.es_statement_runs.specs.Programs.{names_other}
 use Rattle.es_statement_runs.proofs.Moved.{Moved, MovedField, MovedFields, MovedList, MovedTrees, Room}
 use Rattle.es_statement_runs.proofs.Moved.Moved.{moved_block, moved_case, moved_node, moved_place}
 use Rattle.es_statement_runs.proofs.Moved.MovedField.{moved_many, moved_missing, moved_one, moved_statements}
 use Rattle.es_statement_runs.proofs.Moved.MovedFields.{moved_done, moved_then}
 use Rattle.es_statement_runs.proofs.Moved.MovedList.{moved_end, moved_grown, moved_new, moved_statement}
 use Rattle.es_statement_runs.proofs.Moved.MovedTrees.{moved_before, moved_empty}
-use Rattle.es_helper_calls.specs.HelperCalls.{called_helper, helper_of, is_called, named_helper}
+use Rattle.es_helper_calls.specs.HelperCalls.{helper_of, is_called, named_helper, used_helper}
 use Rattle.es_valid_steps.proofs.ProgramLists.{ProgramExported, program-exported}
 use Rattle.es_valid_steps.proofs.ProgramLists.ProgramExported.{at_list as in_the_list}
 use Rattle.es_valid_steps.proofs.Spread.{finished-spread}
@@ -67,8 +72,8 @@ use Rattle.es_statement_steps.proofs.StepMoves.{Acted, NodeRule}
 use Rattle.es_statement_steps.proofs.StepRules.{Does, StatementRules, on-does, statement-does, writing-form}
 use Rattle.es_statement_steps.proofs.Writings.{written-same}
 use Rattle.es_import_runs.proofs.Callings.{HelperCall, helper_shape, helpers_}
-use Rattle.es_import_runs.proofs.Callings.HelperCall.{helper_called}
-use Rattle.es_import_runs.proofs.OnlyCopies.{any_copies, copies, copies_among, copies_by, copies_in, node_copies, only_copies}
+use Rattle.es_import_runs.proofs.Callings.HelperCall.{helper_called, helper_passed}
+use Rattle.es_import_runs.proofs.OnlyCopies.{any_copies, copies, copies_among, copies_by, copies_in, node_copies, only_copies, name_other, handed_other}
 
 -- ROWS
 
@@ -80,7 +85,7 @@ is_no_callee _ = true
 
 pub record KeepsCopies (a b : Tree) : Type 0 where
   pub apart : is_no_callee (kind_of a) ≡ true
-  pub kept : only_copies a ≡ true → only_copies b ≡ true
+  pub kept : (r : Role) → only_copies r a ≡ true → only_copies r b ≡ true
 
 fresh_other : (in_use : Text → Bool) (base x : Text) → IsFreshName in_use base x → bytes_eq x helpers_ ≡ false
 fresh_other in_use base x h = bytes_eq-flip x helpers_ ∙ made_apart helpers_ x refl (fresh_made in_use base x h)
@@ -88,15 +93,15 @@ fresh_other in_use base x h = bytes_eq-flip x helpers_ ∙ made_apart helpers_ x
 coalescing_copies : (n : Site) (w : Whole) (bs : List Bound) (t u : Tree) → NullishCoalescingRule n w bs t u → KeepsCopies t u
 coalescing_copies n w bs _ _ (with_temporary {l = l} {r = r} {x = x} texts again next) = record {
   apart = refl;
-  kept = λ h. let d = and_parts (only_copies l) (only_copies r && true) h in rw (fresh_other w.in_use _ x.name next.fresh, d.0, (and_parts (only_copies r) true d.1).0) refl;
+  kept = λ role h. let d = and_parts (only_copies reads l) (only_copies reads r && true) h in rw (fresh_other w.in_use _ x.name next.fresh, d.0, (and_parts (only_copies reads r) true d.1).0) refl;
 }
 coalescing_copies n w bs _ _ (reading_again {l = l} {r = r} texts again) = record {
   apart = refl;
-  kept = λ h. let d = and_parts (only_copies l) (only_copies r && true) h in rw (d.0, (and_parts (only_copies r) true d.1).0) refl;
+  kept = λ role h. let d = and_parts (only_copies reads l) (only_copies reads r && true) h in rw (d.0, (and_parts (only_copies reads r) true d.1).0) refl;
 }
 
 catch_copies : (new : List Bound) (n : Site) (w : Whole) (t u : Tree) → CatchRow new n w t u → KeepsCopies t u
-catch_copies new n w _ _ (made_catch {m = m} {b = b} {x = x} fresh) = record { apart = refl; kept = λ h. rw (fresh_other w.in_use (codes "unused") x.name fresh) h }
+catch_copies new n w _ _ (made_catch {m = m} {b = b} {x = x} fresh) = record { apart = refl; kept = λ role h. rw (fresh_other w.in_use (codes "unused") x.name fresh) h }
 
 -- OBJECT SPREAD
 
@@ -105,39 +110,50 @@ spread_helper = helper_node (codes "objectSpread2")
 
 abbrev HeldCopies : Option Tree → Type 0
 HeldCopies None = Unit {0}
-HeldCopies (Some c) = only_copies c ≡ true
+HeldCopies (Some c) = (r : Role) → only_copies r c ≡ true
 
-last_one : (ps : List Tree) (t : Tree) → copies_among (trees ps) ≡ true → only_copies t ≡ true → copies_among (trees (ps ++ t ∷ [])) ≡ true
-last_one [] t h g = and_from (only_copies t) true g refl
-last_one (p ∷ ps) t h g = let d = and_parts (only_copies p) (copies_among (trees ps)) h in and_from (only_copies p) (copies_among (trees (ps ++ t ∷ []))) d.0 (last_one ps t d.1 g)
+last_one : (ps : List Tree) (t : Tree) → copies_among reads (trees ps) ≡ true → only_copies reads t ≡ true → copies_among reads (trees (ps ++ t ∷ [])) ≡ true
+last_one [] t h g = and_from (only_copies reads t) true g refl
+last_one (p ∷ ps) t h g = let d = and_parts (only_copies reads p) (copies_among reads (trees ps)) h in and_from (only_copies reads p) (copies_among reads (trees (ps ++ t ∷ []))) d.0 (last_one ps t d.1 g)
 
-copied_so : (c : Option Tree) (ps : List Tree) (e : Tree) → HeldCopies c → copies_among (trees ps) ≡ true → only_copies e ≡ true → only_copies (copied spread_helper c ps e) ≡ true
-copied_so None ps e h g k = rw (g, k) refl
-copied_so (Some c) [] e h g k = rw (h, k) refl
-copied_so (Some c) (p ∷ ps) e h g k = let d = and_parts (only_copies p) (copies_among (trees ps)) g in rw (h, d.0, d.1, k) refl
+copied_so : (c : Option Tree) (ps : List Tree) (e : Tree) → HeldCopies c → copies_among reads (trees ps) ≡ true → only_copies reads e ≡ true → (r : Role) → only_copies r (copied spread_helper c ps e) ≡ true
+copied_so None ps e h g k r = rw (g, k) refl
+copied_so (Some c) [] e h g k r = rw (h reads, k) refl
+copied_so (Some c) (p ∷ ps) e h g k r = let d = and_parts (only_copies reads p) (copies_among reads (trees ps)) g in rw (h reads, d.0, d.1, k) refl
 
-last_so : (c : Option Tree) (ps : List Tree) → HeldCopies c → copies_among (trees ps) ≡ true → only_copies (last_copied spread_helper c ps) ≡ true
-last_so None ps h g = rw g refl
-last_so (Some c) [] h g = h
-last_so (Some c) (p ∷ ps) h g = let d = and_parts (only_copies p) (copies_among (trees ps)) g in rw (h, d.0, d.1) refl
+last_so : (c : Option Tree) (ps : List Tree) → HeldCopies c → copies_among reads (trees ps) ≡ true → (r : Role) → only_copies r (last_copied spread_helper c ps) ≡ true
+last_so None ps h g r = rw g refl
+last_so (Some c) [] h g r = h r
+last_so (Some c) (p ∷ ps) h g r = let d = and_parts (only_copies reads p) (copies_among reads (trees ps)) g in rw (h reads, d.0, d.1) refl
 
-copies_so : (c : Option Tree) (ps : List Tree) (ts : Trees) (u : Tree) → Copies spread_helper c ps ts u → HeldCopies c → copies_among (trees ps) ≡ true → copies_among ts ≡ true → only_copies u ≡ true
+copies_so : (c : Option Tree) (ps : List Tree) (ts : Trees) (u : Tree) → Copies spread_helper c ps ts u → HeldCopies c → copies_among reads (trees ps) ≡ true → copies_among reads ts ≡ true → (r : Role) → only_copies r u ≡ true
 copies_so c ps _ _ no_more h g k = last_so c ps h g
-copies_so c ps _ u (copies_one {e = e} {ts = ts} r) h g k =
-    let d = and_parts (only_copies e && true) (copies_among ts) k in
-    copies_so (Some (copied spread_helper c ps e)) [] ts u r (copied_so c ps e h g (and_parts (only_copies e) true d.0).0) refl d.1
-copies_so c ps _ u (keeps {t = t} {ts = ts} n r) h g k = let d = and_parts (only_copies t) (copies_among ts) k in copies_so c (ps ++ t ∷ []) ts u r h (last_one ps t g d.0) d.1
+copies_so c ps _ u (copies_one {e = e} {ts = ts} rest) h g k =
+    let d = and_parts (only_copies reads e && true) (copies_among reads ts) k in
+    copies_so (Some (copied spread_helper c ps e)) [] ts u rest (copied_so c ps e h g (and_parts (only_copies reads e) true d.0).0) refl d.1
+copies_so c ps _ u (keeps {t = t} {ts = ts} n rest) h g k = let d = and_parts (only_copies reads t) (copies_among reads ts) k in copies_so c (ps ++ t ∷ []) ts u rest h (last_one ps t g d.0) d.1
 
-placed_copies : (m : Label) (u : Tree) → only_copies (placed m u) ≡ only_copies u
-placed_copies m (node Identifier l fs) = refl
-placed_copies m (node CallExpression l (one f then fs)) = refl
-placed_copies m (node CallExpression l fs) = refl
-placed_copies m (node _ l fs) = refl
+-- roles are told by texts and flags
+label_alike : (r : Role) (k : AstType) (l m : Label) (fs : Fields) (i : ℕ) → role_at r k (record m { texts = l.texts; flags = l.flags }) fs i ≡ role_at r k l fs i
+label_alike r Program l m fs i = refl
+label_alike r _ l m fs i = refl
+
+label_same : (r : Role) (k : AstType) (l m : Label) (fs : Fields) (i : ℕ) → m.texts ≡ l.texts → m.flags ≡ l.flags → role_at r k m fs i ≡ role_at r k l fs i
+label_same r k l m fs i e f = sym (label_alike r k m m fs i) ∙ (λ j. role_at r k (record m { texts = e j; flags = f j }) fs i) ∙ label_alike r k l m fs i
+
+placed_roles : (r : Role) (m : Label) (k : AstType) (l : Label) (fs : Fields) → role_at r k (record l { start = m.start; stop = m.stop }) fs ≡ role_at r k l fs
+placed_roles r m k l fs = λ j i. label_same r k l (record l { start = m.start; stop = m.stop }) fs i refl refl j
+
+placed_copies : (r : Role) (m : Label) (u : Tree) → only_copies r (placed m u) ≡ only_copies r u
+placed_copies r m (node Identifier l fs) = refl
+placed_copies r m (node CallExpression l (one f then fs)) = λ i. copies_in (copies (used_helper CallExpression l (one f then fs))) (placed_roles r m CallExpression l (one f then fs) i) (one f then fs)
+placed_copies r m (node CallExpression l fs) = λ i. copies_in false (placed_roles r m CallExpression l fs i) fs
+placed_copies r m (node k l fs) = λ i. copies_in false (placed_roles r m k l fs i) fs
 
 spread_copies : (new : List Bound) (n : Site) (w : Whole) (t u : Tree) → SpreadRule n w new t u → KeepsCopies t u
 spread_copies new n w _ _ (spreads {m = m} {ps = ps} {u = u} scope used some none made_so) = record {
   apart = refl;
-  kept = λ h. placed_copies m u ∙ copies_so None [] ps u made_so tt refl (and_parts (copies_among ps) true h).0;
+  kept = λ role h. placed_copies role m u ∙ copies_so None [] ps u made_so tt refl (and_parts (copies_among reads ps) true h).0 role;
 }
 
 -- WHAT THE ROWS LEAVE of a tree
@@ -163,62 +179,86 @@ module _ (fresh : Text → Bool) (R : List Declared → Take → Tree → Tree �
       at : {o x : Tree} → NameOf i o → NameOf m x → helper_of (node MemberExpression w (one o then (one x then done))) ≡ Some g
       at (name_of p) (name_of q) = rw (f, a, b, p, c, q) n
 
-  name_kept : (k : AstType) (l m : Label) (fs gs : Fields) → m.texts ≡ l.texts → names_other k l fs ≡ true → names_other k m gs ≡ true
-  name_kept Identifier l m fs gs e h = rw e h
-  name_kept _ l m fs gs e h = refl
+  name_kept : (r : Role) (k : AstType) (l m : Label) → m.texts ≡ l.texts → name_other r k l ≡ true → name_other r k m ≡ true
+  name_kept r Identifier l m e h = rw e h
+  name_kept r _ l m e h = refl
 
-  declarators_kept : {cs es : Trees} → GrownDeclarators fresh cs es → copies_among cs ≡ true → copies_among es ≡ true
-  declarators_kept none_grown h = refl
-  declarators_kept (as_named {m = m} {o = o} {ds = ds} {es = es} e g) h =
-      let d = and_parts ((not (bytes_eq (first_text m.texts) helpers_) && true) && true) (copies_among ds) h in
-      rw (e, (and_parts (not (bytes_eq (first_text m.texts) helpers_)) true (and_parts (not (bytes_eq (first_text m.texts) helpers_) && true) true d.0).0).0) (declarators_kept g d.1)
-  declarators_kept (one_grown {o = o} e g) h = rw (other (first_text o.texts) e) (declarators_kept g h)
+  -- roles stay
+  shape_kept : {r : ℕ → Room} {ds : ℕ → List Declared} {c : ℕ → Take} {fs gs : Fields} → MovedFields fresh R r ds c fs gs → (i : ℕ) → is_some (child_at i gs) ≡ is_some (child_at i fs)
+  shape_kept moved_done i = refl
+  shape_kept (moved_then moved_missing j) zero = refl
+  shape_kept (moved_then (moved_one h) j) zero = refl
+  shape_kept (moved_then (moved_many h) j) zero = refl
+  shape_kept (moved_then (moved_statements h) j) zero = refl
+  shape_kept (moved_then h j) (suc i) = shape_kept j i
 
-  -- a call of a helper stays one
-  called_kept : {r : ℕ → Room} {ds : ℕ → List Declared} {c : ℕ → Take} {k : AstType} (l m : Label) {fs gs : Fields} (g : Helper) → HelperCall g k l fs → m.flags ≡ l.flags → MovedFields fresh R r ds c fs gs → called_helper CallExpression m gs ≡ Some g
-  called_kept l m g (helper_called mark a b object name) flags (moved_then (moved_one h) rest) = rw (flags, mark) (member_moved g h a b (rw object refl) name)
+  roles_kept : {r : ℕ → Room} {ds : ℕ → List Declared} {c : ℕ → Take} (role : Role) (k : AstType) (l m : Label) {fs gs : Fields} → m.texts ≡ l.texts → m.flags ≡ l.flags → MovedFields fresh R r ds c fs gs → role_at role k m gs ≡ role_at role k l fs
+  roles_kept role k l m {fs = fs} {gs = gs} e f h = role-same role k m fs gs (shape_kept h) ∙ (λ j i. label_same role k l m fs i e f j)
 
-  call_kept : {r : ℕ → Room} {ds : ℕ → List Declared} {c : ℕ → Take} (l m : Label) (fs gs : Fields) (o : Option Helper) → called_helper CallExpression l fs ≡ o → m.flags ≡ l.flags → MovedFields fresh R r ds c fs gs → copies_in (copies o) gs ≡ true → only_copies (node CallExpression m gs) ≡ true
-  call_kept l m fs gs None e i h n = node_copies CallExpression m gs refl (any_copies (copies (called_helper CallExpression m gs)) gs n)
-  call_kept l m fs gs (Some g) e i h n = node_copies CallExpression m gs refl (subst (λ (o : Option Helper). copies_in (copies o) gs ≡ true) (sym (called_kept l m g (helper_shape CallExpression l fs g e) i h)) n)
+  declarators_kept : (a b : Binding) {cs es : Trees} → GrownDeclarators fresh cs es → copies_among (Binds a) cs ≡ true → copies_among (Binds b) es ≡ true
+  declarators_kept a b none_grown h = refl
+  declarators_kept a b (as_named {m = m} {o = o} {ds = ds} {es = es} e g) h =
+      let d = and_parts ((not (bytes_eq (first_text m.texts) helpers_) && true) && true) (copies_among (Binds a) ds) h in
+      rw (e, (and_parts (not (bytes_eq (first_text m.texts) helpers_)) true (and_parts (not (bytes_eq (first_text m.texts) helpers_) && true) true d.0).0).0) (declarators_kept a b g d.1)
+  declarators_kept a b (one_grown {o = o} e g) h = rw (other (first_text o.texts) e) (declarators_kept a b g h)
+
+  -- a call of a helper stays one, and what hands one on copies nothing
+  called_kept : {r : ℕ → Room} {ds : ℕ → List Declared} {c : ℕ → Take} {k : AstType} (roles : ℕ → Role) (l m : Label) {fs gs : Fields} (g : Helper) → HelperCall g k l fs → m.flags ≡ l.flags → MovedFields fresh R r ds c fs gs → copies_in (copies (Some g)) roles gs ≡ true → copies_in (copies (used_helper CallExpression m gs)) roles gs ≡ true
+  called_kept roles l m g (helper_called mark a b object name) flags (moved_then {gs = later} (moved_one {b = now} h) rest) n =
+      let stays : used_helper CallExpression m (one now then later) ≡ Some g = rw (flags, mark, member_moved g h a b (rw object refl) name) refl in
+      subst (λ (o : Option Helper). copies_in (copies o) roles (one now then later) ≡ true) (sym stays) n
+  called_kept roles l m {gs = gs} g (helper_passed e) flags moves n = any_copies (copies (used_helper CallExpression m gs)) roles gs (subst (λ (q : Bool). copies_in q roles gs ≡ true) (handed_other _ g e) n)
+
+  call_kept : {r : ℕ → Room} {ds : ℕ → List Declared} {c : ℕ → Take} (role : Role) (l m : Label) (fs gs : Fields) (o : Option Helper) → used_helper CallExpression l fs ≡ o → m.flags ≡ l.flags → MovedFields fresh R r ds c fs gs → copies_in (copies o) (role_at role CallExpression m gs) gs ≡ true → only_copies role (node CallExpression m gs) ≡ true
+  call_kept role l m fs gs None e i h n = node_copies role CallExpression m gs refl (any_copies (copies (used_helper CallExpression m gs)) (role_at role CallExpression m gs) gs n)
+  call_kept role l m fs gs (Some g) e i h n = node_copies role CallExpression m gs refl (called_kept (role_at role CallExpression m gs) l m g (helper_shape CallExpression l fs g e) i h n)
+
+  in_roles : (p : Bool) (gs : Fields) {roles others : ℕ → Role} → others ≡ roles → copies_in p roles gs ≡ true → copies_in p others gs ≡ true
+  in_roles p gs e h = ap (λ (f : ℕ → Role). copies_in p f gs) e ∙ h
 
   mutual
-    tree_kept : {r : Room} {ds : List Declared} {t : Take} {a b : Tree} → Moved fresh R r ds t a b → only_copies a ≡ true → only_copies b ≡ true
-    tree_kept (moved_place e h) n = (rows _ _ _ _ h).kept n
-    tree_kept (moved_node {k = Identifier} {l = l} {m = m} {fs = fs} {gs = gs} e i h) n =
-        and_from (names_other Identifier m gs) true (name_kept Identifier l m fs gs e (and_parts (names_other Identifier l fs) true n).0) refl
-    tree_kept (moved_node {k = CallExpression} {l = l} {m = m} {fs = fs} {gs = gs} e i h) n = call_kept l m fs gs (called_helper CallExpression l fs) refl i h (fields_kept (copies (called_helper CallExpression l fs)) h n)
-    tree_kept (moved_node {k = k} {l = l} {m = m} {fs = fs} {gs = gs} e i h) n = node_copies k m gs refl (any_copies (copies (called_helper k m gs)) gs (fields_kept false h n))
-    tree_kept (moved_block {l = l} {m = m} {ts = ts} {us = us} e h) n = and_from (copies_among us) true (list_kept h (and_parts (copies_among ts) true n).0) refl
-    tree_kept (moved_case {f = f} {g = g} {ts = ts} {us = us} e h j) n =
-        let d = and_parts (copies_by f) (copies_among ts && true) n in
-        and_from (copies_by g) (copies_among us && true) (field_kept h d.0) (and_from (copies_among us) true (list_kept j (and_parts (copies_among ts) true d.1).0) refl)
+    tree_kept : (role : Role) {r : Room} {ds : List Declared} {t : Take} {a b : Tree} → Moved fresh R r ds t a b → only_copies role a ≡ true → only_copies role b ≡ true
+    tree_kept role (moved_place e h) n = (rows _ _ _ _ h).kept role n
+    tree_kept role (moved_node {k = Identifier} {l = l} {m = m} {fs = fs} {gs = gs} e i h) n = and_from (name_other role Identifier m) true (name_kept role Identifier l m e (and_parts (name_other role Identifier l) true n).0) refl
+    tree_kept role (moved_node {k = CallExpression} {l = l} {m = m} {fs = fs} {gs = gs} e i h) n =
+        let p = copies (used_helper CallExpression l fs) in
+        call_kept role l m fs gs (used_helper CallExpression l fs) refl i h (in_roles p gs (roles_kept role CallExpression l m e i h) (fields_kept p (role_at role CallExpression l fs) h n))
+    tree_kept role (moved_node {k = k} {l = l} {m = m} {fs = fs} {gs = gs} e i h) n =
+        node_copies role k m gs refl (any_copies (copies (used_helper k m gs)) (role_at role k m gs) gs (in_roles false gs (roles_kept role k l m e i h) (fields_kept false (role_at role k l fs) h n)))
+    tree_kept role (moved_block {l = l} {m = m} {ts = ts} {us = us} e h) n = and_from (copies_among reads us) true (list_kept reads h (and_parts (copies_among reads ts) true n).0) refl
+    tree_kept role (moved_case {f = f} {g = g} {ts = ts} {us = us} e h j) n =
+        let d = and_parts (copies_by reads f) (copies_among reads ts && true) n in
+        and_from (copies_by reads g) (copies_among reads us && true) (field_kept reads h d.0) (and_from (copies_among reads us) true (list_kept reads j (and_parts (copies_among reads ts) true d.1).0) refl)
 
-    fields_kept : (p : Bool) {r : ℕ → Room} {ds : ℕ → List Declared} {c : ℕ → Take} {fs gs : Fields} → MovedFields fresh R r ds c fs gs → copies_in p fs ≡ true → copies_in p gs ≡ true
-    fields_kept p moved_done n = refl
-    fields_kept true (moved_then h j) n = fields_kept false j n
-    fields_kept false (moved_then {f = f} {g = g} {fs = fs} {gs = gs} h j) n = let d = and_parts (copies_by f) (copies_in false fs) n in and_from (copies_by g) (copies_in false gs) (field_kept h d.0) (fields_kept false j d.1)
+    fields_kept : (p : Bool) (roles : ℕ → Role) {r : ℕ → Room} {ds : ℕ → List Declared} {c : ℕ → Take} {fs gs : Fields} → MovedFields fresh R r ds c fs gs → copies_in p roles fs ≡ true → copies_in p roles gs ≡ true
+    fields_kept p roles moved_done n = refl
+    fields_kept true roles (moved_then h j) n = fields_kept false (λ i. roles (suc i)) j n
+    fields_kept false roles (moved_then {f = f} {g = g} {fs = fs} {gs = gs} h j) n =
+        let d = and_parts (copies_by (roles zero) f) (copies_in false (λ i. roles (suc i)) fs) n in
+        and_from (copies_by (roles zero) g) (copies_in false (λ i. roles (suc i)) gs) (field_kept (roles zero) h d.0) (fields_kept false (λ i. roles (suc i)) j d.1)
 
-    field_kept : {r : Room} {ds : List Declared} {t : Take} {f g : Field} → MovedField fresh R r ds t f g → copies_by f ≡ true → copies_by g ≡ true
-    field_kept moved_missing n = refl
-    field_kept (moved_one h) n = tree_kept h n
-    field_kept (moved_many h) n = trees_kept h n
-    field_kept (moved_statements h) n = trees_kept h n
+    field_kept : (role : Role) {r : Room} {ds : List Declared} {t : Take} {f g : Field} → MovedField fresh R r ds t f g → copies_by role f ≡ true → copies_by role g ≡ true
+    field_kept role moved_missing n = refl
+    field_kept role (moved_one h) n = tree_kept role h n
+    field_kept role (moved_many h) n = trees_kept role h n
+    field_kept role (moved_statements h) n = trees_kept role h n
 
-    trees_kept : {r : Room} {ds : List Declared} {t : Take} {ts us : Trees} → MovedTrees fresh R r ds t ts us → copies_among ts ≡ true → copies_among us ≡ true
-    trees_kept moved_empty n = refl
-    trees_kept (moved_before {a = a} {b = b} {ts = ts} {us = us} h j) n = let d = and_parts (only_copies a) (copies_among ts) n in and_from (only_copies b) (copies_among us) (tree_kept h d.0) (trees_kept j d.1)
+    trees_kept : (role : Role) {r : Room} {ds : List Declared} {t : Take} {ts us : Trees} → MovedTrees fresh R r ds t ts us → copies_among role ts ≡ true → copies_among role us ≡ true
+    trees_kept role moved_empty n = refl
+    trees_kept role (moved_before {a = a} {b = b} {ts = ts} {us = us} h j) n = let d = and_parts (only_copies role a) (copies_among role ts) n in and_from (only_copies role b) (copies_among role us) (tree_kept role h d.0) (trees_kept role j d.1)
 
-    pub list_kept : {r : Room} {ds : List Declared} {more : Bool} {ts us : Trees} → MovedList fresh R r ds more ts us → copies_among ts ≡ true → copies_among us ≡ true
-    list_kept moved_end n = refl
-    list_kept (moved_statement {a = a} {b = b} {ts = ts} {us = us} h j) n = let d = and_parts (only_copies a) (copies_among ts) n in and_from (only_copies b) (copies_among us) (tree_kept h d.0) (list_kept j d.1)
-    list_kept (moved_new {es = es} e g j) n = rw (declarators_kept g refl) (list_kept j n)
-    list_kept (moved_grown {cs = cs} {ts = ts} e i g j) n = let d = and_parts (copies_among cs && true) (copies_among ts) n in rw (declarators_kept g (and_parts (copies_among cs) true d.0).0) (list_kept j d.1)
+    pub list_kept : (role : Role) {r : Room} {ds : List Declared} {more : Bool} {ts us : Trees} → MovedList fresh R r ds more ts us → copies_among role ts ≡ true → copies_among role us ≡ true
+    list_kept role moved_end n = refl
+    list_kept role (moved_statement {a = a} {b = b} {ts = ts} {us = us} h j) n = let d = and_parts (only_copies role a) (copies_among role ts) n in and_from (only_copies role b) (copies_among role us) (tree_kept role h d.0) (list_kept role j d.1)
+    list_kept role (moved_new {m = m} {es = es} e g j) n = rw (declarators_kept (binding_of (first_text m.texts)) (binding_of (first_text m.texts)) g refl) (list_kept role j n)
+    list_kept role (moved_grown {l = l} {m = m} {cs = cs} {ts = ts} e i g j) n =
+        let d = and_parts (copies_among (Binds (binding_of (first_text l.texts))) cs && true) (copies_among role ts) n in
+        rw (declarators_kept (binding_of (first_text l.texts)) (binding_of (first_text m.texts)) g (and_parts (copies_among (Binds (binding_of (first_text l.texts))) cs) true d.0).0) (list_kept role j d.1)
 
 -- OF ALL RULES beside object spread
 
 abbrev HasCopies : Tree → Type 0
-HasCopies t = only_copies t ≡ true
+HasCopies t = only_copies reads t ≡ true
 
 module _ (p : Tree) where
   abbrev StaysCopies : Ledger → Ledger → Open → Open → Type 0
@@ -228,9 +268,9 @@ module _ (p : Tree) where
       (w : Whole) (x y : Tree) → ProgramWent law.hoisted (MovedProgram Q A law) w x y → HasCopies x → HasCopies y
   copies_after Q A law rows w x y h c =
       let before_it : HasCopies (program h.label h.directives h.body) = subst HasCopies h.first c in
-      let d = and_parts (copies_among h.directives) (copies_among h.body && true) before_it in
-      let after = list_kept (among_names (names_among h.new)) (Acted A h.new) (λ ds t a b r. rows h.new r.site r.whole a b r.rule) (made-other (names_among h.new) h.are_new.names) h.moved (and_parts (copies_among h.body) true d.1).0 in
-      subst HasCopies (sym h.second) (and_from (copies_among h.directives) (copies_among h.after && true) d.0 (and_from (copies_among h.after) true after refl))
+      let d = and_parts (copies_among reads h.directives) (copies_among Top h.body && true) before_it in
+      let after = list_kept (among_names (names_among h.new)) (Acted A h.new) (λ ds t a b r. rows h.new r.site r.whole a b r.rule) (made-other (names_among h.new) h.are_new.names) Top h.moved (and_parts (copies_among Top h.body) true d.1).0 in
+      subst HasCopies (sym h.second) (and_from (copies_among reads h.directives) (copies_among Top h.after && true) d.0 (and_from (copies_among Top h.after) true after refl))
 
   node_stays : (Q : Site → Ledger → Spot → Ledger → Spot → Type 0) (A : List Bound → Site → Whole → Tree → Tree → Type 0) (law : NodeRule Q A) → ((new : List Bound) (n : Site) (w : Whole) (a b : Tree) → A new n w a b → KeepsCopies a b) → Does StaysCopies Q
   node_stays Q A law rows s s' x y h k m a c = copies_after Q A law rows (whole_in s) (finished x) (finished y) (program-moved Q A law h k.proper k.form k.class (known-fine k) (known-fine m) k.resolved) c
@@ -248,49 +288,49 @@ module _ (p : Tree) where
 
 -- EXPORTS OF NAMESPACES
 
-joined_copies : (vs ts : Trees) → copies_among (joined_trees vs ts) ≡ (copies_among vs && copies_among ts)
-joined_copies empty ts = refl
-joined_copies (v before vs) ts = ap (λ (b : Bool). only_copies v && b) (joined_copies vs ts) ∙ regrouped (only_copies v) (copies_among vs) (copies_among ts)
+joined_copies : (r : Role) (vs ts : Trees) → copies_among r (joined_trees vs ts) ≡ (copies_among r vs && copies_among r ts)
+joined_copies r empty ts = refl
+joined_copies r (v before vs) ts = ap (λ (b : Bool). only_copies r v && b) (joined_copies r vs ts) ∙ regrouped (only_copies r v) (copies_among r vs) (copies_among r ts)
   where
     regrouped : (a b c : Bool) → (a && (b && c)) ≡ ((a && b) && c)
     regrouped true b c = refl
     regrouped false b c = refl
 
-after_copies : (vs ts : Trees) → copies_among (after_imports vs ts) ≡ (copies_among vs && copies_among ts)
-after_copies vs empty = with_true (copies_among vs)
+after_copies : (r : Role) (vs ts : Trees) → copies_among r (after_imports vs ts) ≡ (copies_among r vs && copies_among r ts)
+after_copies r vs empty = with_true (copies_among r vs)
   where
     with_true : (b : Bool) → b ≡ (b && true)
     with_true true = refl
     with_true false = refl
-after_copies vs (t before ts) = at (is_import t) (after_copies vs ts)
+after_copies r vs (t before ts) = at (is_import t) (after_copies r vs ts)
   where
     exchanged : (a b c : Bool) → (a && (b && c)) ≡ (b && (a && c))
     exchanged true b c = refl
     exchanged false true c = refl
     exchanged false false c = refl
 
-    at : (b : Bool) → copies_among (after_imports vs ts) ≡ (copies_among vs && copies_among ts) → copies_among (if b then t before after_imports vs ts else joined_trees vs (t before ts)) ≡ (copies_among vs && (only_copies t && copies_among ts))
-    at true h = ap (λ (b : Bool). only_copies t && b) h ∙ exchanged (only_copies t) (copies_among vs) (copies_among ts)
-    at false h = joined_copies vs (t before ts)
+    at : (b : Bool) → copies_among r (after_imports vs ts) ≡ (copies_among r vs && copies_among r ts) → copies_among r (if b then t before after_imports vs ts else joined_trees vs (t before ts)) ≡ (copies_among r vs && (only_copies r t && copies_among r ts))
+    at true h = ap (λ (b : Bool). only_copies r t && b) h ∙ exchanged (only_copies r t) (copies_among r vs) (copies_among r ts)
+    at false h = joined_copies r vs (t before ts)
 
-split_copies : (x : Bound) → bytes_eq x.name helpers_ ≡ false → {ts us : Trees} → SplitHere x ts us → copies_among ts ≡ true → copies_among us ≡ true
-split_copies x other (split_here m e s attributes ts) h =
-    let d = and_parts (only_copies e && (only_copies s && (copies_among attributes && true))) (copies_among ts) h in
-    let f = and_parts (only_copies e) (only_copies s && (copies_among attributes && true)) d.0 in
-    let g = and_parts (only_copies s) (copies_among attributes && true) f.1 in
-    rw (other, f.0, g.0, (and_parts (copies_among attributes) true g.1).0, d.1) refl
-split_copies x other (split_later t {ts = ts} {us = us} g) h = let d = and_parts (only_copies t) (copies_among ts) h in and_from (only_copies t) (copies_among us) d.0 (split_copies x other g d.1)
+split_copies : (r : Role) (x : Bound) → bytes_eq x.name helpers_ ≡ false → {ts us : Trees} → SplitHere x ts us → copies_among r ts ≡ true → copies_among r us ≡ true
+split_copies r x other (split_here m e s attributes ts) h =
+    let d = and_parts (only_copies Nothing e && (only_copies reads s && (copies_among reads attributes && true))) (copies_among r ts) h in
+    let f = and_parts (only_copies Nothing e) (only_copies reads s && (copies_among reads attributes && true)) d.0 in
+    let g = and_parts (only_copies reads s) (copies_among reads attributes && true) f.1 in
+    rw (other, f.0, g.0, (and_parts (copies_among reads attributes) true g.1).0, d.1) refl
+split_copies r x other (split_later t {ts = ts} {us = us} g) h = let d = and_parts (only_copies r t) (copies_among r ts) h in and_from (only_copies r t) (copies_among r us) d.0 (split_copies r x other g d.1)
 
 program_stays : {s s' : Ledger} {x y : Open} → ProgramExported s s' x y → HasCopies (finished x) → HasCopies (finished y)
 program_stays (in_the_list {l = l} {d = d} {p = p} {q = q} {x = x} {y = y} {a = a} {b = b} {ts = ts} {us = us} h) c =
     let r = split-by h in
-    let parts = and_parts (copies_by (finished_field d)) (copies_among (whole_list p x a (finished_trees ts)) && true) c in
-    let old = and_parts (copies_among (pending_statements p x a)) (copies_among (finished_trees ts)) (sym (after_copies (pending_statements p x a) (finished_trees ts)) ∙ (and_parts (copies_among (whole_list p x a (finished_trees ts))) true parts.1).0) in
+    let parts = and_parts (copies_by reads (finished_field d)) (copies_among Top (whole_list p x a (finished_trees ts)) && true) c in
+    let old = and_parts (copies_among Top (pending_statements p x a)) (copies_among Top (finished_trees ts)) (sym (after_copies Top (pending_statements p x a) (finished_trees ts)) ∙ (and_parts (copies_among Top (whole_list p x a (finished_trees ts))) true parts.1).0) in
     let other : bytes_eq r.name.name helpers_ ≡ false = made-other (r.name.name ∷ []) r.are_new.names r.name.name (this_one r.name.name) in
-    let new : copies_among (whole_list p x a (finished_trees us)) ≡ true = after_copies (pending_statements p x a) (finished_trees us) ∙ and_from (copies_among (pending_statements p x a)) (copies_among (finished_trees us)) old.0 (split_copies r.name other r.split old.1) in
-    let there = λ (p : Pending) (x : Option Bound) (a : Additions). (copies_by (finished_field d) && (copies_among (whole_list p x a (finished_trees us)) && true)) ≡ true in
+    let new : copies_among Top (whole_list p x a (finished_trees us)) ≡ true = after_copies Top (pending_statements p x a) (finished_trees us) ∙ and_from (copies_among Top (pending_statements p x a)) (copies_among Top (finished_trees us)) old.0 (split_copies Top r.name other r.split old.1) in
+    let there = λ (p : Pending) (x : Option Bound) (a : Additions). (copies_by reads (finished_field d) && (copies_among Top (whole_list p x a (finished_trees us)) && true)) ≡ true in
     subst (λ (p : Pending). there p y b) (sym r.pending) (subst (λ (x : Option Bound). there p x b) (sym r.this) (subst (λ (a : Additions). there p x a) (sym r.top)
-    (and_from (copies_by (finished_field d)) (copies_among (whole_list p x a (finished_trees us)) && true) parts.0 (and_from (copies_among (whole_list p x a (finished_trees us))) true new refl))))
+    (and_from (copies_by reads (finished_field d)) (copies_among Top (whole_list p x a (finished_trees us)) && true) parts.0 (and_from (copies_among Top (whole_list p x a (finished_trees us))) true new refl))))
   where
     this_one : (z : Text) → among_names (z ∷ []) z ≡ true
     this_one z = ap (λ (b : Bool). b || false) (bytes_eq-self z)

@@ -3,14 +3,14 @@ use Rattle.std.proofs.Common.{arith, ◌≡◌, ◌∙◌, ℕ, zero, suc, refl,
 use Rattle.std.proofs.lemmas.Bool.{and_parts, or_parts}
 use Rattle.std.specs.List.{list_all}
 use Rattle.std.specs.Prelude.{◌&&◌, ◌||◌, Bool, true, false, not, Option, Some, None, bytes_eq, codes, if◌then◌else◌, is_some, length, map}
-use Rattle.es_tree.specs.Bare.{bare, bare_fields, bare_label, bare_trees}
+use Rattle.es_tree.specs.Bare.{bare, bare_trees}
 use Rattle.es_tree.specs.Fresh.{is_among, text_base}
 use Rattle.es_tree.specs.HasForm.{has_form}
 use Rattle.es_tree.specs.Helpers.{helper_text}
 use Rattle.es_tree.specs.Names.{first_text, names_of}
 use Rattle.es_tree.specs.Scopes.{Declared}
 use Rattle.es_tree.specs.Tree.{Tree, node, Label, Fields, done, ◌then◌, Field, missing, one, many, statements, Trees, empty, ◌before◌, trees}
-use Rattle.es_tree.specs.Walks.{all_in_field, all_in_fields, all_in_trees, all_nodes}
+use Rattle.es_tree.specs.Walks.{all_nodes}
 use Rattle.es_tree.specs.Words.{Text}
 use Rattle.es_tree.specs.declared.ast_type.AstType.{AstType}
 use Rattle.es_tree.specs.declared.ast_type.AstType.TheVariants.{Identifier}
@@ -18,12 +18,16 @@ use Rattle.es_tree.specs.declared.helper.Helper.{Helper}
 use Rattle.es_tree.specs.declared.helper.Helper.TheVariants.{ObjectSpread2}
 use Rattle.es_tree.specs.declared.options.EnvOptions.{EnvOptions}
 use Rattle.es_tree.specs.declared.table.Sort.TheVariants.{Program as s-Program}
-use Rattle.es_runs.specs.Alike.{Level, the_value}
+use Rattle.es_runs.specs.Alike.{Level, the_value, bad_names}
 use Rattle.es_runs.specs.Core.{Silent}
 use Rattle.es_runs.specs.Core.Silent.{helper_name}
 use Rattle.es_runs.specs.Machine.{Move, Result, Value}
+use Rattle.es_statement_runs.specs.HelperMembers.{no_helper_member}
+use Rattle.es_statement_steps.proofs.HelperMembers.{named-members}
+use Rattle.es_resolution.specs.Named.{Named, NamedAll, NamedBy, NamedIn, OwnUsed}
+use Rattle.std.proofs.lemmas.Slice.Eq.{bytes_eq-Decides}
 use Rattle.es_runs.specs.Runs.{is_declared, only, program}
-use Rattle.es_runs.proofs.Temporary.{bytes_eq-flip, bytes_eq-self}
+use Rattle.es_runs.proofs.Temporary.{bytes_eq-self}
 use Rattle.es_semantic.specs.RolesOf.{reads, role_at}
 use Rattle.es_semantic.specs.SymbolsOf.{symbols_of}
 use Rattle.es_semantic.specs.declared.place.Role.{Role}
@@ -44,9 +48,9 @@ use Rattle.es_statement_runs.specs.Helpers.{constants_in, helper_in, helper_name
 use Rattle.es_statement_runs.specs.Helpers.Supply.{by_global, by_import}
 use Rattle.es_statement_runs.specs.Names.{declared_at_top, top_in}
 use Rattle.es_statement_runs.specs.Places.{avoids, avoids_trees, take}
-use Rattle.es_statement_runs.specs.Programs.{IsStatementProgram, is_statement_node, names_other}
+use Rattle.es_statement_runs.specs.Programs.{IsStatementProgram, is_statement_node}
 use Rattle.es_statement_runs.specs.Runs.{RunAlike, SameRun, outcome, run}
-use Rattle.es_helper_calls.specs.HelperCalls.{bound_of, calling, calling_among, calling_by, calling_here, calling_in, called_helper, helpers_among, helpers_called, helpers_in, helpers_in_field, helpers_in_fields, is_helper as is_this, nameless, noted, own_helper}
+use Rattle.es_helper_calls.specs.HelperCalls.{bound_of, calling, calling_among, calling_by, calling_here, calling_in, used_helper, helpers_among, helpers_called, helpers_in, helpers_in_field, helpers_in_fields, is_helper as is_this, noted, own_helper}
 use Rattle.es_helper_calls.specs.Importing.{is_module}
 use Rattle.es_helper_imports.specs.Imported.{AreFresh, ImportsTo, imported_as, imports_of, unmarked}
 use Rattle.es_helper_imports.proofs.BareCalls.{bare-calling, bare-helpers}
@@ -56,7 +60,6 @@ use Rattle.es_statement_steps.specs.Laws.{assignments_there, chains_there, power
 use Rattle.es_statement_steps.proofs.AvoidedNames.{AtNames, AtNamesAll, AtNamesBy, AtNamesIn, OwnAt, aims_pass, both_names, is_aimed, names_avoid, top_fine}
 use Rattle.es_statement_steps.proofs.BareRuns.{alike-seen, list-bare, run-told}
 use Rattle.es_statement_steps.proofs.BareScopes.{declared-bare}
-use Rattle.es_statement_steps.proofs.BareTests.{source-passes}
 use Rattle.es_statement_steps.proofs.FoundNames.{declared_is}
 use Rattle.es_statement_steps.proofs.KeylessPrograms.{IsKeyless, keyless_silent}
 use Rattle.es_statement_steps.proofs.KeylessSources.{named-keyless, same-keyless}
@@ -68,19 +71,19 @@ use Rattle.es_statement_steps.proofs.StandingPrograms.{program_stands}
 use Rattle.es_statement_steps.proofs.StatementLaw.{KeptBeside, helped-run}
 use Rattle.es_statement_steps.proofs.StepMoves.{Fine}
 use Rattle.es_statement_steps.proofs.Tamed.{Class}
-use Rattle.es_import_runs.specs.Laws.{CallsSpread, LawImportingResult, RunsImporting, UsesNone, asks_no_helper, bad_calls, names_apart, spread_name}
-use Rattle.es_import_runs.proofs.AskedModules.{imports_bare, names_none, none_imported}
+use Rattle.es_import_runs.specs.Laws.{CallsSpread, LawImportingResult, RunsImporting, UsesNone, asks_no_helper, spread_name}
+use Rattle.es_import_runs.proofs.AskedModules.{imports_bare, none_imported, same_members}
 use Rattle.es_import_runs.proofs.CalledNames.{Plainly, formed_plainly}
 use Rattle.es_import_runs.proofs.Constants.{none_listed}
 use Rattle.es_import_runs.proofs.CopySteps.{keeps_copies}
 use Rattle.es_import_runs.proofs.Modules.{imported, none_excludes}
-use Rattle.es_import_runs.proofs.OnlyCopies.{aims_at, helpers_spread, named_other, not_aimed, only_copies, other_copies, same_copies}
+use Rattle.es_import_runs.proofs.OnlyCopies.{aims_at, helpers_spread, named_other, not_aimed, only_copies, same_copies, named_copies}
 use Rattle.es_import_runs.proofs.Sources.{law_imported_module_proof, none_named, supplies_same}
 
 -- WHAT IS KEPT ON THE WAY: `babelHelpers` in calls of the helper alone, and the class of programs
 
 abbrev Asked : Tree → Type 0
-Asked t = (only_copies t ≡ true) × Class t
+Asked t = (only_copies reads t ≡ true) × Class t
 
 asked_kept : (o : EnvOptions) (p : Tree) → NoneBeside o p → KeptBeside o p Asked
 asked_kept o p off =
@@ -117,8 +120,8 @@ module _ (c : Helper → Tree) where
   mutual
     uncalled : (t : Tree) → helpers_in t ≡ [] → calling c t ≡ t
     uncalled (node k l fs) e =
-        let d = both_none (helpers_in_fields fs) (own_helper (called_helper k l fs)) e in
-        at (called_helper k l fs) d.1 (uncalled_in fs d.0)
+        let d = both_none (helpers_in_fields fs) (own_helper (used_helper k l fs)) e in
+        at (used_helper k l fs) d.1 (uncalled_in fs d.0)
       where
         at : (o : Option Helper) → own_helper o ≡ [] → calling_in c fs ≡ fs → node k l (calling_here c o (calling_in c fs)) ≡ node k l fs
         at None e h = ap (λ (gs : Fields). node k l gs) h
@@ -193,7 +196,7 @@ module _ (m : Text) (es : List (Text × Silent)) (none : (f : Tree) → is_helpe
 record Left (m : Text) (p t : Tree) : Type 0 where
   form : has_form s-Program t ≡ true
   fine : Fine t
-  copies : only_copies t ≡ true
+  copies : only_copies reads t ≡ true
   keyless : IsKeyless t
   alike : RunAlike by_global false p t
   declared : (y : Text) → is_declared (declared_at_top p) y ≡ true → is_declared (declared_at_top t) y ≡ true
@@ -215,8 +218,8 @@ module _ (m : Text) (p t : Tree) (left : Left m p t) (uses : UsesNone m p) where
       itself : imported_as m [] [] t ≡ t
       itself = ap (with_top empty) (uncalled (λ h. identifier (c h)) t none) ∙ nothing_on t
 
-      global : all_nodes names_other t ≡ true
-      global = ap (all_nodes names_other) (sym (uncalled (λ h. identifier (c h)) t none)) ∙ named_other c (λ h e. refl) t plain left.copies
+      global : all_nodes no_helper_member t ≡ true
+      global = ap (all_nodes no_helper_member) (sym (uncalled (λ h. identifier (c h)) t none)) ∙ named_other c reads t plain left.copies
 
       none_used : UsesNone m t
       none_used = record { global = global; helpers = left.requests; silent = keyless_silent t left.keyless }
@@ -227,39 +230,49 @@ module _ (m : Text) (p t : Tree) (left : Left m p t) (uses : UsesNone m p) where
           let after_it = supplies_same m t none_used n this moves in
           rw (before_it, after_it) (left.alike n this moves assumed proper moved (λ e. inside (ap outcome before_it ∙ e)))
 
--- WHERE IT CALLS THAT OF OBJECT SPREAD, by a name that stands nowhere in it
+-- WHERE IT CALLS THAT OF OBJECT SPREAD, by a name that none of its names is
 
 module _ (x : Text) where
   abbrev AwayFrom : Role → Label → Type 0
+  AwayFrom Nothing l = Unit {0}
   AwayFrom r l = only x (first_text l.texts) ≡ false
 
-  away_own : (r : Role) (k : AstType) (l : Label) (fs : Fields) → names_apart (x ∷ []) k l fs ≡ true → OwnAt AwayFrom r k l
-  away_own r Identifier l fs h = bytes_eq-flip (first_text l.texts) x ∙ at (bytes_eq x (first_text l.texts)) h
-    where
-      at : (b : Bool) → not (b || false) ≡ true → b ≡ false
-      at true h = absurd (cc h)
-      at false h = refl
-  away_own r _ l fs h = tt
+  away_seen : (r : Role) (l : Label) → (r ≡ Nothing → ⊥) → AwayFrom r l → only x (first_text l.texts) ≡ false
+  away_seen Nothing l e h = absurd (e refl)
+  away_seen _ l e h = h
 
-  mutual
-    away_at : (t : Tree) (r : Role) → all_nodes (names_apart (x ∷ [])) t ≡ true → AtNames AwayFrom r t
-    away_at (node k l fs) r h = let d = and_parts (names_apart (x ∷ []) k l fs) (all_in_fields (names_apart (x ∷ [])) fs) h in (away_own r k l fs d.0, away_in fs (role_at r k l fs) d.1)
+  module _ (free : ℕ) (used : Text → Bool) (unused : used x ≡ false) where
+    apart : (y : Text) → used y ≡ true → only x y ≡ false
+    apart y h = at (bytes_eq y x) refl
+      where
+        at : (b : Bool) → bytes_eq y x ≡ b → b ≡ false
+        at true e = let no : true ≡ false = sym h ∙ ap used ((bytes_eq-Decides y x).0 e) ∙ unused in absurd (cc no)
+        at false e = refl
 
-    away_in : (fs : Fields) (roles : ℕ → Role) → all_in_fields (names_apart (x ∷ [])) fs ≡ true → AtNamesIn AwayFrom roles fs
-    away_in done roles h = tt
-    away_in (f then fs) roles h = let d = and_parts (all_in_field (names_apart (x ∷ [])) f) (all_in_fields (names_apart (x ∷ [])) fs) h in (away_by f (roles zero) d.0, away_in fs (λ n. roles (suc n)) d.1)
+    away_own : (r : Role) (k : AstType) (l : Label) → OwnUsed used r k l → OwnAt AwayFrom r k l
+    away_own Nothing Identifier l h = tt
+    away_own _ Identifier l h = apart (first_text l.texts) h
+    away_own r _ l h = tt
 
-    away_by : (f : Field) (r : Role) → all_in_field (names_apart (x ∷ [])) f ≡ true → AtNamesBy AwayFrom r f
-    away_by missing r h = tt
-    away_by (one t) r h = away_at t r h
-    away_by (many ts) r h = away_among ts r h
-    away_by (statements ts) r h = away_among ts r h
+    mutual
+      away_at : (t : Tree) (r : Role) → Named used free r t → AtNames AwayFrom r t
+      away_at (node k l fs) r h = (away_own r k l h.0.0, away_in fs (role_at r k l fs) h.1)
 
-    away_among : (ts : Trees) (r : Role) → all_in_trees (names_apart (x ∷ [])) ts ≡ true → AtNamesAll AwayFrom r ts
-    away_among empty r h = tt
-    away_among (t before ts) r h = let d = and_parts (all_nodes (names_apart (x ∷ [])) t) (all_in_trees (names_apart (x ∷ [])) ts) h in (away_at t r d.0, away_among ts r d.1)
+      away_in : (fs : Fields) (roles : ℕ → Role) → NamedIn used free roles fs → AtNamesIn AwayFrom roles fs
+      away_in done roles h = tt
+      away_in (f then fs) roles h = (away_by f (roles zero) h.0, away_in fs (λ n. roles (suc n)) h.1)
 
-module _ (m : Text) (p : Tree) (l : Label) (ds body : Trees) (left : Left m p (program l ds body)) (uses : UsesNone m p) (x : Text) (made : is_made_text x ≡ true) (apart : all_nodes (names_apart (x ∷ [])) (program l ds body) ≡ true) where
+      away_by : (f : Field) (r : Role) → NamedBy used free r f → AtNamesBy AwayFrom r f
+      away_by missing r h = tt
+      away_by (one t) r h = away_at t r h
+      away_by (many ts) r h = away_among ts r h
+      away_by (statements ts) r h = away_among ts r h
+
+      away_among : (ts : Trees) (r : Role) → NamedAll used free r ts → AtNamesAll AwayFrom r ts
+      away_among empty r h = tt
+      away_among (t before ts) r h = (away_at t r h.0, away_among ts r h.1)
+
+module _ (m : Text) (p : Tree) (l : Label) (ds body : Trees) (left : Left m p (program l ds body)) (uses : UsesNone m p) (x : Text) (made : is_made_text x ≡ true) (away : AtNames (AwayFrom x) reads (program l ds body)) where
   abbrev t : Tree
   t = program l ds body
 
@@ -267,18 +280,18 @@ module _ (m : Text) (p : Tree) (l : Label) (ds body : Trees) (left : Left m p (p
   b = record { name = x; symbol = None }
 
   abbrev bad : Level → Text → Bool
-  bad = bad_calls (only x)
+  bad = bad_names (only x) (only (codes "babelHelpers"))
 
   abbrev IsSo : Role → Label → Type 0
   IsSo r i = AwayFrom x r i × not_aimed r i
 
   good : (r : Role) (n : Level) (i : Label) → (r ≡ Nothing → n ≡ Level.no_evaluation) → (n ≡ Level.a_target → is_aimed r ≡ true) → IsSo r i → bad n (first_text i.texts) ≡ false
-  good r Level.no_evaluation i e d q = q.0
-  good r Level.a_target i e d q = λ j. q.0 j || q.1 (d refl) j
-  good r _ i e d q = q.0
+  good r Level.no_evaluation i e d q = refl
+  good r Level.a_target i e d q = λ j. away_seen x r i (λ g. absurd (cc (e g))) q.0 j || q.1 (d refl) j
+  good r _ i e d q = away_seen x r i (λ g. absurd (cc (e g))) q.0
 
   names_there : AtNames IsSo reads t
-  names_there = both_names (AwayFrom x) not_aimed reads t (away_at x t reads apart) (aims_at t reads (formed_plainly t left.form) left.copies)
+  names_there = both_names (AwayFrom x) not_aimed reads t away (aims_at t reads (formed_plainly t left.form) left.copies)
 
   avoided : avoids_trees bad (take the_value true) body ≡ true
   avoided =
@@ -298,14 +311,11 @@ module _ (m : Text) (p : Tree) (l : Label) (ds body : Trees) (left : Left m p (p
   or_second true = refl
   or_second false = refl
 
-  other : bytes_eq x (codes "babelHelpers") ≡ false
-  other = bytes_eq-flip x (codes "babelHelpers") ∙ made_apart (codes "babelHelpers") x refl made
-
   calls : CallsSpread m l ds body b
   calls = record {
     form = left.form;
-    spreads = helpers_spread t (formed_plainly t left.form) left.copies;
-    called = named_other (bound_of (ObjectSpread2 ∷ []) (b ∷ [])) (λ h e. ap (λ (c : Bool). bytes_eq (if c then b else nameless).name (codes "babelHelpers")) e ∙ other) t (formed_plainly t left.form) left.copies;
+    spreads = helpers_spread reads t (formed_plainly t left.form) left.copies;
+    called = named_other (bound_of (ObjectSpread2 ∷ []) (b ∷ [])) reads t (formed_plainly t left.form) left.copies;
     global = unbound (codes "babelHelpers") (or_second (only x (codes "babelHelpers")));
     silent = keyless_silent t left.keyless;
     helpers = left.requests;
@@ -330,7 +340,7 @@ module _ (m : Text) (p : Tree) (l : Label) (ds body : Trees) (left : Left m p (p
 
 -- THE LAW
 
-module _ (o : EnvOptions) (m : Text) (p q r : Tree) (names last : List Text) (h : IsStatementProgram p) (imp : RunsImporting o m p) (result : IsResult o p q names) (sort : is_module q ≡ is_module p) (goes : ImportsTo (first_whole q).in_use m q r last) (apart : all_nodes (names_apart last) q ≡ true) where
+module _ (o : EnvOptions) (m : Text) (p q r : Tree) (names last : List Text) (h : IsStatementProgram p) (imp : RunsImporting o m p) (result : IsResult o p q names) (sort : is_module q ≡ is_module p) (goes : ImportsTo (first_whole q).in_use m q r last) where
   off : NoneBeside o p
   off =
       let d = or_parts (chains_there o p) (assignments_there o p || powers_there o p) imp.beside in
@@ -342,14 +352,14 @@ module _ (o : EnvOptions) (m : Text) (p q r : Tree) (names last : List Text) (h 
       let a = program-parts z form in
       ap (λ (y : Tree). imported_helpers m (program_list y)) a.same ∙ none_imported m a.label a.directives a.body (subst (λ (y : Tree). has_form s-Program y ≡ true) a.same form) (subst (λ (y : Tree). asks_no_helper m y ≡ true) a.same asks)
 
-  none_named_there : is_among (names_of p) (codes "babelHelpers") ≡ false
-  none_named_there = names_none p imp.names
+  source_named : Named (is_among (names_of p)) (length (symbols_of p)) reads (source p)
+  source_named = law_named_proof p (is_among (names_of p)) (length (symbols_of p)) h.form h.rules (λ x e. e) (omega arith)
 
   keyless_source : IsKeyless (source p)
-  keyless_source = named-keyless (length (symbols_of p)) (is_among (names_of p)) none_named_there reads (source p) (law_named_proof p (is_among (names_of p)) (length (symbols_of p)) h.form h.rules (λ x e. e) (omega arith))
+  keyless_source = named-keyless (length (symbols_of p)) (is_among (names_of p)) imp.names reads (source p) source_named
 
   uses : UsesNone m p
-  uses = record { global = imp.names; helpers = listed p (none_asked p h.form imp.asks); silent = keyless_silent p (same-keyless p (source p) (source-bare p) keyless_source) }
+  uses = record { global = same_members (source p) p (sym (source-bare p)) (named-members (length (symbols_of p)) (is_among (names_of p)) imp.names reads (source p) source_named); helpers = listed p (none_asked p h.form imp.asks); silent = keyless_silent p (same-keyless p (source p) (source-bare p) keyless_source) }
     where
       listed : (z : Tree) → imported_helpers m (program_list z) ≡ [] → helper_names (by_import m) z ≡ []
       listed z e = e
@@ -359,7 +369,7 @@ module _ (o : EnvOptions) (m : Text) (p q r : Tree) (names last : List Text) (h 
 
   reached_there : StepAlike false by_global p result.resolved × (IsKeyless result.resolved × Asked result.resolved)
   reached_there =
-      helped-run o false p off Asked (asked_kept o p off) result.resolved names h (ap not none_named_there) (same_copies p (source p) (source-bare p) (other_copies p imp.names), class_of p (source p) (source-bare p) h.without_functions) result.reached
+      helped-run o false p off Asked (asked_kept o p off) result.resolved names h (ap not imp.names) (named_copies (length (symbols_of p)) (is_among (names_of p)) imp.names reads (source p) source_named, class_of p (source p) (source-bare p) h.without_functions) result.reached
 
   abbrev seen : Tree
   seen = source q
@@ -374,7 +384,7 @@ module _ (o : EnvOptions) (m : Text) (p q r : Tree) (names last : List Text) (h 
       record {
         form = form;
         fine = program_stands seen form (class_of result.resolved seen same run.1.1.1) ((law_places_proof seen).to_places (law_bare_places_proof q seen (source-bare q) (law_among_proof q result.kept)));
-        copies = same_copies result.resolved seen same run.1.1.0;
+        copies = same_copies reads result.resolved seen same run.1.1.0;
         keyless = same-keyless seen result.resolved (sym same) run.1.0;
         alike = alike-seen by_global refl false p result.resolved p seen refl same run.0.runs;
         declared = λ y e. ap (λ (ds : List Declared). is_declared ds y) (sym (declared-bare seen) ∙ ap declared_at_top (sym same) ∙ declared-bare result.resolved) ∙ run.0.declared y e;
@@ -392,13 +402,9 @@ module _ (o : EnvOptions) (m : Text) (p q r : Tree) (names last : List Text) (h 
   spread_there e [] d fresh = absurd fresh
   spread_there e (x ∷ []) d fresh =
       let a = program-parts seen left.form in
-      let away : all_nodes (names_apart (x ∷ [])) seen ≡ true = source-passes (names_apart (x ∷ [])) (apart_bare (x ∷ [])) q (subst (λ (xs : List Text). all_nodes (names_apart xs) q ≡ true) d apart) in
-      spread_imported m p a.label a.directives a.body (subst (λ (z : Tree). Left m p z) a.same left) uses x (fresh_made (first_whole q).in_use (text_base (helper_text ObjectSpread2)) x fresh.0) (subst (λ (z : Tree). all_nodes (names_apart (x ∷ [])) z ≡ true) a.same away) r
+      let away = away_at x (length (symbols_of q)) (first_whole q).in_use fresh.0.free seen reads (law_named_proof q (first_whole q).in_use (length (symbols_of q)) result.form result.kept (λ y e. rw e refl) (omega arith)) in
+      spread_imported m p a.label a.directives a.body (subst (λ (z : Tree). Left m p z) a.same left) uses x (fresh_made (first_whole q).in_use (text_base (helper_text ObjectSpread2)) x fresh.0) (subst (λ (z : Tree). AtNames (AwayFrom x) reads z) a.same away) r
       (ap (λ (z : Tree). bare (imported_as m (ObjectSpread2 ∷ []) (unmarked (x ∷ [])) z)) (sym a.same) ∙ written_as (ObjectSpread2 ∷ []) e (unmarked (x ∷ [])) (ap unmarked d))
-    where
-      apart_bare : (xs : List Text) (k : AstType) (l : Label) (fs : Fields) → names_apart xs k (bare_label l) (bare_fields fs) ≡ names_apart xs k l fs
-      apart_bare xs Identifier l fs = refl
-      apart_bare xs _ l fs = refl
   spread_there e (x ∷ (y ∷ ys)) d fresh = absurd fresh.1
 
   none_there : helpers_in seen ≡ [] → (xs : List Text) → last ≡ xs → AreFresh (first_whole q).in_use [] xs → RunAlike (by_import m) false p r
@@ -410,11 +416,11 @@ module _ (o : EnvOptions) (m : Text) (p q r : Tree) (names last : List Text) (h 
   none_there e (x ∷ xs) d fresh = absurd fresh
 
   runs_there : RunAlike (by_import m) false p r
-  runs_there = at (called_so (helpers_in seen) (helpers_spread seen (formed_plainly seen left.form) left.copies))
+  runs_there = at (called_so (helpers_in seen) (helpers_spread reads seen (formed_plainly seen left.form) left.copies))
     where
       at : Called (helpers_in seen) → RunAlike (by_import m) false p r
       at (calls_none e) = none_there e last refl (subst (λ (hs : List Helper). AreFresh (first_whole q).in_use hs last) (ap (noted []) (same_helpers ∙ e)) goes.fresh)
       at (calls_spread e) = let d : helpers_called q ≡ ObjectSpread2 ∷ [] = ap (noted []) same_helpers ∙ e in spread_there d last refl (subst (λ (hs : List Helper). AreFresh (first_whole q).in_use hs last) d goes.fresh)
 
 pub law_importing_result_proof : LawImportingResult
-law_importing_result_proof o m p q r names last h imp result sort goes apart = runs_there o m p q r names last h imp result sort goes apart
+law_importing_result_proof o m p q r names last h imp result sort goes = runs_there o m p q r names last h imp result sort goes

@@ -1,4 +1,5 @@
 pub mod CalledNames
+pub mod ToldPlaces
 pub mod Callings
 pub mod Constants
 pub mod Tops

@@ -40,11 +40,12 @@ use Rattle.es_statement_runs.proofs.RunLaws.{same_run}
 use Rattle.es_helper_calls.specs.HelperCalls.{bound_of, nameless, calling, calling_among, helpers_among, helpers_in, is_helper as is_this}
 use Rattle.es_helper_imports.specs.Imported.{helper_source, imports_of}
 use Rattle.es_import_runs.specs.Laws.{CallsSpread, LawImportingModule, RunUnder, spread_name}
-use Rattle.es_statement_runs.specs.Programs.{names_other}
+use Rattle.es_statement_runs.specs.HelperMembers.{no_helper_member}
 use Rattle.es_top_imports.specs.TopImports.{Import, import_of, top_of, with_top}
 use Rattle.es_statement_runs.proofs.AkinSupplies.{akin-senses, import-akin}
 use Rattle.es_import_runs.proofs.CalledNames.{Plainly, formed_plainly, tops_now, using_all_now}
 use Rattle.es_import_runs.proofs.Callings.{AllNamed, all_left, trees_like}
+use Rattle.es_import_runs.proofs.OnlyCopies.{handed_other}
 use Rattle.es_import_runs.proofs.Constants.{none_listed}
 use Rattle.es_import_runs.proofs.Tops.{import_silent, imported_after, kinds_after, program_after}
 
@@ -174,12 +175,12 @@ module _ (m : Text) (l : Label) (ds body : Trees) (b : Bound) (h : CallsSpread m
         let all = left (helpers_among ds ++ (helpers_among body ++ [])) [] (all_known (helpers_in p) h.spreads) in
         (left (helpers_among body) [] (left (helpers_among ds) (helpers_among body ++ []) all.0).1).0
 
-    apart : all_in_trees names_other us ≡ true
-    apart = let d = and_parts (all_in_trees names_other (calling_among (spread_name b) ds)) (all_in_trees names_other us && true) h.called in (and_parts (all_in_trees names_other us) true d.1).0
+    apart : all_in_trees no_helper_member us ≡ true
+    apart = let d = and_parts (all_in_trees no_helper_member (calling_among (spread_name b) ds)) (all_in_trees no_helper_member us && true) h.called in (and_parts (all_in_trees no_helper_member us) true d.1).0
 
     like : SensesLike (apart_from x) w v body_taken (senses (placed_at by_global w [] []) body) (senses (placed_at (by_import m) v [] []) us)
     like = subst (λ (es : List Sense). SensesLike (apart_from x) w v body_taken (senses (placed_at by_global w [] []) body) es) (akin-senses by_global (by_import m) (import-akin m) us apart v [] [])
-        (trees_like (only x) known (bound_of (ObjectSpread2 ∷ []) (b ∷ [])) hides (one_quiet x h.math h.no_cell) (one_stack x h.no_cell) h.seen body body_taken h.name parts.1.1.0 all_in_body (place_like same (record { global = free_before; names = stands })))
+        (trees_like (only x) known (bound_of (ObjectSpread2 ∷ []) (b ∷ [])) hides (one_quiet x h.math h.no_cell) (one_stack x h.no_cell) h.seen handed_other body body_taken refl h.name parts.1.1.0 all_in_body (place_like same (record { global = free_before; names = stands })))
 
     runs : (n : ℕ) (moves : List Move) → Same (apart_from x) Equal (run by_global n p this moves) (run (by_import m) n q this moves)
     runs n moves = program_after by_global (by_import m) x w v same (one_quiet x h.math h.no_cell) (import_of item) (import_silent (by_import m) item (codes "objectSpread2") v bound) (one_stack x h.no_cell) refl l ds (calling_among (spread_name b) ds) body us like

@@ -3,20 +3,19 @@ use Rattle.std.specs.Prelude.{◌≡◌, ◌||◌, ℕ, List, [], ◌∷◌, Boo
 use Rattle.std.specs.List.{list_all}
 use Rattle.es_tree.specs.Fresh.{is_among}
 use Rattle.es_tree.specs.HasForm.{has_form}
-use Rattle.es_tree.specs.Names.{first_text}
-use Rattle.es_tree.specs.Tree.{Fields, Label, Tree, Trees}
+use Rattle.es_tree.specs.Names.{names_of}
+use Rattle.es_tree.specs.Tree.{Label, Tree, Trees}
 use Rattle.es_tree.specs.Walks.{all_nodes}
 use Rattle.es_tree.specs.Words.{Text}
-use Rattle.es_tree.specs.declared.ast_type.AstType.{AstType}
-use Rattle.es_tree.specs.declared.ast_type.AstType.TheVariants.{Identifier}
 use Rattle.es_tree.specs.declared.helper.Helper.{Helper}
 use Rattle.es_tree.specs.declared.helper.Helper.TheVariants.{ObjectSpread2}
 use Rattle.es_tree.specs.declared.options.EnvOptions.{EnvOptions}
 use Rattle.es_tree.specs.declared.table.Sort.TheVariants.{Program as s-Program}
 use Rattle.es_resolution.specs.Declarations.{Bound}
 use Rattle.es_runs.specs.Machine.{Move, Value}
+use Rattle.es_statement_runs.specs.HelperMembers.{no_helper_member}
 use Rattle.es_runs.specs.Runs.{is_declared, only, program}
-use Rattle.es_runs.specs.Alike.{Level, bad_names, the_value}
+use Rattle.es_runs.specs.Alike.{bad_names, the_value}
 use Rattle.es_steps.specs.CoreBridge.{first_whole}
 use Rattle.es_steps.specs.Nodes.{identifier}
 use Rattle.es_module_names.specs.Modules.{requests_of}
@@ -25,7 +24,7 @@ use Rattle.es_statement_runs.specs.Helpers.{Supply, helper_in, helper_names, sil
 use Rattle.es_statement_runs.specs.Helpers.Supply.{by_global, by_import}
 use Rattle.es_statement_runs.specs.Names.{declared_at_top, top_in}
 use Rattle.es_statement_runs.specs.Places.{HelpersSeen, avoids_trees, take}
-use Rattle.es_statement_runs.specs.Programs.{IsStatementProgram, names_other}
+use Rattle.es_statement_runs.specs.Programs.{IsStatementProgram}
 use Rattle.es_statement_runs.specs.Laws.{apart_from}
 use Rattle.es_statement_runs.specs.Runs.{RunAlike, SameRun, outcome, run}
 use Rattle.es_statement_runs.specs.Runs.Outcome.{outside}
@@ -39,11 +38,6 @@ use Rattle.es_statement_steps.specs.Laws.{assignments_there, chains_there, power
 abbrev pub RunUnder : Supply → Supply → Tree → Tree → Type 0
 RunUnder u v p q = (n : ℕ) (this : Value) (moves : List Move) → (outcome (run u n p this moves) ≡ outside → ⊥) → SameRun (is_declared (declared_at_top p)) (run u n p this moves) (run v n q this moves)
 
--- hidden names are bad wherever they stand, and `babelHelpers` as a target
-abbrev pub bad_calls : (Text → Bool) → Level → Text → Bool
-bad_calls hidden Level.no_evaluation x = hidden x
-bad_calls hidden n x = bad_names hidden (only (codes "babelHelpers")) n x
-
 -- the name by which the helper of object spread is called
 abbrev pub spread_name : Bound → Helper → Tree
 spread_name b h = identifier (bound_of (ObjectSpread2 ∷ []) (b ∷ []) h)
@@ -52,14 +46,14 @@ spread_name b h = identifier (bound_of (ObjectSpread2 ∷ []) (b ∷ []) h)
 pub record CallsSpread (m : Text) (l : Label) (ds body : Trees) (b : Bound) : Type 0 where
   pub form : has_form s-Program (program l ds body) ≡ true
   pub spreads : list_all (λ h. is_helper ObjectSpread2 h) (helpers_in (program l ds body)) ≡ true
-  -- `babelHelpers` stands in these calls alone, and no scope declares it
-  pub called : all_nodes names_other (calling (spread_name b) (program l ds body)) ≡ true
+  -- no other member is one of `babelHelpers`, and no scope declares it
+  pub called : all_nodes no_helper_member (calling (spread_name b) (program l ds body)) ≡ true
   pub global : is_declared (top_in body) (codes "babelHelpers") ≡ false
   -- no name of its stands for a helper or for keys
   pub silent : silent_names by_global (program l ds body) ≡ []
   pub helpers : helper_names (by_import m) (program l ds body) ≡ []
-  -- the name stands nowhere in it
-  pub name : avoids_trees (bad_calls (only b.name)) (take the_value true) body ≡ true
+  -- the name is none of its names, which aren't its keys and labels; and none that is bound or written is `babelHelpers`
+  pub name : avoids_trees (bad_names (only b.name) (only (codes "babelHelpers"))) (take the_value true) body ≡ true
   pub undeclared : is_declared (top_in body) b.name ≡ false
   pub seen : HelpersSeen (apart_from b.name)
   pub math : bytes_eq (codes "Math") b.name ≡ false
@@ -72,7 +66,7 @@ LawImportingModule = (m : Text) (l : Label) (ds body : Trees) (b : Bound) → is
 
 -- So what a source that uses no helper itself becomes runs as it does, importing the helper, too.
 pub record UsesNone (m : Text) (p : Tree) : Type 0 where
-  pub global : all_nodes names_other p ≡ true
+  pub global : all_nodes no_helper_member p ≡ true
   pub helpers : helper_names (by_import m) p ≡ []
   pub silent : silent_names by_global p ≡ []
 
@@ -86,20 +80,14 @@ LawImportedModule = (m : Text) (no_all : Bool) (p : Tree) (l : Label) (ds body :
 abbrev pub asks_no_helper : Text → Tree → Bool
 asks_no_helper m p = list_all (λ t. not (is_some (helper_in m t))) (requests_of p)
 
--- A module of which the law speaks: it holds no identifier `babelHelpers`, as a key either, asks for no helper, and has nothing by which chains, logical
+-- A module of which the law speaks: it doesn't name `babelHelpers`, which may be a key of it, asks for no helper, and has nothing by which chains, logical
 -- assignment or exponentiation are lowered.
 pub record RunsImporting (o : EnvOptions) (m : Text) (p : Tree) : Type 0 where
   pub module_code : is_module p ≡ true
-  pub names : all_nodes names_other p ≡ true
+  pub names : is_among (names_of p) (codes "babelHelpers") ≡ false
   pub asks : asks_no_helper m p ≡ true
   pub beside : (chains_there o p || (assignments_there o p || powers_there o p)) ≡ false
 
--- no identifier is one of these names, also no key and no label, which are no names in use
-abbrev pub names_apart : List Text → AstType → Label → Fields → Bool
-names_apart xs Identifier l fs = not (is_among xs (first_text l.texts))
-names_apart xs k l fs = true
-
--- What such a module becomes, q, runs as it does, when it imports its helpers, as r, by names that are no keys and labels of it.
+-- What such a module becomes, q, runs as it does, when it imports its helpers, as r, by names that are none of q's.
 abbrev pub LawImportingResult : Type 0
-LawImportingResult = (o : EnvOptions) (m : Text) (p q r : Tree) (names last : List Text) → IsStatementProgram p → RunsImporting o m p → IsResult o p q names → is_module q ≡ is_module p → ImportsTo (first_whole q).in_use m q r last → all_nodes (names_apart last) q ≡ true →
-    RunAlike (by_import m) false p r
+LawImportingResult = (o : EnvOptions) (m : Text) (p q r : Tree) (names last : List Text) → IsStatementProgram p → RunsImporting o m p → IsResult o p q names → is_module q ≡ is_module p → ImportsTo (first_whole q).in_use m q r last → RunAlike (by_import m) false p r

@@ -1,4 +1,4 @@
--- Where no name in a tree is the object of all helpers, it means the same under supplies of helpers that differ in that object alone.
+-- Where no member in a tree is one of the object of all helpers, it means the same under supplies of helpers that differ in that object alone.
 use Rattle.std.proofs.Common.{◌≡◌, ℕ, zero, suc, refl, sym, ap, subst, ◌∙◌, Option, Some, None, List, [], ◌∷◌}
 use Rattle.std.proofs.lemmas.Bool.{and_parts, not-true, and_right}
 use Rattle.std.specs.Prelude.{◌&&◌, Bool, true, false, not, bytes_eq, codes, if◌then◌else◌}
@@ -18,7 +18,7 @@ use Rattle.es_statement_runs.specs.Helpers.Supply.{by_global, by_import, no_help
 use Rattle.es_statement_runs.specs.Kinds.{inside, label_in, portion, portions, scope_by, sense, sense_of, senses}
 use Rattle.es_statement_runs.specs.Names.{is_word, own_names, own_use}
 use Rattle.es_statement_runs.specs.Places.{placed_at}
-use Rattle.es_statement_runs.specs.Programs.{names_other}
+use Rattle.es_statement_runs.specs.HelperMembers.{first_is_helpers, is_helpers_object, no_helper_member}
 use Rattle.es_statement_runs.specs.Senses.{More, Place, Portion, Sense, cooked_texts, core_parts, cores, plain_sense, raw_texts, said_in, tagged_template, template_meaning, text_alone}
 use Rattle.es_runs.specs.Machine.{M, Values}
 use Rattle.es_statement_runs.specs.Senses.More.{aims, helper_call, keys_of, maps, stack_member, template_of}
@@ -52,10 +52,10 @@ other-global w spread_by_global o h = rw h refl
 other-global w by_global o h = rw h refl
 other-global w _ o h = refl
 
--- TREES in which no name is that object
+-- TREES in which no member is one of that object
 
 abbrev pub Apart : Tree → Type 0
-Apart t = all_nodes names_other t ≡ true
+Apart t = all_nodes no_helper_member t ≡ true
 
 module _ (u v : Supply) (akin : Akin u v) where
   module _ (p : Place) where
@@ -95,7 +95,24 @@ module _ (u v : Supply) (akin : Akin u v) where
     FirstApart (alone o ∷ ps) = is_apart o.core.form ≡ true
     FirstApart _ = Unit {0}
 
-    kind-same : (k : AstType) (ts : List (Option Text)) (fs : List Bool) (block : Scope) (i : World) (m : Meaning) (ps : List Portion) → FirstApart ps → sense_of (supplied u p) k ts fs block i m ps ≡ sense_of (supplied v p) k ts fs block i m ps
+    -- of a member, and of a declarator
+    abbrev ObjectApart : AstType → List Portion → Type 0
+    ObjectApart MemberExpression ps = FirstApart ps
+    ObjectApart _ ps = Unit {0}
+
+    abbrev DeclaredApart : AstType → List Portion → Type 0
+    DeclaredApart VariableDeclarator ps = FirstApart ps
+    DeclaredApart _ ps = Unit {0}
+
+    object-first : (k : AstType) (l : Label) (fs : Fields) (ps : List Portion) → no_helper_member k l fs ≡ true → (first_is_helpers fs ≡ false → FirstApart ps) → ObjectApart k ps
+    object-first MemberExpression l fs ps h f = f (not-true (first_is_helpers fs) h)
+    object-first _ l fs ps h f = tt
+
+    declared-first : (k : AstType) (l : Label) (fs : Fields) (ps : List Portion) → is_helpers_object (node k l fs) ≡ false → (first_is_helpers fs ≡ false → FirstApart ps) → DeclaredApart k ps
+    declared-first VariableDeclarator l fs ps h f = f h
+    declared-first _ l fs ps h f = tt
+
+    kind-same : (k : AstType) (ts : List (Option Text)) (fs : List Bool) (block : Scope) (i : World) (m : Meaning) (ps : List Portion) → ObjectApart k ps → sense_of (supplied u p) k ts fs block i m ps ≡ sense_of (supplied v p) k ts fs block i m ps
     kind-same Identifier ts fs block i m ps h = ap (λ (e : More). record { core = m; more = e }) (akin.said (p.world.scope (first_text ts)))
     kind-same MemberExpression ts fs block i m (alone o ∷ alone k ∷ []) h = member-same (flag fs) (flag_after fs) o k m h
     kind-same MemberExpression ts fs block i m _ h = refl
@@ -221,7 +238,7 @@ module _ (u v : Supply) (akin : Akin u v) where
     NamesOther Identifier ts = not (bytes_eq (first_text ts) (codes "babelHelpers")) ≡ true
     NamesOther _ ts = Unit {0}
 
-    form-of : (k : AstType) (ts : List (Option Text)) (fs : List Bool) (block : Scope) (i : World) (ps : List Portion) → NamesOther k ts → FirstApart ps → is_apart (sense_of (supplied v p) k ts fs block i (meaning_of p.world k ts fs (core_parts ps)) ps).core.form ≡ true
+    form-of : (k : AstType) (ts : List (Option Text)) (fs : List Bool) (block : Scope) (i : World) (ps : List Portion) → NamesOther k ts → DeclaredApart k ps → is_apart (sense_of (supplied v p) k ts fs block i (meaning_of p.world k ts fs (core_parts ps)) ps).core.form ≡ true
     form-of Identifier ts fs block i ps n h = n
     form-of UnaryExpression ts fs block i (alone a ∷ []) n h = unary-form p.world (unary_class (first_text ts)) (first_text ts) a.core
     form-of UnaryExpression ts fs block i _ n h = refl
@@ -325,19 +342,23 @@ module _ (u v : Supply) (akin : Akin u v) where
     form-of NumericLiteral ts fs block i ps n h = plain-form (bytes_eq (second ts) (codes "0")) _ _ refl refl
     form-of k ts fs block i ps n h = refl
 
-  own-name : (k : AstType) (l : Label) (fs : Fields) (p : Place) → names_other k l fs ≡ true → NamesOther p k l.texts
-  own-name Identifier l fs p h = h
+  own-name : (k : AstType) (l : Label) (fs : Fields) (p : Place) → is_helpers_object (node k l fs) ≡ false → NamesOther p k l.texts
+  own-name Identifier l fs p h = ap not h
   own-name _ l fs p h = tt
 
-  record SameParts (ps qs : List Portion) (p : Place) : Type 0 where
+  -- what is known of a tree: it means the same, and its form is another word where it isn't that name
+  record SameTree (t : Tree) (p : Place) : Type 0 where
+    same : sense (supplied u p) t ≡ sense (supplied v p) t
+    form : is_helpers_object t ≡ false → is_apart (sense (supplied v p) t).core.form ≡ true
+
+  record SameParts (fs : Fields) (ps qs : List Portion) (p : Place) : Type 0 where
     parts : ps ≡ qs
-    first : FirstApart p qs
+    first : first_is_helpers fs ≡ false → FirstApart p qs
 
   mutual
-    -- it means the same, and its form is another
-    tree-same : (t : Tree) → Apart t → (p : Place) → (sense (supplied u p) t ≡ sense (supplied v p) t) × (is_apart (sense (supplied v p) t).core.form ≡ true)
+    tree-same : (t : Tree) → Apart t → (p : Place) → SameTree t p
     tree-same (node k l fs) h p =
-        let d = and_parts (names_other k l fs) (all_in_fields names_other fs) h in
+        let d = and_parts (no_helper_member k l fs) (all_in_fields no_helper_member fs) h in
         let ds = own_names k fs in
         let vs = label_in k fs in
         let q = fields-same fs d.1 (inside p k l.texts ds vs) p in
@@ -345,36 +366,38 @@ module _ (u v : Supply) (akin : Akin u v) where
         let here : portions (λ i. supplied v (inside p k l.texts ds vs i)) fs ≡ portions (inside (supplied v p) k l.texts ds vs) fs = sym (λ j. portions (λ i. inside-supplied p v k l.texts ds vs i j) fs) in
         let ps : List Portion = portions (inside (supplied v p) k l.texts ds vs) fs in
         let same : portions (inside (supplied u p) k l.texts ds vs) fs ≡ ps = there ∙ q.parts ∙ here in
-        let first : FirstApart p ps = subst (λ (zs : List Portion). FirstApart p zs) here q.first in
+        let first : first_is_helpers fs ≡ false → FirstApart p ps = λ e. subst (λ (zs : List Portion). FirstApart p zs) here (q.first e) in
         let w : World = (inside (supplied v p) k l.texts ds vs 1).world in
         let worlds : (inside (supplied u p) k l.texts ds vs 1).world ≡ w = (λ j. (inside-supplied p u k l.texts ds vs 1 j).world) ∙ sym (λ j. (inside-supplied p v k l.texts ds vs 1 j).world) in
-        let block : Scope = scope_by ds (own_use k fs) in (
-          (λ j. sense_of (supplied u p) k l.texts l.flags block (worlds j) (meaning_of p.world k l.texts l.flags (core_parts (same j))) (same j)) ∙ kind-same p k l.texts l.flags block w (meaning_of p.world k l.texts l.flags (core_parts ps)) ps first,
-          form-of p k l.texts l.flags block w ps (own-name k l fs p d.0) first,
-        )
+        let block : Scope = scope_by ds (own_use k fs) in
+        record {
+          same = (λ j. sense_of (supplied u p) k l.texts l.flags block (worlds j) (meaning_of p.world k l.texts l.flags (core_parts (same j))) (same j)) ∙ kind-same p k l.texts l.flags block w (meaning_of p.world k l.texts l.flags (core_parts ps)) ps (object-first p k l fs ps d.0 first);
+          form = λ e. form-of p k l.texts l.flags block w ps (own-name k l fs p e) (declared-first p k l fs ps e first);
+        }
 
-    fields-same : (fs : Fields) → all_in_fields names_other fs ≡ true → (at : ℕ → Place) (p : Place) → SameParts (portions (λ i. supplied u (at i)) fs) (portions (λ i. supplied v (at i)) fs) p
-    fields-same done h at p = record { parts = refl; first = tt }
+    fields-same : (fs : Fields) → all_in_fields no_helper_member fs ≡ true → (at : ℕ → Place) (p : Place) → SameParts fs (portions (λ i. supplied u (at i)) fs) (portions (λ i. supplied v (at i)) fs) p
+    fields-same done h at p = record { parts = refl; first = λ e. tt }
     fields-same (f then fs) h at p =
-        let d = and_parts (all_in_field names_other f) (all_in_fields names_other fs) h in
-        let q = field-same f d.0 (at zero) p (portions (λ i. supplied v (at (suc i))) fs) in
+        let d = and_parts (all_in_field no_helper_member f) (all_in_fields no_helper_member fs) h in
+        let q = field-same f fs d.0 (at zero) p (portions (λ i. supplied v (at (suc i))) fs) in
         record { parts = λ j. q.0 j ∷ (fields-same fs d.1 (λ i. at (suc i)) p).parts j; first = q.1 }
 
-    field-same : (f : Field) → all_in_field names_other f ≡ true → (at : Place) (p : Place) (ps : List Portion) → (portion (supplied u at) f ≡ portion (supplied v at) f) × FirstApart p (portion (supplied v at) f ∷ ps)
-    field-same missing h at p ps = (refl, tt)
-    field-same (one t) h at p ps = let d = tree-same t h at in ((λ j. alone (d.0 j)), d.1)
-    field-same (many ts) h at p ps = ((λ j. rows (trees-same ts h at j)), tt)
-    field-same (statements ts) h at p ps = ((λ j. rows (trees-same ts h at j)), tt)
+    field-same : (f : Field) (fs : Fields) → all_in_field no_helper_member f ≡ true → (at : Place) (p : Place) (ps : List Portion) →
+        (portion (supplied u at) f ≡ portion (supplied v at) f) × (first_is_helpers (f then fs) ≡ false → FirstApart p (portion (supplied v at) f ∷ ps))
+    field-same missing fs h at p ps = (refl, λ e. tt)
+    field-same (one t) fs h at p ps = let d = tree-same t h at in ((λ j. alone (d.same j)), d.form)
+    field-same (many ts) fs h at p ps = ((λ j. rows (trees-same ts h at j)), λ e. tt)
+    field-same (statements ts) fs h at p ps = ((λ j. rows (trees-same ts h at j)), λ e. tt)
 
-    trees-same : (ts : Trees) → all_in_trees names_other ts ≡ true → (p : Place) → senses (supplied u p) ts ≡ senses (supplied v p) ts
+    trees-same : (ts : Trees) → all_in_trees no_helper_member ts ≡ true → (p : Place) → senses (supplied u p) ts ≡ senses (supplied v p) ts
     trees-same empty h p = refl
-    trees-same (t before ts) h p = let d = and_parts (all_nodes names_other t) (all_in_trees names_other ts) h in λ j. (tree-same t d.0 p).0 j ∷ trees-same ts d.1 p j
+    trees-same (t before ts) h p = let d = and_parts (all_nodes no_helper_member t) (all_in_trees no_helper_member ts) h in λ j. (tree-same t d.0 p).same j ∷ trees-same ts d.1 p j
 
 -- so under akin supplies it means the same
 pub akin-sense : (u v : Supply) → Akin u v → (t : Tree) → Apart t → (w : World) (ls : List Text) (x : Text) → sense (placed_at u w ls x) t ≡ sense (placed_at v w ls x) t
-akin-sense u v akin t h w ls x = (tree-same u v akin t h (placed_at v w ls x)).0
+akin-sense u v akin t h w ls x = (tree-same u v akin t h (placed_at v w ls x)).same
 
-pub akin-senses : (u v : Supply) → Akin u v → (ts : Trees) → all_in_trees names_other ts ≡ true → (w : World) (ls : List Text) (x : Text) → senses (placed_at u w ls x) ts ≡ senses (placed_at v w ls x) ts
+pub akin-senses : (u v : Supply) → Akin u v → (ts : Trees) → all_in_trees no_helper_member ts ≡ true → (w : World) (ls : List Text) (x : Text) → senses (placed_at u w ls x) ts ≡ senses (placed_at v w ls x) ts
 akin-senses u v akin ts h w ls x = trees-same u v akin ts h (placed_at v w ls x)
 
 pub apart-sense : (t : Tree) → Apart t → (w : World) (ls : List Text) (x : Text) → sense (placed_at spread_by_global w ls x) t ≡ sense (placed_at no_helpers w ls x) t

@@ -4,6 +4,7 @@ pub mod Statements
 pub mod Patterns
 pub mod Names
 pub mod Helpers
+pub mod HelperMembers
 pub mod Senses
 pub mod Calls
 pub mod StatementParts

@@ -74,11 +74,6 @@ supply_by Inline m module_code = no_helpers
 abbrev pub supply_of : HelperLoaderOptions → Tree → Supply
 supply_of o p = supply_by o.mode (string_bytes o.module_name) (is_module_text (program_type p))
 
--- no identifier is the object of all helpers
-abbrev pub names_other : AstType → Label → Fields → Bool
-names_other Identifier l fs = not (bytes_eq (first_text l.texts) (codes "babelHelpers"))
-names_other k l fs = true
-
 -- PROGRAMS THAT USE NO HELPER THEMSELVES: none names the object of all helpers, imports one or requires one
 
 abbrev pub imports_helper : Text → Fields → Bool

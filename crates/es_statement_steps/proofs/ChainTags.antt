@@ -39,7 +39,7 @@ use Rattle.es_statement_runs.specs.Programs.{is_statement_node}
 use Rattle.es_statement_steps.specs.Laws.{no_chain_tag}
 use Rattle.es_statement_steps.proofs.Below.{Below, BelowField, BelowTrees, nodes_below}
 use Rattle.es_statement_steps.proofs.Chainings.{is_chain}
-use Rattle.es_statement_steps.proofs.MadeOf.{PassesMade, any_name, assigning-of, chaining-of, coalescing-of, is_made_kind, passes-any, raising-of}
+use Rattle.es_statement_steps.proofs.MadeOf.{PassesMade, any_name, any_object, assigning-of, chaining-of, coalescing-of, is_made_kind, passes-any, raising-of}
 use Rattle.es_statement_steps.proofs.BareTests.{source-passes}
 use Rattle.es_statement_steps.proofs.SpreadParts.{is_copy, spread-copy, spread-so}
 use Rattle.es_statement_steps.proofs.StepMoves.{below-after}
@@ -158,22 +158,22 @@ module _ (Q : Site → Ledger → Spot → Ledger → Spot → Type 0) (law : Fo
 
 -- THE ROWS make no chains
 
-made-untagged : PassesMade any_name no_chain_tag
-made-untagged = passes-any no_chain_tag made (λ l. refl)
+made-untagged : PassesMade any_name any_object no_chain_tag
+made-untagged = passes-any no_chain_tag made (λ l fs. refl) (λ l. refl)
   where
     made : (k : AstType) (l : Label) (fs : Fields) → is_made_kind k ≡ true → no_chain_tag k l fs ≡ true
     made TaggedTemplateExpression l fs e = absurd (cc e)
     made _ l fs e = refl
 
 pub coalescing-no-chain : (n : Site) (w : Whole) (bs : List Bound) (t u : Tree) → NullishCoalescingRule n w bs t u → Unchained t u
-coalescing-no-chain n w bs t u h c = (coalescing-of any_name no_chain_tag made-untagged n w bs t u h c, kind bs t u h)
+coalescing-no-chain n w bs t u h c = (coalescing-of any_name any_object no_chain_tag made-untagged n w bs t u h c, kind bs t u h)
   where
     kind : (bs : List Bound) (t u : Tree) → NullishCoalescingRule n w bs t u → is_chain u ≡ false
     kind bs t u (with_temporary texts again next) = refl
     kind bs t u (reading_again texts again) = refl
 
 pub assigning-no-chain : (n : Site) (w : Whole) (bs : List Bound) (t u : Tree) → LogicalAssignmentRule n w bs t u → Unchained t u
-assigning-no-chain n w bs t u h c = (assigning-of any_name no_chain_tag made-untagged n w bs t u h c, kind bs t u h)
+assigning-no-chain n w bs t u h c = (assigning-of any_name any_object no_chain_tag made-untagged n w bs t u h c, kind bs t u h)
   where
     kind : (bs : List Bound) (t u : Tree) → LogicalAssignmentRule n w bs t u → is_chain u ≡ false
     kind bs t u (to_name texts operator alone at) = refl
@@ -181,7 +181,7 @@ assigning-no-chain n w bs t u h c = (assigning-of any_name no_chain_tag made-unt
     kind bs t u (to_computed_member texts operator alone at flags object key) = refl
 
 pub raising-no-chain : (n : Site) (w : Whole) (bs : List Bound) (t u : Tree) → ExponentiationRule n w bs t u → Unchained t u
-raising-no-chain n w bs t u h c = (raising-of any_name no_chain_tag made-untagged n w bs t u h c, kind bs t u h)
+raising-no-chain n w bs t u h c = (raising-of any_name any_object no_chain_tag made-untagged n w bs t u h c, kind bs t u h)
   where
     assigned : (m : Label) (fs : List Tree) (target read r : Tree) → is_chain (assigned_power m fs target read r) ≡ false
     assigned m [] target read r = refl
@@ -192,7 +192,7 @@ raising-no-chain n w bs t u h c = (raising-of any_name no_chain_tag made-untagge
     kind bs t u (power_assignment {m = m} {r = r} {target = target} {read = read} {fs = fs} free texts right alone object) = assigned m fs target read r
 
 pub chaining-no-chain : (no_all : Bool) (n : Site) (w : Whole) (bs : List Bound) (t u : Tree) → OptionalChainingRule no_all n w bs t u → Unchained t u
-chaining-no-chain no_all n w bs t u h c = (chaining-of any_name no_chain_tag made-untagged no_all n w bs t u h c, kind bs t u h)
+chaining-no-chain no_all n w bs t u h c = (chaining-of any_name any_object no_chain_tag made-untagged no_all n w bs t u h c, kind bs t u h)
   where
     short : (m : Label) (ts : List Tree) (a b : Tree) → has_tests ts ≡ true → is_chain (where_short m ts a b) ≡ false
     short m [] a b e = absurd (cc e)

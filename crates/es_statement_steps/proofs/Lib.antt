@@ -76,6 +76,7 @@ pub mod BareScopes
 pub mod BareRuns
 pub mod Results
 pub mod MadeOf
+pub mod HelperMembers
 pub mod WholeLists
 pub mod ChainTags
 pub mod ChainMarks

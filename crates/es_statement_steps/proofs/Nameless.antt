@@ -1,35 +1,36 @@
--- Steps put the name of the object of helpers into no chain, where no spread is lowered while a chain stands around it.
+-- Steps put no member of the object of helpers into a chain, where no spread is lowered while a chain stands around it.
 use Rattle.std.proofs.Common.{inr, ◌≡◌, ℕ, zero, suc, refl, sym, ap, subst, ◌∙◌, List, [], ◌∷◌}
 use Rattle.std.proofs.lemmas.Bool.{and_parts, and_from}
 use Rattle.std.proofs.lemmas.Slice.Eq.{bytes_eq-Decides}
 use Rattle.std.specs.Prelude.{Bool, true, false, not, ◌&&◌, ◌||◌, bytes_eq, codes, map}
-use Rattle.es_tree.specs.Bare.{bare_fields, bare_label}
-use Rattle.es_tree.specs.Fresh.{IsFreshName}
 use Rattle.es_tree.specs.HasForm.{has_form}
-use Rattle.es_tree.specs.Names.{first_text}
 use Rattle.es_tree.specs.Scopes.{Declared}
-use Rattle.es_tree.specs.Tree.{Tree, node, Label, Fields, Trees, empty, trees}
-use Rattle.es_tree.specs.Walks.{all_nodes, all_in_fields, all_in_trees}
+use Rattle.es_tree.specs.Tree.{Tree, node, Label, Fields, done, ◌then◌, Field, missing, one, many, statements, Trees, empty, ◌before◌, trees}
+use Rattle.es_tree.specs.Walks.{all_nodes, all_in_field, all_in_fields, all_in_trees}
 use Rattle.es_tree.specs.Words.{Text}
 use Rattle.es_tree.specs.declared.ast_type.AstType.{AstType}
-use Rattle.es_tree.specs.declared.ast_type.AstType.TheVariants.{ChainExpression, Identifier, ObjectExpression}
+use Rattle.es_tree.specs.declared.ast_type.AstType.TheVariants.{ChainExpression, Identifier, MemberExpression, ObjectExpression, ParenthesizedExpression, VariableDeclarator}
 use Rattle.es_tree.specs.declared.options.EnvOptions.{EnvOptions}
 use Rattle.es_tree.specs.declared.table.Sort.TheVariants.{Program as s-Program}
-use Rattle.es_runs.specs.OptionalChaining.{is_chain_kind}
+use Rattle.es_runs.specs.OptionalChaining.{delete_node, has_tests, is_chain_kind, true_node, where_short}
+use Rattle.es_runs.specs.Rules.{void_zero_node}
 use Rattle.es_runs.specs.Runs.{program}
 use Rattle.es_resolution.specs.Declarations.{Bound}
-use Rattle.es_resolution.specs.Laws.{source}
 use Rattle.es_steps.specs.CoreBridge.{names_among}
 use Rattle.es_steps.specs.CoreRules.{RowRule}
-use Rattle.es_steps.specs.Exponentiation.{ExponentiationRule}
+use Rattle.es_steps.specs.Exponentiation.{ExponentiationRule, assigned_power}
+use Rattle.es_steps.specs.Exponentiation.ExponentiationRule.{power, power_assignment}
 use Rattle.es_steps.specs.LogicalAssignment.{LogicalAssignmentRule}
+use Rattle.es_steps.specs.LogicalAssignment.LogicalAssignmentRule.{to_name, to_static_member, to_computed_member}
 use Rattle.es_steps.specs.Nodes.{declarator, placed}
 use Rattle.es_steps.specs.NullishCoalescing.{NullishCoalescingRule}
+use Rattle.es_steps.specs.NullishCoalescing.NullishCoalescingRule.{reading_again, with_temporary}
 use Rattle.es_steps.specs.ObjectSpread.{SpreadRule}
 use Rattle.es_steps.specs.ObjectSpread.SpreadRule.{spreads}
 use Rattle.es_steps.specs.Open.{Open, OpenField, OpenFields, OpenTrees, declaration, finished, finished_field, finished_fields, finished_trees, is_body, pending_statements, whole_list}
 use Rattle.es_steps.specs.OptionalCatch.{CatchRule}
 use Rattle.es_steps.specs.OptionalChaining.{OptionalChainingRule}
+use Rattle.es_steps.specs.OptionalChaining.OptionalChainingRule.{by_tests, as_callee, in_delete}
 use Rattle.es_steps.specs.Rules.{Replacing, Writing}
 use Rattle.es_steps.specs.Rules.Replacing.{replaces}
 use Rattle.es_steps.specs.Slots.{is_slot}
@@ -49,24 +50,25 @@ use Rattle.es_statement_runs.specs.Helpers.Supply.{spread_by_global}
 use Rattle.es_statement_runs.specs.Laws.{among_names}
 use Rattle.es_statement_runs.specs.Places.{Take}
 use Rattle.es_statement_runs.specs.Programs.{is_statement_node}
-use Rattle.es_statement_runs.proofs.Moved.{MovedFields, MovedList, Room}
+use Rattle.es_statement_runs.proofs.Moved.{Moved, MovedFields, MovedList, Room}
+use Rattle.es_statement_runs.proofs.Moved.Moved.{moved_block, moved_case, moved_node, moved_place}
+use Rattle.es_statement_runs.proofs.Moved.MovedField.{moved_many, moved_missing, moved_one, moved_statements}
+use Rattle.es_statement_runs.proofs.Moved.MovedFields.{moved_done, moved_then}
 use Rattle.es_statement_runs.proofs.AkinSupplies.{Apart}
-use Rattle.es_statement_runs.specs.Programs.{names_other}
-use Rattle.es_statement_steps.specs.Laws.{no_name_in_chain}
+use Rattle.es_statement_runs.specs.HelperMembers.{first_is_helpers, is_helpers_object, no_helper_member}
 use Rattle.es_statement_steps.specs.Orders.{is_in_order, only_where}
 use Rattle.es_statement_steps.proofs.Assignments.{AssigningRow, assigning-shape}
-use Rattle.es_statement_steps.proofs.BareTests.{fields-bare, source-passes}
 use Rattle.es_statement_steps.proofs.Below.{Below, BelowField, BelowTrees, both_below, nodes_below}
 use Rattle.es_statement_steps.proofs.Catchings.{CatchRow, catch-rule}
 use Rattle.es_statement_steps.proofs.Catchings.CatchMade.{made_catch}
 use Rattle.es_statement_steps.proofs.ChainPlaces.{chains-program}
 use Rattle.es_statement_steps.proofs.Chainings.{ChainingRow, chaining-shape}
-use Rattle.es_statement_steps.proofs.ChainsApart.{apart-keeps, chain-apart, fresh-other, other-passes, other_name}
+use Rattle.es_statement_steps.proofs.ChainsApart.{apart-keeps, chain-apart, no_helper_in_chain, other-passes, other_name, other_object}
 use Rattle.es_statement_steps.proofs.Coalescings.{CoalescingRow, coalescing-shape}
 use Rattle.es_statement_steps.proofs.Composition.{Known, known-fine}
 use Rattle.es_statement_steps.proofs.ExportSplits.{is_export_kind}
 use Rattle.es_statement_steps.proofs.MadeNames.{all_made, made_among}
-use Rattle.es_statement_steps.proofs.MadeOf.{PassesMade, any_name, assigning-of, chaining-of, coalescing-of, is_made_kind, passes-any, raising-of}
+use Rattle.es_statement_steps.proofs.MadeOf.{PassesMade, any_name, any_object, assigning-of, chaining-of, coalescing-of, is_made_kind, passes-any, raising-of}
 use Rattle.es_statement_steps.proofs.MovedTests.{Alone, fields-so, form_alone, list-so, name_alone}
 use Rattle.es_statement_steps.proofs.OperandSteps.{ChainSteady, Suited, chain-steady-inwards, steady-program}
 use Rattle.es_statement_steps.proofs.Powers.{RaisingRow, raising-shape}
@@ -82,7 +84,7 @@ use Rattle.es_statement_steps.proofs.WholeLists.{fields-pass, whole-below}
 use Rattle.es_statement_steps.proofs.Writings.{written-same}
 
 abbrev pub Nameless : Tree → Type 0
-Nameless t = all_nodes no_name_in_chain t ≡ true
+Nameless t = all_nodes no_helper_in_chain t ≡ true
 
 -- PLACES: at no object literal in a chain
 
@@ -119,47 +121,118 @@ made-other xs h x e = at (bytes_eq x (codes "babelHelpers")) refl
 
 record KeepsNames (a b : Tree) : Type 0 where
   names : Apart a → Apart b
+  object : is_helpers_object b ≡ false
   chains : Nameless a → Nameless b
 
-chain-passes : PassesMade any_name no_name_in_chain
-chain-passes = passes-any no_name_in_chain nodes (λ l. refl)
+chain-passes : PassesMade any_name any_object no_helper_in_chain
+chain-passes = passes-any no_helper_in_chain nodes (λ l fs. refl) (λ l. refl)
   where
-    nodes : (k : AstType) (l : Label) (fs : Fields) → is_made_kind k ≡ true → no_name_in_chain k l fs ≡ true
+    nodes : (k : AstType) (l : Label) (fs : Fields) → is_made_kind k ≡ true → no_helper_in_chain k l fs ≡ true
     nodes ChainExpression l fs h = absurd (cc h)
     nodes _ l fs h = refl
 
 catch-names : (new : List Bound) (n : Site) (w : Whole) (t u : Tree) → CatchRow new n w t u → KeepsNames t u
-catch-names new n w t u (made_catch {m = m} {b = b} {x = x} fresh) = record {
-  names = λ c. and_from (other_name x.name && true) (all_nodes names_other b && true) (and_from (other_name x.name) true (good fresh) refl) c;
-  chains = λ c. c;
+catch-names new n w t u (made_catch fresh) = record { names = λ c. c; object = refl; chains = λ c. c }
+
+assigning-object : (n : Site) (w : Whole) (bs : List Bound) (a b : Tree) → LogicalAssignmentRule n w bs a b → is_helpers_object b ≡ false
+assigning-object n w bs _ _ (to_name texts operator alone at) = refl
+assigning-object n w bs _ _ (to_static_member texts operator alone at flags o) = refl
+assigning-object n w bs _ _ (to_computed_member texts operator alone at flags o key) = refl
+
+assigning-names : (new : List Bound) (n : Site) (w : Whole) (a b : Tree) → LogicalAssignmentRule n w new a b → KeepsNames a b
+assigning-names new n w a b h = record {
+  names = assigning-of other_name other_object no_helper_member other-passes n w new a b h;
+  object = assigning-object n w new a b h;
+  chains = assigning-of any_name any_object no_helper_in_chain chain-passes n w new a b h;
 }
-  where
-    good : IsFreshName w.in_use (codes "unused") x.name → other_name x.name ≡ true
-    good f = subst (λ (y : Text). other_name y ≡ true) (sym f.name) (fresh-other (codes "unused") f.number)
 
-module _ (fresh : Text → Bool) (R : List Declared → Take → Tree → Tree → Type 0) (rows : (ds : List Declared) (t : Take) (a b : Tree) → R ds t a b → KeepsNames a b) (apart : (x : Text) → fresh x ≡ true → bytes_eq x (codes "babelHelpers") ≡ false) where
-  name-nodes : (r : ℕ → Room) (d : ℕ → List Declared) (c : ℕ → Take) (k : AstType) (l m : Label) (fs gs : Fields) → m.texts ≡ l.texts → MovedFields fresh R r d c fs gs → all_in_fields name_alone gs ≡ true → names_other k l fs ≡ true → names_other k m gs ≡ true
-  name-nodes r d c Identifier l m fs gs e h q n = rw e n
-  name-nodes r d c _ l m fs gs e h q n = refl
+coalescing-object : (n : Site) (w : Whole) (bs : List Bound) (a b : Tree) → NullishCoalescingRule n w bs a b → is_helpers_object b ≡ false
+coalescing-object n w bs _ _ (with_temporary texts again next) = refl
+coalescing-object n w bs _ _ (reading_again texts again) = refl
 
-  chain-nodes : (r : ℕ → Room) (d : ℕ → List Declared) (c : ℕ → Take) (k : AstType) (l m : Label) (fs gs : Fields) → m.texts ≡ l.texts → MovedFields fresh R r d c fs gs → all_in_fields name_alone gs ≡ true → no_name_in_chain k l fs ≡ true → no_name_in_chain k m gs ≡ true
+coalescing-names : (new : List Bound) (n : Site) (w : Whole) (a b : Tree) → NullishCoalescingRule n w new a b → KeepsNames a b
+coalescing-names new n w a b h = record {
+  names = coalescing-of other_name other_object no_helper_member other-passes n w new a b h;
+  object = coalescing-object n w new a b h;
+  chains = coalescing-of any_name any_object no_helper_in_chain chain-passes n w new a b h;
+}
+
+short-object : (m : Label) (ts : List Tree) (short long : Tree) → has_tests ts ≡ true → is_helpers_object (where_short m ts short long) ≡ false
+short-object m [] short long e = absurd (cc e)
+short-object m (t ∷ ts) short long e = refl
+
+chaining-object : (no_all : Bool) (n : Site) (w : Whole) (bs : List Bound) (a b : Tree) → OptionalChainingRule no_all n w bs a b → is_helpers_object b ≡ false
+chaining-object no_all n w bs _ _ (by_tests {m = m} {w = way} level r some) = short-object m way.tests void_zero_node way.current some
+chaining-object no_all n w bs _ _ (as_callee {m = m} {d = d} {w = way} level r some callee) = short-object m way.tests void_zero_node d some
+chaining-object no_all n w bs _ _ (in_delete {m = m} {w = way} texts alone target r some) = short-object m way.tests true_node (delete_node way.current) some
+
+chaining-names : (no_all : Bool) (new : List Bound) (n : Site) (w : Whole) (a b : Tree) → OptionalChainingRule no_all n w new a b → KeepsNames a b
+chaining-names no_all new n w a b h = record {
+  names = chaining-of other_name other_object no_helper_member other-passes no_all n w new a b h;
+  object = chaining-object no_all n w new a b h;
+  chains = chaining-of any_name any_object no_helper_in_chain chain-passes no_all n w new a b h;
+}
+
+raised-object : (m : Label) (fs : List Tree) (target read r : Tree) → is_helpers_object (assigned_power m fs target read r) ≡ false
+raised-object m [] target read r = refl
+raised-object m (f ∷ fs) target read r = refl
+
+raising-object : (n : Site) (w : Whole) (bs : List Bound) (a b : Tree) → ExponentiationRule n w bs a b → is_helpers_object b ≡ false
+raising-object n w bs _ _ (power free texts left right) = refl
+raising-object n w bs _ _ (power_assignment {m = m} {r = r} {target = target} {read = read} {fs = fs} free texts right alone o) = raised-object m fs target read r
+
+raising-names : (new : List Bound) (n : Site) (w : Whole) (a b : Tree) → ExponentiationRule n w new a b → KeepsNames a b
+raising-names new n w a b h = record {
+  names = raising-of other_name other_object no_helper_member other-passes n w new a b h;
+  object = raising-object n w new a b h;
+  chains = raising-of any_name any_object no_helper_in_chain chain-passes n w new a b h;
+}
+
+not-true : (b : Bool) → not b ≡ true → b ≡ false
+not-true true h = absurd (cc h)
+not-true false h = refl
+
+module _ (fresh : Text → Bool) (R : List Declared → Take → Tree → Tree → Type 0) (rows : (ds : List Declared) (t : Take) (a b : Tree) → R ds t a b → KeepsNames a b) where
+  mutual
+    object-moved : {r : Room} {ds : List Declared} {t : Take} {a b : Tree} → Moved fresh R r ds t a b → is_helpers_object a ≡ false → is_helpers_object b ≡ false
+    object-moved (moved_place e h) n = (rows _ _ _ _ h).object
+    object-moved (moved_node {k = Identifier} e i h) n = rw e n
+    object-moved (moved_node {k = ParenthesizedExpression} e i h) n = first-moved h n
+    object-moved (moved_node {k = ChainExpression} e i h) n = first-moved h n
+    object-moved (moved_node {k = VariableDeclarator} e i h) n = first-moved h n
+    object-moved (moved_node e i h) n = refl
+    object-moved (moved_block e h) n = refl
+    object-moved (moved_case e h j) n = refl
+
+    first-moved : {r : ℕ → Room} {d : ℕ → List Declared} {c : ℕ → Take} {fs gs : Fields} → MovedFields fresh R r d c fs gs → first_is_helpers fs ≡ false → first_is_helpers gs ≡ false
+    first-moved moved_done n = refl
+    first-moved (moved_then moved_missing j) n = refl
+    first-moved (moved_then (moved_one h) j) n = object-moved h n
+    first-moved (moved_then (moved_many h) j) n = refl
+    first-moved (moved_then (moved_statements h) j) n = refl
+
+  member-nodes : (r : ℕ → Room) (d : ℕ → List Declared) (c : ℕ → Take) (k : AstType) (l m : Label) (fs gs : Fields) → m.texts ≡ l.texts → MovedFields fresh R r d c fs gs → all_in_fields name_alone gs ≡ true → no_helper_member k l fs ≡ true → no_helper_member k m gs ≡ true
+  member-nodes r d c MemberExpression l m fs gs e h q n = ap not (first-moved h (not-true (first_is_helpers fs) n))
+  member-nodes r d c _ l m fs gs e h q n = refl
+
+  chain-nodes : (r : ℕ → Room) (d : ℕ → List Declared) (c : ℕ → Take) (k : AstType) (l m : Label) (fs gs : Fields) → m.texts ≡ l.texts → MovedFields fresh R r d c fs gs → all_in_fields name_alone gs ≡ true → no_helper_in_chain k l fs ≡ true → no_helper_in_chain k m gs ≡ true
   chain-nodes r d c ChainExpression l m fs gs e h q n =
-      fields-so fresh R names_other (λ ds t a b h. (rows ds t a b h).names) name-nodes (λ l fs. (refl, (refl, (refl, refl)))) (λ l m fs gs e h. rw e h) (λ l fs e. ap not (apart (first_text l.texts) e)) h n q
+      fields-so fresh R no_helper_member (λ ds t a b h. (rows ds t a b h).names) member-nodes (λ l fs. (refl, (refl, (refl, refl)))) (λ l m fs gs e h. refl) (λ l fs e. refl) h n q
   chain-nodes r d c _ l m fs gs e h q n = refl
 
-  names-list : {r : Room} {ds : List Declared} {more : Bool} {ts us : Trees} → MovedList fresh R r ds more ts us → all_in_trees no_name_in_chain ts ≡ true → all_in_trees name_alone us ≡ true → all_in_trees no_name_in_chain us ≡ true
-  names-list = list-so fresh R no_name_in_chain (λ ds t a b h. (rows ds t a b h).chains) chain-nodes (λ l fs. (refl, (refl, (refl, refl)))) (λ l m fs gs e h. refl) (λ l fs e. refl)
+  names-list : {r : Room} {ds : List Declared} {more : Bool} {ts us : Trees} → MovedList fresh R r ds more ts us → all_in_trees no_helper_in_chain ts ≡ true → all_in_trees name_alone us ≡ true → all_in_trees no_helper_in_chain us ≡ true
+  names-list = list-so fresh R no_helper_in_chain (λ ds t a b h. (rows ds t a b h).chains) chain-nodes (λ l fs. (refl, (refl, (refl, refl)))) (λ l m fs gs e h. refl) (λ l fs e. refl)
 
 names-after : (Q : Site → Ledger → Spot → Ledger → Spot → Type 0) (A : List Bound → Site → Whole → Tree → Tree → Type 0) (law : NodeRule Q A) → ((new : List Bound) (n : Site) (w : Whole) (a b : Tree) → A new n w a b → KeepsNames a b) →
     (w : Whole) (x y : Tree) → ProgramWent law.hoisted (MovedProgram Q A law) w x y → has_form s-Program y ≡ true → Nameless x → Nameless y
 names-after Q A law rows w x y h form chains =
-    let first_so : all_nodes no_name_in_chain (program h.label h.directives h.body) ≡ true = subst Nameless h.first chains in
+    let first_so : all_nodes no_helper_in_chain (program h.label h.directives h.body) ≡ true = subst Nameless h.first chains in
     let alone : all_nodes name_alone (program h.label h.directives h.after) ≡ true = subst Alone h.second (form_alone y form) in
-    let b = and_parts (all_in_trees no_name_in_chain h.directives) (all_in_trees no_name_in_chain h.body && true) first_so in
+    let b = and_parts (all_in_trees no_helper_in_chain h.directives) (all_in_trees no_helper_in_chain h.body && true) first_so in
     let c = and_parts (all_in_trees name_alone h.directives) (all_in_trees name_alone h.after && true) alone in
-    let after : all_in_trees no_name_in_chain h.after ≡ true =
-    names-list (among_names (names_among h.new)) (Acted A h.new) (λ ds t p q r. rows h.new r.site r.whole p q r.rule) (made-other (names_among h.new) h.are_new.names) h.moved (and_parts (all_in_trees no_name_in_chain h.body) true b.1).0 (and_parts (all_in_trees name_alone h.after) true c.1).0 in
-    subst Nameless (sym h.second) (and_from (all_in_trees no_name_in_chain h.directives) (all_in_trees no_name_in_chain h.after && true) b.0 (and_from (all_in_trees no_name_in_chain h.after) true after refl))
+    let after : all_in_trees no_helper_in_chain h.after ≡ true =
+    names-list (among_names (names_among h.new)) (Acted A h.new) (λ ds t p q r. rows h.new r.site r.whole p q r.rule) h.moved (and_parts (all_in_trees no_helper_in_chain h.body) true b.1).0 (and_parts (all_in_trees name_alone h.after) true c.1).0 in
+    subst Nameless (sym h.second) (and_from (all_in_trees no_helper_in_chain h.directives) (all_in_trees no_helper_in_chain h.after && true) b.0 (and_from (all_in_trees no_helper_in_chain h.after) true after refl))
 
 -- A SPREAD that is lowered in no chain
 
@@ -201,7 +274,7 @@ module _ (Q : Site → Ledger → Spot → Ledger → Spot → Type 0) (never : 
     in-chain-all (flanks t u h) e = never _ _ _ _ _ h e
     in-chain-all (acts_on_flanked t us h) e = never _ _ _ _ _ h e
 
-nameless-declarators : (bs : List Bound) → all_in_trees no_name_in_chain (trees (map declarator bs)) ≡ true
+nameless-declarators : (bs : List Bound) → all_in_trees no_helper_in_chain (trees (map declarator bs)) ≡ true
 nameless-declarators [] = refl
 nameless-declarators (b ∷ bs) = nameless-declarators bs
 
@@ -220,10 +293,10 @@ module _ (Q : Site → Ledger → Spot → Ledger → Spot → Type 0) (law : Fo
     kept (acts {n = n} {s = s} {s' = s'} t u h) proper after class names = subst (λ (x : Tree). Nameless x) (sym (finished-opened u)) (rule n s s' t u h (subst (λ (x : Tree). Nameless x) (finished-opened t) names))
     kept (inside {n = n} {k = k} {l = l} {fs = fs} {gs = gs} h) proper after class names =
         let d = and_parts (is_statement_node k l (finished_fields fs)) (all_in_fields is_statement_node (finished_fields fs)) class in
-        let g = and_parts (no_name_in_chain k l (finished_fields fs)) (all_in_fields no_name_in_chain (finished_fields fs)) names in
-        let r = kept-in h (is_body k) proper after (λ i. no-arrow k i (node-kind k l (finished_fields fs) d.0)) (nodes_below is_statement_node (finished_fields fs) d.1) (nodes_below no_name_in_chain (finished_fields fs) g.1) in
-        and_from (no_name_in_chain k l (finished_fields gs)) (all_in_fields no_name_in_chain (finished_fields gs))
-        (chain-test (is_chain_kind k) (all_in_fields names_other (finished_fields gs)) (λ e. in-chain-in Q never h (λ i. ap (λ (b : Bool). b || is_in_chain n.above) e))) (fields-pass no_name_in_chain (finished_fields gs) r)
+        let g = and_parts (no_helper_in_chain k l (finished_fields fs)) (all_in_fields no_helper_in_chain (finished_fields fs)) names in
+        let r = kept-in h (is_body k) proper after (λ i. no-arrow k i (node-kind k l (finished_fields fs) d.0)) (nodes_below is_statement_node (finished_fields fs) d.1) (nodes_below no_helper_in_chain (finished_fields fs) g.1) in
+        and_from (no_helper_in_chain k l (finished_fields gs)) (all_in_fields no_helper_in_chain (finished_fields gs))
+        (chain-test (is_chain_kind k) (all_in_fields no_helper_member (finished_fields gs)) (λ e. in-chain-in Q never h (λ i. ap (λ (b : Bool). b || is_in_chain n.above) e))) (fields-pass no_helper_in_chain (finished_fields gs) r)
 
     kept-in : {c : ℕ → Site} {s s' : Ledger} {fs gs : OpenFields} → FieldsStep Q c s fs s' gs → (bodies : ℕ → Bool) → AreProperFields bodies fs → AreProperFields bodies gs → ((i : ℕ) → bodies i ≡ false) → Below (λ i. Class) (finished_fields fs) → Below (λ i. Nameless) (finished_fields fs) → Below (λ i. Nameless) (finished_fields gs)
     kept-in (in_first h) bodies proper after none class names = (kept-by h (bodies zero) proper.0 after.0 (none zero) class.0 names.0, names.1)
@@ -252,11 +325,11 @@ module _ (Q : Site → Ledger → Spot → Ledger → Spot → Type 0) (law : Fo
     kept-all (flanks {n = n} {s = s} {s' = s'} {bs = bs} {cs = cs} t u h) proper after class names = absurd (law.no_flanks n s s' t u bs cs h)
     kept-all (acts_on_flanked t us h) proper after class names = absurd proper
 
-placed-names : (m : Label) (u : Tree) → all_nodes no_name_in_chain (placed m u) ≡ all_nodes no_name_in_chain u
+placed-names : (m : Label) (u : Tree) → all_nodes no_helper_in_chain (placed m u) ≡ all_nodes no_helper_in_chain u
 placed-names m (node k l fs) = refl
 
 spread-nameless : (n : Site) (s s' : Ledger) (t u : Tree) → Replacing SpreadRule n s (at_node t) s' (at_node u) → Nameless t → Nameless u
-spread-nameless n s s' t u (replaces {w = w} bs h) = spread-so no_name_in_chain refl (λ given. refl) (λ ps. refl) placed-names n w bs t u h
+spread-nameless n s s' t u (replaces {w = w} bs h) = spread-so no_helper_in_chain refl (λ given. refl) (λ ps. refl) placed-names n w bs t u h
 
 -- OF ALL RULES
 
@@ -280,14 +353,14 @@ pub statement-nameless : (o : EnvOptions) → Does StaysNameless (only_where is_
 statement-nameless o = statement-does-where StaysNameless o is_outside (record {
   writing = λ s s' x y h k m c. subst Nameless (written-same Writing (writing-form o) (λ n s s' t u h. absurd (writes-lists h)) h k.proper).1 c;
   assigning = on-does StaysNameless o.es2021.logical_assignment_operators (RowRule LogicalAssignmentRule) (node-nameless (RowRule LogicalAssignmentRule) (Row AssigningRow assigning-shape) (replacing-rule AssigningRow assigning-shape)
-      (λ new n w a b h. record { names = assigning-of other_name names_other other-passes n w new a b h.rule; chains = assigning-of any_name no_name_in_chain chain-passes n w new a b h.rule }));
+      (λ new n w a b h. assigning-names new n w a b h.rule));
   coalescing = node-nameless (RowRule NullishCoalescingRule) (Row CoalescingRow coalescing-shape) (replacing-rule CoalescingRow coalescing-shape)
-      (λ new n w a b h. record { names = coalescing-of other_name names_other other-passes n w new a b h.rule; chains = coalescing-of any_name no_name_in_chain chain-passes n w new a b h.rule });
+      (λ new n w a b h. coalescing-names new n w a b h.rule);
   chaining = where-does StaysNameless is_outside (chains_under o) (on-does StaysNameless o.es2020.optional_chaining (RowRule (OptionalChainingRule o.assumptions.no_document_all)) (node-nameless (RowRule (OptionalChainingRule o.assumptions.no_document_all)) (Row (ChainingRow o.assumptions.no_document_all) (chaining-shape o.assumptions.no_document_all))
       (replacing-rule (ChainingRow o.assumptions.no_document_all) (chaining-shape o.assumptions.no_document_all))
-      (λ new n w a b h. record { names = chaining-of other_name names_other other-passes o.assumptions.no_document_all n w new a b h.rule; chains = chaining-of any_name no_name_in_chain chain-passes o.assumptions.no_document_all n w new a b h.rule })));
+      (λ new n w a b h. chaining-names o.assumptions.no_document_all new n w a b h.rule)));
   raising = on-does StaysNameless o.es2016.exponentiation_operator (RowRule ExponentiationRule) (node-nameless (RowRule ExponentiationRule) (Row RaisingRow raising-shape) (replacing-rule RaisingRow raising-shape)
-      (λ new n w a b h. record { names = raising-of other_name names_other other-passes n w new a b h.rule; chains = raising-of any_name no_name_in_chain chain-passes n w new a b h.rule }));
+      (λ new n w a b h. raising-names new n w a b h.rule));
   catching = node-nameless CatchRule CatchRow catch-rule catch-names;
   spreading = spreads-nameless o;
 })
@@ -300,7 +373,7 @@ ChainNameless n w a = ChainSteady n w a × Nameless a
 chain-nameless-inwards : Inwards ChainNameless
 chain-nameless-inwards n w k l fs h =
     both_below (λ i t. ChainSteady (site_in n k l fs i) w t) (λ i t. Nameless t) (finished_fields fs) (chain-steady-inwards n w k l fs h.0)
-    (nodes_below no_name_in_chain (finished_fields fs) (and_parts (no_name_in_chain k l (finished_fields fs)) (all_in_fields no_name_in_chain (finished_fields fs)) h.1).1)
+    (nodes_below no_helper_in_chain (finished_fields fs) (and_parts (no_helper_in_chain k l (finished_fields fs)) (all_in_fields no_helper_in_chain (finished_fields fs)) h.1).1)
 
 nameless-keeps : (no_all : Bool) → KeepsRuns no_all spread_by_global true (RowWith (ChainingRow no_all) (chaining-shape no_all) ChainNameless)
 nameless-keeps no_all = record {
@@ -315,17 +388,31 @@ nameless-runs o no_all asked s s' x y h k m c names =
 
 -- EXPORTS and the source
 
-pub export-nameless : (k : AstType) (l : Label) (fs : Fields) → is_export_kind k ≡ true → no_name_in_chain k l fs ≡ true
+pub export-nameless : (k : AstType) (l : Label) (fs : Fields) → is_export_kind k ≡ true → no_helper_in_chain k l fs ≡ true
 export-nameless ChainExpression l fs h = absurd (cc h)
 export-nameless _ l fs h = refl
 
-name-bare : (k : AstType) (l : Label) (fs : Fields) → names_other k (bare_label l) (bare_fields fs) ≡ names_other k l fs
-name-bare Identifier l fs = refl
-name-bare _ l fs = refl
+-- where no member is one of that object, none in a chain is
+chain-of : (b c : Bool) → c ≡ true → (not b || c) ≡ true
+chain-of true c h = h
+chain-of false c h = refl
 
-pub source-nameless : (p : Tree) → Nameless p → Nameless (source p)
-source-nameless p h = source-passes no_name_in_chain chain-bare p h
-  where
-    chain-bare : (k : AstType) (l : Label) (fs : Fields) → no_name_in_chain k (bare_label l) (bare_fields fs) ≡ no_name_in_chain k l fs
-    chain-bare ChainExpression l fs = fields-bare names_other name-bare fs
-    chain-bare _ l fs = refl
+mutual
+  pub members-nameless : (t : Tree) → Apart t → Nameless t
+  members-nameless (node k l fs) h =
+      let d = and_parts (no_helper_member k l fs) (all_in_fields no_helper_member fs) h in
+      and_from (no_helper_in_chain k l fs) (all_in_fields no_helper_in_chain fs) (chain-of (is_chain_kind k) (all_in_fields no_helper_member fs) d.1) (nameless-in fs d.1)
+
+  nameless-in : (fs : Fields) → all_in_fields no_helper_member fs ≡ true → all_in_fields no_helper_in_chain fs ≡ true
+  nameless-in done h = refl
+  nameless-in (f then fs) h = let d = and_parts (all_in_field no_helper_member f) (all_in_fields no_helper_member fs) h in and_from (all_in_field no_helper_in_chain f) (all_in_fields no_helper_in_chain fs) (nameless-by f d.0) (nameless-in fs d.1)
+
+  nameless-by : (f : Field) → all_in_field no_helper_member f ≡ true → all_in_field no_helper_in_chain f ≡ true
+  nameless-by missing h = refl
+  nameless-by (one t) h = members-nameless t h
+  nameless-by (many ts) h = nameless-all ts h
+  nameless-by (statements ts) h = nameless-all ts h
+
+  nameless-all : (ts : Trees) → all_in_trees no_helper_member ts ≡ true → all_in_trees no_helper_in_chain ts ≡ true
+  nameless-all empty h = refl
+  nameless-all (t before ts) h = let d = and_parts (all_nodes no_helper_member t) (all_in_trees no_helper_member ts) h in and_from (all_nodes no_helper_in_chain t) (all_in_trees no_helper_in_chain ts) (members-nameless t d.0) (nameless-all ts d.1)

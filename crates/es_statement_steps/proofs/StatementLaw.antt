@@ -32,9 +32,10 @@ use Rattle.es_reached.specs.Unmade.{is_sought, of_chains}
 use Rattle.es_statement_runs.specs.Helpers.{Supply, silent_names}
 use Rattle.es_statement_runs.specs.Helpers.Supply.{no_helpers, spread_by_global, by_global}
 use Rattle.es_statement_runs.specs.Programs.{IsStatementProgram, uses_no_helper}
+use Rattle.es_statement_runs.specs.HelperMembers.{no_helper_member}
 use Rattle.es_statement_runs.specs.Runs.{RunAlike}
 use Rattle.es_statement_runs.proofs.Spreads.{has_global_spread}
-use Rattle.es_statement_steps.specs.Laws.{LawStatementRules, TagsAreNoChains, assignments_there, assumes_no_all, chains_there, no_name_in_chain, powers_there, spreads_there, supply_there}
+use Rattle.es_statement_steps.specs.Laws.{LawStatementRules, TagsAreNoChains, assignments_there, assumes_no_all, chains_there, powers_there, spreads_there, supply_there}
 use Rattle.es_statement_steps.specs.Orders.{in_order, is_in_order, only_where}
 use Rattle.es_statement_steps.proofs.Absent.{Absent, Never, absent-alone, absent-exports, absent-source, no-assignment, no-chain, no-power, no-spread, not-there}
 use Rattle.es_statement_steps.proofs.Composition.{AloneRuns, Exports, Known, NamespaceRuns, anywhere}
@@ -42,7 +43,9 @@ use Rattle.es_statement_steps.proofs.Exports.{exports-run, exports-so, keyless-p
 use Rattle.es_statement_steps.proofs.KeylessPrograms.{IsKeyless, keyless_silent}
 use Rattle.es_statement_steps.proofs.KeylessSources.{named-keyless, same-keyless}
 use Rattle.es_statement_steps.proofs.KeylessSteps.{NoneBeside, statement-keyless}
-use Rattle.es_statement_steps.proofs.Nameless.{Nameless, export-nameless, is_outside, nameless-runs, outside-slots, source-nameless, statement-nameless}
+use Rattle.es_statement_steps.proofs.ChainsApart.{no_helper_in_chain}
+use Rattle.es_statement_steps.proofs.HelperMembers.{named-members}
+use Rattle.es_statement_steps.proofs.Nameless.{Nameless, export-nameless, is_outside, members-nameless, nameless-runs, outside-slots, statement-nameless}
 use Rattle.es_statement_steps.proofs.OperandSteps.{Suited, assigning-runs, chaining-runs, no-silent, raising-runs, suited-export, suited-start, suited-step}
 use Rattle.es_statement_steps.proofs.PlainSupplies.{is_core_supply, none-silent}
 use Rattle.es_statement_steps.proofs.ReachedRuns.{AllSilent, reached-runs, source-bare}
@@ -90,6 +93,10 @@ module _ (no_all : Bool) (u : Supply) (p : Tree) (Clean : Whole → Tree → Typ
   -- and one that doesn't
   resting : (asked there : Bool) (R : Site → Ledger → Spot → Ledger → Spot → Type 0) → (asked && there) ≡ false → (there ≡ false → Never p R) → Does Kept (where_on asked R)
   resting asked there R e none s s' x y h k m c d = absurd (not-there asked there p R e none s s' x y h k.proper k.class c.1)
+
+not-so : (b : Bool) → not b ≡ true → b ≡ false
+not-so true h = absurd (cc h)
+not-so false h = refl
 
 -- WITH THE OBJECT OF ALL HELPERS, beside which no row of chains, logical assignment and exponentiation acts
 
@@ -140,27 +147,23 @@ module _ (o : EnvOptions) (no_all : Bool) (p : Tree) (off : NoneBeside o p) (Ask
       let r = rules-run o all_places all_places (same-places all_places) no_all by_global Helped helped-silent helped-does helped-clean helped-exports
       p q names h (λ t e. keyless_silent t (same-keyless t (source p) (e ∙ source-bare p) keyless)) ((keyless, asked), absent-source p) (reached-anywhere o p (first_whole p) names q reached) in
       (r.0, r.1.0)
-    where
-      not-so : (b : Bool) → not b ≡ true → b ≡ false
-      not-so true h = absurd (cc h)
-      not-so false h = refl
 
--- WITHOUT HELPERS, or with that of object spread alone; where chains act beside that, none holds the name of the object of helpers
+-- WITHOUT HELPERS, or with that of object spread alone; where chains act beside that, none has a member of the object of helpers
 
 -- what is asked of chains on the way
 data Asked : Type 0 where
-  nothing no_names : Asked
+  nothing no_members : Asked
 
 abbrev ChainsAsked : Asked → Tree → Type 0
 ChainsAsked nothing t = Unit {0}
-ChainsAsked no_names t = Nameless t
+ChainsAsked no_members t = Nameless t
 
 abbrev Plain : EnvOptions → Asked → Whole → Tree → Type 0
 Plain o asked w t = Suited o w t × ChainsAsked asked t
 
 asked-export : (o : EnvOptions) (asked : Asked) {s s' : Ledger} {x y : Open} → Step (Exports o) the_program s x s' y → Known s (spread x) → ChainsAsked asked (finished x) → ChainsAsked asked (finished y)
 asked-export o nothing h k c = tt
-asked-export o no_names {x = x} h k c = exports-so no_name_in_chain export-nameless o h (subst (λ (t : Tree). has_form s-Program t ≡ true) (finished-spread x) k.form) c
+asked-export o no_members {x = x} h k c = exports-so no_helper_in_chain export-nameless o h (subst (λ (t : Tree). has_form s-Program t ≡ true) (finished-spread x) k.form) c
 
 module _ (o : EnvOptions) (p : Tree) (no_all : Bool) (u : Supply) (plain : is_core_supply u ≡ true) (asked : Asked) (at : Site → Spot → Bool) where
   plain-silent : (w : Whole) (t : Tree) → Plain o asked w t → silent_names u t ≡ []
@@ -258,13 +261,15 @@ module _ (o : EnvOptions) (p q : Tree) (names : List Text) (h : IsStatementProgr
   abbrev Chains-row : Site → Ledger → Spot → Ledger → Spot → Type 0
   Chains-row = RowRule (OptionalChainingRule o.assumptions.no_document_all)
 
-  -- object spread beside chains: no spread is lowered while a chain stands around it, and no chain holds that name at first
-  beside-chains : chains_there o p ≡ true → all_nodes no_name_in_chain p ≡ true → Reached (in_order o) p (first_whole p) names q → RunAlike spread_by_global assumes p q
-  beside-chains d nameless reached =
+  -- object spread beside chains: no spread is lowered while a chain stands around it, and no chain has a member of that object at first
+  beside-chains : chains_there o p ≡ true → uses_no_helper spread_by_global p ≡ true → Reached (in_order o) p (first_whole p) names q → RunAlike spread_by_global assumes p q
+  beside-chains d none reached =
+      let members : all_nodes no_helper_member (source p) ≡ true =
+      named-members (length (symbols_of p)) (is_among (names_of p)) (not-so (is_among (names_of p) (codes "babelHelpers")) none) reads (source p) (law_named_proof p (is_among (names_of p)) (length (symbols_of p)) h.form h.rules (λ x e. e) (omega arith)) in
       let on : o.es2020.optional_chaining ≡ true = (and_parts o.es2020.optional_chaining (any_node (is_sought of_chains) p) d).0 in
-      plain-run o p assumes spread_by_global refl no_names is_outside (is_in_order o) (outside-slots o on)
-      (with-chains o p spread_by_global refl no_names is_outside (λ a s s' x y r k m c d. nameless-runs o o.assumptions.no_document_all a s s' x y (anywhere is_outside Chains-row r) k m c.0 c.1))
-      (with-spreads o p assumes spread_by_global refl no_names is_outside refl) (statement-nameless o) q names h untagged (source-nameless p nameless) reached
+      plain-run o p assumes spread_by_global refl no_members is_outside (is_in_order o) (outside-slots o on)
+      (with-chains o p spread_by_global refl no_members is_outside (λ a s s' x y r k m c d. nameless-runs o o.assumptions.no_document_all a s s' x y (anywhere is_outside Chains-row r) k m c.0 c.1))
+      (with-spreads o p assumes spread_by_global refl no_members is_outside refl) (statement-nameless o) q names h untagged (members-nameless (source p) members) reached
 
   -- object spread beside assignments and powers, and the others without helpers
   without-chains : chains_there o p ≡ false → Reached (built_rules o) p (first_whole p) names q → RunAlike spread_by_global assumes p q
@@ -276,12 +281,12 @@ module _ (o : EnvOptions) (p q : Tree) (names : List Text) (h : IsStatementProgr
       (no-spreads o p assumes no_helpers refl nothing all_places e) (λ s s' x y r k m c. tt) q names h untagged tt (reached-anywhere o p (first_whole p) names q reached)
 
   -- from what is known of chains beside spreads
-  by-rows : (spreads_there o p ≡ true → chains_there o p ≡ true → RunAlike spread_by_global assumes p q) → uses_no_helper (supply_there o p) p ≡ true → Reached (built_rules o) p (first_whole p) names q → RunAlike (supply_there o p) assumes p q
+  by-rows : (spreads_there o p ≡ true → chains_there o p ≡ true → uses_no_helper spread_by_global p ≡ true → RunAlike spread_by_global assumes p q) → uses_no_helper (supply_there o p) p ≡ true → Reached (built_rules o) p (first_whole p) names q → RunAlike (supply_there o p) assumes p q
   by-rows beside none reached = chosen (spreads_there o p) (chains_there o p) (assignments_there o p || powers_there o p) refl refl refl none
     where
       chosen : (b d c : Bool) → spreads_there o p ≡ b → chains_there o p ≡ d → (assignments_there o p || powers_there o p) ≡ c → uses_no_helper (if b then (if d || c then spread_by_global else by_global) else no_helpers) p ≡ true →
           RunAlike (if b then (if d || c then spread_by_global else by_global) else no_helpers) assumes p q
-      chosen true true c e d g none = beside e d
+      chosen true true c e d g none = beside e d none
       chosen true false true e d g none = without-chains d reached
       chosen true false false e d g none =
           let v = or_parts (assignments_there o p) (powers_there o p) g in
@@ -289,5 +294,5 @@ module _ (o : EnvOptions) (p q : Tree) (names : List Text) (h : IsStatementProgr
       chosen false d c e f g none = without-spreads e reached
 
 pub law_statement_rules_proof : LawStatementRules
-law_statement_rules_proof o p q names h untagged none nameless reached ordered =
-    by-rows o p q names h untagged (λ e d. let both = and_from (spreads_there o p) (chains_there o p) e d in beside-chains o p q names h untagged d (nameless both) (ordered both)) none reached
+law_statement_rules_proof o p q names h untagged none reached ordered =
+    by-rows o p q names h untagged (λ e d unnamed. beside-chains o p q names h untagged d unnamed (ordered (and_from (spreads_there o p) (chains_there o p) e d))) none reached

@@ -36,7 +36,7 @@ use Rattle.es_statement_steps.specs.Orders.{only_where}
 use Rattle.es_statement_steps.proofs.Catchings.{CatchRow, catch-keeps, catch-rule, catch-stays}
 use Rattle.es_statement_steps.proofs.Coalescings.{CoalescingRow, coalescing-keeps, coalescing-shape}
 use Rattle.es_statement_steps.proofs.Composition.{Known, anywhere, known-fine}
-use Rattle.es_statement_steps.proofs.MadeOf.{PassesMade, any_name, assigning-of, chaining-of, coalescing-of, is_made_kind, passes-any, raising-of}
+use Rattle.es_statement_steps.proofs.MadeOf.{PassesMade, any_name, any_object, assigning-of, chaining-of, coalescing-of, is_made_kind, passes-any, raising-of}
 use Rattle.es_statement_steps.proofs.NoSteps.{off-step}
 use Rattle.es_statement_steps.proofs.ProgramMoves.{program-moved}
 use Rattle.es_statement_steps.proofs.Replacings.{Row, RowShape, replacing-hoists, replacing-rule}
@@ -119,8 +119,8 @@ made-node PrivateIdentifier l fs h = absurd (cc h)
 made-node Super l fs h = absurd (cc h)
 made-node _ l fs h = refl
 
-made-class : PassesMade any_name is_statement_node
-made-class = passes-any is_statement_node made-node (λ l. refl)
+made-class : PassesMade any_name any_object is_statement_node
+made-class = passes-any is_statement_node made-node (λ l fs. refl) (λ l. refl)
 
 catch-class : (n : Site) (s s' : Ledger) (t u : Tree) → CatchRule n s (at_node t) s' (at_node u) → Class t → Class u
 catch-class n s s' t u (catches fresh) c = c
@@ -132,10 +132,10 @@ placed-class m (node k l fs) = refl
 
 rows-class : (no_all : Bool) → RowsDo no_all (λ t u. Class t → Class u)
 rows-class no_all = record {
-  assigning = assigning-of any_name is_statement_node made-class;
-  coalescing = coalescing-of any_name is_statement_node made-class;
-  chaining = chaining-of any_name is_statement_node made-class no_all;
-  raising = raising-of any_name is_statement_node made-class;
+  assigning = assigning-of any_name any_object is_statement_node made-class;
+  coalescing = coalescing-of any_name any_object is_statement_node made-class;
+  chaining = chaining-of any_name any_object is_statement_node made-class no_all;
+  raising = raising-of any_name any_object is_statement_node made-class;
   catching = catch-class;
   spreading = spread-so is_statement_node refl (λ given. refl) (λ ps. refl) placed-class;
 }

@@ -3,18 +3,17 @@
 use Rattle.std.specs.Prelude.{◌≡◌, ◌&&◌, ◌||◌, Bool, true, not, List, is_some, if◌then◌else◌}
 use Rattle.es_tree.specs.Bare.{bare}
 use Rattle.es_tree.specs.Tree.{Fields, Label, Tree}
-use Rattle.es_tree.specs.Walks.{all_in_fields, all_nodes, any_node}
+use Rattle.es_tree.specs.Walks.{all_nodes, any_node}
 use Rattle.es_tree.specs.Words.{Text}
 use Rattle.es_tree.specs.declared.ast_type.AstType.{AstType}
 use Rattle.es_tree.specs.declared.options.EnvOptions.{EnvOptions}
-use Rattle.es_runs.specs.OptionalChaining.{is_chain_kind}
 use Rattle.es_steps.specs.CoreBridge.{Reached, first_whole}
 use Rattle.es_reached.specs.Reached.{built_rules}
 use Rattle.es_reached.specs.Unmade.{is_sought, of_assignments, of_chains, of_powers, of_spreads}
 use Rattle.es_unsupported.specs.Shapes.{has_chain_tag}
 use Rattle.es_statement_runs.specs.Helpers.{Supply}
 use Rattle.es_statement_runs.specs.Helpers.Supply.{no_helpers, spread_by_global, by_global}
-use Rattle.es_statement_runs.specs.Programs.{IsStatementProgram, names_other, uses_no_helper}
+use Rattle.es_statement_runs.specs.Programs.{IsStatementProgram, uses_no_helper}
 use Rattle.es_statement_runs.specs.Runs.{RunAlike}
 use Rattle.es_statement_steps.specs.Orders.{in_order}
 
@@ -41,10 +40,6 @@ supply_there o p = if spreads_there o p then (if chains_there o p || (assignment
 abbrev pub are_mixed : EnvOptions → Tree → Bool
 are_mixed o p = spreads_there o p && chains_there o p
 
--- the word `babelHelpers` stands in no chain, as a key either
-abbrev pub no_name_in_chain : AstType → Label → Fields → Bool
-no_name_in_chain k l fs = not (is_chain_kind k) || all_in_fields names_other fs
-
 -- whether they assume that no value is `document.all` (ECMA-262, B.3.6): optional chaining alone may
 abbrev pub assumes_no_all : EnvOptions → Tree → Bool
 assumes_no_all o p = chains_there o p && o.assumptions.no_document_all
@@ -58,17 +53,15 @@ abbrev pub TagsAreNoChains : EnvOptions → Tree → Type 0
 TagsAreNoChains o p = o.es2020.optional_chaining ≡ true → all_nodes no_chain_tag p ≡ true
 
 -- A valid program that uses no helper itself runs as what steps of these rules reach from it, at whatever places they are taken and in
--- whatever order, but that where both are lowered no spread is while a chain stands around it, and that no chain then has a key `babelHelpers`: of whatever
--- operands its expressions are, and where it is assumed that no value is `document.all` in every run in which none is.
+-- whatever order, but that where both are lowered no spread is while a chain stands around it: of whatever operands its expressions are, and where it is assumed that no value is `document.all` in every run in which none is.
 abbrev pub LawStatementRules : Type 0
-LawStatementRules = (o : EnvOptions) (p q : Tree) (names : List Text) → IsStatementProgram p → TagsAreNoChains o p → uses_no_helper (supply_there o p) p ≡ true → (are_mixed o p ≡ true → all_nodes no_name_in_chain p ≡ true) → Reached (built_rules o) p (first_whole p) names q →
+LawStatementRules = (o : EnvOptions) (p q : Tree) (names : List Text) → IsStatementProgram p → TagsAreNoChains o p → uses_no_helper (supply_there o p) p ≡ true → Reached (built_rules o) p (first_whole p) names q →
     (are_mixed o p ≡ true → Reached (in_order o) p (first_whole p) names q) → RunAlike (supply_there o p) (assumes_no_all o p) p q
 
 -- A program of which the law speaks under these options.
 pub record RunsAsStatements (o : EnvOptions) (p : Tree) : Type 0 where
   -- it is valid, and without functions, arrows and classes
   pub class : IsStatementProgram p
-  pub keys : are_mixed o p ≡ true → all_nodes no_name_in_chain p ≡ true
   pub helpers : uses_no_helper (supply_there o p) p ≡ true
 
 -- So it is of what a program becomes by steps in order: what is written of it, which is equal but for ids and marks, runs as it does.
