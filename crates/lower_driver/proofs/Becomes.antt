@@ -9,7 +9,7 @@ use Rattle.es_tree.specs.Tree.{Tree, node, Label, Fields, done, ◌then◌, miss
 use Rattle.es_tree.specs.Walks.{any_node}
 use Rattle.es_tree.specs.Words.{Text}
 use Rattle.es_tree.specs.declared.ast_type.AstType.{AstType}
-use Rattle.es_tree.specs.declared.ast_type.AstType.TheVariants.{ObjectPattern, Program as k-Program, RestElement, TargetRest}
+use Rattle.es_tree.specs.declared.ast_type.AstType.TheVariants.{ObjectPattern, PatternProperty, Program as k-Program, RestElement, TargetRest}
 use Rattle.es_tree.specs.declared.options.EnvOptions.{EnvOptions}
 use Rattle.es_tree.specs.declared.table.Sort.TheVariants.{Program as s-Program}
 use Rattle.es_tree.proofs.BareForm.{has_form-bare}
@@ -20,26 +20,21 @@ use Rattle.es_statements.specs.ProgramPlain.{plain_program}
 use Rattle.es_statements.specs.declared.program.Program.{Program}
 use Rattle.es_resolution.specs.Laws.{source}
 use Rattle.es_resolution.specs.Seen.{seen}
-use Rattle.es_steps.specs.AllRules.{AllRules}
 use Rattle.es_steps.specs.CoreBridge.{Reached, first_whole}
-use Rattle.es_steps.specs.Laws.{IsWellBound, nothing_beside}
+use Rattle.es_steps.specs.Laws.{nothing_beside}
 use Rattle.es_steps.specs.Open.{opened}
 use Rattle.es_steps.specs.Steps.{Step, Steps, Whole, the_program}
 use Rattle.es_steps.specs.Steps.Steps.{stays}
-use Rattle.es_steps.proofs.BridgeInclusion.{all_under}
-use Rattle.es_steps.proofs.Laws.{law_reached_proof}
 use Rattle.es_changes.specs.Moments.{whole_at}
 use Rattle.es_reached.specs.Reached.{IsResult, built_rules}
 use Rattle.es_reached.specs.Walks.{is_other_construct}
-use Rattle.es_reached.proofs.BuiltRules.{built-all}
 use Rattle.es_reached.proofs.FreeSteps.{law_no_rests_proof}
-use Rattle.es_reached.proofs.Results.{law_core_result_proof, law_result_proof, program-kind, source-form, source-well-bound}
+use Rattle.es_reached.proofs.Results.{law_core_result_proof, law_result_proof, program-kind}
 use Rattle.es_reached.proofs.Sources.{law_bare_seen_proof, law_bare_source_proof}
-use Rattle.es_rest_shapes.specs.RestShapes.{is_misplaced, is_rest_declaration, is_stray_rest}
+use Rattle.es_rest_shapes.specs.RestShapes.{is_misplaced, is_rest_declaration, is_stray_rest, reads_key}
 use Rattle.es_rest_shapes.proofs.NoneLeft.{law_none_left_proof}
 use Rattle.es_rest_rows.specs.Laws.{is_other_construct as rest_others}
-use Rattle.es_rest_rows.specs.RestRows.{RestRow, RestWalkRow}
-use Rattle.es_rest_rows.proofs.HelperSteps.{law_helpers_unbound_proof, law_rest_walks_proof}
+use Rattle.es_rest_rows.specs.RestRows.{RestWalkRow}
 use Rattle.es_rest_rows.proofs.RestsMakeNone.{law_rests_make_none_proof}
 use Rattle.es_rest_rows.proofs.StraySteps.{law_strays_not_made_proof}
 use Rattle.es_lowered.specs.Lowered.{IsLowered}
@@ -54,7 +49,7 @@ use Rattle.es_unsupported.proofs.ArrowsTaken.{law_arrows_taken_proof}
 use Rattle.es_unsupported.proofs.Built.{law_strays_taken_proof}
 use Rattle.es_unsupported.proofs.HelpersFree.{law_helpers_free_proof}
 use Rattle.lower_nodes.specs.Nodes.{PaidTree, WalkedProgram, owed, owed_among, owed_in}
-use Rattle.lower_object_rest.specs.Profile.{number_of, profile_where, rest_owes}
+use Rattle.lower_object_rest.specs.Profile.{key_ids, key_ids_by, profile_where, rest_owes}
 use Rattle.lower_temporaries.proofs.SeenLaws.{size-seen}
 use Rattle.lower_temporaries.specs.Takings.{moment_of}
 use Rattle.lower_temporaries.specs.declared.state.TransformState.{TransformState}
@@ -72,13 +67,13 @@ use Rattle.lower_driver.proofs.Visits.{Arrived, names-bound}
 
 -- IDS that a walk may give
 
--- how many nodes stand in the fields themselves
+-- what a pattern may have for the nodes that stand in its fields themselves
 abbrev children : Fields → ℕ
 children done = 0
 children (missing then fs) = children fs
-children (one t then fs) = 1 + children fs
-children (many ts then fs) = number_of ts + children fs
-children (statements ts then fs) = number_of ts + children fs
+children (one t then fs) = key_ids_by (reads_key t) + children fs
+children (many ts then fs) = key_ids ts + children fs
+children (statements ts then fs) = key_ids ts + children fs
 
 -- what a rest among the members of a pattern has for it
 abbrev for_pattern : Bool → ℕ
@@ -88,28 +83,38 @@ abbrev of_rests : Fields → ℕ
 of_rests (many ps then fs) = for_pattern (any_kind is_rest ps)
 of_rests _ = 0
 
-either-owed : (b : Bool) (n m : ℕ) → (if b then 14 + n else 0) ≤ 10 + (n + m) + for_pattern b
+either-owed : (b : Bool) (n m : ℕ) → (if b then 16 + n else 0) ≤ 10 + (n + m) + for_pattern b
 either-owed true n m = omega arith
 either-owed false n m = omega arith
 
 own-owed : (k : AstType) (l : Label) (fs : Fields) → rest_owes k l fs ≤ 10 + children fs + of_rests fs
-own-owed ObjectPattern l (many ps then fs) = either-owed (any_kind is_rest ps) (number_of ps) (children fs)
+own-owed ObjectPattern l (many ps then fs) = either-owed (any_kind is_rest ps) (key_ids ps) (children fs)
 own-owed ObjectPattern l done = omega arith
 own-owed ObjectPattern l (missing then fs) = omega arith
 own-owed ObjectPattern l (one t then fs) = omega arith
 own-owed ObjectPattern l (statements ts then fs) = omega arith
 own-owed k l fs = omega arith
 
-among-owed : (a b : Bool) (own later n size sizes : ℕ) → own + 1 + for_pattern a ≤ 11 * size → later + n + for_pattern b ≤ 11 * sizes → own + later + (1 + n) + for_pattern (a || b) ≤ 11 * (size + sizes)
-among-owed true b own later n size sizes first rest = omega arith
-among-owed false b own later n size sizes first rest = omega arith
+-- a node has some for its own key
+some-key : (b : Bool) → 1 ≤ key_ids_by b
+some-key true = omega arith
+some-key false = omega arith
 
--- at most eleven for each node: what a node may have for those in its fields is one of them, and ten of a rest, which owes none itself, are for its
--- pattern
+few-key : (b : Bool) → key_ids_by b ≤ 7
+few-key true = omega arith
+few-key false = omega arith
+
+among-owed : (a b : Bool) (own later key n size sizes : ℕ) → own + key + for_pattern a ≤ 11 * size → later + n + for_pattern b ≤ 11 * sizes → own + later + (key + n) + for_pattern (a || b) ≤ 11 * (size + sizes)
+among-owed true b own later key n size sizes first rest = omega arith
+among-owed false b own later key n size sizes first rest = omega arith
+
+-- at most eleven for each node: what a pattern may have for its members is of those that they have, a property that owes none itself has seven for its
+-- key, and ten of a rest, which owes none itself, are for its pattern
 mutual
-  few-owed-of : (t : Tree) → owed rest_owes t + 1 + for_pattern (is_rest (kind_of t)) ≤ 11 * tree_size t
+  few-owed-of : (t : Tree) → owed rest_owes t + key_ids_by (reads_key t) + for_pattern (is_rest (kind_of t)) ≤ 11 * tree_size t
   few-owed-of (node RestElement l fs) = omega (arith, few-owed-in fs)
   few-owed-of (node TargetRest l fs) = omega (arith, few-owed-in fs)
+  few-owed-of (node PatternProperty l fs) = omega (arith, few-key (reads_key (node PatternProperty l fs)), few-owed-in fs)
   few-owed-of (node k l fs) = omega (arith, own-owed k l fs, few-owed-in fs)
 
   few-owed-in : (fs : Fields) → owed_in rest_owes fs + children fs + of_rests fs ≤ 11 * fields_size fs
@@ -119,12 +124,12 @@ mutual
   few-owed-in (many ts then fs) = omega (arith, few-owed-among ts, few-owed-in fs)
   few-owed-in (statements ts then fs) = omega (arith, few-owed-among ts, few-owed-in fs)
 
-  few-owed-among : (ts : Trees) → owed_among rest_owes ts + number_of ts + for_pattern (any_kind is_rest ts) ≤ 11 * trees_size ts
+  few-owed-among : (ts : Trees) → owed_among rest_owes ts + key_ids ts + for_pattern (any_kind is_rest ts) ≤ 11 * trees_size ts
   few-owed-among empty = omega arith
-  few-owed-among (t before ts) = among-owed (is_rest (kind_of t)) (any_kind is_rest ts) (owed rest_owes t) (owed_among rest_owes ts) (number_of ts) (tree_size t) (trees_size ts) (few-owed-of t) (few-owed-among ts)
+  few-owed-among (t before ts) = among-owed (is_rest (kind_of t)) (any_kind is_rest ts) (owed rest_owes t) (owed_among rest_owes ts) (key_ids_by (reads_key t)) (key_ids ts) (tree_size t) (trees_size ts) (few-owed-of t) (few-owed-among ts)
 
 few-owed : (t : Tree) → owed rest_owes t + 1 ≤ 11 * tree_size t
-few-owed t = omega (arith, few-owed-of t)
+few-owed t = omega (arith, few-owed-of t, some-key (reads_key t))
 
 pub owed-room : (p : Tree) (z : Program) (next start : ℕ) → tree_size (plain_program z) ≤ 31 * tree_size p → next ≤ 61 * tree_size p + start → start < 2 ^ 20 → tree_size p < 10 * 2 ^ 20 → next + owed rest_owes (plain_program z) < 2 ^ 32 - 1
 owed-room p z next start size given first small = omega (arith, few-owed (plain_program z), size, given, first, small)
@@ -185,7 +190,7 @@ module _ (o c : EnvOptions) (copy : IsCopy o c) (p : Tree) (form : has_form s-Pr
         none = sym (copied-enabled o c copy (plain_program z)) ∙ same-constructs c there (plain_program z) (sym (law_bare_seen_proof names (plain_program z))) ∙ none-enabled c there other rests arrows;
         core = λ core. law_core_result_proof o p (plain_program z) (made_of ctx) core right becomes;
         statements = λ no_rests runs. law_statement_result_proof o p (plain_program z) there (made_of ctx) runs (tags-are-no-chains o p taken_so) (ordered-so z ctx steps) (law_bare_seen_proof names (plain_program z));
-        importing = λ no_rests class m imported last runs goes apart. law_importing_result_proof o m p (plain_program z) imported (made_of ctx) last class runs becomes (law_same_sort_proof o p (plain_program z) (made_of ctx) form right (law_lowered_alone_proof o p (plain_program z) (made_of ctx) becomes)) goes apart;
+        importing = λ no_rests class m imported last runs goes. law_importing_result_proof o m p (plain_program z) imported (made_of ctx) last class runs becomes (law_same_sort_proof o p (plain_program z) (made_of ctx) form right (law_lowered_alone_proof o p (plain_program z) (made_of ctx) becomes)) goes;
         size = rw none (omega (arith, size));
       }
 
@@ -238,20 +243,13 @@ module _ (o c : EnvOptions) (copy : IsCopy o c) (p : Tree) (form : has_form s-Pr
             at true e = refl
             at false e = absurd (true≢false (sym has ∙ law_none_left_proof p (misplaced-program p (program-kind p form)) strays-source e))
 
-        well : IsWellBound (whole_at (moment_of ctx)) there
-        unfolding reached reached-so ordered-so
-        well = law_reached_proof o (source p) there (first_whole p) (whole_at (moment_of ctx)) (program-kind (source p) (source-form p form)) (source-well-bound p form right) (all_under (built_rules o) (AllRules o) (built-all o) reached.steps)
-
-        rows : Steps (Step RestRow the_program) (nothing_beside (whole_at (moment_of ctx))) (opened there) (nothing_beside (whole_at (moment_of d))) (opened last)
-        rows = law_rest_walks_proof there (whole_at (moment_of ctx)) (whole_at (moment_of d)) (opened last) (program-kind there formed) well (law_helpers_unbound_proof o p there (made_of ctx) form right (law_helpers_free_proof o p on taken_so declared) reached) refl walk
-
         lowered : IsLowered o p (plain_program u) (made_of d)
         unfolding reached reached-so ordered-so
         lowered =
-            law_lowered_proof o p (plain_program u) there last (made_of ctx) (made_of d) (whole_at (moment_of d)) form right (λ asked. law_arrows_taken_proof o p asked taken_so) on reached rows (names-bound (whole_at (moment_of d)).free_symbol (made_of d)) (law_bare_seen_proof names (plain_program u))
+            law_lowered_proof o p (plain_program u) there last (made_of ctx) (made_of d) (whole_at (moment_of d)) form right (λ asked. law_arrows_taken_proof o p asked taken_so) on (law_helpers_free_proof o p on taken_so declared) reached walk (names-bound (whole_at (moment_of d)).free_symbol (made_of d)) (law_bare_seen_proof names (plain_program u))
 
         none-last : any_node is_object_rest last ≡ false
-        none-last = law_none_left_proof last (misplaced-program last (program-kind last (form-alike last (plain_program u) (law_bare_seen_proof names (plain_program u)) lowered.form))) (walked.clear formed strays) (walked.none formed strays)
+        none-last = law_none_left_proof last (misplaced-program last (program-kind last (form-alike last (plain_program u) (law_bare_seen_proof names (plain_program u)) lowered.result.form))) (walked.clear formed strays) (walked.none formed strays)
 
         others : any_node (rest_others c) last ≡ false
         others = law_rests_make_none_proof c there last (whole_at (moment_of ctx)) (whole_at (moment_of d)) walk (none-beside-rests c there arrived.other arrived.arrows)
@@ -268,7 +266,7 @@ module _ (o c : EnvOptions) (copy : IsCopy o c) (p : Tree) (form : has_form s-Pr
               none = sym (copied-enabled o c copy (plain_program u)) ∙ same-constructs c last (plain_program u) (sym (law_bare_seen_proof names (plain_program u))) ∙ none-with-rests c last others (off-second (is_some c.es2018.object_rest_spread) (any_node is_object_rest last) none-last);
               core = λ core. absurd (true≢false (sym has ∙ no-rest p core.core));
               statements = λ no_rests runs. absurd (true≢false (sym there-is ∙ no_rests));
-              importing = λ no_rests class m imported last runs goes apart. absurd (true≢false (sym there-is ∙ no_rests));
+              importing = λ no_rests class m imported last runs goes. absurd (true≢false (sym there-is ∙ no_rests));
               size = rw there-is (omega (arith, small, few, light, more));
             }
 
@@ -298,7 +296,7 @@ stays-in-place o p form right none =
       none = none;
       core = λ core. law_core_result_proof o p p [] core right becomes;
       statements = λ no_rests runs. law_statement_result_proof o p p (source p) [] runs (tags-are-no-chains o p taken) (record { whole = first_whole p; steps = stays; made = refl }) (law_bare_source_proof p);
-      importing = λ no_rests class m imported last runs goes apart. law_importing_result_proof o m p p imported [] last class runs becomes refl goes apart;
+      importing = λ no_rests class m imported last runs goes. law_importing_result_proof o m p p imported [] last class runs becomes refl goes;
       size = at (rests_there o p);
     }
   where

@@ -18,7 +18,7 @@ use Rattle.es_tree.specs.declared.table.Sort.TheVariants.{Program as s-Program}
 use Rattle.es_runs.proofs.Named.{or_both}
 use Rattle.es_rest_shapes.specs.RestShapes.{is_rest_declaration}
 use Rattle.es_rest_shapes.proofs.NoneLeft.{law_declared_rests_proof}
-use Rattle.es_helper_calls.specs.Importing.{asks_helper, binds_require, calls_helper, first_unimported, imports_helpers, needs_helper, unimported, unimported_where}
+use Rattle.es_helper_calls.specs.Importing.{asks_helper, binds_require, uses_helper, first_unimported, imports_helpers, needs_helper, unimported, unimported_where}
 use Rattle.es_helper_calls.specs.HelperCalls.{helpers_called}
 use Rattle.es_helper_imports.specs.Imported.{imported_as, unmarked}
 use Rattle.es_helper_imports.specs.Laws.{IsImported}
@@ -46,9 +46,9 @@ none-needs p spreads rests = none-of-tree is_object_spread is_rest_declaration n
 pub none-unimporting : (o : EnvOptions) (made : Bool) (p : Tree) → made ≡ false → (is_some o.es2018.object_rest_spread && any_node is_object_spread p) ≡ false → (is_some o.es2018.object_rest_spread && any_node is_object_rest p) ≡ false → imports_helpers o made p ≡ false
 none-unimporting o made p unmade spreads rests =
     let copies : any_node (λ k l fs. is_some o.es2018.object_rest_spread && needs_helper k l fs) p ≡ false = any-where (is_some o.es2018.object_rest_spread) needs_helper p ∙ at (is_some o.es2018.object_rest_spread) spreads rests in
-    let calls : any_node (λ k l fs. made && calls_helper k l fs) p ≡ false = any-where made calls_helper p ∙ ap (λ b. b && any_node calls_helper p) unmade in
+    let calls : any_node (λ k l fs. made && uses_helper k l fs) p ≡ false = any-where made uses_helper p ∙ ap (λ b. b && any_node uses_helper p) unmade in
     off-anyway (not (is_external o.helper_loader.mode)) (any_node (asks_helper o made) p)
-    (none-of-tree (λ k l fs. is_some o.es2018.object_rest_spread && needs_helper k l fs) (λ k l fs. made && calls_helper k l fs) (asks_helper o made) (λ k l fs. refl) p copies calls)
+    (none-of-tree (λ k l fs. is_some o.es2018.object_rest_spread && needs_helper k l fs) (λ k l fs. made && uses_helper k l fs) (asks_helper o made) (λ k l fs. refl) p copies calls)
   where
     at : (on : Bool) → (on && any_node is_object_spread p) ≡ false → (on && any_node is_object_rest p) ≡ false → (on && any_node needs_helper p) ≡ false
     at true e d = none-needs p e d
@@ -118,7 +118,7 @@ module _ (o : EnvOptions) (made : Bool) (own : Option ℕ) (q lowered written : 
   pub is-imported : imports_helpers o made q ≡ true → IsImported module_text lowered written last
   is-imported on =
       let unbound = require-unbound o made own q on (right_none (first_unsupported o q) (first_unimported o made own q) none) in
-      law_imported_proof module_text lowered written last result.form result.kept (λ script. law_require_free_proof o q lowered later form right result unbound script) (m.goes on)
+      law_imported_proof module_text lowered written last result.result.form result.result.kept (λ script. law_require_free_proof o q lowered later form right result unbound script) (m.goes on)
 
   pub none-left : has_enabled_construct o lowered ≡ false → has_enabled_construct o written ≡ false
   none-left earlier = at (imports_helpers o made q) refl
@@ -129,9 +129,9 @@ module _ (o : EnvOptions) (made : Bool) (own : Option ℕ) (q lowered written : 
           same-constructs o (imported_as module_text hs (unmarked last) lowered) written (m.goes on).written ∙ law_no_constructs_proof o module_text hs (unmarked last) lowered earlier
       at false off = ap (has_enabled_construct o) (m.stays off).0 ∙ earlier
 
-  pub size-after : tree_size written ≤ tree_size lowered + (if imports_helpers o made q then 30 else 0)
+  pub size-after : tree_size written ≤ tree_size lowered + (if imports_helpers o made q then 36 else 0)
   size-after = at (imports_helpers o made q) refl
     where
-      at : (b : Bool) → imports_helpers o made q ≡ b → tree_size written ≤ tree_size lowered + (if b then 30 else 0)
+      at : (b : Bool) → imports_helpers o made q ≡ b → tree_size written ≤ tree_size lowered + (if b then 36 else 0)
       at true on = law_imported_size_proof (first_whole lowered).in_use module_text lowered written last (m.goes on)
       at false off = rw (m.stays off).0 (omega arith)

@@ -9,7 +9,7 @@ use Rattle.es_tree.specs.HasForm.{has_form}
 use Rattle.es_tree.specs.Options.{is_external}
 use Rattle.es_tree.specs.StaticRules.{breaks}
 use Rattle.es_tree.specs.Tree.{Tree, tree_size}
-use Rattle.es_tree.specs.Walks.{all_nodes, any_node, first_node}
+use Rattle.es_tree.specs.Walks.{any_node, first_node}
 use Rattle.es_tree.specs.Words.{Text}
 use Rattle.es_tree.specs.declared.error.LowerError.{LowerError}
 use Rattle.es_tree.specs.declared.error.LowerError.TheVariants.{OutOfMemory, Unsupported}
@@ -24,14 +24,14 @@ use Rattle.es_pattern_moves.proofs.MovedSize.{law_moved_size_proof}
 use Rattle.es_lowered.specs.Moved.{IsMoved}
 use Rattle.es_lowered.specs.Used.{IsUsed}
 use Rattle.es_reached.specs.Reached.{IsCoreResult}
-use Rattle.es_import_runs.specs.Laws.{RunsImporting, names_apart}
+use Rattle.es_import_runs.specs.Laws.{RunsImporting}
 use Rattle.es_statement_runs.specs.Helpers.Supply.{by_import}
 use Rattle.es_statement_runs.specs.Programs.{IsStatementProgram}
 use Rattle.es_statement_runs.specs.Runs.{RunAlike}
 use Rattle.es_statement_steps.specs.Laws.{RunsAsStatements, assumes_no_all, supply_there}
 use Rattle.es_export_splits.specs.Laws.{IsSplit}
 use Rattle.es_export_splits.specs.Splits.{has_split}
-use Rattle.es_helper_calls.specs.Importing.{calls_helper, imports_helpers, own_call}
+use Rattle.es_helper_calls.specs.Importing.{uses_helper, imports_helpers, own_call}
 use Rattle.es_using_modules.specs.Laws.{IsTopped}
 use Rattle.es_using_modules.specs.ModuleTops.{uses_at_top}
 use Rattle.es_super_calls.specs.Constructors.{is_derived_class}
@@ -73,7 +73,7 @@ copied-lowers : (o c : EnvOptions) → IsCopy o c → (p : Tree) → lowers_usin
 copied-lowers o c copy p = λ i. ((copy.es2026 i).explicit_resource_management && any_node is_using p) && not (binds_helpers (symbols_of p))
 
 copied-own : (o c : EnvOptions) → IsCopy o c → (p : Tree) → own_call c p ≡ own_call o p
-copied-own o c copy p = λ i. if is_external (copy.mode i) then None else first_node calls_helper p
+copied-own o c copy p = λ i. if is_external (copy.mode i) then None else first_node uses_helper p
 
 copied-splits : (o c : EnvOptions) → IsCopy o c → (p : Tree) → splits_exports c p ≡ splits_exports o p
 copied-splits o c copy p = λ i. is_some (copy.es2018 i).object_rest_spread && has_split p
@@ -225,12 +225,12 @@ module _
       subst (λ (t : Tree). RunAlike (supply_there o s) (assumes_no_all o s) s t) (sym (as-before same off (no-class-among-statements s runs.class.without_functions)).0) there
 
   -- a module that imports a helper
-  importing-there : using_there o s ≡ false → rests_there o s ≡ false → imports_helpers o false s ≡ true → IsStatementProgram s → RunsImporting o (string_bytes o.helper_loader.module_name) s → all_nodes (names_apart last) lowered ≡ true → RunAlike (by_import (string_bytes o.helper_loader.module_name)) false s written
-  importing-there no_using no_rests on_here class runs apart =
+  importing-there : using_there o s ≡ false → rests_there o s ≡ false → imports_helpers o false s ≡ true → IsStatementProgram s → RunsImporting o (string_bytes o.helper_loader.module_name) s → RunAlike (by_import (string_bytes o.helper_loader.module_name)) false s written
+  importing-there no_using no_rests on_here class runs =
       let m : Text = string_bytes o.helper_loader.module_name in
       let same = same-there no_using no_rests in
       let goes = imports.goes (ap (imports_helpers o made) same.moved ∙ ap (λ (b : Bool). imports_helpers o b s) same.unmade ∙ on_here) in
-      let there : RunAlike (by_import m) false q imported = in_place.importing (ap (rests_there o) same.moved ∙ no_rests) (subst (λ (t : Tree). IsStatementProgram t) (sym same.moved) class) m imported last (subst (λ (t : Tree). RunsImporting o m t) (sym same.moved) runs) goes apart in
+      let there : RunAlike (by_import m) false q imported = in_place.importing (ap (rests_there o) same.moved ∙ no_rests) (subst (λ (t : Tree). IsStatementProgram t) (sym same.moved) class) m imported last (subst (λ (t : Tree). RunsImporting o m t) (sym same.moved) runs) goes in
       let unset : written ≡ imported = sets.stays (off-anyway (is_some o.es2015.arrow_function) (any_node is_derived_class s) (no-class-among-statements s class.without_functions)) in
       subst (λ (t : Tree). RunAlike (by_import m) false s t) (sym unset) (subst (λ (t : Tree). RunAlike (by_import m) false t imported) same.moved there)
 
@@ -263,14 +263,14 @@ module _
           let same = same-there e d in
           subst (λ (n : ℕ). tree_size lowered ≤ n * tree_size s + 64) (ap (λ b. if b then 384 else 64) (ap (rests_there o) same.moved ∙ d)) (subst (λ (t : Tree). tree_size lowered ≤ (if rests_there o q then 384 else 64) * tree_size t + 64) same.moved in_place.size)
 
-  imported-size : tree_size imported ≤ most_for_each (using_there o s) (rests_there o s) (splits_exports o s) * tree_size s + (if imports_helpers o made q then 94 else 64)
+  imported-size : tree_size imported ≤ most_for_each (using_there o s) (rests_there o s) (splits_exports o s) * tree_size s + (if imports_helpers o made q then 100 else 64)
   imported-size = at (imports_helpers o made q) (size-after o made own q lowered imported later last moved_there.form moved_there.kept none in_place.result imports)
     where
-      at : (b : Bool) → tree_size imported ≤ tree_size lowered + (if b then 30 else 0) → tree_size imported ≤ most_for_each (using_there o s) (rests_there o s) (splits_exports o s) * tree_size s + (if b then 94 else 64)
+      at : (b : Bool) → tree_size imported ≤ tree_size lowered + (if b then 36 else 0) → tree_size imported ≤ most_for_each (using_there o s) (rests_there o s) (splits_exports o s) * tree_size s + (if b then 100 else 64)
       at true more = let least = lowered-size in omega (arith, least, more)
       at false more = let least = lowered-size in omega (arith, least, more)
 
-  sized : tree_size written ≤ (if sets_this o s then 3 else 1) * (most_for_each (using_there o s) (rests_there o s) (splits_exports o s) * tree_size s + (if imports_helpers o made q then 94 else 64))
+  sized : tree_size written ≤ (if sets_this o s then 3 else 1) * (most_for_each (using_there o s) (rests_there o s) (splits_exports o s) * tree_size s + (if imports_helpers o made q then 100 else 64))
   sized = set-size (sets_this o s) later imported written sets _ imported-size
 
   -- what is imported is a program that breaks no static rule
@@ -279,7 +279,7 @@ module _
     where
       at : (b : Bool) → imports_helpers o made q ≡ b → (has_form s-Program imported ≡ true) × (breaks imported ≡ [])
       at true e = let there = is-imported o made own q lowered imported later last moved_there.form moved_there.kept none in_place.result imports e in (there.form, there.kept)
-      at false e = rw (imports.stays e).0 (in_place.result.form, in_place.result.kept)
+      at false e = rw (imports.stays e).0 (in_place.result.result.form, in_place.result.result.kept)
 
   pub lowers : has_enabled_construct o s ≡ true → Lowers o s written all_names
   lowers some = record {
@@ -367,7 +367,7 @@ becomes-itself o p form right unused rests off none in_place =
       none = in_place.none;
       core = in_place.core;
       statements = λ no_using no_rests unasked runs. in_place.statements no_rests runs;
-      statements_importing = λ no_using no_rests on_here class runs apart. absurd (true≢false (sym on_here ∙ ap (λ (b : Bool). imports_helpers o b p) (sym off_here) ∙ off));
+      statements_importing = λ no_using no_rests on_here class runs. absurd (true≢false (sym on_here ∙ ap (λ (b : Bool). imports_helpers o b p) (sym off_here) ∙ off));
       unchanged = λ unasked. record { same = refl; no_names = refl };
       size = sized o p p p p p p p p p [] [] [] [] [] [] form right x h u y m none in_place imports sets;
     }

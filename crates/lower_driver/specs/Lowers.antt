@@ -3,7 +3,7 @@ use Rattle.std.specs.Prelude.{◌≡◌, ◌≤◌, ◌+◌, ◌*◌, ◌++◌, 
 use Rattle.es_tree.specs.Constructs.{has_enabled_construct, is_object_rest}
 use Rattle.es_tree.specs.Core.{IsCoreProgram}
 use Rattle.es_tree.specs.Tree.{Tree, tree_size}
-use Rattle.es_tree.specs.Walks.{all_nodes, any_node}
+use Rattle.es_tree.specs.Walks.{any_node}
 use Rattle.es_tree.specs.Words.{Text}
 use Rattle.es_tree.specs.declared.options.EnvOptions.{EnvOptions}
 use Rattle.es_json.specs.Canonical.{canonical}
@@ -11,7 +11,7 @@ use Rattle.es_export_splits.specs.Laws.{IsSplit}
 use Rattle.es_helper_calls.specs.Importing.{imports_helpers}
 use Rattle.es_helper_imports.specs.Imported.{ImportsTo}
 use Rattle.es_helper_imports.specs.Laws.{IsImported}
-use Rattle.es_import_runs.specs.Laws.{RunsImporting, names_apart}
+use Rattle.es_import_runs.specs.Laws.{RunsImporting}
 use Rattle.es_using_modules.specs.Laws.{IsTopped}
 use Rattle.es_lowered.specs.Lowered.{IsLowered}
 use Rattle.es_lowered.specs.Moved.{IsMoved}
@@ -42,7 +42,8 @@ rests_there o p = is_some o.es2018.object_rest_spread && any_node is_object_rest
 -- WHERE THEY STAND its constructs are lowered: what a program becomes in which no pattern moves any more.
 pub record LowersInPlace (o : EnvOptions) (source written : Tree) (names : List Text) : Type 0 where
   -- By steps of the rules that the options ask for, with nothing pending at the end: each name keeps its binding, what is written
-  -- has form and keeps all static rules, and it asks for the same modules and exports the same names.
+  -- has form and keeps all static rules, and it asks for the same modules and exports the same names. An object rest is taken by rows, and so by
+  -- steps that take one name at most.
   pub result : IsLowered o source written names
   -- and no construct is left that the options ask to lower
   pub none : has_enabled_construct o written ≡ false
@@ -53,8 +54,8 @@ pub record LowersInPlace (o : EnvOptions) (source written : Tree) (names : List 
   -- options assume that no value is `document.all`, in every run in which none is.
   pub statements : rests_there o source ≡ false → RunsAsStatements o source → RunAlike (supply_there o source) (assumes_no_all o source) source written
   -- And so do a module of statements and what becomes of it when its helper of object spread is imported, where neither chains nor logical assignment nor
-  -- exponentiation is lowered beside it, by a name that is no key and no label.
-  pub importing : rests_there o source ≡ false → IsStatementProgram source → (m : Text) (imported : Tree) (last : List Text) → RunsImporting o m source → ImportsTo (first_whole written).in_use m written imported last → all_nodes (names_apart last) written ≡ true → RunAlike (by_import m) false source imported
+  -- exponentiation is lowered beside it.
+  pub importing : rests_there o source ≡ false → IsStatementProgram source → (m : Text) (imported : Tree) (last : List Text) → RunsImporting o m source → ImportsTo (first_whole written).in_use m written imported last → RunAlike (by_import m) false source imported
   -- It has at most so many nodes for each of the source's, and as many more: an object rest makes a text for each property before it, and the
   -- walk that takes rests is the last of three.
   pub size : tree_size written ≤ (if rests_there o source then 384 else 64) * tree_size source + 64
@@ -117,9 +118,9 @@ pub record Lowers (o : EnvOptions) (source written : Tree) (names : List Text) :
   pub core : IsCoreProgram source → IsCoreResult o source written names
   pub statements : using_there o source ≡ false → rests_there o source ≡ false → imports_helpers o false source ≡ false → RunsAsStatements o source → RunAlike (supply_there o source) (assumes_no_all o source) source written
   -- a module that imports the helper of object spread runs alike under what its import means
-  pub statements_importing : using_there o source ≡ false → rests_there o source ≡ false → imports_helpers o false source ≡ true → IsStatementProgram source → RunsImporting o (string_bytes o.helper_loader.module_name) source → all_nodes (names_apart last_names) lowered ≡ true →
+  pub statements_importing : using_there o source ≡ false → rests_there o source ≡ false → imports_helpers o false source ≡ true → IsStatementProgram source → RunsImporting o (string_bytes o.helper_loader.module_name) source →
       RunAlike (by_import (string_bytes o.helper_loader.module_name)) false source written
   -- where the options ask for no construct of the source, nothing is changed
   pub unchanged : has_enabled_construct o source ≡ false → IsAsBefore source written names
   -- the nodes of the source and of what is written, with those of the imports: where a name is set behind `super(..)`, three times as many
-  pub size : tree_size written ≤ (if sets_this o source then 3 else 1) * (most_for_each (using_there o source) (rests_there o source) (splits_exports o source) * tree_size source + (if imports_helpers o (lowers_using o split) moved then 94 else 64))
+  pub size : tree_size written ≤ (if sets_this o source then 3 else 1) * (most_for_each (using_there o source) (rests_there o source) (splits_exports o source) * tree_size source + (if imports_helpers o (lowers_using o split) moved then 100 else 64))

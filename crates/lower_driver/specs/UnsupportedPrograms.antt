@@ -17,7 +17,7 @@ use Rattle.lower_driver.specs.Splits.{Splits, splits_exports}
 use Rattle.lower_driver.specs.Tops.{Tops, lowers_top}
 use Rattle.lower_driver.specs.Uses.{Heads, Uses, lowers_using}
 
--- of a program in which no pattern moves any more, where `using` was lowered, or wasn't, and whose source makes this call of a helper itself
+-- of a program in which no pattern moves any more, where `using` was lowered, or wasn't, and whose source makes this use of a helper itself
 abbrev pub first_refused : EnvOptions → Bool → Option ℕ → Tree → Option (UnsupportedKind × ℕ)
 first_refused o made own p = option_or (first_unsupported o p) (first_unimported o made own p)
 

@@ -98,7 +98,7 @@ pub struct Lowered {
 /// - `HelperName`, an object literal with a spread where `babelHelpers` is bound, or a declaration by `using` or of an
 ///   object rest, or a pattern with one that moves to a declaration, in a program that binds it anywhere; and after all
 ///   others, where helpers have to be imported, the first of these in a script whose own scope binds `require`, or the
-///   first call of a helper of `babelHelpers` that the source itself makes;
+///   first use of a helper of `babelHelpers` that the source itself makes;
 /// - `SpreadLiteral`, an object literal with a spread whose properties can't be copied one by one;
 /// - `TagChain`, a template whose tag is an optional chain;
 /// - `ArrowOuter` and `ArrowThis`, what belongs to what is around an arrow, or around a value that is put into one, and

@@ -33,7 +33,7 @@ pub lower_in_place-requires-clause-next : goal.lower_in_place-requires-clause-ne
 lower_in_place-requires-clause-next c = omega (arith, c.in_ok-moved.ensures.next, c.in_ok-topped.ensures.next, c.in_ok-used.ensures.next, c.in_ok-headed.ensures.next, c.in_ok-split.ensures.next, c.requires.next, c.requires.size)
 
 pub import_helpers-requires : goal.import_helpers-requires
-import_helpers-requires c = record { form = c.in_ok-lowered.ensures.lowers.result.form }
+import_helpers-requires c = record { form = c.in_ok-lowered.ensures.lowers.result.result.form }
 
 pub of_program-imports-requires : goal.of_program-imports-requires
 of_program-imports-requires c = (moved-valid c.args.options.now c.in_ok-topped.topped.program c.in_ok-moved.moved.program (map string_bytes c.in_ok-moved.first.items) (topped-valid c.args.options.now c.args.read.program c.in_ok-split.split.program c.in_ok-headed.headed.program c.in_ok-used.used.program c.in_ok-topped.topped.program c.asks_for_using-asked.result (map string_bytes c.in_ok-headed.names.items) (map string_bytes c.in_ok-used.contexts.items) (map string_bytes c.in_ok-topped.top.items) c.requires.form c.requires.kept c.asks_for_using-asked.ensures c.in_ok-split.ensures.splits c.in_ok-headed.ensures.heads c.in_ok-used.ensures.uses c.in_ok-topped.ensures.tops) c.in_ok-moved.ensures.moves).form
