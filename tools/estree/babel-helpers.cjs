@@ -1,11 +1,11 @@
 // The helpers that a lowered program calls under `--helpers=external`, as their names promise: `babelHelpers.objectSpread2` and
 // `babelHelpers.extends` copy own enumerable properties, `babelHelpers.objectWithoutProperties` those of an object but for some names,
-// `babelHelpers.objectDestructuringEmpty` throws where there is nothing to take apart, and `babelHelpers.usingCtx` makes the context of a
-// `try` in which resources are used.
+// `babelHelpers.objectDestructuringEmpty` throws where there is nothing to take apart, `babelHelpers.toPropertyKey` makes a key of a value, and
+// `babelHelpers.usingCtx` makes the context of a `try` in which resources are used.
 //   node -r ./tools/estree/babel-helpers.cjs FILE.js
 'use strict';
 
-globalThis.babelHelpers = { extends: extendsWith, objectDestructuringEmpty, objectSpread2, objectWithoutProperties, usingCtx };
+globalThis.babelHelpers = { extends: extendsWith, objectDestructuringEmpty, objectSpread2, objectWithoutProperties, toPropertyKey, usingCtx };
 
 function objectSpread2(target, ...sources) {
   for (const source of sources) copy(target, source, []);
@@ -23,6 +23,12 @@ function objectDestructuringEmpty(value) {
 /** A copy of a source that is neither null nor undefined, of which a pattern took the properties before: what the pattern names is left out. */
 function objectWithoutProperties(source, excluded) {
   return copy({}, source, excluded);
+}
+
+/** The text or symbol that a value is as a key (ECMA-262, 7.1.19). */
+function toPropertyKey(value) {
+  const [key] = Reflect.ownKeys({ [value]: 0 });
+  return key;
 }
 
 /** Own enumerable properties in their order, strings and then symbols, but for those with one of these names, which aren't read. */

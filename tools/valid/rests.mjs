@@ -149,6 +149,15 @@ function property() {
   return pick([
     name, `${name} = ${value()}`, `p${below(3)}: ${name}`, `"p${below(3)}": ${name} = ${value()}`,
     `["p${below(3)}"]: ${name}`, `${pick(['0', '0x0', '0n', '[0]', '[0n]'])}: ${name}`,
+    `[${key()}]: ${name}`, `[${key()}]: ${name} = ${value()}`, `[${key()}]: ${name}`,
+  ]);
+}
+
+/** A computed key that is read, and may be told, write a name or throw; or the text of a template. Its value is no object. */
+function key() {
+  return pick([
+    `told(${place()})`, pick(NAMES), `${pick(NAMES)} = "p${below(3)}"`, `(told(${place()}), "p${below(3)}")`, `\`p\${${below(3)}}\``, `\`p${below(3)}\``,
+    `Symbol.iterator`, `told(${place()}) - ${place()}`, `null.x`,
   ]);
 }
 
