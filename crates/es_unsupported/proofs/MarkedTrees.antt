@@ -29,7 +29,9 @@ use Rattle.es_using_heads.proofs.HeadAlike.{asks-bare}
 use Rattle.es_unsupported.specs.ArrowShapes.{arrow_place_in, arrow_shape, binds_arguments, may_bind_arguments, refers_by}
 use Rattle.es_unsupported.specs.FirstUnsupported.{first_of, first_of_field, first_of_fields, first_of_trees, found_at}
 use Rattle.es_unsupported.specs.MarkedWalk.{FindsFrom, LooksUp, LooksUpInField, LooksUpInFields, LooksUpInTrees, around_marked, first_at, first_in_field, first_in_fields, first_in_trees, has_known_scope, refers_by_mark, scope_mark}
-use Rattle.es_unsupported.specs.Shapes.{Row, always, first_row, has_chain_tag, is_chain_below, is_chain_kind, is_head_name, is_helper_bound, is_math_bound, is_spread_literal, is_tag_chain, is_unbuilt, is_using_function, rows, shape_at, stray_shape}
+use Rattle.es_runs.specs.OptionalChaining.{is_chain_kind}
+use Rattle.es_chain_tags.specs.ChainTags.{has_chain_tag, is_chain_below}
+use Rattle.es_unsupported.specs.Shapes.{Row, always, first_row, is_head_name, is_helper_bound, is_math_bound, is_spread_literal, is_tag_chain, is_unbuilt, is_using_function, rows, shape_at, stray_shape}
 use Rattle.es_unsupported.specs.declared.arrow_places.ArrowPlace.{ArrowPlace}
 use Rattle.es_unsupported.proofs.BareArrows.{arrow_shape-marked, place-marked}
 use Rattle.es_unsupported.proofs.BareNodes.{exponentiation-bare, kind_within-bare, object-spread-bare}

@@ -26,7 +26,8 @@ use Rattle.es_unsupported.specs.ArrowShapes.{arrow_place_in, arrow_shape, binds_
 use Rattle.es_unsupported.specs.EarlySuper.{calls_super_here}
 use Rattle.es_unsupported.specs.FirstUnsupported.{IsBuilt, first_of, first_of_field, first_of_fields, first_of_trees, first_unsupported, found_at}
 use Rattle.es_unsupported.specs.MarkedWalk.{LooksUp, first_at, has_known_scope}
-use Rattle.es_unsupported.specs.Shapes.{has_chain_tag, holds_stray, shape_at}
+use Rattle.es_chain_tags.specs.ChainTags.{has_chain_tag}
+use Rattle.es_unsupported.specs.Shapes.{holds_stray, shape_at}
 use Rattle.es_unsupported.specs.SpreadLiterals.{is_uncopied}
 use Rattle.es_unsupported.specs.Wanted.{IsWanted}
 use Rattle.es_unsupported.specs.declared.arrow_places.ArrowPlace.{ArrowPlace}

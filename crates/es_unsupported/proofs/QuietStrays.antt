@@ -1,44 +1,29 @@
 -- What holds no object pattern with a rest holds none that isn't lowered, and is no function with such a parameter.
-use Rattle.std.proofs.Common.{◌≡◌, refl}
+use Rattle.std.proofs.Common.{◌≡◌, ap, refl}
 use Rattle.std.specs.Prelude.{false, ◌&&◌, Bool, true}
 use Rattle.std.proofs.lemmas.Bool.{or_from, or_parts}
-use Rattle.es_tree.specs.Constructs.{any_kind, is_object_rest, is_rest}
+use Rattle.es_tree.specs.Constructs.{is_object_rest}
 use Rattle.es_tree.specs.Tree.{Tree, node, Label, Fields, done, ◌then◌, Field, missing, one, many, statements, Trees, empty, ◌before◌}
 use Rattle.es_tree.specs.Walks.{any_in_field, any_in_fields, any_in_trees, any_node}
 use Rattle.es_tree.specs.declared.ast_type.AstType.{AstType}
-use Rattle.es_tree.specs.declared.ast_type.AstType.TheVariants.{ArrowFunctionExpression, AssignmentPattern, FunctionDeclaration, FunctionExpression, ObjectPattern, RestElement}
-use Rattle.es_rest_shapes.specs.RestShapes.{any_child, any_child_by, any_tree, ends_in_rest, is_named_rest, is_plain_pattern, is_plain_property, is_rest_pattern, is_stray_rest}
-use Rattle.es_rest_shapes.proofs.NoneLeft.{own-rest}
+use Rattle.es_tree.specs.declared.ast_type.AstType.TheVariants.{ArrowFunctionExpression, AssignmentPattern, FunctionDeclaration, FunctionExpression, ObjectPattern}
+use Rattle.es_rest_shapes.specs.RestShapes.{any_child, any_child_by, any_tree, are_plain_parts, bears_rest, is_plain_pattern, is_stray_rest}
+use Rattle.es_rest_shapes.proofs.NoneLeft.{bears-none}
 use Rattle.es_rest_shapes.proofs.Quiet.{stray-none}
 use Rattle.es_unsupported.specs.Shapes.{begins_with_rest, has_rest_parameter, holds_stray, is_rest_parameter}
 
--- a plain pattern has a rest
+-- a plain pattern bears a rest
 
 pub last-off : (a b : Bool) → b ≡ false → (a && b) ≡ false
 last-off true b h = h
 last-off false b h = refl
 
-named-none : (t : Tree) (ts : Trees) → any_kind is_rest (t before ts) ≡ false → is_named_rest t ≡ false
-named-none (node RestElement l fs) ts h = absurd (cc h)
-named-none (node k l fs) ts h = refl
-
-ends-none : (ts : Trees) → any_kind is_rest ts ≡ false → ends_in_rest ts ≡ false
-ends-none empty h = refl
-ends-none (t before empty) h = named-none t empty h
-ends-none (node k l fs before u before ts) h =
-    last-off (is_plain_property (node k l fs)) (ends_in_rest (u before ts)) (ends-none (u before ts) (or_parts (is_rest k) (any_kind is_rest (u before ts)) h).1)
-
-plain-rest : (t : Tree) → is_rest_pattern t ≡ false → is_plain_pattern t ≡ false
-plain-rest (node ObjectPattern l (many ps then done)) h = ends-none ps h
-plain-rest (node ObjectPattern l (many ps then f then fs)) h = refl
-plain-rest (node ObjectPattern l (missing then fs)) h = refl
-plain-rest (node ObjectPattern l (one t then fs)) h = refl
-plain-rest (node ObjectPattern l (statements ts then fs)) h = refl
-plain-rest (node ObjectPattern l done) h = refl
+plain-rest : (t : Tree) → bears_rest t ≡ false → is_plain_pattern t ≡ false
+plain-rest (node ObjectPattern l fs) h = ap (λ b. b && are_plain_parts fs) h
 plain-rest (node _ l fs) h = refl
 
 plain-none : (t : Tree) → any_node is_object_rest t ≡ false → is_plain_pattern t ≡ false
-plain-none t h = plain-rest t (own-rest t h)
+plain-none t h = plain-rest t (bears-none t h)
 
 -- PARAMETERS
 

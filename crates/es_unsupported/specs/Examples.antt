@@ -89,6 +89,12 @@ computed_pattern x =
     let rest : Tree = node RestElement (made [] []) (one (word x) then done) in
     node ObjectPattern (made [] []) (many (trees (property ∷ rest ∷ [])) then done)
 
+-- `{ k: p }`
+abbrev pub in_property : Tree → Tree
+in_property p =
+    let property : Tree = node PatternProperty (made [] (false ∷ false ∷ [])) (one (word (codes "k")) then one p then done) in
+    node ObjectPattern (made [] []) (many (trees (property ∷ [])) then done)
+
 -- `w p = b;`, where w is `let` or `using`
 abbrev pub declaration : Text → Tree → Tree
 declaration w p =
@@ -165,11 +171,17 @@ pub record LawShapeExamples : Type 0 where
   -- `let { [k]: a, ...c } = b;` and `function f({ [k]: a, ...c }) {}`
   pub computed_key : Finds false true (declaration (codes "let") (computed_pattern (codes "c")) ∷ []) None
   pub computed_parameter : Finds false true (function_node (computed_pattern (codes "c") ∷ []) [] ∷ []) (Some (RestParameter, 1))
+  -- `let { k: { ...a } } = b;`, `let { k: { ...a } = b } = b;`, `let { k: [{ ...a }] } = b;` and `function f({ k: { ...a } }) {}`
+  pub rest_in_property : Finds false true (declaration (codes "let") (in_property (rest_pattern (codes "a"))) ∷ []) None
+  pub rest_of_default : Finds false true (declaration (codes "let") (in_property (with_default (rest_pattern (codes "a")))) ∷ []) None
+  pub array_in_property : Finds false true (declaration (codes "let") (in_property (array_pattern (rest_pattern (codes "a")))) ∷ []) (Some (RestInArray, 6))
+  pub property_parameter : Finds false true (function_node (in_property (rest_pattern (codes "a")) ∷ []) [] ∷ []) (Some (RestParameter, 1))
   -- `function f({ ...a } = b) {}`: the function has it, not the parameter; `for (let { ...a } of a) ;`
   pub rest_default : Finds false true (function_node (with_default (rest_pattern (codes "a")) ∷ []) [] ∷ []) (Some (RestParameter, 1))
   pub rest_head : Finds false true (loop_over (codes "let") (rest_pattern (codes "a")) (word (codes "a")) ∷ []) (Some (HeadName, 3))
-  -- `function f([{ ...a }]) {}` and `[{ ...a }] = b;`
+  -- `function f([{ ...a }]) {}`, `function f([{ k: { ...a } }]) {}` and `[{ ...a }] = b;`
   pub rest_in_array : Finds false true (function_node (array_pattern (rest_pattern (codes "a")) ∷ []) [] ∷ []) (Some (RestInArray, 3))
+  pub property_in_array : Finds false true (function_node (array_pattern (in_property (rest_pattern (codes "a"))) ∷ []) [] ∷ []) (Some (RestInArray, 3))
   pub rest_nested : Finds false true (statement_node (array_assignment (rest_target (codes "a"))) ∷ []) (Some (RestNested, 3))
   pub bound_helper : Finds false true (rest_declaration (codes "babelHelpers") ∷ []) (Some (HelperName, 1))
   -- where `using` is lowered, `for (using a of a) ;`

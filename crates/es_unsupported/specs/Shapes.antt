@@ -1,11 +1,10 @@
 -- The shapes that a run doesn't take: one row of a table for each, asked in order at each node.
 use Rattle.std.specs.Prelude.{ℕ, List, [], ◌∷◌, Bool, false, true, ◌&&◌, ◌||◌, not, Option, Some, None, is_some, codes, if◌then◌else◌}
 use Rattle.es_tree.specs.Children.{child_at}
-use Rattle.es_tree.specs.Constructs.{field_at, is_exponentiation, is_object_spread, is_using}
-use Rattle.es_tree.specs.Parens.{without_parens}
-use Rattle.es_tree.specs.Tree.{Tree, node, Label, Fields, ◌then◌, Field, one, kind_of}
+use Rattle.es_tree.specs.Constructs.{is_exponentiation, is_object_spread, is_using}
+use Rattle.es_tree.specs.Tree.{Tree, node, Label, Fields, ◌then◌, one}
 use Rattle.es_tree.specs.declared.ast_type.AstType.{AstType}
-use Rattle.es_tree.specs.declared.ast_type.AstType.TheVariants.{ArrayPattern, ArrayTarget, ArrowFunctionExpression, AssignmentPattern, ChainExpression, FunctionDeclaration, FunctionExpression, RestElement, TaggedTemplateExpression, TargetProperty, TargetRest, TargetWithDefault, VariableDeclaration, VariableDeclarator}
+use Rattle.es_tree.specs.declared.ast_type.AstType.TheVariants.{ArrayPattern, ArrayTarget, ArrowFunctionExpression, AssignmentPattern, FunctionDeclaration, FunctionExpression, RestElement, TargetProperty, TargetRest, TargetWithDefault, VariableDeclaration, VariableDeclarator}
 use Rattle.es_tree.specs.declared.error.UnsupportedKind.{UnsupportedKind}
 use Rattle.es_tree.specs.declared.error.UnsupportedKind.TheVariants.{HeadName, HelperName, MathBound, NotBuilt, RestInArray, RestNested, RestParameter, SpreadLiteral, TagChain, UsingFunction}
 use Rattle.es_tree.specs.declared.ids.NodeId.{NodeId}
@@ -13,13 +12,14 @@ use Rattle.es_tree.specs.declared.options.EnvOptions.{EnvOptions}
 use Rattle.es_semantic.specs.SymbolsOf.{Declared, find}
 use Rattle.es_rest_shapes.specs.HelperNames.{binds_helpers}
 use Rattle.es_rest_shapes.specs.RestShapes.{any_child, is_plain_pattern, is_rest_declaration, is_stray_rest}
+use Rattle.es_chain_tags.specs.ChainTags.{has_chain_tag}
 use Rattle.es_using_heads.specs.Heads.{asks_its_name}
 use Rattle.es_using_nodes.specs.Clashes.{clashes}
 use Rattle.es_unsupported.specs.SpreadLiterals.{is_uncopied}
 
 -- THE SHAPES, each told by the options, the symbols of the program, the scopes around a node, the innermost first, and the node
 
--- whether the first child is an object pattern with a rest that may move, or is lowered where it is declared with a value
+-- whether the first child is an object pattern with a rest, itself or in a property, that may move, or is lowered where it is declared with a value
 abbrev pub begins_with_rest : Fields → Bool
 begins_with_rest (one p then fs) = is_plain_pattern p
 begins_with_rest _ = false
@@ -35,8 +35,8 @@ has_rest_parameter FunctionExpression fs = any_child is_rest_parameter fs
 has_rest_parameter ArrowFunctionExpression fs = any_child is_rest_parameter fs
 has_rest_parameter _ fs = false
 
--- A node that holds an object pattern with a rest that no declarator with a value declares, that has a rest inside, or that is exported (14.3.3,
--- 13.15.5); or a function with such a parameter.
+-- A node that holds an object pattern with a rest, itself or in a property, that no declarator with a value declares, as an array does, or that is
+-- exported (14.3.3, 13.15.5); or a function with such a parameter.
 abbrev pub holds_stray : AstType → Label → Fields → Bool
 holds_stray k l fs = is_stray_rest k l fs || has_rest_parameter k fs
 
@@ -97,20 +97,6 @@ is_helper_bound o ds up k l fs = is_some o.es2018.object_rest_spread && finds_he
 -- one whose properties can't be defined apart and copied
 abbrev pub is_spread_literal : EnvOptions → List Declared → List ℕ → AstType → Label → Fields → Bool
 is_spread_literal o ds up k l fs = is_some o.es2018.object_rest_spread && is_uncopied k l fs
-
-abbrev pub is_chain_kind : AstType → Bool
-is_chain_kind ChainExpression = true
-is_chain_kind _ = false
-
--- whether the field is an optional chain, maybe in parentheses
-abbrev pub is_chain_below : Field → Bool
-is_chain_below (one t) = is_chain_kind (kind_of (without_parens t))
-is_chain_below _ = false
-
--- a tagged template whose tag is an optional chain, maybe in parentheses (13.3.9, 13.3.11)
-abbrev pub has_chain_tag : AstType → Label → Fields → Bool
-has_chain_tag TaggedTemplateExpression l fs = is_chain_below (field_at 0 fs)
-has_chain_tag _ l fs = false
 
 -- where chains are lowered
 abbrev pub is_tag_chain : EnvOptions → List Declared → List ℕ → AstType → Label → Fields → Bool

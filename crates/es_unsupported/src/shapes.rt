@@ -12,7 +12,9 @@ ghost use Rattle.es_semantic.specs.Walks.{Binds};
 ghost use Rattle.es_rest_shapes.specs.HelperNames.{binds_name};
 ghost use Rattle.es_unsupported.specs.ArrowShapes.{arrow_shape};
 ghost use Rattle.es_unsupported.specs.MarkedWalk.{FindsFrom, refers_by_mark};
-ghost use Rattle.es_unsupported.specs.Shapes.{finds_helper, has_chain_tag, is_chain_below, is_chain_kind, is_head_name, is_helper_bound, is_math_bound, is_spread_literal, is_tag_chain, is_unbuilt, is_using_function, meets_helpers, shape_at};
+ghost use Rattle.es_runs.specs.OptionalChaining.{is_chain_kind};
+ghost use Rattle.es_chain_tags.specs.ChainTags.{has_chain_tag, is_chain_below};
+ghost use Rattle.es_unsupported.specs.Shapes.{finds_helper, is_head_name, is_helper_bound, is_math_bound, is_spread_literal, is_tag_chain, is_unbuilt, is_using_function, meets_helpers, shape_at};
 ghost use Rattle.es_unsupported.specs.Wanted.{IsWanted};
 
 use crate::arrow_places::ArrowPlace;

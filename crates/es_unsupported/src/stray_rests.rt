@@ -1,4 +1,4 @@
-//! Object patterns with a rest that aren't lowered (ECMA-262, 14.3.3), and the names by which their nodes are refused.
+//! Object patterns with a rest, itself or in a property, that aren't lowered (ECMA-262, 14.3.3), and the names by which their nodes are refused.
 ghost use Rattle.std.specs.Prelude.{◌≡◌};
 ghost use Rattle.es_tree.specs.Tree.{fields_of, kind_of, label_of, trees};
 ghost use Rattle.es_tree.specs.Views.{plain_field, plain_fields};

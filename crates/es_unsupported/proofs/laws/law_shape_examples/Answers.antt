@@ -19,9 +19,14 @@ returns c = record {
   rest_parameter = record { formed = refl; first = λ o. refl };
   computed_key = record { formed = refl; first = λ o. refl };
   computed_parameter = record { formed = refl; first = λ o. refl };
+  rest_in_property = record { formed = refl; first = λ o. refl };
+  rest_of_default = record { formed = refl; first = λ o. refl };
+  array_in_property = record { formed = refl; first = λ o. refl };
+  property_parameter = record { formed = refl; first = λ o. refl };
   rest_default = record { formed = refl; first = λ o. refl };
   rest_head = record { formed = refl; first = λ o. refl };
   rest_in_array = record { formed = refl; first = λ o. refl };
+  property_in_array = record { formed = refl; first = λ o. refl };
   rest_nested = record { formed = refl; first = λ o. refl };
   bound_helper = record { formed = refl; first = λ o. refl };
   using_head = record { formed = refl; first = λ o. refl };
