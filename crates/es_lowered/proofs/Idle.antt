@@ -1,9 +1,10 @@
 -- Where no pattern with a rest stands, no row of object rests has a step.
 use Rattle.std.proofs.Common.{◌≡◌, ◌∙◌, ℕ, List, Option, refl, sym, ap, subst, true≢false}
 use Rattle.std.specs.Prelude.{Bool, true, false, ◌||◌}
+use Rattle.std.proofs.lemmas.Bool.{or_from}
 use Rattle.es_tree.specs.Constructs.{any_kind, is_object_rest, is_rest}
-use Rattle.es_tree.specs.Tree.{Tree, node, Label, done, ◌then◌, one, many, Trees, empty, ◌before◌, kind_of}
-use Rattle.es_tree.specs.declared.ast_type.AstType.TheVariants.{ObjectPattern, RestElement}
+use Rattle.es_tree.specs.Tree.{Tree, node, Label, Fields, done, ◌then◌, Field, missing, one, many, statements, Trees, empty, ◌before◌, kind_of}
+use Rattle.es_tree.specs.declared.ast_type.AstType.TheVariants.{AssignmentPattern, ObjectPattern, PatternProperty, RestElement}
 use Rattle.es_steps.specs.Nodes.{joined_trees}
 use Rattle.es_resolution.specs.Declarations.{Bound}
 use Rattle.es_steps.specs.Open.{Additions, Open, OpenField, OpenFields, OpenTrees, Pending, finished, finished_field, finished_fields, finished_trees, opened}
@@ -18,10 +19,11 @@ use Rattle.es_steps.proofs.Opened.{finished-opened}
 use Rattle.es_steps.proofs.Taken.{whole_in}
 use Rattle.es_reached.proofs.FreeTrees.{Free, FreeAll, FreeBy, FreeIn, free, free-body, free-flanks, free-joined, free-whole}
 use Rattle.es_lowered.specs.Lowered.{LawIdle}
-use Rattle.es_rest_rows.specs.RestRows.{RestWalkRow}
-use Rattle.es_rest_rows.specs.RestRows.RowsWhere.{stores, takes}
-use Rattle.es_rest_rows.proofs.PlainPatterns.{ends-rest}
-use Rattle.es_rest_shapes.specs.RestShapes.{is_plain_pattern}
+use Rattle.es_rest_rows.specs.RestRows.{PutsName, RestWalkRow}
+use Rattle.es_rest_rows.specs.RestRows.PutsName.{for_pattern, with_default}
+use Rattle.es_rest_rows.specs.RestRows.RowsWhere.{nested, stores, takes}
+use Rattle.es_rest_shapes.specs.RestShapes.{bears_among, bears_by, bears_first, bears_rest, bears_second, is_plain_pattern}
+use Rattle.es_rest_rows.proofs.PlainPatterns.{plain-bears}
 
 -- A PATTERN WITH A REST
 
@@ -29,9 +31,37 @@ or-later : (a b : Bool) → b ≡ true → (a || b) ≡ true
 or-later true b e = refl
 or-later false b e = e
 
+mutual
+  free-bears : (t : Tree) → Free is_object_rest t → bears_rest t ≡ false
+  free-bears (node ObjectPattern l fs) f = or_from (is_object_rest ObjectPattern l fs) (bears_first fs) f.0 (free-bears-in fs f.1)
+  free-bears (node PatternProperty l fs) f = free-bears-second fs f.1
+  free-bears (node AssignmentPattern l fs) f = free-bears-in fs f.1
+  free-bears (node k l fs) f = f.0
+
+  free-bears-in : (fs : Fields) → FreeIn is_object_rest fs → bears_first fs ≡ false
+  free-bears-in done f = refl
+  free-bears-in (g then fs) f = free-bears-by g f.0
+
+  free-bears-second : (fs : Fields) → FreeIn is_object_rest fs → bears_second fs ≡ false
+  free-bears-second done f = refl
+  free-bears-second (g then fs) f = free-bears-in fs f.1
+
+  free-bears-by : (f : Field) → FreeBy is_object_rest f → bears_by f ≡ false
+  free-bears-by missing f = refl
+  free-bears-by (one t) f = free-bears t f
+  free-bears-by (many ts) f = free-bears-all ts f
+  free-bears-by (statements ts) f = free-bears-all ts f
+
+  free-bears-all : (ts : Trees) → FreeAll is_object_rest ts → bears_among ts ≡ false
+  free-bears-all empty f = refl
+  free-bears-all (t before ts) f = or_from (bears_rest t) (bears_among ts) (free-bears t f.0) (free-bears-all ts f.1)
+
 plain-rest : (p : Tree) → is_plain_pattern p ≡ true → Free is_object_rest p → ⊥
-plain-rest (node ObjectPattern l (many ps then done)) h f = absurd (true≢false (sym (ends-rest ps h) ∙ f.0))
-plain-rest (node _ l fs) h f = absurd (cc h)
+plain-rest p h f = true≢false (sym (plain-bears p h) ∙ free-bears p f)
+
+put-free : {x p v u : Tree} → PutsName x p v u → Free is_object_rest v → Free is_object_rest p
+put-free for_pattern f = f
+put-free (with_default l e silent) f = f.1.0
 
 joined-rest : (ps : Trees) (l : Label) (t : Tree) → any_kind is_rest (joined_trees ps (node RestElement l (one t then done) before empty)) ≡ true
 joined-rest empty l t = refl
@@ -44,6 +74,10 @@ idle-row n s s' t y (stores m l a c p e x exported declares plain all kept silen
     plain-rest p plain (free-joined is_object_rest a (node _ l (one p then (one e then done)) before c) f.1.0).1.0.1.0
 idle-row n s s' t y (takes m l lp lr ls a ps c r xs exported declares plain name all kept names helper used) f =
     absurd (true≢false (sym (joined-rest ps lr r) ∙ (free-joined is_object_rest a (node _ l (one (node ObjectPattern lp (many (joined_trees ps (node RestElement lr (one r then done) before empty)) then done)) then (one (node _ ls done) then done)) before c) f.1.0).1.0.1.0.0))
+idle-row n s s' t y (nested m l lp lq ls a ps rs c k p v u x exported declares members bears plain puts all kept fresh) f =
+    let property = node PatternProperty lq (one k then (one v then done)) in
+    let whole = (free-joined is_object_rest a (node _ l (one (node ObjectPattern lp (many (joined_trees ps (property before rs)) then done)) then (one (node _ ls done) then done)) before c) f.1.0).1.0.1.0 in
+    plain-rest p plain (put-free puts (free-joined is_object_rest ps (property before rs) whole.1.0).1.0.1.1.0)
 
 not-in-lists : (n : Site) (s s' : Ledger) (p : Pending) (x : Option Bound) (a : Additions) (ts : Trees) (y : Spot) → RestWalkRow n s (at_list p x a ts) s' y → ⊥
 not-in-lists n s s' p x a ts y h = elim h [ ]

@@ -1,4 +1,4 @@
-//! The nodes out of which an object pattern with a rest moves.
+//! The nodes out of which such a pattern moves.
 ghost use Rattle.std.specs.Prelude.{◌≡◌};
 ghost use Rattle.es_tree.specs.Tree.{fields_of, kind_of, label_of};
 ghost use Rattle.es_tree.specs.Views.{plain_field, plain_fields};

@@ -9,30 +9,7 @@ use Rattle.es_tree.specs.Tree.{Tree, node, Label, Fields, done, ◌then◌, Fiel
 use Rattle.es_tree.specs.Walks.{any_in_field, any_in_fields, any_in_trees, any_node}
 use Rattle.es_tree.specs.Words.{Text}
 use Rattle.es_tree.specs.declared.ast_type.AstType.{AstType}
-use Rattle.es_tree.specs.declared.ast_type.AstType.TheVariants.{
-  ArrayPattern,
-  ArrowFunctionExpression,
-  AssignmentPattern,
-  CatchClause,
-  ClassDeclaration,
-  ForInStatement,
-  ForOfStatement,
-  FunctionBody,
-  FunctionDeclaration,
-  FunctionExpression,
-  Identifier,
-  MemberExpression,
-  MethodDefinition,
-  ObjectPattern,
-  ObjectProperty,
-  PatternProperty,
-  PropertyDefinition,
-  RestElement,
-  StringLiteral,
-  TargetProperty,
-  VariableDeclaration,
-  VariableDeclarator,
-}
+use Rattle.es_tree.specs.declared.ast_type.AstType.TheVariants.{ArrayPattern, ArrowFunctionExpression, AssignmentPattern, CatchClause, ClassDeclaration, ForInStatement, ForOfStatement, FunctionBody, FunctionDeclaration, FunctionExpression, Identifier, MemberExpression, MethodDefinition, ObjectPattern, ObjectProperty, PatternProperty, PropertyDefinition, RestElement, TargetProperty, VariableDeclaration, VariableDeclarator}
 use Rattle.es_resolution.specs.Declarations.{is_var_scope}
 use Rattle.es_steps.specs.Nodes.{joined_trees}
 use Rattle.es_pattern_moves.specs.Laws.{LawBareMoves}
@@ -71,7 +48,7 @@ use Rattle.es_pattern_moves.specs.PatternMoves.{
   var_in_fields,
 }
 use Rattle.es_rest_rows.specs.RestRows.{binds_name}
-use Rattle.es_rest_shapes.specs.RestShapes.{any_tree, is_name, is_plain_pattern}
+use Rattle.es_rest_shapes.specs.RestShapes.{is_plain_pattern}
 use Rattle.es_rest_shapes.proofs.BareRests.{name-bare, plain-bare, trees-bare}
 
 -- LISTS

@@ -1,26 +1,21 @@
 -- The rows of a walk keep form.
-use Rattle.std.proofs.Common.{◌≡◌, refl, [], ◌∷◌}
-use Rattle.std.specs.Prelude.{Bool, true, false, ◌&&◌, ◌||◌, codes}
-use Rattle.std.proofs.lemmas.Bool.{and_from, and_parts, or_left}
-use Rattle.es_tree.specs.Constructs.{any_kind, is_rest}
+use Rattle.std.proofs.Common.{◌≡◌, refl, []}
+use Rattle.std.specs.Prelude.{true, ◌&&◌, codes}
+use Rattle.std.proofs.lemmas.Bool.{and_from, and_parts}
 use Rattle.es_tree.specs.Fresh.{IsFreshName}
 use Rattle.es_tree.specs.HasForm.{has_form, is_of_sort, sort_before_trees, trees_form}
-use Rattle.es_tree.specs.Names.{first_text}
-use Rattle.es_tree.specs.Tree.{Tree, node, Label, Fields, done, ◌then◌, missing, one, many, Trees, empty, ◌before◌, kind_of}
+use Rattle.es_tree.specs.Tree.{Tree, node, Label, Fields, done, ◌then◌, one, many, Trees, empty, ◌before◌}
 use Rattle.es_tree.specs.Words.{Text}
-use Rattle.es_tree.specs.declared.ast_type.AstType.{AstType}
-use Rattle.es_tree.specs.declared.ast_type.AstType.TheVariants.{ArrowFunctionExpression, AssignmentPattern, ForInStatement, ForOfStatement, FunctionBody, FunctionDeclaration, FunctionExpression, ObjectPattern, RestElement, VariableDeclaration, VariableDeclarator}
+use Rattle.es_tree.specs.declared.ast_type.AstType.TheVariants.{ArrowFunctionExpression, AssignmentPattern, FunctionBody, FunctionDeclaration, FunctionExpression, ObjectPattern}
 use Rattle.es_tree.specs.declared.table.Sort.{Sort}
-use Rattle.es_tree.specs.declared.table.Sort.TheVariants.{ArrowFunctionBody as s-ArrowFunctionBody, Binding as s-Binding, Directive as s-Directive, Expression as s-Expression, ForLeft as s-ForLeft, FunctionBody as s-FunctionBody, Pattern as s-Pattern, PatternRest as s-PatternRest, Statement as s-Statement, VariableDeclarator as s-VariableDeclarator}
+use Rattle.es_tree.specs.declared.table.Sort.TheVariants.{ArrowFunctionBody as s-ArrowFunctionBody, Binding as s-Binding, Expression as s-Expression, FunctionBody as s-FunctionBody, Pattern as s-Pattern, PatternRest as s-PatternRest, Statement as s-Statement}
 use Rattle.es_tree.proofs.NodeForm.{node_form, has_form-node}
 use Rattle.es_resolution.specs.Declarations.{Bound}
 use Rattle.es_steps.specs.CatchPatterns.CatchRest.{moves}
-use Rattle.es_steps.specs.LoopHeads.{IsForEach, head_fields, new_head}
-use Rattle.es_steps.specs.LoopHeads.IsForEach.{for_in, for_of}
-use Rattle.es_steps.specs.Nodes.{block_node, declaration_node, declarator, declarator_with, identifier}
+use Rattle.es_steps.specs.Nodes.{declarator_with, identifier}
 use Rattle.es_steps.specs.ParameterPatterns.{HoldsPattern, body_fields}
 use Rattle.es_steps.specs.ParameterPatterns.HoldsPattern.{alone, with_default}
-use Rattle.es_steps.specs.Patterns.{holds_rest, let_statement, some_holds_rest}
+use Rattle.es_steps.specs.Patterns.{let_statement}
 use Rattle.es_steps.specs.Rules.{next_name}
 use Rattle.es_steps.specs.Slots.{is_slot}
 use Rattle.es_steps.specs.Steps.{Ledger, Site, Whole}

@@ -1,12 +1,15 @@
--- Moving makes a tree no larger than what it weighs: what is made for a pattern has five nodes more at most, for which the pattern and its rest
--- weigh enough, and a body that is made has two, for which the function does. And a tree weighs no more than three and a half for each node.
-use Rattle.std.proofs.Common.{◌≡◌, ◌≤◌, ℕ, suc, refl, arith, []}
-use Rattle.std.specs.Prelude.{Bool, true, false, ◌+◌, ◌*◌, ◌||◌, not, codes, if◌then◌else◌}
-use Rattle.std.proofs.lemmas.Bool.{and_parts}
-use Rattle.es_tree.specs.Tree.{Tree, node, Label, Fields, done, ◌then◌, Field, missing, one, many, statements, Trees, empty, ◌before◌, field_size, fields_size, tree_size, trees_size}
+-- Moving makes a tree no larger than what it weighs: what is made for a pattern has five nodes more at most, for which the pattern and its rest, or
+-- a pattern in it, weigh enough, and a body that is made has two, for which the function does. And a tree weighs no more than three and a half for
+-- each node.
+use Rattle.std.proofs.Common.{◌≡◌, ◌≤◌, ◌∙◌, ℕ, suc, refl, sym, ap, arith, inl, inr, ⊎_elim, true≢false, []}
+use Rattle.std.specs.Prelude.{◌⊎◌, Bool, true, false, ◌+◌, ◌*◌, ◌||◌, not, codes, if◌then◌else◌}
+use Rattle.std.proofs.lemmas.Bool.{and_parts, or_cases}
+use Rattle.es_tree.specs.Constructs.{any_kind, is_rest}
+use Rattle.es_tree.specs.Names.{has_computed}
+use Rattle.es_tree.specs.Tree.{Tree, node, Label, Fields, done, ◌then◌, Field, missing, one, many, statements, Trees, empty, ◌before◌, field_size, fields_size, kind_of, tree_size, trees_size}
 use Rattle.es_tree.specs.Words.{Text}
 use Rattle.es_tree.specs.declared.ast_type.AstType.{AstType}
-use Rattle.es_tree.specs.declared.ast_type.AstType.TheVariants.{ArrowFunctionExpression, AssignmentPattern, CatchClause, ForInStatement, ForOfStatement, FunctionBody, FunctionDeclaration, FunctionExpression, ObjectPattern, RestElement, ReturnStatement, VariableDeclaration, VariableDeclarator}
+use Rattle.es_tree.specs.declared.ast_type.AstType.TheVariants.{ArrowFunctionExpression, AssignmentPattern, CatchClause, ForInStatement, ForOfStatement, FunctionBody, FunctionDeclaration, FunctionExpression, ObjectPattern, PatternProperty, RestElement, ReturnStatement, VariableDeclaration, VariableDeclarator}
 use Rattle.es_steps.specs.Nodes.{joined_trees}
 use Rattle.es_pattern_moves.specs.Laws.{LawMovedSize}
 use Rattle.es_pattern_moves.specs.Moved.{
@@ -34,13 +37,15 @@ use Rattle.es_pattern_moves.specs.Moved.{
 }
 use Rattle.es_pattern_moves.specs.PatternMoves.{binds_let, is_rest_parameter, is_var, meets, moves_from_catch, moves_from_head, moves_pattern, pattern_of}
 use Rattle.es_pattern_moves.specs.Weights.{own_weight, weighed, weighed_among, weighed_by, weighed_in}
-use Rattle.es_rest_shapes.specs.RestShapes.{ends_in_rest, is_named_rest, is_plain_pattern, is_plain_property}
+use Rattle.es_rest_shapes.specs.RestShapes.{are_plain_members, are_plain_parts, bears_among, bears_rest, is_named_rest, is_plain_key, is_plain_pattern, is_plain_property, is_plain_target, is_plain_value}
 
--- WHAT PATTERNS SPARE: of what a pattern and its rest weigh, all but the node itself is kept until the pattern moves
+-- WHAT PATTERNS SPARE: of what a pattern and its rest weigh, all but the node itself is kept until the pattern moves, and so it is of the
+-- patterns in its properties
 abbrev mutual
   spare : Tree → ℕ
   spare (node ObjectPattern l fs) = 5 + spare_in fs
   spare (node RestElement l fs) = 5
+  spare (node PatternProperty l fs) = spare_in fs
   spare (node AssignmentPattern l fs) = spare_in fs
   spare (node VariableDeclaration l fs) = spare_in fs
   spare (node VariableDeclarator l fs) = spare_in fs
@@ -64,6 +69,7 @@ abbrev mutual
 spare-node : (k : AstType) (l : Label) (fs : Fields) → 2 + spare (node k l fs) ≤ own_weight k + spare_in fs
 spare-node ObjectPattern l fs = omega arith
 spare-node RestElement l fs = omega arith
+spare-node PatternProperty l fs = omega arith
 spare-node AssignmentPattern l fs = omega arith
 spare-node VariableDeclaration l fs = omega arith
 spare-node VariableDeclarator l fs = omega arith
@@ -75,13 +81,58 @@ rest-spares : (t : Tree) → is_named_rest t ≡ true → 5 ≤ spare t
 rest-spares (node RestElement l fs) h = omega arith
 rest-spares (node _ l fs) h = absurd (cc h)
 
-ends-spare : (ps : Trees) → ends_in_rest ps ≡ true → 5 ≤ spare_among ps
-ends-spare empty h = absurd (cc h)
-ends-spare (t before empty) h = omega (arith, rest-spares t h)
-ends-spare (t before u before ts) h = omega (arith, ends-spare (u before ts) (and_parts (is_plain_property t) (ends_in_rest (u before ts)) h).1)
+-- what bears a rest in a property is a pattern
+target-spares : (v : Tree) → is_plain_target v ≡ true → bears_rest v ≡ true → 5 ≤ spare v
+target-spares (node ObjectPattern l fs) h b = omega arith
+target-spares v h b = absurd (true≢false (sym h ∙ ap not b))
+
+value-spares : (v : Tree) → is_plain_value v ≡ true → bears_rest v ≡ true → 5 ≤ spare v
+value-spares (node ObjectPattern l fs) h b = omega arith
+value-spares (node AssignmentPattern l (one p then one e then done)) h b = omega (arith, target-spares p h b)
+value-spares (node AssignmentPattern l fs) h b = absurd (cc h)
+value-spares v h b = absurd (true≢false (sym h ∙ ap not b))
+
+property-spares : (t : Tree) → is_plain_property t ≡ true → bears_rest t ≡ true → 5 ≤ spare t
+property-spares (node PatternProperty l (one k then one v then done)) h b = omega (arith, value-spares v (and_parts (is_plain_key (has_computed PatternProperty l.flags) k) (is_plain_value v) h).1 b)
+property-spares (node _ l fs) h b = absurd (cc h)
+
+property-kind : (t : Tree) → is_plain_property t ≡ true → is_rest (kind_of t) ≡ false
+property-kind (node PatternProperty l fs) h = refl
+property-kind (node _ l fs) h = absurd (cc h)
+
+-- a member that is a rest, or bears one
+abbrev HasOne : Trees → Type 0
+HasOne ts = (any_kind is_rest ts ≡ true) ⊎ (bears_among ts ≡ true)
+
+one-first : (t : Tree) (ts : Trees) → HasOne (t before ts) → ((is_rest (kind_of t) ≡ true) ⊎ (bears_rest t ≡ true)) ⊎ HasOne ts
+one-first t ts (inl e) = ⊎_elim (λ d. inl (inl d)) (λ d. inr (inl d)) (or_cases (is_rest (kind_of t)) (any_kind is_rest ts) e)
+one-first t ts (inr e) = ⊎_elim (λ d. inl (inr d)) (λ d. inr (inr d)) (or_cases (bears_rest t) (bears_among ts) e)
+
+first-spares : (t : Tree) → is_plain_property t ≡ true → (is_rest (kind_of t) ≡ true) ⊎ (bears_rest t ≡ true) → 5 ≤ spare t
+first-spares t h (inl e) = absurd (true≢false (sym e ∙ property-kind t h))
+first-spares t h (inr e) = property-spares t h e
+
+-- the first of them spares enough, or those behind it do
+either-spares : (t : Tree) (ts : Trees) → is_plain_property t ≡ true → (HasOne ts → 5 ≤ spare_among ts) → ((is_rest (kind_of t) ≡ true) ⊎ (bears_rest t ≡ true)) ⊎ HasOne ts → 5 ≤ spare_among (t before ts)
+either-spares t ts h later (inl f) = omega (arith, first-spares t h f)
+either-spares t ts h later (inr f) = omega (arith, later f)
+
+none-spares : HasOne empty → 5 ≤ spare_among empty
+none-spares (inl e) = absurd (true≢false (sym e))
+none-spares (inr e) = absurd (true≢false (sym e))
+
+members-spare : (ps : Trees) → are_plain_members ps ≡ true → HasOne ps → 5 ≤ spare_among ps
+members-spare empty h k = none-spares k
+members-spare (t before empty) h k = ⊎_elim (λ p. either-spares t empty p none-spares (one-first t empty k)) (λ r. omega (arith, rest-spares t r)) (or_cases (is_plain_property t) (is_named_rest t) h)
+members-spare (t before u before ts) h k =
+    let parts = and_parts (is_plain_property t) (are_plain_members (u before ts)) h in
+    either-spares t (u before ts) parts.0 (λ f. members-spare (u before ts) parts.1 f) (one-first t (u before ts) k)
 
 plain-spares : (p : Tree) → is_plain_pattern p ≡ true → 10 ≤ spare p
-plain-spares (node ObjectPattern l (many ps then done)) h = omega (arith, ends-spare ps h)
+plain-spares (node ObjectPattern l (many ps then done)) h =
+    let parts = and_parts (any_kind is_rest ps || bears_among ps) (are_plain_members ps) h in
+    omega (arith, members-spare ps parts.1 (or_cases (any_kind is_rest ps) (bears_among ps) parts.0))
+plain-spares (node ObjectPattern l fs) h = absurd (true≢false (sym (and_parts (bears_rest (node ObjectPattern l fs)) (are_plain_parts fs) h).1))
 plain-spares (node _ l fs) h = absurd (cc h)
 
 parameter-spares : (t : Tree) → is_rest_parameter t ≡ true → 10 ≤ spare t

@@ -1,22 +1,22 @@
 -- Where no pattern with a rest stands none moves: a node out of which one moves holds it.
 use Rattle.std.proofs.Common.{◌≡◌, ◌∙◌, refl, sym, true≢false}
 use Rattle.std.specs.Prelude.{Bool, true, false, ◌||◌}
-use Rattle.std.proofs.lemmas.Bool.{and_parts, false_from_ne_true, or_from, or_left, or_parts, or_right}
-use Rattle.es_tree.specs.Constructs.{any_kind, is_object_rest, is_rest}
-use Rattle.es_tree.specs.Tree.{Tree, node, Label, Fields, done, ◌then◌, Field, missing, one, many, statements, Trees, empty, ◌before◌, kind_of}
+use Rattle.std.proofs.lemmas.Bool.{and_parts, false_from_ne_true, or_from, or_left, or_parts, or_right, true_from_ne_false}
+use Rattle.es_tree.specs.Constructs.{is_object_rest}
+use Rattle.es_tree.specs.Tree.{Tree, node, Label, Fields, done, ◌then◌, Field, missing, one, many, statements, Trees, empty, ◌before◌}
 use Rattle.es_tree.specs.Walks.{any_in_field, any_in_fields, any_in_trees, any_node}
 use Rattle.es_tree.specs.declared.ast_type.AstType.{AstType}
-use Rattle.es_tree.specs.declared.ast_type.AstType.TheVariants.{ArrowFunctionExpression, AssignmentPattern, CatchClause, ForInStatement, ForOfStatement, FunctionBody, FunctionDeclaration, FunctionExpression, ObjectPattern, RestElement, VariableDeclaration, VariableDeclarator}
+use Rattle.es_tree.specs.declared.ast_type.AstType.TheVariants.{ArrowFunctionExpression, AssignmentPattern, CatchClause, ForInStatement, ForOfStatement, FunctionBody, FunctionDeclaration, FunctionExpression, ObjectPattern, VariableDeclaration, VariableDeclarator}
 use Rattle.es_pattern_moves.specs.Laws.{LawMovesAreRests}
 use Rattle.es_pattern_moves.specs.PatternMoves.{all_may_move, all_move, is_rest_parameter, is_value, moves_from_arrow, moves_from_catch, moves_from_function, moves_from_head, moves_pattern, moves_with_body}
 use Rattle.es_rest_shapes.specs.RestShapes.{any_tree, is_plain_pattern}
-use Rattle.es_rest_rows.proofs.PlainPatterns.{ends-rest}
+use Rattle.es_rest_shapes.proofs.NoneLeft.{bears-none}
+use Rattle.es_rest_rows.proofs.PlainPatterns.{plain-bears}
 
 -- PATTERNS
 
 plain-rest : (p : Tree) → is_plain_pattern p ≡ true → any_node is_object_rest p ≡ true
-plain-rest (node ObjectPattern l (many ps then done)) h = or_left (any_kind is_rest ps) (any_in_fields is_object_rest (many ps then done)) (ends-rest ps h)
-plain-rest (node _ l fs) h = absurd (cc h)
+plain-rest p h = true_from_ne_false (any_node is_object_rest p) (λ e. true≢false (sym (plain-bears p h) ∙ bears-none p e))
 
 -- PARAMETERS
 

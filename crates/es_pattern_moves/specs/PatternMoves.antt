@@ -1,5 +1,5 @@
--- Which object patterns with a rest move to a declaration of their own, in which their rest is taken: out of a catch clause (ECMA-262, 14.15),
--- out of the head of a loop (14.7.5), and out of the parameters of a function (10.2.11).
+-- Which object patterns with a rest, or with such a pattern in a property, move to a declaration of their own, in which their rests are taken: out
+-- of a catch clause (ECMA-262, 14.15), out of the head of a loop (14.7.5), and out of the parameters of a function (10.2.11).
 use Rattle.std.specs.Prelude.{◌&&◌, ◌||◌, not, Bool, false, true, bytes_eq, codes, ℕ, zero, suc}
 use Rattle.es_tree.specs.Names.{first_text, is_name_place}
 use Rattle.es_tree.specs.Tree.{Tree, node, Label, Fields, done, ◌then◌, Field, missing, one, many, statements, Trees, empty, ◌before◌, label_of}

@@ -4,8 +4,8 @@ use Rattle.es_tree.specs.Tree.{Tree, node, Fields, done, ◌then◌, Field, miss
 use Rattle.es_tree.specs.declared.ast_type.AstType.{AstType}
 use Rattle.es_tree.specs.declared.ast_type.AstType.TheVariants.{ArrowFunctionExpression, FunctionDeclaration, FunctionExpression, ObjectPattern, RestElement}
 
--- A node weighs two, and seven where something is made for it once patterns move: five more for a pattern and for its rest, and as many for a
--- function, which may get a body.
+-- A node weighs two, and seven where something is made for it once patterns move: five more for a pattern and for a rest, one of which stands in
+-- each pattern that moves, and as many for a function, which may get a body.
 abbrev pub own_weight : AstType → ℕ
 own_weight ObjectPattern = 7
 own_weight RestElement = 7

@@ -1,14 +1,15 @@
 -- Tests of patterns with a rest, as the code has them, and as they are defined.
-use Rattle.std.proofs.Common.{◌≡◌, ◌≢◌, true≢false, ◌∙◌, ◌<◌, ℕ, zero, suc, refl, ap, arith, List, [], ◌∷◌, Bool, true, false, get_or, length, take}
-use Rattle.std.specs.Prelude.{◌||◌, ◌&&◌, ◌==◌, None}
-use Rattle.std.specs.List.{list_all, list_any}
+use Rattle.std.proofs.Common.{◌≡◌, ◌≢◌, ◌∙◌, ◌<◌, ℕ, zero, suc, refl, ap, arith, List, [], ◌∷◌, Bool, true, false, get_or, length, take}
+use Rattle.std.specs.Prelude.{◌||◌, ◌&&◌, None}
+use Rattle.std.specs.List.{list_any}
+use Rattle.es_tree.specs.Names.{has_computed}
 use Rattle.es_tree.specs.Tree.{Tree, Trees, node, Label, Fields, done, ◌then◌, Field, missing, one, many, statements, empty, ◌before◌, trees}
 use Rattle.es_tree.specs.Views.{plain_field, plain_fields}
-use Rattle.es_tree.specs.declared.ast_type.AstType.TheVariants.{ObjectPattern, RestElement, TemplateElement, VariableDeclaration, VariableDeclarator}
+use Rattle.es_tree.specs.declared.ast_type.AstType.TheVariants.{PatternProperty, TemplateElement, VariableDeclarator}
 use Rattle.es_tree.specs.declared.node.Field.{Field as NodeField}
 use Rattle.es_runs.specs.Duplication.{has_no_fields}
-use Rattle.es_rest_shapes.specs.RestShapes.{any_child, any_child_by, any_tree, ends_in_rest, is_misplaced, is_named_rest, is_odd_pattern, is_plain_pattern, is_plain_property, is_rest_declaration, is_rest_declarator, is_rest_pattern, is_stray_rest, template_text}
-use Rattle.es_rest_nodes.specs.RestFields.{are_plain_parts, declares_pattern, holds_rest_declarator, is_one_name, is_stray_declaration, is_stray_declarator, on_list, on_one, on_two, lists_text, sole_text}
+use Rattle.es_rest_shapes.specs.RestShapes.{any_child, any_child_by, any_tree, are_plain, are_plain_members, are_plain_parts, bears_second, is_misplaced, is_named_rest, is_odd_pattern, is_plain_first, is_plain_property, is_plain_target, is_stray_rest, template_text}
+use Rattle.es_rest_nodes.specs.RestFields.{is_plain_pair, is_stray_declarator, on_list, on_one, on_two, sole_text}
 
 -- LISTS
 
@@ -38,56 +39,30 @@ stray-declarator l (statements ts then fs) = refl
 stray-declarator l (missing then fs) = refl
 stray-declarator l done = refl
 
-pub stray-declaration : (l : Label) (fs : Fields) → is_stray_declaration fs ≡ is_stray_rest VariableDeclaration l fs
-stray-declaration l (many ds then done) = or-off (any_tree is_rest_pattern ds)
-stray-declaration l (many ds then f then fs) = refl
-stray-declaration l (one t then fs) = refl
-stray-declaration l (statements ts then fs) = refl
-stray-declaration l (missing then fs) = refl
-stray-declaration l done = refl
+pub plain-property : (l : Label) (fs : Fields) → is_plain_pair (has_computed PatternProperty l.flags) fs ≡ is_plain_property (node PatternProperty l fs)
+plain-property l (one k then one v then done) = refl
+plain-property l (one k then one v then f then fs) = refl
+plain-property l (one k then many ts then fs) = refl
+plain-property l (one k then statements ts then fs) = refl
+plain-property l (one k then missing then fs) = refl
+plain-property l (one k then done) = refl
+plain-property l (many ts then fs) = refl
+plain-property l (statements ts then fs) = refl
+plain-property l (missing then fs) = refl
+plain-property l done = refl
 
-pub rest-declaration : (l : Label) (fs : Fields) → holds_rest_declarator fs ≡ is_rest_declaration VariableDeclaration l fs
-rest-declaration l (many ds then fs) = refl
-rest-declaration l (one t then fs) = refl
-rest-declaration l (statements ts then fs) = refl
-rest-declaration l (missing then fs) = refl
-rest-declaration l done = refl
+-- THE LAST MEMBER
 
-pub rest-declarator : (l : Label) (fs : Fields) → declares_pattern fs ≡ is_rest_declarator (node VariableDeclarator l fs)
-rest-declarator l (one t then fs) = refl
-rest-declarator l (many ts then fs) = refl
-rest-declarator l (statements ts then fs) = refl
-rest-declarator l (missing then fs) = refl
-rest-declarator l done = refl
-
-pub plain-pattern : (l : Label) (fs : Fields) → are_plain_parts fs ≡ is_plain_pattern (node ObjectPattern l fs)
-plain-pattern l (many ps then done) = refl
-plain-pattern l (many ps then f then fs) = refl
-plain-pattern l (one t then fs) = refl
-plain-pattern l (statements ts then fs) = refl
-plain-pattern l (missing then fs) = refl
-plain-pattern l done = refl
-
-pub named-rest : (l : Label) (fs : Fields) → is_one_name fs ≡ is_named_rest (node RestElement l fs)
-named-rest l (one t then done) = refl
-named-rest l (one t then f then fs) = refl
-named-rest l (many ts then fs) = refl
-named-rest l (statements ts then fs) = refl
-named-rest l (missing then fs) = refl
-named-rest l done = refl
-
--- A REST AT THE END
-
-pub ends-last : (ms : List Tree) (n : ℕ) (r : Tree) → suc n ≡ length ms → r ≡ get_or ms n r → (is_named_rest r && list_all is_plain_property (take n ms)) ≡ ends_in_rest (trees ms)
-ends-last [] n r whole e = absurd (cc whole)
-ends-last (m ∷ []) zero r whole e = and-true (is_named_rest r) ∙ ap is_named_rest e
+pub plain-last : (ms : List Tree) (n : ℕ) (r : Tree) → suc n ≡ length ms → r ≡ get_or ms n r → ((is_plain_property r || is_named_rest r) && are_plain (trees (take n ms))) ≡ are_plain_members (trees ms)
+plain-last [] n r whole e = absurd (cc whole)
+plain-last (m ∷ []) zero r whole e = and-true (is_plain_property r || is_named_rest r) ∙ (λ i. is_plain_property (e i) || is_named_rest (e i))
   where
     and-true : (a : Bool) → (a && true) ≡ a
     and-true true = refl
     and-true false = refl
-ends-last (m ∷ []) (suc n) r whole e = absurd (omega (arith, whole))
-ends-last (m ∷ l ∷ ms) zero r whole e = absurd (omega (arith, whole))
-ends-last (m ∷ l ∷ ms) (suc n) r whole e = moved (is_named_rest r) (is_plain_property m) (list_all is_plain_property (take n (l ∷ ms))) ∙ ap (λ b. is_plain_property m && b) (ends-last (l ∷ ms) n r (omega (arith, whole)) e)
+plain-last (m ∷ []) (suc n) r whole e = absurd (omega (arith, whole))
+plain-last (m ∷ l ∷ ms) zero r whole e = absurd (omega (arith, whole))
+plain-last (m ∷ l ∷ ms) (suc n) r whole e = moved (is_plain_property r || is_named_rest r) (is_plain_property m) (are_plain (trees (take n (l ∷ ms)))) ∙ ap (λ b. is_plain_property m && b) (plain-last (l ∷ ms) n r (omega (arith, whole)) e)
   where
     moved : (a b c : Bool) → (a && (b && c)) ≡ (b && (a && c))
     moved true true c = refl
@@ -100,6 +75,11 @@ ends-last (m ∷ l ∷ ms) (suc n) r whole e = moved (is_named_rest r) (is_plain
 pub some-fields : (fs : List NodeField) → 0 < length fs → has_no_fields (plain_fields fs) ≡ false
 some-fields [] h = absurd (omega (arith, h))
 some-fields (f ∷ fs) h = refl
+
+pub no-second : (fs : List NodeField) → length fs < 2 → bears_second (plain_fields fs) ≡ false
+no-second [] h = refl
+no-second (f ∷ []) h = refl
+no-second (f ∷ g ∷ fs) h = absurd (omega (arith, h))
 
 module _ (P : Trees → Bool) where
   two-lists : (f g : Field) (fs : Fields) → on_list P (f then g then fs) ≡ false
@@ -152,28 +132,38 @@ module _ (P : Tree → Tree → Bool) where
   more-than-two (f ∷ g ∷ []) h = absurd (omega (arith, h))
   more-than-two (f ∷ g ∷ i ∷ fs) h = three-children (plain_field f) (plain_field g) (plain_field i) (plain_fields fs)
 
+-- a list of members, and a target with its default value
+
+parts-list : (fs : Fields) → are_plain_parts fs ≡ on_list are_plain_members fs
+parts-list (many ts then done) = refl
+parts-list (many ts then f then fs) = refl
+parts-list (one t then fs) = refl
+parts-list (statements ts then fs) = refl
+parts-list (missing then fs) = refl
+parts-list done = refl
+
+pub more-parts : (fs : List NodeField) → 1 < length fs → are_plain_parts (plain_fields fs) ≡ false
+more-parts fs h = parts-list (plain_fields fs) ∙ more-lists are_plain_members fs h
+
+first-pair : (fs : Fields) → is_plain_first fs ≡ on_two (λ p e. is_plain_target p) fs
+first-pair (one p then one e then done) = refl
+first-pair (one p then one e then f then fs) = refl
+first-pair (one p then many ts then fs) = refl
+first-pair (one p then statements ts then fs) = refl
+first-pair (one p then missing then fs) = refl
+first-pair (one p then done) = refl
+first-pair (many ts then fs) = refl
+first-pair (statements ts then fs) = refl
+first-pair (missing then fs) = refl
+first-pair done = refl
+
+pub fewer-first : (fs : List NodeField) → length fs < 2 → is_plain_first (plain_fields fs) ≡ false
+fewer-first fs h = first-pair (plain_fields fs) ∙ fewer-than-two (λ p e. is_plain_target p) fs h
+
+pub more-first : (fs : List NodeField) → 2 < length fs → is_plain_first (plain_fields fs) ≡ false
+more-first fs h = first-pair (plain_fields fs) ∙ more-than-two (λ p e. is_plain_target p) fs h
+
 -- TEMPLATES
-
-sole-template : (ts us : Trees) → sole_text ts us ≡ template_text (many ts then (many us then done))
-sole-template empty us = refl
-sole-template (node TemplateElement l fs before empty) empty = refl
-sole-template (node TemplateElement l fs before empty) (u before us) = refl
-sole-template (node TemplateElement l fs before t before ts) us = refl
-sole-template (node _ l fs before empty) empty = refl
-sole-template (node _ l fs before empty) (u before us) = refl
-sole-template (node _ l fs before t before ts) us = refl
-
-lists-template : (f g : Field) → lists_text f g ≡ template_text (f then g then done)
-lists-template missing g = refl
-lists-template (one t) g = refl
-lists-template (statements ts) g = refl
-lists-template (many ts) (many us) = sole-template ts us
-lists-template (many empty) g = refl
-lists-template (many (node TemplateElement l fs before empty)) missing = refl
-lists-template (many (node TemplateElement l fs before empty)) (one t) = refl
-lists-template (many (node TemplateElement l fs before empty)) (statements ts) = refl
-lists-template (many (node TemplateElement l fs before t before ts)) g = refl
-lists-template (many (node _ l fs before ts)) g = refl
 
 one-list : (f : Field) → template_text (f then done) ≡ None
 one-list missing = refl
@@ -203,12 +193,6 @@ other-lists (f ∷ []) h = one-list (plain_field f)
 other-lists (f ∷ g ∷ []) h = absurd (omega (arith, h))
 other-lists (f ∷ g ∷ i ∷ fs) h = three-lists (plain_field f) (plain_field g) (plain_field i) (plain_fields fs)
 
-pub two-lists-of : (fs : List NodeField) (f g : NodeField) → length fs ≡ 2 → f ≡ get_or fs 0 f → g ≡ get_or fs 1 g → lists_text (plain_field f) (plain_field g) ≡ template_text (plain_fields fs)
-two-lists-of [] f g h d e = absurd (omega (arith, h))
-two-lists-of (f ∷ []) x y h d e = absurd (omega (arith, h))
-two-lists-of (f ∷ g ∷ []) x y h d e = (λ i. lists_text (plain_field (d i)) (plain_field (e i))) ∙ lists-template (plain_field f) (plain_field g)
-two-lists-of (f ∷ g ∷ i ∷ fs) x y h d e = absurd (omega (arith, h))
-
 -- elements of a template: one, and no expressions
 
 pub more-elements : (ts us : List Tree) → length ts ≢ 1 → sole_text (trees ts) (trees us) ≡ None
@@ -216,8 +200,8 @@ more-elements [] us h = refl
 more-elements (t ∷ s ∷ ts) us h = refl
 more-elements (t ∷ []) us h = absurd (h refl)
 
-pub some-expressions : (ts us : List Tree) → (length us == 0) ≡ false → sole_text (trees ts) (trees us) ≡ None
-some-expressions ts [] h = absurd (true≢false h)
+pub some-expressions : (ts us : List Tree) → 0 < length us → sole_text (trees ts) (trees us) ≡ None
+some-expressions ts [] h = absurd (omega (arith, h))
 some-expressions [] (u ∷ us) h = refl
 some-expressions (t ∷ []) (u ∷ us) h = refl
 some-expressions (t ∷ s ∷ ts) (u ∷ us) h = refl

@@ -3,7 +3,7 @@ use Rattle.std.specs.Prelude.{◌&&◌, ◌||◌, Bool, false, not, true, Option
 use Rattle.es_tree.specs.Tree.{Tree, node, Trees, empty, ◌before◌, Fields, done, ◌then◌, Field, one, many}
 use Rattle.es_tree.specs.Words.{Text}
 use Rattle.es_tree.specs.declared.ast_type.AstType.TheVariants.{TemplateElement}
-use Rattle.es_rest_shapes.specs.RestShapes.{any_child, any_tree, declares_rest, ends_in_rest, is_misplaced, is_name, is_odd_pattern, is_plain_key, is_read_key, is_rest_declarator, is_rest_pattern, second_text}
+use Rattle.es_rest_shapes.specs.RestShapes.{any_beside, any_child, any_child_by, any_tree, bears_rest, declares_rest, is_misplaced, is_name, is_odd_pattern, is_plain_key, is_plain_value, is_read_key, is_rest_declarator, second_text}
 
 -- one child, of which this holds
 abbrev pub on_one : (Tree → Bool) → Fields → Bool
@@ -35,7 +35,7 @@ abbrev pub is_stray_declarator : Fields → Bool
 is_stray_declarator fs = holds_odd_pair fs || (not (is_pair fs) && any_child is_misplaced fs)
 
 abbrev pub holds_pattern_list : Fields → Bool
-holds_pattern_list fs = on_list (any_tree is_rest_pattern) fs
+holds_pattern_list fs = on_list (any_tree bears_rest) fs
 
 abbrev pub is_list : Fields → Bool
 is_list fs = on_list (λ ts. true) fs
@@ -43,19 +43,22 @@ is_list fs = on_list (λ ts. true) fs
 abbrev pub is_stray_declaration : Fields → Bool
 is_stray_declaration fs = holds_pattern_list fs || (not (is_list fs) && any_child is_misplaced fs)
 
+-- a key that holds a pattern with a rest, or what a property may not hold beside it
+abbrev pub is_stray_property : Fields → Bool
+is_stray_property done = false
+is_stray_property (k then fs) = any_child_by is_misplaced k || any_beside fs
+
 -- what an export may not hold
 abbrev pub is_exported_rest : Tree → Bool
 is_exported_rest t = is_misplaced t || declares_rest t
 
 abbrev pub declares_pattern : Fields → Bool
-declares_pattern (one p then fs) = is_rest_pattern p
+declares_pattern (one p then fs) = bears_rest p
 declares_pattern _ = false
 
-abbrev pub are_plain_parts : Fields → Bool
-are_plain_parts fs = on_list ends_in_rest fs
-
-abbrev pub has_plain_key : Bool → Fields → Bool
-has_plain_key computed fs = on_two (λ k v. is_plain_key computed k) fs
+-- a key and a value, which are plain
+abbrev pub is_plain_pair : Bool → Fields → Bool
+is_plain_pair computed fs = on_two (λ k v. is_plain_key computed k && is_plain_value v) fs
 
 abbrev pub has_read_key : Bool → Fields → Bool
 has_read_key computed fs = on_two (λ k v. is_read_key computed k) fs

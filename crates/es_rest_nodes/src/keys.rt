@@ -32,10 +32,10 @@ pub(crate) fn has_no_fields(fields: &[Field]) -> bool
 pub fn template_text(fields: &[Field]) -> Option<&str>
     ensures { option_copied result ≡ template_text (plain_fields fields.now) }
 {
-    if fields.len() != 2 {
-        return None;
+    match fields {
+        [elements, expressions] => lists_text(elements, expressions),
+        _ => None,
     }
-    lists_text(&fields[0], &fields[1])
 }
 
 /// The same of its two lists.
@@ -54,13 +54,10 @@ fn lists_text<'a>(elements: &'a Field, expressions: &Field) -> Option<&'a str>
 fn sole_text<'a>(elements: &'a [Node], expressions: &[Node]) -> Option<&'a str>
     ensures { option_copied result ≡ sole_text (trees elements.now) (trees expressions.now) }
 {
-    if elements.len() != 1 {
-        return None;
+    match (elements, expressions) {
+        ([element], []) => element_text(element),
+        _ => None,
     }
-    if !expressions.is_empty() {
-        return None;
-    }
-    element_text(&elements[0])
 }
 
 /// The text of an element of a template, if it gives one.

@@ -2,10 +2,10 @@
 ghost use Rattle.std.specs.Prelude.{◌≡◌};
 ghost use Rattle.es_tree.specs.Tree.{fields_of, kind_of, label_of, trees};
 ghost use Rattle.es_tree.specs.Views.{plain_field, plain_fields};
-ghost use Rattle.es_rest_shapes.specs.RestShapes.{any_child, any_child_by, any_tree, is_misplaced, is_odd_pattern, is_rest_declaration, is_rest_declarator, is_rest_pattern, is_stray_rest};
-ghost use Rattle.es_rest_nodes.specs.RestFields.{holds_odd_pair, holds_pattern_list, holds_rest_declarator, is_exported_rest, is_list, is_pair, is_stray_declaration, is_stray_declarator};
+ghost use Rattle.es_rest_shapes.specs.RestShapes.{any_beside, any_child, any_child_by, any_tree, bears_rest, is_misplaced, is_odd_pattern, is_rest_declaration, is_rest_declarator, is_stray_rest};
+ghost use Rattle.es_rest_nodes.specs.RestFields.{holds_odd_pair, holds_pattern_list, holds_rest_declarator, is_exported_rest, is_list, is_pair, is_stray_declaration, is_stray_declarator, is_stray_property};
 
-use crate::patterns::{is_plain_pattern, is_rest_declarator, is_rest_pattern};
+use crate::patterns::{bears_rest, is_plain_pattern, is_rest_declarator};
 use es_tree::kind::Kind;
 use es_tree::node::{Field, Node};
 
@@ -17,6 +17,8 @@ pub fn is_stray_rest(node: &Node) -> bool
         Kind::VariableDeclarator => is_stray_declarator(node.fields.as_slice()),
         Kind::VariableDeclaration { .. } => is_stray_declaration(node.fields.as_slice()),
         Kind::ExportNamedDeclaration => any_exported(node.fields.as_slice()),
+        Kind::ObjectPattern | Kind::AssignmentPattern => any_beside(node.fields.as_slice()),
+        Kind::PatternProperty { .. } => is_stray_property(node.fields.as_slice()),
         _ => any_misplaced(node.fields.as_slice()),
     }
 }
@@ -73,7 +75,7 @@ fn holds_pattern_list(fields: &[Field]) -> bool
     ensures { result ≡ holds_pattern_list (plain_fields fields.now) }
 {
     match fields {
-        [Field::Many(nodes)] => any_rest_pattern(nodes.as_slice()),
+        [Field::Many(nodes)] => any_bearing(nodes.as_slice()),
         _ => false,
     }
 }
@@ -82,6 +84,36 @@ fn is_list(fields: &[Field]) -> bool
     ensures { result ≡ is_list (plain_fields fields.now) }
 {
     matches!(fields, [Field::Many(..)])
+}
+
+/// Whether these are a key that holds one, or what a property may not hold beside it.
+fn is_stray_property(fields: &[Field]) -> bool
+    ensures { result ≡ is_stray_property (plain_fields fields.now) }
+{
+    match fields {
+        [key, value @ ..] => holds_misplaced(key) || any_beside(value),
+        [] => false,
+    }
+}
+
+/// Whether the first of these fields holds a declarator of a pattern with a rest, which a pattern may not, or another one holds what is misplaced.
+fn any_beside(fields: &[Field]) -> bool
+    ensures { result ≡ any_beside (plain_fields fields.now) }
+{
+    match fields {
+        [first, others @ ..] => holds_declarator(first) || any_misplaced(others),
+        [] => false,
+    }
+}
+
+fn holds_declarator(field: &Field) -> bool
+    ensures { result ≡ any_child_by is_rest_declarator (plain_field field.now) }
+{
+    match field {
+        Field::Missing => false,
+        Field::One(node) => is_rest_declarator(node),
+        Field::Many(nodes) | Field::Statements(nodes) => any_rest_declarator(nodes.as_slice()),
+    }
 }
 
 /// Whether a child is a pattern with a rest where no declarator declares it, or a declarator of one outside a declaration.
@@ -127,13 +159,13 @@ fn is_exported_rest(node: &Node) -> bool
 fn is_misplaced(node: &Node) -> bool
     ensures { result ≡ is_misplaced node.now }
 {
-    is_rest_pattern(node) || is_rest_declarator(node)
+    bears_rest(node) || is_rest_declarator(node)
 }
 
 fn is_odd_pattern(node: &Node) -> bool
     ensures { result ≡ is_odd_pattern node.now }
 {
-    (is_rest_pattern(node) && !is_plain_pattern(node)) || is_rest_declarator(node)
+    (bears_rest(node) && !is_plain_pattern(node)) || is_rest_declarator(node)
 }
 
 fn any_rest_declarator(nodes: &[Node]) -> bool
@@ -142,10 +174,10 @@ fn any_rest_declarator(nodes: &[Node]) -> bool
     nodes.iter().any(|node| is_rest_declarator(node))
 }
 
-fn any_rest_pattern(nodes: &[Node]) -> bool
-    ensures { result ≡ any_tree is_rest_pattern (trees nodes.now) }
+fn any_bearing(nodes: &[Node]) -> bool
+    ensures { result ≡ any_tree bears_rest (trees nodes.now) }
 {
-    nodes.iter().any(|node| is_rest_pattern(node))
+    nodes.iter().any(|node| bears_rest(node))
 }
 
 fn any_misplaced_node(nodes: &[Node]) -> bool

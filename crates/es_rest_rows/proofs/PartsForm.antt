@@ -18,12 +18,13 @@ use Rattle.es_steps.proofs.FormRules.{AtNodes, FormLawful, NodeFormed, nodes-onl
 use Rattle.es_valid_rests.proofs.RestFormsDeclared.{split-form, split-nodes, takes-form, takes-nodes}
 use Rattle.es_rest_rows.specs.RestParts.{PartsWhere}
 use Rattle.es_rest_rows.specs.RestRows.{RowsWhere}
-use Rattle.es_rest_rows.specs.RestRows.RowsWhere.{stores, takes}
+use Rattle.es_rest_rows.specs.RestRows.RowsWhere.{nested, stores, takes}
 
 module _ (asked : Site → Type 0) where
   pub rows-nodes : (n : Site) (s s' : Ledger) (x y : Spot) → RowsWhere asked n s x s' y → AtNodes x y
   rows-nodes n s s' x y (stores m l a c p e z out kind plain declares kept silent fresh) = tt
   rows-nodes n s s' x y (takes m l lp lr ls a ps c t xs out kind plain name declares kept names asks used) = tt
+  rows-nodes n s s' x y (nested m l lp lq ls a ps rs c k p v u z out declares members bears plain puts binds kept fresh) = tt
 
   pub parts-nodes : (n : Site) (s s' : Ledger) (x y : Spot) → PartsWhere asked n s x s' y → AtNodes x y
   parts-nodes n s s' x y (inl r) = split-nodes n s s' x y r.0

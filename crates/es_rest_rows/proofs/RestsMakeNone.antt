@@ -7,11 +7,11 @@ use Rattle.es_tree.specs.Names.{first_text}
 use Rattle.es_tree.specs.Tree.{Tree, node, Label, Fields, done, ◌then◌, Field, missing, one, many, statements, Trees, empty, ◌before◌, fields, kind_of}
 use Rattle.es_tree.specs.Words.{Text}
 use Rattle.es_tree.specs.declared.ast_type.AstType.{AstType}
-use Rattle.es_tree.specs.declared.ast_type.AstType.TheVariants.{ArrayExpression, ArrowFunctionExpression, AssignmentExpression, BinaryExpression, CallExpression, CatchClause, ChainExpression, ExportAllDeclaration, Identifier, LogicalExpression, MemberExpression, ObjectExpression, ObjectPattern, ObjectTarget, PatternProperty, RestElement, SequenceExpression, StringLiteral, VariableDeclaration, VariableDeclarator}
+use Rattle.es_tree.specs.declared.ast_type.AstType.TheVariants.{ArrayExpression, ArrowFunctionExpression, AssignmentExpression, AssignmentPattern, BinaryExpression, CallExpression, CatchClause, ChainExpression, ExportAllDeclaration, Identifier, LogicalExpression, MemberExpression, ObjectExpression, ObjectPattern, ObjectTarget, PatternProperty, RestElement, SequenceExpression, StringLiteral, VariableDeclaration, VariableDeclarator}
 use Rattle.es_tree.specs.declared.options.EnvOptions.{EnvOptions}
 use Rattle.es_resolution.specs.Declarations.{Bound}
 use Rattle.es_steps.specs.Nodes.{array_node, call_node, declarator_with, identifier, joined_trees, made as made_label, member_node}
-use Rattle.es_steps.specs.ObjectRest.{declares_as, helper_node, whole_value}
+use Rattle.es_steps.specs.ObjectRest.{declares_as, declares_some, helper_node, pattern_node, whole_value}
 use Rattle.es_steps.specs.Open.{Pending, body_with, opened, with_vars, written_body}
 use Rattle.es_steps.specs.Rules.{next_name}
 use Rattle.es_steps.specs.Steps.{Ledger, Site, Spot, Step, Steps, Whole, the_program}
@@ -22,9 +22,10 @@ use Rattle.es_steps.proofs.Written.{joined-twice}
 use Rattle.es_reached.proofs.FreeTrees.{Free, FreeAll, FreeBy, FreeIn, PassesNoMade, body-free, free, free-body, free-joined, free-whole, joined-free, joined-kinds, none, vars-free, whole-free}
 use Rattle.es_reached.proofs.WalkTests.{Alike, AlikeBy, AlikeIn, IsBlind, alike-node, by-one, by-same, others-steady}
 use Rattle.es_rest_rows.specs.Laws.{LawRestsMakeNone, is_other_construct}
-use Rattle.es_rest_rows.specs.RestRows.{NamesKeys, RestWalkRow, declaring, group, groups, groups_by, keyed_by, keys_by, keys_of, left_of, names_key, taken, text_of_key, with_rest}
+use Rattle.es_rest_rows.specs.RestRows.{NamesKeys, PutsName, RestWalkRow, declaring, group, groups, groups_by, keyed_by, keys_by, keys_of, left_of, names_key, parted, property_of, taken, text_of_key, with_rest}
 use Rattle.es_rest_rows.specs.RestRows.NamesKeys.{knows, no_properties, reads_one}
-use Rattle.es_rest_rows.specs.RestRows.RowsWhere.{stores, takes}
+use Rattle.es_rest_rows.specs.RestRows.PutsName.{for_pattern, with_default}
+use Rattle.es_rest_rows.specs.RestRows.RowsWhere.{nested, stores, takes}
 use Rattle.es_rest_shapes.specs.RestShapes.{any_tree, reads_key}
 use Rattle.es_rest_rows.proofs.Changes.{Changed, ChangedAll, ChangedBy, ChangedIn, Grown, in-a-row, nodes-change, opened-proper}
 use Rattle.es_rest_rows.proofs.Changes.Changed.{here, within}
@@ -37,6 +38,7 @@ use Rattle.es_rest_rows.proofs.Changes.ChangedAll.{beside, head, same_trees, tai
 -- kinds of nodes that a row makes, besides those of what is pending
 abbrev is_row_kind : AstType → Bool
 is_row_kind ArrayExpression = true
+is_row_kind AssignmentPattern = true
 is_row_kind CallExpression = true
 is_row_kind MemberExpression = true
 is_row_kind ObjectPattern = true
@@ -82,6 +84,7 @@ module _ (o : EnvOptions) where
 
   rows-other : (k : AstType) (l : Label) (fs : Fields) → is_row_kind k ≡ true → T k l fs ≡ false
   rows-other ArrayExpression l fs h = nothing-on (o.es2026.explicit_resource_management && false) (off o.es2026.explicit_resource_management)
+  rows-other AssignmentPattern l fs h = nothing-on (o.es2026.explicit_resource_management && false) (off o.es2026.explicit_resource_management)
   rows-other CallExpression l fs h = nothing-on (o.es2026.explicit_resource_management && false) (off o.es2026.explicit_resource_management)
   rows-other MemberExpression l fs h = nothing-on (o.es2026.explicit_resource_management && false) (off o.es2026.explicit_resource_management)
   rows-other ObjectPattern l fs h = nothing-on (o.es2026.explicit_resource_management && false) (off o.es2026.explicit_resource_management)
@@ -156,6 +159,10 @@ taken-kinds q l fs lp s xs empty t c = refl
 taken-kinds q l fs lp s xs (p before ps) t c =
     let last = declarator_with t (left_of (any_tree reads_key (p before ps)) s (keys_of xs (p before ps))) in
     or-twice (q VariableDeclarator) (any_kind q c) ∙ (sym (groups-kinds q lp s xs empty (p before ps) (last before c)) ∙ ap (λ (ds : Trees). any_kind q ds) (sym (joined-twice (groups lp s xs empty (p before ps)) (last before empty) c)))
+
+parted-kinds : (q : AstType → Bool) (lp : Label) (s : Tree) (ps : Trees) (u p : Tree) (x : Bound) (rs c : Trees) → (q VariableDeclarator || any_kind q c) ≡ any_kind q (joined_trees (parted lp s ps u p x rs) c)
+parted-kinds q lp s ps u p x empty c = or-twice (q VariableDeclarator) (any_kind q c)
+parted-kinds q lp s ps u p x (r before rs) c = or-twice (q VariableDeclarator) (any_kind q c) ∙ or-twice (q VariableDeclarator) (q VariableDeclarator || any_kind q c)
 
 list-alike : (ts us : Trees) → ((q : AstType → Bool) → IsBlind q → any_kind q ts ≡ any_kind q us) → AlikeBy (many ts) (many us)
 list-alike ts us h = record { child = λ q b. refl; target = refl; members = h; there = refl }
@@ -249,6 +256,23 @@ module _ (T : AstType → Label → Fields → Bool) (other : IsOther T) where
       let last : Free T (declarator_with t value) = (other.made VariableDeclarator _ _ refl, (k, (left-free (any_tree reads_key (p before ps)) s keys g (keys-free xs (p before ps)), tt))) in
       joined-free T (groups lp s xs empty (p before ps)) (declarator_with t value before empty) (groups-free lp s empty names g tt h) (last, tt)
 
+  puts-free : {x p v u : Tree} → PutsName x p v u → Free T x → Free T v → Free T p × Free T u
+  puts-free for_pattern g h = (h, g)
+  puts-free (with_default l e silent) g h = (h.1.0, (other.rows AssignmentPattern _ _ refl, (g, h.1.1)))
+
+  some-free : (lp : Label) (s : Tree) (rs : Trees) → Free T s → FreeAll T rs → FreeAll T (declares_some lp s rs)
+  some-free lp s empty g h = tt
+  some-free lp s (r before rs) g h = (group-free lp s (r before rs) g h, tt)
+
+  parted-free : {v u p : Tree} (lp lq : Label) (s : Tree) (ps rs : Trees) (k : Tree) (x : Bound) → PutsName (identifier x) p v u → Free T s → FreeAll T (joined_trees ps (property_of lq k v before rs)) → FreeAll T (parted lp s ps (property_of lq k u) p x rs)
+  parted-free {v = v} {u = u} {p = p} lp lq s ps rs k x puts g h =
+      let name : Free T (identifier x) = (other.made Identifier _ _ refl, tt) in
+      let parts = free-joined T ps (property_of lq k v before rs) h in
+      let put = puts-free puts name parts.1.0.1.1.0 in
+      let property : Free T (property_of lq k u) = (other.rows PatternProperty _ _ refl, (parts.1.0.1.0, (put.1, tt))) in
+      let front = group-free (made_label [] []) s (joined_trees ps (property_of lq k u before empty)) g (joined-free T ps (property_of lq k u before empty) parts.0 (property, tt)) in
+      (front, ((other.made VariableDeclarator _ _ refl, (put.0, (name, tt))), some-free lp s rs g parts.1.1))
+
   row-walked : (n : Site) (s s' : Ledger) (t u : Tree) → RestWalkRow n s (at_node t) s' (at_node u) → Walked t u × Grown (λ bs. bs ≡ []) s s'
   row-walked n s s' t u (stores {w = w} {q = q} m l a c p e x out declares plain bind kept silent fresh) = (
     declared m a c (declares_as l p e) (declarator_with (identifier (next_name w x)) e before declares_as l p (identifier (next_name w x)) before empty) (λ q. or-twice (q VariableDeclarator) (any_kind q c)) (λ h.
@@ -261,6 +285,12 @@ module _ (T : AstType → Label → Fields → Bool) (other : IsOther T) where
         declared m a c d (taken lp it xs ps r) (λ q. taken-kinds q l (one (with_rest lp ps lr r) then one it then done) lp it xs ps r c) (λ h.
             let parts = free-joined T ps (node RestElement lr (one r then done) before empty) h.1.0.1.0 in
             taken-free lp it r names (other.made Identifier _ _ refl, tt) parts.0 parts.1.0.1.0),
+        record { names = []; such = refl; pending = no-names q; top = refl },
+      )
+  row-walked n s s' t u (nested {w = w} {q = q} m l lp lq ls a ps rs c k p v e x out declares members bears plain puts binds kept fresh) =
+      let it : Tree = node Identifier ls done in
+      let d = declares_as l (pattern_node lp (joined_trees ps (property_of lq k v before rs))) it in (
+        declared m a c d (parted lp it ps (property_of lq k e) p (next_name w x) rs) (λ q. parted-kinds q lp it ps (property_of lq k e) p (next_name w x) rs c) (λ h. parted-free lp lq it ps rs k (next_name w x) puts (other.made Identifier _ _ refl, tt) h.1.0.1.0),
         record { names = []; such = refl; pending = no-names q; top = refl },
       )
 
@@ -330,6 +360,7 @@ module _ (T : AstType → Label → Fields → Bool) (other : IsOther T) where
   walk-nodes : (n : Site) (s s' : Ledger) (x y : Spot) → RestWalkRow n s x s' y → AtNodes x y
   walk-nodes n s s' x y (stores m l a c p e z out declares plain bind kept silent fresh) = tt
   walk-nodes n s s' x y (takes m l lp lr ls a ps c r xs out declares plain name bind kept names asked used) = tt
+  walk-nodes n s s' x y (nested m l lp lq ls a ps rs c k p v u z out declares members bears plain puts binds kept fresh) = tt
 
   all-walked : (s s' : Ledger) (p q : Tree) → Steps (Step RestWalkRow the_program) s (opened p) s' (opened q) → Free T p → Free T q
   all-walked s s' p q steps d =

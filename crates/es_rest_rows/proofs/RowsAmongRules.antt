@@ -1,22 +1,25 @@
--- Each row of object rests is steps of their rules: one where a source is stored, and where a rest is taken one for each key that is read, and one.
+-- Each row of object rests is steps of their rules: one where a source is stored or a pattern stands in a property, and where a rest is taken one for
+-- each key that is read, and one.
 use Rattle.std.proofs.Common.{◌≡◌, ◌∙◌, refl, sym, ap, subst, inl, inr, true≢false, List, [], ◌∷◌}
 use Rattle.std.specs.Prelude.{◌⊎◌, ◌||◌, Bool, None, Option, codes, true, false, if◌then◌else◌, map, bytes_eq}
 use Rattle.std.proofs.lemmas.Bool.{and_from, and_parts, or_left, or_parts}
 use Rattle.es_tree.specs.Children.{child_at}
+use Rattle.es_tree.specs.Fresh.{IsFreshName}
 use Rattle.es_tree.specs.Names.{has_computed}
 use Rattle.es_tree.specs.Tree.{Tree, node, Label, done, ◌then◌, missing, one, many, statements, Trees, empty, ◌before◌, fields_of, kind_of, label_of}
 use Rattle.es_tree.specs.Words.{Text}
 use Rattle.es_tree.specs.declared.ast_type.AstType.TheVariants.{Identifier, PatternProperty, RestElement}
 use Rattle.es_resolution.specs.Declarations.{Bound}
 use Rattle.es_semantic.specs.RolesOf.{reads}
-use Rattle.es_semantic.specs.declared.place.Role.TheVariants.{Nothing}
+use Rattle.es_semantic.specs.declared.place.Role.{Role}
+use Rattle.es_semantic.specs.declared.place.Role.TheVariants.{Binds, Nothing}
 use Rattle.es_steps.specs.Nodes.{declarator_with, identifier, joined_trees, made, string_node}
 use Rattle.es_steps.specs.ObjectRest.IsKey.{name_key, text_key}
 use Rattle.es_steps.specs.ObjectRest.RestOf.{alone, beside, mapped}
 use Rattle.es_steps.specs.ObjectRest.SplitRule.{splits}
-use Rattle.es_steps.specs.ObjectRest.SplitsOff.{key, source}
+use Rattle.es_steps.specs.ObjectRest.SplitsOff.{key, nested as splits_nested, nested_default, source}
 use Rattle.es_steps.specs.ObjectRest.TakesRest.{takes_rest}
-use Rattle.es_steps.specs.ObjectRest.{AreKeys, Declares, IsKey, RestOf, and_declarator, declares_as, kind_of_declaration, mapped_value, pattern_node, rest_value, whole_value}
+use Rattle.es_steps.specs.ObjectRest.{AreKeys, Declares, IsKey, RestOf, SplitsOff, and_declarator, declares_as, declares_some, kind_of_declaration, mapped_value, pattern_node, rest_value, whole_value}
 use Rattle.es_steps.specs.Open.{Additions, Pending}
 use Rattle.es_steps.specs.Rules.{next_name, with_made}
 use Rattle.es_steps.specs.Steps.{Ledger, Site, Spot, Steps, Whole, ledger}
@@ -28,10 +31,11 @@ use Rattle.es_valid_rests.specs.RestRules.{OutsidePart, all_declare, is_binding,
 use Rattle.es_rest_rows.specs.Laws.{AtNode, LawRestRows}
 use Rattle.es_rest_rows.specs.RestParts.{PartsWhere}
 use Rattle.es_rest_rows.specs.RestRows.NamesKeys.{knows, no_properties, reads_one}
-use Rattle.es_rest_rows.specs.RestRows.RowsWhere.{stores, takes}
-use Rattle.es_rest_rows.specs.RestRows.{NamesKeys, RowsWhere, declaring, group, groups, groups_by, is_exported, keyed_by, keys_by, keys_of, left_of, names_key, taken, text_of_key, with_rest}
-use Rattle.es_rest_rows.proofs.PlainPatterns.{plain-holds}
-use Rattle.es_rest_shapes.specs.RestShapes.{any_tree, is_name, is_read_key, key_text, reads_key}
+use Rattle.es_rest_rows.specs.RestRows.PutsName.{for_pattern, with_default}
+use Rattle.es_rest_rows.specs.RestRows.RowsWhere.{nested, stores, takes}
+use Rattle.es_rest_rows.specs.RestRows.{NamesKeys, PutsName, RowsWhere, declaring, group, groups, groups_by, is_exported, keyed_by, keys_by, keys_of, left_of, names_key, parted, property_of, taken, text_of_key, with_rest}
+use Rattle.es_rest_rows.proofs.PlainPatterns.{plain-binds, plain-holds}
+use Rattle.es_rest_shapes.specs.RestShapes.{any_tree, is_name, is_plain_pattern, is_read_key, key_text, reads_key}
 
 -- the groups of a property and those behind it, and the keys, where it is told whether its key is read
 abbrev groups_from : Bool → Label → Tree → List Bound → Trees → Tree → Trees → Trees
@@ -78,6 +82,21 @@ taken-declare lp s xs (p before ps) t c name h = and-declares (groups lp s xs em
 
 rest-declare : (l lp lr : Label) (a ps c : Trees) (t s : Tree) (xs : List Bound) → is_name t ≡ true → all_declare (joined_trees a (declares_as l (with_rest lp ps lr t) s before c)) ≡ true → all_declare (joined_trees a (joined_trees (taken lp s xs ps t) c)) ≡ true
 rest-declare l lp lr a ps c t s xs name bind = joined-declare a (declares_as l (with_rest lp ps lr t) s before c) (joined_trees (taken lp s xs ps t) c) (taken-declare lp s xs ps t c name) bind
+
+-- A PATTERN IN A PROPERTY leaves that pattern, and those of the properties around it
+
+some-declare : (lp : Label) (s : Tree) (rs c : Trees) → all_declare c ≡ true → all_declare (joined_trees (declares_some lp s rs) c) ≡ true
+some-declare lp s empty c h = h
+some-declare lp s (r before rs) c h = h
+
+parted-declare : (lp : Label) (s : Tree) (ps : Trees) (u p : Tree) (x : Bound) (rs c : Trees) → is_plain_pattern p ≡ true → all_declare c ≡ true → all_declare (joined_trees (parted lp s ps u p x rs) c) ≡ true
+parted-declare lp s ps u p x rs c plain h = and_from (is_binding_kind (kind_of p)) (all_declare (joined_trees (declares_some lp s rs) c)) (plain-binds p plain) (some-declare lp s rs c h)
+
+-- it is one part
+splits-parted : {w : Whole} {x : Text} (r : Role) (l lp lq ls : Label) (ps rs : Trees) (k p v u : Tree) → is_plain_pattern p ≡ true → IsFreshName w.in_use (codes "ref") x → PutsName (identifier (next_name w x)) p v u →
+    SplitsOff w r x (declares_as l (pattern_node lp (joined_trees ps (property_of lq k v before rs))) (node Identifier ls done)) (parted lp (node Identifier ls done) ps (property_of lq k u) p (next_name w x) rs)
+splits-parted r l lp lq ls ps rs k p v u plain fresh for_pattern = splits_nested l lp lq ls ps rs (one k) p (plain-holds p plain) fresh
+splits-parted r l lp lq ls ps rs k p v u plain fresh (with_default la e silent) = nested_default l lp lq la ls ps rs (one k) p e (plain-holds p plain) fresh silent
 
 -- THE KEYS: no key is read, and all are texts
 
@@ -312,6 +331,12 @@ module _ (asked : Site → Type 0) (Q : Site → Ledger → Spot → Ledger → 
       let es : Trees = declarator_with (identifier (next_name w x)) e before declares_as l p (identifier (next_name w x)) before empty in
       goes (among n s (at_node t) s' (at_node u) (inl ((splits m a c d es x fresh.free kind (source l p e (plain-holds p plain) fresh silent), joined-declare a (d before c) (joined_trees es c) (λ h. h) binds), out))) stays
   row-steps n s s' t u (takes {q = q} {z = z} {y = y} m l lp lr ls a ps c v xs out kind plain name binds kept names asks used) = rest-steps n m lp lr ls v c q z y out l a kind names name binds asks used
+  row-steps n s s' t u (nested {w = w} m l lp lq ls a ps rs c k p v e x out kind members bears plain puts binds kept fresh) =
+      let it : Tree = node Identifier ls done in
+      let d = declares_as l (pattern_node lp (joined_trees ps (property_of lq k v before rs))) it in
+      let es = parted lp it ps (property_of lq k e) p (next_name w x) rs in
+      let part = splits-parted (Binds (kind_of_declaration m)) l lp lq ls ps rs k p v e plain fresh puts in
+      goes (among n s (at_node t) s' (at_node u) (inl ((splits m a c d es x fresh.free kind part, joined-declare a (d before c) (joined_trees es c) (parted-declare lp it ps (property_of lq k e) p (next_name w x) rs c plain) binds), out))) stays
 
 -- by the parts
 pub row-parts : (asked : Site → Type 0) (n : Site) (s s' : Ledger) (t u : Tree) → AtNode (RowsWhere asked) n s t s' u → Steps (AtNode (PartsWhere asked) n) s t s' u

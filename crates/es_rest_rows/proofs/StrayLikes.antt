@@ -1,19 +1,18 @@
 -- What the nodes around see of a tree in which something changed: no pattern with a rest where none was, and what is plain is still so. Where the
 -- tree stands in a slot it may be wrapped, whatever it is: also a key of a parameter that is computed, which may be any expression.
-use Rattle.std.proofs.Common.{◌≡◌, ◌∙◌, ℕ, zero, suc, refl, sym, ap, true≢false, List, ◌∷◌}
+use Rattle.std.proofs.Common.{◌≡◌, ◌==◌, ◌∙◌, ℕ, zero, suc, refl, sym, ap, true≢false, List, ◌∷◌, arith}
 use Rattle.std.specs.Prelude.{Bool, true, false, ◌&&◌, ◌||◌, not, is_some}
-use Rattle.std.proofs.lemmas.Bool.{and_from, and_left, and_parts, and_right, or_from, or_parts}
+use Rattle.std.proofs.lemmas.Bool.{and_from, and_left, and_parts, ne_eqb, or_from, or_left, or_parts}
 use Rattle.es_tree.specs.Ancestors.{Ancestor, ancestor}
-use Rattle.es_tree.specs.Constructs.{any_kind, field_at, has_member, is_object_rest, is_rest}
+use Rattle.es_tree.specs.Constructs.{any_kind, field_at, has_member, is_rest}
 use Rattle.es_tree.specs.Names.{has_computed}
 use Rattle.es_tree.specs.Tree.{Tree, node, Label, Fields, done, ◌then◌, Field, missing, one, many, statements, Trees, empty, ◌before◌, kind_of}
 use Rattle.es_tree.specs.declared.ast_type.AstType.{AstType}
-use Rattle.es_tree.specs.declared.ast_type.AstType.TheVariants.{BigIntLiteral, ExportNamedDeclaration, Identifier, NumericLiteral, ObjectPattern, ObjectTarget, PatternProperty, RestElement, StringLiteral, TemplateElement, TemplateLiteral, VariableDeclaration, VariableDeclarator}
+use Rattle.es_tree.specs.declared.ast_type.AstType.TheVariants.{AssignmentPattern, BigIntLiteral, ExportNamedDeclaration, Identifier, NumericLiteral, ObjectPattern, ObjectTarget, PatternProperty, RestElement, StringLiteral, TemplateElement, TemplateLiteral, VariableDeclaration, VariableDeclarator}
 use Rattle.es_steps.specs.Nodes.{joined_trees}
-use Rattle.es_steps.specs.Open.{is_body}
 use Rattle.es_steps.specs.Slots.{is_in_parameter, is_slot}
 use Rattle.es_reached.proofs.FreeTrees.{Free, FreeAll, neither}
-use Rattle.es_rest_shapes.specs.RestShapes.{any_child, any_child_by, any_tree, declares_rest, ends_in_rest, is_known_key, is_misplaced, is_name, is_named_rest, is_odd_pattern, is_plain_key, is_plain_pattern, is_plain_property, is_rest_declaration, is_rest_declarator, is_rest_pattern, is_stray_rest, template_text}
+use Rattle.es_rest_shapes.specs.RestShapes.{any_beside, any_child, any_child_by, any_tree, are_plain_members, are_plain_parts, bears_among, bears_by, bears_first, bears_rest, bears_second, declares_rest, is_known_key, is_misplaced, is_name, is_named_rest, is_odd_pattern, is_plain_first, is_plain_key, is_plain_pattern, is_plain_property, is_plain_target, is_plain_value, is_rest_declaration, is_rest_declarator, is_stray_rest, template_text}
 use Rattle.es_rest_rows.proofs.Changes.{is_body_place}
 use Rattle.es_rest_rows.proofs.StrayNodes.{Mark, passes, is_acting, is_text_element, acting-element, acting-named, acting-property}
 use Rattle.es_rest_rows.proofs.StrayNodes.Mark.{a_declaration, a_declarator, a_pattern, a_rest, a_stray, an_export}
@@ -24,6 +23,8 @@ use Rattle.es_rest_rows.proofs.WholeLists.{joined-none}
 pub record LikeOne (up : List Ancestor) (t u : Tree) : Type 0 where
   pub marks : (m : Mark) → passes m t ≡ false → passes m u ≡ false
   pub odd : is_odd_pattern t ≡ false → is_odd_pattern u ≡ false
+  pub value : is_plain_value t ≡ true → is_plain_value u ≡ true
+  pub target : is_plain_target t ≡ true → is_plain_target u ≡ true
   pub fixed : is_slot up ≡ false → is_name t ≡ false
   pub known : is_slot up ≡ false → is_body_place up ≡ false → is_known_key t ≡ true → is_known_key u ≡ true
 
@@ -76,18 +77,23 @@ in-marks m (later_like {f = f} {fs = fs} {gs = gs} h) e = neither (any_child_by 
 
 -- properties and a rest, outside slots
 
-ends-more : (t : Tree) (us : Trees) → is_plain_property t ≡ true → ends_in_rest us ≡ true → ends_in_rest (t before us) ≡ true
-ends-more t empty e f = absurd (true≢false (sym f))
-ends-more t (u before us) e f = and_from (is_plain_property t) (ends_in_rest (u before us)) e f
+either : (a b c d : Bool) → (a ≡ true → c ≡ true) → (b ≡ true → d ≡ true) → (a || b) ≡ true → (c || d) ≡ true
+either true b c d f g e = or_left c d (f refl)
+either false b true d f g e = refl
+either false b false d f g e = g e
 
-all-ends : {up : List Ancestor} {ts us : Trees} → is_slot up ≡ false → LikeAll up ts us → ends_in_rest ts ≡ true → ends_in_rest us ≡ true
-all-ends out (head_like {ts = empty} h) e = h.named out e
-all-ends out (head_like {t = t} {u = u} {ts = x before xs} h) e = let k = and_parts (is_plain_property t) (ends_in_rest (x before xs)) e in and_from (is_plain_property u) (ends_in_rest (x before xs)) (h.property out k.0) k.1
-all-ends out (tail_like {ts = empty} equal_trees) e = e
-all-ends out (tail_like {t = t} {ts = x before xs} {us = us} h) e = let k = and_parts (is_plain_property t) (ends_in_rest (x before xs)) e in ends-more t us k.0 (all-ends out h k.1)
-all-ends out (beside_like {t = t} {ts = empty} h) e = absurd (true≢false (sym e ∙ acting-named t h.source))
-all-ends out (beside_like {t = t} {ts = x before xs} h) e = absurd (true≢false (sym (and_parts (is_plain_property t) (ends_in_rest (x before xs)) e).0 ∙ acting-property t h.source))
-all-ends out equal_trees e = e
+members-more : (t : Tree) (us : Trees) → is_plain_property t ≡ true → are_plain_members us ≡ true → are_plain_members (t before us) ≡ true
+members-more t empty e f = or_left (is_plain_property t) (is_named_rest t) e
+members-more t (u before us) e f = and_from (is_plain_property t) (are_plain_members (u before us)) e f
+
+all-members : {up : List Ancestor} {ts us : Trees} → is_slot up ≡ false → LikeAll up ts us → are_plain_members ts ≡ true → are_plain_members us ≡ true
+all-members out (head_like {t = t} {u = u} {ts = empty} h) e = either (is_plain_property t) (is_named_rest t) (is_plain_property u) (is_named_rest u) (h.property out) (h.named out) e
+all-members out (head_like {t = t} {u = u} {ts = x before xs} h) e = let k = and_parts (is_plain_property t) (are_plain_members (x before xs)) e in and_from (is_plain_property u) (are_plain_members (x before xs)) (h.property out k.0) k.1
+all-members out (tail_like {ts = empty} equal_trees) e = e
+all-members out (tail_like {t = t} {ts = x before xs} {us = us} h) e = let k = and_parts (is_plain_property t) (are_plain_members (x before xs)) e in members-more t us k.0 (all-members out h k.1)
+all-members out (beside_like {t = t} {ts = empty} h) e = absurd (true≢false (sym e ∙ or_from (is_plain_property t) (is_named_rest t) (acting-property t h.source) (acting-named t h.source)))
+all-members out (beside_like {t = t} {ts = x before xs} h) e = absurd (true≢false (sym (and_parts (is_plain_property t) (are_plain_members (x before xs)) e).0 ∙ acting-property t h.source))
+all-members out equal_trees e = e
 
 -- MARKS of a node in whose fields something changed
 
@@ -102,8 +108,28 @@ members-like (first_like (statements_like h)) e = refl
 members-like (first_like equal_field) e = e
 members-like (later_like h) e = e
 
-pattern-like : {c : ℕ → List Ancestor} (k : AstType) (l : Label) {fs gs : Fields} → LikeIn c fs gs → is_object_rest k l fs ≡ false → is_object_rest k l gs ≡ false
-pattern-like ObjectPattern l h e = members-like h e
+bears-all : (ts : Trees) → bears_among ts ≡ any_tree bears_rest ts
+bears-all empty = refl
+bears-all (t before ts) = ap (λ b. bears_rest t || b) (bears-all ts)
+
+bears-one : (f : Field) → bears_by f ≡ any_child_by bears_rest f
+bears-one missing = refl
+bears-one (one t) = refl
+bears-one (many ts) = bears-all ts
+bears-one (statements ts) = bears-all ts
+
+bears-like : {c : ℕ → List Ancestor} {fs gs : Fields} → LikeIn c fs gs → bears_first fs ≡ false → bears_first gs ≡ false
+bears-like (first_like {f = f} {g = g} h) e = bears-one g ∙ by-marks a_pattern h (sym (bears-one f) ∙ e)
+bears-like (later_like h) e = e
+
+second-like : {c : ℕ → List Ancestor} {fs gs : Fields} → LikeIn c fs gs → bears_second fs ≡ false → bears_second gs ≡ false
+second-like (first_like h) e = e
+second-like (later_like h) e = bears-like h e
+
+pattern-like : {c : ℕ → List Ancestor} (k : AstType) (l : Label) {fs gs : Fields} → LikeIn c fs gs → bears_rest (node k l fs) ≡ false → bears_rest (node k l gs) ≡ false
+pattern-like ObjectPattern l {fs} {gs} h e = neither (has_member is_rest (field_at 0 fs)) (bears_first fs) (has_member is_rest (field_at 0 gs)) (bears_first gs) (members-like h) (bears-like h) e
+pattern-like PatternProperty l h e = second-like h e
+pattern-like AssignmentPattern l h e = bears-like h e
 pattern-like ObjectTarget l h e = members-like h e
 pattern-like _ l h e = refl
 
@@ -136,7 +162,7 @@ declaration-like VariableDeclaration l h e = first-declarators l h e
 declaration-like _ l h e = refl
 
 stray-mark : {c : ℕ → List Ancestor} (k : AstType) (l : Label) {fs gs : Fields} → LikeIn c fs gs → is_misplaced (node k l fs) ≡ false → is_misplaced (node k l gs) ≡ false
-stray-mark k l {fs} {gs} h e = neither (is_rest_pattern (node k l fs)) (is_rest_declarator (node k l fs)) (is_rest_pattern (node k l gs)) (is_rest_declarator (node k l gs)) (pattern-like k l h) (declarator-like k l h) e
+stray-mark k l {fs} {gs} h e = neither (bears_rest (node k l fs)) (is_rest_declarator (node k l fs)) (bears_rest (node k l gs)) (is_rest_declarator (node k l gs)) (pattern-like k l h) (declarator-like k l h) e
 
 node-marks : {c : ℕ → List Ancestor} (k : AstType) (l : Label) {fs gs : Fields} → LikeIn c fs gs → (m : Mark) → passes m (node k l fs) ≡ false → passes m (node k l gs) ≡ false
 node-marks k l h a_pattern e = pattern-like k l h e
@@ -212,9 +238,13 @@ module _ (all : Fields) (up : List Ancestor) where
   property-like : (l : Label) (fs gs : Fields) → LikeIn (places PatternProperty l) fs gs → is_plain_property (node PatternProperty l fs) ≡ true → is_plain_property (node PatternProperty l gs) ≡ true
   property-like l (one k then one v then done) gs (first_like (one_like {u = u} h)) e =
       let computed = has_computed PatternProperty l.flags in
-      key-stays computed k u (λ c. h.known (and_left computed (is_in_parameter up) c) refl) e
+      let p = and_parts (is_plain_key computed k) (is_plain_value v) e in
+      and_from (is_plain_key computed u) (is_plain_value v) (key-stays computed k u (λ c. h.known (and_left computed (is_in_parameter up) c) refl) p.0) p.1
   property-like l (one k then one v then done) gs (first_like equal_field) e = e
-  property-like l (one k then one v then done) gs (later_like (first_like (one_like h))) e = e
+  property-like l (one k then one v then done) gs (later_like (first_like (one_like {u = u} h))) e =
+      let computed = has_computed PatternProperty l.flags in
+      let p = and_parts (is_plain_key computed k) (is_plain_value v) e in
+      and_from (is_plain_key computed k) (is_plain_value u) p.0 (h.value p.1)
   property-like l (one k then one v then done) gs (later_like (first_like equal_field)) e = e
   property-like l (one k then one v then done) gs (later_like (later_like h)) e = elim h [ ]
   property-like l (one k then one v then f then fs) gs h e = absurd (true≢false (sym e))
@@ -237,19 +267,57 @@ module _ (all : Fields) (up : List Ancestor) where
   named-like l (statements ts then fs) gs h e = absurd (true≢false (sym e))
   named-like l done gs h e = absurd (true≢false (sym e))
 
-  plain-like : (l : Label) (fs gs : Fields) → LikeIn (places ObjectPattern l) fs gs → is_plain_pattern (node ObjectPattern l fs) ≡ true → is_plain_pattern (node ObjectPattern l gs) ≡ true
-  plain-like l (many ps then done) gs (first_like (many_like h)) e = all-ends refl h e
-  plain-like l (many ps then done) gs (first_like equal_field) e = e
-  plain-like l (many ps then done) gs (later_like h) e = elim h [ ]
-  plain-like l (many ps then f then fs) gs h e = absurd (true≢false (sym e))
-  plain-like l (missing then fs) gs h e = absurd (true≢false (sym e))
-  plain-like l (one t then fs) gs h e = absurd (true≢false (sym e))
-  plain-like l (statements ts then fs) gs h e = absurd (true≢false (sym e))
-  plain-like l done gs h e = absurd (true≢false (sym e))
+  parts-like : {c : ℕ → List Ancestor} (fs gs : Fields) → is_slot (c zero) ≡ false → LikeIn c fs gs → are_plain_parts fs ≡ true → are_plain_parts gs ≡ true
+  parts-like (many ps then done) gs out (first_like (many_like h)) e = all-members out h e
+  parts-like (many ps then done) gs out (first_like equal_field) e = e
+  parts-like (many ps then done) gs out (later_like h) e = elim h [ ]
+  parts-like (many ps then f then fs) gs out h e = absurd (true≢false (sym e))
+  parts-like (missing then fs) gs out h e = absurd (true≢false (sym e))
+  parts-like (one t then fs) gs out h e = absurd (true≢false (sym e))
+  parts-like (statements ts then fs) gs out h e = absurd (true≢false (sym e))
+  parts-like done gs out h e = absurd (true≢false (sym e))
 
-  plain-node : (k : AstType) (l : Label) (fs gs : Fields) → LikeIn (places k l) fs gs → is_plain_pattern (node k l fs) ≡ true → is_plain_pattern (node k l gs) ≡ true
-  plain-node ObjectPattern l fs gs h e = plain-like l fs gs h e
-  plain-node _ l fs gs h e = absurd (true≢false (sym e))
+  target-like : {c : ℕ → List Ancestor} (fs gs : Fields) → LikeIn c fs gs → is_plain_first fs ≡ true → is_plain_first gs ≡ true
+  target-like (one p then one d then done) gs (first_like (one_like h)) e = h.target e
+  target-like (one p then one d then done) gs (first_like equal_field) e = e
+  target-like (one p then one d then done) gs (later_like (first_like (one_like h))) e = e
+  target-like (one p then one d then done) gs (later_like (first_like equal_field)) e = e
+  target-like (one p then one d then done) gs (later_like (later_like h)) e = elim h [ ]
+  target-like (one p then one d then f then fs) gs h e = absurd (true≢false (sym e))
+  target-like (one p then missing then fs) gs h e = absurd (true≢false (sym e))
+  target-like (one p then many ts then fs) gs h e = absurd (true≢false (sym e))
+  target-like (one p then statements ts then fs) gs h e = absurd (true≢false (sym e))
+  target-like (one p then done) gs h e = absurd (true≢false (sym e))
+  target-like (missing then fs) gs h e = absurd (true≢false (sym e))
+  target-like (many ts then fs) gs h e = absurd (true≢false (sym e))
+  target-like (statements ts then fs) gs h e = absurd (true≢false (sym e))
+  target-like done gs h e = absurd (true≢false (sym e))
+
+  none-more : (a b : Bool) → (a ≡ false → b ≡ false) → not a ≡ true → not b ≡ true
+  none-more true b f e = absurd (true≢false (sym e))
+  none-more false b f e = ap not (f refl)
+
+  quiet-node : (k : AstType) (l : Label) (fs gs : Fields) → LikeIn (places k l) fs gs → not (bears_rest (node k l fs)) ≡ true → not (bears_rest (node k l gs)) ≡ true
+  quiet-node k l fs gs h = none-more (bears_rest (node k l fs)) (bears_rest (node k l gs)) (pattern-like k l h)
+
+  value-node : (k : AstType) (l : Label) (fs gs : Fields) → LikeIn (places k l) fs gs → is_plain_value (node k l fs) ≡ true → is_plain_value (node k l gs) ≡ true
+  value-node ObjectPattern l fs gs h e = parts-like fs gs refl h e
+  value-node AssignmentPattern l fs gs h e = target-like fs gs h e
+  value-node PatternProperty l fs gs h e = quiet-node PatternProperty l fs gs h e
+  value-node ObjectTarget l fs gs h e = quiet-node ObjectTarget l fs gs h e
+  value-node _ l fs gs h e = refl
+
+  target-node : (k : AstType) (l : Label) (fs gs : Fields) → LikeIn (places k l) fs gs → is_plain_target (node k l fs) ≡ true → is_plain_target (node k l gs) ≡ true
+  target-node ObjectPattern l fs gs h e = parts-like fs gs refl h e
+  target-node AssignmentPattern l fs gs h e = quiet-node AssignmentPattern l fs gs h e
+  target-node PatternProperty l fs gs h e = quiet-node PatternProperty l fs gs h e
+  target-node ObjectTarget l fs gs h e = quiet-node ObjectTarget l fs gs h e
+  target-node _ l fs gs h e = refl
+
+  -- a plain pattern that bears a rest still is one
+  plain-node : (k : AstType) (l : Label) (fs gs : Fields) → LikeIn (places k l) fs gs → is_plain_pattern (node k l fs) ≡ true → bears_rest (node k l gs) ≡ true → is_plain_pattern (node k l gs) ≡ true
+  plain-node ObjectPattern l fs gs h e b = and_from (bears_rest (node ObjectPattern l gs)) (are_plain_parts gs) b (parts-like fs gs refl h (and_parts (bears_rest (node ObjectPattern l fs)) (are_plain_parts fs) e).1)
+  plain-node _ l fs gs h e b = absurd (true≢false (sym e))
 
   property-node : (k : AstType) (l : Label) (fs gs : Fields) → LikeIn (places k l) fs gs → is_plain_property (node k l fs) ≡ true → is_plain_property (node k l gs) ≡ true
   property-node PatternProperty l fs gs h e = property-like l fs gs h e
@@ -275,16 +343,19 @@ module _ (all : Fields) (up : List Ancestor) where
   element-node TemplateElement l fs gs e = e
   element-node _ l fs gs e = absurd (true≢false (sym e))
 
-  odd-bools : (a p d x y z : Bool) → (a ≡ false → x ≡ false) → (p ≡ true → y ≡ true) → (d ≡ false → z ≡ false) → ((a && not p) || d) ≡ false → ((x && not y) || z) ≡ false
+  odd-bools : (a p d x y z : Bool) → (a ≡ false → x ≡ false) → (p ≡ true → x ≡ true → y ≡ true) → (d ≡ false → z ≡ false) → ((a && not p) || d) ≡ false → ((x && not y) || z) ≡ false
   odd-bools false p d x y z f g h e = or_from (x && not y) z (and_left x (not y) (f refl)) (h e)
-  odd-bools true p d x y z f g h e = let k = or_parts (not p) d e in or_from (x && not y) z (and_right x (not y) (ap (λ v. not v) (g (so p k.0)))) (h k.1)
+  odd-bools true p d true y z f g h e = let k = or_parts (not p) d e in or_from (not y) z (ap not (g (so p k.0) refl)) (h k.1)
+  odd-bools true p d false y z f g h e = h (or_parts (not p) d e).1
 
   -- A NODE in whose fields something changed is alike, wherever it stands
   pub node-like : (k : AstType) (l : Label) (fs gs : Fields) → LikeIn (places k l) fs gs → Like up (node k l fs) (node k l gs)
   node-like k l fs gs h = record {
     alone = record {
       marks = node-marks k l h;
-      odd = odd-bools (is_rest_pattern (node k l fs)) (is_plain_pattern (node k l fs)) (is_rest_declarator (node k l fs)) (is_rest_pattern (node k l gs)) (is_plain_pattern (node k l gs)) (is_rest_declarator (node k l gs)) (pattern-like k l h) (plain-node k l fs gs h) (declarator-like k l h);
+      odd = odd-bools (bears_rest (node k l fs)) (is_plain_pattern (node k l fs)) (is_rest_declarator (node k l fs)) (bears_rest (node k l gs)) (is_plain_pattern (node k l gs)) (is_rest_declarator (node k l gs)) (pattern-like k l h) (plain-node k l fs gs h) (declarator-like k l h);
+      value = value-node k l fs gs h;
+      target = target-node k l fs gs h;
       fixed = λ out. no-name k l h;
       known = λ out place. known-node k l h;
     };
@@ -332,15 +403,56 @@ module _ (all : Fields) (up : List Ancestor) where
   declaration-stray l (later_like {f = one t} h) k e = k e
   declaration-stray l (later_like {f = statements ts} h) k e = k e
 
+  beside-stray : {c : ℕ → List Ancestor} {fs gs : Fields} → LikeIn c fs gs → any_beside fs ≡ false → any_beside gs ≡ false
+  beside-stray (first_like {f = f} {g = g} {fs = fs} h) e = neither (any_child_by is_rest_declarator f) (any_child is_misplaced fs) (any_child_by is_rest_declarator g) (any_child is_misplaced fs) (by-marks a_declarator h) (λ x. x) e
+  beside-stray (later_like {f = f} {fs = fs} {gs = gs} h) e = neither (any_child_by is_rest_declarator f) (any_child is_misplaced fs) (any_child_by is_rest_declarator f) (any_child is_misplaced gs) (λ x. x) (in-marks a_stray h) e
+
+  property-stray : {c : ℕ → List Ancestor} (l : Label) {fs gs : Fields} → LikeIn c fs gs → is_stray_rest PatternProperty l fs ≡ false → is_stray_rest PatternProperty l gs ≡ false
+  property-stray l (first_like {f = f} {g = g} {fs = fs} h) e = neither (any_child_by is_misplaced f) (any_beside fs) (any_child_by is_misplaced g) (any_beside fs) (by-marks a_stray h) (λ x. x) e
+  property-stray l (later_like {f = f} {fs = fs} {gs = gs} h) e = neither (any_child_by is_misplaced f) (any_beside fs) (any_child_by is_misplaced f) (any_beside gs) (λ x. x) (beside-stray h) e
+
   pub stray-like : (k : AstType) (l : Label) {fs gs : Fields} → LikeIn (places all up k l) fs gs → is_stray_rest k l fs ≡ false → is_stray_rest k l gs ≡ false
   stray-like VariableDeclarator l h e = declarator-stray l h (in-marks a_stray h) e
   stray-like VariableDeclaration l h e = declaration-stray l h (in-marks a_stray h) e
   stray-like ExportNamedDeclaration l h e = in-marks an_export h e
+  stray-like ObjectPattern l h e = beside-stray h e
+  stray-like PatternProperty l h e = property-stray l h e
+  stray-like AssignmentPattern l h e = beside-stray h e
   stray-like _ l h e = in-marks a_stray h e
 
 -- what stands in a slot, or as the body of an arrow, is at its place
-pub inside-placed : (all : Fields) (up : List Ancestor) (k : AstType) (l : Label) (fs : Fields) (i : ℕ) → (is_slot (ancestor k l all i 0 ∷ up) || is_body k i) ≡ true → is_stray_rest k l fs ≡ false → any_child is_misplaced fs ≡ false
-inside-placed all up VariableDeclarator l fs i h e = absurd (true≢false (sym h))
-inside-placed all up VariableDeclaration l fs i h e = absurd (true≢false (sym h))
-inside-placed all up ExportNamedDeclaration l fs i h e = absurd (true≢false (sym h))
-inside-placed all up _ l fs i h e = e
+
+abbrev pub is_inside : List Ancestor → Bool
+is_inside up = is_slot up || is_body_place up
+
+-- in the field of this number
+abbrev pub placed_at : ℕ → Fields → Bool
+placed_at i fs = any_child_by is_misplaced (field_at i fs)
+
+placed-each : (i : ℕ) (fs : Fields) → any_child is_misplaced fs ≡ false → placed_at i fs ≡ false
+placed-each i done e = refl
+placed-each zero (f then fs) e = (or_parts (any_child_by is_misplaced f) (any_child is_misplaced fs) e).0
+placed-each (suc i) (f then fs) e = placed-each i fs (or_parts (any_child_by is_misplaced f) (any_child is_misplaced fs) e).1
+
+not-first : (i : ℕ) → (suc i == 0) ≡ false
+not-first i = ne_eqb (suc i) 0 (λ d. omega (arith, d))
+
+module _ (all : Fields) (up : List Ancestor) where
+  key-placed : (l : Label) (fs : Fields) (i : ℕ) → is_inside (places all up PatternProperty l i) ≡ true → is_stray_rest PatternProperty l fs ≡ false → placed_at i fs ≡ false
+  key-placed l done i h e = refl
+  key-placed l (k then fs) zero h e = (or_parts (any_child_by is_misplaced k) (any_beside fs) e).0
+  key-placed l (k then fs) (suc i) h e = absurd (true≢false (sym h ∙ ap (λ b. ((b && has_computed PatternProperty l.flags) && is_in_parameter up) || false) (not-first i)))
+
+  default-placed : (l : Label) (fs : Fields) (i : ℕ) → is_inside (places all up AssignmentPattern l i) ≡ true → is_stray_rest AssignmentPattern l fs ≡ false → placed_at i fs ≡ false
+  default-placed l done i h e = refl
+  default-placed l (f then fs) zero h e = absurd (true≢false (sym h))
+  default-placed l (f then fs) (suc i) h e = placed-each i fs (or_parts (any_child_by is_rest_declarator f) (any_child is_misplaced fs) e).1
+
+  pub inside-placed : (k : AstType) (l : Label) (fs : Fields) (i : ℕ) → is_inside (places all up k l i) ≡ true → is_stray_rest k l fs ≡ false → placed_at i fs ≡ false
+  inside-placed VariableDeclarator l fs i h e = absurd (true≢false (sym h))
+  inside-placed VariableDeclaration l fs i h e = absurd (true≢false (sym h))
+  inside-placed ExportNamedDeclaration l fs i h e = absurd (true≢false (sym h))
+  inside-placed ObjectPattern l fs i h e = absurd (true≢false (sym h))
+  inside-placed PatternProperty l fs i h e = key-placed l fs i h e
+  inside-placed AssignmentPattern l fs i h e = default-placed l fs i h e
+  inside-placed _ l fs i h e = placed-each i fs e

@@ -6,10 +6,10 @@ use Rattle.es_tree.specs.Constructs.{is_rest}
 use Rattle.es_tree.specs.Parens.{without_parens}
 use Rattle.es_tree.specs.Tree.{Tree, node, Label, Fields, done, ◌then◌, Field, missing, one, many, statements, Trees, empty, ◌before◌, kind_of, trees}
 use Rattle.es_tree.specs.declared.ast_type.AstType.{AstType}
-use Rattle.es_tree.specs.declared.ast_type.AstType.TheVariants.{BigIntLiteral, ExportNamedDeclaration, Identifier, NumericLiteral, ObjectPattern, ObjectTarget, ParenthesizedExpression, PatternProperty, RestElement, StringLiteral, TargetRest, TemplateElement, TemplateLiteral, VariableDeclaration, VariableDeclarator}
+use Rattle.es_tree.specs.declared.ast_type.AstType.TheVariants.{AssignmentPattern, BigIntLiteral, ExportNamedDeclaration, Identifier, NumericLiteral, ObjectPattern, ObjectTarget, ParenthesizedExpression, PatternProperty, RestElement, StringLiteral, TargetRest, TemplateElement, TemplateLiteral, VariableDeclaration, VariableDeclarator}
 use Rattle.es_steps.specs.Nodes.{placed}
 use Rattle.es_reached.proofs.FreeTrees.{Free, FreeAll, FreeBy, FreeIn}
-use Rattle.es_rest_shapes.specs.RestShapes.{any_child, any_child_by, any_tree, declares_rest, is_known_key, is_misplaced, is_name, is_named_rest, is_plain_property, is_rest_declarator, is_rest_pattern, is_stray_rest, second_text}
+use Rattle.es_rest_shapes.specs.RestShapes.{any_child, any_child_by, any_tree, bears_rest, declares_rest, is_known_key, is_misplaced, is_name, is_named_rest, is_plain_property, is_plain_target, is_plain_value, is_rest_declarator, is_stray_rest, second_text}
 
 -- MARKS: what a node may be, as far as those around it see
 
@@ -22,7 +22,7 @@ pub data Mark : Type 0 where
   an_export : Mark
 
 abbrev pub passes : Mark → Tree → Bool
-passes a_pattern = is_rest_pattern
+passes a_pattern = bears_rest
 passes a_declarator = is_rest_declarator
 passes a_declaration = declares_rest
 passes a_rest = λ t. is_rest (kind_of t)
@@ -31,6 +31,7 @@ passes an_export = λ t. is_misplaced t || declares_rest t
 
 -- kinds of nodes that are none of this, and hold no child that is misplaced
 abbrev pub is_ordinary : AstType → Bool
+is_ordinary AssignmentPattern = false
 is_ordinary ExportNamedDeclaration = false
 is_ordinary ObjectPattern = false
 is_ordinary ObjectTarget = false
@@ -42,6 +43,7 @@ is_ordinary VariableDeclarator = false
 is_ordinary _ = true
 
 pub ordinary-marks : (m : Mark) (k : AstType) (l : Label) (fs : Fields) → is_ordinary k ≡ true → passes m (node k l fs) ≡ false
+ordinary-marks m AssignmentPattern l fs e = absurd (cc e)
 ordinary-marks m ExportNamedDeclaration l fs e = absurd (cc e)
 ordinary-marks m ObjectPattern l fs e = absurd (cc e)
 ordinary-marks m ObjectTarget l fs e = absurd (cc e)
@@ -58,10 +60,21 @@ ordinary-marks a_stray _ l fs e = refl
 ordinary-marks an_export _ l fs e = refl
 
 ordinary-stray : (k : AstType) (l : Label) (fs : Fields) → is_ordinary k ≡ true → is_stray_rest k l fs ≡ any_child is_misplaced fs
+ordinary-stray AssignmentPattern l fs e = absurd (cc e)
 ordinary-stray ExportNamedDeclaration l fs e = absurd (cc e)
+ordinary-stray ObjectPattern l fs e = absurd (cc e)
+ordinary-stray PatternProperty l fs e = absurd (cc e)
 ordinary-stray VariableDeclaration l fs e = absurd (cc e)
 ordinary-stray VariableDeclarator l fs e = absurd (cc e)
 ordinary-stray _ l fs e = refl
+
+-- in a property they are plain
+pub ordinary-plain : (k : AstType) (l : Label) (fs : Fields) → is_ordinary k ≡ true → (is_plain_value (node k l fs) ≡ true) × (is_plain_target (node k l fs) ≡ true)
+ordinary-plain AssignmentPattern l fs e = absurd (cc e)
+ordinary-plain ObjectPattern l fs e = absurd (cc e)
+ordinary-plain ObjectTarget l fs e = absurd (cc e)
+ordinary-plain PatternProperty l fs e = absurd (cc e)
+ordinary-plain _ l fs e = (refl, refl)
 
 -- kinds of nodes on which rows act: no key whose text stands in the program, no property and no rest among them
 abbrev pub is_acting : AstType → Bool

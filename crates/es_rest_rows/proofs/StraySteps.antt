@@ -1,6 +1,6 @@
 -- Steps of the built rules bring no pattern with a rest where it isn't lowered.
 use Rattle.std.proofs.Common.{◌≡◌, ◌∙◌, ℕ, zero, suc, refl, sym, ap, subst, true≢false, List, [], ◌∷◌, ◌++◌}
-use Rattle.std.specs.Prelude.{Bool, true, false, ◌&&◌, ◌||◌, not, map, codes}
+use Rattle.std.specs.Prelude.{true, false, ◌&&◌, ◌||◌, not, map, codes}
 use Rattle.std.proofs.lemmas.Bool.{and_left, or_from, or_parts, or_right}
 use Rattle.es_tree.specs.Ancestors.{Ancestor}
 use Rattle.es_tree.specs.Tree.{Tree, node, Label, Fields, Field, Trees, empty, ◌before◌, trees}
@@ -14,7 +14,7 @@ use Rattle.es_steps.proofs.Opened.{finished-opened}
 use Rattle.es_reached.specs.Reached.{built_rules}
 use Rattle.es_reached.proofs.FreeTrees.{Free, FreeAll, FreeBy, FreeIn, append-free, free, joined-free, none}
 use Rattle.es_reached.proofs.Sources.{law_bare_source_proof}
-use Rattle.es_rest_shapes.specs.RestShapes.{any_child, any_child_by, any_tree, is_misplaced, is_name, is_plain_pattern, is_rest_declarator, is_rest_pattern, is_stray_rest}
+use Rattle.es_rest_shapes.specs.RestShapes.{any_child_by, any_tree, bears_rest, is_misplaced, is_name, is_plain_pattern, is_plain_target, is_plain_value, is_rest_declarator, is_stray_rest}
 use Rattle.es_rest_shapes.proofs.BareRests.{law_bare_rests_proof}
 use Rattle.es_rest_rows.specs.Laws.{LawStraysNotMade}
 use Rattle.es_rest_rows.proofs.Changes.{Changed, ChangedAll, ChangedBy, ChangedIn, in-a-row, is_body_place, opened-proper}
@@ -22,11 +22,11 @@ use Rattle.es_rest_rows.proofs.Changes.Changed.{here, within}
 use Rattle.es_rest_rows.proofs.Changes.ChangedIn.{first, later}
 use Rattle.es_rest_rows.proofs.Changes.ChangedBy.{of_body, of_list, of_many, of_one, same_field}
 use Rattle.es_rest_rows.proofs.Changes.ChangedAll.{beside, head, same_trees, tail}
-use Rattle.es_rest_rows.proofs.StrayLikes.{Besides, Like, LikeAll, LikeBy, LikeIn, LikeOne, all-marks, inside-placed, node-like, stray-like}
+use Rattle.es_rest_rows.proofs.StrayLikes.{Besides, Like, LikeAll, LikeBy, LikeIn, LikeOne, all-marks, inside-placed, is_inside, node-like, placed_at, stray-like}
 use Rattle.es_rest_rows.proofs.StrayLikes.LikeAll.{beside_like, equal_trees, head_like, tail_like}
 use Rattle.es_rest_rows.proofs.StrayLikes.LikeBy.{equal_field, many_like, one_like, statements_like}
 use Rattle.es_rest_rows.proofs.StrayLikes.LikeIn.{first_like, later_like}
-use Rattle.es_rest_rows.proofs.StrayNodes.{Clean, Mark, Replaced, Sound, SoundAll, above, acting-element, acting-key, acting-name, acting-named, acting-property, below, ordinary-marks, passes}
+use Rattle.es_rest_rows.proofs.StrayNodes.{Clean, Mark, Replaced, Sound, SoundAll, above, acting-element, acting-key, acting-name, acting-named, acting-property, below, ordinary-marks, ordinary-plain, passes}
 use Rattle.es_rest_rows.proofs.StrayNodes.Mark.{a_declaration, a_declarator, a_pattern, a_rest, a_stray, an_export}
 use Rattle.es_rest_rows.proofs.StrayRules.{Acted, built-changes}
 use Rattle.es_rest_rows.proofs.WholeLists.{Each, Grows, body-each, declaring, each-free, each-list, each-none, free-each, list-each, more-none, none-each}
@@ -65,7 +65,7 @@ declarators-free [] = tt
 declarators-free (b ∷ bs) = ((refl, ((refl, tt), (tt, tt))), declarators-free bs)
 
 more-free : (l : Label) (ds : List Tree) (bs : List Bound) → Free is_stray_rest (declaring l ds) → Free is_stray_rest (declaring l (ds ++ map declarator bs))
-more-free l ds bs h = (more-none is_rest_pattern (λ b. refl) ds bs h.0, (append-free is_stray_rest ds (map declarator bs) h.1.0 (declarators-free bs), tt))
+more-free l ds bs h = (more-none bears_rest (λ b. refl) ds bs h.0, (append-free is_stray_rest ds (map declarator bs) h.1.0 (declarators-free bs), tt))
 
 this-free : (b : Bound) → Free is_stray_rest (this_statement b)
 this-free b = (refl, (((refl, ((refl, tt), ((refl, tt), tt))), tt), tt))
@@ -121,7 +121,7 @@ body-free (v ∷ vs) ls bs t u k h d = sound-body (body_statements ((v ∷ vs) +
 
 module _ {up : List Ancestor} where
   whole-body : (t : Tree) (l : Label) (fs : Fields) → is_body_place up ≡ true → (is_slot up ≡ false → is_name t ≡ false) → LikeOne up t (node FunctionBody l fs)
-  whole-body t l fs place f = record { marks = λ m e. ordinary-marks m FunctionBody l fs refl; odd = λ e. refl; fixed = f; known = λ out elsewhere e. absurd (true≢false (sym place ∙ elsewhere)) }
+  whole-body t l fs place f = record { marks = λ m e. ordinary-marks m FunctionBody l fs refl; odd = λ e. refl; value = λ e. refl; target = λ e. refl; fixed = f; known = λ out elsewhere e. absurd (true≢false (sym place ∙ elsewhere)) }
 
   body-like : (vs ls : List Tree) (bs : List Bound) (t u : Tree) → is_body_place up ≡ true → LikeOne up t u → LikeOne up (body_with vs ls t) (body_with (vs ++ map declarator bs) ls u)
   body-like [] [] [] t u place h = h
@@ -152,13 +152,18 @@ record KeptAll (up : List Ancestor) (ts us : Trees) : Type 0 where
 replaced-marks : (u : Tree) → Replaced u → (m : Mark) → passes m u ≡ false
 replaced-marks (node k l fs) h m = ordinary-marks m k l fs h.ordinary
 
+replaced-plain : (u : Tree) → Replaced u → (is_plain_value u ≡ true) × (is_plain_target u ≡ true)
+replaced-plain (node k l fs) h = ordinary-plain k l fs h.ordinary
+
 acted : (up : List Ancestor) (t u : Tree) → Acted up t u → Replaced u → Kept up t u
 acted up t u a r = record {
   free = r.sound.free.nodes;
   like = record {
     alone = record {
       marks = λ m e. replaced-marks u r m;
-      odd = λ e. or_from (is_rest_pattern u && not (is_plain_pattern u)) (is_rest_declarator u) (and_left (is_rest_pattern u) (not (is_plain_pattern u)) (replaced-marks u r a_pattern)) (replaced-marks u r a_declarator);
+      odd = λ e. or_from (bears_rest u && not (is_plain_pattern u)) (is_rest_declarator u) (and_left (bears_rest u) (not (is_plain_pattern u)) (replaced-marks u r a_pattern)) (replaced-marks u r a_declarator);
+      value = λ e. (replaced-plain u r).0;
+      target = λ e. (replaced-plain u r).1;
       fixed = λ out. acting-name t (a.source out);
       known = λ out place e. absurd (true≢false (sym e ∙ acting-key t (a.source out)));
     };
@@ -171,9 +176,6 @@ acted up t u a r = record {
 abbrev Changes : List Ancestor → Tree → Tree → Type 0
 Changes = Changed Acted Besides (λ bs. Unit {0})
 
-abbrev is_inside : List Ancestor → Bool
-is_inside up = is_slot up || is_body_place up
-
 mutual
   kept : {up : List Ancestor} {t u : Tree} → Changes up t u → Free is_stray_rest t → (is_inside up ≡ true → is_misplaced t ≡ false) → Kept up t u
   kept (here {up = up} {t = t} {u = u} a) d p = acted up t u a (a.leaves (record { nodes = d }) (λ slot. p (ap (λ v. v || is_body_place up) slot)))
@@ -181,9 +183,9 @@ mutual
       let m = kept-in h d.1 (λ i e. inside-placed all up k l fs i e d.0) in
       record { free = (stray-like all up k l m.like d.0, m.free); like = node-like all up k l fs gs m.like }
 
-  kept-in : {c : ℕ → List Ancestor} {fs gs : Fields} → ChangedIn Acted Besides (λ bs. Unit {0}) c fs gs → FreeIn is_stray_rest fs → ((i : ℕ) → is_inside (c i) ≡ true → any_child is_misplaced fs ≡ false) → KeptIn c fs gs
-  kept-in (first {f = f} {fs = fs} h) d p = let m = kept-by h d.0 (λ e. (or_parts (any_child_by is_misplaced f) (any_child is_misplaced fs) (p zero e)).0) in record { free = (m.free, d.1); like = first_like m.like }
-  kept-in (later {f = f} {fs = fs} h) d p = let m = kept-in h d.1 (λ i e. (or_parts (any_child_by is_misplaced f) (any_child is_misplaced fs) (p (suc i) e)).1) in record { free = (d.0, m.free); like = later_like m.like }
+  kept-in : {c : ℕ → List Ancestor} {fs gs : Fields} → ChangedIn Acted Besides (λ bs. Unit {0}) c fs gs → FreeIn is_stray_rest fs → ((i : ℕ) → is_inside (c i) ≡ true → placed_at i fs ≡ false) → KeptIn c fs gs
+  kept-in (first h) d p = let m = kept-by h d.0 (λ e. p zero e) in record { free = (m.free, d.1); like = first_like m.like }
+  kept-in (later h) d p = let m = kept-in h d.1 (λ i e. p (suc i) e) in record { free = (d.0, m.free); like = later_like m.like }
 
   kept-by : {up : List Ancestor} {f g : Field} → ChangedBy Acted Besides (λ bs. Unit {0}) up f g → FreeBy is_stray_rest f → (is_inside up ≡ true → any_child_by is_misplaced f ≡ false) → KeptBy up f g
   kept-by (of_one h) d p = let m = kept h d p in record { free = m.free; like = one_like m.like.alone }

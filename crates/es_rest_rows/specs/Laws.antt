@@ -29,8 +29,8 @@ use Rattle.es_valid_rests.specs.RestRules.{OutsidePart}
 abbrev pub AtNode : (Site → Ledger → Spot → Ledger → Spot → Type 0) → Site → Ledger → Tree → Ledger → Tree → Type 0
 AtNode R n s t s' u = R n s (at_node t) s' (at_node u)
 
--- THE ROWS, each at one node, are steps of the rules of object rests at that node: one where a source is stored, and where a rest is taken one for
--- each key that is read, and one.
+-- THE ROWS, each at one node, are steps of the rules of object rests at that node: one where a source is stored or a pattern stands in a property, and
+-- where a rest is taken one for each key that is read, and one.
 abbrev pub LawRestRows : Type 0
 LawRestRows = (n : Site) (s s' : Ledger) (t u : Tree) → AtNode RestRow n s t s' u → Steps (AtNode OutsidePart n) s t s' u
 

@@ -4,8 +4,9 @@
 -- A rest that stands alone takes no pattern: `const { ...b } = c;` becomes
 -- `const b = babelHelpers.extends({}, (babelHelpers.objectDestructuringEmpty(c), c));`. A key that is read is read once, where it stood:
 -- `const { a, [k()]: b, ...d } = c;` becomes
--- `const { a } = c, _k = k(), { [_k]: b } = c, d = babelHelpers.objectWithoutProperties(c, ["a", _k].map(babelHelpers.toPropertyKey));`. Each row is
--- steps of the rules of object rests.
+-- `const { a } = c, _k = k(), { [_k]: b } = c, d = babelHelpers.objectWithoutProperties(c, ["a", _k].map(babelHelpers.toPropertyKey));`. A pattern in
+-- a property is declared with what that property gives, before the properties behind it: `const { a: { ...b }, d } = c;` becomes
+-- `const { a: _ref } = c, { ...b } = _ref, { d } = c;`. Each row is steps of the rules of object rests.
 use Rattle.std.specs.Prelude.{◌≡◌, ◌&&◌, ◌||◌, not, Bool, true, false, List, ◌∷◌, Option, None, codes, bytes_eq, []}
 use Rattle.std.specs.List.{list_any}
 use Rattle.es_resolution.specs.Declarations.{Bound, symbol_of}
@@ -13,7 +14,7 @@ use Rattle.es_resolution.specs.Resolved.{bound_by}
 use Rattle.es_semantic.specs.RolesOf.{reads}
 use Rattle.es_steps.specs.Duplication.{is_among_symbols}
 use Rattle.es_steps.specs.Nodes.{array_node, call_node, declarator_with, identifier, joined_trees, made, string_node}
-use Rattle.es_steps.specs.ObjectRest.{Declares, declares_as, helper_node, kind_of_declaration, mapped_value, pattern_node, whole_value}
+use Rattle.es_steps.specs.ObjectRest.{Declares, declares_as, declares_some, helper_node, kind_of_declaration, mapped_value, pattern_node, whole_value}
 use Rattle.es_steps.specs.Open.{Additions, Pending}
 use Rattle.es_steps.specs.Patterns.{IsSilent}
 use Rattle.es_steps.specs.Rules.{next_name, with_made}
@@ -24,9 +25,9 @@ use Rattle.es_tree.specs.Fresh.{IsFreshName, node_base}
 use Rattle.es_tree.specs.Names.{first_text}
 use Rattle.es_tree.specs.Tree.{Tree, node, Label, done, ◌then◌, one, many, Trees, empty, ◌before◌, label_of}
 use Rattle.es_tree.specs.Words.{Text}
-use Rattle.es_tree.specs.declared.ast_type.AstType.TheVariants.{ExportNamedDeclaration, Identifier, PatternProperty, RestElement, VariableDeclaration}
+use Rattle.es_tree.specs.declared.ast_type.AstType.TheVariants.{AssignmentPattern, ExportNamedDeclaration, Identifier, PatternProperty, RestElement, VariableDeclaration}
 use Rattle.es_valid_rests.specs.RestRules.{all_declare}
-use Rattle.es_rest_shapes.specs.RestShapes.{any_tree, are_plain, is_name, is_plain_pattern, key_text, reads_key}
+use Rattle.es_rest_shapes.specs.RestShapes.{any_tree, are_plain, bears_among, is_name, is_plain_pattern, key_text, reads_key}
 
 -- whether a pattern binds this name
 abbrev pub binds_name : Text → Tree → Bool
@@ -104,6 +105,20 @@ pub data NamesKeys : Whole → Trees → List Bound → Whole → Type 0 where
   reads_one : {w w' : Whole} {l : Label} {k v : Tree} {ps : Trees} {xs : List Bound} (x : Text) → reads_key (node PatternProperty l (one k then one v then done)) ≡ true → IsSilent reads k → IsFreshName w.in_use (node_base k) x →
       NamesKeys (with_made (next_name w x ∷ []) w) ps xs w' → NamesKeys w (node PatternProperty l (one k then one v then done) before ps) (next_name w x ∷ xs) w'
 
+-- PATTERNS IN PROPERTIES
+
+abbrev pub property_of : Label → Tree → Tree → Tree
+property_of l k v = node PatternProperty l (one k then one v then done)
+
+-- A pattern in the value of a property, and that value with a name in its place: of `{ ...b }` it is `x`, and of `{ ...b } = d` it is `x = d`.
+pub data PutsName (x p : Tree) : Tree → Tree → Type 0 where
+  for_pattern : PutsName x p p x
+  with_default : (l : Label) (e : Tree) → IsSilent reads e → PutsName x p (node AssignmentPattern l (one p then one e then done)) (node AssignmentPattern l (one x then one e then done))
+
+-- `{ A.., u } = s, P = x, { B.. } = s`, and where B is empty, without the last
+abbrev pub parted : Label → Tree → Trees → Tree → Tree → Bound → Trees → Trees
+parted lp s ps u p x rs = group (made [] []) s (joined_trees ps (u before empty)) before declarator_with p (identifier x) before declares_some lp s rs
+
 abbrev pub is_exported : Site → Bool
 is_exported n = stands_in ExportNamedDeclaration 0 n.above
 
@@ -121,6 +136,13 @@ pub data RowsWhere (asked : Site → Type 0) : Site → Ledger → Spot → Ledg
       asked n → w.in_use (codes "babelHelpers") ≡ true →
       RowsWhere asked n (ledger w q z y) (at_node (declaring m (joined_trees a (declares_as l (with_rest lp ps lr t) (node Identifier ls done) before c)))) (ledger w' q z y)
       (at_node (declaring m (joined_trees a (joined_trees (taken lp (node Identifier ls done) xs ps t) c))))
+  -- `{ A.., k: P, B.. } = s` becomes `{ A.., k: x } = s, P = x, { B.. } = s`, where P is a plain pattern, and A bears no rest
+  nested : {n : Site} {w : Whole} {q : Pending} {z : Option Bound} {y : Additions} (m l lp lq ls : Label) (a ps rs c : Trees) (k p v u : Tree) (x : Text) → is_exported n ≡ false → Declares (kind_of_declaration m) →
+      are_plain (joined_trees ps (property_of lq k v before rs)) ≡ true → bears_among ps ≡ false → is_plain_pattern p ≡ true → PutsName (identifier (next_name w x)) p v u →
+      all_declare (joined_trees a (declares_as l (pattern_node lp (joined_trees ps (property_of lq k v before rs))) (node Identifier ls done) before c)) ≡ true →
+      is_kept w (pattern_node lp (joined_trees ps (property_of lq k v before rs))) (node Identifier ls done) ≡ true → IsFreshName w.in_use (codes "ref") x →
+      RowsWhere asked n (ledger w q z y) (at_node (declaring m (joined_trees a (declares_as l (pattern_node lp (joined_trees ps (property_of lq k v before rs))) (node Identifier ls done) before c))))
+      (ledger (with_made (next_name w x ∷ []) w) q z y) (at_node (declaring m (joined_trees a (joined_trees (parted lp (node Identifier ls done) ps (property_of lq k u) p (next_name w x) rs) c))))
 
 -- The rows: `babelHelpers`, of which the helper is a property, is bound nowhere around.
 abbrev pub RestRow : Site → Ledger → Spot → Ledger → Spot → Type 0

@@ -2,14 +2,14 @@
 use Rattle.std.proofs.Common.{◌≡◌, ◌∙◌, refl, sym, ap}
 use Rattle.std.specs.Prelude.{Bool, ◌||◌, ◌&&◌, not, is_some}
 use Rattle.es_tree.specs.Bare.{bare, bare_field, bare_fields, bare_label, bare_trees}
-use Rattle.es_tree.specs.Constructs.{any_kind, field_at, has_member, is_object_rest, is_rest}
+use Rattle.es_tree.specs.Constructs.{any_kind, field_at, has_member, is_rest}
 use Rattle.es_tree.specs.Names.{has_computed}
 use Rattle.es_tree.specs.Tree.{Tree, node, Label, Fields, done, ◌then◌, Field, missing, one, many, statements, Trees, empty, ◌before◌}
 use Rattle.es_tree.specs.Walks.{any_in_field, any_in_fields, any_in_trees, any_node}
 use Rattle.es_tree.specs.declared.ast_type.AstType.{AstType}
-use Rattle.es_tree.specs.declared.ast_type.AstType.TheVariants.{BigIntLiteral, ExportNamedDeclaration, Identifier, NumericLiteral, ObjectPattern, ObjectTarget, PatternProperty, RestElement, StringLiteral, TemplateElement, TemplateLiteral, VariableDeclaration, VariableDeclarator}
+use Rattle.es_tree.specs.declared.ast_type.AstType.TheVariants.{AssignmentPattern, BigIntLiteral, ExportNamedDeclaration, Identifier, NumericLiteral, ObjectPattern, ObjectTarget, PatternProperty, RestElement, StringLiteral, TemplateElement, TemplateLiteral, VariableDeclaration, VariableDeclarator}
 use Rattle.es_rest_shapes.specs.Laws.{LawBareRests}
-use Rattle.es_rest_shapes.specs.RestShapes.{any_child, any_child_by, any_tree, declares_rest, ends_in_rest, is_known_key, is_literal_key, is_misplaced, is_name, is_named_rest, is_odd_pattern, is_plain_key, is_plain_pattern, is_plain_property, is_rest_declaration, is_rest_declarator, is_rest_pattern, is_stray_rest, template_text}
+use Rattle.es_rest_shapes.specs.RestShapes.{any_beside, any_child, any_child_by, any_tree, are_plain_members, are_plain_parts, bears_among, bears_by, bears_first, bears_rest, bears_second, declares_rest, is_known_key, is_literal_key, is_misplaced, is_name, is_named_rest, is_odd_pattern, is_plain_first, is_plain_key, is_plain_pattern, is_plain_property, is_plain_target, is_plain_value, is_rest_declaration, is_rest_declarator, is_stray_rest, template_text}
 
 -- CHILDREN
 
@@ -41,13 +41,31 @@ members-bare (one t then fs) = refl
 members-bare (many ts then fs) = kinds-bare ts
 members-bare (statements ts then fs) = refl
 
-rest-bare : (k : AstType) (l : Label) (fs : Fields) → is_object_rest k (bare_label l) (bare_fields fs) ≡ is_object_rest k l fs
-rest-bare ObjectPattern l fs = members-bare fs
-rest-bare ObjectTarget l fs = members-bare fs
-rest-bare _ l fs = refl
+mutual
+  pub bears-bare : (t : Tree) → bears_rest (bare t) ≡ bears_rest t
+  bears-bare (node ObjectPattern l fs) = λ i. members-bare fs i || bears-bare-first fs i
+  bears-bare (node PatternProperty l fs) = bears-bare-second fs
+  bears-bare (node AssignmentPattern l fs) = bears-bare-first fs
+  bears-bare (node ObjectTarget l fs) = members-bare fs
+  bears-bare (node _ l fs) = refl
 
-pattern-bare : (t : Tree) → is_rest_pattern (bare t) ≡ is_rest_pattern t
-pattern-bare (node k l fs) = rest-bare k l fs
+  bears-bare-second : (fs : Fields) → bears_second (bare_fields fs) ≡ bears_second fs
+  bears-bare-second done = refl
+  bears-bare-second (f then fs) = bears-bare-first fs
+
+  bears-bare-first : (fs : Fields) → bears_first (bare_fields fs) ≡ bears_first fs
+  bears-bare-first done = refl
+  bears-bare-first (f then fs) = bears-bare-by f
+
+  bears-bare-by : (f : Field) → bears_by (bare_field f) ≡ bears_by f
+  bears-bare-by missing = refl
+  bears-bare-by (one t) = bears-bare t
+  bears-bare-by (many ts) = bears-bare-among ts
+  bears-bare-by (statements ts) = bears-bare-among ts
+
+  bears-bare-among : (ts : Trees) → bears_among (bare_trees ts) ≡ bears_among ts
+  bears-bare-among empty = refl
+  bears-bare-among (t before ts) = λ i. bears-bare t i || bears-bare-among ts i
 
 pub name-bare : (t : Tree) → is_name (bare t) ≡ is_name t
 name-bare (node Identifier l done) = refl
@@ -92,19 +110,6 @@ known-bare (node _ l fs) = refl
 pub key-bare : (b : Bool) (t : Tree) → is_plain_key b (bare t) ≡ is_plain_key b t
 key-bare computed t = ap (λ v. computed || v) (known-bare t)
 
-pub property-bare : (t : Tree) → is_plain_property (bare t) ≡ is_plain_property t
-property-bare (node PatternProperty l (one k then one v then done)) = key-bare (has_computed PatternProperty l.flags) k
-property-bare (node PatternProperty l (one k then one v then f then fs)) = refl
-property-bare (node PatternProperty l (one k then missing then fs)) = refl
-property-bare (node PatternProperty l (one k then many ts then fs)) = refl
-property-bare (node PatternProperty l (one k then statements ts then fs)) = refl
-property-bare (node PatternProperty l (one k then done)) = refl
-property-bare (node PatternProperty l (missing then fs)) = refl
-property-bare (node PatternProperty l (many ts then fs)) = refl
-property-bare (node PatternProperty l (statements ts then fs)) = refl
-property-bare (node PatternProperty l done) = refl
-property-bare (node _ l fs) = refl
-
 pub named-bare : (t : Tree) → is_named_rest (bare t) ≡ is_named_rest t
 named-bare (node RestElement l (one t then done)) = name-bare t
 named-bare (node RestElement l (one t then f then fs)) = refl
@@ -114,24 +119,64 @@ named-bare (node RestElement l (statements ts then fs)) = refl
 named-bare (node RestElement l done) = refl
 named-bare (node _ l fs) = refl
 
-pub ends-bare : (ts : Trees) → ends_in_rest (bare_trees ts) ≡ ends_in_rest ts
-ends-bare empty = refl
-ends-bare (t before empty) = named-bare t
-ends-bare (t before u before ts) = λ i. property-bare t i && ends-bare (u before ts) i
+-- PLAIN PATTERNS
+
+mutual
+  pub property-bare : (t : Tree) → is_plain_property (bare t) ≡ is_plain_property t
+  property-bare (node PatternProperty l (one k then one v then done)) = λ i. key-bare (has_computed PatternProperty l.flags) k i && value-bare v i
+  property-bare (node PatternProperty l (one k then one v then f then fs)) = refl
+  property-bare (node PatternProperty l (one k then missing then fs)) = refl
+  property-bare (node PatternProperty l (one k then many ts then fs)) = refl
+  property-bare (node PatternProperty l (one k then statements ts then fs)) = refl
+  property-bare (node PatternProperty l (one k then done)) = refl
+  property-bare (node PatternProperty l (missing then fs)) = refl
+  property-bare (node PatternProperty l (many ts then fs)) = refl
+  property-bare (node PatternProperty l (statements ts then fs)) = refl
+  property-bare (node PatternProperty l done) = refl
+  property-bare (node _ l fs) = refl
+
+  value-bare : (t : Tree) → is_plain_value (bare t) ≡ is_plain_value t
+  value-bare (node ObjectPattern l fs) = parts-bare fs
+  value-bare (node AssignmentPattern l fs) = first-bare fs
+  value-bare (node k l fs) = λ i. not (bears-bare (node k l fs) i)
+
+  first-bare : (fs : Fields) → is_plain_first (bare_fields fs) ≡ is_plain_first fs
+  first-bare (one t then one e then done) = target-bare t
+  first-bare (one t then one e then f then fs) = refl
+  first-bare (one t then missing then fs) = refl
+  first-bare (one t then many ts then fs) = refl
+  first-bare (one t then statements ts then fs) = refl
+  first-bare (one t then done) = refl
+  first-bare (missing then fs) = refl
+  first-bare (many ts then fs) = refl
+  first-bare (statements ts then fs) = refl
+  first-bare done = refl
+
+  target-bare : (t : Tree) → is_plain_target (bare t) ≡ is_plain_target t
+  target-bare (node ObjectPattern l fs) = parts-bare fs
+  target-bare (node k l fs) = λ i. not (bears-bare (node k l fs) i)
+
+  pub parts-bare : (fs : Fields) → are_plain_parts (bare_fields fs) ≡ are_plain_parts fs
+  parts-bare (many ts then done) = plain-members-bare ts
+  parts-bare (many ts then f then fs) = refl
+  parts-bare (missing then fs) = refl
+  parts-bare (one t then fs) = refl
+  parts-bare (statements ts then fs) = refl
+  parts-bare done = refl
+
+  plain-members-bare : (ts : Trees) → are_plain_members (bare_trees ts) ≡ are_plain_members ts
+  plain-members-bare empty = refl
+  plain-members-bare (t before empty) = λ i. property-bare t i || named-bare t i
+  plain-members-bare (t before u before ts) = λ i. property-bare t i && plain-members-bare (u before ts) i
 
 pub plain-bare : (t : Tree) → is_plain_pattern (bare t) ≡ is_plain_pattern t
-plain-bare (node ObjectPattern l (many ps then done)) = ends-bare ps
-plain-bare (node ObjectPattern l (many ps then f then fs)) = refl
-plain-bare (node ObjectPattern l (missing then fs)) = refl
-plain-bare (node ObjectPattern l (one t then fs)) = refl
-plain-bare (node ObjectPattern l (statements ts then fs)) = refl
-plain-bare (node ObjectPattern l done) = refl
+plain-bare (node ObjectPattern l fs) = λ i. bears-bare (node ObjectPattern l fs) i && parts-bare fs i
 plain-bare (node _ l fs) = refl
 
 -- DECLARATIONS
 
 declarator-bare : (t : Tree) → is_rest_declarator (bare t) ≡ is_rest_declarator t
-declarator-bare (node VariableDeclarator l (one p then fs)) = pattern-bare p
+declarator-bare (node VariableDeclarator l (one p then fs)) = bears-bare p
 declarator-bare (node VariableDeclarator l (missing then fs)) = refl
 declarator-bare (node VariableDeclarator l (many ts then fs)) = refl
 declarator-bare (node VariableDeclarator l (statements ts then fs)) = refl
@@ -152,13 +197,17 @@ declares-bare (node k l fs) = declaration-bare k l fs
 -- THE OTHERS
 
 misplaced-bare : (t : Tree) → is_misplaced (bare t) ≡ is_misplaced t
-misplaced-bare t = λ i. pattern-bare t i || declarator-bare t i
+misplaced-bare t = λ i. bears-bare t i || declarator-bare t i
 
 odd-bare : (t : Tree) → is_odd_pattern (bare t) ≡ is_odd_pattern t
-odd-bare t = λ i. (pattern-bare t i && not (plain-bare t i)) || declarator-bare t i
+odd-bare t = λ i. (bears-bare t i && not (plain-bare t i)) || declarator-bare t i
 
 all-bare : (fs : Fields) → any_child is_misplaced (bare_fields fs) ≡ any_child is_misplaced fs
 all-bare fs = children-bare is_misplaced misplaced-bare fs
+
+beside-bare : (fs : Fields) → any_beside (bare_fields fs) ≡ any_beside fs
+beside-bare done = refl
+beside-bare (f then fs) = λ i. child-bare is_rest_declarator declarator-bare f i || all-bare fs i
 
 pub stray-bare : (k : AstType) (l : Label) (fs : Fields) → is_stray_rest k (bare_label l) (bare_fields fs) ≡ is_stray_rest k l fs
 stray-bare VariableDeclarator l (one p then one e then done) = λ i. odd-bare p i || misplaced-bare e i
@@ -171,13 +220,17 @@ stray-bare VariableDeclarator l (missing then fs) = all-bare (missing then fs)
 stray-bare VariableDeclarator l (many ts then fs) = all-bare (many ts then fs)
 stray-bare VariableDeclarator l (statements ts then fs) = all-bare (statements ts then fs)
 stray-bare VariableDeclarator l done = refl
-stray-bare VariableDeclaration l (many ds then done) = trees-bare is_rest_pattern pattern-bare ds
+stray-bare VariableDeclaration l (many ds then done) = trees-bare bears_rest bears-bare ds
 stray-bare VariableDeclaration l (many ds then f then fs) = all-bare (many ds then f then fs)
 stray-bare VariableDeclaration l (missing then fs) = all-bare (missing then fs)
 stray-bare VariableDeclaration l (one t then fs) = all-bare (one t then fs)
 stray-bare VariableDeclaration l (statements ts then fs) = all-bare (statements ts then fs)
 stray-bare VariableDeclaration l done = refl
 stray-bare ExportNamedDeclaration l fs = children-bare (λ t. is_misplaced t || declares_rest t) (λ t i. misplaced-bare t i || declares-bare t i) fs
+stray-bare ObjectPattern l fs = beside-bare fs
+stray-bare PatternProperty l (k then fs) = λ i. child-bare is_misplaced misplaced-bare k i || beside-bare fs i
+stray-bare PatternProperty l done = refl
+stray-bare AssignmentPattern l fs = beside-bare fs
 stray-bare _ l fs = all-bare fs
 
 -- EVERY NODE

@@ -1,14 +1,14 @@
 -- Where no pattern with a rest is declared, and none stands where it isn't lowered, there is none: each child of each node is at its place.
-use Rattle.std.proofs.Common.{◌≡◌, refl}
+use Rattle.std.proofs.Common.{◌≡◌, ◌∙◌, ap, refl, sym}
 use Rattle.std.specs.Prelude.{false, ◌||◌, ◌&&◌, not}
 use Rattle.std.proofs.lemmas.Bool.{or_from, or_parts}
 use Rattle.es_tree.specs.Constructs.{is_object_rest}
 use Rattle.es_tree.specs.Tree.{Tree, node, Label, Fields, done, ◌then◌, Field, missing, one, many, statements, Trees, empty, ◌before◌}
 use Rattle.es_tree.specs.Walks.{any_in_field, any_in_fields, any_in_trees, any_node}
 use Rattle.es_tree.specs.declared.ast_type.AstType.{AstType}
-use Rattle.es_tree.specs.declared.ast_type.AstType.TheVariants.{ExportNamedDeclaration, VariableDeclaration, VariableDeclarator}
+use Rattle.es_tree.specs.declared.ast_type.AstType.TheVariants.{AssignmentPattern, ExportNamedDeclaration, ObjectPattern, PatternProperty, VariableDeclaration, VariableDeclarator}
 use Rattle.es_rest_shapes.specs.Laws.{LawDeclaredRests, LawNoneLeft}
-use Rattle.es_rest_shapes.specs.RestShapes.{any_child, any_child_by, any_tree, declares_rest, is_misplaced, is_odd_pattern, is_plain_pattern, is_rest_declaration, is_rest_declarator, is_rest_pattern, is_stray_rest}
+use Rattle.es_rest_shapes.specs.RestShapes.{any_beside, any_child, any_child_by, any_tree, bears_among, bears_by, bears_first, bears_rest, bears_second, declares_rest, is_misplaced, is_odd_pattern, is_plain_pattern, is_rest_declaration, is_rest_declarator, is_stray_rest}
 use Rattle.es_rest_shapes.proofs.Children.{either-none, fewer}
 
 -- CHILDREN of a node that is at its place are at theirs, where it declares no pattern with a rest
@@ -17,14 +17,40 @@ export-children : (fs : Fields) → any_child (λ t. is_misplaced t || declares_
 export-children fs e = fewer (λ t. is_misplaced t || declares_rest t) is_misplaced (λ t h. (or_parts (is_misplaced t) (declares_rest t) h).0) fs e
 
 -- a declarator that declares no pattern with a rest
-declarator-children : (p e : Tree) → is_rest_pattern p ≡ false → (is_odd_pattern p || is_misplaced e) ≡ false → any_child is_misplaced (one p then one e then done) ≡ false
+declarator-children : (p e : Tree) → bears_rest p ≡ false → (is_odd_pattern p || is_misplaced e) ≡ false → any_child is_misplaced (one p then one e then done) ≡ false
 declarator-children p e f g =
     let h = or_parts (is_odd_pattern p) (is_misplaced e) g in
-    let k = or_parts (is_rest_pattern p && not (is_plain_pattern p)) (is_rest_declarator p) h.0 in
-    or_from (is_misplaced p) (is_misplaced e || false) (or_from (is_rest_pattern p) (is_rest_declarator p) f k.1) (or_from (is_misplaced e) false h.1 refl)
+    let k = or_parts (bears_rest p && not (is_plain_pattern p)) (is_rest_declarator p) h.0 in
+    or_from (is_misplaced p) (is_misplaced e || false) (or_from (bears_rest p) (is_rest_declarator p) f k.1) (or_from (is_misplaced e) false h.1 refl)
 
-declaration-children : (ds : Trees) → any_tree is_rest_declarator ds ≡ false → any_tree is_rest_pattern ds ≡ false → any_child is_misplaced (many ds then done) ≡ false
-declaration-children ds f g = or_from (any_tree is_misplaced ds) false (either-none is_rest_pattern is_rest_declarator ds g f) refl
+declaration-children : (ds : Trees) → any_tree is_rest_declarator ds ≡ false → any_tree bears_rest ds ≡ false → any_child is_misplaced (many ds then done) ≡ false
+declaration-children ds f g = or_from (any_tree is_misplaced ds) false (either-none bears_rest is_rest_declarator ds g f) refl
+
+-- what stands in a pattern, in a property or before a default value, none of which bears one
+
+bears-tree : (ts : Trees) → bears_among ts ≡ any_tree bears_rest ts
+bears-tree empty = refl
+bears-tree (t before ts) = ap (λ b. bears_rest t || b) (bears-tree ts)
+
+by-placed : (f : Field) → bears_by f ≡ false → any_child_by is_rest_declarator f ≡ false → any_child_by is_misplaced f ≡ false
+by-placed missing b d = refl
+by-placed (one t) b d = or_from (bears_rest t) (is_rest_declarator t) b d
+by-placed (many ts) b d = either-none bears_rest is_rest_declarator ts (sym (bears-tree ts) ∙ b) d
+by-placed (statements ts) b d = either-none bears_rest is_rest_declarator ts (sym (bears-tree ts) ∙ b) d
+
+first-placed : (fs : Fields) → bears_first fs ≡ false → any_beside fs ≡ false → any_child is_misplaced fs ≡ false
+first-placed done b s = refl
+first-placed (f then fs) b s =
+    let h = or_parts (any_child_by is_rest_declarator f) (any_child is_misplaced fs) s in
+    or_from (any_child_by is_misplaced f) (any_child is_misplaced fs) (by-placed f b h.0) h.1
+
+pattern-placed : (l : Label) (fs : Fields) → is_misplaced (node ObjectPattern l fs) ≡ false → any_beside fs ≡ false → any_child is_misplaced fs ≡ false
+pattern-placed l fs m s = first-placed fs (or_parts (is_object_rest ObjectPattern l fs) (bears_first fs) (or_parts (bears_rest (node ObjectPattern l fs)) false m).0).1 s
+
+second-placed : (k : Field) (fs : Fields) → (bears_first fs || false) ≡ false → (any_child_by is_misplaced k || any_beside fs) ≡ false → any_child is_misplaced (k then fs) ≡ false
+second-placed k fs m s =
+    let h = or_parts (any_child_by is_misplaced k) (any_beside fs) s in
+    or_from (any_child_by is_misplaced k) (any_child is_misplaced fs) h.0 (first-placed fs (or_parts (bears_first fs) false m).0 h.1)
 
 pub children-placed : (k : AstType) (l : Label) (fs : Fields) → is_misplaced (node k l fs) ≡ false → is_rest_declaration k l fs ≡ false → is_stray_rest k l fs ≡ false → any_child is_misplaced fs ≡ false
 children-placed VariableDeclarator l (one p then one e then done) m d s = declarator-children p e m s
@@ -44,16 +70,26 @@ children-placed VariableDeclaration l (statements ts then fs) m d s = s
 children-placed VariableDeclaration l (missing then fs) m d s = s
 children-placed VariableDeclaration l done m d s = s
 children-placed ExportNamedDeclaration l fs m d s = export-children fs s
+children-placed ObjectPattern l fs m d s = pattern-placed l fs m s
+children-placed PatternProperty l (k then fs) m d s = second-placed k fs m s
+children-placed PatternProperty l done m d s = s
+children-placed AssignmentPattern l fs m d s = first-placed fs (or_parts (bears_first fs) false m).0 s
 children-placed _ l fs m d s = s
 
 -- NONE
+
+own-rest : (k : AstType) (l : Label) (fs : Fields) → bears_rest (node k l fs) ≡ false → is_object_rest k l fs ≡ false
+own-rest ObjectPattern l fs e = (or_parts (is_object_rest ObjectPattern l fs) (bears_first fs) e).0
+own-rest PatternProperty l fs e = refl
+own-rest AssignmentPattern l fs e = refl
+own-rest _ l fs e = e
 
 mutual
   pub law_none_left_proof : LawNoneLeft
   law_none_left_proof (node k l fs) m s d =
       let strays = or_parts (is_stray_rest k l fs) (any_in_fields is_stray_rest fs) s in
       let declared = or_parts (is_rest_declaration k l fs) (any_in_fields is_rest_declaration fs) d in
-      or_from (is_object_rest k l fs) (any_in_fields is_object_rest fs) (or_parts (is_object_rest k l fs) (is_rest_declarator (node k l fs)) m).0 (none-in fs (children-placed k l fs m declared.0 strays.0) strays.1 declared.1)
+      or_from (is_object_rest k l fs) (any_in_fields is_object_rest fs) (own-rest k l fs (or_parts (bears_rest (node k l fs)) (is_rest_declarator (node k l fs)) m).0) (none-in fs (children-placed k l fs m declared.0 strays.0) strays.1 declared.1)
 
   none-in : (fs : Fields) → any_child is_misplaced fs ≡ false → any_in_fields is_stray_rest fs ≡ false → any_in_fields is_rest_declaration fs ≡ false → any_in_fields is_object_rest fs ≡ false
   none-in done m s d = refl
@@ -79,11 +115,37 @@ mutual
 
 -- WHAT IS DECLARED is one
 
-pub own-rest : (t : Tree) → any_node is_object_rest t ≡ false → is_rest_pattern t ≡ false
-own-rest (node k l fs) e = (or_parts (is_object_rest k l fs) (any_in_fields is_object_rest fs) e).0
+mutual
+  pub bears-none : (t : Tree) → any_node is_object_rest t ≡ false → bears_rest t ≡ false
+  bears-none (node ObjectPattern l fs) e =
+      let h = or_parts (is_object_rest ObjectPattern l fs) (any_in_fields is_object_rest fs) e in
+      or_from (is_object_rest ObjectPattern l fs) (bears_first fs) h.0 (bears-none-first fs h.1)
+  bears-none (node PatternProperty l fs) e = bears-none-second fs e
+  bears-none (node AssignmentPattern l fs) e = bears-none-first fs e
+  bears-none (node k l fs) e = (or_parts (is_object_rest k l fs) (any_in_fields is_object_rest fs) e).0
+
+  bears-none-second : (fs : Fields) → any_in_fields is_object_rest fs ≡ false → bears_second fs ≡ false
+  bears-none-second done e = refl
+  bears-none-second (f then fs) e = bears-none-first fs (or_parts (any_in_field is_object_rest f) (any_in_fields is_object_rest fs) e).1
+
+  bears-none-first : (fs : Fields) → any_in_fields is_object_rest fs ≡ false → bears_first fs ≡ false
+  bears-none-first done e = refl
+  bears-none-first (f then fs) e = bears-none-by f (or_parts (any_in_field is_object_rest f) (any_in_fields is_object_rest fs) e).0
+
+  bears-none-by : (f : Field) → any_in_field is_object_rest f ≡ false → bears_by f ≡ false
+  bears-none-by missing e = refl
+  bears-none-by (one t) e = bears-none t e
+  bears-none-by (many ts) e = bears-none-among ts e
+  bears-none-by (statements ts) e = bears-none-among ts e
+
+  bears-none-among : (ts : Trees) → any_in_trees is_object_rest ts ≡ false → bears_among ts ≡ false
+  bears-none-among empty e = refl
+  bears-none-among (t before ts) e =
+      let h = or_parts (any_node is_object_rest t) (any_in_trees is_object_rest ts) e in
+      or_from (bears_rest t) (bears_among ts) (bears-none t h.0) (bears-none-among ts h.1)
 
 pub declarator-rest : (t : Tree) → any_node is_object_rest t ≡ false → is_rest_declarator t ≡ false
-declarator-rest (node VariableDeclarator l (one p then fs)) e = own-rest p (or_parts (any_node is_object_rest p) (any_in_fields is_object_rest fs) e).0
+declarator-rest (node VariableDeclarator l (one p then fs)) e = bears-none p (or_parts (any_node is_object_rest p) (any_in_fields is_object_rest fs) e).0
 declarator-rest (node VariableDeclarator l (missing then fs)) e = refl
 declarator-rest (node VariableDeclarator l (many ts then fs)) e = refl
 declarator-rest (node VariableDeclarator l (statements ts then fs)) e = refl

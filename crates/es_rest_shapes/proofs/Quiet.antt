@@ -6,18 +6,18 @@ use Rattle.es_tree.specs.Constructs.{is_object_rest}
 use Rattle.es_tree.specs.Tree.{Tree, node, Label, Fields, done, ◌then◌, Field, missing, one, many, statements, Trees, empty, ◌before◌}
 use Rattle.es_tree.specs.Walks.{any_in_field, any_in_fields, any_in_trees, any_node}
 use Rattle.es_tree.specs.declared.ast_type.AstType.{AstType}
-use Rattle.es_tree.specs.declared.ast_type.AstType.TheVariants.{ExportNamedDeclaration, VariableDeclaration, VariableDeclarator}
-use Rattle.es_rest_shapes.specs.RestShapes.{any_child, any_child_by, any_tree, declares_rest, is_misplaced, is_odd_pattern, is_plain_pattern, is_rest_declarator, is_rest_pattern, is_stray_rest}
-use Rattle.es_rest_shapes.proofs.NoneLeft.{declaration-rest, declarator-rest, own-rest}
+use Rattle.es_tree.specs.declared.ast_type.AstType.TheVariants.{AssignmentPattern, ExportNamedDeclaration, ObjectPattern, PatternProperty, VariableDeclaration, VariableDeclarator}
+use Rattle.es_rest_shapes.specs.RestShapes.{any_beside, any_child, any_child_by, any_tree, bears_rest, declares_rest, is_misplaced, is_odd_pattern, is_plain_pattern, is_rest_declarator, is_stray_rest}
+use Rattle.es_rest_shapes.proofs.NoneLeft.{bears-none, declaration-rest, declarator-rest}
 
 misplaced-none : (t : Tree) → any_node is_object_rest t ≡ false → is_misplaced t ≡ false
-misplaced-none t e = or_from (is_rest_pattern t) (is_rest_declarator t) (own-rest t e) (declarator-rest t e)
+misplaced-none t e = or_from (bears_rest t) (is_rest_declarator t) (bears-none t e) (declarator-rest t e)
 
 declares-none : (t : Tree) → any_node is_object_rest t ≡ false → declares_rest t ≡ false
 declares-none (node k l fs) e = declaration-rest k l fs (or_parts (is_object_rest k l fs) (any_in_fields is_object_rest fs) e).1
 
 odd-none : (t : Tree) → any_node is_object_rest t ≡ false → is_odd_pattern t ≡ false
-odd-none t e = or_from (is_rest_pattern t && not (is_plain_pattern t)) (is_rest_declarator t) (first (is_rest_pattern t) (not (is_plain_pattern t)) (own-rest t e)) (declarator-rest t e)
+odd-none t e = or_from (bears_rest t && not (is_plain_pattern t)) (is_rest_declarator t) (first (bears_rest t) (not (is_plain_pattern t)) (bears-none t e)) (declarator-rest t e)
   where
     first : (a b : Bool) → a ≡ false → (a && b) ≡ false
     first a b h = rw h refl
@@ -41,6 +41,12 @@ module _ (p : Tree → Bool) (none : (t : Tree) → any_node is_object_rest t �
 placed : (fs : Fields) → any_in_fields is_object_rest fs ≡ false → any_child is_misplaced fs ≡ false
 placed = children-none is_misplaced misplaced-none
 
+beside-none : (fs : Fields) → any_in_fields is_object_rest fs ≡ false → any_beside fs ≡ false
+beside-none done e = refl
+beside-none (f then fs) e =
+    let h = or_parts (any_in_field is_object_rest f) (any_in_fields is_object_rest fs) e in
+    or_from (any_child_by is_rest_declarator f) (any_child is_misplaced fs) (child-none is_rest_declarator declarator-rest f h.0) (placed fs h.1)
+
 pub stray-none : (k : AstType) (l : Label) (fs : Fields) → any_in_fields is_object_rest fs ≡ false → is_stray_rest k l fs ≡ false
 stray-none VariableDeclarator l (one p then one e then done) h =
     let g = or_parts (any_node is_object_rest p) (any_node is_object_rest e || false) h in
@@ -54,11 +60,17 @@ stray-none VariableDeclarator l (many ts then fs) h = placed (many ts then fs) h
 stray-none VariableDeclarator l (statements ts then fs) h = placed (statements ts then fs) h
 stray-none VariableDeclarator l (missing then fs) h = placed (missing then fs) h
 stray-none VariableDeclarator l done h = refl
-stray-none VariableDeclaration l (many ds then done) h = trees-none is_rest_pattern own-rest ds (or_parts (any_in_trees is_object_rest ds) false h).0
+stray-none VariableDeclaration l (many ds then done) h = trees-none bears_rest bears-none ds (or_parts (any_in_trees is_object_rest ds) false h).0
 stray-none VariableDeclaration l (many ds then f then fs) h = placed (many ds then f then fs) h
 stray-none VariableDeclaration l (one t then fs) h = placed (one t then fs) h
 stray-none VariableDeclaration l (statements ts then fs) h = placed (statements ts then fs) h
 stray-none VariableDeclaration l (missing then fs) h = placed (missing then fs) h
 stray-none VariableDeclaration l done h = refl
 stray-none ExportNamedDeclaration l fs h = children-none (λ t. is_misplaced t || declares_rest t) (λ t e. or_from (is_misplaced t) (declares_rest t) (misplaced-none t e) (declares-none t e)) fs h
+stray-none ObjectPattern l fs h = beside-none fs h
+stray-none PatternProperty l (k then fs) h =
+    let g = or_parts (any_in_field is_object_rest k) (any_in_fields is_object_rest fs) h in
+    or_from (any_child_by is_misplaced k) (any_beside fs) (child-none is_misplaced misplaced-none k g.0) (beside-none fs g.1)
+stray-none PatternProperty l done h = refl
+stray-none AssignmentPattern l fs h = beside-none fs h
 stray-none _ l fs h = placed fs h

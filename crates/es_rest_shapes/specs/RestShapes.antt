@@ -1,19 +1,43 @@
 -- Which object patterns with a rest are lowered (ECMA-262, 14.3.3): those that a declarator with a value declares, and that no module exports:
--- `const { a, "b": c = 1, [2]: d, [k]: e, ...g } = f`. What stands in the properties holds none itself. The text of a key that isn't computed stands
--- in the program, and so it does of a computed text, number or template without expressions; any other computed key is read.
+-- `const { a, "b": c = 1, [2]: d, [k]: e, ...g } = f`, and those in the properties of such a pattern, `const { a: { ...b }, c: { ...d } = {} } = f`.
+-- The text of a key that isn't computed stands in the program, and so it does of a computed text, number or template without expressions; any
+-- other computed key is read.
 use Rattle.std.specs.Prelude.{◌&&◌, ◌||◌, not, Bool, true, false, List, [], ◌∷◌, Option, None, Some, is_some}
 use Rattle.es_tree.specs.Constructs.{is_object_rest}
 use Rattle.es_tree.specs.Names.{first_text, has_computed}
 use Rattle.es_tree.specs.Tree.{Tree, node, Label, Fields, done, ◌then◌, Field, missing, one, many, statements, Trees, empty, ◌before◌}
 use Rattle.es_tree.specs.Words.{Text}
 use Rattle.es_tree.specs.declared.ast_type.AstType.{AstType}
-use Rattle.es_tree.specs.declared.ast_type.AstType.TheVariants.{BigIntLiteral, ExportNamedDeclaration, Identifier, NumericLiteral, ObjectPattern, PatternProperty, RestElement, StringLiteral, TemplateElement, TemplateLiteral, VariableDeclaration, VariableDeclarator}
+use Rattle.es_tree.specs.declared.ast_type.AstType.TheVariants.{AssignmentPattern, BigIntLiteral, ExportNamedDeclaration, Identifier, NumericLiteral, ObjectPattern, PatternProperty, RestElement, StringLiteral, TemplateElement, TemplateLiteral, VariableDeclaration, VariableDeclarator}
 
 -- PATTERNS
 
--- an object pattern with a rest, of bindings or of assignment targets
-abbrev pub is_rest_pattern : Tree → Bool
-is_rest_pattern (node k l fs) = is_object_rest k l fs
+-- an object pattern with a rest, of bindings or of assignment targets, or one with such a pattern in a property, behind a default value or not:
+-- `{ a: { ...b } }`, and so its property, and a pattern with a default value
+abbrev mutual
+  pub bears_rest : Tree → Bool
+  bears_rest (node ObjectPattern l fs) = is_object_rest ObjectPattern l fs || bears_first fs
+  bears_rest (node PatternProperty l fs) = bears_second fs
+  bears_rest (node AssignmentPattern l fs) = bears_first fs
+  bears_rest (node k l fs) = is_object_rest k l fs
+
+  pub bears_first : Fields → Bool
+  bears_first done = false
+  bears_first (f then fs) = bears_by f
+
+  pub bears_second : Fields → Bool
+  bears_second done = false
+  bears_second (f then fs) = bears_first fs
+
+  pub bears_by : Field → Bool
+  bears_by missing = false
+  bears_by (one t) = bears_rest t
+  bears_by (many ts) = bears_among ts
+  bears_by (statements ts) = bears_among ts
+
+  pub bears_among : Trees → Bool
+  bears_among empty = false
+  bears_among (t before ts) = bears_rest t || bears_among ts
 
 abbrev pub is_name : Tree → Bool
 is_name (node Identifier l done) = true
@@ -61,31 +85,51 @@ key_text (node NumericLiteral l fs) = text_of (second_text l.texts)
 key_text (node TemplateLiteral l fs) = text_of (template_text fs)
 key_text (node k l fs) = first_text l.texts
 
-abbrev pub is_plain_property : Tree → Bool
-is_plain_property (node PatternProperty l (one k then one v then done)) = is_plain_key (has_computed PatternProperty l.flags) k
-is_plain_property _ = false
-
 -- a property whose key is read
 abbrev pub reads_key : Tree → Bool
 reads_key (node PatternProperty l (one k then one v then done)) = is_read_key (has_computed PatternProperty l.flags) k
 reads_key _ = false
 
-abbrev pub are_plain : Trees → Bool
-are_plain empty = true
-are_plain (t before ts) = is_plain_property t && are_plain ts
-
 abbrev pub is_named_rest : Tree → Bool
 is_named_rest (node RestElement l (one t then done)) = is_name t
 is_named_rest _ = false
 
--- such properties, and behind them a rest that is a name
-abbrev pub ends_in_rest : Trees → Bool
-ends_in_rest empty = false
-ends_in_rest (t before empty) = is_named_rest t
-ends_in_rest (t before ts) = is_plain_property t && ends_in_rest ts
+-- properties with a plain key, in whose values each pattern that bears a rest has such properties, and a rest that is a name at its end, or none
+abbrev mutual
+  pub is_plain_property : Tree → Bool
+  is_plain_property (node PatternProperty l (one k then one v then done)) = is_plain_key (has_computed PatternProperty l.flags) k && is_plain_value v
+  is_plain_property _ = false
 
+  pub is_plain_value : Tree → Bool
+  is_plain_value (node ObjectPattern l fs) = are_plain_parts fs
+  is_plain_value (node AssignmentPattern l fs) = is_plain_first fs
+  is_plain_value t = not (bears_rest t)
+
+  pub is_plain_first : Fields → Bool
+  is_plain_first (one p then one e then done) = is_plain_target p
+  is_plain_first _ = false
+
+  -- what a default value stands for has none itself
+  pub is_plain_target : Tree → Bool
+  is_plain_target (node ObjectPattern l fs) = are_plain_parts fs
+  is_plain_target t = not (bears_rest t)
+
+  pub are_plain_parts : Fields → Bool
+  are_plain_parts (many ps then done) = are_plain_members ps
+  are_plain_parts _ = false
+
+  pub are_plain_members : Trees → Bool
+  are_plain_members empty = true
+  are_plain_members (t before empty) = is_plain_property t || is_named_rest t
+  are_plain_members (t before ts) = is_plain_property t && are_plain_members ts
+
+abbrev pub are_plain : Trees → Bool
+are_plain empty = true
+are_plain (t before ts) = is_plain_property t && are_plain ts
+
+-- such a pattern that bears a rest
 abbrev pub is_plain_pattern : Tree → Bool
-is_plain_pattern (node ObjectPattern l (many ps then done)) = ends_in_rest ps
+is_plain_pattern (node ObjectPattern l fs) = bears_rest (node ObjectPattern l fs) && are_plain_parts fs
 is_plain_pattern _ = false
 
 -- DECLARATIONS
@@ -108,7 +152,7 @@ any_child p (f then fs) = any_child_by p f || any_child p fs
 
 -- a declarator of a pattern with a rest
 abbrev pub is_rest_declarator : Tree → Bool
-is_rest_declarator (node VariableDeclarator l (one p then fs)) = is_rest_pattern p
+is_rest_declarator (node VariableDeclarator l (one p then fs)) = bears_rest p
 is_rest_declarator _ = false
 
 -- a declaration with such a declarator
@@ -123,14 +167,22 @@ declares_rest (node k l fs) = is_rest_declaration k l fs
 
 -- a pattern where no declarator declares it, or a declarator outside a declaration
 abbrev pub is_misplaced : Tree → Bool
-is_misplaced t = is_rest_pattern t || is_rest_declarator t
+is_misplaced t = bears_rest t || is_rest_declarator t
 
 -- what a declarator with a value declares
 abbrev pub is_odd_pattern : Tree → Bool
-is_odd_pattern p = (is_rest_pattern p && not (is_plain_pattern p)) || is_rest_declarator p
+is_odd_pattern p = (bears_rest p && not (is_plain_pattern p)) || is_rest_declarator p
+
+-- Of the first of these fields a pattern may stand in a property, as far as what is around bears it: a declarator may not.
+abbrev pub any_beside : Fields → Bool
+any_beside done = false
+any_beside (f then fs) = any_child_by is_rest_declarator f || any_child is_misplaced fs
 
 abbrev pub is_stray_rest : AstType → Label → Fields → Bool
 is_stray_rest VariableDeclarator l (one p then one e then done) = is_odd_pattern p || is_misplaced e
-is_stray_rest VariableDeclaration l (many ds then done) = any_tree is_rest_pattern ds
+is_stray_rest VariableDeclaration l (many ds then done) = any_tree bears_rest ds
 is_stray_rest ExportNamedDeclaration l fs = any_child (λ t. is_misplaced t || declares_rest t) fs
+is_stray_rest ObjectPattern l fs = any_beside fs
+is_stray_rest PatternProperty l (k then fs) = any_child_by is_misplaced k || any_beside fs
+is_stray_rest AssignmentPattern l fs = any_beside fs
 is_stray_rest k l fs = any_child is_misplaced fs

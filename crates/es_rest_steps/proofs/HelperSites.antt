@@ -18,7 +18,7 @@ use Rattle.es_steps.specs.Steps.TreesStep.{acts_on_flanked, after_flanked, flank
 use Rattle.es_steps.proofs.Passing.{body-passes, flanks-pass, whole-passes}
 use Rattle.es_rest_rows.specs.RestParts.{PartsWhere}
 use Rattle.es_rest_rows.specs.RestRows.{RestRow, RestWalkRow}
-use Rattle.es_rest_rows.specs.RestRows.RowsWhere.{stores, takes}
+use Rattle.es_rest_rows.specs.RestRows.RowsWhere.{nested, stores, takes}
 use Rattle.es_rest_rows.proofs.HelperNames.{FindsNone, helpers_name, is_other_name, place-none}
 
 pub body-none : (p : Place) (vs ls : List Tree) (e : Tree) → Passes is_other_name (body_with vs ls e) → FindsNone p → FindsNone (names_in_body p vs ls e)
@@ -59,6 +59,7 @@ module _ (R Q : Site → Ledger → Spot → Ledger → Spot → Type 0) (there 
 pub rows-there : (n : Site) (s s' : Ledger) (x y : Spot) → FindsNone n.names → RestWalkRow n s x s' y → RestRow n s x s' y
 rows-there n s s' x y e (stores m l a c p v z out kind plain declares kept silent fresh) = stores m l a c p v z out kind plain declares kept silent fresh
 rows-there n s s' x y e (takes m l lp lr ls a ps c t xs out kind plain name declares kept names asked used) = takes m l lp lr ls a ps c t xs out kind plain name declares kept names e used
+rows-there n s s' x y e (nested m l lp lq ls a ps rs c k p v u z out kind members bears plain puts declares kept fresh) = nested m l lp lq ls a ps rs c k p v u z out kind members bears plain puts declares kept fresh
 
 pub parts-there : (n : Site) (s s' : Ledger) (x y : Spot) → FindsNone n.names → PartsWhere (λ n. Unit {0}) n s x s' y → PartsWhere (λ n. n.names.scope helpers_name ≡ None) n s x s' y
 parts-there n s s' x y e (inl r) = inl r

@@ -1,9 +1,12 @@
-use Rattle.std.proofs.Common.{sym, ◌∙◌}
-use Rattle.es_rest_nodes.proofs.RestTests.{other-lists, two-lists-of}
+use Rattle.std.proofs.Common.{arith, sym}
+use Rattle.std.proofs.lemmas.Bool.{ltb-false, ltb-true}
+use Rattle.es_rest_nodes.proofs.RestTests.{other-lists}
 use Rattle.es_rest_nodes.proofs.keys.template_text.Goals as goal
+use Rattle.es_rest_nodes.proofs.keys.template_text.Goals.{in_default-via-then-fields-lt2, in_default-via-else-fields-lt2+else-fields-lt3}
 
-pub returns-then-fields-ne2 : goal.returns-then-fields-ne2
-returns-then-fields-ne2 c = sym (other-lists c.args.fields.now c.if-fields-ne2.true)
-
-pub returns : goal.returns
-returns c = c.lists_text.ensures ∙ two-lists-of c.args.fields.now c.index-fields-0.result c.index-fields-1.result c.if-fields-ne2.false c.index-fields-0.is c.index-fields-1.is
+pub returns-in_default : goal.returns-in_default
+returns-in_default c =
+    elim c.in_default.branch [
+      | in_default-via-then-fields-lt2 w ↦ sym (other-lists c.args.fields.now (omega (arith, ltb-true)))
+      | in_default-via-else-fields-lt2+else-fields-lt3 w ↦ sym (other-lists c.args.fields.now (omega (arith, ltb-false)))
+    ]

@@ -1,6 +1,0 @@
-use Rattle.std.proofs.Common.{arith, sym}
-use Rattle.es_rest_nodes.proofs.RestTests.{more-lists}
-use Rattle.es_rest_nodes.proofs.patterns.are_plain_parts.Goals as goal
-
-pub returns-in_default-3 : goal.returns-in_default-3
-returns-in_default-3 c = sym (more-lists _ c.args.fields.now (omega (arith, c.in_default.len_at_least)))
