@@ -239,7 +239,7 @@ pub record GroupsSoFar (old new : TraverseCtx TransformState) (all rest : List T
 pub so-far-first : (ctx : TraverseCtx TransformState) (all rest : List Tree) (s : Tree) (g : RestGroups) → rest ≡ all → g.declarators.items ≡ [] → g.properties.items ≡ [] → g.keys.items ≡ [] → g.is_read ≡ false → GroupsSoFar ctx ctx all rest s g
 so-far-first ctx all rest s g whole ds ps ks read = record { first = []; are = sym whole; made = makes-none ctx s g ds ps ks read }
 
-plain-among : (first : List Tree) (p : Tree) (rest : List Tree) → are_plain (trees (first ++ p ∷ rest)) ≡ true → is_plain_property p ≡ true
+pub plain-among : (first : List Tree) (p : Tree) (rest : List Tree) → are_plain (trees (first ++ p ∷ rest)) ≡ true → is_plain_property p ≡ true
 plain-among [] p rest h = (and_parts (is_plain_property p) (are_plain (trees rest)) h).0
 plain-among (q ∷ first) p rest h = plain-among first p rest (and_parts (is_plain_property q) (are_plain (trees (first ++ p ∷ rest))) h).1
 
@@ -253,7 +253,7 @@ module _ (old mid : TraverseCtx TransformState) (all rest : List Tree) (s p : Tr
   pub so-far-next : (new : TraverseCtx TransformState) (k : RestGroups) → AddsProperty mid new p s g k → GroupsSoFar old new all rest s k
   so-far-next new k adds = record { first = h.first ++ p ∷ []; are = h.are ∙ sym (append_assoc h.first (p ∷ []) rest); made = adds old h.first h.made }
 
-none-of : (ts : List Tree) → length ts ≡ 0 → ts ≡ []
+pub none-of : (ts : List Tree) → length ts ≡ 0 → ts ≡ []
 none-of [] e = refl
 none-of (t ∷ ts) e = absurd (omega (arith, e))
 

@@ -1,12 +1,13 @@
 -- Whether a source is kept: as the code asks it, and of what is seen.
 use Rattle.std.proofs.Common.{ap, length, refl, suc, sym, ◌-◌, ◌++◌, ◌==◌, ◌∙◌, ◌∷◌, ◌≡◌, [], List, Option, Some, ℕ}
+use Rattle.std.proofs.lemmas.Bool.{or_parts}
 use Rattle.std.proofs.lemmas.List.Folds.{list_any-append}
 use Rattle.std.specs.List.{list_any}
 use Rattle.std.specs.Prelude.{Bool, bytes_eq, false, if◌then◌else◌, is_some, not, string_bytes, true, ◌&&◌, ◌||◌}
 use Rattle.es_tree.specs.BoundNames.{bound_identifiers, bound_in_field, bound_in_fields, bound_in_first, bound_in_second, bound_in_trees}
 use Rattle.es_tree.specs.Fresh.{is_among}
 use Rattle.es_tree.specs.Names.{first_text}
-use Rattle.es_tree.specs.Tree.{Field, Fields, Tree, Trees, done, empty, label_of, many, missing, node, one, statements, ◌before◌, ◌then◌}
+use Rattle.es_tree.specs.Tree.{Field, Fields, Label, Tree, Trees, done, empty, label_of, many, missing, node, one, statements, ◌before◌, ◌then◌}
 use Rattle.es_tree.specs.Views.{plain, plain_fields}
 use Rattle.es_tree.specs.Words.{Text}
 use Rattle.es_tree.specs.declared.ast_type.AstType.TheVariants.{ArrayPattern, AssignmentPattern, Identifier, ObjectPattern, PatternProperty, RestElement}
@@ -20,11 +21,13 @@ use Rattle.es_tree.specs.declared.kind.Kind.TheVariants.{Identifier as k-Identif
 use Rattle.std.specs.declared.alloc.Global.{Global}
 use Rattle.std.specs.declared.string.String.{String}
 use Rattle.es_tree.specs.declared.node.Field.{Field as NodeField}
-use Rattle.es_resolution.specs.Declarations.{sought}
+use Rattle.es_resolution.specs.Declarations.{sought, symbol_of}
 use Rattle.es_resolution.specs.Resolved.{bound_by}
 use Rattle.es_resolution.specs.Seen.{seen, seen_among, seen_by, seen_in}
 use Rattle.es_runs.specs.Duplication.{has_no_fields}
 use Rattle.es_steps.specs.Duplication.{is_among_symbols}
+use Rattle.es_steps.specs.Nodes.{joined_trees}
+use Rattle.es_steps.specs.ObjectRest.{pattern_node}
 use Rattle.es_steps.specs.Steps.{Whole}
 use Rattle.es_traverse.specs.ContextMoments.{bound_names}
 use Rattle.es_rest_rows.specs.RestRows.{binds_name, is_kept}
@@ -87,6 +90,32 @@ made-named free (y ∷ ys) x = at (bytes_eq y x) (Some (free - suc (length ys)))
     at : (b : Bool) (s : Option ℕ) (o : Option (Option ℕ)) {c : Bool} → is_some o ≡ c → is_some (if b then Some s else o) ≡ (b || c)
     at true s o h = refl
     at false s o h = h
+
+-- A SOURCE THAT IS KEPT is kept later, once more names were made, by a pattern that binds fewer names
+
+pub kept-later : (w v : Whole) (p q s : Tree) → ((x : Text) → bound_by w.made x ≡ true → bound_by v.made x ≡ true) → v.steady ≡ w.steady → ((x : Text) → binds_name x p ≡ false → binds_name x q ≡ false) → is_kept w p s ≡ true → is_kept v q s ≡ true
+kept-later w v p q (node Identifier l done) made steady fewer h =
+    let x = first_text l.texts in
+    at (bound_by w.made x) (bound_by v.made x) (is_among_symbols w.steady (symbol_of l)) (is_among_symbols v.steady (symbol_of l)) (binds_name x p) (binds_name x q) (made x) (λ i. is_among_symbols (steady i) (symbol_of l)) (fewer x) h
+  where
+    at : (a b c d e f : Bool) → (a ≡ true → b ≡ true) → d ≡ c → (e ≡ false → f ≡ false) → (a || (c && not e)) ≡ true → (b || (d && not f)) ≡ true
+    at true b c d e f k g m h = ap (λ z. z || (d && not f)) (k refl)
+    at false true c d e f k g m h = refl
+    at false false true d false f k g m h = λ i. g i && not (m refl i)
+    at false false true d true f k g m h = absurd (cc h)
+    at false false false d e f k g m h = absurd (cc h)
+kept-later w v p q (node Identifier l (f then fs)) made steady fewer h = absurd (cc h)
+kept-later w v p q (node _ l fs) made steady fewer h = absurd (cc h)
+
+-- the last properties of a pattern bind no name that the pattern doesn't
+bound-joined : (x : Text) (xs ys : Trees) → list_any (has_name x) (bound_in_trees (joined_trees xs ys)) ≡ false → list_any (has_name x) (bound_in_trees ys) ≡ false
+bound-joined x empty ys h = h
+bound-joined x (t before xs) ys h =
+    let parts = or_parts (list_any (has_name x) (bound_identifiers t)) (list_any (has_name x) (bound_in_trees (joined_trees xs ys))) (sym (list_any-append (has_name x) (bound_identifiers t) (bound_in_trees (joined_trees xs ys))) ∙ h) in
+    bound-joined x xs ys parts.1
+
+pub binds-behind : (x : Text) (l m : Label) (xs ys : Trees) → binds_name x (pattern_node l (joined_trees xs ys)) ≡ false → binds_name x (pattern_node m ys) ≡ false
+binds-behind x l m xs ys h = bound-joined x xs ys h
 
 -- A SOURCE, by its fields
 

@@ -1,5 +1,6 @@
 -- The keys of properties, and their texts.
 use Rattle.std.proofs.Common.{ap, arith, length, refl, subst, sym, ◌+◌, ◌∙◌, ◌∷◌, ◌≡◌, [], List, Some, ℕ}
+use Rattle.std.proofs.lemmas.Bool.{and_parts}
 use Rattle.std.specs.Prelude.{Bool, false, not, true, ◌&&◌}
 use Rattle.es_tree.specs.Children.{child_at}
 use Rattle.es_tree.specs.Names.{has_computed}
@@ -9,7 +10,7 @@ use Rattle.es_patterns.specs.PatternsArity.{IsPatternProperty}
 use Rattle.es_resolution.specs.Declarations.{Bound}
 use Rattle.es_steps.specs.Nodes.{string_node}
 use Rattle.es_rest_rows.specs.RestRows.{keys_by, keys_of, text_of_key}
-use Rattle.es_rest_shapes.specs.RestShapes.{is_known_key, is_literal_key, is_plain_key, is_plain_property, key_text, reads_key}
+use Rattle.es_rest_shapes.specs.RestShapes.{is_known_key, is_literal_key, is_plain_key, is_plain_property, is_plain_value, key_text, reads_key}
 use Rattle.lower_object_rest.specs.Profile.{number_of}
 use Rattle.lower_object_rest.proofs.PatternShapes.{plain-property, read-property}
 
@@ -38,7 +39,7 @@ pub known-key : (t k : Tree) → Some k ≡ child_at 0 (fields_of t) → is_plai
 known-key t k e plain read =
     let p = plain-property t plain in
     let first : k ≡ p.key = at t p.label p.key p.value p.is e in
-    let both : is_plain_key (has_computed PatternProperty p.label.flags) p.key ≡ true = ap is_plain_property (sym p.is) ∙ plain in
+    let both = (and_parts (is_plain_key (has_computed PatternProperty p.label.flags) p.key) (is_plain_value p.value) (ap is_plain_property (sym p.is) ∙ plain)).0 in
     let unread : (has_computed PatternProperty p.label.flags && not (is_literal_key p.key)) ≡ false = ap reads_key (sym p.is) ∙ read in
     record {
       known = ap is_known_key first ∙ known (has_computed PatternProperty p.label.flags) p.key both unread;

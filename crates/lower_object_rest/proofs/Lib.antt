@@ -1,6 +1,8 @@
 pub mod Composition
 pub mod SeenShapes
 pub mod Steps
+pub mod Clear
+pub mod Turning
 pub mod Costs
 pub mod Declarators
 pub mod PatternShapes
@@ -8,5 +10,6 @@ pub mod Opened
 pub mod GroupsMade
 pub mod Keys
 pub mod KeptSources
+pub mod NestedMade
 pub mod Taken
 pub mod Whole

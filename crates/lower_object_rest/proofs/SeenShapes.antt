@@ -1,7 +1,7 @@
 -- What is seen of declarators and patterns: the same shapes, the same keys, and as many ids owed.
-use Rattle.std.proofs.Common.{ap, refl, ◌+◌, ◌≡◌, Option, ℕ}
-use Rattle.std.specs.Prelude.{Bool, if◌then◌else◌, is_some, not, ◌&&◌, ◌||◌}
-use Rattle.es_tree.specs.Bare.{bare_label}
+use Rattle.std.proofs.Common.{ap, refl, sym, ◌+◌, ◌∙◌, ◌≡◌, Option, ℕ}
+use Rattle.std.specs.Prelude.{if◌then◌else◌, is_some, not, ◌&&◌, ◌||◌}
+use Rattle.es_tree.specs.Bare.{bare, bare_field, bare_fields, bare_label, bare_trees}
 use Rattle.es_tree.specs.Constructs.{any_kind, is_rest}
 use Rattle.es_tree.specs.Names.{has_computed}
 use Rattle.es_tree.specs.Tree.{Field, Fields, Label, Tree, Trees, done, empty, many, missing, node, one, statements, trees_size, ◌before◌, ◌then◌}
@@ -12,19 +12,39 @@ use Rattle.es_resolution.specs.Seen.{seen, seen_among, seen_by, seen_in, seen_ma
 use Rattle.es_steps.specs.Nodes.{joined_trees, string_node}
 use Rattle.es_steps.specs.ObjectRest.{pattern_node}
 use Rattle.es_rest_rows.specs.RestRows.{text_of_key, with_rest}
-use Rattle.es_rest_shapes.specs.RestShapes.{any_tree, are_plain, ends_in_rest, is_known_key, is_literal_key, is_name, is_named_rest, is_plain_key, is_plain_pattern, is_plain_property, key_text, reads_key, template_text, text_of}
+use Rattle.es_rest_shapes.specs.RestShapes.{any_tree, are_plain, bears_among, bears_rest, is_literal_key, is_name, is_plain_pattern, is_plain_property, key_text, reads_key, template_text, text_of}
+use Rattle.es_rest_shapes.proofs.BareRests.{bears-bare, plain-bare, property-bare}
 use Rattle.lower_nodes.specs.Nodes.{owed, owed_among, owed_by, owed_in}
 use Rattle.lower_temporaries.proofs.SeenLaws.{size-seen}
 use Rattle.lower_temporaries.proofs.TwoFields.{two-seen}
 use Rattle.lower_object_rest.specs.Groups.{mapped_ids}
 use Rattle.lower_object_rest.specs.Parts.{taken_ids}
-use Rattle.lower_object_rest.specs.Profile.{key_ids, key_ids_by, rest_owes}
+use Rattle.lower_object_rest.specs.Profile.{key_ids, key_ids_by, nested_ids, nested_ids_by, nested_ids_of, rest_owes}
 use Rattle.lower_object_rest.specs.Shapes.{is_lowerable}
 
 module _ (names : ℕ → Text → Option ℕ) where
   joined-seen : (xs ys : Trees) → seen_among names (joined_trees xs ys) ≡ joined_trees (seen_among names xs) (seen_among names ys)
   joined-seen empty ys = refl
   joined-seen (x before xs) ys = ap (λ us. seen names x before us) (joined-seen xs ys)
+
+  -- what is seen of a tree, without its ids and marks
+  mutual
+    bare-seen : (t : Tree) → bare (seen names t) ≡ bare t
+    bare-seen (node k l fs) = λ i. node k (bare_label l) (bare-seen-in fs i)
+
+    bare-seen-in : (fs : Fields) → bare_fields (seen_in names fs) ≡ bare_fields fs
+    bare-seen-in done = refl
+    bare-seen-in (f then fs) = λ i. bare-seen-by f i then bare-seen-in fs i
+
+    bare-seen-by : (f : Field) → bare_field (seen_by names f) ≡ bare_field f
+    bare-seen-by missing = refl
+    bare-seen-by (one t) = λ i. one (bare-seen t i)
+    bare-seen-by (many ts) = λ i. many (bare-seen-among ts i)
+    bare-seen-by (statements ts) = λ i. statements (bare-seen-among ts i)
+
+    bare-seen-among : (ts : Trees) → bare_trees (seen_among names ts) ≡ bare_trees ts
+    bare-seen-among empty = refl
+    bare-seen-among (t before ts) = λ i. bare-seen t i before bare-seen-among ts i
 
   -- SHAPES
 
@@ -59,57 +79,22 @@ module _ (names : ℕ → Text → Option ℕ) where
   literal-seen (node TemplateLiteral l fs) = ap is_some (template-seen fs)
   literal-seen (node _ l fs) = refl
 
-  known-seen : (t : Tree) → is_known_key (seen names t) ≡ is_known_key t
-  known-seen (node Identifier l done) = refl
-  known-seen (node Identifier l (f then fs)) = refl
-  known-seen (node BigIntLiteral l fs) = literal-seen (node BigIntLiteral l fs)
-  known-seen (node NumericLiteral l fs) = literal-seen (node NumericLiteral l fs)
-  known-seen (node StringLiteral l fs) = literal-seen (node StringLiteral l fs)
-  known-seen (node TemplateLiteral l fs) = literal-seen (node TemplateLiteral l fs)
-  known-seen (node _ l fs) = refl
-
-  key-seen : (computed : Bool) (t : Tree) → is_plain_key computed (seen names t) ≡ is_plain_key computed t
-  key-seen computed t = ap (λ b. computed || b) (known-seen t)
-
   property-seen : (t : Tree) → is_plain_property (seen names t) ≡ is_plain_property t
-  property-seen (node PatternProperty l (one k then (one v then done))) = key-seen (has_computed PatternProperty l.flags) k
-  property-seen (node PatternProperty l done) = refl
-  property-seen (node PatternProperty l (missing then fs)) = refl
-  property-seen (node PatternProperty l (many ts then fs)) = refl
-  property-seen (node PatternProperty l (statements ts then fs)) = refl
-  property-seen (node PatternProperty l (one k then done)) = refl
-  property-seen (node PatternProperty l (one k then (missing then fs))) = refl
-  property-seen (node PatternProperty l (one k then (many ts then fs))) = refl
-  property-seen (node PatternProperty l (one k then (statements ts then fs))) = refl
-  property-seen (node PatternProperty l (one k then (one v then (f then fs)))) = refl
-  property-seen (node _ l fs) = refl
+  property-seen t = sym (property-bare (seen names t)) ∙ (ap is_plain_property (bare-seen t) ∙ property-bare t)
 
   pub plain-seen : (ts : Trees) → are_plain (seen_among names ts) ≡ are_plain ts
   plain-seen empty = refl
   plain-seen (t before ts) = λ i. property-seen t i && plain-seen ts i
 
-  rest-seen : (t : Tree) → is_named_rest (seen names t) ≡ is_named_rest t
-  rest-seen (node RestElement l (one t then done)) = name-seen t
-  rest-seen (node RestElement l done) = refl
-  rest-seen (node RestElement l (missing then fs)) = refl
-  rest-seen (node RestElement l (many ts then fs)) = refl
-  rest-seen (node RestElement l (statements ts then fs)) = refl
-  rest-seen (node RestElement l (one t then (f then fs))) = refl
-  rest-seen (node _ l fs) = refl
-
-  ends-seen : (ts : Trees) → ends_in_rest (seen_among names ts) ≡ ends_in_rest ts
-  ends-seen empty = refl
-  ends-seen (t before empty) = rest-seen t
-  ends-seen (t before (u before us)) = λ i. property-seen t i && ends-seen (u before us) i
-
   pub pattern-seen : (t : Tree) → is_plain_pattern (seen names t) ≡ is_plain_pattern t
-  pattern-seen (node ObjectPattern l (many ps then done)) = ends-seen ps
-  pattern-seen (node ObjectPattern l done) = refl
-  pattern-seen (node ObjectPattern l (missing then fs)) = refl
-  pattern-seen (node ObjectPattern l (one t then fs)) = refl
-  pattern-seen (node ObjectPattern l (statements ts then fs)) = refl
-  pattern-seen (node ObjectPattern l (many ts then (f then fs))) = refl
-  pattern-seen (node _ l fs) = refl
+  pattern-seen t = sym (plain-bare (seen names t)) ∙ (ap is_plain_pattern (bare-seen t) ∙ plain-bare t)
+
+  pub bears-seen : (t : Tree) → bears_rest (seen names t) ≡ bears_rest t
+  bears-seen t = sym (bears-bare (seen names t)) ∙ (ap bears_rest (bare-seen t) ∙ bears-bare t)
+
+  pub any-bears-seen : (ts : Trees) → bears_among (seen_among names ts) ≡ bears_among ts
+  any-bears-seen empty = refl
+  any-bears-seen (t before ts) = λ i. bears-seen t i || any-bears-seen ts i
 
   pub lowerable-seen : (d : Tree) → is_lowerable (seen names d) ≡ is_lowerable d
   lowerable-seen (node VariableDeclarator l fs) = two-seen names (λ p e. is_plain_pattern p) (λ p e. pattern-seen p) fs
@@ -159,7 +144,7 @@ module _ (names : ℕ → Text → Option ℕ) where
 
   -- IDS OWED
 
-  kinds-seen : (ts : Trees) → any_kind is_rest (seen_among names ts) ≡ any_kind is_rest ts
+  pub kinds-seen : (ts : Trees) → any_kind is_rest (seen_among names ts) ≡ any_kind is_rest ts
   kinds-seen empty = refl
   kinds-seen (node k l fs before ts) = ap (λ b. is_rest k || b) (kinds-seen ts)
 
@@ -167,13 +152,21 @@ module _ (names : ℕ → Text → Option ℕ) where
   key_ids-seen empty = refl
   key_ids-seen (t before ts) = λ i. key_ids_by (reads-seen t i) + key_ids-seen ts i
 
+  nested-of-seen : (t : Tree) → nested_ids_of (seen names t) ≡ nested_ids_of t
+  nested-of-seen (node PatternProperty l fs) = ap nested_ids_by (bears-seen (node PatternProperty l fs))
+  nested-of-seen (node _ l fs) = refl
+
+  pub nested_ids-seen : (ts : Trees) → nested_ids (seen_among names ts) ≡ nested_ids ts
+  nested_ids-seen empty = refl
+  nested_ids-seen (t before ts) = λ i. nested-of-seen t i + nested_ids-seen ts i
+
   -- and as many are given for it
   pub ids-seen : (ts : Trees) → taken_ids (seen_among names ts) ≡ taken_ids ts
   ids-seen empty = refl
   ids-seen (t before ts) = λ i. 8 + key_ids-seen (t before ts) i + mapped_ids (any-read-seen (t before ts) i)
 
   own-seen : (k : AstType) (l m : Label) (fs : Fields) → rest_owes k m (seen_in names fs) ≡ rest_owes k l fs
-  own-seen ObjectPattern l m (many ps then fs) = λ i. if kinds-seen ps i then 16 + key_ids-seen ps i else 0
+  own-seen ObjectPattern l m (many ps then fs) = λ i. (if kinds-seen ps i then 16 + key_ids-seen ps i else 0) + nested_ids-seen ps i
   own-seen ObjectPattern l m done = refl
   own-seen ObjectPattern l m (missing then fs) = refl
   own-seen ObjectPattern l m (one t then fs) = refl

@@ -8,7 +8,7 @@ use Rattle.es_tree.specs.Tree.{Field, Fields, Label, Tree, Trees, done, empty, m
 use Rattle.es_tree.specs.Walks.{any_in_field, any_in_fields, any_in_trees, any_node}
 use Rattle.es_tree.specs.Words.{Text}
 use Rattle.es_tree.specs.declared.ast_type.AstType.{AstType}
-use Rattle.es_tree.specs.declared.ast_type.AstType.TheVariants.{ExportNamedDeclaration, ObjectPattern, VariableDeclaration, VariableDeclarator}
+use Rattle.es_tree.specs.declared.ast_type.AstType.TheVariants.{ExportNamedDeclaration, VariableDeclaration, VariableDeclarator}
 use Rattle.es_tree.specs.declared.options.EnvOptions.{EnvOptions}
 use Rattle.es_tree.specs.declared.table.Sort.{Sort}
 use Rattle.es_tree.proofs.NodeForm.{node_form}
@@ -24,8 +24,7 @@ use Rattle.es_changes.specs.Moments.{whole_at}
 use Rattle.es_traverse.specs.Laws.{Seen, is_construct}
 use Rattle.es_valid_rests.proofs.RestFormsDeclared.{declaration-parts}
 use Rattle.es_rest_rows.specs.RestRows.{RestWalkRow, declaring, is_exported}
-use Rattle.es_rest_rows.proofs.PlainPatterns.{ends-rest}
-use Rattle.es_rest_shapes.specs.RestShapes.{any_tree, declares_rest, is_plain_pattern, is_rest_declaration, is_rest_declarator, is_rest_pattern, is_stray_rest}
+use Rattle.es_rest_shapes.specs.RestShapes.{any_tree, declares_rest, is_rest_declaration, is_rest_declarator, is_stray_rest}
 use Rattle.lower_nodes.specs.Nodes.{Alike, Lowered, PaidTree, Stands, owed}
 use Rattle.lower_nodes.specs.Nodes.Alike.{changed}
 use Rattle.lower_temporaries.specs.Takings.{moment_of}
@@ -35,21 +34,13 @@ use Rattle.lower_object_rest.specs.Profile.{barred_where, is_declaration, object
 use Rattle.lower_object_rest.specs.Shapes.{is_lowerable, is_lowerable_declaration}
 use Rattle.lower_object_rest.specs.Whole.{LowersDeclaration}
 use Rattle.lower_object_rest.proofs.Declarators.{no-rest}
+use Rattle.lower_object_rest.proofs.PatternShapes.{pattern-bears}
 use Rattle.lower_object_rest.proofs.SeenShapes.{lowerable-seen}
 
 -- WHAT IS LOWERED, and what is seen of it
 
 lowerable-rest : (d : Tree) → is_lowerable d ≡ true → is_rest_declarator d ≡ true
-lowerable-rest (node VariableDeclarator l (one p then (one e then done))) h = pattern p h
-  where
-    pattern : (p : Tree) → is_plain_pattern p ≡ true → is_rest_pattern p ≡ true
-    pattern (node ObjectPattern m (many ps then done)) h = ends-rest ps h
-    pattern (node ObjectPattern m done) h = absurd (cc h)
-    pattern (node ObjectPattern m (missing then fs)) h = absurd (cc h)
-    pattern (node ObjectPattern m (one t then fs)) h = absurd (cc h)
-    pattern (node ObjectPattern m (statements ts then fs)) h = absurd (cc h)
-    pattern (node ObjectPattern m (many ts then (f then fs))) h = absurd (cc h)
-    pattern (node _ m fs) h = absurd (cc h)
+lowerable-rest (node VariableDeclarator l (one p then (one e then done))) h = pattern-bears p h
 lowerable-rest (node VariableDeclarator l done) h = absurd (cc h)
 lowerable-rest (node VariableDeclarator l (missing then fs)) h = absurd (cc h)
 lowerable-rest (node VariableDeclarator l (many ts then fs)) h = absurd (cc h)

@@ -3,6 +3,7 @@ pub mod Profile
 pub mod Groups
 pub mod Parts
 pub mod Declarators
+pub mod Nested
 pub mod Whole
 pub mod Rule
 pub mod Stays

@@ -1,12 +1,12 @@
 -- A pattern with a rest taken apart, and what is made of its parts.
-use Rattle.std.specs.Prelude.{◌+◌, ◌++◌, ◌≡◌, Bool, List, Option, bytes_eq, codes, false, true, ℕ}
+use Rattle.std.specs.Prelude.{◌+◌, ◌∷◌, ◌≡◌, Bool, List, Option, [], bytes_eq, codes, false, true, ℕ}
 use Rattle.std.specs.List.{list_any}
 use Rattle.es_tree.specs.Bare.{bare_label}
 use Rattle.es_tree.specs.BoundNames.{bound_identifiers}
 use Rattle.es_tree.specs.Fresh.{node_base}
 use Rattle.es_tree.specs.Heads.{head_of, label}
 use Rattle.es_tree.specs.Names.{first_text}
-use Rattle.es_tree.specs.Tree.{Fields, Label, Tree, Trees, empty, fields_of, many, node, trees, ◌before◌, ◌then◌}
+use Rattle.es_tree.specs.Tree.{Label, Tree, Trees, empty, node, trees, ◌before◌}
 use Rattle.es_tree.specs.Words.{Text}
 use Rattle.es_tree.specs.declared.ast_type.AstType.TheVariants.{Identifier}
 use Rattle.es_tree.specs.declared.kind.Kind.TheVariants.{ObjectPattern as k-ObjectPattern}
@@ -18,12 +18,16 @@ use Rattle.es_steps.specs.Nodes.{declarator_with, identifier, joined_trees}
 use Rattle.es_steps.specs.ObjectRest.{helper_node, whole_value}
 use Rattle.es_changes.specs.Moments.{whole_at}
 use Rattle.es_rest_rows.specs.RestRows.{groups, keys_of, left_of, taken, with_rest}
-use Rattle.es_rest_shapes.specs.RestShapes.{any_tree, are_plain, is_name, reads_key}
+use Rattle.es_rest_shapes.specs.RestShapes.{any_tree, are_plain, bears_among, is_name, is_named_rest, reads_key}
 use Rattle.lower_temporaries.specs.SeenTrees.{IsSeenAs}
 use Rattle.lower_temporaries.specs.Takings.{ReadsMore, TakesBound, moment_of}
 use Rattle.lower_temporaries.specs.declared.state.TransformState.{TransformState}
 use Rattle.lower_object_rest.specs.Groups.{Gives, NamesRead, mapped_ids}
 use Rattle.lower_object_rest.specs.Profile.{key_ids}
+use Rattle.es_patterns.specs.PatternsPlain.{plain_object_pattern}
+use Rattle.es_patterns.specs.declared.patterns.ObjectPattern.{ObjectPattern}
+use Rattle.lower_object_rest.specs.declared.rests.OpenPattern.{OpenPattern}
+use Rattle.lower_object_rest.specs.declared.rests.OpenPattern.TheVariants.{WithRest, WithoutRest}
 use Rattle.lower_object_rest.specs.declared.rests.RestPattern.{RestPattern}
 
 -- `babelHelpers.objectWithoutProperties`
@@ -39,14 +43,6 @@ is_called x _ = false
 abbrev pub binds_called : Text → Tree → Bool
 binds_called x p = list_any (is_called x) (bound_identifiers p)
 
--- the ids for the keys of a pattern, of which its rest has one
-abbrev pub pattern_ids_in : Fields → ℕ
-pattern_ids_in (many ps then fs) = key_ids ps
-pattern_ids_in _ = 0
-
-abbrev pub pattern_ids : Tree → ℕ
-pattern_ids p = pattern_ids_in (fields_of p)
-
 -- These properties and this name of the rest make the pattern.
 pub record Parts (p : Tree) (lp : Label) (ps : List Tree) (t : Tree) : Type 0 where
   pub rest : Label
@@ -59,6 +55,23 @@ pattern_label r = label r.id r.span (head_of k-ObjectPattern)
 
 abbrev pub TakesApart : Tree → RestPattern → Type 0
 TakesApart p r = Parts p (pattern_label r) r.properties.items r.target
+
+-- whether the last member is a rest that is a name
+abbrev pub ends_in_rest : List Tree → Bool
+ends_in_rest [] = false
+ends_in_rest (t ∷ []) = is_named_rest t
+ends_in_rest (t ∷ u ∷ us) = ends_in_rest (u ∷ us)
+
+-- These properties make the pattern, and a pattern in one of them bears a rest.
+pub record IsWithoutRest (p : Tree) (q : ObjectPattern) : Type 0 where
+  pub pattern : p ≡ plain_object_pattern q
+  pub plain : are_plain (trees q.properties.items) ≡ true
+  pub bears : bears_among (trees q.properties.items) ≡ true
+
+-- a pattern taken apart, with a rest of its own or without
+abbrev pub Opens : Tree → OpenPattern → Type 0
+Opens p (WithRest r) = TakesApart p r
+Opens p (WithoutRest q) = IsWithoutRest p q
 
 -- what is seen of the parts of a pattern, as it is taken from this source with these names of keys
 abbrev pub seen_taken : (ℕ → Text → Option ℕ) → Label → Tree → List Bound → List Tree → Tree → Trees
@@ -102,8 +115,10 @@ pub record Stores (old new : TraverseCtx TransformState) (e declarator read : Tr
   pub read_is : IsSeenAs read (identifier name)
   pub takes : TakesBound name 3 (moment_of old) (moment_of new)
 
--- they stand behind those made before
-pub record AddsTaken (old new : TraverseCtx TransformState) (p s : Tree) (ts us : List Tree) : Type 0 where
-  pub added : List Tree
-  pub are : us ≡ ts ++ added
-  pub takes : Takes old new p s added
+-- The next name of the base `ref`, as it is bound and as it is read.
+pub record MakesReference (old new : TraverseCtx TransformState) (binding read : Tree) : Type 0 where
+  pub name : Bound
+  pub next : IsNext (whole_at (moment_of old)) (codes "ref") name
+  pub binding_is : IsSeenAs binding (identifier name)
+  pub read_is : IsSeenAs read (identifier name)
+  pub takes : TakesBound name 2 (moment_of old) (moment_of new)

@@ -23,7 +23,7 @@ use Rattle.es_valid_rests.proofs.RestFormsDeclared.{split-form, takes-form}
 use Rattle.es_rest_rows.specs.Laws.{AtNode}
 use Rattle.es_rest_rows.specs.RestParts.{PartsWhere}
 use Rattle.es_rest_rows.specs.RestRows.{RestWalkRow, is_exported}
-use Rattle.es_rest_rows.specs.RestRows.RowsWhere.{stores, takes}
+use Rattle.es_rest_rows.specs.RestRows.RowsWhere.{nested, stores, takes}
 use Rattle.es_rest_rows.proofs.RowsAmongRules.{row-parts}
 use Rattle.lower_nodes.specs.Nodes.{IsNodeRule, no_names}
 
@@ -34,10 +34,12 @@ all_declare_joined (x before xs) ys h k = let parts = and_parts (is_binding (chi
 at_nodes : (n : Site) (s s' : Ledger) (x y : Spot) → RestWalkRow n s x s' y → AtNodes x y
 at_nodes n s s' x y (stores m l a c p e z inside declares plain binds kept silent fresh) = tt
 at_nodes n s s' x y (takes m l lp lr ls a ps c t xs inside declares plain name binds kept named asked used) = tt
+at_nodes n s s' x y (nested m l lp lq ls a ps rs c k p v u z inside declares plain none bears put binds kept fresh) = tt
 
 keeps_bodies : (n : Site) (s s' : Ledger) (t u : Tree) → RestWalkRow n s (at_node t) s' (at_node u) → is_statement_body u ≡ is_statement_body t
 keeps_bodies n s s' t u (stores m l a c p e z inside declares plain binds kept silent fresh) = refl
 keeps_bodies n s s' t u (takes m l lp lr ls a ps c v xs inside declares plain name binds kept named asked used) = refl
+keeps_bodies n s s' t u (nested m l lp lq ls a ps rs c k p v w z inside declares plain none bears put binds kept fresh) = refl
 
 -- it asks for the ancestors alone
 same_exported : (n o : Site) → AreAlike no_names n o → is_exported n ≡ false → is_exported o ≡ false
@@ -46,6 +48,7 @@ same_exported n o h e = (λ i. stands_in ExportNamedDeclaration 0 (h.above i)) �
 is_local : IsLocal (λ s. no_names) RestWalkRow
 is_local n o s s' x y h (stores m l a c p e z inside declares plain binds kept silent fresh) = stores m l a c p e z (same_exported n o h inside) declares plain binds kept silent fresh
 is_local n o s s' x y h (takes m l lp lr ls a ps c t xs inside declares plain name binds kept named asked used) = takes m l lp lr ls a ps c t xs (same_exported n o h inside) declares plain name binds kept named tt used
+is_local n o s s' x y h (nested m l lp lq ls a ps rs c k p v u z inside declares plain none bears put binds kept fresh) = nested m l lp lq ls a ps rs c k p v u z (same_exported n o h inside) declares plain none bears put binds kept fresh
 
 -- FORM, by that of the rules of object rests, of which a row is steps
 
@@ -64,8 +67,10 @@ module _ (asked : Site → Type 0) (n : Site) (b : Sort) (slot : is_slot n.above
 no_new_names : (n : Site) (s s' : Ledger) (t u : Tree) → RestWalkRow n s (at_node t) s' (at_node u) → NewNames s s'
 no_new_names n s s' t u (stores {q = q} m l a c p e z inside declares plain binds kept silent fresh) = record { names = []; texts = tt; pending = no-names q; this = refl; top = refl }
 no_new_names n s s' t u (takes {q = q} m l lp lr ls a ps c v xs inside declares plain name binds kept named asked used) = record { names = []; texts = tt; pending = no-names q; this = refl; top = refl }
+no_new_names n s s' t u (nested {q = q} m l lp lq ls a ps rs c k p v w z inside declares plain none bears put binds kept fresh) = record { names = []; texts = tt; pending = no-names q; this = refl; top = refl }
 
-keeps_form : (n : Site) (s s' : Ledger) (t u : Tree) (b : Sort) → (is_slot n.above ≡ true → b ≡ s-Expression) → RestWalkRow n s (at_node t) s' (at_node u) → has_form b t ≡ true → NodeFormed b s s' u
+-- the form of a declaration, too
+pub keeps_form : (n : Site) (s s' : Ledger) (t u : Tree) (b : Sort) → (is_slot n.above ≡ true → b ≡ s-Expression) → RestWalkRow n s (at_node t) s' (at_node u) → has_form b t ≡ true → NodeFormed b s s' u
 keeps_form n s s' t u b slot row h = record { formed = parts_form (λ o. Unit {0}) n b slot s s' t u (row-parts (λ o. Unit {0}) n s s' t u row) h; names = no_new_names n s s' t u row }
 
 -- WHERE IT IS ON, and where it isn't

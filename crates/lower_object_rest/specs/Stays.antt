@@ -4,17 +4,17 @@ use Rattle.std.proofs.lemmas.Bool.{or_from, or_parts}
 use Rattle.std.specs.Prelude.{Bool, false, if◌then◌else◌, is_some, not, true, ◌&&◌, ◌||◌}
 use Rattle.es_tree.specs.Constructs.{any_kind, is_object_rest, is_rest}
 use Rattle.es_tree.specs.Names.{has_computed}
-use Rattle.es_tree.specs.Tree.{Fields, Label, Tree, Trees, empty, many, node, ◌before◌, ◌then◌}
+use Rattle.es_tree.specs.Tree.{Field, Fields, Label, Tree, Trees, empty, many, node, ◌before◌, ◌then◌}
 use Rattle.es_tree.specs.Walks.{any_in_fields, any_in_trees, any_node}
 use Rattle.es_tree.specs.declared.ast_type.AstType.{AstType}
-use Rattle.es_tree.specs.declared.ast_type.AstType.TheVariants.{BigIntLiteral, ExportNamedDeclaration, Identifier, NumericLiteral, ObjectPattern, ObjectTarget, PatternProperty, RestElement, StringLiteral, TemplateElement, TemplateLiteral, VariableDeclaration, VariableDeclarator}
-use Rattle.es_rest_shapes.specs.RestShapes.{any_child, any_tree, declares_rest, ends_in_rest, is_known_key, is_literal_key, is_misplaced, is_name, is_named_rest, is_odd_pattern, is_plain_key, is_plain_pattern, is_plain_property, is_rest_declaration, is_rest_declarator, is_rest_pattern, is_stray_rest, reads_key, template_text}
-use Rattle.lower_nodes.specs.Nodes.{Alike, AlikeAmong, AlikeIn}
+use Rattle.es_tree.specs.declared.ast_type.AstType.TheVariants.{AssignmentPattern, BigIntLiteral, ExportNamedDeclaration, Identifier, NumericLiteral, ObjectPattern, ObjectTarget, PatternProperty, RestElement, StringLiteral, TemplateElement, TemplateLiteral, VariableDeclaration, VariableDeclarator}
+use Rattle.es_rest_shapes.specs.RestShapes.{any_beside, any_child, any_child_by, any_tree, are_plain_members, are_plain_parts, bears_among, bears_by, bears_first, bears_rest, bears_second, declares_rest, is_known_key, is_literal_key, is_misplaced, is_name, is_named_rest, is_odd_pattern, is_plain_first, is_plain_key, is_plain_pattern, is_plain_property, is_plain_target, is_plain_value, is_rest_declaration, is_rest_declarator, is_stray_rest, reads_key, template_text}
+use Rattle.lower_nodes.specs.Nodes.{Alike, AlikeAmong, AlikeBy, AlikeIn}
 use Rattle.lower_nodes.specs.Nodes.Alike.{changed, within}
 use Rattle.lower_nodes.specs.Nodes.AlikeIn.{no_fields, fields_alike}
 use Rattle.lower_nodes.specs.Nodes.AlikeBy.{both_missing, one_alike, many_alike, statements_alike}
 use Rattle.lower_nodes.specs.Nodes.AlikeAmong.{no_trees, trees_alike}
-use Rattle.lower_object_rest.specs.Profile.{is_declaration, key_ids, key_ids_by, rest_owes}
+use Rattle.lower_object_rest.specs.Profile.{is_declaration, key_ids, key_ids_by, nested_ids, nested_ids_by, nested_ids_of, rest_owes}
 
 abbrev pub Same : Tree → Tree → Type 0
 Same = Alike is_declaration
@@ -37,12 +37,15 @@ module _ (test : Tree → Bool) (same : (t u : Tree) → Same t u → test u ≡
   any_alike no_trees = refl
   any_alike (trees_alike {t = t} {u = u} h r) = λ i. same t u h i || any_alike r i
 
+  by_alike : {f g : Field} → AlikeBy is_declaration f g → any_child_by test g ≡ any_child_by test f
+  by_alike both_missing = refl
+  by_alike (one_alike {t = t} {u = u} h) = same t u h
+  by_alike (many_alike h) = any_alike h
+  by_alike (statements_alike h) = any_alike h
+
   child_alike : {fs gs : Fields} → SameIn fs gs → any_child test gs ≡ any_child test fs
   child_alike no_fields = refl
-  child_alike (fields_alike both_missing r) = child_alike r
-  child_alike (fields_alike (one_alike {t = t} {u = u} h) r) = λ i. same t u h i || child_alike r i
-  child_alike (fields_alike (many_alike h) r) = λ i. any_alike h i || child_alike r i
-  child_alike (fields_alike (statements_alike h) r) = λ i. any_alike h i || child_alike r i
+  child_alike (fields_alike h r) = λ i. by_alike h i || child_alike r i
 
 -- PATTERNS
 
@@ -64,9 +67,32 @@ rests_alike ObjectTarget l (fields_alike (many_alike h) r) = kinds_alike h
 rests_alike ObjectTarget l (fields_alike (statements_alike h) r) = refl
 rests_alike _ l h = refl
 
-rest_pattern_alike : {t u : Tree} → Same t u → is_rest_pattern u ≡ is_rest_pattern t
-rest_pattern_alike (changed {k = k} {l = l} {fs = fs} {gs = gs} e) = changed_only (λ j. is_object_rest j l gs ≡ is_object_rest j l fs) refl k e
-rest_pattern_alike (within {k = k} {l = l} h) = rests_alike k l h
+mutual
+  bears_alike : {t u : Tree} → Same t u → bears_rest u ≡ bears_rest t
+  bears_alike (changed {k = k} {l = l} {fs = fs} {gs = gs} e) = changed_only (λ j. bears_rest (node j l gs) ≡ bears_rest (node j l fs)) refl k e
+  bears_alike (within {k = ObjectPattern} {l = l} h) = λ i. rests_alike ObjectPattern l h i || first_alike h i
+  bears_alike (within {k = PatternProperty} h) = second_alike h
+  bears_alike (within {k = AssignmentPattern} h) = first_alike h
+  bears_alike (within {k = ObjectTarget} {l = l} h) = rests_alike ObjectTarget l h
+  bears_alike (within {k = _} h) = refl
+
+  first_alike : {fs gs : Fields} → SameIn fs gs → bears_first gs ≡ bears_first fs
+  first_alike no_fields = refl
+  first_alike (fields_alike h r) = bears_alike_by h
+
+  second_alike : {fs gs : Fields} → SameIn fs gs → bears_second gs ≡ bears_second fs
+  second_alike no_fields = refl
+  second_alike (fields_alike h r) = first_alike r
+
+  bears_alike_by : {f g : Field} → AlikeBy is_declaration f g → bears_by g ≡ bears_by f
+  bears_alike_by both_missing = refl
+  bears_alike_by (one_alike h) = bears_alike h
+  bears_alike_by (many_alike h) = bears_alike_among h
+  bears_alike_by (statements_alike h) = bears_alike_among h
+
+  bears_alike_among : {ts us : Trees} → SameAmong ts us → bears_among us ≡ bears_among ts
+  bears_alike_among no_trees = refl
+  bears_alike_among (trees_alike h r) = λ i. bears_alike h i || bears_alike_among r i
 
 name_within : (k : AstType) (l : Label) {fs gs : Fields} → SameIn fs gs → is_name (node k l gs) ≡ is_name (node k l fs)
 name_within Identifier l no_fields = refl
@@ -130,23 +156,6 @@ known_alike (within {k = k} {l = l} h) = known_within k l h
 key_alike : (computed : Bool) {t u : Tree} → Same t u → is_plain_key computed u ≡ is_plain_key computed t
 key_alike computed h = ap (λ b. computed || b) (known_alike h)
 
-property_within : (k : AstType) (l : Label) {fs gs : Fields} → SameIn fs gs → is_plain_property (node k l gs) ≡ is_plain_property (node k l fs)
-property_within PatternProperty l (fields_alike (one_alike h) (fields_alike (one_alike v) no_fields)) = key_alike (has_computed PatternProperty l.flags) h
-property_within PatternProperty l no_fields = refl
-property_within PatternProperty l (fields_alike both_missing r) = refl
-property_within PatternProperty l (fields_alike (many_alike h) r) = refl
-property_within PatternProperty l (fields_alike (statements_alike h) r) = refl
-property_within PatternProperty l (fields_alike (one_alike h) no_fields) = refl
-property_within PatternProperty l (fields_alike (one_alike h) (fields_alike both_missing r)) = refl
-property_within PatternProperty l (fields_alike (one_alike h) (fields_alike (many_alike v) r)) = refl
-property_within PatternProperty l (fields_alike (one_alike h) (fields_alike (statements_alike v) r)) = refl
-property_within PatternProperty l (fields_alike (one_alike h) (fields_alike (one_alike v) (fields_alike w r))) = refl
-property_within _ l h = refl
-
-property_alike : {t u : Tree} → Same t u → is_plain_property u ≡ is_plain_property t
-property_alike (changed {k = k} {l = l} {fs = fs} {gs = gs} e) = changed_only (λ j. is_plain_property (node j l gs) ≡ is_plain_property (node j l fs)) refl k e
-property_alike (within {k = k} {l = l} h) = property_within k l h
-
 literal_alike : {t u : Tree} → Same t u → is_literal_key u ≡ is_literal_key t
 literal_alike (changed {k = k} {l = l} {fs = fs} {gs = gs} e) = changed_only (λ j. is_literal_key (node j l gs) ≡ is_literal_key (node j l fs)) refl k e
 literal_alike (within {k = k} {l = l} h) = literal_within k l h
@@ -181,28 +190,70 @@ rest_alike : {t u : Tree} → Same t u → is_named_rest u ≡ is_named_rest t
 rest_alike (changed {k = k} {l = l} {fs = fs} {gs = gs} e) = changed_only (λ j. is_named_rest (node j l gs) ≡ is_named_rest (node j l fs)) refl k e
 rest_alike (within {k = k} {l = l} h) = rest_within k l h
 
-ends_alike : {ts us : Trees} → SameAmong ts us → ends_in_rest us ≡ ends_in_rest ts
-ends_alike no_trees = refl
-ends_alike (trees_alike h no_trees) = rest_alike h
-ends_alike (trees_alike h (trees_alike g r)) = λ i. property_alike h i && ends_alike (trees_alike g r) i
+-- properties, and the patterns in their values
+mutual
+  property_alike : {t u : Tree} → Same t u → is_plain_property u ≡ is_plain_property t
+  property_alike (changed {k = k} {l = l} {fs = fs} {gs = gs} e) = changed_only (λ j. is_plain_property (node j l gs) ≡ is_plain_property (node j l fs)) refl k e
+  property_alike (within {k = k} {l = l} h) = property_within k l h
 
-pattern_within : (k : AstType) (l : Label) {fs gs : Fields} → SameIn fs gs → is_plain_pattern (node k l gs) ≡ is_plain_pattern (node k l fs)
-pattern_within ObjectPattern l (fields_alike (many_alike h) no_fields) = ends_alike h
-pattern_within ObjectPattern l no_fields = refl
-pattern_within ObjectPattern l (fields_alike both_missing r) = refl
-pattern_within ObjectPattern l (fields_alike (one_alike h) r) = refl
-pattern_within ObjectPattern l (fields_alike (statements_alike h) r) = refl
-pattern_within ObjectPattern l (fields_alike (many_alike h) (fields_alike v r)) = refl
-pattern_within _ l h = refl
+  property_within : (k : AstType) (l : Label) {fs gs : Fields} → SameIn fs gs → is_plain_property (node k l gs) ≡ is_plain_property (node k l fs)
+  property_within PatternProperty l (fields_alike (one_alike h) (fields_alike (one_alike v) no_fields)) = λ i. key_alike (has_computed PatternProperty l.flags) h i && value_alike v i
+  property_within PatternProperty l no_fields = refl
+  property_within PatternProperty l (fields_alike both_missing r) = refl
+  property_within PatternProperty l (fields_alike (many_alike h) r) = refl
+  property_within PatternProperty l (fields_alike (statements_alike h) r) = refl
+  property_within PatternProperty l (fields_alike (one_alike h) no_fields) = refl
+  property_within PatternProperty l (fields_alike (one_alike h) (fields_alike both_missing r)) = refl
+  property_within PatternProperty l (fields_alike (one_alike h) (fields_alike (many_alike v) r)) = refl
+  property_within PatternProperty l (fields_alike (one_alike h) (fields_alike (statements_alike v) r)) = refl
+  property_within PatternProperty l (fields_alike (one_alike h) (fields_alike (one_alike v) (fields_alike w r))) = refl
+  property_within _ l h = refl
+
+  value_alike : {t u : Tree} → Same t u → is_plain_value u ≡ is_plain_value t
+  value_alike (changed {k = k} {l = l} {fs = fs} {gs = gs} e) = changed_only (λ j. is_plain_value (node j l gs) ≡ is_plain_value (node j l fs)) refl k e
+  value_alike (within {k = ObjectPattern} h) = parts_alike h
+  value_alike (within {k = AssignmentPattern} h) = default_alike h
+  value_alike (within {k = k} {l = l} h) = ap not (bears_alike (within {k = k} {l = l} h))
+
+  default_alike : {fs gs : Fields} → SameIn fs gs → is_plain_first gs ≡ is_plain_first fs
+  default_alike (fields_alike (one_alike h) (fields_alike (one_alike v) no_fields)) = target_alike h
+  default_alike no_fields = refl
+  default_alike (fields_alike both_missing r) = refl
+  default_alike (fields_alike (many_alike h) r) = refl
+  default_alike (fields_alike (statements_alike h) r) = refl
+  default_alike (fields_alike (one_alike h) no_fields) = refl
+  default_alike (fields_alike (one_alike h) (fields_alike both_missing r)) = refl
+  default_alike (fields_alike (one_alike h) (fields_alike (many_alike v) r)) = refl
+  default_alike (fields_alike (one_alike h) (fields_alike (statements_alike v) r)) = refl
+  default_alike (fields_alike (one_alike h) (fields_alike (one_alike v) (fields_alike w r))) = refl
+
+  target_alike : {t u : Tree} → Same t u → is_plain_target u ≡ is_plain_target t
+  target_alike (changed {k = k} {l = l} {fs = fs} {gs = gs} e) = changed_only (λ j. is_plain_target (node j l gs) ≡ is_plain_target (node j l fs)) refl k e
+  target_alike (within {k = ObjectPattern} h) = parts_alike h
+  target_alike (within {k = k} {l = l} h) = ap not (bears_alike (within {k = k} {l = l} h))
+
+  parts_alike : {fs gs : Fields} → SameIn fs gs → are_plain_parts gs ≡ are_plain_parts fs
+  parts_alike (fields_alike (many_alike h) no_fields) = members_alike h
+  parts_alike no_fields = refl
+  parts_alike (fields_alike both_missing r) = refl
+  parts_alike (fields_alike (one_alike h) r) = refl
+  parts_alike (fields_alike (statements_alike h) r) = refl
+  parts_alike (fields_alike (many_alike h) (fields_alike v r)) = refl
+
+  members_alike : {ts us : Trees} → SameAmong ts us → are_plain_members us ≡ are_plain_members ts
+  members_alike no_trees = refl
+  members_alike (trees_alike h no_trees) = λ i. property_alike h i || rest_alike h i
+  members_alike (trees_alike h (trees_alike g r)) = λ i. property_alike h i && members_alike (trees_alike g r) i
 
 pattern_alike : {t u : Tree} → Same t u → is_plain_pattern u ≡ is_plain_pattern t
 pattern_alike (changed {k = k} {l = l} {fs = fs} {gs = gs} e) = changed_only (λ j. is_plain_pattern (node j l gs) ≡ is_plain_pattern (node j l fs)) refl k e
-pattern_alike (within {k = k} {l = l} h) = pattern_within k l h
+pattern_alike (within {k = ObjectPattern} {l = l} h) = λ i. bears_alike (within {k = ObjectPattern} {l = l} h) i && parts_alike h i
+pattern_alike (within {k = _} h) = refl
 
 -- DECLARATORS
 
 declarator_within : (k : AstType) (l : Label) {fs gs : Fields} → SameIn fs gs → is_rest_declarator (node k l gs) ≡ is_rest_declarator (node k l fs)
-declarator_within VariableDeclarator l (fields_alike (one_alike h) r) = rest_pattern_alike h
+declarator_within VariableDeclarator l (fields_alike (one_alike h) r) = bears_alike h
 declarator_within VariableDeclarator l no_fields = refl
 declarator_within VariableDeclarator l (fields_alike both_missing r) = refl
 declarator_within VariableDeclarator l (fields_alike (many_alike h) r) = refl
@@ -214,10 +265,10 @@ declarator_alike (changed {k = k} {l = l} {fs = fs} {gs = gs} e) = changed_only 
 declarator_alike (within {k = k} {l = l} h) = declarator_within k l h
 
 misplaced_alike : {t u : Tree} → Same t u → is_misplaced u ≡ is_misplaced t
-misplaced_alike h = λ i. rest_pattern_alike h i || declarator_alike h i
+misplaced_alike h = λ i. bears_alike h i || declarator_alike h i
 
 odd_alike : {t u : Tree} → Same t u → is_odd_pattern u ≡ is_odd_pattern t
-odd_alike h = λ i. (rest_pattern_alike h i && not (pattern_alike h i)) || declarator_alike h i
+odd_alike h = λ i. (bears_alike h i && not (pattern_alike h i)) || declarator_alike h i
 
 -- a declaration whose declarators are alike
 pub declaration_alike : (k : AstType) (l : Label) {fs gs : Fields} → SameIn fs gs → is_rest_declaration k l gs ≡ is_rest_declaration k l fs
@@ -268,6 +319,10 @@ exported_fields (fields_alike {fs = fs} {gs = gs} (statements_alike {ts = ts} {u
 misplaced_child : {fs gs : Fields} → SameIn fs gs → any_child is_misplaced fs ≡ false → any_child is_misplaced gs ≡ false
 misplaced_child h e = child_alike is_misplaced (λ t u. misplaced_alike) h ∙ e
 
+beside_alike : {fs gs : Fields} → SameIn fs gs → any_beside gs ≡ any_beside fs
+beside_alike no_fields = refl
+beside_alike (fields_alike h r) = λ i. by_alike is_rest_declarator (λ t u. declarator_alike) h i || child_alike is_misplaced (λ t u. misplaced_alike) r i
+
 pub stray_alike : (k : AstType) (l : Label) {fs gs : Fields} → SameIn fs gs → any_in_fields is_rest_declaration gs ≡ false → is_stray_rest k l fs ≡ false → is_stray_rest k l gs ≡ false
 stray_alike VariableDeclarator l (fields_alike (one_alike h) (fields_alike (one_alike g) no_fields)) none e = (λ i. odd_alike h i || misplaced_alike g i) ∙ e
 stray_alike VariableDeclarator l no_fields none e = refl
@@ -279,13 +334,17 @@ stray_alike VariableDeclarator l (fields_alike (one_alike h) (fields_alike both_
 stray_alike VariableDeclarator l (fields_alike (one_alike h) (fields_alike (many_alike g) r)) none e = misplaced_child (fields_alike (one_alike h) (fields_alike (many_alike g) r)) e
 stray_alike VariableDeclarator l (fields_alike (one_alike h) (fields_alike (statements_alike g) r)) none e = misplaced_child (fields_alike (one_alike h) (fields_alike (statements_alike g) r)) e
 stray_alike VariableDeclarator l (fields_alike (one_alike h) (fields_alike (one_alike g) (fields_alike v r))) none e = misplaced_child (fields_alike (one_alike h) (fields_alike (one_alike g) (fields_alike v r))) e
-stray_alike VariableDeclaration l (fields_alike (many_alike h) no_fields) none e = any_alike is_rest_pattern (λ t u. rest_pattern_alike) h ∙ e
+stray_alike VariableDeclaration l (fields_alike (many_alike h) no_fields) none e = any_alike bears_rest (λ t u. bears_alike) h ∙ e
 stray_alike VariableDeclaration l no_fields none e = refl
 stray_alike VariableDeclaration l (fields_alike both_missing r) none e = misplaced_child (fields_alike both_missing r) e
 stray_alike VariableDeclaration l (fields_alike (one_alike h) r) none e = misplaced_child (fields_alike (one_alike h) r) e
 stray_alike VariableDeclaration l (fields_alike (statements_alike h) r) none e = misplaced_child (fields_alike (statements_alike h) r) e
 stray_alike VariableDeclaration l (fields_alike (many_alike h) (fields_alike v r)) none e = misplaced_child (fields_alike (many_alike h) (fields_alike v r)) e
 stray_alike ExportNamedDeclaration l h none e = exported_fields h none e
+stray_alike ObjectPattern l h none e = beside_alike h ∙ e
+stray_alike PatternProperty l no_fields none e = refl
+stray_alike PatternProperty l (fields_alike h r) none e = (λ i. by_alike is_misplaced (λ t u. misplaced_alike) h i || beside_alike r i) ∙ e
+stray_alike AssignmentPattern l h none e = beside_alike h ∙ e
 stray_alike _ l h none e = misplaced_child h e
 
 -- IDS OWED
@@ -294,8 +353,17 @@ keys_alike : {ts us : Trees} → SameAmong ts us → key_ids us ≡ key_ids ts
 keys_alike no_trees = refl
 keys_alike (trees_alike h r) = λ i. key_ids_by (reads_alike h i) + keys_alike r i
 
+nested_of_alike : {t u : Tree} → Same t u → nested_ids_of u ≡ nested_ids_of t
+nested_of_alike (changed {k = k} {l = l} {fs = fs} {gs = gs} e) = changed_only (λ j. nested_ids_of (node j l gs) ≡ nested_ids_of (node j l fs)) refl k e
+nested_of_alike (within {k = PatternProperty} h) = ap nested_ids_by (second_alike h)
+nested_of_alike (within {k = _} h) = refl
+
+nested_alike : {ts us : Trees} → SameAmong ts us → nested_ids us ≡ nested_ids ts
+nested_alike no_trees = refl
+nested_alike (trees_alike h r) = λ i. nested_of_alike h i + nested_alike r i
+
 pub owes_alike : (k : AstType) (l : Label) {fs gs : Fields} → SameIn fs gs → rest_owes k l gs ≡ rest_owes k l fs
-owes_alike ObjectPattern l (fields_alike (many_alike h) r) = λ i. if kinds_alike h i then 16 + keys_alike h i else 0
+owes_alike ObjectPattern l (fields_alike (many_alike h) r) = λ i. (if kinds_alike h i then 16 + keys_alike h i else 0) + nested_alike h i
 owes_alike ObjectPattern l no_fields = refl
 owes_alike ObjectPattern l (fields_alike both_missing r) = refl
 owes_alike ObjectPattern l (fields_alike (one_alike h) r) = refl

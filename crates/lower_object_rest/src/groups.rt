@@ -125,7 +125,7 @@ fn begin_group(
 }
 
 /// `{ a } = s` for the properties `a` and the source `s`.
-fn new_group(
+pub(crate) fn new_group(
     properties: Vec<Node>,
     source: &Node,
     ctx: &mut TraverseCtx<TransformState>,

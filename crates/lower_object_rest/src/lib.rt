@@ -11,6 +11,8 @@
 //! | `const { [k]: a, ["b"]: x, ...d } = c;` | `const {} = c, _k = k, { [_k]: a, ["b"]: x } = c, d = babelHelpers.objectWithoutProperties(c, [_k, "b"].map(babelHelpers.toPropertyKey));` |
 //! | `const { ...b } = c;` | `const b = babelHelpers.extends({}, (babelHelpers.objectDestructuringEmpty(c), c));` |
 //! | `var { ...a } = a;` | `var _a = a, a = babelHelpers.extends({}, (babelHelpers.objectDestructuringEmpty(_a), _a));` |
+//! | `let { x: { ...y }, w } = o;` | `let { x: _ref } = o, y = babelHelpers.extends({}, (babelHelpers.objectDestructuringEmpty(_ref), _ref)), { w } = o;` |
+//! | `const { a: { b, ...c } = {}, ...d } = e;` | `const { a: _ref = {} } = e, { b } = _ref, c = babelHelpers.objectWithoutProperties(_ref, ["b"]), d = babelHelpers.objectWithoutProperties(e, ["a"]);` |
 //!
 //! Before:
 //!
@@ -22,8 +24,10 @@
 //!
 //! A value that gives the same each time is read where it stands: a name that nothing writes and that the pattern doesn't bind, or a made
 //! name. Any other is evaluated once, and stored. The properties come before the rest, as in the source. A computed key that is no text, no
-//! number and no template without expressions is read once, where it stood, and has a name from there on. `babelHelpers` is an unbound name
-//! of the written program, whose meaning is the host's: a run refuses a program that declares such a pattern and binds the name anywhere.
+//! number and no template without expressions is read once, where it stood, and has a name from there on. A pattern with a rest in a property
+//! gives way to a name for what the property gives, and is declared in its turn, before the properties behind it. `babelHelpers` is an
+//! unbound name of the written program, whose meaning is the host's: a run refuses a program that declares such a pattern and binds the name
+//! anywhere.
 //!
 //! Its rule is `RestWalkRow` of es_rest_rows.
 #![tactic(auto)]
@@ -36,6 +40,7 @@ ghost use Rattle.lower_object_rest.specs.Shapes.{is_lowerable_declaration};
 
 mod declarations;
 mod groups;
+mod nested;
 mod patterns;
 mod rests;
 mod sources;

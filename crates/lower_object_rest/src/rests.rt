@@ -2,7 +2,7 @@
 //! stands alone.
 ghost use Rattle.std.specs.Prelude.{◌+◌, ◌-◌, ◌<◌, ◌≡◌, ◌^◌, ◌∷◌, IfOk, OnOk, Option, [], true, ℕ};
 ghost use Rattle.es_tree.specs.Helpers.{helper_text};
-ghost use Rattle.es_tree.specs.Tree.{trees};
+ghost use Rattle.es_tree.specs.Tree.{Tree, trees};
 ghost use Rattle.es_tree.specs.Views.{plain_fields};
 ghost use Rattle.es_tree.specs.Words.{Text};
 ghost use Rattle.es_tree.specs.declared.helper.Helper.TheVariants.{ObjectDestructuringEmpty};
@@ -11,7 +11,7 @@ ghost use Rattle.es_steps.specs.Nodes.{call_node};
 ghost use Rattle.es_steps.specs.ObjectRest.{helper_node, whole_value};
 ghost use Rattle.es_rest_shapes.specs.RestShapes.{are_plain, is_name, is_plain_pattern};
 ghost use Rattle.lower_object_rest.specs.Groups.{keys_value, mapped_ids};
-ghost use Rattle.lower_object_rest.specs.Parts.{TakesAlone, TakesApart, TakesBeside, rest_helper};
+ghost use Rattle.lower_object_rest.specs.Parts.{Opens, Takes, TakesAlone, TakesApart, TakesBeside, ends_in_rest, rest_helper};
 ghost use Rattle.lower_object_rest.specs.Profile.{key_ids};
 ghost use Rattle.lower_temporaries.specs.Takings.{ReadsMore};
 
@@ -21,6 +21,7 @@ use es_expressions::literals::new_identifier;
 use es_expressions::members::{new_call_expression, new_member_expression};
 use es_expressions::operations::new_sequence_expression;
 use es_patterns::patterns::{ObjectPattern, RestElement};
+use es_rest_nodes::patterns::is_named_rest;
 use es_scope::context::TraverseCtx;
 use es_statements::program::new_variable_declarator;
 use es_tree::helper::Helper;
@@ -43,10 +44,38 @@ pub(crate) struct RestPattern {
     pub(crate) target: Node,
 }
 
+/// A pattern that bears a rest, taken apart.
+pub(crate) enum OpenPattern {
+    /// With a rest of its own.
+    WithRest(RestPattern),
+    /// With rests in its properties alone.
+    WithoutRest(ObjectPattern),
+}
+
+/// The declarators of a pattern's properties and of its rest, for its parts and its source, which is a name. Fails only for want of memory.
+pub(crate) fn take(
+    pattern: RestPattern,
+    source: Node,
+    ctx: &mut TraverseCtx<TransformState>,
+) -> Result<Vec<Node>, AllocError>
+    requires plain { are_plain (trees pattern.properties.items) ≡ true }
+    requires name { is_name source ≡ true }
+    requires room { ctx.old.ast.next + 14 + key_ids (trees pattern.properties.items) < 2 ^ 32 }
+    ensures { IfOk result (λ made. (p : Tree) → TakesApart p pattern → Takes ctx.old ctx.new p source made.items) }
+{
+    if pattern.properties.is_empty() {
+        let declarator = take_all(pattern.target, source, ctx)?;
+        let declarators = Vec::from_array(ctx.ast.alloc, [declarator])?;
+        return Ok(declarators);
+    }
+    let declarators = take_rest(pattern, source, ctx)?;
+    Ok(declarators)
+}
+
 /// The declarators `{ a } = s, _k = k(), { [_k]: b } = s` and
 /// `d = babelHelpers.objectWithoutProperties(s, ["a", _k].map(babelHelpers.toPropertyKey))` for the parts of the pattern
-/// `{ a, [k()]: b, ...d }` and its source `s`, which is a name. Fails only for want of memory.
-pub(crate) fn take_rest(
+/// `{ a, [k()]: b, ...d }` and its source `s`, which is a name.
+fn take_rest(
     pattern: RestPattern,
     source: Node,
     ctx: &mut TraverseCtx<TransformState>,
@@ -84,7 +113,7 @@ pub(crate) fn take_rest(
 
 /// The declarator `b = babelHelpers.extends({}, (babelHelpers.objectDestructuringEmpty(s), s))` for the name of the rest of the pattern
 /// `{ ...b }` and its source `s`, which is a name. Fails only for want of memory.
-pub(crate) fn take_all(
+fn take_all(
     target: Node,
     source: Node,
     ctx: &mut TraverseCtx<TransformState>,
@@ -98,16 +127,23 @@ pub(crate) fn take_all(
     Ok(declarator)
 }
 
-/// Takes a pattern with a rest apart.
-pub(crate) fn open_pattern(pattern: Node) -> RestPattern
+/// Takes a pattern that bears a rest apart.
+pub(crate) fn open_pattern(pattern: Node) -> OpenPattern
     requires { is_plain_pattern pattern ≡ true }
-    ensures { TakesApart pattern result }
+    ensures { Opens pattern result }
 {
     let ObjectPattern {
         id,
         span,
         mut properties,
     } = ObjectPattern::open(pattern);
+    if !ends_in_rest(properties.as_slice()) {
+        return OpenPattern::WithoutRest(ObjectPattern {
+            id,
+            span,
+            properties,
+        });
+    }
     let rest = match properties.pop() {
         Some(rest) => rest,
         None => unreachable!(),
@@ -117,11 +153,21 @@ pub(crate) fn open_pattern(pattern: Node) -> RestPattern
         span: _span,
         argument,
     } = RestElement::open(rest);
-    RestPattern {
+    OpenPattern::WithRest(RestPattern {
         id,
         span,
         properties,
         target: argument,
+    })
+}
+
+/// Whether the last of these members is a rest that is a name.
+fn ends_in_rest(members: &[Node]) -> bool
+    ensures { result ≡ ends_in_rest members.now }
+{
+    match members {
+        [.., last] => is_named_rest(last),
+        [] => false,
     }
 }
 

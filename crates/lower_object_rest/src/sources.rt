@@ -6,7 +6,7 @@ ghost use Rattle.es_tree.specs.Words.{Text};
 ghost use Rattle.es_resolution.specs.Seen.{seen};
 ghost use Rattle.es_changes.specs.Moments.{whole_at};
 ghost use Rattle.es_rest_rows.specs.RestRows.{is_kept};
-ghost use Rattle.lower_object_rest.specs.Parts.{Stores, binds_called, is_called};
+ghost use Rattle.lower_object_rest.specs.Parts.{MakesReference, Stores, binds_called, is_called};
 ghost use Rattle.lower_temporaries.specs.Takings.{moment_of};
 
 use es_scope::context::TraverseCtx;
@@ -17,7 +17,7 @@ use es_tree::node::Node;
 use lower_temporaries::declarations::MADE;
 use lower_temporaries::readings::{is_steady, read_once_more};
 use lower_temporaries::state::TransformState;
-use lower_temporaries::temporaries::new_bound_name_based_on_node;
+use lower_temporaries::temporaries::{new_bound_name, new_bound_name_based_on_node};
 use std::alloc::{AllocError, Global};
 
 /// The flags of the name of a stored source.
@@ -96,4 +96,17 @@ pub(crate) fn store(
     let read = read_once_more(&name, ctx)?;
     let declarator = new_variable_declarator(&mut ctx.ast, MADE, name, Some(source))?;
     Ok((declarator, read))
+}
+
+/// A fresh name for what a property gives, as it is bound in the place of a pattern, and as it is read.
+pub(crate) fn new_reference(
+    ctx: &mut TraverseCtx<TransformState>,
+) -> Result<(Node, Node), AllocError>
+    requires room { ctx.old.ast.next + 2 < 2 ^ 32 }
+    ensures { IfOk result (λ made. MakesReference ctx.old ctx.new made.0 made.1) }
+{
+    let scope = ctx.scoping().root_scope_id();
+    let name = new_bound_name("ref", scope, STORED, ctx)?;
+    let read = read_once_more(&name, ctx)?;
+    Ok((name, read))
 }
