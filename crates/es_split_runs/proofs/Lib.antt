@@ -1,0 +1,16 @@
+pub mod GrownScopes
+pub mod Grown
+pub mod Declarators
+pub mod Parts
+pub mod Split
+pub mod KnownNames
+pub mod Stored
+pub mod Held
+pub mod Nested
+pub mod KeyGroups
+pub mod Taken
+pub mod SelfGrown
+pub mod Instances
+pub mod KeyTexts
+pub mod ReadKeys
+pub mod TakenInstances
