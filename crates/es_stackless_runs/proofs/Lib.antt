@@ -1,0 +1,9 @@
+pub mod Machine
+pub mod CoreKinds
+pub mod Statements
+pub mod Patterns
+pub mod Forms
+pub mod Senses
+pub mod EveryKind
+pub mod EveryTree
+pub mod Examples
