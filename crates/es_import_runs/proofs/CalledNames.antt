@@ -60,7 +60,7 @@ none_calls s none (node k l fs before (u before ts)) h =
     let d = and_parts (has_form s (node k l fs)) (trees_form s s (u before ts)) h in
     (none k (node_form s k l fs d.0).sort, none_calls s none (u before ts) d.1)
 
-plain_form : (s : Sort) (k : AstType) (l : Label) (fs : Fields) → NodeForm s k l fs → Plainly k l fs
+pub plain_form : (s : Sort) (k : AstType) (l : Label) (fs : Fields) → NodeForm s k l fs → Plainly k l fs
 plain_form s VariableDeclaration l (many empty then fs) h = tt
 plain_form s VariableDeclaration l (many (d before ds) then fs) h = none_calls s-VariableDeclarator declarator_sort (d before ds) (and_parts (trees_form s-VariableDeclarator s-VariableDeclarator (d before ds)) _ h.children).0
 plain_form s ImportDeclaration l (many ts then fs) h = none_calls s-ImportItem item_sort ts (and_parts (trees_form s-ImportItem s-ImportItem ts) _ h.children).0

@@ -120,7 +120,7 @@ found_text x k (g ∷ gs) r n = let d = and_parts (is_helper_text (helper_text g
     at true e d rest n = known_text x g k d e n
     at false e d rest n = rest n
 
-text_named : (x : Text) (k : Helper) → named_helper x ≡ Some k → (helper_text k ≡ x) × (is_helper_text x ≡ true)
+pub text_named : (x : Text) (k : Helper) → named_helper x ≡ Some k → (helper_text k ≡ x) × (is_helper_text x ≡ true)
 text_named x k n = found_text x k made_helpers refl n
 
 not_so : (a : Bool) → not a ≡ true → a ≡ false

@@ -1,4 +1,4 @@
--- Steps of the rules that act beside object spread leave `babelHelpers` in calls of its helper alone.
+-- Steps of the rules leave `babelHelpers` in calls of the helper of object spread alone, where none stands in a chain that may be lowered.
 use Rattle.std.proofs.Common.{◌≡◌, ◌∙◌, ℕ, refl, sym, ap, subst, List, [], ◌∷◌, ◌++◌, zero, suc}
 use Rattle.std.proofs.lemmas.Bool.{and_from, and_parts}
 use Rattle.std.specs.Prelude.{◌&&◌, ◌||◌, Bool, true, false, not, Option, Some, None, bytes_eq, codes, is_some, if◌then◌else◌}
@@ -6,16 +6,16 @@ use Rattle.es_tree.specs.HasForm.{has_form}
 use Rattle.es_tree.specs.Names.{first_text, flag_at}
 use Rattle.es_tree.specs.Scopes.{Declared}
 use Rattle.es_tree.specs.Tree.{Tree, node, Label, Fields, done, ◌then◌, Field, one, Trees, empty, ◌before◌, kind_of, trees}
+use Rattle.es_tree.specs.Walks.{all_in_fields}
 use Rattle.es_tree.specs.Words.{Text}
 use Rattle.es_tree.specs.declared.ast_type.AstType.{AstType}
 use Rattle.es_tree.specs.declared.ast_type.AstType.TheVariants.{CallExpression, Identifier, MemberExpression, Program}
 use Rattle.es_tree.specs.declared.helper.Helper.{Helper}
 use Rattle.es_tree.specs.declared.options.EnvOptions.{EnvOptions}
 use Rattle.es_tree.specs.declared.table.Sort.TheVariants.{Program as s-Program}
-use Rattle.es_tree.specs.Fresh.{IsFreshName}
 use Rattle.es_resolution.specs.Declarations.{Bound}
 use Rattle.es_runs.specs.Runs.{program}
-use Rattle.es_runs.proofs.Temporary.{bytes_eq-flip, bytes_eq-self}
+use Rattle.es_runs.proofs.Temporary.{bytes_eq-self}
 use Rattle.es_semantic.specs.RolesOf.{binding_of, reads, role_at}
 use Rattle.es_semantic.specs.declared.place.Role.{Role}
 use Rattle.es_semantic.specs.declared.place.Role.TheVariants.{Binds, Nothing, Top}
@@ -25,7 +25,9 @@ use Rattle.es_tree.specs.Children.{child_at}
 use Rattle.es_steps.specs.CoreBridge.{names_among}
 use Rattle.es_steps.specs.CoreRules.{RowRule}
 use Rattle.es_steps.specs.Exponentiation.{ExponentiationRule}
+use Rattle.es_steps.specs.Exponentiation.ExponentiationRule.{power, power_assignment}
 use Rattle.es_steps.specs.LogicalAssignment.{LogicalAssignmentRule}
+use Rattle.es_steps.specs.LogicalAssignment.LogicalAssignmentRule.{to_computed_member, to_name, to_static_member}
 use Rattle.es_steps.specs.Nodes.{joined_trees, placed}
 use Rattle.es_steps.specs.NullishCoalescing.{NullishCoalescingRule}
 use Rattle.es_steps.specs.NullishCoalescing.NullishCoalescingRule.{reading_again, with_temporary}
@@ -33,9 +35,10 @@ use Rattle.es_steps.specs.ObjectRest.{helper_node}
 use Rattle.es_steps.specs.ObjectSpread.{Copies, SpreadRule, copied, last_copied}
 use Rattle.es_steps.specs.ObjectSpread.Copies.{copies as copies_one, keeps, no_more}
 use Rattle.es_steps.specs.ObjectSpread.SpreadRule.{spreads}
-use Rattle.es_steps.specs.Open.{Additions, Open, Pending, after_imports, finished, finished_field, finished_trees, is_import, pending_statements, whole_list}
+use Rattle.es_steps.specs.Open.{Additions, Open, Pending, after_imports, finished, finished_field, finished_fields, finished_trees, is_import, pending_statements, whole_list}
 use Rattle.es_steps.specs.OptionalCatch.{CatchRule}
 use Rattle.es_steps.specs.OptionalChaining.{OptionalChainingRule}
+use Rattle.es_steps.specs.OptionalChaining.OptionalChainingRule.{as_callee, by_tests, in_delete}
 use Rattle.es_steps.specs.Rules.{Replacing, Writing}
 use Rattle.es_steps.specs.Steps.{Ledger, Site, Spot, Whole}
 use Rattle.es_steps.proofs.RuleLaws.{writes-lists}
@@ -54,25 +57,29 @@ use Rattle.es_helper_calls.specs.HelperCalls.{helper_of, is_called, named_helper
 use Rattle.es_valid_steps.proofs.ProgramLists.{ProgramExported, program-exported}
 use Rattle.es_valid_steps.proofs.ProgramLists.ProgramExported.{at_list as in_the_list}
 use Rattle.es_valid_steps.proofs.Spread.{finished-spread}
-use Rattle.es_statement_steps.proofs.Absent.{Absent, no-assignment, no-chain, no-power, not-there}
+use Rattle.es_statement_steps.proofs.Assignments.{AssigningRow, assigning-shape}
+use Rattle.es_statement_steps.proofs.Below.{nodes_below}
+use Rattle.es_statement_steps.proofs.Chainings.{ChainingRow, chaining-shape}
+use Rattle.es_statement_steps.proofs.ChainsApart.{no_helper_in_chain}
 use Rattle.es_statement_steps.proofs.Catchings.{CatchRow, catch-rule}
 use Rattle.es_statement_steps.proofs.Catchings.CatchMade.{made_catch}
 use Rattle.es_statement_steps.proofs.Coalescings.{CoalescingRow, coalescing-shape}
 use Rattle.es_statement_steps.proofs.Composition.{Known, exported, known-fine}
 use Rattle.es_statement_steps.proofs.ExportSplits.{SplitHere, split-by}
 use Rattle.es_statement_steps.proofs.ExportSplits.SplitHere.{split_here, split_later}
-use Rattle.es_statement_steps.proofs.KeylessSteps.{NoneBeside}
-use Rattle.es_statement_steps.proofs.MadeNames.{fresh_made, made_apart}
-use Rattle.es_statement_steps.proofs.Nameless.{made-other}
+use Rattle.es_statement_steps.proofs.Nameless.{Nameless, made-other}
+use Rattle.es_statement_steps.proofs.Powers.{RaisingRow, raising-shape}
+use Rattle.es_statement_steps.proofs.Premises.{Inwards, Premise, RowWith, With, premised, premised-rule}
 use Rattle.es_statement_steps.proofs.ProgramMoves.{MovedProgram, ProgramWent, program-moved}
 use Rattle.es_statement_steps.proofs.Replacings.{Row, replacing-rule}
 use Rattle.es_statement_steps.proofs.SpreadRuns.{spread-shape}
-use Rattle.es_statement_steps.proofs.StatementLaw.{KeptBeside}
+use Rattle.es_statement_steps.proofs.StatementLaw.{KeptInOrder}
 use Rattle.es_statement_steps.proofs.StepMoves.{Acted, NodeRule}
-use Rattle.es_statement_steps.proofs.StepRules.{Does, StatementRules, on-does, statement-does, writing-form}
+use Rattle.es_statement_steps.proofs.StepRules.{Does, StatementRules, chains_under, off-does, on-does, statement-does, writing-form}
 use Rattle.es_statement_steps.proofs.Writings.{written-same}
 use Rattle.es_import_runs.proofs.Callings.{HelperCall, helper_shape, helpers_}
 use Rattle.es_import_runs.proofs.Callings.HelperCall.{helper_called, helper_passed}
+use Rattle.es_import_runs.proofs.CopyRows.{assigning_kept, chaining_kept, fresh_other, raising_kept}
 use Rattle.es_import_runs.proofs.OnlyCopies.{any_copies, copies, copies_among, copies_by, copies_in, node_copies, only_copies, name_other, handed_other}
 
 -- ROWS
@@ -87,9 +94,6 @@ pub record KeepsCopies (a b : Tree) : Type 0 where
   pub apart : is_no_callee (kind_of a) ≡ true
   pub kept : (r : Role) → only_copies r a ≡ true → only_copies r b ≡ true
 
-fresh_other : (in_use : Text → Bool) (base x : Text) → IsFreshName in_use base x → bytes_eq x helpers_ ≡ false
-fresh_other in_use base x h = bytes_eq-flip x helpers_ ∙ made_apart helpers_ x refl (fresh_made in_use base x h)
-
 coalescing_copies : (n : Site) (w : Whole) (bs : List Bound) (t u : Tree) → NullishCoalescingRule n w bs t u → KeepsCopies t u
 coalescing_copies n w bs _ _ (with_temporary {l = l} {r = r} {x = x} texts again next) = record {
   apart = refl;
@@ -102,6 +106,29 @@ coalescing_copies n w bs _ _ (reading_again {l = l} {r = r} texts again) = recor
 
 catch_copies : (new : List Bound) (n : Site) (w : Whole) (t u : Tree) → CatchRow new n w t u → KeepsCopies t u
 catch_copies new n w _ _ (made_catch {m = m} {b = b} {x = x} fresh) = record { apart = refl; kept = λ role h. rw (fresh_other w.in_use (codes "unused") x.name fresh) h }
+
+assigning_apart : (n : Site) (w : Whole) (bs : List Bound) (t u : Tree) → LogicalAssignmentRule n w bs t u → is_no_callee (kind_of t) ≡ true
+assigning_apart n w _ _ _ (to_name texts operator alone e) = refl
+assigning_apart n w _ _ _ (to_static_member texts operator alone e flags object) = refl
+assigning_apart n w _ _ _ (to_computed_member texts operator alone e flags object key) = refl
+
+assigning_copies : (n : Site) (w : Whole) (bs : List Bound) (t u : Tree) → LogicalAssignmentRule n w bs t u → KeepsCopies t u
+assigning_copies n w bs t u h = record { apart = assigning_apart n w bs t u h; kept = assigning_kept n w bs t u h }
+
+raising_apart : (n : Site) (w : Whole) (bs : List Bound) (t u : Tree) → ExponentiationRule n w bs t u → is_no_callee (kind_of t) ≡ true
+raising_apart n w _ _ _ (power free texts left right) = refl
+raising_apart n w _ _ _ (power_assignment free texts right alone twice) = refl
+
+raising_copies : (n : Site) (w : Whole) (bs : List Bound) (t u : Tree) → ExponentiationRule n w bs t u → KeepsCopies t u
+raising_copies n w bs t u h = record { apart = raising_apart n w bs t u h; kept = raising_kept n w bs t u h }
+
+chaining_apart : (no_all : Bool) (n : Site) (w : Whole) (bs : List Bound) (t u : Tree) → OptionalChainingRule no_all n w bs t u → is_no_callee (kind_of t) ≡ true
+chaining_apart no_all n w _ _ _ (by_tests level way some) = refl
+chaining_apart no_all n w _ _ _ (as_callee level way some callee) = refl
+chaining_apart no_all n w _ _ _ (in_delete texts alone target way some) = refl
+
+chaining_copies : (no_all : Bool) (n : Site) (w : Whole) (bs : List Bound) (t u : Tree) → OptionalChainingRule no_all n w bs t u → Nameless t → KeepsCopies t u
+chaining_copies no_all n w bs t u h nameless = record { apart = chaining_apart no_all n w bs t u h; kept = chaining_kept no_all n w bs t u h nameless }
 
 -- OBJECT SPREAD
 
@@ -157,10 +184,6 @@ spread_copies new n w _ _ (spreads {m = m} {ps = ps} {u = u} scope used some non
 }
 
 -- WHAT THE ROWS LEAVE of a tree
-
-not_both : (b : Bool) → b ≡ false → not b ≡ true
-not_both true h = absurd (cc h)
-not_both false h = refl
 
 module _ (fresh : Text → Bool) (R : List Declared → Take → Tree → Tree → Type 0) (rows : (ds : List Declared) (t : Take) (a b : Tree) → R ds t a b → KeepsCopies a b) (other : (x : Text) → fresh x ≡ true → bytes_eq x helpers_ ≡ false) where
   -- a name stays one, and so does `babelHelpers.NAME`
@@ -255,14 +278,24 @@ module _ (fresh : Text → Bool) (R : List Declared → Take → Tree → Tree �
         let d = and_parts (copies_among (Binds (binding_of (first_text l.texts))) cs && true) (copies_among role ts) n in
         rw (declarators_kept (binding_of (first_text l.texts)) (binding_of (first_text m.texts)) g (and_parts (copies_among (Binds (binding_of (first_text l.texts))) cs) true d.0).0) (list_kept role j d.1)
 
--- OF ALL RULES beside object spread
+-- OF ALL RULES
 
 abbrev HasCopies : Tree → Type 0
 HasCopies t = only_copies reads t ≡ true
 
-module _ (p : Tree) where
+-- what is asked of the nodes where chains are lowered
+abbrev NoneInChains : Premise
+NoneInChains n w t = Nameless t
+
+inwards : Inwards NoneInChains
+inwards n w k l fs h = nodes_below no_helper_in_chain (finished_fields fs) (and_parts (no_helper_in_chain k l (finished_fields fs)) (all_in_fields no_helper_in_chain (finished_fields fs)) h).1
+
+module _ (o : EnvOptions) where
   abbrev StaysCopies : Ledger → Ledger → Open → Open → Type 0
-  StaysCopies s s' x y = Known s x → Known s' y → Absent p (finished x) → HasCopies (finished x) → HasCopies (finished y)
+  StaysCopies s s' x y = Known s x → Known s' y → (o.es2020.optional_chaining ≡ true → Nameless (finished x)) → HasCopies (finished x) → HasCopies (finished y)
+
+  abbrev ChainRow : Site → Ledger → Spot → Ledger → Spot → Type 0
+  ChainRow = RowRule (OptionalChainingRule o.assumptions.no_document_all)
 
   copies_after : (Q : Site → Ledger → Spot → Ledger → Spot → Type 0) (A : List Bound → Site → Whole → Tree → Tree → Type 0) (law : NodeRule Q A) → ((new : List Bound) (n : Site) (w : Whole) (a b : Tree) → A new n w a b → KeepsCopies a b) →
       (w : Whole) (x y : Tree) → ProgramWent law.hoisted (MovedProgram Q A law) w x y → HasCopies x → HasCopies y
@@ -275,13 +308,26 @@ module _ (p : Tree) where
   node_stays : (Q : Site → Ledger → Spot → Ledger → Spot → Type 0) (A : List Bound → Site → Whole → Tree → Tree → Type 0) (law : NodeRule Q A) → ((new : List Bound) (n : Site) (w : Whole) (a b : Tree) → A new n w a b → KeepsCopies a b) → Does StaysCopies Q
   node_stays Q A law rows s s' x y h k m a c = copies_after Q A law rows (whole_in s) (finished x) (finished y) (program-moved Q A law h k.proper k.form k.class (known-fine k) (known-fine m) k.resolved) c
 
-  steps_stay : (o : EnvOptions) → NoneBeside o p → Does StaysCopies (StatementRules o)
-  steps_stay o off = statement-does StaysCopies o (record {
+  -- a chain is lowered where no member of that object stands in it
+  chains_stay : o.es2020.optional_chaining ≡ true → Does StaysCopies ChainRow
+  chains_stay on s s' x y h k m a c =
+      let R = ChainingRow o.assumptions.no_document_all in
+      let shape = chaining-shape o.assumptions.no_document_all in
+      let law = premised-rule R shape NoneInChains in
+      copies_after (With ChainRow NoneInChains) (RowWith R shape NoneInChains) law (λ new n w a b h. chaining_copies o.assumptions.no_document_all n w new a b h.0.rule h.1) (whole_in s) (finished x) (finished y)
+      (program-moved (With ChainRow NoneInChains) (RowWith R shape NoneInChains) law (premised ChainRow NoneInChains inwards h k.proper k.class (a on)) k.proper k.form k.class (known-fine k) (known-fine m) k.resolved) c
+
+  chains_by : (on : Bool) → o.es2020.optional_chaining ≡ on → Does StaysCopies (chains_under o)
+  chains_by true e = on-does StaysCopies o.es2020.optional_chaining ChainRow (chains_stay e)
+  chains_by false e = off-does StaysCopies o.es2020.optional_chaining ChainRow e
+
+  steps_stay : Does StaysCopies (StatementRules o)
+  steps_stay = statement-does StaysCopies o (record {
     writing = λ s s' x y h k m a c. subst HasCopies (written-same Writing (writing-form o) (λ n s s' t u h. absurd (writes-lists h)) h k.proper).1 c;
-    assigning = λ s s' x y h k m a c. absurd (not-there o.es2021.logical_assignment_operators _ p (RowRule LogicalAssignmentRule) off.assignments (no-assignment p) s s' x y h k.proper k.class a);
+    assigning = on-does StaysCopies o.es2021.logical_assignment_operators (RowRule LogicalAssignmentRule) (node_stays (RowRule LogicalAssignmentRule) (Row AssigningRow assigning-shape) (replacing-rule AssigningRow assigning-shape) (λ new n w a b h. assigning_copies n w new a b h.rule));
     coalescing = node_stays (RowRule NullishCoalescingRule) (Row CoalescingRow coalescing-shape) (replacing-rule CoalescingRow coalescing-shape) (λ new n w a b h. coalescing_copies n w new a b h.rule);
-    chaining = λ s s' x y h k m a c. absurd (not-there o.es2020.optional_chaining _ p (RowRule (OptionalChainingRule o.assumptions.no_document_all)) off.chains (no-chain o.assumptions.no_document_all p) s s' x y h k.proper k.class a);
-    raising = λ s s' x y h k m a c. absurd (not-there o.es2016.exponentiation_operator _ p (RowRule ExponentiationRule) off.powers (no-power p) s s' x y h k.proper k.class a);
+    chaining = chains_by o.es2020.optional_chaining refl;
+    raising = on-does StaysCopies o.es2016.exponentiation_operator (RowRule ExponentiationRule) (node_stays (RowRule ExponentiationRule) (Row RaisingRow raising-shape) (replacing-rule RaisingRow raising-shape) (λ new n w a b h. raising_copies n w new a b h.rule));
     catching = node_stays CatchRule CatchRow catch-rule catch_copies;
     spreading = on-does StaysCopies (is_some o.es2018.object_rest_spread) (Replacing SpreadRule) (node_stays (Replacing SpreadRule) (Row SpreadRule spread-shape) (replacing-rule SpreadRule spread-shape) spread_copies);
   })
@@ -336,9 +382,9 @@ program_stays (in_the_list {l = l} {d = d} {p = p} {q = q} {x = x} {y = y} {a = 
     this_one z = ap (λ (b : Bool). b || false) (bytes_eq-self z)
 
 -- SO IT IS KEPT
-pub keeps_copies : (o : EnvOptions) (p : Tree) → NoneBeside o p → KeptBeside o p HasCopies
-keeps_copies o p off = record {
-  steps = steps_stay p o off;
+pub keeps_copies : (o : EnvOptions) (p : Tree) → KeptInOrder o p HasCopies
+keeps_copies o p = record {
+  steps = λ s s' x y h k m a n c. steps_stay o s s' x y h k m n c;
   exports = λ s s' x y h k m c.
       let form = subst (λ (t : Tree). has_form s-Program t ≡ true) (finished-spread x) k.form in
       subst HasCopies (finished-spread y) (program_stays (program-exported (exported o h) form) (subst HasCopies (sym (finished-spread x)) c));

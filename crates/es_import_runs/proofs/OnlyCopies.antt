@@ -40,7 +40,7 @@ abbrev pub is_name_kind : AstType → Bool
 is_name_kind Identifier = true
 is_name_kind _ = false
 
-abbrev is_nothing : Role → Bool
+abbrev pub is_nothing : Role → Bool
 is_nothing Nothing = true
 is_nothing _ = false
 
@@ -86,7 +86,7 @@ fields_copies r k l fs e h =
     let b = copies_in (copies (used_helper k l fs)) (role_at r k l fs) fs in
     or_other (is_name_kind k) b (and_parts (name_other r k l) (is_name_kind k || b) h).1 e
 
-or_more : (a b : Bool) → b ≡ true → (a || b) ≡ true
+pub or_more : (a b : Bool) → b ≡ true → (a || b) ≡ true
 or_more true b h = refl
 or_more false b h = h
 

@@ -1,37 +1,40 @@
--- The program that imports a helper: its list is that of the program before, with the import behind the first imports, which asks nothing and sets a hidden
--- cell.
+-- The program that imports a helper, or requires it: its list is that of the program before, with a statement behind the first imports, which asks nothing and
+-- sets a hidden cell.
 use Rattle.std.proofs.Common.{◌≡◌, ◌∙◌, refl, sym, ap, subst, List, [], ◌∷◌, ◌++◌}
-use Rattle.std.specs.Prelude.{◌||◌, Bool, true, false, Option, Some, bytes_eq, codes, if◌then◌else◌}
+use Rattle.std.specs.Prelude.{◌||◌, Bool, true, false, Option, None, Some, bytes_eq, codes, if◌then◌else◌}
 use Rattle.es_tree.specs.Scopes.{Declared}
 use Rattle.es_tree.specs.Tree.{Tree, Label, ◌then◌, Trees, empty, ◌before◌}
 use Rattle.es_tree.specs.Words.{Text}
 use Rattle.es_runs.specs.Alike.{Alike, Equal, Frame, SameWorld}
 use Rattle.es_runs.specs.Alike.Agree.{agree}
-use Rattle.es_runs.specs.Core.{Binding, Silent, World, in_order, value}
-use Rattle.es_runs.specs.Core.Binding.{silent}
+use Rattle.es_runs.specs.Core.{Binding, Meaning, Silent, World, declared, declarator, gives_value, in_order, is_free, literal, name, value}
+use Rattle.es_runs.specs.Core.Binding.{free, silent}
+use Rattle.es_runs.specs.Core.Form.{other}
 use Rattle.es_runs.specs.Core.Silent.{helper_name}
 use Rattle.es_runs.specs.Machine.{M, Value, ◌>>=◌, return, set_cell}
 use Rattle.es_runs.specs.Machine.OwnValue.{helper}
 use Rattle.es_runs.specs.Machine.Value.{own, undefined}
 use Rattle.es_runs.specs.Runs.{only, program}
 use Rattle.es_runs.proofs.Basic.{return_alike, then_alike}
-use Rattle.es_steps.specs.Nodes.{joined_trees}
+use Rattle.es_steps.specs.Nodes.{call_node, declarator_with, identifier, joined_trees, string_node, word}
 use Rattle.es_steps.specs.Open.{after_imports, is_import}
 use Rattle.es_statement_runs.specs.Alike.{Quiet, SensesLike, StackSeen}
 use Rattle.es_statement_runs.specs.Alike.SensesLike.{no_sense, sense_and}
-use Rattle.es_statement_runs.specs.Helpers.{Supply, imported_helper, imported_helpers}
+use Rattle.es_statement_runs.specs.Calls.{call_by, core_call, required_or}
+use Rattle.es_statement_runs.specs.Helpers.{Supply, helper_in, imported_helper, imported_helpers}
+use Rattle.es_statement_runs.specs.Helpers.Supply.{by_require}
 use Rattle.es_statement_runs.specs.Kinds.{kind_in, sense, senses}
 use Rattle.es_statement_runs.specs.Laws.{apart_from}
 use Rattle.es_statement_runs.specs.Names.{top_in, top_names, using_here, using_in}
 use Rattle.es_statement_runs.specs.Places.{placed_at, value_taken}
-use Rattle.es_statement_runs.specs.Senses.{cores}
-use Rattle.es_statement_runs.specs.StatementParts.{asked_by, begun}
+use Rattle.es_statement_runs.specs.Senses.{Place, Sense, cores, plain_sense, said_in}
+use Rattle.es_statement_runs.specs.StatementParts.{asked_by, begun, declarator_by, first_asked}
 use Rattle.es_statement_runs.proofs.Catches.{hide_set}
 use Rattle.es_statement_runs.proofs.Programs.{body_taken}
 use Rattle.es_statement_runs.proofs.SensesAlike.{begun_like, bodies_like, ends_like}
 use Rattle.es_statement_runs.proofs.Combinators.{stack_alike}
 use Rattle.es_runs.proofs.Temporary.{bytes_eq-self}
-use Rattle.es_top_imports.specs.TopImports.{Import, import_of}
+use Rattle.es_top_imports.specs.TopImports.{Import, import_of, require_of}
 
 -- A STATEMENT MORE that asks nothing, but sets a hidden cell
 pub record IsSilent (o : Supply) (x : Text) (v : World) (n : Tree) : Type 0 where
@@ -50,6 +53,55 @@ import_silent o i t v bound = record { begins = begins; goes = λ us m h. λ s t
 
     begins : (us : Trees) (m k : M Value) → Alike (apart_from i.local.name) Equal m (begun (senses (placed_at o v [] []) us) k) → Alike (apart_from i.local.name) Equal m (begun (senses (placed_at o v [] []) (import_of i before us)) k)
     begins us m k h = subst (λ (q : M Value). Alike (apart_from i.local.name) Equal m q) (sym (asked us k)) (hidden_first i.local.name (own (helper t)) h)
+
+free_so : (b : Binding) → is_free b ≡ true → b ≡ free
+free_so free e = refl
+free_so _ e = absurd (cc e)
+
+-- and so is a `var` that requires it, where nothing binds `require`: the call is the helper
+module _ (m t : Text) (i : Import) (v : World) (bound : v.scope i.local.name ≡ silent (helper_name t)) (unbound : is_free (v.scope (codes "require")) ≡ true) (known : helper_in m i.source ≡ Some t) where
+  abbrev x : Text
+  x = i.local.name
+
+  abbrev here : Place
+  here = placed_at (by_require m) v [] []
+
+  abbrev there : Place
+  there = placed_at (by_require m) v [] (codes "var")
+
+  abbrev callee : Sense
+  callee = sense here (word (codes "require"))
+
+  abbrev given : List Sense
+  given = sense here (string_node i.source) ∷ []
+
+  abbrev call : Tree
+  call = call_node (word (codes "require")) (string_node i.source ∷ [])
+
+  required : sense here call ≡ plain_sense (literal (own (helper t)) other)
+  required =
+      ap (λ (b : Binding). call_by here callee given (said_in (by_require m) b)) (free_so (v.scope (codes "require")) unbound) ∙
+      (λ j. required_or (if unbound j then known j else None) (plain_sense (core_call v false callee given)))
+
+  abbrev set_name : Meaning
+  set_name = declarator v (name x) (literal (own (helper t)) other)
+
+  declares : sense there (declarator_with (identifier i.local) call) ≡ plain_sense set_name
+  declares =
+      ap (λ (b : Binding). declarator_by there (said_in (by_require m) b) (sense here (identifier i.local)) (sense here call) (declarator v (name x) (sense here call).core)) bound ∙
+      ap (λ (e : Sense). plain_sense (declarator v (name x) e.core)) required
+
+  statement : sense here (require_of i) ≡ plain_sense (gives_value (declared false (set_name ∷ [])))
+  statement = ap (λ (d : Sense). record { core = gives_value (declared false (d.core ∷ [])); more = d.more }) declares
+
+  set_first : {m k : M Value} → Alike (apart_from x) Equal m k → Alike (apart_from x) Equal m (value v (gives_value (declared false (set_name ∷ []))) >>= λ _. k)
+  set_first h _ _ (agree f g i) = hide_set (only x) x (own (helper t)) (bytes_eq-self x) h _ _ (agree f g i)
+
+  pub require_silent : IsSilent (by_require m) x v (require_of i)
+  require_silent = record {
+    begins = λ us m k h. subst (λ (s : Sense). Alike (apart_from x) Equal m (first_asked s.more (begun (senses here us) k))) (sym statement) h;
+    goes = λ us m h. subst (λ (s : Sense). Alike (apart_from x) Equal m (value v s.core >>= λ _. in_order v (cores (senses here us)))) (sym statement) (set_first h);
+  }
 
 -- A LIST with it behind the first imports
 
@@ -110,7 +162,7 @@ module _ (y : Text) (n : Tree) (apart : (es : List Declared) → kind_in (top_na
 
 -- THE NAMES that stand for helpers
 
-none_both : {A : Type 0} (xs ys : List A) → xs ++ ys ≡ [] → (xs ≡ []) × (ys ≡ [])
+pub none_both : {A : Type 0} (xs ys : List A) → xs ++ ys ≡ [] → (xs ≡ []) × (ys ≡ [])
 none_both [] ys h = (refl, h)
 none_both (x ∷ xs) ys h = absurd (cc h)
 

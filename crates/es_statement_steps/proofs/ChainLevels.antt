@@ -18,7 +18,7 @@ use Rattle.es_runs.specs.Alike.{Level, Need, key_need, needs, unary_need}
 use Rattle.es_runs.specs.Alike.Level.{no_evaluation, value_alone}
 use Rattle.es_runs.specs.Core.{UnaryClass, unary_class}
 use Rattle.es_runs.specs.Core.UnaryClass.{delete_class, typeof_class, void_class}
-use Rattle.es_unsupported.specs.Shapes.{is_chain_kind}
+use Rattle.es_runs.specs.OptionalChaining.{is_chain_kind}
 use Rattle.es_statement_runs.specs.Places.{Take, key_taken, takes_of}
 use Rattle.es_statement_steps.proofs.Chainings.{Meets, is_chain}
 use Rattle.es_statement_steps.proofs.Stands.{binds_at, is_link_kind, is_pattern, parts_fit}

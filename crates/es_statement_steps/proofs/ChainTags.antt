@@ -8,8 +8,8 @@ use Rattle.es_tree.specs.Tree.{Tree, node, Label, Fields, done, ◌then◌, Fiel
 use Rattle.es_tree.specs.Walks.{all_nodes, all_in_fields, all_in_trees}
 use Rattle.es_tree.specs.declared.ast_type.AstType.{AstType}
 use Rattle.es_tree.specs.declared.ast_type.AstType.TheVariants.{CallExpression, ObjectExpression, ParenthesizedExpression, TaggedTemplateExpression}
-use Rattle.es_runs.specs.OptionalChaining.{has_tests, where_short}
-use Rattle.es_unsupported.specs.Shapes.{is_chain_below, is_chain_kind}
+use Rattle.es_runs.specs.OptionalChaining.{has_tests, is_chain_kind, where_short}
+use Rattle.es_chain_tags.specs.ChainTags.{is_chain_below}
 use Rattle.es_resolution.specs.Declarations.{Bound}
 use Rattle.es_resolution.specs.Laws.{source}
 use Rattle.es_steps.specs.Exponentiation.{ExponentiationRule, assigned_power}

@@ -12,7 +12,7 @@ use Rattle.es_runs.specs.Alike.{Level, Need, SameWorld}
 use Rattle.es_runs.specs.Alike.Level.{a_callee}
 use Rattle.es_runs.specs.Core.{World}
 use Rattle.es_runs.specs.NullishCoalescing.{also_all as also_names}
-use Rattle.es_runs.specs.OptionalChaining.{call_at, delete_node, has_tests, is_member, is_super, is_this_or_super, member_at, null_checks, stored_call as stored_by_name, takes_value, this_node, true_node, where_short, is_name_among as is_name_among_by_name, start as start_by_name, bind_node as bind_by_name, Receives as ReceivesByName, Way as WayByName, Tested as TestedByName, Called as CalledByName, Walked as WalkedByName, Continued as ContinuedByName, BoundCallee as BoundCalleeByName, OptionalChainingRule as OptionalChainingByName}
+use Rattle.es_runs.specs.OptionalChaining.{is_chain_kind, call_at, delete_node, has_tests, is_member, is_super, is_this_or_super, member_at, null_checks, stored_call as stored_by_name, takes_value, this_node, true_node, where_short, is_name_among as is_name_among_by_name, start as start_by_name, bind_node as bind_by_name, Receives as ReceivesByName, Way as WayByName, Tested as TestedByName, Called as CalledByName, Walked as WalkedByName, Continued as ContinuedByName, BoundCallee as BoundCalleeByName, OptionalChainingRule as OptionalChainingByName}
 use Rattle.es_runs.specs.OptionalChaining.Receives.{by_this as plain_by_this, by_name as plain_by_name, by_temporary as plain_by_temporary}
 use Rattle.es_runs.specs.OptionalChaining.Tested.{as_name as plain_as_name, in_holder as plain_in_holder, in_temporary as plain_in_temporary}
 use Rattle.es_runs.specs.OptionalChaining.Called.{by_name as plain_called_by_name, by_value as plain_by_value, by_first_member as plain_by_first_member, by_later_member as plain_by_later_member}
@@ -23,7 +23,6 @@ use Rattle.es_runs.specs.OptionalChaining.OptionalChainingRule.{by_tests as plai
 use Rattle.es_runs.specs.Rules.{assign_node, strays, void_zero_node}
 use Rattle.es_runs.specs.Runs.{identifier as identifier_called}
 use Rattle.es_semantic.specs.RolesOf.{role_at}
-use Rattle.es_unsupported.specs.Shapes.{is_chain_kind}
 use Rattle.es_resolution.specs.Declarations.{Bound}
 use Rattle.es_resolution.specs.Named.{Named}
 use Rattle.es_resolution.specs.Resolved.{Resolved, place_in}

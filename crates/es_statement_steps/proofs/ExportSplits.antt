@@ -6,7 +6,7 @@ use Rattle.es_tree.specs.Fresh.{node_base}
 use Rattle.es_tree.specs.Tree.{Fields, Tree, node, Label, done, ◌then◌, missing, one, many, statements, Trees, empty, ◌before◌}
 use Rattle.es_tree.specs.Walks.{all_in_field, all_in_trees, all_nodes}
 use Rattle.es_tree.specs.declared.ast_type.AstType.{AstType}
-use Rattle.es_tree.specs.declared.ast_type.AstType.TheVariants.{ExportAllDeclaration, ExportNamedDeclaration, ExportSpecifier, Identifier, ImportDeclaration, ImportNamespaceSpecifier, Program}
+use Rattle.es_tree.specs.declared.ast_type.AstType.TheVariants.{ExportAllDeclaration, ExportNamedDeclaration, ExportSpecifier, ImportDeclaration, ImportNamespaceSpecifier, Program}
 use Rattle.es_resolution.specs.Declarations.{Bound}
 use Rattle.es_steps.specs.NamespaceExports.{NamespaceRule, namespace_import}
 use Rattle.es_steps.specs.NamespaceExports.NamespaceRule.{exports}
@@ -19,6 +19,7 @@ use Rattle.es_steps.proofs.Opened.{finished-opened}
 use Rattle.es_valid_steps.proofs.ProgramLists.{Exported, ProgramExported}
 use Rattle.es_valid_steps.proofs.ProgramLists.Exported.{here, there}
 use Rattle.es_valid_steps.proofs.ProgramLists.ProgramExported.{at_list as in_the_list}
+use Rattle.es_statement_steps.proofs.MadeNames.{is_made_text}
 use Rattle.es_statement_steps.proofs.NewNames.{new-fresh}
 use Rattle.es_statement_steps.proofs.StepMoves.{AreNew}
 
@@ -59,9 +60,8 @@ split-by (there t h) = let r = split-by h in record { pending = r.pending; this 
 
 -- TESTS OF NODES
 
--- the kinds of nodes that are made, and that of a program
+-- the kinds of nodes that are made but names, and that of a program
 abbrev pub is_export_kind : AstType → Bool
-is_export_kind Identifier = true
 is_export_kind ImportNamespaceSpecifier = true
 is_export_kind ImportDeclaration = true
 is_export_kind ExportSpecifier = true
@@ -69,7 +69,7 @@ is_export_kind ExportNamedDeclaration = true
 is_export_kind Program = true
 is_export_kind _ = false
 
-module _ (P : AstType → Label → Fields → Bool) (passes : (k : AstType) (l : Label) (fs : Fields) → is_export_kind k ≡ true → P k l fs ≡ true) where
+module _ (P : AstType → Label → Fields → Bool) (passes : (k : AstType) (l : Label) (fs : Fields) → is_export_kind k ≡ true → P k l fs ≡ true) (names : (x : Bound) → is_made_text x.name ≡ true → all_nodes P (identifier x) ≡ true) where
   joined-left : (vs ts : Trees) → all_in_trees P (joined_trees vs ts) ≡ true → all_in_trees P vs ≡ true
   joined-left empty ts h = refl
   joined-left (v before vs) ts h = let p = and_parts (all_nodes P v) (all_in_trees P (joined_trees vs ts)) h in and_from (all_nodes P v) (all_in_trees P vs) p.0 (joined-left vs ts p.1)
@@ -96,40 +96,37 @@ module _ (P : AstType → Label → Fields → Bool) (passes : (k : AstType) (l 
       let r = and_parts (all_nodes P s) (all_in_trees P attributes && true) q.1 in
       record { exported = q.0; from = r.0; given = (and_parts (all_in_trees P attributes) true r.1).0; rest = p.1 }
 
-  name-so : (x : Bound) → all_nodes P (identifier x) ≡ true
-  name-so x = and_from (P Identifier _ done) true (passes Identifier _ done refl) refl
-
-  import-so : (x : Bound) (m : Label) (e s : Tree) (attributes ts : Trees) → ExportParts m e s attributes ts → all_nodes P (made_import m x s attributes) ≡ true
-  import-so x m e s attributes ts c =
+  import-so : (x : Bound) → is_made_text x.name ≡ true → (m : Label) (e s : Tree) (attributes ts : Trees) → ExportParts m e s attributes ts → all_nodes P (made_import m x s attributes) ≡ true
+  import-so x new m e s attributes ts c =
       let specifier = node ImportNamespaceSpecifier (made [] []) (one (identifier x) then done) in
-      let specifier_so : all_nodes P specifier ≡ true = and_from (P ImportNamespaceSpecifier (made [] []) (one (identifier x) then done)) (all_nodes P (identifier x) && true) (passes ImportNamespaceSpecifier (made [] []) (one (identifier x) then done) refl) (and_from (all_nodes P (identifier x)) true (name-so x) refl) in
+      let specifier_so : all_nodes P specifier ≡ true = and_from (P ImportNamespaceSpecifier (made [] []) (one (identifier x) then done)) (all_nodes P (identifier x) && true) (passes ImportNamespaceSpecifier (made [] []) (one (identifier x) then done) refl) (and_from (all_nodes P (identifier x)) true (names x new) refl) in
       rw (passes ImportDeclaration _ (many (specifier before empty) then one s then many attributes then done) refl, specifier_so, c.from, c.given) refl
 
-  export-so : (x : Bound) (m : Label) (e s : Tree) (attributes ts : Trees) → ExportParts m e s attributes ts → all_nodes P (made_export x e) ≡ true
-  export-so x m e s attributes ts c =
+  export-so : (x : Bound) → is_made_text x.name ≡ true → (m : Label) (e s : Tree) (attributes ts : Trees) → ExportParts m e s attributes ts → all_nodes P (made_export x e) ≡ true
+  export-so x new m e s attributes ts c =
       let specifier = specifier_node (identifier x) e in
       let specifier_so : all_nodes P specifier ≡ true = and_from (P ExportSpecifier (made [] []) (one (identifier x) then one e then done)) (all_nodes P (identifier x) && (all_nodes P e && true)) (passes ExportSpecifier (made [] []) (one (identifier x) then one e then done) refl)
-      (and_from (all_nodes P (identifier x)) (all_nodes P e && true) (name-so x) (and_from (all_nodes P e) true c.exported refl)) in
+      (and_from (all_nodes P (identifier x)) (all_nodes P e && true) (names x new) (and_from (all_nodes P e) true c.exported refl)) in
       rw (passes ExportNamedDeclaration (made [] []) (missing then many (specifier before empty) then missing then many empty then done) refl, specifier_so) refl
 
-  split-so : (x : Bound) {ts us : Trees} → SplitHere x ts us → all_in_trees P ts ≡ true → all_in_trees P us ≡ true
-  split-so x (split_here m e s attributes ts) h =
+  split-so : (x : Bound) → is_made_text x.name ≡ true → {ts us : Trees} → SplitHere x ts us → all_in_trees P ts ≡ true → all_in_trees P us ≡ true
+  split-so x new (split_here m e s attributes ts) h =
       let c = export-parts m e s attributes ts h in
-      and_from (all_nodes P (made_import m x s attributes)) (all_in_trees P (made_export x e before ts)) (import-so x m e s attributes ts c)
-      (and_from (all_nodes P (made_export x e)) (all_in_trees P ts) (export-so x m e s attributes ts c) c.rest)
-  split-so x (split_later t {ts = ts} {us = us} g) h = let p = and_parts (all_nodes P t) (all_in_trees P ts) h in and_from (all_nodes P t) (all_in_trees P us) p.0 (split-so x g p.1)
+      and_from (all_nodes P (made_import m x s attributes)) (all_in_trees P (made_export x e before ts)) (import-so x new m e s attributes ts c)
+      (and_from (all_nodes P (made_export x e)) (all_in_trees P ts) (export-so x new m e s attributes ts c) c.rest)
+  split-so x new (split_later t {ts = ts} {us = us} g) h = let p = and_parts (all_nodes P t) (all_in_trees P ts) h in and_from (all_nodes P t) (all_in_trees P us) p.0 (split-so x new g p.1)
 
-  after-so : (x : Bound) (vs : Trees) {ts us : Trees} → SplitHere x ts us → all_in_trees P (after_imports vs ts) ≡ true → all_in_trees P (after_imports vs us) ≡ true
-  after-so x vs (split_here m e s attributes ts) h =
+  after-so : (x : Bound) → is_made_text x.name ≡ true → (vs : Trees) {ts us : Trees} → SplitHere x ts us → all_in_trees P (after_imports vs ts) ≡ true → all_in_trees P (after_imports vs us) ≡ true
+  after-so x new vs (split_here m e s attributes ts) h =
       let c = export-parts m e s attributes ts (joined-right vs (all_from m e s attributes before ts) h) in
-      and_from (all_nodes P (made_import m x s attributes)) (all_in_trees P (joined_trees vs (made_export x e before ts))) (import-so x m e s attributes ts c)
-      (joined-both vs (made_export x e before ts) (joined-left vs (all_from m e s attributes before ts) h) (and_from (all_nodes P (made_export x e)) (all_in_trees P ts) (export-so x m e s attributes ts c) c.rest))
-  after-so x vs (split_later t {ts = ts} {us = us} g) h = at (is_import t) h (after-so x vs g)
+      and_from (all_nodes P (made_import m x s attributes)) (all_in_trees P (joined_trees vs (made_export x e before ts))) (import-so x new m e s attributes ts c)
+      (joined-both vs (made_export x e before ts) (joined-left vs (all_from m e s attributes before ts) h) (and_from (all_nodes P (made_export x e)) (all_in_trees P ts) (export-so x new m e s attributes ts c) c.rest))
+  after-so x new vs (split_later t {ts = ts} {us = us} g) h = at (is_import t) h (after-so x new vs g)
     where
       at : (b : Bool) → all_in_trees P (if b then t before after_imports vs ts else joined_trees vs (t before ts)) ≡ true → (all_in_trees P (after_imports vs ts) ≡ true → all_in_trees P (after_imports vs us) ≡ true) →
           all_in_trees P (if b then t before after_imports vs us else joined_trees vs (t before us)) ≡ true
       at true h r = let p = and_parts (all_nodes P t) (all_in_trees P (after_imports vs ts)) h in and_from (all_nodes P t) (all_in_trees P (after_imports vs us)) p.0 (r p.1)
-      at false h r = joined-both vs (t before us) (joined-left vs (t before ts) h) (split-so x (split_later t g) (joined-right vs (t before ts) h))
+      at false h r = joined-both vs (t before us) (joined-left vs (t before ts) h) (split-so x new (split_later t g) (joined-right vs (t before ts) h))
 
   -- the program
   pub program-so : {s s' : Ledger} {x y : Open} → ProgramExported s s' x y → all_nodes P (finished x) ≡ true → all_nodes P (finished y) ≡ true
@@ -140,7 +137,7 @@ module _ (P : AstType → Label → Fields → Bool) (passes : (k : AstType) (l 
       let fields = and_parts (P Program l (finished_field d then (statements old then done))) (head && (all_in_trees P old && true)) c in
       let parts = and_parts head (all_in_trees P old && true) fields.1 in
       let there = λ (p : Pending) (x : Option Bound) (a : Additions). all_nodes P (node Program l (finished_field d then (statements (whole_list p x a (finished_trees us)) then done))) ≡ true in
-      let list_so = after-so r.name (pending_statements p x a) r.split (and_parts (all_in_trees P old) true parts.1).0 in
+      let list_so = after-so r.name (and_parts (is_made_text r.name.name) true r.are_new.names).0 (pending_statements p x a) r.split (and_parts (all_in_trees P old) true parts.1).0 in
       let new = whole_list p x a (finished_trees us) in
       subst (λ (p : Pending). there p y b) (sym r.pending) (subst (λ (x : Option Bound). there p x b) (sym r.this) (subst (λ (a : Additions). there p x a) (sym r.top)
       (and_from (P Program l (finished_field d then (statements new then done))) (head && (all_in_trees P new && true)) (passes Program l (finished_field d then (statements new then done)) refl)

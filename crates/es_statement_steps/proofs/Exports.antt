@@ -21,7 +21,7 @@ use Rattle.es_runs.proofs.Temporary.{bytes_eq-self}
 use Rattle.es_semantic.specs.RolesOf.{reads}
 use Rattle.es_resolution.specs.Declarations.{Bound}
 use Rattle.es_resolution.specs.Named.{Named}
-use Rattle.es_steps.specs.Nodes.{declarator, joined_trees, made}
+use Rattle.es_steps.specs.Nodes.{declarator, identifier, joined_trees, made}
 use Rattle.es_steps.specs.Open.{Additions, Open, Pending, after_imports, finished, finished_field, finished_fields, finished_trees, is_import, no_additions, nothing_pending, pending_statements, whole_list, with_vars}
 use Rattle.es_steps.specs.Open.OpenFields.{ends, ◌and◌}
 use Rattle.es_steps.specs.Open.OpenField.{list}
@@ -56,7 +56,7 @@ use Rattle.es_statement_steps.proofs.ExportSplits.{SplitBy, SplitHere, all_from,
 use Rattle.es_statement_steps.proofs.ExportSplits.SplitHere.{split_here, split_later}
 use Rattle.es_statement_steps.proofs.FoundNames.{declared_is}
 use Rattle.es_statement_steps.proofs.FreshNames.{top_used, unused_avoids}
-use Rattle.es_statement_steps.proofs.MadeNames.{made_math, made_program_names, made_supply}
+use Rattle.es_statement_steps.proofs.MadeNames.{is_made_text, made_math, made_program_names, made_supply}
 use Rattle.es_statement_steps.proofs.Rooms.{IsProgram, program-fields}
 use Rattle.es_statement_steps.proofs.RowRuns.{alike-under, StepAlike, false-where, not-new, undeclared-kind}
 use Rattle.es_statement_steps.proofs.Sources.{avoids-nothing, avoids-nothing-all, nothing, then-alike}
@@ -372,8 +372,8 @@ module _ (u : Supply) (Clean : Tree → Type 0) (quiet : (t : Tree) → Clean t 
 -- TESTS OF NODES
 
 -- a test that the nodes made for exports pass is kept
-pub exports-so : (P : AstType → Label → Fields → Bool) → ((k : AstType) (l : Label) (fs : Fields) → is_export_kind k ≡ true → P k l fs ≡ true) → (o : EnvOptions) {s s' : Ledger} {x y : Open} → Step (Exports o) the_program s x s' y → has_form s-Program (finished x) ≡ true → all_nodes P (finished x) ≡ true → all_nodes P (finished y) ≡ true
-exports-so P passes o {x = x} {y = y} h form c = subst (λ (t : Tree). all_nodes P t ≡ true) (finished-spread y) (program-so P passes (program-exported (exported o h) form) (subst (λ (t : Tree). all_nodes P t ≡ true) (sym (finished-spread x)) c))
+pub exports-so : (P : AstType → Label → Fields → Bool) → ((k : AstType) (l : Label) (fs : Fields) → is_export_kind k ≡ true → P k l fs ≡ true) → ((x : Bound) → is_made_text x.name ≡ true → all_nodes P (identifier x) ≡ true) → (o : EnvOptions) {s s' : Ledger} {x y : Open} → Step (Exports o) the_program s x s' y → has_form s-Program (finished x) ≡ true → all_nodes P (finished x) ≡ true → all_nodes P (finished y) ≡ true
+exports-so P passes names o {x = x} {y = y} h form c = subst (λ (t : Tree). all_nodes P t ≡ true) (finished-spread y) (program-so P passes names (program-exported (exported o h) form) (subst (λ (t : Tree). all_nodes P t ≡ true) (sym (finished-spread x)) c))
 
 made-class : (k : AstType) (l : Label) (fs : Fields) → is_export_kind k ≡ true → is_statement_node k l fs ≡ true
 made-class Identifier l fs h = refl
@@ -388,7 +388,7 @@ made-class _ l fs h = absurd (cc h)
 
 module _ (o : EnvOptions) (no_all : Bool) (u : Supply) (Clean : Tree → Type 0) (quiet : (t : Tree) → Clean t → silent_names u t ≡ []) (parts_clean : PartsClean Clean) where
   exports-class : {s s' : Ledger} {x y : Open} → Step (Exports o) the_program s x s' y → has_form s-Program (finished x) ≡ true → Class (finished x) → Class (finished y)
-  exports-class h form c = exports-so is_statement_node made-class o h form c
+  exports-class h form c = exports-so is_statement_node made-class (λ x new. refl) o h form c
 
   pub exports-run : {s s' : Ledger} {x y : Open} → Step (Exports o) the_program s x s' y → Known s (spread x) → Clean (finished x) → StepAlike false u (finished x) (finished y) × Clean (finished y)
   exports-run {x = x} {y = y} h k c =

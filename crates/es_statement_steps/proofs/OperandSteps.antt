@@ -86,7 +86,7 @@ module _ (o : EnvOptions) where
   suited-export s s' x y h k m c = record {
     steady = steady-exported (exported o h) (subst (λ (t : Tree). has_form s-Program t ≡ true) (finished-spread x) k.form) m.proper c.steady;
     cells = cells-step o (step_under (Exports o) (with_further_rules o) (exports-built o) h) c.cells;
-    tags = λ e. exports-so no_chain_tag made-untagged o h (subst (λ (t : Tree). has_form s-Program t ≡ true) (finished-spread x) k.form) (c.tags e);
+    tags = λ e. exports-so no_chain_tag made-untagged (λ x new. refl) o h (subst (λ (t : Tree). has_form s-Program t ≡ true) (finished-spread x) k.form) (c.tags e);
   }
 
 -- CHAINS ask besides that no tag is one, and that the rules of places are kept

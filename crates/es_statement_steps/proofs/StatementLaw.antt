@@ -1,6 +1,6 @@
 -- The law of steps and runs, from what is known of the rows.
-use Rattle.std.proofs.Common.{arith, ◌≡◌, refl, sym, subst, ◌∙◌, List, []}
-use Rattle.std.proofs.lemmas.Bool.{and_from, and_parts, or_parts}
+use Rattle.std.proofs.Common.{arith, ap, ◌≡◌, refl, sym, subst, ◌∙◌, List, []}
+use Rattle.std.proofs.lemmas.Bool.{and_from, or_parts}
 use Rattle.std.specs.Prelude.{◌&&◌, ◌||◌, Bool, true, false, codes, is_some, length, not, if◌then◌else◌}
 use Rattle.es_tree.specs.Fresh.{is_among}
 use Rattle.es_tree.specs.Names.{names_of}
@@ -100,17 +100,12 @@ not-so false h = refl
 
 -- WITH THE OBJECT OF ALL HELPERS, beside which no row of chains, logical assignment and exponentiation acts
 
--- what else may be asked of programs then: what these steps and exports of namespaces keep
-pub record KeptBeside (o : EnvOptions) (p : Tree) (Asked : Tree → Type 0) : Type 0 where
-  pub steps : (s s' : Ledger) (x y : Open) → Step (StatementRules o) the_program s x s' y → Known s x → Known s' y → Absent p (finished x) → Asked (finished x) → Asked (finished y)
-  pub exports : (s s' : Ledger) (x y : Open) → Step (Exports o) the_program s x s' y → Known s (spread x) → Known s' (spread y) → Asked (finished x) → Asked (finished y)
-
-module _ (o : EnvOptions) (no_all : Bool) (p : Tree) (off : NoneBeside o p) (Asked : Tree → Type 0) (kept : KeptBeside o p Asked) where
+module _ (o : EnvOptions) (no_all : Bool) (p : Tree) (off : NoneBeside o p) where
   abbrev IsWithoutKeys : Whole → Tree → Type 0
-  IsWithoutKeys w t = IsKeyless t × Asked t
+  IsWithoutKeys w t = IsKeyless t
 
   without-keys-silent : (w : Whole) (t : Tree) → IsWithoutKeys w t → silent_names by_global t ≡ []
-  without-keys-silent w t h = keyless_silent t h.0
+  without-keys-silent w t h = keyless_silent t h
 
   abbrev Helped : Whole → Tree → Type 0
   Helped = Lacking p IsWithoutKeys
@@ -131,49 +126,45 @@ module _ (o : EnvOptions) (no_all : Bool) (p : Tree) (off : NoneBeside o p) (Ask
   }
 
   helped-exports : NamespaceRuns o no_all by_global Helped
-  helped-exports = namespace-runs o no_all by_global IsKeyless keyless_silent keyless-parts Helped (λ w t c. c.0.0)
-      (λ s s' x y h k m c. (((exports-run o no_all by_global IsKeyless keyless_silent keyless-parts h k c.0.0).1, kept.exports s s' x y h k m c.0.1), absent-exports o p h k.alone c.1))
+  helped-exports = namespace-runs o no_all by_global IsKeyless keyless_silent keyless-parts Helped (λ w t c. c.0)
+      (λ s s' x y h k m c. ((exports-run o no_all by_global IsKeyless keyless_silent keyless-parts h k c.0).1, absent-exports o p h k.alone c.1))
 
   helped-clean : (s s' : Ledger) (x y : Open) → Step (only_where all_places (alone o)) the_program s x s' y → Known s x → Known s' y → Helped (whole_in s) (finished x) → Helped (whole_in s') (finished y)
   helped-clean s s' x y r k m c =
       let a = anywhere all_places (alone o) r in
       let tame = (tamed-step o a k.proper m.proper k.class).0 in
-      ((statement-keyless p o off s s' x y tame k m c.1 c.0.0, kept.steps s s' x y tame k m c.1 c.0.1), absent-alone o p a k.alone c.1)
+      (statement-keyless p o off s s' x y tame k m c.1 c.0, absent-alone o p a k.alone c.1)
 
-  -- what is reached runs alike, and holds no such call, and what is asked is so of it
-  pub helped-run : (q : Tree) (names : List Text) → IsStatementProgram p → uses_no_helper by_global p ≡ true → Asked (source p) → Reached (built_rules o) p (first_whole p) names q → StepAlike no_all by_global p q × (IsKeyless q × Asked q)
-  helped-run q names h none asked reached =
+  helped-run : (q : Tree) (names : List Text) → IsStatementProgram p → uses_no_helper by_global p ≡ true → Reached (built_rules o) p (first_whole p) names q → RunAlike by_global no_all p q
+  helped-run q names h none reached =
       let keyless : IsKeyless (source p) = named-keyless (length (symbols_of p)) (is_among (names_of p)) (not-so (is_among (names_of p) (codes "babelHelpers")) none) reads (source p) (law_named_proof p (is_among (names_of p)) (length (symbols_of p)) h.form h.rules (λ x e. e) (omega arith)) in
-      let r = rules-run o all_places all_places (same-places all_places) no_all by_global Helped helped-silent helped-does helped-clean helped-exports
-      p q names h (λ t e. keyless_silent t (same-keyless t (source p) (e ∙ source-bare p) keyless)) ((keyless, asked), absent-source p) (reached-anywhere o p (first_whole p) names q reached) in
-      (r.0, r.1.0)
+      (rules-run o all_places all_places (same-places all_places) no_all by_global Helped helped-silent helped-does helped-clean helped-exports
+      p q names h (λ t e. keyless_silent t (same-keyless t (source p) (e ∙ source-bare p) keyless)) (keyless, absent-source p) (reached-anywhere o p (first_whole p) names q reached)).0.runs
 
 -- WITHOUT HELPERS, or with that of object spread alone; where chains act beside that, none has a member of the object of helpers
 
--- what is asked of chains on the way
-data Asked : Type 0 where
-  nothing no_members : Asked
+abbrev Plain : EnvOptions → (Tree → Type 0) → Whole → Tree → Type 0
+Plain o Asked w t = Suited o w t × Asked t
 
-abbrev ChainsAsked : Asked → Tree → Type 0
-ChainsAsked nothing t = Unit {0}
-ChainsAsked no_members t = Nameless t
+-- what else is asked of programs on the way, which exports of namespaces keep
+abbrev ExportsKeep : EnvOptions → (Tree → Type 0) → Type 0
+ExportsKeep o Asked = (s s' : Ledger) (x y : Open) → Step (Exports o) the_program s x s' y → Known s (spread x) → Known s' (spread y) → Asked (finished x) → Asked (finished y)
 
-abbrev Plain : EnvOptions → Asked → Whole → Tree → Type 0
-Plain o asked w t = Suited o w t × ChainsAsked asked t
+anything-kept : (o : EnvOptions) → ExportsKeep o (λ t. Unit {0})
+anything-kept o s s' x y h k m c = tt
 
-asked-export : (o : EnvOptions) (asked : Asked) {s s' : Ledger} {x y : Open} → Step (Exports o) the_program s x s' y → Known s (spread x) → ChainsAsked asked (finished x) → ChainsAsked asked (finished y)
-asked-export o nothing h k c = tt
-asked-export o no_members {x = x} h k c = exports-so no_helper_in_chain export-nameless o h (subst (λ (t : Tree). has_form s-Program t ≡ true) (finished-spread x) k.form) c
+nameless-kept : (o : EnvOptions) → ExportsKeep o Nameless
+nameless-kept o s s' x y h k m c = exports-so no_helper_in_chain export-nameless (λ x new. refl) o h (subst (λ (t : Tree). has_form s-Program t ≡ true) (finished-spread x) k.form) c
 
-module _ (o : EnvOptions) (p : Tree) (no_all : Bool) (u : Supply) (plain : is_core_supply u ≡ true) (asked : Asked) (at : Site → Spot → Bool) where
-  plain-silent : (w : Whole) (t : Tree) → Plain o asked w t → silent_names u t ≡ []
+module _ (o : EnvOptions) (p : Tree) (no_all : Bool) (u : Supply) (plain : is_core_supply u ≡ true) (Asked : Tree → Type 0) (at : Site → Spot → Bool) where
+  plain-silent : (w : Whole) (t : Tree) → Plain o Asked w t → silent_names u t ≡ []
   plain-silent w t h = none-silent u plain t
 
-  kept-silent : (w : Whole) (t : Tree) → Lacking p (Plain o asked) w t → silent_names u t ≡ []
+  kept-silent : (w : Whole) (t : Tree) → Lacking p (Plain o Asked) w t → silent_names u t ≡ []
   kept-silent w t h = none-silent u plain t
 
   abbrev PlainKept : Ledger → Ledger → Open → Open → Type 0
-  PlainKept = Keeping no_all u (Lacking p (Plain o asked)) kept-silent
+  PlainKept = Keeping no_all u (Lacking p (Plain o Asked)) kept-silent
 
   abbrev Chaining : Site → Ledger → Spot → Ledger → Spot → Type 0
   Chaining = RowRule (OptionalChainingRule o.assumptions.no_document_all)
@@ -184,41 +175,42 @@ module _ (o : EnvOptions) (p : Tree) (no_all : Bool) (u : Supply) (plain : is_co
   abbrev Spreads : Type 0
   Spreads = Does PlainKept (only_where at (spreads_under o))
 
-  plain-acts : (R : Site → Ledger → Spot → Ledger → Spot → Type 0) → Runs no_all u (Plain o asked) plain-silent R → Does PlainKept R
-  plain-acts R does = acting no_all u p (Plain o asked) plain-silent R does
+  plain-acts : (R : Site → Ledger → Spot → Ledger → Spot → Type 0) → Runs no_all u (Plain o Asked) plain-silent R → Does PlainKept R
+  plain-acts R does = acting no_all u p (Plain o Asked) plain-silent R does
 
   suited-acts : (R : Site → Ledger → Spot → Ledger → Spot → Type 0) → Runs no_all u (Suited o) (no-silent o u plain) R → Does PlainKept R
   suited-acts R does = plain-acts R (λ s s' x y h k m c d. does s s' x y h k m c.0 d.0)
 
   plain-rests : (on there : Bool) (R : Site → Ledger → Spot → Ledger → Spot → Type 0) → (on && there) ≡ false → (there ≡ false → Never p R) → Does PlainKept (where_on on R)
-  plain-rests = resting no_all u p (Plain o asked) plain-silent
+  plain-rests = resting no_all u p (Plain o Asked) plain-silent
 
   plain-does : Chains → Spreads → EachDoesWhere PlainKept o at
   plain-does chains spreads = record {
-    writing = writing-runs no_all u (Lacking p (Plain o asked)) kept-silent o;
+    writing = writing-runs no_all u (Lacking p (Plain o Asked)) kept-silent o;
     assigning = on-does PlainKept o.es2021.logical_assignment_operators (RowRule LogicalAssignmentRule) (suited-acts (RowRule LogicalAssignmentRule) (assigning-runs o u plain no_all));
-    coalescing = coalescing-runs no_all u (Lacking p (Plain o asked)) kept-silent;
+    coalescing = coalescing-runs no_all u (Lacking p (Plain o Asked)) kept-silent;
     chaining = chains;
     raising = on-does PlainKept o.es2016.exponentiation_operator (RowRule ExponentiationRule) (suited-acts (RowRule ExponentiationRule) (raising-runs o u plain no_all));
-    catching = catch-runs no_all u (Lacking p (Plain o asked)) kept-silent;
+    catching = catch-runs no_all u (Lacking p (Plain o Asked)) kept-silent;
     spreading = spreads;
   }
 
-  plain-exports : NamespaceRuns o no_all u (Lacking p (Plain o asked))
-  plain-exports = namespace-runs o no_all u (λ t. Unit {0}) (λ t h. none-silent u plain t) (λ x l ds body after parts c. (tt, tt)) (Lacking p (Plain o asked)) (λ w t c. tt)
-      (λ s s' x y h k m c. ((suited-export o s s' x y h k m c.0.0, asked-export o asked h k c.0.1), absent-exports o p h k.alone c.1))
+  plain-exports : ExportsKeep o Asked → NamespaceRuns o no_all u (Lacking p (Plain o Asked))
+  plain-exports kept = namespace-runs o no_all u (λ t. Unit {0}) (λ t h. none-silent u plain t) (λ x l ds body after parts c. (tt, tt)) (Lacking p (Plain o Asked)) (λ w t c. tt)
+      (λ s s' x y h k m c. ((suited-export o s s' x y h k m c.0.0, kept s s' x y h k m c.0.1), absent-exports o p h k.alone c.1))
 
   -- what is asked of chains stays
   abbrev StaysAsked : Type 0
-  StaysAsked = (s s' : Ledger) (x y : Open) → Step (only_where at (StatementRules o)) the_program s x s' y → Known s x → Known s' y → ChainsAsked asked (finished x) → ChainsAsked asked (finished y)
+  StaysAsked = (s s' : Ledger) (x y : Open) → Step (only_where at (StatementRules o)) the_program s x s' y → Known s x → Known s' y → Absent p (finished x) → Asked (finished x) → Asked (finished y)
 
-  plain-run : (first : Site → Spot → Bool) → OffSlots first at → Chains → Spreads → StaysAsked → (q : Tree) (names : List Text) → IsStatementProgram p → TagsAreNoChains o p → ChainsAsked asked (source p) → Reached (only_where first (built_rules o)) p (first_whole p) names q → RunAlike u no_all p q
-  plain-run first off chains spreads stays q names h untagged so reached =
-      (rules-run o first at off no_all u (Lacking p (Plain o asked)) kept-silent (plain-does chains spreads)
-      (λ s s' x y r k m c. let a = anywhere first (alone o) r in ((suited-step o s s' x y a k m c.0.0, stays s s' x y (tamed-where o first at off r k.proper m.proper k.class) k m c.0.1), absent-alone o p a k.alone c.1)) plain-exports p q names h (λ t e. none-silent u plain t) ((suited-start o p h untagged, so), absent-source p) reached).0.runs
+  plain-run : (first : Site → Spot → Bool) → OffSlots first at → Chains → Spreads → StaysAsked → ExportsKeep o Asked → (q : Tree) (names : List Text) → IsStatementProgram p → TagsAreNoChains o p → Asked (source p) → Reached (only_where first (built_rules o)) p (first_whole p) names q → StepAlike no_all u p q × Asked q
+  plain-run first off chains spreads stays kept q names h untagged so reached =
+      let r = rules-run o first at off no_all u (Lacking p (Plain o Asked)) kept-silent (plain-does chains spreads)
+      (λ s s' x y r k m c. let a = anywhere first (alone o) r in ((suited-step o s s' x y a k m c.0.0, stays s s' x y (tamed-where o first at off r k.proper m.proper k.class) k m c.1 c.0.1), absent-alone o p a k.alone c.1)) (plain-exports kept) p q names h (λ t e. none-silent u plain t) ((suited-start o p h untagged, so), absent-source p) reached in
+      (r.0, r.1.0.1)
 
-  -- in whatever order, where nothing is asked of chains
-  anyhow : Chains → Spreads → StaysAsked → (q : Tree) (names : List Text) → IsStatementProgram p → TagsAreNoChains o p → ChainsAsked asked (source p) → Reached (only_where at (built_rules o)) p (first_whole p) names q → RunAlike u no_all p q
+  -- in whatever order
+  anyhow : Chains → Spreads → StaysAsked → ExportsKeep o Asked → (q : Tree) (names : List Text) → IsStatementProgram p → TagsAreNoChains o p → Asked (source p) → Reached (only_where at (built_rules o)) p (first_whole p) names q → StepAlike no_all u p q × Asked q
   anyhow = plain-run at (same-places at)
 
   -- rows that don't act
@@ -230,27 +222,33 @@ module _ (o : EnvOptions) (p : Tree) (no_all : Bool) (u : Supply) (plain : is_co
 
   -- object spread, where it has its helper
   with-spreads : has_global_spread u ≡ true → Spreads
-  with-spreads has = where-does PlainKept at (spreads_under o) (on-does PlainKept (is_some o.es2018.object_rest_spread) (Replacing SpreadRule) (replacing-runs no_all u (Lacking p (Plain o asked)) kept-silent SpreadRule spread-shape (spread-keeps no_all u has)))
+  with-spreads has = where-does PlainKept at (spreads_under o) (on-does PlainKept (is_some o.es2018.object_rest_spread) (Replacing SpreadRule) (replacing-runs no_all u (Lacking p (Plain o Asked)) kept-silent SpreadRule spread-shape (spread-keeps no_all u has)))
 
 -- chains, where what they assume is assumed
-module _ (o : EnvOptions) (p : Tree) (u : Supply) (plain : is_core_supply u ≡ true) (asked : Asked) (at : Site → Spot → Bool) (runs : o.es2020.optional_chaining ≡ true → Runs o.assumptions.no_document_all u (Plain o asked) (plain-silent o p (assumes_no_all o p) u plain asked at) (only_where at (RowRule (OptionalChainingRule o.assumptions.no_document_all)))) where
+module _ (o : EnvOptions) (p : Tree) (u : Supply) (plain : is_core_supply u ≡ true) (Asked : Tree → Type 0) (at : Site → Spot → Bool) (runs : o.es2020.optional_chaining ≡ true → Runs o.assumptions.no_document_all u (Plain o Asked) (plain-silent o p (assumes_no_all o p) u plain Asked at) (only_where at (RowRule (OptionalChainingRule o.assumptions.no_document_all)))) where
   abbrev assumed : Bool
   assumed = assumes_no_all o p
 
   abbrev Kept-there : Ledger → Ledger → Open → Open → Type 0
-  Kept-there = PlainKept o p assumed u plain asked at
+  Kept-there = PlainKept o p assumed u plain Asked at
 
   abbrev Row-there : Site → Ledger → Spot → Ledger → Spot → Type 0
-  Row-there = Chaining o p assumed u plain asked at
+  Row-there = Chaining o p assumed u plain Asked at
 
-  with-chains : Chains o p assumed u plain asked at
+  with-chains : Chains o p assumed u plain Asked at
   with-chains = chosen o.es2020.optional_chaining (any_node (is_sought of_chains) p) refl refl
     where
-      chosen : (on there : Bool) → o.es2020.optional_chaining ≡ on → any_node (is_sought of_chains) p ≡ there → Chains o p assumed u plain asked at
-      chosen true true e d = on-where-does Kept-there o.es2020.optional_chaining at Row-there (plain-acts o p assumed u plain asked at (only_where at Row-there)
-          (subst (λ (no_all : Bool). Runs no_all u (Plain o asked) (plain-silent o p assumed u plain asked at) (only_where at Row-there)) (λ i. (sym e i && sym d i) && o.assumptions.no_document_all) (runs e)))
-      chosen true false e d = where-does Kept-there at (chains_under o) (plain-rests o p assumed u plain asked at o.es2020.optional_chaining false Row-there (λ i. e i && false) (λ r. no-chain o.assumptions.no_document_all p d))
+      chosen : (on there : Bool) → o.es2020.optional_chaining ≡ on → any_node (is_sought of_chains) p ≡ there → Chains o p assumed u plain Asked at
+      chosen true true e d = on-where-does Kept-there o.es2020.optional_chaining at Row-there (plain-acts o p assumed u plain Asked at (only_where at Row-there)
+          (subst (λ (no_all : Bool). Runs no_all u (Plain o Asked) (plain-silent o p assumed u plain Asked at) (only_where at Row-there)) (λ i. (sym e i && sym d i) && o.assumptions.no_document_all) (runs e)))
+      chosen true false e d = where-does Kept-there at (chains_under o) (plain-rests o p assumed u plain Asked at o.es2020.optional_chaining false Row-there (λ i. e i && false) (λ r. no-chain o.assumptions.no_document_all p d))
       chosen false there e d = where-does Kept-there at (chains_under o) (off-does Kept-there o.es2020.optional_chaining Row-there e)
+
+-- WHAT ELSE IS KEPT of a program, by steps at whatever places, where no member of the object of helpers stands in a chain that may be lowered
+
+pub record KeptInOrder (o : EnvOptions) (p : Tree) (Asked : Tree → Type 0) : Type 0 where
+  pub steps : (s s' : Ledger) (x y : Open) → Step (StatementRules o) the_program s x s' y → Known s x → Known s' y → Absent p (finished x) → (o.es2020.optional_chaining ≡ true → Nameless (finished x)) → Asked (finished x) → Asked (finished y)
+  pub exports : ExportsKeep o Asked
 
 -- THE LAWS
 
@@ -261,24 +259,47 @@ module _ (o : EnvOptions) (p q : Tree) (names : List Text) (h : IsStatementProgr
   abbrev Chains-row : Site → Ledger → Spot → Ledger → Spot → Type 0
   Chains-row = RowRule (OptionalChainingRule o.assumptions.no_document_all)
 
-  -- object spread beside chains: no spread is lowered while a chain stands around it, and no chain has a member of that object at first
-  beside-chains : chains_there o p ≡ true → uses_no_helper spread_by_global p ≡ true → Reached (in_order o) p (first_whole p) names q → RunAlike spread_by_global assumes p q
-  beside-chains d none reached =
-      let members : all_nodes no_helper_member (source p) ≡ true =
-      named-members (length (symbols_of p)) (is_among (names_of p)) (not-so (is_among (names_of p) (codes "babelHelpers")) none) reads (source p) (law_named_proof p (is_among (names_of p)) (length (symbols_of p)) h.form h.rules (λ x e. e) (omega arith)) in
-      let on : o.es2020.optional_chaining ≡ true = (and_parts o.es2020.optional_chaining (any_node (is_sought of_chains) p) d).0 in
-      plain-run o p assumes spread_by_global refl no_members is_outside (is_in_order o) (outside-slots o on)
-      (with-chains o p spread_by_global refl no_members is_outside (λ a s s' x y r k m c d. nameless-runs o o.assumptions.no_document_all a s s' x y (anywhere is_outside Chains-row r) k m c.0 c.1))
-      (with-spreads o p assumes spread_by_global refl no_members is_outside refl) (statement-nameless o) q names h untagged (members-nameless (source p) members) reached
+  module _ (Asked : Tree → Type 0) (kept : KeptInOrder o p Asked) where
+    -- object spread where chains may be lowered: no spread is lowered while a chain stands around it, and no chain has a member of that object at first
+    chains-on : o.es2020.optional_chaining ≡ true → uses_no_helper spread_by_global p ≡ true → Asked (source p) → Reached (in_order o) p (first_whole p) names q → StepAlike assumes spread_by_global p q × Asked q
+    chains-on on none so reached =
+        let members : all_nodes no_helper_member (source p) ≡ true =
+        named-members (length (symbols_of p)) (is_among (names_of p)) (not-so (is_among (names_of p) (codes "babelHelpers")) none) reads (source p) (law_named_proof p (is_among (names_of p)) (length (symbols_of p)) h.form h.rules (λ x e. e) (omega arith)) in
+        let r = plain-run o p assumes spread_by_global refl (λ t. Nameless t × Asked t) is_outside (is_in_order o) (outside-slots o on)
+        (with-chains o p spread_by_global refl (λ t. Nameless t × Asked t) is_outside (λ a s s' x y r k m c d. nameless-runs o o.assumptions.no_document_all a s s' x y (anywhere is_outside Chains-row r) k m c.0 c.1.0))
+        (with-spreads o p assumes spread_by_global refl (λ t. Nameless t × Asked t) is_outside refl)
+        (λ s s' x y r k m a c. (statement-nameless o s s' x y r k m c.0, kept.steps s s' x y (anywhere is_outside (StatementRules o) r) k m a (λ e. c.0) c.1))
+        (λ s s' x y r k m c. (nameless-kept o s s' x y r k m c.0, kept.exports s s' x y r k m c.1)) q names h untagged (members-nameless (source p) members, so) reached in
+        (r.0, r.1.1)
+
+    -- and where they aren't
+    chains-off : o.es2020.optional_chaining ≡ false → Asked (source p) → Reached (built_rules o) p (first_whole p) names q → StepAlike assumes spread_by_global p q × Asked q
+    chains-off off so reached =
+        anyhow o p assumes spread_by_global refl Asked all_places (no-chains o p assumes spread_by_global refl Asked all_places (ap (λ b. b && any_node (is_sought of_chains) p) off)) (with-spreads o p assumes spread_by_global refl Asked all_places refl)
+        (λ s s' x y r k m a c. kept.steps s s' x y (anywhere all_places (StatementRules o) r) k m a (λ e. absurd (let no : false ≡ true = sym off ∙ e in cc no)) c) kept.exports q names h untagged so (reached-anywhere o p (first_whole p) names q reached)
+
+    -- with object spread's helper alone it runs alike, and what is asked is kept
+    pub in-order-run : uses_no_helper spread_by_global p ≡ true → Asked (source p) → Reached (in_order o) p (first_whole p) names q → StepAlike assumes spread_by_global p q × Asked q
+    in-order-run none so reached = chosen o.es2020.optional_chaining refl
+      where
+        chosen : (b : Bool) → o.es2020.optional_chaining ≡ b → StepAlike assumes spread_by_global p q × Asked q
+        chosen true e = chains-on e none so reached
+        chosen false e = chains-off e so (record { whole = reached.whole; steps = all_under (in_order o) (built_rules o) (λ n s x s' y r. r.0) reached.steps; made = reached.made })
+
+  abbrev Nothing-asked : Tree → Type 0
+  Nothing-asked t = Unit {0}
+
+  nothing-kept : KeptInOrder o p Nothing-asked
+  nothing-kept = record { steps = λ s s' x y r k m a n c. tt; exports = anything-kept o }
 
   -- object spread beside assignments and powers, and the others without helpers
   without-chains : chains_there o p ≡ false → Reached (built_rules o) p (first_whole p) names q → RunAlike spread_by_global assumes p q
-  without-chains d reached = anyhow o p assumes spread_by_global refl nothing all_places (no-chains o p assumes spread_by_global refl nothing all_places d) (with-spreads o p assumes spread_by_global refl nothing all_places refl) (λ s s' x y r k m c. tt) q names h untagged tt (reached-anywhere o p (first_whole p) names q reached)
+  without-chains d reached = (anyhow o p assumes spread_by_global refl Nothing-asked all_places (no-chains o p assumes spread_by_global refl Nothing-asked all_places d) (with-spreads o p assumes spread_by_global refl Nothing-asked all_places refl) (λ s s' x y r k m a c. tt) (anything-kept o) q names h untagged tt (reached-anywhere o p (first_whole p) names q reached)).0.runs
 
   without-spreads : spreads_there o p ≡ false → Reached (built_rules o) p (first_whole p) names q → RunAlike no_helpers assumes p q
-  without-spreads e reached = anyhow o p assumes no_helpers refl nothing all_places
-      (with-chains o p no_helpers refl nothing all_places (λ a s s' x y r k m c d. chaining-runs o o.assumptions.no_document_all a s s' x y (anywhere all_places Chains-row r) k m c.0 d.0))
-      (no-spreads o p assumes no_helpers refl nothing all_places e) (λ s s' x y r k m c. tt) q names h untagged tt (reached-anywhere o p (first_whole p) names q reached)
+  without-spreads e reached = (anyhow o p assumes no_helpers refl Nothing-asked all_places
+      (with-chains o p no_helpers refl Nothing-asked all_places (λ a s s' x y r k m c d. chaining-runs o o.assumptions.no_document_all a s s' x y (anywhere all_places Chains-row r) k m c.0 d.0))
+      (no-spreads o p assumes no_helpers refl Nothing-asked all_places e) (λ s s' x y r k m a c. tt) (anything-kept o) q names h untagged tt (reached-anywhere o p (first_whole p) names q reached)).0.runs
 
   -- from what is known of chains beside spreads
   by-rows : (spreads_there o p ≡ true → chains_there o p ≡ true → uses_no_helper spread_by_global p ≡ true → RunAlike spread_by_global assumes p q) → uses_no_helper (supply_there o p) p ≡ true → Reached (built_rules o) p (first_whole p) names q → RunAlike (supply_there o p) assumes p q
@@ -290,9 +311,9 @@ module _ (o : EnvOptions) (p q : Tree) (names : List Text) (h : IsStatementProgr
       chosen true false true e d g none = without-chains d reached
       chosen true false false e d g none =
           let v = or_parts (assignments_there o p) (powers_there o p) g in
-          (helped-run o assumes p (record { chains = d; assignments = v.0; powers = v.1 }) (λ t. Unit {0}) (record { steps = λ s s' x y r k m a c. tt; exports = λ s s' x y r k m c. tt }) q names h none tt reached).0.runs
+          helped-run o assumes p (record { chains = d; assignments = v.0; powers = v.1 }) q names h none reached
       chosen false d c e f g none = without-spreads e reached
 
 pub law_statement_rules_proof : LawStatementRules
 law_statement_rules_proof o p q names h untagged none reached ordered =
-    by-rows o p q names h untagged (λ e d unnamed. beside-chains o p q names h untagged d unnamed (ordered (and_from (spreads_there o p) (chains_there o p) e d))) none reached
+    by-rows o p q names h untagged (λ e d unnamed. (in-order-run o p q names h untagged (λ t. Unit {0}) (nothing-kept o p q names h untagged) unnamed tt (ordered (and_from (spreads_there o p) (chains_there o p) e d))).0.runs) none reached

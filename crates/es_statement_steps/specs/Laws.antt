@@ -10,7 +10,7 @@ use Rattle.es_tree.specs.declared.options.EnvOptions.{EnvOptions}
 use Rattle.es_steps.specs.CoreBridge.{Reached, first_whole}
 use Rattle.es_reached.specs.Reached.{built_rules}
 use Rattle.es_reached.specs.Unmade.{is_sought, of_assignments, of_chains, of_powers, of_spreads}
-use Rattle.es_unsupported.specs.Shapes.{has_chain_tag}
+use Rattle.es_chain_tags.specs.ChainTags.{has_chain_tag}
 use Rattle.es_statement_runs.specs.Helpers.{Supply}
 use Rattle.es_statement_runs.specs.Helpers.Supply.{no_helpers, spread_by_global, by_global}
 use Rattle.es_statement_runs.specs.Programs.{IsStatementProgram, uses_no_helper}

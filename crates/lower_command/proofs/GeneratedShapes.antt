@@ -23,7 +23,8 @@ use Rattle.es_rest_shapes.specs.RestShapes.{is_rest_declaration}
 use Rattle.es_rest_shapes.proofs.NoneLeft.{declaration-rest}
 use Rattle.es_unsupported.specs.ArrowShapes.{outside}
 use Rattle.es_unsupported.specs.FirstUnsupported.{first_of, first_unsupported}
-use Rattle.es_unsupported.specs.Shapes.{has_chain_tag, is_unbuilt_node, shape_at}
+use Rattle.es_chain_tags.specs.ChainTags.{has_chain_tag}
+use Rattle.es_unsupported.specs.Shapes.{is_unbuilt_node, shape_at}
 use Rattle.es_unsupported.specs.SpreadLiterals.{has_uncopied}
 use Rattle.es_unsupported.proofs.QuietStrays.{holds_stray-none}
 use Rattle.es_unsupported.proofs.QuietUsing.{asks-none, clashes-none}

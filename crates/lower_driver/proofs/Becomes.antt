@@ -31,7 +31,7 @@ use Rattle.es_reached.specs.Walks.{is_other_construct}
 use Rattle.es_reached.proofs.FreeSteps.{law_no_rests_proof}
 use Rattle.es_reached.proofs.Results.{law_core_result_proof, law_result_proof, program-kind}
 use Rattle.es_reached.proofs.Sources.{law_bare_seen_proof, law_bare_source_proof}
-use Rattle.es_rest_shapes.specs.RestShapes.{is_misplaced, is_rest_declaration, is_stray_rest, reads_key}
+use Rattle.es_rest_shapes.specs.RestShapes.{bears_second, is_misplaced, is_rest_declaration, is_stray_rest, reads_key}
 use Rattle.es_rest_shapes.proofs.NoneLeft.{law_none_left_proof}
 use Rattle.es_rest_rows.specs.Laws.{is_other_construct as rest_others}
 use Rattle.es_rest_rows.specs.RestRows.{RestWalkRow}
@@ -49,7 +49,7 @@ use Rattle.es_unsupported.proofs.ArrowsTaken.{law_arrows_taken_proof}
 use Rattle.es_unsupported.proofs.Built.{law_strays_taken_proof}
 use Rattle.es_unsupported.proofs.HelpersFree.{law_helpers_free_proof}
 use Rattle.lower_nodes.specs.Nodes.{PaidTree, WalkedProgram, owed, owed_among, owed_in}
-use Rattle.lower_object_rest.specs.Profile.{key_ids, key_ids_by, profile_where, rest_owes}
+use Rattle.lower_object_rest.specs.Profile.{key_ids, key_ids_by, nested_ids, nested_ids_by, nested_ids_of, profile_where, rest_owes}
 use Rattle.lower_temporaries.proofs.SeenLaws.{size-seen}
 use Rattle.lower_temporaries.specs.Takings.{moment_of}
 use Rattle.lower_temporaries.specs.declared.state.TransformState.{TransformState}
@@ -67,13 +67,13 @@ use Rattle.lower_driver.proofs.Visits.{Arrived, names-bound}
 
 -- IDS that a walk may give
 
--- what a pattern may have for the nodes that stand in its fields themselves
+-- What a pattern may have for the nodes of a list in its fields, and five for each other node: that many are left of those that it has itself.
 abbrev children : Fields → ℕ
 children done = 0
 children (missing then fs) = children fs
-children (one t then fs) = key_ids_by (reads_key t) + children fs
-children (many ts then fs) = key_ids ts + children fs
-children (statements ts then fs) = key_ids ts + children fs
+children (one t then fs) = 5 + children fs
+children (many ts then fs) = key_ids ts + nested_ids ts + children fs
+children (statements ts then fs) = key_ids ts + nested_ids ts + children fs
 
 -- what a rest among the members of a pattern has for it
 abbrev for_pattern : Bool → ℕ
@@ -83,12 +83,12 @@ abbrev of_rests : Fields → ℕ
 of_rests (many ps then fs) = for_pattern (any_kind is_rest ps)
 of_rests _ = 0
 
-either-owed : (b : Bool) (n m : ℕ) → (if b then 16 + n else 0) ≤ 10 + (n + m) + for_pattern b
-either-owed true n m = omega arith
-either-owed false n m = omega arith
+either-owed : (b : Bool) (n o m : ℕ) → (if b then 16 + n else 0) + o ≤ 6 + (n + o + m) + for_pattern b
+either-owed true n o m = omega arith
+either-owed false n o m = omega arith
 
-own-owed : (k : AstType) (l : Label) (fs : Fields) → rest_owes k l fs ≤ 10 + children fs + of_rests fs
-own-owed ObjectPattern l (many ps then fs) = either-owed (any_kind is_rest ps) (key_ids ps) (children fs)
+own-owed : (k : AstType) (l : Label) (fs : Fields) → rest_owes k l fs ≤ 6 + children fs + of_rests fs
+own-owed ObjectPattern l (many ps then fs) = either-owed (any_kind is_rest ps) (key_ids ps) (nested_ids ps) (children fs)
 own-owed ObjectPattern l done = omega arith
 own-owed ObjectPattern l (missing then fs) = omega arith
 own-owed ObjectPattern l (one t then fs) = omega arith
@@ -104,29 +104,50 @@ few-key : (b : Bool) → key_ids_by b ≤ 7
 few-key true = omega arith
 few-key false = omega arith
 
-among-owed : (a b : Bool) (own later key n size sizes : ℕ) → own + key + for_pattern a ≤ 11 * size → later + n + for_pattern b ≤ 11 * sizes → own + later + (key + n) + for_pattern (a || b) ≤ 11 * (size + sizes)
-among-owed true b own later key n size sizes first rest = omega arith
-among-owed false b own later key n size sizes first rest = omega arith
+few-nested : (b : Bool) → nested_ids_by b ≤ 9
+few-nested true = omega arith
+few-nested false = omega arith
 
--- at most eleven for each node: what a pattern may have for its members is of those that they have, a property that owes none itself has seven for its
--- key, and ten of a rest, which owes none itself, are for its pattern
+-- a property has enough for its key and for a pattern in its value
+property-owed : (l : Label) (fs : Fields) → key_ids_by (reads_key (node PatternProperty l fs)) + nested_ids_by (bears_second fs) ≤ 11 + children fs
+property-owed l (one k then (one v then done)) = omega (arith, few-key (reads_key (node PatternProperty l (one k then (one v then done)))), few-nested (bears_second (one k then (one v then done))))
+property-owed l done = omega arith
+property-owed l (missing then fs) = omega (arith, few-nested (bears_second (missing then fs)))
+property-owed l (many ts then fs) = omega (arith, few-nested (bears_second (many ts then fs)))
+property-owed l (statements ts then fs) = omega (arith, few-nested (bears_second (statements ts then fs)))
+property-owed l (one k then done) = omega arith
+property-owed l (one k then (missing then fs)) = omega (arith, few-nested (bears_second (one k then (missing then fs))))
+property-owed l (one k then (many ts then fs)) = omega (arith, few-nested (bears_second (one k then (many ts then fs))))
+property-owed l (one k then (statements ts then fs)) = omega (arith, few-nested (bears_second (one k then (statements ts then fs))))
+property-owed l (one k then (one v then (f then fs))) = omega (arith, few-nested (bears_second (one k then (one v then (f then fs)))))
+
+among-owed : (a b : Bool) (own later key n nested o size sizes : ℕ) → own + key + nested + for_pattern a ≤ 11 * size → later + n + o + for_pattern b ≤ 11 * sizes → own + later + (key + n) + (nested + o) + for_pattern (a || b) ≤ 11 * (size + sizes)
+among-owed true b own later key n nested o size sizes first rest = omega arith
+among-owed false b own later key n nested o size sizes first rest = omega arith
+
+-- At most eleven for each node: what a pattern may have for its members is of those that they have, a property that owes none itself has seven for its
+-- key and nine for a pattern in its value, and ten of a rest, which owes none itself, are for its pattern. Of each node five are left.
 mutual
-  few-owed-of : (t : Tree) → owed rest_owes t + key_ids_by (reads_key t) + for_pattern (is_rest (kind_of t)) ≤ 11 * tree_size t
+  few-owed-of : (t : Tree) → owed rest_owes t + key_ids_by (reads_key t) + nested_ids_of t + for_pattern (is_rest (kind_of t)) ≤ 11 * tree_size t
   few-owed-of (node RestElement l fs) = omega (arith, few-owed-in fs)
   few-owed-of (node TargetRest l fs) = omega (arith, few-owed-in fs)
-  few-owed-of (node PatternProperty l fs) = omega (arith, few-key (reads_key (node PatternProperty l fs)), few-owed-in fs)
+  few-owed-of (node PatternProperty l fs) = omega (arith, property-owed l fs, few-owed-in fs)
   few-owed-of (node k l fs) = omega (arith, own-owed k l fs, few-owed-in fs)
+
+  left-owed-of : (t : Tree) → owed rest_owes t + 5 ≤ 11 * tree_size t
+  left-owed-of (node k l fs) = omega (arith, own-owed k l fs, few-owed-in fs)
 
   few-owed-in : (fs : Fields) → owed_in rest_owes fs + children fs + of_rests fs ≤ 11 * fields_size fs
   few-owed-in done = omega arith
   few-owed-in (missing then fs) = omega (arith, few-owed-in fs)
-  few-owed-in (one t then fs) = omega (arith, few-owed-of t, few-owed-in fs)
+  few-owed-in (one t then fs) = omega (arith, left-owed-of t, few-owed-in fs)
   few-owed-in (many ts then fs) = omega (arith, few-owed-among ts, few-owed-in fs)
   few-owed-in (statements ts then fs) = omega (arith, few-owed-among ts, few-owed-in fs)
 
-  few-owed-among : (ts : Trees) → owed_among rest_owes ts + key_ids ts + for_pattern (any_kind is_rest ts) ≤ 11 * trees_size ts
+  few-owed-among : (ts : Trees) → owed_among rest_owes ts + key_ids ts + nested_ids ts + for_pattern (any_kind is_rest ts) ≤ 11 * trees_size ts
   few-owed-among empty = omega arith
-  few-owed-among (t before ts) = among-owed (is_rest (kind_of t)) (any_kind is_rest ts) (owed rest_owes t) (owed_among rest_owes ts) (key_ids_by (reads_key t)) (key_ids ts) (tree_size t) (trees_size ts) (few-owed-of t) (few-owed-among ts)
+  few-owed-among (t before ts) =
+      among-owed (is_rest (kind_of t)) (any_kind is_rest ts) (owed rest_owes t) (owed_among rest_owes ts) (key_ids_by (reads_key t)) (key_ids ts) (nested_ids_of t) (nested_ids ts) (tree_size t) (trees_size ts) (few-owed-of t) (few-owed-among ts)
 
 few-owed : (t : Tree) → owed rest_owes t + 1 ≤ 11 * tree_size t
 few-owed t = omega (arith, few-owed-of t, some-key (reads_key t))
@@ -190,7 +211,7 @@ module _ (o c : EnvOptions) (copy : IsCopy o c) (p : Tree) (form : has_form s-Pr
         none = sym (copied-enabled o c copy (plain_program z)) ∙ same-constructs c there (plain_program z) (sym (law_bare_seen_proof names (plain_program z))) ∙ none-enabled c there other rests arrows;
         core = λ core. law_core_result_proof o p (plain_program z) (made_of ctx) core right becomes;
         statements = λ no_rests runs. law_statement_result_proof o p (plain_program z) there (made_of ctx) runs (tags-are-no-chains o p taken_so) (ordered-so z ctx steps) (law_bare_seen_proof names (plain_program z));
-        importing = λ no_rests class m imported last runs goes. law_importing_result_proof o m p (plain_program z) imported (made_of ctx) last class runs becomes (law_same_sort_proof o p (plain_program z) (made_of ctx) form right (law_lowered_alone_proof o p (plain_program z) (made_of ctx) becomes)) goes;
+        importing = λ no_rests class m imported last runs require goes. law_importing_result_proof o m p (plain_program z) imported there (made_of ctx) last class (tags-are-no-chains o p taken_so) runs becomes (ordered-so z ctx steps) (law_bare_seen_proof names (plain_program z)) (law_same_sort_proof o p (plain_program z) (made_of ctx) form right (law_lowered_alone_proof o p (plain_program z) (made_of ctx) becomes)) require goes;
         size = rw none (omega (arith, size));
       }
 
@@ -266,7 +287,7 @@ module _ (o c : EnvOptions) (copy : IsCopy o c) (p : Tree) (form : has_form s-Pr
               none = sym (copied-enabled o c copy (plain_program u)) ∙ same-constructs c last (plain_program u) (sym (law_bare_seen_proof names (plain_program u))) ∙ none-with-rests c last others (off-second (is_some c.es2018.object_rest_spread) (any_node is_object_rest last) none-last);
               core = λ core. absurd (true≢false (sym has ∙ no-rest p core.core));
               statements = λ no_rests runs. absurd (true≢false (sym there-is ∙ no_rests));
-              importing = λ no_rests class m imported last runs goes. absurd (true≢false (sym there-is ∙ no_rests));
+              importing = λ no_rests class m imported last runs require goes. absurd (true≢false (sym there-is ∙ no_rests));
               size = rw there-is (omega (arith, small, few, light, more));
             }
 
@@ -296,7 +317,7 @@ stays-in-place o p form right none =
       none = none;
       core = λ core. law_core_result_proof o p p [] core right becomes;
       statements = λ no_rests runs. law_statement_result_proof o p p (source p) [] runs (tags-are-no-chains o p taken) (record { whole = first_whole p; steps = stays; made = refl }) (law_bare_source_proof p);
-      importing = λ no_rests class m imported last runs goes. law_importing_result_proof o m p p imported [] last class runs becomes refl goes;
+      importing = λ no_rests class m imported last runs require goes. law_importing_result_proof o m p p imported (source p) [] last class (tags-are-no-chains o p taken) runs becomes (record { whole = first_whole p; steps = stays; made = refl }) (law_bare_source_proof p) refl require goes;
       size = at (rests_there o p);
     }
   where

@@ -1,7 +1,7 @@
 -- What a source becomes last: its helpers are imported, or it stays as it is.
 use Rattle.std.proofs.Common.{◌≡◌, ◌∙◌, ◌+◌, ◌≤◌, List, [], None, Option, Some, ℕ, ap, arith, refl, sym, true≢false}
 use Rattle.std.proofs.lemmas.Bool.{and_parts}
-use Rattle.std.specs.Prelude.{Bool, true, false, ◌&&◌, ◌||◌, not, is_some, option_map, string_bytes, if◌then◌else◌}
+use Rattle.std.specs.Prelude.{Bool, true, false, ◌&&◌, ◌||◌, codes, not, is_some, option_map, string_bytes, if◌then◌else◌}
 use Rattle.es_tree.specs.Constructs.{has_enabled_construct, is_object_rest, is_object_spread}
 use Rattle.es_tree.specs.Core.{is_core_node}
 use Rattle.es_tree.specs.HasForm.{has_form}
@@ -18,7 +18,7 @@ use Rattle.es_tree.specs.declared.table.Sort.TheVariants.{Program as s-Program}
 use Rattle.es_runs.proofs.Named.{or_both}
 use Rattle.es_rest_shapes.specs.RestShapes.{is_rest_declaration}
 use Rattle.es_rest_shapes.proofs.NoneLeft.{law_declared_rests_proof}
-use Rattle.es_helper_calls.specs.Importing.{asks_helper, binds_require, uses_helper, first_unimported, imports_helpers, needs_helper, unimported, unimported_where}
+use Rattle.es_helper_calls.specs.Importing.{asks_helper, binds_require, uses_helper, first_unimported, imports_helpers, is_module, needs_helper, unimported, unimported_where}
 use Rattle.es_helper_calls.specs.HelperCalls.{helpers_called}
 use Rattle.es_helper_imports.specs.Imported.{imported_as, unmarked}
 use Rattle.es_helper_imports.specs.Laws.{IsImported}
@@ -26,7 +26,9 @@ use Rattle.es_helper_imports.proofs.Imported.{law_imported_proof}
 use Rattle.es_helper_imports.proofs.NoConstructs.{law_no_constructs_proof}
 use Rattle.es_helper_imports.proofs.Sizes.{law_imported_size_proof}
 use Rattle.es_lowered.specs.Lowered.{IsLowered}
+use Rattle.es_resolution.specs.Laws.{source}
 use Rattle.es_steps.specs.CoreBridge.{first_whole}
+use Rattle.es_top_imports.specs.Laws.{list_place}
 use Rattle.es_top_names.proofs.RequireFree.{law_require_free_proof}
 use Rattle.es_unsupported.specs.FirstUnsupported.{first_unsupported}
 use Rattle.es_unsupported.proofs.Firsts.{left_none, right_none}
@@ -115,10 +117,12 @@ module _ (o : EnvOptions) (made : Bool) (own : Option ℕ) (q lowered written : 
   abbrev module_text : Text
   module_text = string_bytes o.helper_loader.module_name
 
+  -- nor does what was lowered in place
+  pub require-free : imports_helpers o made q ≡ true → is_module lowered ≡ false → (list_place (source lowered)).scope (codes "require") ≡ None
+  require-free on script = law_require_free_proof o q lowered later form right result (require-unbound o made own q on (right_none (first_unsupported o q) (first_unimported o made own q) none)) script
+
   pub is-imported : imports_helpers o made q ≡ true → IsImported module_text lowered written last
-  is-imported on =
-      let unbound = require-unbound o made own q on (right_none (first_unsupported o q) (first_unimported o made own q) none) in
-      law_imported_proof module_text lowered written last result.result.form result.result.kept (λ script. law_require_free_proof o q lowered later form right result unbound script) (m.goes on)
+  is-imported on = law_imported_proof module_text lowered written last result.result.form result.result.kept (require-free on) (m.goes on)
 
   pub none-left : has_enabled_construct o lowered ≡ false → has_enabled_construct o written ≡ false
   none-left earlier = at (imports_helpers o made q) refl

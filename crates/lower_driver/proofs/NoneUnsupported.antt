@@ -20,7 +20,9 @@ use Rattle.es_steps.specs.WrapRule.{is_rest_target, is_wrapped_for, takes_for_ta
 use Rattle.es_valid_steps.specs.ArrowNodes.{is_arrow_accessor, is_kind_within}
 use Rattle.es_unsupported.specs.ArrowShapes.{outside}
 use Rattle.es_unsupported.specs.FirstUnsupported.{first_unsupported}
-use Rattle.es_unsupported.specs.Shapes.{has_chain_tag, holds_stray, is_chain_below, is_chain_kind, is_unbuilt_node, shape_at}
+use Rattle.es_runs.specs.OptionalChaining.{is_chain_kind}
+use Rattle.es_chain_tags.specs.ChainTags.{has_chain_tag, is_chain_below}
+use Rattle.es_unsupported.specs.Shapes.{holds_stray, is_unbuilt_node, shape_at}
 use Rattle.es_rest_shapes.specs.HelperNames.{binds_helpers}
 use Rattle.es_rest_shapes.specs.RestShapes.{is_rest_declaration}
 use Rattle.es_rest_shapes.proofs.NoneLeft.{declaration-rest}

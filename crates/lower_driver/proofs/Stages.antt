@@ -24,8 +24,7 @@ use Rattle.es_pattern_moves.proofs.MovedSize.{law_moved_size_proof}
 use Rattle.es_lowered.specs.Moved.{IsMoved}
 use Rattle.es_lowered.specs.Used.{IsUsed}
 use Rattle.es_reached.specs.Reached.{IsCoreResult}
-use Rattle.es_import_runs.specs.Laws.{RunsImporting}
-use Rattle.es_statement_runs.specs.Helpers.Supply.{by_import}
+use Rattle.es_import_runs.specs.Laws.{RunsImporting, supply_in}
 use Rattle.es_statement_runs.specs.Programs.{IsStatementProgram}
 use Rattle.es_statement_runs.specs.Runs.{RunAlike}
 use Rattle.es_statement_steps.specs.Laws.{RunsAsStatements, assumes_no_all, supply_there}
@@ -46,7 +45,7 @@ use Rattle.lower_driver.specs.Uses.{Heads, Uses, lowers_using, using_there}
 use Rattle.lower_driver.specs.UnsupportedPrograms.{Finds, IsFirstOrMemory, IsUnsupportedOrMemory, first_refused}
 use Rattle.lower_driver.proofs.CopiedOptions.{copied-refused}
 use Rattle.lower_driver.proofs.CoreNodes.{no-class, no-class-among-statements, no-rest, no-using}
-use Rattle.lower_driver.proofs.Imported.{core-unimporting, is-imported, none-left, size-after}
+use Rattle.lower_driver.proofs.Imported.{core-unimporting, is-imported, none-left, require-free, size-after}
 use Rattle.lower_driver.proofs.Moved.{is-moved, moved-weight, moves-itself, no-moves, off-anyway, one-program, stays-itself}
 use Rattle.lower_driver.proofs.Set.{is-set, none-after, set-size, sets-itself}
 use Rattle.lower_driver.proofs.Splits.{is-split, off-without, one-split, same-using, split-weight, splits-itself}
@@ -224,15 +223,16 @@ module _
       let there : RunAlike (supply_there o s) (assumes_no_all o s) s lowered = subst (λ (t : Tree). RunAlike (supply_there o t) (assumes_no_all o t) t lowered) same.moved (in_place.statements (ap (rests_there o) same.moved ∙ no_rests) (subst (λ (t : Tree). RunsAsStatements o t) (sym same.moved) runs)) in
       subst (λ (t : Tree). RunAlike (supply_there o s) (assumes_no_all o s) s t) (sym (as-before same off (no-class-among-statements s runs.class.without_functions)).0) there
 
-  -- a module that imports a helper
-  importing-there : using_there o s ≡ false → rests_there o s ≡ false → imports_helpers o false s ≡ true → IsStatementProgram s → RunsImporting o (string_bytes o.helper_loader.module_name) s → RunAlike (by_import (string_bytes o.helper_loader.module_name)) false s written
+  -- a program that imports a helper, or requires it
+  importing-there : using_there o s ≡ false → rests_there o s ≡ false → imports_helpers o false s ≡ true → IsStatementProgram s → RunsImporting o (string_bytes o.helper_loader.module_name) s → RunAlike (supply_in (string_bytes o.helper_loader.module_name) s) (assumes_no_all o s) s written
   importing-there no_using no_rests on_here class runs =
       let m : Text = string_bytes o.helper_loader.module_name in
       let same = same-there no_using no_rests in
-      let goes = imports.goes (ap (imports_helpers o made) same.moved ∙ ap (λ (b : Bool). imports_helpers o b s) same.unmade ∙ on_here) in
-      let there : RunAlike (by_import m) false q imported = in_place.importing (ap (rests_there o) same.moved ∙ no_rests) (subst (λ (t : Tree). IsStatementProgram t) (sym same.moved) class) m imported last (subst (λ (t : Tree). RunsImporting o m t) (sym same.moved) runs) goes in
+      let asked : imports_helpers o made q ≡ true = ap (imports_helpers o made) same.moved ∙ ap (λ (b : Bool). imports_helpers o b s) same.unmade ∙ on_here in
+      let require = require-free o made own q lowered imported later last moved_there.form moved_there.kept none in_place.result imports asked in
+      let there : RunAlike (supply_in m q) (assumes_no_all o q) q imported = in_place.importing (ap (rests_there o) same.moved ∙ no_rests) (subst (λ (t : Tree). IsStatementProgram t) (sym same.moved) class) m imported last (subst (λ (t : Tree). RunsImporting o m t) (sym same.moved) runs) require (imports.goes asked) in
       let unset : written ≡ imported = sets.stays (off-anyway (is_some o.es2015.arrow_function) (any_node is_derived_class s) (no-class-among-statements s class.without_functions)) in
-      subst (λ (t : Tree). RunAlike (by_import m) false s t) (sym unset) (subst (λ (t : Tree). RunAlike (by_import m) false t imported) same.moved there)
+      subst (λ (t : Tree). RunAlike (supply_in m s) (assumes_no_all o s) s t) (sym unset) (subst (λ (t : Tree). RunAlike (supply_in m t) (assumes_no_all o t) t imported) same.moved there)
 
   -- SIZE
 

@@ -13,7 +13,8 @@ use Rattle.es_semantic.specs.Places.{Place, outermost, own_scope, own_scope_coun
 use Rattle.es_semantic.specs.SymbolsOf.{Declared, symbols_of}
 use Rattle.es_unsupported.specs.ArrowShapes.{arrow_place_in, arrow_shape, binds_arguments, outside, refers_by}
 use Rattle.es_unsupported.specs.FirstUnsupported.{first_of, first_of_field, first_of_fields, first_of_trees, first_unsupported, found_at}
-use Rattle.es_unsupported.specs.Shapes.{has_chain_tag, is_helper_bound, is_math_bound, is_spread_literal, is_tag_chain, is_unbuilt, shape_at, stray_shape}
+use Rattle.es_chain_tags.specs.ChainTags.{has_chain_tag}
+use Rattle.es_unsupported.specs.Shapes.{is_helper_bound, is_math_bound, is_spread_literal, is_tag_chain, is_unbuilt, shape_at, stray_shape}
 use Rattle.es_statement_steps.specs.Laws.{TagsAreNoChains, no_chain_tag}
 use Rattle.es_unsupported.specs.declared.arrow_places.ArrowPlace.{ArrowPlace}
 

@@ -1,5 +1,5 @@
 -- What a source becomes.
-use Rattle.std.specs.Prelude.{◌≡◌, ◌≤◌, ◌+◌, ◌*◌, ◌++◌, ◌&&◌, Bool, List, [], false, true, is_some, string_bytes, if◌then◌else◌, ℕ}
+use Rattle.std.specs.Prelude.{◌≡◌, ◌≤◌, ◌+◌, ◌*◌, ◌++◌, ◌&&◌, Bool, List, [], None, codes, false, true, is_some, string_bytes, if◌then◌else◌, ℕ}
 use Rattle.es_tree.specs.Constructs.{has_enabled_construct, is_object_rest}
 use Rattle.es_tree.specs.Core.{IsCoreProgram}
 use Rattle.es_tree.specs.Tree.{Tree, tree_size}
@@ -8,21 +8,22 @@ use Rattle.es_tree.specs.Words.{Text}
 use Rattle.es_tree.specs.declared.options.EnvOptions.{EnvOptions}
 use Rattle.es_json.specs.Canonical.{canonical}
 use Rattle.es_export_splits.specs.Laws.{IsSplit}
-use Rattle.es_helper_calls.specs.Importing.{imports_helpers}
+use Rattle.es_helper_calls.specs.Importing.{imports_helpers, is_module}
 use Rattle.es_helper_imports.specs.Imported.{ImportsTo}
 use Rattle.es_helper_imports.specs.Laws.{IsImported}
-use Rattle.es_import_runs.specs.Laws.{RunsImporting}
+use Rattle.es_import_runs.specs.Laws.{RunsImporting, supply_in}
 use Rattle.es_using_modules.specs.Laws.{IsTopped}
 use Rattle.es_lowered.specs.Lowered.{IsLowered}
 use Rattle.es_lowered.specs.Moved.{IsMoved}
 use Rattle.es_lowered.specs.Set.{IsSet}
 use Rattle.es_lowered.specs.Used.{IsUsed}
 use Rattle.es_reached.specs.Reached.{IsCoreResult}
-use Rattle.es_statement_runs.specs.Helpers.Supply.{by_import}
+use Rattle.es_resolution.specs.Laws.{source as with_symbols}
 use Rattle.es_statement_runs.specs.Programs.{IsStatementProgram}
 use Rattle.es_statement_runs.specs.Runs.{RunAlike}
 use Rattle.es_statement_steps.specs.Laws.{RunsAsStatements, assumes_no_all, supply_there}
 use Rattle.es_steps.specs.CoreBridge.{first_whole}
+use Rattle.es_top_imports.specs.Laws.{list_place}
 use Rattle.lower_driver.specs.Imports.{Imports}
 use Rattle.lower_driver.specs.Moves.{Moves}
 use Rattle.lower_driver.specs.Sets.{Sets, sets_this}
@@ -53,9 +54,10 @@ pub record LowersInPlace (o : EnvOptions) (source written : Tree) (names : List 
   -- which no law is known: of whatever operands its expressions are, where none of its runs is outside; where chains are lowered and the
   -- options assume that no value is `document.all`, in every run in which none is.
   pub statements : rests_there o source ≡ false → RunsAsStatements o source → RunAlike (supply_there o source) (assumes_no_all o source) source written
-  -- And so do a module of statements and what becomes of it when its helper of object spread is imported, where neither chains nor logical assignment nor
-  -- exponentiation is lowered beside it.
-  pub importing : rests_there o source ≡ false → IsStatementProgram source → (m : Text) (imported : Tree) (last : List Text) → RunsImporting o m source → ImportsTo (first_whole written).in_use m written imported last → RunAlike (by_import m) false source imported
+  -- And so do a program of statements and what becomes of it when its helper of object spread is imported, or required by a script at whose top `require`
+  -- is bound nowhere, whatever is lowered beside it, but exponentiation in a script.
+  pub importing : rests_there o source ≡ false → IsStatementProgram source → (m : Text) (imported : Tree) (last : List Text) → RunsImporting o m source → (is_module written ≡ false → (list_place (with_symbols written)).scope (codes "require") ≡ None) →
+      ImportsTo (first_whole written).in_use m written imported last → RunAlike (supply_in m source) (assumes_no_all o source) source imported
   -- It has at most so many nodes for each of the source's, and as many more: an object rest makes a text for each property before it, and the
   -- walk that takes rests is the last of three.
   pub size : tree_size written ≤ (if rests_there o source then 384 else 64) * tree_size source + 64
@@ -117,9 +119,9 @@ pub record Lowers (o : EnvOptions) (source written : Tree) (names : List Text) :
   -- `using` nor an object rest or spread is taken: the source itself and what is written run alike (`LowersInPlace`).
   pub core : IsCoreProgram source → IsCoreResult o source written names
   pub statements : using_there o source ≡ false → rests_there o source ≡ false → imports_helpers o false source ≡ false → RunsAsStatements o source → RunAlike (supply_there o source) (assumes_no_all o source) source written
-  -- a module that imports the helper of object spread runs alike under what its import means
+  -- a program that imports the helper of object spread, or requires it, runs alike under what its import or call of `require` means
   pub statements_importing : using_there o source ≡ false → rests_there o source ≡ false → imports_helpers o false source ≡ true → IsStatementProgram source → RunsImporting o (string_bytes o.helper_loader.module_name) source →
-      RunAlike (by_import (string_bytes o.helper_loader.module_name)) false source written
+      RunAlike (supply_in (string_bytes o.helper_loader.module_name) source) (assumes_no_all o source) source written
   -- where the options ask for no construct of the source, nothing is changed
   pub unchanged : has_enabled_construct o source ≡ false → IsAsBefore source written names
   -- the nodes of the source and of what is written, with those of the imports: where a name is set behind `super(..)`, three times as many

@@ -1,5 +1,0 @@
-use Rattle.es_import_runs.proofs.Sources.{law_imported_module_proof}
-use Rattle.es_import_runs.proofs.law_imported_module.Goals as goal
-
-pub returns : goal.returns
-returns c = law_imported_module_proof
