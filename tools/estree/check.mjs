@@ -5,7 +5,7 @@
 //   check.mjs [CASEFILE..]
 import fs from 'node:fs';
 import { fileURLToPath } from 'node:url';
-import { readCaseFile } from './lib/case-files.mjs';
+import { caseFileText, readCaseFile } from './lib/case-files.mjs';
 import { mapChildren, read, withoutSpans } from './lib/form.mjs';
 import { runMain } from './lib/main.mjs';
 import { NotParsed, hasBabel, hasParser } from './lib/parsers.mjs';
@@ -50,7 +50,9 @@ function checkExamples() {
  * case, one with `differs`, is passed over.
  */
 function checkCases(path) {
-  for (const { name, source, input, lowered, output, differs } of readCaseFile(path).cases) {
+  const file = readCaseFile(path);
+  tell(path, () => caseFileText(file) === readText(path) ? undefined : 'is not laid out as add-case.mjs writes it, or has a field twice');
+  for (const { name, source, input, lowered, output, differs } of file.cases) {
     const place = `${path}: ${name}`;
     if (source !== undefined && input) checkText(`${place}, source`, source, input, { mayBeInvalid: output === undefined });
     if (lowered !== undefined && output && !differs) checkText(`${place}, lowered`, lowered, output, { isLowered: true });

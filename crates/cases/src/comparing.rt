@@ -44,12 +44,27 @@ impl Differences {
         self.tell(difference.as_str())
     }
 
-    pub fn compare_statuses(&mut self, found: u8, wanted: u8) -> Result<(), AllocError> {
+    pub fn compare_statuses(&mut self, found: u64, wanted: u64) -> Result<(), AllocError> {
         if found == wanted {
             return Ok(());
         }
         let difference = format!(in self.alloc; "status {found}, and not {wanted}")?;
         self.tell(difference.as_str())
+    }
+
+    /// Leaves none of them where they are told by this text.
+    pub fn expect(&mut self, wanted: &str) -> Result<(), AllocError> {
+        if self.told() == Some(wanted) {
+            self.text.clear();
+            return Ok(());
+        }
+        self.tell("is told otherwise than it says")
+    }
+
+    pub fn tell_of(&mut self, difference: &str, what: &str) -> Result<(), AllocError> {
+        self.tell(difference)?;
+        self.text.push_str(": ")?;
+        self.text.push_str(what)
     }
 
     pub fn tell(&mut self, difference: &str) -> Result<(), AllocError> {
@@ -60,13 +75,14 @@ impl Differences {
     }
 }
 
-/// How many bytes both texts begin with.
+/// The first byte at which two texts differ.
 fn first_difference(found: &[u8], wanted: &[u8]) -> usize {
-    found
-        .iter()
-        .zip(wanted)
-        .take_while(|(found, wanted)| found == wanted)
-        .count()
+    for (at, byte) in wanted.iter().enumerate() {
+        if found.get(at) != Some(byte) {
+            return at;
+        }
+    }
+    wanted.len()
 }
 
 /// What stands at this byte of a text, up to the end of its line.

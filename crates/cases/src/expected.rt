@@ -1,86 +1,63 @@
-//! What a case says that a run leaves.
+//! What a case says that a run is given and leaves, as bytes.
 use crate::case::Case;
 use es_json::program::read_program;
 use es_json::writer::program_text;
-use es_tree::error::LowerError;
 use lower_command::refusal::refusal_line;
 use serde_json::Value;
 use std::alloc::{AllocError, Global};
-use thiserror::Error;
 
-/// What a run is to leave.
-#[derive(Drop)]
-pub struct Expected {
-    pub status: u8,
-    pub output: String,
-    pub notes: String,
-}
-
-/// Why a case says nothing that could be tried.
-#[derive(Debug, Drop, Error)]
-pub enum CaseError {
-    #[error("has neither words nor what its input is")]
-    Nothing,
-    #[error("has an input and bytes")]
-    TwoInputs,
-    #[error("says what its input is, and has none")]
-    NoInput,
-    #[error("has an output and a line")]
-    TwoOutputs,
-    #[error("is to run again, and has no output")]
-    NothingAgain,
-    #[error("has a tree that is refused: {0}")]
-    NoProgram(String),
-    #[error(transparent)]
-    Memory(#[from(alloc)] AllocError),
-}
-
-/// What the case says that a run leaves.
-pub fn expected_of(alloc: Global, case: &Case) -> Result<Expected, CaseError> {
-    if case.input.is_some() && case.bytes.is_some() {
-        return Err(CaseError::TwoInputs);
+/// The words.
+pub fn words_of(alloc: Global, case: Case<'_>) -> Result<Vec<String>, AllocError> {
+    let mut words = Vec::new(alloc);
+    if let Some(texts) = case.words() {
+        for text in texts {
+            words.push(String::from_str(alloc, text.as_str().unwrap_or(""))?)?;
+        }
     }
-    if case.again && case.output.is_none() {
-        return Err(CaseError::NothingAgain);
+    Ok(words)
+}
+
+/// The input, if there is one.
+pub fn input_of(alloc: Global, case: Case<'_>) -> Result<Option<Vec<u8>>, AllocError> {
+    match (case.input(), case.bytes()) {
+        (Some(tree), _) => Ok(Some(tree.to_vec(alloc)?)),
+        (None, Some(text)) => Ok(Some(text.as_bytes().to_vec(alloc)?)),
+        (None, None) => Ok(None),
     }
-    Ok(Expected {
-        status: case.status,
-        output: expected_output(alloc, case)?,
-        notes: joined_lines(alloc, &case.notes)?,
-    })
 }
 
-/// The text of the output: a tree in its canonical form, or a line, or nothing.
-fn expected_output(alloc: Global, case: &Case) -> Result<String, CaseError> {
-    let mut text = match (&case.output, &case.line) {
-        (Some(_), Some(_)) => return Err(CaseError::TwoOutputs),
-        (Some(tree), None) => canonical_text(alloc, tree)?,
-        (None, Some(line)) => line.clone()?,
-        (None, None) => return Ok(String::new(alloc)),
-    };
-    text.push_str("\n")?;
-    Ok(text)
+/// The output.
+pub fn output_of(alloc: Global, case: Case<'_>) -> Result<String, AllocError> {
+    if let Some(tree) = case.output() {
+        return canonical_line(alloc, tree);
+    }
+    match (case.canonical(), case.line()) {
+        (Some(tree), _) => format!(in alloc; "{tree}\n"),
+        (None, Some(line)) => format!(in alloc; "{line}\n"),
+        (None, None) => Ok(String::new(alloc)),
+    }
 }
 
-/// The text of the canonical form of the program that this tree is.
-pub fn canonical_text(alloc: Global, tree: &Value) -> Result<String, CaseError> {
+/// The line of a tree: its canonical form, or why it is refused.
+fn canonical_line(alloc: Global, tree: &Value) -> Result<String, AllocError> {
     match read_program(alloc, tree) {
-        Ok(read) => Ok(program_text(alloc, &read.program)?),
-        Err(error) => Err(CaseError::NoProgram(cause_text(alloc, error)?)),
+        Ok(read) => {
+            let mut line = program_text(alloc, &read.program)?;
+            line.push_str("\n")?;
+            Ok(line)
+        }
+        Err(error) => refusal_line(alloc, error),
     }
 }
 
-/// The line of a refusal, without its newline.
-fn cause_text(alloc: Global, error: LowerError) -> Result<String, AllocError> {
-    let line = refusal_line(alloc, error)?;
-    String::from_str(alloc, line.as_str().trim_end())
-}
-
-fn joined_lines(alloc: Global, lines: &[String]) -> Result<String, AllocError> {
-    let mut text = String::new(alloc);
-    for line in lines {
-        text.push_str(line.as_str())?;
-        text.push_str("\n")?;
+/// The notes.
+pub fn notes_of(alloc: Global, case: Case<'_>) -> Result<String, AllocError> {
+    let mut notes = String::new(alloc);
+    if let Some(lines) = case.notes() {
+        for line in lines {
+            notes.push_str(line.as_str().unwrap_or(""))?;
+            notes.push_str("\n")?;
+        }
     }
-    Ok(text)
+    Ok(notes)
 }

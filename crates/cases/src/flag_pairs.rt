@@ -1,9 +1,8 @@
 //! Lowering a program by each flag alone, and by each two of them.
 use crate::case::Case;
 use crate::comparing::Differences;
-use crate::expected::CaseError;
-use crate::running::{input_tree, run, source_of, source_of_bytes};
-use serde_json::Value;
+use crate::expected::{input_of, words_of};
+use crate::running::{compare_again, run};
 use std::alloc::{AllocError, Global};
 
 /// The flags of the nine lowerings.
@@ -19,52 +18,48 @@ const FLAGS: [&str; 9] = [
     "--arrows",
 ];
 
-/// All that isn't as it should be: by each flag and by each two the case's input is taken, and what is written, given as an input with the
-/// same words, is written as it stands.
-pub fn differences_by_pairs(alloc: Global, case: &Case) -> Result<Differences, CaseError> {
-    let mut differences = Differences::new(alloc);
-    let tree = input_tree(case)?;
+/// Tells all that isn't as it should be: with each flag and with each two behind its words the case's input is taken, and
+/// what is written, given as an input with the same words, is written as it stands.
+pub fn compare_by_pairs(
+    alloc: Global,
+    case: Case<'_>,
+    differences: &mut Differences,
+) -> Result<(), AllocError> {
     for (number, first) in FLAGS.iter().enumerate() {
         for second in FLAGS.iter().skip(number) {
-            let words = words_of(alloc, first, second)?;
-            compare_both_runs(alloc, tree, &words, &mut differences)?;
+            compare_by_flags(alloc, case, first, second, differences)?;
         }
     }
-    Ok(differences)
+    Ok(())
 }
 
-/// The words that ask for two lowerings, or for one where both are the same.
-fn words_of(alloc: Global, first: &str, second: &str) -> Result<Vec<String>, AllocError> {
-    let mut words = vec![in alloc; String::from_str(alloc, "--helpers=external")?]?;
+/// Takes the case's input by two flags, or by one where both are the same.
+fn compare_by_flags(
+    alloc: Global,
+    case: Case<'_>,
+    first: &str,
+    second: &str,
+    differences: &mut Differences,
+) -> Result<(), AllocError> {
+    let mut words = words_of(alloc, case)?;
     words.push(String::from_str(alloc, first)?)?;
     if second != first {
         words.push(String::from_str(alloc, second)?)?;
     }
-    Ok(words)
+    let asked = format!(in alloc; "by {first} {second}")?;
+    compare_both_runs(alloc, case, &words, asked.as_str(), differences)
 }
 
-/// Runs the tool on a tree, and on what it writes.
+/// Runs the tool on the case's input, and on what it writes.
 fn compare_both_runs(
     alloc: Global,
-    tree: &Value,
+    case: Case<'_>,
     words: &[String],
+    asked: &str,
     differences: &mut Differences,
-) -> Result<(), CaseError> {
-    let asked = joined_words(alloc, words)?;
-    let outcome = run(alloc, words, source_of(alloc, tree)?)?;
-    differences.compare_texts(asked.as_str(), outcome.notes.bytes(), b"")?;
-    differences.compare_statuses(outcome.status, 0)?;
-    let input = source_of_bytes(alloc, outcome.output.bytes())?;
-    let again = run(alloc, words, input)?;
-    differences.compare_texts(asked.as_str(), again.output.bytes(), outcome.output.bytes())?;
-    Ok(())
-}
-
-fn joined_words(alloc: Global, words: &[String]) -> Result<String, AllocError> {
-    let mut text = String::from_str(alloc, "by")?;
-    for word in words {
-        text.push_str(" ")?;
-        text.push_str(word.as_str())?;
-    }
-    Ok(text)
+) -> Result<(), AllocError> {
+    let outcome = run(alloc, words, input_of(alloc, case)?)?;
+    differences.compare_texts(asked, &outcome.notes, b"")?;
+    differences.compare_statuses(u64::from(outcome.status), 0)?;
+    compare_again(alloc, words, &outcome.output, asked, differences)
 }

@@ -5,10 +5,15 @@ export function readCaseFile(path) {
   return JSON.parse(fs.readFileSync(path, 'utf8'));
 }
 
-export function writeCaseFile(path, { about, cases }) {
+export function writeCaseFile(path, file) {
+  fs.writeFileSync(path, caseFileText(file));
+}
+
+/** The text of a case file. */
+export function caseFileText({ about, cases }) {
   const written = cases.map(item => `    {\n${lines(item).join(',\n')}\n    }`);
   const list = written.length === 0 ? '[]' : `[\n${written.join(',\n')}\n  ]`;
-  fs.writeFileSync(path, `{\n  "about": ${JSON.stringify(about)},\n  "cases": ${list}\n}\n`);
+  return `{\n  "about": ${JSON.stringify(about)},\n  "cases": ${list}\n}\n`;
 }
 
 /** A line for each field; a list of texts has a space behind each comma. */
