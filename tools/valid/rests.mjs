@@ -144,13 +144,19 @@ function pattern() {
   return `{ ${[...Array.from({ length: below(3) }, property), `...${bound()}`].join(', ')} }`;
 }
 
+/** A property, in some patterns with a pattern as its value, which has a rest or none. */
 function property() {
+  if (below(5) === 0) return `${pick(['a', 'p1', '"c"', `["p1"]`, `[${key()}]`])}: ${inner()}${pick(['', '', ` = ${value()}`])}`;
   const name = bound();
   return pick([
     name, `${name} = ${value()}`, `p${below(3)}: ${name}`, `"p${below(3)}": ${name} = ${value()}`,
     `["p${below(3)}"]: ${name}`, `${pick(['0', '0x0', '0n', '[0]', '[0n]'])}: ${name}`,
     `[${key()}]: ${name}`, `[${key()}]: ${name} = ${value()}`, `[${key()}]: ${name}`,
   ]);
+}
+
+function inner() {
+  return pick([pattern, pattern, pattern, () => `{ ${property()} }`, () => `[${bound()}]`, () => `[${bound()}, ...${bound()}]`])();
 }
 
 /** A computed key that is read, and may be told, write a name or throw; or the text of a template. Its value is no object. */
@@ -195,9 +201,15 @@ async function evaluated(text) {
     const made = {};
     const keys = ['a', 'p0', 'b', 'p1', 'c', symbol, 'g', '0'].filter((_, index) => (number >> index % 4) % 2 === 0 || index > 5);
     for (const key of keys) {
-      Object.defineProperty(made, key, { enumerable: key !== 'g', get: () => { log.push(`get ${String(key)} of ${number}`); return `${String(key)}${number}`; } });
+      Object.defineProperty(made, key, { enumerable: key !== 'g', get: () => { log.push(`get ${String(key)} of ${number}`); return held(key, number); } });
     }
     return made;
+  };
+  /** Of some properties the value is undefined or null, or has properties of its own. */
+  const held = (key, number) => {
+    if (key === 'p1' && number < 1000) return source(number * 100 + 1);
+    if (key === 'c') return [undefined, null, `c${number}`][number % 3];
+    return `${String(key)}${number}`;
   };
   const see = (number, names) => { log.push(`${number}:${names.map(name => described(name, 2)).join(';')}`); };
   const host = { told, source, see, require: requireHelper };
