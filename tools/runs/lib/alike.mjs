@@ -49,11 +49,15 @@ function textOf({ name, value }) {
   return name ?? value;
 }
 
+/** The names that a pattern binds; a sparse tree leaves out lists that are empty. */
 function boundNames(pattern) {
   if (pattern === null) return []; // a hole
-  if (pattern.type === 'Identifier') return [pattern.name];
-  const parts = pattern.properties ?? pattern.elements ?? [pattern.value ?? pattern.argument ?? pattern.left];
-  return parts.flatMap(boundNames);
+  switch (pattern.type) {
+    case 'Identifier': return [pattern.name];
+    case 'ObjectPattern': return (pattern.properties ?? []).flatMap(boundNames);
+    case 'ArrayPattern': return (pattern.elements ?? []).flatMap(boundNames);
+    default: return boundNames(pattern.value ?? pattern.argument ?? pattern.left);
+  }
 }
 
 /** Adds what was counted of one pair of texts to the sums. */
