@@ -1,8 +1,8 @@
 //! Files of cases, whose fields are taken by name: a derived reader of sixteen fields costs a minute of proof.
+use anyhow::bail;
 use serde_json::Value;
+use std::fs;
 use std::rt::Files;
-use std::{fs, io};
-use thiserror::Error;
 
 /// The cases of one subject.
 #[derive(Drop)]
@@ -16,7 +16,7 @@ impl CaseFile {
         }
     }
 
-    /// Whether it says what its cases show, and nothing beside.
+    /// Whether it says what its cases show, and nothing beside them.
     fn is_whole(&self) -> bool {
         match (&self.0, self.0.get("about")) {
             (Value::Object(fields), Some(Value::String(_))) => fields.len() == 2,
@@ -25,23 +25,12 @@ impl CaseFile {
     }
 }
 
-/// Why a file gives no cases.
-#[derive(Debug, Drop, Error)]
-pub enum FileError {
-    #[error("cannot be read: {0}")]
-    Unread(#[from] io::Error),
-    #[error("is no JSON: {0}")]
-    Malformed(#[from] serde_json::Error),
-    #[error("is no file of cases")]
-    Shape,
-}
-
 /// The cases of this file, of which there is one at least.
-pub fn read_cases(rt: &(impl Files + AllocGlobal), path: &str) -> Result<CaseFile, FileError> {
+pub fn read_cases(rt: &(impl Files + AllocGlobal), path: &str) -> anyhow::Result<CaseFile> {
     let text = fs::read_to_string(rt, path)?;
     let file = CaseFile(Value::from_str(rt.alloc(), text.as_str())?);
     if !file.is_whole() || file.cases().is_empty() {
-        return Err(FileError::Shape);
+        bail!("no file of cases");
     }
     Ok(file)
 }
@@ -103,6 +92,11 @@ impl<'f> Case<'f> {
         self.is_set("again")
     }
 
+    /// Whether it is run with each flag and with each two flags behind its words.
+    pub fn is_by_pairs(self) -> bool {
+        self.is_set("by_pairs")
+    }
+
     /// What is told of a case that is wrong on purpose.
     pub fn differs(self) -> Option<&'f str> {
         self.text("differs")
@@ -120,15 +114,18 @@ impl<'f> Case<'f> {
 
     /// Why it says nothing that could be tried, if so.
     pub fn flaw(self) -> Option<&'static str> {
-        let outputs = ["output", "kept", "canonical", "line"];
         if !self.has("name") {
             Some("has no name")
         } else if !self.has("words") {
             Some("has no words")
         } else if self.has("input") && self.has("bytes") {
             Some("has an input and bytes")
-        } else if outputs.iter().filter(|name| self.has(name)).count() > 1 {
-            Some("has two outputs")
+        } else if self.has("output") && self.has("kept") {
+            Some("has an output, and keeps the input")
+        } else if self.has("line") && (self.output().is_some() || self.has("canonical")) {
+            Some("has an output and a line")
+        } else if self.has("canonical") && self.output().is_some() {
+            Some("has an output and another in canonical form")
         } else if self.runs_again() && self.output().is_none() {
             Some("is to run again, and has no output")
         } else {
@@ -154,7 +151,7 @@ impl<'f> Case<'f> {
 fn is_field(name: &str, value: &Value) -> bool {
     match name {
         "name" | "source" | "lowered" | "bytes" | "line" | "differs" => value.is_string(),
-        "module" | "spans" | "kept" | "again" => value.is_boolean(),
+        "module" | "spans" | "kept" | "again" | "by_pairs" => value.is_boolean(),
         "input" | "output" | "canonical" => true,
         "words" | "notes" => are_texts(value),
         "status" => value.is_u64(),

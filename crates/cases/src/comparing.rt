@@ -25,6 +25,16 @@ impl Differences {
         if text.is_empty() { None } else { Some(text) }
     }
 
+    /// What is told otherwise than it is wanted.
+    pub fn told_beside(&self, wanted: Option<&str>) -> Option<&str> {
+        let told = self.told();
+        if told == wanted {
+            None
+        } else {
+            Some(told.unwrap_or("is right, and says that it isn't"))
+        }
+    }
+
     /// Where the text that was found parts from the one that was wanted, a few bytes of both are told.
     pub fn compare_texts(
         &mut self,
@@ -50,21 +60,6 @@ impl Differences {
         }
         let difference = format!(in self.alloc; "status {found}, and not {wanted}")?;
         self.tell(difference.as_str())
-    }
-
-    /// Leaves none of them where they are told by this text.
-    pub fn expect(&mut self, wanted: &str) -> Result<(), AllocError> {
-        if self.told() == Some(wanted) {
-            self.text.clear();
-            return Ok(());
-        }
-        self.tell("is told otherwise than it says")
-    }
-
-    pub fn tell_of(&mut self, difference: &str, what: &str) -> Result<(), AllocError> {
-        self.tell(difference)?;
-        self.text.push_str(": ")?;
-        self.text.push_str(what)
     }
 
     pub fn tell(&mut self, difference: &str) -> Result<(), AllocError> {

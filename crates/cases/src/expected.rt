@@ -6,13 +6,16 @@ use lower_command::refusal::refusal_line;
 use serde_json::Value;
 use std::alloc::{AllocError, Global};
 
-/// The words.
-pub fn words_of(alloc: Global, case: Case<'_>) -> Result<Vec<String>, AllocError> {
+/// The words, with these flags behind them.
+pub fn words_of(alloc: Global, case: Case<'_>, flags: &[&str]) -> Result<Vec<String>, AllocError> {
     let mut words = Vec::new(alloc);
     if let Some(texts) = case.words() {
         for text in texts {
             words.push(String::from_str(alloc, text.as_str().unwrap_or(""))?)?;
         }
+    }
+    for flag in flags {
+        words.push(String::from_str(alloc, flag)?)?;
     }
     Ok(words)
 }

@@ -1,8 +1,7 @@
 //! Lowering a program by each flag alone, and by each two of them.
 use crate::case::Case;
 use crate::comparing::Differences;
-use crate::expected::{input_of, words_of};
-use crate::running::{compare_again, run};
+use crate::running::compare_run;
 use std::alloc::{AllocError, Global};
 
 /// The flags of the nine lowerings.
@@ -18,8 +17,7 @@ const FLAGS: [&str; 9] = [
     "--arrows",
 ];
 
-/// Tells all that isn't as it should be: with each flag and with each two behind its words the case's input is taken, and
-/// what is written, given as an input with the same words, is written as it stands.
+/// Tells what isn't as it should be by the first flag, or the first two flags, by which anything isn't.
 pub fn compare_by_pairs(
     alloc: Global,
     case: Case<'_>,
@@ -28,12 +26,16 @@ pub fn compare_by_pairs(
     for (number, first) in FLAGS.iter().enumerate() {
         for second in FLAGS.iter().skip(number) {
             compare_by_flags(alloc, case, first, second, differences)?;
+            if differences.told().is_some() {
+                differences.tell(first)?;
+                return differences.tell(second);
+            }
         }
     }
     Ok(())
 }
 
-/// Takes the case's input by two flags, or by one where both are the same.
+/// Runs the case by two flags, or by one where both are the same.
 fn compare_by_flags(
     alloc: Global,
     case: Case<'_>,
@@ -41,25 +43,9 @@ fn compare_by_flags(
     second: &str,
     differences: &mut Differences,
 ) -> Result<(), AllocError> {
-    let mut words = words_of(alloc, case)?;
-    words.push(String::from_str(alloc, first)?)?;
-    if second != first {
-        words.push(String::from_str(alloc, second)?)?;
+    if first == second {
+        compare_run(alloc, case, &[first], differences)
+    } else {
+        compare_run(alloc, case, &[first, second], differences)
     }
-    let asked = format!(in alloc; "by {first} {second}")?;
-    compare_both_runs(alloc, case, &words, asked.as_str(), differences)
-}
-
-/// Runs the tool on the case's input, and on what it writes.
-fn compare_both_runs(
-    alloc: Global,
-    case: Case<'_>,
-    words: &[String],
-    asked: &str,
-    differences: &mut Differences,
-) -> Result<(), AllocError> {
-    let outcome = run(alloc, words, input_of(alloc, case)?)?;
-    differences.compare_texts(asked, &outcome.notes, b"")?;
-    differences.compare_statuses(u64::from(outcome.status), 0)?;
-    compare_again(alloc, words, &outcome.output, asked, differences)
 }

@@ -5,42 +5,24 @@ use crate::flag_pairs::compare_by_pairs;
 use crate::running::compare_run;
 use std::alloc::{AllocError, Global};
 
-/// Whether a case is right, or wrong on purpose, or a program alone, for each flag and each two.
-#[derive(Clone, Copy, PartialEq, Eq)]
-pub enum Kind {
-    Right,
-    Wrong,
-    ByPairs,
-}
-
-/// How a right case differs, or that a wrong one isn't told as it says.
-pub fn judge(alloc: Global, case: Case<'_>, kind: Kind) -> Result<Differences, AllocError> {
+/// All that isn't as the case says.
+pub fn differences_of(alloc: Global, case: Case<'_>) -> Result<Differences, AllocError> {
     let mut differences = Differences::new(alloc);
-    compare(alloc, case, kind, &mut differences)?;
-    match (kind, case.differs()) {
-        (Kind::Wrong, Some(wanted)) => differences.expect(wanted)?,
-        (Kind::Wrong, None) => differences.tell("is wrong on purpose, and doesn't say how")?,
-        (_, Some(_)) => differences.tell("is wrong on purpose, and its file isn't")?,
-        (_, None) => {}
-    }
+    compare(alloc, case, &mut differences)?;
     Ok(differences)
 }
 
-fn compare(
-    alloc: Global,
-    case: Case<'_>,
-    kind: Kind,
-    differences: &mut Differences,
-) -> Result<(), AllocError> {
+fn compare(alloc: Global, case: Case<'_>, differences: &mut Differences) -> Result<(), AllocError> {
     if let Some(field) = case.wrong_field() {
-        return differences.tell_of(
-            "has a field that no case has, or that holds something else",
-            field,
-        );
+        differences.tell("has a field that no case has, or that holds something else")?;
+        return differences.tell(field);
     }
-    match (case.flaw(), kind) {
-        (Some(flaw), _) => differences.tell(flaw),
-        (None, Kind::ByPairs) => compare_by_pairs(alloc, case, differences),
-        (None, Kind::Right | Kind::Wrong) => compare_run(alloc, case, differences),
+    if let Some(flaw) = case.flaw() {
+        return differences.tell(flaw);
+    }
+    if case.is_by_pairs() {
+        compare_by_pairs(alloc, case, differences)
+    } else {
+        compare_run(alloc, case, &[], differences)
     }
 }

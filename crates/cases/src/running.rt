@@ -21,12 +21,17 @@ const PIECE: usize = 61;
 /// The most bytes of an output, and of notes.
 const ROOM: usize = 1 << 20;
 
-/// Runs the tool on these words and this input. Where there is none, the first read fails.
-pub fn run(alloc: Global, words: &[String], input: Option<Vec<u8>>) -> Result<Outcome, AllocError> {
-    let mut source = match input {
-        Some(bytes) => MemSource::new(bytes, PIECE, Vec::new(alloc)),
-        None => MemSource::new(Vec::new(alloc), PIECE, vec![in alloc; 0]?),
-    };
+/// An input of these bytes. Where there are none, the first read fails.
+fn source_of(alloc: Global, bytes: Option<Vec<u8>>) -> Result<MemSource, AllocError> {
+    match bytes {
+        Some(bytes) => Ok(MemSource::new(bytes, PIECE, Vec::new(alloc))),
+        None => Ok(MemSource::new(Vec::new(alloc), PIECE, vec![in alloc; 0]?)),
+    }
+}
+
+/// Runs the tool on these words and this input.
+fn run(alloc: Global, words: &[String], input: Option<Vec<u8>>) -> Result<Outcome, AllocError> {
+    let mut source = source_of(alloc, input)?;
     let mut output = MemSink::new(alloc, ROOM, PIECE, Vec::new(alloc))?;
     let mut notes = MemSink::new(alloc, ROOM, PIECE, Vec::new(alloc))?;
     let status = run_tool(alloc, words, &mut source, &mut output, &mut notes);
@@ -37,17 +42,23 @@ pub fn run(alloc: Global, words: &[String], input: Option<Vec<u8>>) -> Result<Ou
     })
 }
 
-/// Runs the case, and tells all that isn't as it says.
+/// Runs the case with these flags behind its words, and tells all that isn't as it says. With flags it says no output,
+/// and what there is is to be written as it stands.
 pub fn compare_run(
     alloc: Global,
     case: Case<'_>,
+    flags: &[&str],
     differences: &mut Differences,
 ) -> Result<(), AllocError> {
-    let words = words_of(alloc, case)?;
+    let words = words_of(alloc, case, flags)?;
     let outcome = run(alloc, &words, input_of(alloc, case)?)?;
     differences.compare_statuses(u64::from(outcome.status), case.status())?;
     compare_notes(alloc, case, &outcome.notes, differences)?;
-    compare_outputs(alloc, case, &words, &outcome.output, differences)
+    if flags.is_empty() {
+        compare_outputs(alloc, case, &words, &outcome.output, differences)
+    } else {
+        compare_again(alloc, &words, &outcome.output, differences)
+    }
 }
 
 fn compare_notes(
@@ -71,19 +82,18 @@ fn compare_outputs(
     let wanted = output_of(alloc, case)?;
     differences.compare_texts("output", found, wanted.as_bytes())?;
     if case.runs_again() {
-        compare_again(alloc, words, wanted.as_bytes(), "again", differences)?;
+        compare_again(alloc, words, wanted.as_bytes(), differences)?;
     }
     Ok(())
 }
 
 /// Runs the tool on an output, which is to be written as it stands.
-pub fn compare_again(
+fn compare_again(
     alloc: Global,
     words: &[String],
     output: &[u8],
-    what: &str,
     differences: &mut Differences,
 ) -> Result<(), AllocError> {
     let again = run(alloc, words, Some(output.to_vec(alloc)?))?;
-    differences.compare_texts(what, &again.output, output)
+    differences.compare_texts("again", &again.output, output)
 }
