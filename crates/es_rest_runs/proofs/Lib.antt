@@ -4,3 +4,7 @@ pub mod GrownPlaces
 pub mod GrownPrograms
 pub mod TestsHold
 pub mod Stores
+pub mod Kept
+pub mod NoSilence
+pub mod SomeOptions
+pub mod StoredSteps

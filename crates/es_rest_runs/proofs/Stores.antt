@@ -24,8 +24,9 @@ use Rattle.es_resolution.proofs.Forms.{form-placed}
 use Rattle.es_valid_steps.proofs.Visits.{law_among_proof, law_places_proof}
 use Rattle.es_steps.specs.Nodes.{declarator_with, identifier, joined_trees}
 use Rattle.es_steps.specs.ObjectRest.{declares_as, pattern_node}
-use Rattle.es_steps.specs.Open.{finished}
-use Rattle.es_steps.specs.Steps.{Ledger, Site, Spot, Whole}
+use Rattle.es_steps.specs.Laws.{nothing_beside}
+use Rattle.es_steps.specs.Open.{Open, finished, opened}
+use Rattle.es_steps.specs.Steps.{Ledger, Site, Spot, Step, Whole, the_program}
 use Rattle.es_steps.specs.Steps.Spot.{at_node}
 use Rattle.es_steps.proofs.FormRules.{AtNodes}
 use Rattle.es_steps.proofs.Opened.{finished-opened}
@@ -35,7 +36,8 @@ use Rattle.es_rest_rows.specs.RestRows.{RestRow, declaring}
 use Rattle.es_rest_rows.specs.RestRows.RowsWhere.{nested, stores, takes}
 use Rattle.es_statement_runs.specs.Helpers.{Supply, silent_names}
 use Rattle.es_statement_runs.specs.Laws.{among_names, body_needs, followed, is_silent}
-use Rattle.es_statement_runs.specs.Names.{declarators_names, is_word, top_in}
+use Rattle.es_statement_runs.specs.Names.{declared_at_top, declarators_names, is_word, top_in}
+use Rattle.es_statement_runs.specs.Programs.{IsStatementProgram}
 use Rattle.es_statement_runs.specs.Places.{Take, avoids, avoids_trees, target_taken, value_taken}
 use Rattle.es_statement_runs.specs.Runs.{RunAlike}
 use Rattle.es_statement_runs.proofs.BareVars.{top_bound}
@@ -45,7 +47,7 @@ use Rattle.es_statement_steps.proofs.MadeNames.{all_made, fresh_made, is_made_te
 use Rattle.es_statement_steps.proofs.StandingPrograms.{program_stands}
 use Rattle.es_statement_steps.proofs.Stands.{is_program, standing, stands}
 use Rattle.es_split_runs.specs.Growing.{NamesMore}
-use Rattle.es_split_runs.specs.Growing.NamesMore.{one_more}
+use Rattle.es_split_runs.specs.Growing.NamesMore.{as_before, no_names, one_more}
 use Rattle.es_split_runs.specs.Laws.{FreshNames, StoreRow, bad_fresh, declarators_taken}
 use Rattle.es_split_runs.specs.Laws.StoreRow.{store_row}
 use Rattle.es_split_runs.proofs.GrownScopes.{same_names}
@@ -61,7 +63,8 @@ use Rattle.es_rest_runs.specs.Laws.{LawStores, StoresRow, is_stored}
 use Rattle.es_rest_runs.proofs.GrownNames.{Apt, Decl, in_right, more_append, using_same_in, using_so}
 use Rattle.es_rest_runs.proofs.GrownPrograms.{ProgramChanged, list_grown_at_top, program_changed, tops_more}
 use Rattle.es_rest_runs.proofs.TestsHold.{program_tested}
-use Rattle.es_rest_runs.proofs.QuietSteps.{PlainRule, opened_quiet, step_changed}
+use Rattle.es_rest_runs.specs.Quiet.{IsQuiet}
+use Rattle.es_rest_runs.proofs.QuietSteps.{Left, PlainRule, opened_quiet, step_changed}
 
 -- ONE PLACE has one name
 pub record Picked (I : Type 0) (C : I → Type 0) : Type 0 where
@@ -91,7 +94,7 @@ module _ (I : Type 0) (B : I → Tree → Tree → Type 0) where
     pick_among (tail_of h) = let g = pick_among h in record { index = g.index; holds = tail_of g.holds }
 
 -- WHAT THE ROW MAKES
-abbrev IsNew : Whole → Text → Type 0
+abbrev pub IsNew : Whole → Text → Type 0
 IsNew w x = (w.in_use x ≡ false) × (is_made_text x ≡ true)
 
 pub data StoredAt (w : Whole) (vx : Bool × Text) : Tree → Tree → Type 0 where
@@ -99,7 +102,7 @@ pub data StoredAt (w : Whole) (vx : Bool × Text) : Tree → Tree → Type 0 whe
       StoredAt w vx (declaring m (joined_trees a (declares_as l (pattern_node lp ps) e before c)))
       (declaring m (joined_trees a (declarator_with (identifier (record { name = vx.1; symbol = s })) e before declares_as l (pattern_node lp ps) (identifier (record { name = vx.1; symbol = s })) before c)))
 
-abbrev SomeStored : Whole → Tree → Tree → Type 0
+abbrev pub SomeStored : Whole → Tree → Tree → Type 0
 SomeStored w a b = Picked (Bool × Text) (λ i. StoredAt w i a b)
 
 record Shape (p : Tree) : Type 0 where
@@ -217,6 +220,24 @@ joined_avoids bad t (d before a) c h =
 declared_is : (ds : List Declared) (x : Text) → declares ds x ≡ true → is_declared ds x ≡ true
 declared_is ds x h = ap (λ b. not (is_free b)) (top_bound ds x) ∙ ap not (entered_free ds [] (λ z. free) x refl ∙ ap (λ es. not (declares es x)) (append-nil ds) ∙ ap not h)
 
+undeclared_is : (ds : List Declared) (y : Text) → is_declared ds y ≡ true → declares ds y ≡ true
+undeclared_is ds y h = at (declares ds y) refl
+  where
+    at : (b : Bool) → declares ds y ≡ b → b ≡ true
+    at true g = refl
+    at false g =
+        let f : is_free (scope_of ds y) ≡ true = ap is_free (top_bound ds y) ∙ entered_free ds [] (λ z. free) y refl ∙ ap (λ es. not (declares es y)) (append-nil ds) ∙ ap not g in
+        absurd (let no : true ≡ false = sym h ∙ ap not f in cc no)
+
+still_declared : {fresh : Text → Bool} {ds es : List Declared} → NamesMore fresh ds es → (y : Text) → declares ds y ≡ true → declares es y ≡ true
+still_declared no_names y e = e
+still_declared (as_before {d = d} {ds = ds} {es = es} h) y e = at (bytes_eq d.name y) (declares ds y) (declares es y) e (still_declared h y)
+  where
+    at : (a b c : Bool) → (a || b) ≡ true → (b ≡ true → c ≡ true) → (a || c) ≡ true
+    at true b c e f = refl
+    at false b c e f = f e
+still_declared (one_more {d = d} e h) y g = ap (λ b. bytes_eq d.name y || b) (still_declared h y g) ∙ or_true (bytes_eq d.name y)
+
 no_using : (a b : Bool) → b ≡ true → not (a && b) ≡ true → a ≡ false
 no_using true true e h = absurd (cc h)
 no_using true false e h = absurd (cc e)
@@ -282,15 +303,6 @@ module _ (u : Supply) (w : Whole) (v : Bool) (x : Text) (new : IsNew w x) (p q :
   false_where true n = absurd (n refl)
   false_where false n = refl
 
-  undeclared_is : (ds : List Declared) (y : Text) → is_declared ds y ≡ true → declares ds y ≡ true
-  undeclared_is ds y h = at (declares ds y) refl
-    where
-      at : (b : Bool) → declares ds y ≡ b → b ≡ true
-      at true g = refl
-      at false g =
-          let f : is_free (scope_of ds y) ≡ true = ap is_free (top_bound ds y) ∙ entered_free ds [] (λ z. free) y refl ∙ ap (λ es. not (declares es y)) (append-nil ds) ∙ ap not g in
-          absurd (let no : true ≡ false = sym h ∙ ap not f in cc no)
-
   fresh_names : FreshNames u xs changed.label changed.directives changed.body changed.after
   fresh_names = record {
     tops = tops_more v xs (StoredAt w (v, x)) (grow w (v, x)) changed.changed changed.parts;
@@ -335,13 +347,43 @@ module _ (A : Tree → Tree → Type 0) (T : Type 0) (says : (a b : Tree) → A 
 kind_program : (t : Tree) → has_form s-Program t ≡ true → is_program (kind_of t) ≡ true
 kind_program (node k l fs) h = subst (λ j. is_program j ≡ true) (sym (form-placed (node k l fs) h).0) refl
 
+-- of an open program with nothing pending
+pub record StoredAlike (u : Supply) (s s' : Ledger) (p : Tree) (y : Open) : Type 0 where
+  pub runs : silent_names u (finished y) ≡ [] → RunAlike u false p (finished y)
+  pub declared : (z : Text) → is_declared (declared_at_top p) z ≡ true → is_declared (declared_at_top (finished y)) z ≡ true
+  pub left : Left s s' (IsQuiet y) (Changed (SomeStored (whole_in s)) p (finished y))
+
+module _ (u : Supply) (s s' : Ledger) (p : Tree) (y : Open) (v : Bool) (x : Text) where
+  abbrev At : Tree → Tree → Type 0
+  At = StoredAt (whole_in s) (v, x)
+
+  alike_of : Apt p → Named (whole_in s).in_use (whole_in s).free_symbol reads p → silent_names u p ≡ [] → Left s s' (IsQuiet y) (Changed (SomeStored (whole_in s)) p (finished y)) → Changed At p (finished y) → ProgramChanged At p (finished y) → StoredAlike u s s' p y
+  alike_of apt named silent left place changed = record {
+    runs = λ after. stores_run u (whole_in s) v x (said_of At (IsNew (whole_in s) x) (λ a b h. is_new h) place) p (finished y) apt named changed silent after;
+    declared = λ z e. subst (λ t. is_declared (declared_at_top t) z ≡ true) {x = program changed.label changed.directives changed.after} (sym changed.second)
+        (declared_is (top_in changed.after) z (still_declared (tops_more v (x ∷ []) At (grow (whole_in s) (v, x)) changed.changed changed.parts) z
+        (undeclared_is (top_in changed.body) z (subst (λ t. is_declared (declared_at_top t) z ≡ true) {x = p} changed.first e))));
+    left = left;
+  }
+
+  alike_at : Apt p → Named (whole_in s).in_use (whole_in s).free_symbol reads p → silent_names u p ≡ [] → is_program (kind_of p) ≡ true → Left s s' (IsQuiet y) (Changed (SomeStored (whole_in s)) p (finished y)) → Changed At p (finished y) → StoredAlike u s s' p y
+  alike_at apt named silent program left place = alike_of apt named silent left place (program_changed v (x ∷ []) At (grow (whole_in s) (v, x)) place apt program)
+
+module _ (u : Supply) (s s' : Ledger) (p : Tree) (y : Open) (apt : Apt p) (named : Named (whole_in s).in_use (whole_in s).free_symbol reads p) (silent : silent_names u p ≡ []) (program : is_program (kind_of p) ≡ true) (left : Left s s' (IsQuiet y) (Changed (SomeStored (whole_in s)) p (finished y))) where
+  alike_where : Picked (Bool × Text) (λ i. Changed (StoredAt (whole_in s) i) p (finished y)) → StoredAlike u s s' p y
+  alike_where place = alike_at u s s' p y place.index.0 place.index.1 apt named silent program left place.holds
+
+pub stored_alike : (u : Supply) (s s' : Ledger) (x y : Open) → IsStatementProgram (finished x) → Named (whole_in s).in_use (whole_in s).free_symbol reads (finished x) → Step StoresRow the_program s x s' y → IsQuiet x → silent_names u (finished x) ≡ [] → StoredAlike u s s' (finished x) y
+stored_alike u s s' x y class named step quiet silent =
+    let keeps = (law_places_proof (finished x)).to_places (law_among_proof (finished x) class.rules) in
+    let apt : Apt (finished x) = (program_stands (finished x) class.form class.without_functions keeps, program_tested (finished x) class.form class.without_functions keeps) in
+    let left = step_changed StoresRow SomeStored stores-rule step quiet in
+    alike_where u s s' (finished x) y apt named silent (kind_program (finished x) class.form) left (pick (Bool × Text) (StoredAt (whole_in s)) left.changed)
+
+one_step : (u : Supply) (w : Whole) (s : Ledger) (t : Tree) (p q : Open) → finished p ≡ t → IsStatementProgram t → Named w.in_use w.free_symbol reads t → Step StoresRow the_program (nothing_beside w) p s q → IsQuiet p → silent_names u t ≡ [] → silent_names u (finished q) ≡ [] → RunAlike u false t (finished q)
+one_step u w s t p q same class named step quiet silent after =
+    subst (λ (t : Tree). RunAlike u false t (finished q)) {x = finished p} same
+    ((stored_alike u (nothing_beside w) s p q (subst (λ (t : Tree). IsStatementProgram t) {x = t} (sym same) class) (subst (λ (t : Tree). Named w.in_use w.free_symbol reads t) {x = t} (sym same) named) step quiet (subst (λ (t : Tree). silent_names u t ≡ []) {x = t} (sym same) silent)).runs after)
+
 pub law_stores_proof : LawStores
-law_stores_proof u w s p q class bound step silent silent_after =
-    let keeps = (law_places_proof p).to_places (law_among_proof p class.rules) in
-    let apt : Apt p = (program_stands p class.form class.without_functions keeps, program_tested p class.form class.without_functions keeps) in
-    let one = subst (λ t. Changed (SomeStored w) t (finished q)) (finished-opened p) (step_changed StoresRow SomeStored stores-rule step (opened_quiet p)).changed in
-    let place = pick (Bool × Text) (StoredAt w) one in
-    let v = place.index.0 in
-    let x = place.index.1 in
-    let changed = program_changed v (x ∷ []) (StoredAt w (v, x)) (grow w (v, x)) place.holds apt (kind_program p class.form) in
-    stores_run u w v x (said_of (StoredAt w (v, x)) (IsNew w x) (λ a b h. is_new h) place.holds) p (finished q) apt bound.named changed silent silent_after
+law_stores_proof u w s p q class bound step silent silent_after = one_step u w s p (opened p) q (finished-opened p) class bound.named step (opened_quiet p) silent silent_after

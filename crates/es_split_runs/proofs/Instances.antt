@@ -136,11 +136,11 @@ with_for ds es = declares (codes "const") (from_value (x_ (codes "o")) (x_ (code
 nested_rows : GrownTrees (bad_fresh fresh_r) (among_names fresh_r) (NestedRow fresh_r read_o) (top_in (with_for head_parts case_parts)) body_needs (with_for of_head of_case) (with_for head_parts case_parts)
 nested_rows = grown_before (self_grown _ _ _ (declares (codes "const") (from_value (x_ (codes "o")) (x_ (codes "z")) before empty)) _ body_needs refl) (grown_before
     (in_for (one_more refl (as_before (as_before no_names))) refl refl
-    (grown_then (grown_one (at_place (nested_row bare bare bare bare bare bare key_label (codes "o") (codes "_r") empty empty rest_y (x_ (codes "a")) _ _ behind_w _ empty refl refl refl refl refl refl no_property (one_property no_property) (with_default bare bare (x_ (codes "d"))) (some_behind bare bare behind_w) refl refl refl)))
+    (grown_then (grown_one (at_place (nested_row bare bare bare bare bare bare key_label [] [] [] (codes "o") (codes "_r") empty empty rest_y (x_ (codes "a")) _ _ behind_w _ empty refl refl refl refl refl refl no_property (one_property no_property) (with_default [] bare bare (x_ (codes "d"))) (some_behind [] bare bare behind_w) refl refl refl)))
     (grown_then (grown_one (self_grown _ _ _ (x_ (codes "t")) _ value_taken refl)) (grown_then grown_missing (grown_then (grown_one (in_block no_names refl refl (grown_before
     (in_switch (as_before (one_more refl (as_before no_names))) refl refl (self_grown _ _ _ (x_ (codes "w")) _ value_taken refl) (grown_before
     (in_node refl refl refl refl refl refl refl (grown_then (grown_one (self_grown _ _ _ (numeral (codes "1")) _ value_taken refl)) (grown_then (grown_statements (grown_before
-    (at_place (nested_row bare bare bare bare bare bare key_label (codes "o") (codes "_s") empty before_b rest_y (x_ (codes "a")) _ _ empty _ empty refl refl refl refl refl refl (one_property no_property) no_property pattern_alone none_behind refl refl refl))
+    (at_place (nested_row bare bare bare bare bare bare key_label [] [] [] (codes "o") (codes "_s") empty before_b rest_y (x_ (codes "a")) _ _ empty _ empty refl refl refl refl refl refl (one_property no_property) no_property (pattern_alone []) none_behind refl refl refl))
     grown_empty)) grown_done))) grown_empty)) grown_empty))) grown_done))))) grown_empty)
 
 o_again : (y : Text) → among_names read_o y ≡ true → (among_names fresh_r y ≡ false) × (is_own_cell y ≡ false) × (is_silent [] y ≡ false)

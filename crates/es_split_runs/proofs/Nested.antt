@@ -99,8 +99,8 @@ module _ (xs : List Text) (o : Supply) (math : among_names xs (codes "Math") ≡
     pattern_alike h u g = put_alike_then (G u) (aims_like ((part u target_taken P h).more refl)) g
 
     puts : {e f : Tree} → WithName x P e f → avoids (bad_held xs s) target_taken e ≡ true → Puts e f
-    puts pattern_alone h = record { source = First; target = set_cell x; is_source = refl; is_target = set_putter o v x x_bound; alike = λ u g. keeps u First Second g (pattern_alike h u g) }
-    puts (with_default l m d) h =
+    puts (pattern_alone i) h = record { source = First; target = set_cell x; is_source = refl; is_target = set_putter o v x x_bound; alike = λ u g. keeps u First Second g (pattern_alike h u g) }
+    puts (with_default i l m d) h =
         let a : Bool = avoids (bad_held xs s) target_taken P in
         let b : Bool = avoids (bad_held xs s) value_taken d in
         let default_w : M Value = value w (w_ d).core in
@@ -155,15 +155,15 @@ module _ (xs : List Text) (o : Supply) (math : among_names xs (codes "Math") ≡
     -- those behind
     abbrev pub behind_turns : {rs bs : Trees} → Behind s rs bs → List (M Value)
     behind_turns none_behind = []
-    behind_turns (some_behind d l rs) = (value v (name s) >>= object_pattern (Members (placed_at o v [] []) rs)) ∷ []
+    behind_turns (some_behind i d l rs) = (value v (name s) >>= object_pattern (Members (placed_at o v [] []) rs)) ∷ []
 
     behind_cores : {rs bs : Trees} (kind : Text) (c : Trees) (h : Behind s rs bs) → cores (senses (placed_at o v [] kind) (followed bs c)) ≡ as_values (behind_turns h) ++ cores (senses (placed_at o v [] kind) c)
     behind_cores kind c none_behind = refl
-    behind_cores kind c (some_behind d l rs) = refl
+    behind_cores kind c (some_behind i d l rs) = refl
 
     behind_alike : {rs bs : Trees} (h : Behind s rs bs) → Properties rs → avoids_trees (bad_held xs s) more_taken rs ≡ true → (u : Value) → is_nullish u ≡ false → (ks : Values) → Alike (G u) Both (members_of u ks (Members (placed_at o w [] []) rs)) (in_turn (behind_turns h) (return undefined))
     behind_alike none_behind props avoid u some ks = λ i j g. both_give tt g
-    behind_alike (some_behind d l rs) props avoid u some ks =
+    behind_alike (some_behind i d l rs) props avoid u some ks =
         and_undefined (G u) (reads_again (among_names xs) s u [] v s_bound {R = Both} (members_of u ks (Members (placed_at o w [] []) rs)) (object_pattern (Members (placed_at o v [] []) rs))
         (rw some (properties_alike (G u) w v o u props (parts u more_taken rs avoid) ks none)))
 
@@ -190,7 +190,7 @@ or_told false b h = h
 module _ (u : Supply) (xs ss : List Text) {l : Label} {ds body after : Trees} (fresh : FreshNames u xs l ds body after) (again : ReadAgain u xs ss l ds body) where
   nested_like : (es : List Declared) (t : Take) (a b : Tree) → NestedRow xs ss es t a b → (w v : World) → SameWorld (among_names xs) w v → Known (either_name xs ss) none_hidden xs es w v → (ls : List Text) (y : Text) →
       SenseLike (any_cells (among_names xs)) w v t (sense (placed_at u w ls y) a) (sense (placed_at u v ls y) b)
-  nested_like es t _ _ (nested_row {m = m} {o = o} d n j lp lf lq l s x a ps qs k e f rs bs c texts not_using fresh_x x_declared s_read s_declared props later named behind avoid_a avoid avoid_c) w v same known ls y =
+  nested_like es t _ _ (nested_row {m = m} {o = o} d n j lp lf lq l ms ns is s x a ps qs k e f rs bs c texts not_using fresh_x x_declared s_read s_declared props later named behind avoid_a avoid avoid_c) w v same known ls y =
       let q = fresh_quiet (among_names xs) none_hidden xs fresh in
       let st = fresh_stack (among_names xs) none_hidden xs fresh in
       let of_s = again s s_read in

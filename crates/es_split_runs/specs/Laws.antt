@@ -70,13 +70,13 @@ pub data Properties : Trees → Type 0 where
 
 -- a property's value with x in the place of a pattern: of P it is x, and of `P = d` it is `x = d`
 pub data WithName (x : Text) (p : Tree) : Tree → Tree → Type 0 where
-  pattern_alone : WithName x p p (identifier x)
-  with_default : (l m : Label) (e : Tree) → WithName x p (node AssignmentPattern l (one p then one e then done)) (node AssignmentPattern m (one (identifier x) then one e then done))
+  pattern_alone : (i : List (Option ℕ)) → WithName x p p (marked i x)
+  with_default : (i : List (Option ℕ)) (l m : Label) (e : Tree) → WithName x p (node AssignmentPattern l (one p then one e then done)) (node AssignmentPattern m (one (marked i x) then one e then done))
 
 -- what takes the properties behind: a declarator, or none where there are none
 pub data Behind (s : Text) : Trees → Trees → Type 0 where
   none_behind : Behind s empty empty
-  some_behind : (d l : Label) (ps : Trees) → Behind s ps (declares_from d (object_pattern_at l ps) (identifier s) before empty)
+  some_behind : (i : List (Option ℕ)) (d l : Label) (ps : Trees) → Behind s ps (declares_from d (object_pattern_at l ps) (marked i s) before empty)
 
 -- these names are hidden, and nothing writes s
 abbrev pub bad_held : List Text → Text → Level → Text → Bool
@@ -87,11 +87,11 @@ abbrev pub either_name : List Text → List Text → Text → Bool
 either_name xs ss y = among_names xs y || among_names ss y
 
 pub data NestedRow (xs ss : List Text) (ds : List Declared) : Take → Tree → Tree → Type 0 where
-  nested_row : {t : Take} {m o : Label} (d n j lp lf lq l : Label) (s x : Text) (a ps qs : Trees) (k e f : Tree) (rs bs c : Trees) → o.texts ≡ m.texts → is_word (codes "using") (first_text m.texts) ≡ false →
+  nested_row : {t : Take} {m o : Label} (d n j lp lf lq l : Label) (ms ns is : List (Option ℕ)) (s x : Text) (a ps qs : Trees) (k e f : Tree) (rs bs c : Trees) → o.texts ≡ m.texts → is_word (codes "using") (first_text m.texts) ≡ false →
       among_names xs x ≡ true → is_declared ds x ≡ true → among_names ss s ≡ true → is_declared ds s ≡ true → Properties ps → Properties rs → WithName x (object_pattern_at lq qs) e f → Behind s rs bs →
       avoids_trees (bad_fresh xs) declarators_taken a ≡ true → avoids (bad_held xs s) target_taken (object_pattern_at lp (followed ps (property_at l k e before rs))) ≡ true → avoids_trees (bad_fresh xs) declarators_taken c ≡ true →
-      NestedRow xs ss ds t (declaration_of m (followed a (declares_from d (object_pattern_at lp (followed ps (property_at l k e before rs))) (identifier s) before c)))
-      (declaration_of o (followed a (declares_from n (object_pattern_at lf (followed ps (property_at l k f before empty))) (identifier s) before declares_from j (object_pattern_at lq qs) (identifier x) before followed bs c)))
+      NestedRow xs ss ds t (declaration_of m (followed a (declares_from d (object_pattern_at lp (followed ps (property_at l k e before rs))) (marked ms s) before c)))
+      (declaration_of o (followed a (declares_from n (object_pattern_at lf (followed ps (property_at l k f before empty))) (marked ns s) before declares_from j (object_pattern_at lq qs) (marked is x) before followed bs c)))
 
 -- the names of sources, which may be read again: none is fresh, an own cell of the machine or a helper's name
 abbrev pub ReadAgain : Supply → List Text → List Text → Label → Trees → Trees → Type 0
