@@ -52,6 +52,8 @@ function checkExamples() {
 function checkCases(path) {
   const file = readCaseFile(path);
   tell(path, () => caseFileText(file) === readText(path) ? undefined : 'is not laid out as add-case.mjs writes it, or has a field twice');
+  const names = file.cases.map(({ name }) => name);
+  tell(path, () => new Set(names).size === names.length ? undefined : 'has two cases of one name');
   for (const { name, source, input, lowered, output, differs } of file.cases) {
     const place = `${path}: ${name}`;
     if (source !== undefined && input) checkText(`${place}, source`, source, input, { mayBeInvalid: output === undefined });
