@@ -38,7 +38,7 @@ async function checkAll() {
 /** The texts of scripts before and after lowering. */
 function caseTexts() {
   const files = fs.readdirSync(CASES).filter(name => name.endsWith('.json')).sort();
-  const unlike = /\b(?:this|eval|undefined|call|bind|length)\b|\d+n\b/; // what the engine knows by itself, and BigInts
+  const unlike = /\b(?:this|eval|undefined|call|bind|length)\b|\d+n\b|\[\//; // what the engine knows by itself, BigInts, and objects as keys
   return files.flatMap(name => readCaseFile(new URL(name, CASES)).cases)
     .filter(({ source, lowered, input }) => source && lowered && input?.sourceType !== 'module' && !unlike.test(source))
     .flatMap(({ source, lowered }) => [source, lowered]);

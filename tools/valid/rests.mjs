@@ -150,7 +150,7 @@ function property() {
   const name = bound();
   return pick([
     name, `${name} = ${value()}`, `p${below(3)}: ${name}`, `"p${below(3)}": ${name} = ${value()}`,
-    `["p${below(3)}"]: ${name}`, `${pick(['0', '0x0', '0n', '[0]', '[0n]'])}: ${name}`,
+    `["p${below(3)}"]: ${name}`, `${pick(['0', '0x0', '0n', '[0]', '[0n]', '[null]', '[true]', '[false]'])}: ${name}`,
     `[${key()}]: ${name}`, `[${key()}]: ${name} = ${value()}`, `[${key()}]: ${name}`,
   ]);
 }
@@ -199,7 +199,7 @@ async function evaluated(text) {
   const told = number => { log.push(`told ${number}`); return number; };
   const source = number => {
     const made = {};
-    const keys = ['a', 'p0', 'b', 'p1', 'c', symbol, 'g', '0'].filter((_, index) => (number >> index % 4) % 2 === 0 || index > 5);
+    const keys = ['a', 'p0', 'b', 'p1', 'c', symbol, 'g', '0', 'null', 'true'].filter((_, index) => (number >> index % 4) % 2 === 0 || index > 5);
     for (const key of keys) {
       Object.defineProperty(made, key, { enumerable: key !== 'g', get: () => { log.push(`get ${String(key)} of ${number}`); return held(key, number); } });
     }

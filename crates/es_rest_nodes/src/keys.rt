@@ -1,25 +1,39 @@
-//! Keys whose text stands in the program: a text, a number, or a template without expressions (ECMA-262, 13.2.5 and 13.2.8).
+//! Keys whose text stands in the program: literals, and templates without expressions (ECMA-262, 13.2.3 and 13.2.8).
 ghost use Rattle.std.specs.Prelude.{◌≡◌, option_copied};
 ghost use Rattle.es_tree.specs.Tree.{trees};
 ghost use Rattle.es_tree.specs.Views.{plain_field, plain_fields};
 ghost use Rattle.es_runs.specs.Duplication.{has_no_fields};
-ghost use Rattle.es_rest_shapes.specs.RestShapes.{is_literal_key, template_text};
+ghost use Rattle.es_rest_shapes.specs.RestShapes.{boolean_text, is_literal_key, literal_text, template_text};
 ghost use Rattle.es_rest_nodes.specs.RestFields.{element_text, lists_text, sole_text};
 
 use es_tree::kind::Kind;
 use es_tree::node::{Field, Node};
 
-/// Whether a key is a text, a number or a template without expressions.
+/// The text of a literal as a key, or of a template without expressions: `"null"` for `null`, and `"16"` for `0x10`. None for any other node.
+pub fn literal_text(literal: &Node) -> Option<&str>
+    ensures { option_copied result ≡ literal_text literal.now }
+{
+    match &literal.kind {
+        Kind::NullLiteral => return Some("null"),
+        Kind::BooleanLiteral { value } => return Some(boolean_text(*value)),
+        Kind::NumericLiteral { key, .. } | Kind::BigIntLiteral { key, .. } => Some(key.as_str()),
+        Kind::StringLiteral { value } => Some(value.as_str()),
+        Kind::TemplateLiteral => template_text(literal.fields.as_slice()),
+        _ => None,
+    }
+}
+
+fn boolean_text(value: bool) -> &'static str
+    ensures { result.now ≡ boolean_text value }
+{
+    if value { "true" } else { "false" }
+}
+
+/// Whether a key is a literal, or a template without expressions.
 pub(crate) fn is_literal_key(key: &Node) -> bool
     ensures { result ≡ is_literal_key key.now }
 {
-    match &key.kind {
-        Kind::BigIntLiteral { .. } | Kind::NumericLiteral { .. } | Kind::StringLiteral { .. } => {
-            has_no_fields(key.fields.as_slice())
-        }
-        Kind::TemplateLiteral => template_text(key.fields.as_slice()).is_some(),
-        _ => false,
-    }
+    literal_text(key).is_some()
 }
 
 pub(crate) fn has_no_fields(fields: &[Field]) -> bool
@@ -29,7 +43,7 @@ pub(crate) fn has_no_fields(fields: &[Field]) -> bool
 }
 
 /// The text of a template of these fields, as it is evaluated, where it has no expressions.
-pub fn template_text(fields: &[Field]) -> Option<&str>
+fn template_text(fields: &[Field]) -> Option<&str>
     ensures { option_copied result ≡ template_text (plain_fields fields.now) }
 {
     match fields {

@@ -139,7 +139,7 @@ fn are_plain(properties: &[Node]) -> bool
     true
 }
 
-/// Whether the node is a property whose key is computed, or a name, a text or a number, and in whose value each pattern that bears a rest is plain.
+/// Whether the node is a property whose key is computed, or a name or a literal, and in whose value each pattern that bears a rest is plain.
 #[cycle(plain)]
 fn is_plain_property(property: &Node) -> bool
     ensures { result ≡ is_plain_property property.now }
@@ -197,7 +197,7 @@ fn is_plain_target(target: &Node) -> bool
     }
 }
 
-/// Whether the node is a property whose key is read: it is computed, and no text and no number.
+/// Whether the node is a property whose key is read: it is computed, and no literal.
 pub fn reads_key(property: &Node) -> bool
     ensures { result ≡ reads_key property.now }
 {
@@ -218,7 +218,7 @@ fn has_read_key(computed: bool, fields: &[Field]) -> bool
     }
 }
 
-/// Whether a key is a name, a text or a number.
+/// Whether a key is a name or a literal.
 fn is_known_key(key: &Node) -> bool
     ensures { result ≡ is_known_key key.now }
 {

@@ -8,7 +8,7 @@ use Rattle.es_tree.specs.Constructs.{any_kind, field_at, has_member, is_rest}
 use Rattle.es_tree.specs.Names.{has_computed}
 use Rattle.es_tree.specs.Tree.{Tree, node, Label, Fields, done, ◌then◌, Field, missing, one, many, statements, Trees, empty, ◌before◌, kind_of}
 use Rattle.es_tree.specs.declared.ast_type.AstType.{AstType}
-use Rattle.es_tree.specs.declared.ast_type.AstType.TheVariants.{AssignmentPattern, BigIntLiteral, ExportNamedDeclaration, Identifier, NumericLiteral, ObjectPattern, ObjectTarget, PatternProperty, RestElement, StringLiteral, TemplateElement, TemplateLiteral, VariableDeclaration, VariableDeclarator}
+use Rattle.es_tree.specs.declared.ast_type.AstType.TheVariants.{AssignmentPattern, BigIntLiteral, BooleanLiteral, ExportNamedDeclaration, Identifier, NullLiteral, NumericLiteral, ObjectPattern, ObjectTarget, PatternProperty, RestElement, StringLiteral, TemplateElement, TemplateLiteral, VariableDeclaration, VariableDeclarator}
 use Rattle.es_steps.specs.Nodes.{joined_trees}
 use Rattle.es_steps.specs.Slots.{is_in_parameter, is_slot}
 use Rattle.es_reached.proofs.FreeTrees.{Free, FreeAll, neither}
@@ -329,14 +329,13 @@ module _ (all : Fields) (up : List Ancestor) where
 
   known-node : (k : AstType) (l : Label) {fs gs : Fields} → LikeIn (places k l) fs gs → is_known_key (node k l fs) ≡ true → is_known_key (node k l gs) ≡ true
   known-node TemplateLiteral l {fs} h e = text-like refl (is-text fs e) h
-  known-node BigIntLiteral l (first_like h) e = absurd (true≢false (sym e))
-  known-node BigIntLiteral l (later_like h) e = absurd (true≢false (sym e))
+  known-node BigIntLiteral l h e = e
+  known-node BooleanLiteral l h e = e
+  known-node NullLiteral l h e = e
+  known-node NumericLiteral l h e = e
+  known-node StringLiteral l h e = e
   known-node Identifier l (first_like h) e = absurd (true≢false (sym e))
   known-node Identifier l (later_like h) e = absurd (true≢false (sym e))
-  known-node NumericLiteral l (first_like h) e = absurd (true≢false (sym e))
-  known-node NumericLiteral l (later_like h) e = absurd (true≢false (sym e))
-  known-node StringLiteral l (first_like h) e = absurd (true≢false (sym e))
-  known-node StringLiteral l (later_like h) e = absurd (true≢false (sym e))
   known-node _ l h e = absurd (true≢false (sym e))
 
   element-node : (k : AstType) (l : Label) (fs gs : Fields) → is_text_element (node k l fs) ≡ true → is_text_element (node k l gs) ≡ true

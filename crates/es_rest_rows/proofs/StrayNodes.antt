@@ -6,7 +6,7 @@ use Rattle.es_tree.specs.Constructs.{is_rest}
 use Rattle.es_tree.specs.Parens.{without_parens}
 use Rattle.es_tree.specs.Tree.{Tree, node, Label, Fields, done, ◌then◌, Field, missing, one, many, statements, Trees, empty, ◌before◌, kind_of, trees}
 use Rattle.es_tree.specs.declared.ast_type.AstType.{AstType}
-use Rattle.es_tree.specs.declared.ast_type.AstType.TheVariants.{AssignmentPattern, BigIntLiteral, ExportNamedDeclaration, Identifier, NumericLiteral, ObjectPattern, ObjectTarget, ParenthesizedExpression, PatternProperty, RestElement, StringLiteral, TargetRest, TemplateElement, TemplateLiteral, VariableDeclaration, VariableDeclarator}
+use Rattle.es_tree.specs.declared.ast_type.AstType.TheVariants.{AssignmentPattern, BigIntLiteral, BooleanLiteral, ExportNamedDeclaration, Identifier, NullLiteral, NumericLiteral, ObjectPattern, ObjectTarget, ParenthesizedExpression, PatternProperty, RestElement, StringLiteral, TargetRest, TemplateElement, TemplateLiteral, VariableDeclaration, VariableDeclarator}
 use Rattle.es_steps.specs.Nodes.{placed}
 use Rattle.es_reached.proofs.FreeTrees.{Free, FreeAll, FreeBy, FreeIn}
 use Rattle.es_rest_shapes.specs.RestShapes.{any_child, any_child_by, any_tree, bears_rest, declares_rest, is_known_key, is_misplaced, is_name, is_named_rest, is_plain_property, is_plain_target, is_plain_value, is_rest_declarator, is_stray_rest, second_text}
@@ -79,7 +79,9 @@ ordinary-plain _ l fs e = (refl, refl)
 -- kinds of nodes on which rows act: no key whose text stands in the program, no property and no rest among them
 abbrev pub is_acting : AstType → Bool
 is_acting BigIntLiteral = false
+is_acting BooleanLiteral = false
 is_acting Identifier = false
+is_acting NullLiteral = false
 is_acting NumericLiteral = false
 is_acting PatternProperty = false
 is_acting RestElement = false
@@ -90,7 +92,9 @@ is_acting _ = true
 
 pub acting-key : (t : Tree) → is_acting (kind_of t) ≡ true → is_known_key t ≡ false
 acting-key (node BigIntLiteral l fs) e = absurd (cc e)
+acting-key (node BooleanLiteral l fs) e = absurd (cc e)
 acting-key (node Identifier l fs) e = absurd (cc e)
+acting-key (node NullLiteral l fs) e = absurd (cc e)
 acting-key (node NumericLiteral l fs) e = absurd (cc e)
 acting-key (node StringLiteral l fs) e = absurd (cc e)
 acting-key (node TemplateLiteral l fs) e = absurd (cc e)

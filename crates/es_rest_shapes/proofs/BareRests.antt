@@ -7,9 +7,9 @@ use Rattle.es_tree.specs.Names.{has_computed}
 use Rattle.es_tree.specs.Tree.{Tree, node, Label, Fields, done, ◌then◌, Field, missing, one, many, statements, Trees, empty, ◌before◌}
 use Rattle.es_tree.specs.Walks.{any_in_field, any_in_fields, any_in_trees, any_node}
 use Rattle.es_tree.specs.declared.ast_type.AstType.{AstType}
-use Rattle.es_tree.specs.declared.ast_type.AstType.TheVariants.{AssignmentPattern, BigIntLiteral, ExportNamedDeclaration, Identifier, NumericLiteral, ObjectPattern, ObjectTarget, PatternProperty, RestElement, StringLiteral, TemplateElement, TemplateLiteral, VariableDeclaration, VariableDeclarator}
+use Rattle.es_tree.specs.declared.ast_type.AstType.TheVariants.{AssignmentPattern, ExportNamedDeclaration, Identifier, ObjectPattern, ObjectTarget, PatternProperty, RestElement, TemplateElement, TemplateLiteral, VariableDeclaration, VariableDeclarator}
 use Rattle.es_rest_shapes.specs.Laws.{LawBareRests}
-use Rattle.es_rest_shapes.specs.RestShapes.{any_beside, any_child, any_child_by, any_tree, are_plain_members, are_plain_parts, bears_among, bears_by, bears_first, bears_rest, bears_second, declares_rest, is_known_key, is_literal_key, is_misplaced, is_name, is_named_rest, is_odd_pattern, is_plain_first, is_plain_key, is_plain_pattern, is_plain_property, is_plain_target, is_plain_value, is_rest_declaration, is_rest_declarator, is_stray_rest, template_text}
+use Rattle.es_rest_shapes.specs.RestShapes.{any_beside, any_child, any_child_by, any_tree, are_plain_members, are_plain_parts, bears_among, bears_by, bears_first, bears_rest, bears_second, declares_rest, is_known_key, is_misplaced, is_name, is_named_rest, is_odd_pattern, is_plain_first, is_plain_key, is_plain_pattern, is_plain_property, is_plain_target, is_plain_value, is_rest_declaration, is_rest_declarator, is_stray_rest, literal_text, template_text}
 
 -- CHILDREN
 
@@ -88,24 +88,12 @@ template-bare (statements ts then fs) = refl
 template-bare (missing then fs) = refl
 template-bare done = refl
 
-literal-bare : (t : Tree) → is_literal_key (bare t) ≡ is_literal_key t
-literal-bare (node BigIntLiteral l done) = refl
-literal-bare (node BigIntLiteral l (f then fs)) = refl
-literal-bare (node NumericLiteral l done) = refl
-literal-bare (node NumericLiteral l (f then fs)) = refl
-literal-bare (node StringLiteral l done) = refl
-literal-bare (node StringLiteral l (f then fs)) = refl
-literal-bare (node TemplateLiteral l fs) = ap (λ x. is_some x) (template-bare fs)
+literal-bare : (t : Tree) → literal_text (bare t) ≡ literal_text t
+literal-bare (node TemplateLiteral l fs) = template-bare fs
 literal-bare (node _ l fs) = refl
 
 known-bare : (t : Tree) → is_known_key (bare t) ≡ is_known_key t
-known-bare (node Identifier l done) = refl
-known-bare (node Identifier l (f then fs)) = refl
-known-bare (node BigIntLiteral l fs) = literal-bare (node BigIntLiteral l fs)
-known-bare (node NumericLiteral l fs) = literal-bare (node NumericLiteral l fs)
-known-bare (node StringLiteral l fs) = literal-bare (node StringLiteral l fs)
-known-bare (node TemplateLiteral l fs) = literal-bare (node TemplateLiteral l fs)
-known-bare (node _ l fs) = refl
+known-bare t = λ i. name-bare t i || is_some (literal-bare t i)
 
 pub key-bare : (b : Bool) (t : Tree) → is_plain_key b (bare t) ≡ is_plain_key b t
 key-bare computed t = ap (λ v. computed || v) (known-bare t)

@@ -1,14 +1,14 @@
 -- Which object patterns with a rest are lowered (ECMA-262, 14.3.3): those that a declarator with a value declares, and that no module exports:
 -- `const { a, "b": c = 1, [2]: d, [k]: e, ...g } = f`, and those in the properties of such a pattern, `const { a: { ...b }, c: { ...d } = {} } = f`.
--- The text of a key that isn't computed stands in the program, and so it does of a computed text, number or template without expressions; any
--- other computed key is read.
-use Rattle.std.specs.Prelude.{◌&&◌, ◌||◌, not, Bool, true, false, List, [], ◌∷◌, Option, None, Some, is_some}
+-- The text of a key that isn't computed stands in the program, and so it does of a computed literal and of a template without expressions, as in
+-- `["b"]`, `[2]`, `[null]` and `[true]`; any other computed key is read.
+use Rattle.std.specs.Prelude.{◌&&◌, ◌||◌, not, Bool, true, false, List, [], ◌∷◌, Option, None, Some, codes, is_some, unwrap_or}
 use Rattle.es_tree.specs.Constructs.{is_object_rest}
-use Rattle.es_tree.specs.Names.{first_text, has_computed}
-use Rattle.es_tree.specs.Tree.{Tree, node, Label, Fields, done, ◌then◌, Field, missing, one, many, statements, Trees, empty, ◌before◌}
+use Rattle.es_tree.specs.Names.{first_text, flag_at, has_computed}
+use Rattle.es_tree.specs.Tree.{Tree, node, Label, Fields, done, ◌then◌, Field, missing, one, many, statements, Trees, empty, ◌before◌, label_of}
 use Rattle.es_tree.specs.Words.{Text}
 use Rattle.es_tree.specs.declared.ast_type.AstType.{AstType}
-use Rattle.es_tree.specs.declared.ast_type.AstType.TheVariants.{AssignmentPattern, BigIntLiteral, ExportNamedDeclaration, Identifier, NumericLiteral, ObjectPattern, PatternProperty, RestElement, StringLiteral, TemplateElement, TemplateLiteral, VariableDeclaration, VariableDeclarator}
+use Rattle.es_tree.specs.declared.ast_type.AstType.TheVariants.{AssignmentPattern, BigIntLiteral, BooleanLiteral, ExportNamedDeclaration, Identifier, NullLiteral, NumericLiteral, ObjectPattern, PatternProperty, RestElement, StringLiteral, TemplateElement, TemplateLiteral, VariableDeclaration, VariableDeclarator}
 
 -- PATTERNS
 
@@ -53,37 +53,39 @@ abbrev pub template_text : Fields → Option Text
 template_text (many (node TemplateElement l fs before empty) then (many empty then done)) = second_text l.texts
 template_text fs = None
 
--- a text or a number, as a key: where it is computed, it is evaluated without an effect, and gives the same key (13.2.5)
+abbrev pub boolean_text : Bool → Text
+boolean_text true = codes "true"
+boolean_text false = codes "false"
+
+-- The text of a literal as a key (13.2.3 and 7.1.19), or of a template that is one: it is evaluated without an effect, and gives the same key each
+-- time. A number and a BigInt have two texts: as they stand in the source, and as a key (docs/TREE.md).
+abbrev pub literal_text : Tree → Option Text
+literal_text (node NullLiteral l fs) = Some (codes "null")
+literal_text (node BooleanLiteral l fs) = Some (boolean_text (flag_at 0 l.flags))
+literal_text (node NumericLiteral l fs) = second_text l.texts
+literal_text (node BigIntLiteral l fs) = second_text l.texts
+literal_text (node StringLiteral l fs) = Some (first_text l.texts)
+literal_text (node TemplateLiteral l fs) = template_text fs
+literal_text _ = None
+
 abbrev pub is_literal_key : Tree → Bool
-is_literal_key (node BigIntLiteral l done) = true
-is_literal_key (node NumericLiteral l done) = true
-is_literal_key (node StringLiteral l done) = true
-is_literal_key (node TemplateLiteral l fs) = is_some (template_text fs)
-is_literal_key _ = false
+is_literal_key k = is_some (literal_text k)
 
--- a key, not computed, whose text stands in the program: a name, a text or a number
+-- a key whose text stands in the program where it isn't computed: a name or a literal
 abbrev pub is_known_key : Tree → Bool
-is_known_key (node Identifier l done) = true
-is_known_key k = is_literal_key k
+is_known_key k = is_name k || is_literal_key k
 
--- the same where a key may be computed, which any expression may be
+-- its text
+abbrev pub key_text : Tree → Text
+key_text k = unwrap_or (literal_text k) (first_text (label_of k).texts)
+
+-- a key that may be computed, which any expression may be
 abbrev pub is_plain_key : Bool → Tree → Bool
 is_plain_key computed k = computed || is_known_key k
 
--- whether it is read: it is computed, and no text and no number
+-- whether it is read: it is computed, and no literal
 abbrev pub is_read_key : Bool → Tree → Bool
 is_read_key computed k = computed && not (is_literal_key k)
-
-abbrev pub text_of : Option Text → Text
-text_of None = []
-text_of (Some x) = x
-
--- The text of such a key. A number has two texts: as it stands in the source, and as a key (docs/TREE.md).
-abbrev pub key_text : Tree → Text
-key_text (node BigIntLiteral l fs) = text_of (second_text l.texts)
-key_text (node NumericLiteral l fs) = text_of (second_text l.texts)
-key_text (node TemplateLiteral l fs) = text_of (template_text fs)
-key_text (node k l fs) = first_text l.texts
 
 -- a property whose key is read
 abbrev pub reads_key : Tree → Bool

@@ -1,18 +1,18 @@
--- What a property leaves out whose key isn't computed, or is a text or a number: the key's text.
+-- What a property leaves out whose key isn't computed, or is a literal or a template without expressions: the key's text.
 use Rattle.std.proofs.Common.{◌≡◌, ◌∙◌, refl, ap, []}
 use Rattle.std.proofs.lemmas.Bool.{false≢true}
-use Rattle.std.specs.Prelude.{Bool, true, false, Some, None}
+use Rattle.std.specs.Prelude.{Bool, true, false, Some, None, codes}
 use Rattle.es_tree.specs.Words.{Text}
 use Rattle.es_tree.specs.Names.{first_text, flag_at}
-use Rattle.es_tree.specs.Tree.{Tree, node, Label, kind_of}
+use Rattle.es_tree.specs.Tree.{Tree, node, Label, Fields, done, ◌then◌, many, empty, ◌before◌, kind_of}
 use Rattle.es_tree.specs.declared.ast_type.AstType.{AstType}
-use Rattle.es_tree.specs.declared.ast_type.AstType.TheVariants.{BigIntLiteral, Identifier, NumericLiteral, StringLiteral}
-use Rattle.es_runs.specs.Core.{Binding, World, name}
+use Rattle.es_tree.specs.declared.ast_type.AstType.TheVariants.{BigIntLiteral, BooleanLiteral, Identifier, NullLiteral, NumericLiteral, StringLiteral, TemplateElement, TemplateLiteral}
+use Rattle.es_runs.specs.Core.{Binding, World, flag, name}
 use Rattle.es_runs.specs.Core.Binding.{free, changeable, constant, silent}
 use Rattle.es_runs.specs.Core.Silent.{helper_name, keys_name}
 use Rattle.es_statement_runs.specs.Helpers.{Supply}
 use Rattle.es_statement_runs.specs.Helpers.Supply.{no_helpers, by_global, by_import, by_require, spread_by_global}
-use Rattle.es_statement_runs.specs.Kinds.{sense}
+use Rattle.es_statement_runs.specs.Kinds.{boolean_text, second_text, sense}
 use Rattle.es_statement_runs.specs.Laws.{is_key, key_text}
 use Rattle.es_statement_runs.specs.Places.{placed_at}
 use Rattle.es_statement_runs.specs.Senses.{More, excluded_text, literal_key, said_in, said_of, static_text}
@@ -50,17 +50,31 @@ pub static_leaves : (u : Supply) (l : Label) (k : Tree) → flag_at 1 l.flags �
 static_leaves u l k f h w = ap (λ (c : Bool). excluded_text c (sense (placed_at u w [] []) k)) f ∙ ap (λ (t : Text). Some t) (key_said u w k h)
 
 abbrev pub is_literal : AstType → Bool
+is_literal NullLiteral = true
+is_literal BooleanLiteral = true
 is_literal StringLiteral = true
 is_literal NumericLiteral = true
 is_literal BigIntLiteral = true
 is_literal _ = false
 
-literal_said : (u : Supply) (w : World) (k : Tree) → is_literal (kind_of k) ≡ true → literal_key (sense (placed_at u w [] []) k).more ≡ Some (key_text k)
+-- the text of a literal as a key (7.1.19)
+abbrev pub literal_key_text : Tree → Text
+literal_key_text (node NullLiteral l fs) = codes "null"
+literal_key_text (node BooleanLiteral l fs) = boolean_text (flag l.flags)
+literal_key_text k = key_text k
+
+literal_said : (u : Supply) (w : World) (k : Tree) → is_literal (kind_of k) ≡ true → literal_key (sense (placed_at u w [] []) k).more ≡ Some (literal_key_text k)
+literal_said u w (node NullLiteral l fs) h = refl
+literal_said u w (node BooleanLiteral l fs) h = refl
 literal_said u w (node StringLiteral l fs) h = refl
 literal_said u w (node NumericLiteral l fs) h = refl
 literal_said u w (node BigIntLiteral l fs) h = refl
 literal_said u w (node _ l fs) h = absurd (false≢true h)
 
 -- a literal
-pub literal_leaves : (u : Supply) (l : Label) (k : Tree) → flag_at 1 l.flags ≡ true → is_literal (kind_of k) ≡ true → LeavesOut u (Some (key_text k)) l k
+pub literal_leaves : (u : Supply) (l : Label) (k : Tree) → flag_at 1 l.flags ≡ true → is_literal (kind_of k) ≡ true → LeavesOut u (Some (literal_key_text k)) l k
 literal_leaves u l k f h w = ap (λ (c : Bool). excluded_text c (sense (placed_at u w [] []) k)) f ∙ literal_said u w k h
+
+-- a template without expressions, of an element that gives a text
+pub whole_template_leaves : (u : Supply) (l m n : Label) (fs : Fields) (t : Text) → flag_at 1 l.flags ≡ true → second_text n.texts ≡ Some t → LeavesOut u (Some t) l (node TemplateLiteral m (many (node TemplateElement n fs before empty) then many empty then done))
+whole_template_leaves u l m n fs t f h w = ap (λ (c : Bool). excluded_text c (sense (placed_at u w [] []) (node TemplateLiteral m (many (node TemplateElement n fs before empty) then many empty then done)))) f ∙ h

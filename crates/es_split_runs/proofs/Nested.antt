@@ -188,7 +188,7 @@ or_told true b h = refl
 or_told false b h = h
 
 module _ (u : Supply) (xs ss : List Text) {l : Label} {ds body after : Trees} (fresh : FreshNames u xs l ds body after) (again : ReadAgain u xs ss l ds body) where
-  nested_like : (es : List Declared) (t : Take) (a b : Tree) → NestedRow xs ss es t a b → (w v : World) → SameWorld (among_names xs) w v → Known (either_name xs ss) none_hidden xs es w v → (ls : List Text) (y : Text) →
+  pub nested_like : (es : List Declared) (t : Take) (a b : Tree) → NestedRow xs ss es t a b → (w v : World) → SameWorld (among_names xs) w v → Known (either_name xs ss) none_hidden xs es w v → (ls : List Text) (y : Text) →
       SenseLike (any_cells (among_names xs)) w v t (sense (placed_at u w ls y) a) (sense (placed_at u v ls y) b)
   nested_like es t _ _ (nested_row {m = m} {o = o} d n j lp lf lq l ms ns is s x a ps qs k e f rs bs c texts not_using fresh_x x_declared s_read s_declared props later named behind avoid_a avoid avoid_c) w v same known ls y =
       let q = fresh_quiet (among_names xs) none_hidden xs fresh in

@@ -1,4 +1,4 @@
--- What a property leaves out whose key is an expression that is no text and no number: the key's value.
+-- What a property leaves out whose key is an expression that is no literal and no template without expressions: the key's value.
 use Rattle.std.proofs.Common.{◌≡◌, ◌∙◌, refl, ap, List, [], ◌∷◌}
 use Rattle.std.proofs.lemmas.Bool.{false≢true}
 use Rattle.std.specs.Prelude.{Bool, true, false, ◌&&◌, Option, Some, None, codes, if◌then◌else◌}
@@ -140,7 +140,7 @@ module _ (p : Place) (ts : List (Option Text)) (fs : List Bool) (block : Scope) 
   of_call_says (alone f ∷ rows es ∷ []) = call_says p (flag fs) f es
   of_call_says _ = refl
 
--- expressions that are no text and no number
+-- expressions that are no literals and no templates
 abbrev pub is_read_kind : AstType → Bool
 is_read_kind Identifier = true
 is_read_kind ThisExpression = true

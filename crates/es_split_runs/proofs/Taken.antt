@@ -351,7 +351,7 @@ rest_members : (w : World) (q : Label) (r : Text) (ps : Trees) → is_bound (w.s
 rest_members w q r ps h = members_followed (placed_at by_global w [] []) ps (rest_of_name q r before empty) ∙ ap (λ (m : M Putter). Members (placed_at by_global w [] []) ps ++ (remaining m ∷ [])) (set_putter by_global w r h)
 
 module _ (xs ss : List Text) {l : Label} {ds body after : Trees} (fresh : FreshNames by_global xs l ds body after) (again : ReadAgain by_global xs ss l ds body) where
-  taken_like : (es : List Declared) (t : Take) (a b : Tree) → TakenRow xs ss es t a b → (w v : World) → SameWorld (among_names xs) w v → Known (either_name xs ss) (only helpers_) xs es w v → (ls : List Text) (y : Text) →
+  pub taken_like : (es : List Declared) (t : Take) (a b : Tree) → TakenRow xs ss es t a b → (w v : World) → SameWorld (among_names xs) w v → Known (either_name xs ss) (only helpers_) xs es w v → (ls : List Text) (y : Text) →
       SenseLike (any_cells (among_names xs)) w v t (sense (placed_at by_global w ls y) a) (sense (placed_at by_global v ls y) b)
   taken_like es t _ _ (taken_row {m = m} {o = o} d n lp q s r a ps ts c ks ys texts not_using s_read s_declared r_read r_declared groups avoid_a avoid avoid_c) w v same known ls y =
       let kind = first_text m.texts in

@@ -1,6 +1,6 @@
 -- The keys of properties, and their texts.
 use Rattle.std.proofs.Common.{ap, arith, length, refl, subst, sym, ◌+◌, ◌∙◌, ◌∷◌, ◌≡◌, [], List, Some, ℕ}
-use Rattle.std.proofs.lemmas.Bool.{and_parts}
+use Rattle.std.proofs.lemmas.Bool.{and_parts, or_right}
 use Rattle.std.specs.Prelude.{Bool, false, not, true, ◌&&◌}
 use Rattle.es_tree.specs.Children.{child_at}
 use Rattle.es_tree.specs.Names.{has_computed}
@@ -10,21 +10,16 @@ use Rattle.es_patterns.specs.PatternsArity.{IsPatternProperty}
 use Rattle.es_resolution.specs.Declarations.{Bound}
 use Rattle.es_steps.specs.Nodes.{string_node}
 use Rattle.es_rest_rows.specs.RestRows.{keys_by, keys_of, text_of_key}
-use Rattle.es_rest_shapes.specs.RestShapes.{is_known_key, is_literal_key, is_plain_key, is_plain_property, is_plain_value, key_text, reads_key}
+use Rattle.es_rest_shapes.specs.RestShapes.{is_known_key, is_literal_key, is_name, is_plain_key, is_plain_property, is_plain_value, key_text, reads_key}
 use Rattle.lower_object_rest.specs.Profile.{number_of}
 use Rattle.lower_object_rest.proofs.PatternShapes.{plain-property, read-property}
 
 -- A KEY THAT ISN'T READ
 
-literal-known : (k : Tree) → is_literal_key k ≡ true → is_known_key k ≡ true
-literal-known (node Identifier l done) h = refl
-literal-known (node Identifier l (f then fs)) h = h
-literal-known (node _ l fs) h = h
-
--- a key that isn't read is a name, a text, a number or a template without expressions
+-- a key that isn't read is a name or a literal
 known : (computed : Bool) (k : Tree) → is_plain_key computed k ≡ true → (computed && not (is_literal_key k)) ≡ false → is_known_key k ≡ true
 known false k h read = h
-known true k h read = literal-known k (off (is_literal_key k) read)
+known true k h read = or_right (is_name k) (is_literal_key k) (off (is_literal_key k) read)
   where
     off : (b : Bool) → not b ≡ false → b ≡ true
     off true e = refl

@@ -1,18 +1,18 @@
 -- What is seen of declarators and patterns: the same shapes, the same keys, and as many ids owed.
 use Rattle.std.proofs.Common.{ap, refl, sym, ◌+◌, ◌∙◌, ◌≡◌, Option, ℕ}
-use Rattle.std.specs.Prelude.{if◌then◌else◌, is_some, not, ◌&&◌, ◌||◌}
+use Rattle.std.specs.Prelude.{if◌then◌else◌, is_some, not, unwrap_or, ◌&&◌, ◌||◌}
 use Rattle.es_tree.specs.Bare.{bare, bare_field, bare_fields, bare_label, bare_trees}
 use Rattle.es_tree.specs.Constructs.{any_kind, is_rest}
-use Rattle.es_tree.specs.Names.{has_computed}
+use Rattle.es_tree.specs.Names.{first_text, has_computed}
 use Rattle.es_tree.specs.Tree.{Field, Fields, Label, Tree, Trees, done, empty, many, missing, node, one, statements, trees_size, ◌before◌, ◌then◌}
 use Rattle.es_tree.specs.Words.{Text}
 use Rattle.es_tree.specs.declared.ast_type.AstType.{AstType}
-use Rattle.es_tree.specs.declared.ast_type.AstType.TheVariants.{BigIntLiteral, Identifier, NumericLiteral, ObjectPattern, PatternProperty, RestElement, StringLiteral, TemplateElement, TemplateLiteral, VariableDeclarator}
+use Rattle.es_tree.specs.declared.ast_type.AstType.TheVariants.{Identifier, ObjectPattern, PatternProperty, RestElement, TemplateElement, TemplateLiteral, VariableDeclarator}
 use Rattle.es_resolution.specs.Seen.{seen, seen_among, seen_by, seen_in, seen_marks}
 use Rattle.es_steps.specs.Nodes.{joined_trees, string_node}
 use Rattle.es_steps.specs.ObjectRest.{pattern_node}
 use Rattle.es_rest_rows.specs.RestRows.{text_of_key, with_rest}
-use Rattle.es_rest_shapes.specs.RestShapes.{any_tree, are_plain, bears_among, bears_rest, is_literal_key, is_name, is_plain_pattern, is_plain_property, key_text, reads_key, template_text, text_of}
+use Rattle.es_rest_shapes.specs.RestShapes.{any_tree, are_plain, bears_among, bears_rest, is_name, is_plain_pattern, is_plain_property, key_text, literal_text, reads_key, template_text}
 use Rattle.es_rest_shapes.proofs.BareRests.{bears-bare, plain-bare, property-bare}
 use Rattle.lower_nodes.specs.Nodes.{owed, owed_among, owed_by, owed_in}
 use Rattle.lower_temporaries.proofs.SeenLaws.{size-seen}
@@ -69,14 +69,8 @@ module _ (names : ℕ → Text → Option ℕ) where
   template-seen (missing then fs) = refl
   template-seen done = refl
 
-  literal-seen : (t : Tree) → is_literal_key (seen names t) ≡ is_literal_key t
-  literal-seen (node BigIntLiteral l done) = refl
-  literal-seen (node BigIntLiteral l (f then fs)) = refl
-  literal-seen (node NumericLiteral l done) = refl
-  literal-seen (node NumericLiteral l (f then fs)) = refl
-  literal-seen (node StringLiteral l done) = refl
-  literal-seen (node StringLiteral l (f then fs)) = refl
-  literal-seen (node TemplateLiteral l fs) = ap is_some (template-seen fs)
+  literal-seen : (t : Tree) → literal_text (seen names t) ≡ literal_text t
+  literal-seen (node TemplateLiteral l fs) = template-seen fs
   literal-seen (node _ l fs) = refl
 
   property-seen : (t : Tree) → is_plain_property (seen names t) ≡ is_plain_property t
@@ -103,7 +97,7 @@ module _ (names : ℕ → Text → Option ℕ) where
   -- KEYS
 
   pub reads-seen : (t : Tree) → reads_key (seen names t) ≡ reads_key t
-  reads-seen (node PatternProperty l (one k then (one v then done))) = ap (λ b. has_computed PatternProperty l.flags && not b) (literal-seen k)
+  reads-seen (node PatternProperty l (one k then (one v then done))) = ap (λ x. has_computed PatternProperty l.flags && not (is_some x)) (literal-seen k)
   reads-seen (node PatternProperty l done) = refl
   reads-seen (node PatternProperty l (missing then fs)) = refl
   reads-seen (node PatternProperty l (many ts then fs)) = refl
@@ -120,10 +114,7 @@ module _ (names : ℕ → Text → Option ℕ) where
   any-read-seen (t before ts) = λ i. reads-seen t i || any-read-seen ts i
 
   key-text-seen : (t : Tree) → key_text (seen names t) ≡ key_text t
-  key-text-seen (node BigIntLiteral l fs) = refl
-  key-text-seen (node NumericLiteral l fs) = refl
-  key-text-seen (node TemplateLiteral l fs) = ap text_of (template-seen fs)
-  key-text-seen (node _ l fs) = refl
+  key-text-seen (node k l fs) = ap (λ x. unwrap_or x (first_text l.texts)) (literal-seen (node k l fs))
 
   pub key-of-seen : (t : Tree) → text_of_key (seen names t) ≡ text_of_key t
   key-of-seen (node k l (one e then fs)) = ap string_node (key-text-seen e)

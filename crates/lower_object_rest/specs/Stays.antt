@@ -7,8 +7,8 @@ use Rattle.es_tree.specs.Names.{has_computed}
 use Rattle.es_tree.specs.Tree.{Field, Fields, Label, Tree, Trees, empty, many, node, ◌before◌, ◌then◌}
 use Rattle.es_tree.specs.Walks.{any_in_fields, any_in_trees, any_node}
 use Rattle.es_tree.specs.declared.ast_type.AstType.{AstType}
-use Rattle.es_tree.specs.declared.ast_type.AstType.TheVariants.{AssignmentPattern, BigIntLiteral, ExportNamedDeclaration, Identifier, NumericLiteral, ObjectPattern, ObjectTarget, PatternProperty, RestElement, StringLiteral, TemplateElement, TemplateLiteral, VariableDeclaration, VariableDeclarator}
-use Rattle.es_rest_shapes.specs.RestShapes.{any_beside, any_child, any_child_by, any_tree, are_plain_members, are_plain_parts, bears_among, bears_by, bears_first, bears_rest, bears_second, declares_rest, is_known_key, is_literal_key, is_misplaced, is_name, is_named_rest, is_odd_pattern, is_plain_first, is_plain_key, is_plain_pattern, is_plain_property, is_plain_target, is_plain_value, is_rest_declaration, is_rest_declarator, is_stray_rest, reads_key, template_text}
+use Rattle.es_tree.specs.declared.ast_type.AstType.TheVariants.{AssignmentPattern, ExportNamedDeclaration, Identifier, ObjectPattern, ObjectTarget, PatternProperty, RestElement, TemplateElement, TemplateLiteral, VariableDeclaration, VariableDeclarator}
+use Rattle.es_rest_shapes.specs.RestShapes.{any_beside, any_child, any_child_by, any_tree, are_plain_members, are_plain_parts, bears_among, bears_by, bears_first, bears_rest, bears_second, declares_rest, is_known_key, is_misplaced, is_name, is_named_rest, is_odd_pattern, is_plain_first, is_plain_key, is_plain_pattern, is_plain_property, is_plain_target, is_plain_value, is_rest_declaration, is_rest_declarator, is_stray_rest, literal_text, reads_key, template_text}
 use Rattle.lower_nodes.specs.Nodes.{Alike, AlikeAmong, AlikeBy, AlikeIn}
 use Rattle.lower_nodes.specs.Nodes.Alike.{changed, within}
 use Rattle.lower_nodes.specs.Nodes.AlikeIn.{no_fields, fields_alike}
@@ -130,38 +130,22 @@ template_within (fields_alike (statements_alike h) r) = refl
 template_within (fields_alike (many_alike no_trees) r) = refl
 template_within (fields_alike (many_alike (trees_alike h q)) r) = part_alike h q r
 
-literal_within : (k : AstType) (l : Label) {fs gs : Fields} → SameIn fs gs → is_literal_key (node k l gs) ≡ is_literal_key (node k l fs)
-literal_within BigIntLiteral l no_fields = refl
-literal_within BigIntLiteral l (fields_alike h r) = refl
-literal_within NumericLiteral l no_fields = refl
-literal_within NumericLiteral l (fields_alike h r) = refl
-literal_within StringLiteral l no_fields = refl
-literal_within StringLiteral l (fields_alike h r) = refl
-literal_within TemplateLiteral l h = ap is_some (template_within h)
+literal_within : (k : AstType) (l : Label) {fs gs : Fields} → SameIn fs gs → literal_text (node k l gs) ≡ literal_text (node k l fs)
+literal_within TemplateLiteral l h = template_within h
 literal_within _ l h = refl
 
-known_within : (k : AstType) (l : Label) {fs gs : Fields} → SameIn fs gs → is_known_key (node k l gs) ≡ is_known_key (node k l fs)
-known_within Identifier l no_fields = refl
-known_within Identifier l (fields_alike h r) = refl
-known_within BigIntLiteral l h = literal_within BigIntLiteral l h
-known_within NumericLiteral l h = literal_within NumericLiteral l h
-known_within StringLiteral l h = literal_within StringLiteral l h
-known_within TemplateLiteral l h = literal_within TemplateLiteral l h
-known_within _ l h = refl
+literal_alike : {t u : Tree} → Same t u → literal_text u ≡ literal_text t
+literal_alike (changed {k = k} {l = l} {fs = fs} {gs = gs} e) = changed_only (λ j. literal_text (node j l gs) ≡ literal_text (node j l fs)) refl k e
+literal_alike (within {k = k} {l = l} h) = literal_within k l h
 
 known_alike : {t u : Tree} → Same t u → is_known_key u ≡ is_known_key t
-known_alike (changed {k = k} {l = l} {fs = fs} {gs = gs} e) = changed_only (λ j. is_known_key (node j l gs) ≡ is_known_key (node j l fs)) refl k e
-known_alike (within {k = k} {l = l} h) = known_within k l h
+known_alike h = λ i. name_alike h i || is_some (literal_alike h i)
 
 key_alike : (computed : Bool) {t u : Tree} → Same t u → is_plain_key computed u ≡ is_plain_key computed t
 key_alike computed h = ap (λ b. computed || b) (known_alike h)
 
-literal_alike : {t u : Tree} → Same t u → is_literal_key u ≡ is_literal_key t
-literal_alike (changed {k = k} {l = l} {fs = fs} {gs = gs} e) = changed_only (λ j. is_literal_key (node j l gs) ≡ is_literal_key (node j l fs)) refl k e
-literal_alike (within {k = k} {l = l} h) = literal_within k l h
-
 reads_within : (k : AstType) (l : Label) {fs gs : Fields} → SameIn fs gs → reads_key (node k l gs) ≡ reads_key (node k l fs)
-reads_within PatternProperty l (fields_alike (one_alike h) (fields_alike (one_alike v) no_fields)) = ap (λ b. has_computed PatternProperty l.flags && not b) (literal_alike h)
+reads_within PatternProperty l (fields_alike (one_alike h) (fields_alike (one_alike v) no_fields)) = ap (λ x. has_computed PatternProperty l.flags && not (is_some x)) (literal_alike h)
 reads_within PatternProperty l no_fields = refl
 reads_within PatternProperty l (fields_alike both_missing r) = refl
 reads_within PatternProperty l (fields_alike (many_alike h) r) = refl

@@ -14,7 +14,7 @@ ghost use Rattle.lower_temporaries.specs.Takings.{ReadsMore};
 use crate::sources::store;
 use es_expressions::literals::new_string_literal;
 use es_patterns::patterns::{PatternProperty, new_object_pattern};
-use es_rest_nodes::keys::template_text;
+use es_rest_nodes::keys::literal_text;
 use es_rest_nodes::patterns::reads_key;
 use es_scope::context::TraverseCtx;
 use es_statements::program::new_variable_declarator;
@@ -173,7 +173,7 @@ fn name_key(property: Node, ctx: &mut TraverseCtx<TransformState>) -> Result<Nam
     })
 }
 
-/// The key of a property that isn't read, as a text: `"a"` for `a: x`, `"a": x` and `["a"]: x`, and `"16"` for `0x10: x`.
+/// The key of a property that isn't read, as a text: `"a"` for `a: x`, `"a": x` and `["a"]: x`, `"16"` for `0x10: x`, and `"null"` for `[null]: x`.
 fn new_key(property: &Node, ast: &mut AstBuilder) -> Result<Node, AllocError>
     requires plain { is_plain_property property.now ≡ true }
     requires known { reads_key property.now ≡ false }
@@ -190,20 +190,16 @@ fn new_key(property: &Node, ast: &mut AstBuilder) -> Result<Node, AllocError>
     Ok(made)
 }
 
-/// The text of a key that is a name, a text, a number or a template without expressions.
+/// The text of a key that is a name or a literal.
 fn key_text(key: &Node, alloc: Global) -> Result<String, AllocError>
     requires { is_known_key key.now ≡ true }
     ensures { IfOk result (λ text. string_bytes text ≡ key_text key.now) }
 {
+    if let Some(text) = literal_text(key) {
+        return String::from_str(alloc, text);
+    }
     match &key.kind {
         Kind::Identifier { name, .. } => String::from_str(alloc, name.as_str()),
-        Kind::StringLiteral { value } => String::from_str(alloc, value.as_str()),
-        Kind::NumericLiteral { key, .. } => String::from_str(alloc, key.as_str()),
-        Kind::BigIntLiteral { key, .. } => String::from_str(alloc, key.as_str()),
-        Kind::TemplateLiteral => match template_text(key.fields.as_slice()) {
-            Some(text) => String::from_str(alloc, text),
-            None => unreachable!(),
-        },
         _ => unreachable!(),
     }
 }

@@ -23,8 +23,8 @@
 //!     const _settings = settings(), { size } = _settings, others = babelHelpers.objectWithoutProperties(_settings, ["size"]);
 //!
 //! A value that gives the same each time is read where it stands: a name that nothing writes and that the pattern doesn't bind, or a made
-//! name. Any other is evaluated once, and stored. The properties come before the rest, as in the source. A computed key that is no text, no
-//! number and no template without expressions is read once, where it stood, and has a name from there on. A pattern with a rest in a property
+//! name. Any other is evaluated once, and stored. The properties come before the rest, as in the source. A computed key that is no literal
+//! and no template without expressions is read once, where it stood, and has a name from there on. A pattern with a rest in a property
 //! gives way to a name for what the property gives, and is declared in its turn, before the properties behind it. `babelHelpers` is an
 //! unbound name of the written program, whose meaning is the host's: a run refuses a program that declares such a pattern and binds the name
 //! anywhere.
