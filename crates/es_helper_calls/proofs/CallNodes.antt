@@ -1,5 +1,5 @@
--- What the rules of places ask of a node and of what stands in it, where helpers are called by names: the same as before.
-use Rattle.std.proofs.Common.{◌≡◌, ℕ, zero, suc, refl, ap, sym, ◌∙◌}
+-- What the rules of places ask of a node and of what stands in it, where parts of calls give way to names: the same as before.
+use Rattle.std.proofs.Common.{◌≡◌, ℕ, zero, suc, refl, ap, sym}
 use Rattle.std.specs.Prelude.{◌||◌, not, false, is_some, Option, Some, None}
 use Rattle.es_tree.specs.Ancestors.{has_loop_body, is_labeled_loop}
 use Rattle.es_tree.specs.Children.{child_at, only_child}
@@ -8,166 +8,149 @@ use Rattle.es_tree.specs.HasForm.{same_type}
 use Rattle.es_tree.specs.Parens.{without_parens}
 use Rattle.es_tree.specs.Scopes.{name_in, own_text}
 use Rattle.es_tree.specs.StaticRules.{is_empty, is_lone_parameter, parameters_in}
-use Rattle.es_tree.specs.Tree.{Tree, node, Label, Fields, done, ◌then◌, Field, one, many, Trees, empty, ◌before◌, kind_of, label_of}
+use Rattle.es_tree.specs.Tree.{Tree, Fields, Field, Trees, kind_of}
 use Rattle.es_tree.specs.declared.ast_type.AstType.TheVariants.{CallExpression, ChainExpression, FunctionExpression, Identifier, LabeledStatement, MemberExpression, ParenthesizedExpression, PrivateIdentifier, RestElement}
-use Rattle.es_tree.specs.declared.helper.Helper.{Helper}
 use Rattle.es_resolution.specs.Declarations.{Bound}
-use Rattle.es_steps.specs.Nodes.{identifier}
-use Rattle.es_helper_calls.specs.HelperCalls.{calling, calling_among, calling_by, calling_here, calling_in, used_helper}
-use Rattle.es_helper_calls.proofs.Callees.{IsCallee, IsUse, callee-shape, here-called, here-passed, use-shape}
-use Rattle.es_helper_calls.proofs.Callees.IsUse.{a_call, a_pass}
+use Rattle.es_helper_calls.proofs.CalledTrees.{Calls, CallsAll, CallsBy, CallsIn}
+use Rattle.es_helper_calls.proofs.CalledTrees.Calls.{becomes}
+use Rattle.es_helper_calls.proofs.CalledTrees.CallsAll.{next, none}
+use Rattle.es_helper_calls.proofs.CalledTrees.CallsBy.{at_many, at_none, at_one, at_statements}
+use Rattle.es_helper_calls.proofs.CalledTrees.CallsHere.{calls, lists, passes, stays}
+use Rattle.es_helper_calls.proofs.CalledTrees.CallsIn.{ends, goes}
+use Rattle.es_helper_calls.proofs.Callees.{IsCallee, callee-shape}
 use Rattle.es_helper_calls.proofs.Callees.IsCallee.{a_member}
 
 -- a spine through the callee has no optional mark
-pub callee-plain : (f : Tree) → IsCallee f → has_optional f ≡ false
+callee-plain : (f : Tree) → IsCallee f → has_optional f ≡ false
 callee-plain f (a_member e) = rw e refl
 
-module _ (c : Helper → Bound) where
-  abbrev pub named : Helper → Tree
-  named h = identifier (c h)
-
-  -- a tree in which helpers are called by these names
-  abbrev pub now : Tree → Tree
-  now t = calling named t
-
-  abbrev pub now_in : Fields → Fields
-  now_in fs = calling_in named fs
-
-  abbrev pub now_by : Field → Field
-  now_by f = calling_by named f
-
-  abbrev pub now_among : Trees → Trees
-  now_among ts = calling_among named ts
-
+module _ (P : Tree → Bound → Type 0) where
   -- KINDS AND TEXTS
 
-  pub kind-now : (t : Tree) → kind_of (now t) ≡ kind_of t
-  kind-now (node k l fs) = refl
+  pub kind-now : {t u : Tree} → Calls P t u → kind_of u ≡ kind_of t
+  kind-now (becomes h) = refl
 
-  pub label-now : (t : Tree) → label_of (now t) ≡ label_of t
-  label-now (node k l fs) = refl
+  pub text-now : {t u : Tree} → Calls P t u → own_text u ≡ own_text t
+  text-now (becomes h) = refl
 
-  pub text-now : (t : Tree) → own_text (now t) ≡ own_text t
-  text-now (node k l fs) = refl
-
-  pub name-now : (fs : Fields) → name_in (now_in fs) ≡ name_in fs
-  name-now (one t then fs) = text-now t
+  pub name-now : {fs gs : Fields} → CallsIn P fs gs → name_in gs ≡ name_in fs
+  name-now (goes (at_one k) h) = text-now k
   name-now _ = refl
 
-  pub parens-now : (t : Tree) → without_parens (now t) ≡ now (without_parens t)
-  parens-now (node ParenthesizedExpression l (one t then fs)) = parens-now t
-  parens-now (node ParenthesizedExpression l fs) = refl
-  parens-now (node _ l fs) = refl
+  pub parens-now : {t u : Tree} → Calls P t u → Calls P (without_parens t) (without_parens u)
+  parens-now (becomes {k = ParenthesizedExpression} (stays (goes (at_one k) h))) = parens-now k
+  parens-now (becomes {k = ParenthesizedExpression} (stays ends)) = becomes (stays ends)
+  parens-now (becomes {k = ParenthesizedExpression} (stays (goes at_none h))) = becomes (stays (goes at_none h))
+  parens-now (becomes {k = ParenthesizedExpression} (stays (goes (at_many k) h))) = becomes (stays (goes (at_many k) h))
+  parens-now (becomes {k = ParenthesizedExpression} (stays (goes (at_statements k) h))) = becomes (stays (goes (at_statements k) h))
+  parens-now (becomes h) = becomes h
 
-  pub inner-kind-now : (t : Tree) → kind_of (without_parens (now t)) ≡ kind_of (without_parens t)
-  inner-kind-now t = ap (λ u. kind_of u) (parens-now t) ∙ kind-now (without_parens t)
+  pub inner-kind-now : {t u : Tree} → Calls P t u → kind_of (without_parens u) ≡ kind_of (without_parens t)
+  inner-kind-now h = kind-now (parens-now h)
 
   -- CHILDREN
 
-  abbrev now_child : Option Tree → Option Tree
-  now_child None = None
-  now_child (Some t) = Some (now t)
+  data CallsChild : Option Tree → Option Tree → Type 0 where
+    no_child : CallsChild None None
+    a_child : {t u : Tree} → Calls P t u → CallsChild (Some t) (Some u)
 
-  only-now : (f : Field) → only_child (now_by f) ≡ now_child (only_child f)
-  only-now (one t) = refl
-  only-now _ = refl
+  only-now : {f g : Field} → CallsBy P f g → CallsChild (only_child f) (only_child g)
+  only-now at_none = no_child
+  only-now (at_one k) = a_child k
+  only-now (at_many k) = no_child
+  only-now (at_statements k) = no_child
 
-  child-now : (n : ℕ) (fs : Fields) → child_at n (now_in fs) ≡ now_child (child_at n fs)
-  child-now n done = refl
-  child-now zero (f then fs) = only-now f
-  child-now (suc n) (f then fs) = child-now n fs
+  child-now : (n : ℕ) {fs gs : Fields} → CallsIn P fs gs → CallsChild (child_at n fs) (child_at n gs)
+  child-now n ends = no_child
+  child-now zero (goes k h) = only-now k
+  child-now (suc n) (goes k h) = child-now n h
 
-  some-now : (o : Option Tree) → is_some (now_child o) ≡ is_some o
-  some-now None = refl
-  some-now (Some t) = refl
+  some-same : {o p : Option Tree} → CallsChild o p → is_some p ≡ is_some o
+  some-same no_child = refl
+  some-same (a_child k) = refl
 
-  pub has-child-now : (n : ℕ) (fs : Fields) → is_some (child_at n (now_in fs)) ≡ is_some (child_at n fs)
-  has-child-now n fs = ap (λ o. is_some o) (child-now n fs) ∙ some-now (child_at n fs)
+  pub has-child-now : (n : ℕ) {fs gs : Fields} → CallsIn P fs gs → is_some (child_at n gs) ≡ is_some (child_at n fs)
+  has-child-now n h = some-same (child-now n h)
 
-  is-name-now : (o : Option Tree) → is_name (now_child o) ≡ is_name o
-  is-name-now None = refl
-  is-name-now (Some (node Identifier l fs)) = refl
-  is-name-now (Some (node _ l fs)) = refl
+  name-same : {o p : Option Tree} → CallsChild o p → is_name p ≡ is_name o
+  name-same no_child = refl
+  name-same (a_child (becomes {k = Identifier} h)) = refl
+  name-same (a_child (becomes h)) = refl
 
-  pub name-child-now : (n : ℕ) (fs : Fields) → is_name (child_at n (now_in fs)) ≡ is_name (child_at n fs)
-  name-child-now n fs = ap (λ o. is_name o) (child-now n fs) ∙ is-name-now (child_at n fs)
+  pub name-child-now : (n : ℕ) {fs gs : Fields} → CallsIn P fs gs → is_name (child_at n gs) ≡ is_name (child_at n fs)
+  name-child-now n h = name-same (child-now n h)
 
   -- LABELS: whether a loop stands below them
 
-  loop-now : (t : Tree) → is_labeled_loop (now t) ≡ is_labeled_loop t
-  loop-now (node LabeledStatement l (n then (one t then fs))) = loop-now t
-  loop-now (node LabeledStatement l fs) = refl
-  loop-now (node _ l fs) = refl
+  loop-now : {t u : Tree} → Calls P t u → is_labeled_loop u ≡ is_labeled_loop t
+  loop-now (becomes {k = LabeledStatement} (stays (goes n (goes (at_one k) h)))) = loop-now k
+  loop-now (becomes {k = LabeledStatement} (stays h)) = refl
+  loop-now (becomes h) = refl
 
-  pub loop-body-now : (fs : Fields) → has_loop_body (now_in fs) ≡ has_loop_body fs
-  loop-body-now (n then (one t then fs)) = loop-now t
+  pub loop-body-now : {fs gs : Fields} → CallsIn P fs gs → has_loop_body gs ≡ has_loop_body fs
+  loop-body-now (goes n (goes (at_one k) h)) = loop-now k
   loop-body-now _ = refl
 
   -- CHAINS
 
-  at-call : (l : Label) (fs : Fields) (o : Option Helper) → used_helper CallExpression l fs ≡ o → has_optional_in (now_in fs) ≡ has_optional_in fs → has_optional_in (calling_here named o (now_in fs)) ≡ has_optional_in fs
-  at-call l fs None e h = h
-  at-call l fs (Some x) e h = of-shape fs (use-shape CallExpression l fs x e) h
-    where
-      of-shape : (fs : Fields) → IsUse x CallExpression l fs → has_optional_in (now_in fs) ≡ has_optional_in fs → has_optional_in (calling_here named (Some x) (now_in fs)) ≡ has_optional_in fs
-      of-shape _ (a_call {f = f} {fs = fs} mark it) h = ap (λ gs. has_optional_in gs) (here-called named f fs x it) ∙ sym (callee-plain f (callee-shape f x it))
-      of-shape _ (a_pass {f = f} {t = t} {fs = fs} mark none it) h = ap (λ gs. has_optional_in gs) (here-passed named f t fs x none) ∙ h
-
   mutual
-    optional-now : (t : Tree) → has_optional (now t) ≡ has_optional t
-    optional-now (node MemberExpression l fs) = ap (λ b. is_optional MemberExpression l || b) (optional-in-now fs)
-    optional-now (node CallExpression l fs) = ap (λ b. is_optional CallExpression l || b) (at-call l fs (used_helper CallExpression l fs) refl (optional-in-now fs))
-    optional-now (node _ l fs) = refl
+    optional-now : {t u : Tree} → Calls P t u → has_optional u ≡ has_optional t
+    optional-now (becomes {k = MemberExpression} {l = l} (stays h)) = ap (λ b. is_optional MemberExpression l || b) (optional-in-now h)
+    optional-now (becomes {k = CallExpression} {l = l} (stays h)) = ap (λ b. is_optional CallExpression l || b) (optional-in-now h)
+    optional-now (becomes {k = CallExpression} {l = l} (calls {f = f} {h = x} b p mark it h)) = ap (λ b. is_optional CallExpression l || b) (sym (callee-plain f (callee-shape f x it)))
+    optional-now (becomes {k = CallExpression} {l = l} (passes b p mark other it k h)) = ap (λ b. is_optional CallExpression l || b) (optional-now k)
+    optional-now (becomes {k = CallExpression} {l = l} (lists b p texts k m)) = ap (λ b. is_optional CallExpression l || b) (optional-now k)
+    optional-now (becomes h) = refl
 
-    pub optional-in-now : (fs : Fields) → has_optional_in (now_in fs) ≡ has_optional_in fs
-    optional-in-now (one t then fs) = optional-now t
+    pub optional-in-now : {fs gs : Fields} → CallsIn P fs gs → has_optional_in gs ≡ has_optional_in fs
+    optional-in-now (goes (at_one k) h) = optional-now k
     optional-in-now _ = refl
 
   -- WHAT IS DELETED
 
-  private-now : (o : Option Tree) → is_private_name (now_child o) ≡ is_private_name o
-  private-now None = refl
-  private-now (Some (node PrivateIdentifier l fs)) = refl
-  private-now (Some (node _ l fs)) = refl
+  private-same : {o p : Option Tree} → CallsChild o p → is_private_name p ≡ is_private_name o
+  private-same no_child = refl
+  private-same (a_child (becomes {k = PrivateIdentifier} h)) = refl
+  private-same (a_child (becomes h)) = refl
 
-  second-private-now : (fs : Fields) → is_private_name (child_at 1 (now_in fs)) ≡ is_private_name (child_at 1 fs)
-  second-private-now fs = ap (λ o. is_private_name o) (child-now 1 fs) ∙ private-now (child_at 1 fs)
+  second-private-now : {fs gs : Fields} → CallsIn P fs gs → is_private_name (child_at 1 gs) ≡ is_private_name (child_at 1 fs)
+  second-private-now h = private-same (child-now 1 h)
 
-  member-now : (o : Option Tree) → is_private_member (now_child o) ≡ is_private_member o
-  member-now None = refl
-  member-now (Some (node MemberExpression l fs)) = second-private-now fs
-  member-now (Some (node _ l fs)) = refl
+  member-same : {o p : Option Tree} → CallsChild o p → is_private_member p ≡ is_private_member o
+  member-same no_child = refl
+  member-same (a_child (becomes {k = MemberExpression} (stays h))) = second-private-now h
+  member-same (a_child (becomes h)) = refl
 
-  kept-now : (t : Tree) → is_kept (now t) ≡ is_kept t
-  kept-now (node Identifier l fs) = refl
-  kept-now (node MemberExpression l fs) = second-private-now fs
-  kept-now (node ChainExpression l fs) = ap (λ o. is_private_member o) (child-now 0 fs) ∙ member-now (child_at 0 fs)
-  kept-now (node _ l fs) = refl
+  kept-now : {t u : Tree} → Calls P t u → is_kept u ≡ is_kept t
+  kept-now (becomes {k = Identifier} h) = refl
+  kept-now (becomes {k = MemberExpression} (stays h)) = second-private-now h
+  kept-now (becomes {k = ChainExpression} (stays h)) = member-same (child-now 0 h)
+  kept-now (becomes h) = refl
 
-  within-now : (o : Option Tree) → is_kept_within (now_child o) ≡ is_kept_within o
-  within-now None = refl
-  within-now (Some t) = ap (λ u. is_kept u) (parens-now t) ∙ kept-now (without_parens t)
+  within-same : {o p : Option Tree} → CallsChild o p → is_kept_within p ≡ is_kept_within o
+  within-same no_child = refl
+  within-same (a_child k) = kept-now (parens-now k)
 
-  pub kept-child-now : (n : ℕ) (fs : Fields) → is_kept_within (child_at n (now_in fs)) ≡ is_kept_within (child_at n fs)
-  kept-child-now n fs = ap (λ o. is_kept_within o) (child-now n fs) ∙ within-now (child_at n fs)
+  pub kept-child-now : (n : ℕ) {fs gs : Fields} → CallsIn P fs gs → is_kept_within (child_at n gs) ≡ is_kept_within (child_at n fs)
+  kept-child-now n h = within-same (child-now n h)
 
   -- PARAMETERS of accessors
 
-  parameters-now : (fs : Fields) → parameters_in (now_in fs) ≡ now_among (parameters_in fs)
-  parameters-now (key then (one (node FunctionExpression l (n then (many ps then gs))) then fs)) = refl
-  parameters-now _ = refl
+  parameters-now : {fs gs : Fields} → CallsIn P fs gs → CallsAll P (parameters_in fs) (parameters_in gs)
+  parameters-now (goes key (goes (at_one (becomes {k = FunctionExpression} (stays (goes n (goes (at_many ps) h))))) hs)) = ps
+  parameters-now _ = none
 
-  empty-now : (ts : Trees) → is_empty (now_among ts) ≡ is_empty ts
-  empty-now empty = refl
-  empty-now (t before ts) = refl
+  empty-same : {ts us : Trees} → CallsAll P ts us → is_empty us ≡ is_empty ts
+  empty-same none = refl
+  empty-same (next k h) = refl
 
-  lone-parameter-now : (ts : Trees) → is_lone_parameter (now_among ts) ≡ is_lone_parameter ts
-  lone-parameter-now empty = refl
-  lone-parameter-now (t before empty) = ap (λ k. not (same_type k RestElement)) (kind-now t)
-  lone-parameter-now (t before (u before ts)) = refl
+  lone-same : {ts us : Trees} → CallsAll P ts us → is_lone_parameter us ≡ is_lone_parameter ts
+  lone-same none = refl
+  lone-same (next k none) = ap (λ k. not (same_type k RestElement)) (kind-now k)
+  lone-same (next k (next j h)) = refl
 
-  pub no-parameter-now : (fs : Fields) → is_empty (parameters_in (now_in fs)) ≡ is_empty (parameters_in fs)
-  no-parameter-now fs = ap (λ ts. is_empty ts) (parameters-now fs) ∙ empty-now (parameters_in fs)
+  pub no-parameter-now : {fs gs : Fields} → CallsIn P fs gs → is_empty (parameters_in gs) ≡ is_empty (parameters_in fs)
+  no-parameter-now h = empty-same (parameters-now h)
 
-  pub one-parameter-now : (fs : Fields) → is_lone_parameter (parameters_in (now_in fs)) ≡ is_lone_parameter (parameters_in fs)
-  one-parameter-now fs = ap (λ ts. is_lone_parameter ts) (parameters-now fs) ∙ lone-parameter-now (parameters_in fs)
+  pub one-parameter-now : {fs gs : Fields} → CallsIn P fs gs → is_lone_parameter (parameters_in gs) ≡ is_lone_parameter (parameters_in fs)
+  one-parameter-now h = lone-same (parameters-now h)

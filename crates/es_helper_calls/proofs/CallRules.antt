@@ -1,5 +1,5 @@
--- The rules by which a helper is called by a name, or handed on by one: they keep form and the rules of declared names, and other modules see
--- nothing of them.
+-- The rules by which a helper is called by a name, or handed on by one, and a name stands for a list of texts: they keep form and the rules of
+-- declared names, and other modules see nothing of them.
 use Rattle.std.proofs.Common.{◌≡◌, inl, refl, sym, subst, List, []}
 use Rattle.std.specs.Prelude.{◌⊎◌, Bool, true}
 use Rattle.std.proofs.lemmas.Bool.{and_from}
@@ -15,6 +15,8 @@ use Rattle.es_steps.specs.Nodes.{identifier}
 use Rattle.es_steps.specs.Slots.{is_slot}
 use Rattle.es_steps.specs.Steps.{Ledger, Site, Spot}
 use Rattle.es_steps.specs.Steps.Spot.{at_node}
+use Rattle.es_steps.proofs.FormLists.{first-formed}
+use Rattle.es_steps.proofs.FormMembers.{formed-first}
 use Rattle.es_steps.proofs.FormParts.{formed-name}
 use Rattle.es_steps.proofs.FormRows.{two-parts}
 use Rattle.es_steps.proofs.FormSorts.{form-wider}
@@ -26,11 +28,12 @@ use Rattle.es_valid_names.proofs.Grown.{Grown, grown-self}
 use Rattle.es_valid_names.proofs.MoreAround.{clear-more, clear-more-all}
 use Rattle.es_valid_names.proofs.Mute.{mute-expression}
 use Rattle.es_helper_calls.specs.CallRows.{CallRow}
-use Rattle.es_helper_calls.specs.CallRows.CallRow.{calls, passes}
+use Rattle.es_helper_calls.specs.CallRows.CallRow.{calls, lists, passes}
 
 call-only : (n : Site) (s s' : Ledger) (x y : Spot) → CallRow n s x s' y → AtNodes x y
 call-only n s s' x y (calls b mark e named) = tt
 call-only n s s' x y (passes b mark none e named) = tt
+call-only n s s' x y (lists b texts named) = tt
 
 -- FORM
 
@@ -51,6 +54,15 @@ call-form = nodes-only CallRow call-only nodes
         let argument = form-wider s-Argument (identifier x) refl (formed-name x named) in
         record {
           formed = has_form-node a CallExpression l (one f then many (identifier x before empty) then done) (record { sort = m.sort; texts = m.texts; flags = m.flags; start = m.start; stop = m.stop; agree = refl; children = rw (parts.0, argument) refl });
+          names = nothing-new s s' refl;
+        }
+    nodes n s s' t u a slot (lists {l = l} {f = f} {t = g} {ks = ks} x texts named) h =
+        let m = node_form a CallExpression l (one f then many (g before (ks before empty)) then done) h in
+        let parts = two-parts (has_form s-Expression f) (trees_form s-Argument s-Argument (g before (ks before empty))) m.children in
+        let first = (first-formed s-Argument g (ks before empty) parts.1).0 in
+        let argument = formed-first s-Argument (identifier x) empty (form-wider s-Argument (identifier x) refl (formed-name x named)) refl in
+        record {
+          formed = has_form-node a CallExpression l (one f then many (g before (identifier x before empty)) then done) (record { sort = m.sort; texts = m.texts; flags = m.flags; start = m.start; stop = m.stop; agree = refl; children = rw (parts.0, formed-first s-Argument g (identifier x before empty) first argument) refl });
           names = nothing-new s s' refl;
         }
 
@@ -81,6 +93,15 @@ call-names = record { at_nodes = nodes }
       inside = refl;
       names = no-names s s' refl;
     }
+    nodes n s s' t u a slot (lists {f = h} {t = i} x texts named) f g = record {
+      grown = λ up. mute-grown (claims is_owned up t) (claims is_owned up u) (mute-expression a up t refl refl f tt) (mute-expression a up u refl refl g tt);
+      clear = λ c d v j m st k. (tt, refl, (clear-more c d m elsewhere h k.2.0, ((clear-more c d m elsewhere i k.2.1.0.0, ((tt, refl, tt), tt)), tt)));
+      name = refl;
+      key = λ h. absurd (cc h);
+      imports = refl;
+      inside = refl;
+      names = no-names s s' refl;
+    }
 
 -- OTHER MODULES
 
@@ -90,3 +111,4 @@ call-quiet = record { at_nodes = nodes }
     nodes : (n : Site) (s s' : Ledger) (t u : Tree) → CallRow n s (at_node t) s' (at_node u) → BothQuiet t u ⊎ (is_slot n.above ≡ true)
     nodes n s s' t u (calls x mark e named) = inl (record { acted = refl; left = refl })
     nodes n s s' t u (passes x mark none e named) = inl (record { acted = refl; left = refl })
+    nodes n s s' t u (lists x texts named) = inl (record { acted = refl; left = refl })

@@ -1,9 +1,10 @@
--- Steps lead from a program that has form to what it becomes where helpers are called by names, in the fields of each node first, and then at
--- the node itself.
-use Rattle.std.proofs.Common.{◌≡◌, ◌∙◌, ℕ, zero, suc, refl, sym, ap, subst, List, [], ◌∷◌, ◌++◌}
-use Rattle.std.specs.Prelude.{Bool, true, false, ◌&&◌, Option, Some, None}
+-- Steps lead from a program that has form to what it becomes where parts of calls give way to names: at each node itself first, and then in its
+-- fields.
+use Rattle.std.proofs.Common.{◌≡◌, ℕ, zero, suc, refl, sym, subst}
+use Rattle.std.specs.Prelude.{Bool, true, false, ◌&&◌, Some, None}
 use Rattle.std.proofs.lemmas.Bool.{and_parts}
 use Rattle.es_tree.specs.Attributes.{child_entries}
+use Rattle.es_tree.specs.Names.{flag_at}
 use Rattle.es_tree.specs.HasForm.{fields_form, has_form, trees_form}
 use Rattle.es_tree.specs.Table.{rest_sort}
 use Rattle.es_tree.specs.Tree.{Tree, node, Label, Fields, done, ◌then◌, Field, missing, one, many, statements, Trees, empty, ◌before◌}
@@ -19,7 +20,8 @@ use Rattle.es_semantic.specs.RolesOf.{reads}
 use Rattle.es_changes.proofs.Expressions.{body-formed, law_expression_proof}
 use Rattle.es_changes.proofs.FieldParts.{body-reads}
 use Rattle.es_steps.specs.Laws.{nothing_beside}
-use Rattle.es_steps.specs.Open.{Open, OpenField, OpenFields, OpenTrees, body, child, children, finished, finished_fields, is_body, list, no_additions, nothing_pending, open_node, opened, opened_field, opened_fields, opened_trees, ◌and◌, ◌next◌}
+use Rattle.es_steps.specs.Nodes.{identifier}
+use Rattle.es_steps.specs.Open.{Open, OpenField, OpenFields, OpenTrees, body, child, children, ends, finished, finished_fields, is_body, list, no_additions, nothing_pending, open_node, opened, opened_field, opened_fields, opened_trees, ◌and◌, ◌next◌}
 use Rattle.es_steps.specs.Steps.{FieldStep, FieldsStep, Ledger, Site, Step, Steps, TreesStep, Whole, is_program_list, is_target, ledger, site_in, site_in_body, the_program}
 use Rattle.es_steps.specs.Steps.FieldStep.{in_body, in_child, in_children, in_list, in_program, in_target}
 use Rattle.es_steps.specs.Steps.FieldsStep.{in_first, in_later}
@@ -30,12 +32,16 @@ use Rattle.es_steps.proofs.FormOpen.{IsProper, opened-proper}
 use Rattle.es_steps.proofs.FormSteps.{formed-after}
 use Rattle.es_steps.proofs.Opened.{finished-opened}
 use Rattle.es_helper_calls.specs.CallRows.{CallRow}
-use Rattle.es_helper_calls.specs.CallRows.CallRow.{calls, passes}
-use Rattle.es_helper_calls.specs.HelperCalls.{calling_here, handed_on, helpers_among, helpers_in, helpers_in_field, helpers_in_fields, own_helper, used_helper}
-use Rattle.es_helper_calls.specs.Laws.{HaveNames}
-use Rattle.es_helper_calls.proofs.Callees.{IsUse, helper-now, here-called, here-passed, use-shape}
-use Rattle.es_helper_calls.proofs.Callees.IsUse.{a_call, a_pass}
-use Rattle.es_helper_calls.proofs.CallNodes.{named, now, now_among, now_by, now_in}
+use Rattle.es_helper_calls.specs.CallRows.CallRow.{calls, lists, passes}
+use Rattle.es_helper_calls.specs.HelperCalls.{handed_on, helper_of}
+use Rattle.es_helper_calls.specs.Laws.{IsNamed}
+use Rattle.es_helper_calls.specs.TextLists.{is_text_list}
+use Rattle.es_helper_calls.proofs.CalledTrees.{Calls, CallsAll, CallsBy, CallsIn}
+use Rattle.es_helper_calls.proofs.CalledTrees.Calls.{becomes}
+use Rattle.es_helper_calls.proofs.CalledTrees.CallsAll.{next as tree_next, none as no_tree}
+use Rattle.es_helper_calls.proofs.CalledTrees.CallsBy.{at_many, at_none, at_one, at_statements}
+use Rattle.es_helper_calls.proofs.CalledTrees.CallsHere.{calls as is_called, lists as is_listed, passes as is_passed, stays as is_left}
+use Rattle.es_helper_calls.proofs.CalledTrees.CallsIn.{ends as no_field, goes as field_next}
 use Rattle.es_helper_calls.proofs.CallRules.{call-form}
 
 -- ROWS: steps in a row, each of which may be taken wherever a node stands and whatever is known there
@@ -77,21 +83,21 @@ children-rows : (b : Bool) {ts us : OpenTrees} → Rows AnyTrees ts us → Rows 
 children-rows b = rows-map (λ ts. children ts) (λ ts us h n s e. in_children (h n s))
 
 -- a list, whatever list it is
-list-step : (ts us : OpenTrees) → AnyTrees ts us → (n : Site) (s : Ledger) (target whole : Bool) → is_target n.above ≡ target → is_program_list n.above ≡ whole → FieldStep CallRow n s (list nothing_pending None no_additions ts) s (list nothing_pending None no_additions us)
-list-step ts us h n (ledger w o x a) true whole e d = in_target e (h n (ledger w nothing_pending None a))
-list-step ts us h n (ledger w o x a) false true e d = in_program d (h n (ledger w nothing_pending None no_additions))
-list-step ts us h n (ledger w o x a) false false e d = in_list e d (h n (ledger w nothing_pending x a))
+list-taken : (ts us : OpenTrees) → AnyTrees ts us → (n : Site) (s : Ledger) (target whole : Bool) → is_target n.above ≡ target → is_program_list n.above ≡ whole → FieldStep CallRow n s (list nothing_pending None no_additions ts) s (list nothing_pending None no_additions us)
+list-taken ts us h n (ledger w o x a) true whole e d = in_target e (h n (ledger w nothing_pending None a))
+list-taken ts us h n (ledger w o x a) false true e d = in_program d (h n (ledger w nothing_pending None no_additions))
+list-taken ts us h n (ledger w o x a) false false e d = in_list e d (h n (ledger w nothing_pending x a))
 
 list-rows : (b : Bool) {ts us : OpenTrees} → Rows AnyTrees ts us → Rows (AnyField b) (list nothing_pending None no_additions ts) (list nothing_pending None no_additions us)
-list-rows b = rows-map (λ ts. list nothing_pending None no_additions ts) (λ ts us h n s e. list-step ts us h n s (is_target n.above) (is_program_list n.above) refl refl)
+list-rows b = rows-map (λ ts. list nothing_pending None no_additions ts) (λ ts us h n s e. list-taken ts us h n s (is_target n.above) (is_program_list n.above) refl refl)
 
 -- WHAT IS KNOWN of each node of a program that has form
 
-record HasForm (k : AstType) (l : Label) (fs : Fields) : Type 0 where
-  sort : Sort
-  form : NodeForm sort k l fs
+pub record HasForm (k : AstType) (l : Label) (fs : Fields) : Type 0 where
+  pub sort : Sort
+  pub form : NodeForm sort k l fs
 
-all-formed : (s : Sort) (t : Tree) → has_form s t ≡ true → All HasForm t
+pub all-formed : (s : Sort) (t : Tree) → has_form s t ≡ true → All HasForm t
 all-formed = all-tree HasForm (λ s k l fs f. record { sort = s; form = f })
 
 -- the bodies of arrows have form
@@ -140,15 +146,35 @@ arguments-shape l f (one t then fs) h = absurd (cc (and_parts (has_form s-Expres
 arguments-shape l f (statements ts then fs) h = absurd (cc (and_parts (has_form s-Expression f) _ h).1)
 arguments-shape l f done h = absurd (cc (and_parts (has_form s-Expression f) _ h).1)
 
--- NAMES of helpers
+-- IN FIELDS
 
-have-both : (c : Helper → Bound) (xs ys : List Helper) → HaveNames c (xs ++ ys) → HaveNames c xs × HaveNames c ys
-have-both c [] ys h = (tt, h)
-have-both c (x ∷ xs) ys h = let r = have-both c xs ys h.1 in ((h.0, r.0), r.1)
+in-first : (bodies : ℕ → Bool) {f g : OpenField} (fs : OpenFields) → Rows (AnyField (bodies zero)) f g → Rows (AnyFields bodies) (f and fs) (g and fs)
+in-first bodies fs = rows-map (λ f. f and fs) (λ x y h at s e. in_first (h (at zero) s (e zero)))
+
+in-later : (bodies : ℕ → Bool) (f : OpenField) {fs gs : OpenFields} → Rows (AnyFields (λ i. bodies (suc i))) fs gs → Rows (AnyFields bodies) (f and fs) (f and gs)
+in-later bodies f = rows-map (λ fs. f and fs) (λ x y h at s e. in_later (h (λ i. at (suc i)) s (λ i. e (suc i))))
+
+in-head : (ts : OpenTrees) {t u : Open} → Rows AnyStep t u → Rows AnyTrees (t next ts) (u next ts)
+in-head ts = rows-map (λ t. t next ts) (λ x y h n s. in_head (h n s))
+
+in-tail : (t : Open) {ts us : OpenTrees} → Rows AnyTrees ts us → Rows AnyTrees (t next ts) (t next us)
+in-tail t = rows-map (λ ts. t next ts) (λ x y h n s. in_tail (h n s))
+
+-- THE NODE ITSELF
+
+call-step : (l : Label) (f : Tree) (h : Helper) (b : Bound) → flag_at 0 l.flags ≡ false → helper_of f ≡ Some h → IsNamed b → (fs : Fields) → IsArguments fs → AnyStep (opened (node CallExpression l (one f then fs))) (opened (node CallExpression l (one (identifier b) then fs)))
+call-step l f h b mark it named _ (arguments ts) = λ n s. acts (node CallExpression l (one f then many ts then done)) (node CallExpression l (one (identifier b) then many ts then done)) (calls b mark it named)
+
+pass-step : (l : Label) (f t : Tree) (h : Helper) (b : Bound) → flag_at 0 l.flags ≡ false → helper_of f ≡ None → handed_on (helper_of t) ≡ Some h → IsNamed b → (fs : Fields) → IsArguments (many (t before empty) then fs) →
+    AnyStep (opened (node CallExpression l (one f then (many (t before empty) then fs)))) (opened (node CallExpression l (one f then (many (identifier b before empty) then fs))))
+pass-step l f t h b mark other it named _ (arguments _) = λ n s. acts (node CallExpression l (one f then many (t before empty) then done)) (node CallExpression l (one f then many (identifier b before empty) then done)) (passes b mark other it named)
+
+list-step : (l : Label) (f s ks : Tree) (b : Bound) → is_text_list ks ≡ true → IsNamed b → AnyStep (opened (node CallExpression l (one f then (many (s before (ks before empty)) then done)))) (opened (node CallExpression l (one f then (many (s before (identifier b before empty)) then done))))
+list-step l f s ks b texts named = λ n st. acts (node CallExpression l (one f then (many (s before (ks before empty)) then done))) (node CallExpression l (one f then (many (s before (identifier b before empty)) then done))) (lists b texts named)
 
 -- BODIES of arrows that are expressions
 
-module _ (w : Whole) where
+module _ (w : Whole) (P : Tree → Bound → Type 0) (named : (f : Tree) (b : Bound) → P f b → IsNamed b) where
   record Formed (t : Open) : Type 0 where
     form : has_form s-Expression (finished t) ≡ true
     proper : IsProper t
@@ -163,57 +189,45 @@ module _ (w : Whole) where
   body-rows none f = none
   body-rows (more {x = t} {y = u} h r) f = let g = formed-step t u h f in more (body-step t u h f g) (body-rows r g)
 
-  module _ (c : Helper → Bound) where
-    body-field : (t : Tree) → has_form s-ArrowFunctionBody t ≡ true → Rows AnyStep (opened t) (opened (now c t)) → Rows (AnyField true) (opened_field true (one t)) (opened_field true (one (now c t)))
-    body-field (node FunctionBody l fs) f r = child-rows true r
-    body-field (node k l fs) f r = body-rows r (record { form = subst (λ (x : Tree). has_form s-Expression x ≡ true) (sym (finished-opened (node k l fs))) (body-formed (node k l fs) f refl); proper = opened-proper (node k l fs) })
+  body-field : {t u : Tree} → Calls P t u → has_form s-ArrowFunctionBody t ≡ true → Rows AnyStep (opened t) (opened u) → Rows (AnyField true) (opened_field true (one t)) (opened_field true (one u))
+  body-field (becomes {k = FunctionBody} h) f r = child-rows true r
+  body-field (becomes {k = k} {l = l} {fs = fs} h) f r = body-rows r (record { form = subst (λ (x : Tree). has_form s-Expression x ≡ true) (sym (finished-opened (node k l fs))) (body-formed (node k l fs) f refl); proper = opened-proper (node k l fs) })
 
-    -- THE NODE ITSELF
+  mutual
+    tree-rows : {t u : Tree} → Calls P t u → All HasForm t → Rows AnyStep (opened t) (opened u)
+    tree-rows (becomes {k = k} {l = l} {fs = fs} (is_left h)) q = node-rows k l (fields-rows (is_body k) h q.1 (formed-bodies q.0.sort k l fs q.0.form))
+    tree-rows (becomes {l = l} (is_called {f = f} {fs = fs} {h = x} b p mark it h)) q =
+        more (call-step l f x b mark it (named f b p) fs (arguments-shape l f fs q.0.form.children))
+        (node-rows CallExpression l (in-later (is_body CallExpression) (child (opened (identifier b))) (fields-rows (λ i. is_body CallExpression (suc i)) h q.1.1 (no-bodies (λ i. is_body CallExpression (suc i)) fs (λ i. refl)))))
+    tree-rows (becomes {l = l} (is_passed {f = f} {g = g} {t = t} {fs = fs} {h = x} b p mark other it k h)) q =
+        let argument = children (opened_trees (identifier b before empty)) in
+        more (pass-step l f t x b mark other it (named t b p) fs (arguments-shape l f (many (t before empty) then fs) q.0.form.children))
+        (node-rows CallExpression l (rows-trans (in-first (is_body CallExpression) (argument and opened_fields (λ i. is_body CallExpression (suc (suc i))) fs) (child-rows false (tree-rows k q.1.0)))
+        (in-later (is_body CallExpression) (child (opened g)) (in-later (λ i. is_body CallExpression (suc i)) argument (fields-rows (λ i. is_body CallExpression (suc (suc i))) h q.1.1.1 (no-bodies (λ i. is_body CallExpression (suc (suc i))) fs (λ i. refl)))))))
+    tree-rows (becomes {l = l} (is_listed {f = f} {g = g} {s = s} {ks = ks} b p texts k m)) q =
+        let later = opened_trees (identifier b before empty) in
+        more (list-step l f s ks b texts (named ks b p))
+        (node-rows CallExpression l (rows-trans (in-first (is_body CallExpression) (children (opened s next later) and ends) (child-rows false (tree-rows k q.1.0)))
+        (in-later (is_body CallExpression) (child (opened g)) (in-first (λ i. is_body CallExpression (suc i)) ends (children-rows false (in-head later (tree-rows m q.1.1.0.0)))))))
 
-    use-rows : (s : Sort) (x : Helper) (k : AstType) (l : Label) (fs : Fields) → IsUse x k l fs → NodeForm s k l fs → HaveNames c (x ∷ []) → Rows AnyStep (opened (node k l (now_in c fs))) (opened (node k l (calling_here (named c) (Some x) (now_in c fs))))
-    use-rows s x _ l _ (a_call {f = f} {fs = fs} mark it) form have = subst (λ gs. Rows AnyStep (opened (node CallExpression l (now_in c (one f then fs)))) (opened (node CallExpression l gs))) (sym (here-called (named c) f fs x it)) (at fs (arguments-shape l f fs form.children))
-      where
-        at : (fs : Fields) → IsArguments fs → Rows AnyStep (opened (node CallExpression l (one (now c f) then now_in c fs))) (opened (node CallExpression l (one (named c x) then now_in c fs)))
-        at _ (arguments ts) = more (λ n s. acts (node CallExpression l (one (now c f) then many (now_among c ts) then done)) (node CallExpression l (one (named c x) then many (now_among c ts) then done)) (calls (c x) mark (helper-now (named c) f ∙ it) have.0)) none
-    use-rows s x _ l _ (a_pass {f = f} {t = t} {fs = fs} mark other it) form have = subst (λ gs. Rows AnyStep (opened (node CallExpression l (now_in c (one f then many (t before empty) then fs)))) (opened (node CallExpression l gs))) (sym (here-passed (named c) f t fs x other)) (at fs (arguments-shape l f (many (t before empty) then fs) form.children))
-      where
-        at : (fs : Fields) → IsArguments (many (t before empty) then fs) → Rows AnyStep (opened (node CallExpression l (one (now c f) then many (now c t before empty) then now_in c fs))) (opened (node CallExpression l (one (now c f) then many (named c x before empty) then now_in c fs)))
-        at _ (arguments _) = more (λ n s. acts (node CallExpression l (one (now c f) then many (now c t before empty) then done)) (node CallExpression l (one (now c f) then many (named c x before empty) then done)) (passes (c x) mark (helper-now (named c) f ∙ other) (ap (λ o. handed_on o) (helper-now (named c) t) ∙ it) have.0)) none
+    fields-rows : (bodies : ℕ → Bool) {fs gs : Fields} → CallsIn P fs gs → AllIn HasForm fs → FormedBodies bodies fs → Rows (AnyFields bodies) (opened_fields bodies fs) (opened_fields bodies gs)
+    fields-rows bodies no_field q f = none
+    fields-rows bodies (field_next {g = g} {fs = fs} k h) q f =
+        rows-trans (in-first bodies (opened_fields (λ i. bodies (suc i)) fs) (field-rows (bodies zero) k q.0 f.0)) (in-later bodies (opened_field (bodies zero) g) (fields-rows (λ i. bodies (suc i)) h q.1 f.1))
 
-    own-rows : (s : Sort) (k : AstType) (l : Label) (fs : Fields) (o : Option Helper) → used_helper k l fs ≡ o → NodeForm s k l fs → HaveNames c (own_helper o) → Rows AnyStep (opened (node k l (now_in c fs))) (opened (node k l (calling_here (named c) o (now_in c fs))))
-    own-rows s k l fs None e form have = none
-    own-rows s k l fs (Some x) e form have = use-rows s x k l fs (use-shape k l fs x e) form have
+    field-rows : (b : Bool) {f g : Field} → CallsBy P f g → AllBy HasForm f → FormedBody b f → Rows (AnyField b) (opened_field b f) (opened_field b g)
+    field-rows true at_none q f = none
+    field-rows false at_none q f = none
+    field-rows true (at_one k) q f = body-field k f (tree-rows k q)
+    field-rows false (at_one k) q f = child-rows false (tree-rows k q)
+    field-rows true (at_many k) q f = children-rows true (trees-rows k q)
+    field-rows false (at_many k) q f = children-rows false (trees-rows k q)
+    field-rows true (at_statements k) q f = list-rows true (trees-rows k q)
+    field-rows false (at_statements k) q f = list-rows false (trees-rows k q)
 
-    -- A TREE
-
-    mutual
-      tree-rows : (t : Tree) → All HasForm t → HaveNames c (helpers_in t) → Rows AnyStep (opened t) (opened (now c t))
-      tree-rows (node k l fs) q have =
-          let names = have-both c (helpers_in_fields fs) (own_helper (used_helper k l fs)) have in
-          rows-trans (node-rows k l (fields-rows (is_body k) fs q.1 (formed-bodies q.0.sort k l fs q.0.form) names.0)) (own-rows q.0.sort k l fs (used_helper k l fs) refl q.0.form names.1)
-
-      fields-rows : (bodies : ℕ → Bool) (fs : Fields) → AllIn HasForm fs → FormedBodies bodies fs → HaveNames c (helpers_in_fields fs) → Rows (AnyFields bodies) (opened_fields bodies fs) (opened_fields bodies (now_in c fs))
-      fields-rows bodies done q f have = none
-      fields-rows bodies (g then fs) q f have =
-          let names = have-both c (helpers_in_field g) (helpers_in_fields fs) have in
-          rows-trans (rows-map (λ h. h and opened_fields (λ i. bodies (suc i)) fs) (λ x y h at s e. in_first (h (at zero) s (e zero))) (field-rows (bodies zero) g q.0 f.0 names.0))
-          (rows-map (λ hs. opened_field (bodies zero) (now_by c g) and hs) (λ x y h at s e. in_later (h (λ i. at (suc i)) s (λ i. e (suc i)))) (fields-rows (λ i. bodies (suc i)) fs q.1 f.1 names.1))
-
-      field-rows : (b : Bool) (f : Field) → AllBy HasForm f → FormedBody b f → HaveNames c (helpers_in_field f) → Rows (AnyField b) (opened_field b f) (opened_field b (now_by c f))
-      field-rows true missing q f have = none
-      field-rows false missing q f have = none
-      field-rows true (one t) q f have = body-field t f (tree-rows t q have)
-      field-rows false (one t) q f have = child-rows false (tree-rows t q have)
-      field-rows true (many ts) q f have = children-rows true (trees-rows ts q have)
-      field-rows false (many ts) q f have = children-rows false (trees-rows ts q have)
-      field-rows true (statements ts) q f have = list-rows true (trees-rows ts q have)
-      field-rows false (statements ts) q f have = list-rows false (trees-rows ts q have)
-
-      trees-rows : (ts : Trees) → AllAmong HasForm ts → HaveNames c (helpers_among ts) → Rows AnyTrees (opened_trees ts) (opened_trees (now_among c ts))
-      trees-rows empty q have = none
-      trees-rows (t before ts) q have =
-          let names = have-both c (helpers_in t) (helpers_among ts) have in
-          rows-trans (rows-map (λ u. u next opened_trees ts) (λ x y h n s. in_head (h n s)) (tree-rows t q.0 names.0)) (rows-map (λ us. opened (now c t) next us) (λ x y h n s. in_tail (h n s)) (trees-rows ts q.1 names.1))
+    trees-rows : {ts us : Trees} → CallsAll P ts us → AllAmong HasForm ts → Rows AnyTrees (opened_trees ts) (opened_trees us)
+    trees-rows no_tree q = none
+    trees-rows (tree_next {u = u} {ts = ts} k h) q = rows-trans (in-head (opened_trees ts) (tree-rows k q.0)) (in-tail (opened u) (trees-rows h q.1))
 
   -- A PROGRAM
 
@@ -221,5 +235,5 @@ module _ (w : Whole) where
   to-steps none = stays
   to-steps (more h r) = goes (h the_program (nothing_beside w)) (to-steps r)
 
-  pub call-steps : (c : Helper → Bound) (p : Tree) → has_form s-Program p ≡ true → HaveNames c (helpers_in p) → Steps (Step CallRow the_program) (nothing_beside w) (opened p) (nothing_beside w) (opened (now c p))
-  call-steps c p f have = to-steps (tree-rows c p (all-formed s-Program p f) have)
+  pub call-steps : (p q : Tree) → Calls P p q → has_form s-Program p ≡ true → Steps (Step CallRow the_program) (nothing_beside w) (opened p) (nothing_beside w) (opened q)
+  call-steps p q h f = to-steps (tree-rows h (all-formed s-Program p f))

@@ -1,11 +1,11 @@
--- A program in which helpers are called by names has form, breaks no static rule, and is the same to other modules.
+-- A program in which parts of calls give way to names that aren't empty has form, breaks no static rule, and is the same to other modules.
 use Rattle.std.proofs.Common.{◌≡◌, ◌∙◌, refl, sym, ap, subst, List, []}
 use Rattle.std.specs.Prelude.{true, false}
 use Rattle.es_tree.specs.Ancestors.{visits}
 use Rattle.es_tree.specs.HasForm.{has_form}
+use Rattle.es_tree.specs.StaticRules.{breaks}
 use Rattle.es_tree.specs.Tree.{Tree}
 use Rattle.es_tree.specs.Words.{Text}
-use Rattle.es_tree.specs.declared.helper.Helper.{Helper}
 use Rattle.es_tree.specs.declared.table.Sort.TheVariants.{Program as s-Program}
 use Rattle.es_resolution.specs.Declarations.{Bound}
 use Rattle.es_steps.specs.Laws.{IsWellBound, nothing_beside}
@@ -32,9 +32,10 @@ use Rattle.es_valid_names.proofs.ExportTexts.{lists}
 use Rattle.es_valid_names.proofs.NameSteps.{Good, around, clear-breaks, clear-exports, one-step, start-clear}
 use Rattle.es_valid_names.proofs.StartUsed.{start-used}
 use Rattle.es_helper_calls.specs.CallRows.{CallRow}
-use Rattle.es_helper_calls.specs.HelperCalls.{helpers_in}
-use Rattle.es_helper_calls.specs.Laws.{HaveNames, LawCallsKept}
-use Rattle.es_helper_calls.proofs.CallNodes.{now}
+use Rattle.es_helper_calls.specs.HelperCalls.{calling}
+use Rattle.es_helper_calls.specs.Laws.{IsKept, IsNamed, LawCallsKept}
+use Rattle.es_helper_calls.proofs.CalledTrees.{Calls}
+use Rattle.es_helper_calls.proofs.CallingTrees.{calls-named, named_by}
 use Rattle.es_helper_calls.proofs.CallPlaces.{places-kept}
 use Rattle.es_helper_calls.proofs.CallRules.{call-form, call-names, call-quiet}
 use Rattle.es_helper_calls.proofs.CallSteps.{call-steps}
@@ -59,26 +60,23 @@ good-in-a-row : {s s' : Ledger} {t u : Open} → Row s t s' u → Good s t → G
 good-in-a-row stays g = g
 good-in-a-row (goes h rest) g = good-in-a-row rest (one-step CallRow call-form call-names h g)
 
-module _ (p : Tree) (w : Whole) (c : Helper → Bound) (formed : has_form s-Program p ≡ true) (have : HaveNames c (helpers_in p)) where
-  abbrev after : Tree
-  after = now c p
-
-  row : Row (nothing_beside w) (opened p) (nothing_beside w) (opened after)
-  row = call-steps w c p formed have
+module _ (P : Tree → Bound → Type 0) (named : (f : Tree) (b : Bound) → P f b → IsNamed b) (p q : Tree) (w : Whole) (calls : Calls P p q) (formed : has_form s-Program p ≡ true) where
+  row : Row (nothing_beside w) (opened p) (nothing_beside w) (opened q)
+  row = call-steps w P named p q calls formed
 
   opened-formed : has_form s-Program (finished (opened p)) ≡ true
   opened-formed = subst (λ (y : Tree). has_form s-Program y ≡ true) (sym (finished-opened p)) formed
 
-  formed-now : has_form s-Program after ≡ true
-  formed-now = subst (λ (y : Tree). has_form s-Program y ≡ true) (finished-opened after) (steps-keep-form CallRow call-form p w w (opened after) formed row)
+  formed-now : has_form s-Program q ≡ true
+  formed-now = subst (λ (y : Tree). has_form s-Program y ≡ true) (finished-opened q) (steps-keep-form CallRow call-form p w w (opened q) formed row)
 
-  read-same : (read : Tree → List Text) → IsReading read → Read read after ≡ Read read p
-  read-same read r = sym (ap (λ t. Read read t) (finished-opened after)) ∙ read-in-a-row read r row (opened-proper p) opened-formed ∙ ap (λ t. Read read t) (finished-opened p)
+  read-same : (read : Tree → List Text) → IsReading read → Read read q ≡ Read read p
+  read-same read r = sym (ap (λ t. Read read t) (finished-opened q)) ∙ read-in-a-row read r row (opened-proper p) opened-formed ∙ ap (λ t. Read read t) (finished-opened p)
 
-  outside-same : SameOutside p after
+  outside-same : SameOutside p q
   outside-same = record { requests = read-same request request-reading; stars = read-same star_request star-reading; exports = read-same exported exported-reading }
 
-  good-now : declared_breaks p ≡ [] → IsWellBound w p → Good (nothing_beside w) (opened after)
+  good-now : declared_breaks p ≡ [] → IsWellBound w p → Good (nothing_beside w) (opened q)
   good-now declared bound =
       good-in-a-row row (record {
         proper = opened-proper p;
@@ -86,21 +84,22 @@ module _ (p : Tree) (w : Whole) (c : Helper → Bound) (formed : has_form s-Prog
         clear = subst (λ (y : Tree). Clear (around w.in_use y) elsewhere y) (sym (finished-opened p)) (start-clear w.in_use p formed declared (start-used w.in_use w.free_symbol p formed bound.named));
       })
 
-  exports-same : place_breaks p ≡ [] → place_breaks after ≡ [] → exported_in (visits [] 0 after) ≡ exported_in (visits [] 0 p)
-  exports-same before_it kept = program-exports after formed-now ((law_places_proof after).to_places kept) ∙ ap (λ xs. lists xs) outside-same.exports ∙ sym (program-exports p formed ((law_places_proof p).to_places before_it))
+  exports-same : place_breaks p ≡ [] → place_breaks q ≡ [] → exported_in (visits [] 0 q) ≡ exported_in (visits [] 0 p)
+  exports-same before_it kept = program-exports q formed-now ((law_places_proof q).to_places kept) ∙ ap (λ xs. lists xs) outside-same.exports ∙ sym (program-exports p formed ((law_places_proof p).to_places before_it))
+
+  pub calls-kept : breaks p ≡ [] → IsWellBound w p → IsKept p q
+  calls-kept e bound =
+      let declared = law_declared_among_proof p e in
+      let places = law_among_proof p e in
+      let kept = places-kept P p q calls formed places in
+      let clear = subst (λ (y : Tree). Clear (around w.in_use y) elsewhere y) (finished-opened q) (good-now declared bound).clear in
+      let once : name_breaks q ≡ [] = clear-breaks w.in_use q formed-now clear in
+      let exports : keeps_exports q ≡ true = clear-exports w.in_use q formed-now clear in
+      record {
+        form = formed-now;
+        kept = law_together_proof q kept (same-exports p q declared (exports-same places kept) once exports);
+        outside = outside-same;
+      }
 
 pub law_calls_kept_proof : LawCallsKept
-law_calls_kept_proof p w c f e bound have =
-    let after : Tree = now c p in
-    let declared = law_declared_among_proof p e in
-    let places = law_among_proof p e in
-    let kept = places-kept c p f places in
-    let formed = formed-now p w c f have in
-    let clear = subst (λ (y : Tree). Clear (around w.in_use y) elsewhere y) (finished-opened after) (good-now p w c f have declared bound).clear in
-    let once : name_breaks after ≡ [] = clear-breaks w.in_use after formed clear in
-    let exports : keeps_exports after ≡ true = clear-exports w.in_use after formed clear in
-    record {
-      form = formed;
-      kept = law_together_proof after kept (same-exports p after declared (exports-same p w c f have places kept) once exports);
-      outside = outside-same p w c f have;
-    }
+law_calls_kept_proof p w c f e bound have = calls-kept (λ g b. IsNamed b) (λ g b h. h) p (calling (named_by c) p) w (calls-named IsNamed c p have) f e bound

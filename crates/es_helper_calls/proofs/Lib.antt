@@ -1,4 +1,7 @@
 pub mod Callees
+pub mod TextLists
+pub mod CalledTrees
+pub mod CallingTrees
 pub mod CallNodes
 pub mod CallHere
 pub mod CallPlaces

@@ -18,11 +18,15 @@ pub record IsKept (p q : Tree) : Type 0 where
   pub kept : breaks q ≡ []
   pub outside : SameOutside p q
 
--- each of these helpers has a name that isn't empty
-abbrev pub HaveNames : (Helper → Bound) → List Helper → Type 0
-HaveNames c [] = Unit {0}
-HaveNames c (h ∷ hs) = ((length (c h).name == 0) ≡ false) × HaveNames c hs
+-- a name that isn't empty
+abbrev pub IsNamed : Bound → Type 0
+IsNamed b = (length b.name == 0) ≡ false
+
+-- each of these helpers has a name of this kind
+abbrev pub HaveNames : (Bound → Type 0) → (Helper → Bound) → List Helper → Type 0
+HaveNames P c [] = Unit {0}
+HaveNames P c (h ∷ hs) = P (c h) × HaveNames P c hs
 
 -- So it is of a program that has form, breaks no static rule, and whose names are bound and in use, where each helper that it uses has a name.
 abbrev pub LawCallsKept : Type 0
-LawCallsKept = (p : Tree) (w : Whole) (c : Helper → Bound) → has_form s-Program p ≡ true → breaks p ≡ [] → IsWellBound w p → HaveNames c (helpers_in p) → IsKept p (calling (λ h. identifier (c h)) p)
+LawCallsKept = (p : Tree) (w : Whole) (c : Helper → Bound) → has_form s-Program p ≡ true → breaks p ≡ [] → IsWellBound w p → HaveNames IsNamed c (helpers_in p) → IsKept p (calling (λ h. identifier (c h)) p)

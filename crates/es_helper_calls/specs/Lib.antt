@@ -1,4 +1,5 @@
 pub mod HelperCalls
+pub mod TextLists
 pub mod CallRows
 pub mod Importing
 pub mod Laws

@@ -17,7 +17,7 @@ bare-name : (x : Text) (o : Tree) → is_called x (bare o) ≡ is_called x o
 bare-name x (node Identifier l fs) = refl
 bare-name x (node _ l fs) = refl
 
-bare-helper : (t : Tree) → helper_of (bare t) ≡ helper_of t
+pub bare-helper : (t : Tree) → helper_of (bare t) ≡ helper_of t
 bare-helper (node MemberExpression l (one o then (one (node Identifier m fs) then done))) = λ i. if is_dotted l && bare-name (codes "babelHelpers") o i then named_helper (first_text m.texts) else None
 bare-helper _ = refl
 

@@ -6,18 +6,13 @@ use Rattle.std.proofs.lemmas.Bool.{or_right}
 use Rattle.es_tree.specs.Bare.{bare}
 use Rattle.es_tree.specs.Fresh.{also}
 use Rattle.es_tree.specs.Helpers.{helper_text}
-use Rattle.es_tree.specs.Tree.{Tree}
 use Rattle.es_tree.specs.Words.{Text}
 use Rattle.es_tree.specs.declared.helper.Helper.{Helper}
 use Rattle.es_resolution.specs.Declarations.{Bound}
 use Rattle.es_resolution.proofs.Basics.{Each, bytes_eq-self}
 use Rattle.es_steps.specs.Nodes.{identifier}
-use Rattle.es_steps.specs.Steps.{Whole}
-use Rattle.es_steps.proofs.FormParts.{IsText}
 use Rattle.es_helper_calls.specs.HelperCalls.{bound_of, is_helper, noted}
 use Rattle.es_helper_calls.specs.Laws.{HaveNames}
-use Rattle.es_helper_names.specs.CallNames.{AreTopNames, IsTopName}
-use Rattle.es_helper_names.proofs.CallingTrees.{Hold}
 use Rattle.es_helper_imports.specs.Imported.{AreFresh, marked_from, unmarked}
 
 -- whether a helper is among these
@@ -70,23 +65,13 @@ module _ (P : Bound → Type 0) where
       at true rest d = all.0
       at false rest d = rest d
 
-  holds-from : (c : Helper → Bound) (known hs : List Helper) → ((h : Helper) → is_noted (noted known hs) h ≡ true → P (c h)) → Hold P c hs
+  holds-from : (c : Helper → Bound) (known hs : List Helper) → ((h : Helper) → is_noted (noted known hs) h ≡ true → P (c h)) → HaveNames P c hs
   holds-from c known [] named = tt
   holds-from c known (h ∷ hs) named = (named h (noted-old hs (noting known h) h (noting-it known h)), holds-from c (noting known h) hs named)
 
   -- so each that a program uses has one
-  pub names-hold : (u : Text → Bool) (hs : List Helper) (names : List Text) (n : ℕ) → AreFresh u (noted [] hs) names → Each P (marked_from n names) → Hold P (bound_of (noted [] hs) (marked_from n names)) hs
+  pub names-hold : (u : Text → Bool) (hs : List Helper) (names : List Text) (n : ℕ) → AreFresh u (noted [] hs) names → Each P (marked_from n names) → HaveNames P (bound_of (noted [] hs) (marked_from n names)) hs
   names-hold u hs names n fresh all = holds-from (bound_of (noted [] hs) (marked_from n names)) [] hs (name-holds u (noted [] hs) names n fresh all)
-
--- AS THE LAWS ASK
-
-pub have-names : (c : Helper → Bound) (hs : List Helper) → Hold IsText c hs → HaveNames c hs
-have-names c [] h = tt
-have-names c (g ∷ gs) h = (h.0, have-names c gs h.1)
-
-pub have-top-names : (w w' : Whole) (t : Tree) (c : Helper → Bound) (hs : List Helper) → Hold (IsTopName w w' t) c hs → AreTopNames w w' t c hs
-have-top-names w w' t c [] h = tt
-have-top-names w w' t c (g ∷ gs) h = (h.0, have-top-names w w' t c gs h.1)
 
 -- WITHOUT MARKS it is the same name
 

@@ -1,9 +1,9 @@
 -- Fresh names one after the other, with the next symbols: they are new, and found under their names.
-use Rattle.std.proofs.Common.{◌≡◌, ◌≤◌, ◌<◌, ◌∙◌, ℕ, suc, refl, sym, ap, List, [], ◌∷◌, ◌++◌, append_assoc, arith}
+use Rattle.std.proofs.Common.{◌≡◌, ◌==◌, ◌≤◌, ◌<◌, ◌∙◌, ℕ, suc, refl, sym, ap, length, List, [], ◌∷◌, ◌++◌, append_assoc, arith}
 use Rattle.std.specs.Prelude.{Bool, false, Some, map, if◌then◌else◌}
 use Rattle.std.proofs.lemmas.Bool.{eq-eqb, ne_eqb, or_parts}
 use Rattle.std.proofs.lemmas.List.{append-nil, map-append}
-use Rattle.es_tree.specs.Fresh.{also, text_base}
+use Rattle.es_tree.specs.Fresh.{IsFreshName, also, text_base}
 use Rattle.es_tree.specs.Helpers.{helper_text}
 use Rattle.es_tree.specs.Tree.{Tree}
 use Rattle.es_tree.specs.Words.{Text}
@@ -33,20 +33,29 @@ sources-are m u (g ∷ gs) (x ∷ xs) n h = ap (λ ts. helper_source m g ∷ ts)
 sources-are m u [] (x ∷ xs) n h = absurd h
 sources-are m u (g ∷ gs) [] n h = absurd h
 
--- NEW NAMES
+-- NEW NAMES: none is in use, nor empty, and each is in use after it
 
-module _ (w : Whole) where
-  pub are-texts : (u : Text → Bool) (hs : List Helper) (names : List Text) (n : ℕ) → AreFresh u hs names → Each IsText (marked_from n names)
-  are-texts u [] [] n h = tt
-  are-texts u (g ∷ gs) (x ∷ xs) n h = (next-text (record w { in_use = u; free_symbol = n }) (text_base (helper_text g)) (record { name = x; symbol = Some n }) (record { fresh = h.0; symbol = refl }), are-texts (also x u) gs xs (suc n) h.1)
-  are-texts u [] (x ∷ xs) n h = absurd h
-  are-texts u (g ∷ gs) [] n h = absurd h
+abbrev pub AreFree : (Text → Bool) → List Text → Type 0
+AreFree u [] = Unit {0}
+AreFree u (x ∷ xs) = (u x ≡ false) × ((length x == 0) ≡ false) × AreFree (also x u) xs
 
-pub are-new : (u : Text → Bool) (hs : List Helper) (names : List Text) (n : ℕ) → AreFresh u hs names → Each IsText (marked_from n names) → AreNew u n (marked_from n names)
-are-new u [] [] n h texts = tt
-are-new u (g ∷ gs) (x ∷ xs) n h texts = (h.0.free, texts.0, refl, are-new (also x u) gs xs (suc n) h.1 texts.1)
-are-new u [] (x ∷ xs) n h texts = absurd h
-are-new u (g ∷ gs) [] n h texts = absurd h
+-- a fresh name isn't empty
+pub fresh-text : (w : Whole) (u : Text → Bool) (base x : Text) → IsFreshName u base x → (length x == 0) ≡ false
+fresh-text w u base x h = next-text (record w { in_use = u }) base (record { name = x; symbol = Some w.free_symbol }) (record { fresh = h; symbol = refl })
+
+pub are-free : (w : Whole) (u : Text → Bool) (hs : List Helper) (names : List Text) → AreFresh u hs names → AreFree u names
+are-free w u [] [] h = tt
+are-free w u (g ∷ gs) (x ∷ xs) h = (h.0.free, fresh-text w u (text_base (helper_text g)) x h.0, are-free w (also x u) gs xs h.1)
+are-free w u [] (x ∷ xs) h = absurd h
+are-free w u (g ∷ gs) [] h = absurd h
+
+pub are-texts : (u : Text → Bool) (names : List Text) (n : ℕ) → AreFree u names → Each IsText (marked_from n names)
+are-texts u [] n h = tt
+are-texts u (x ∷ xs) n h = (h.1, are-texts (also x u) xs (suc n) h.2)
+
+pub are-new : (u : Text → Bool) (names : List Text) (n : ℕ) → AreFree u names → AreNew u n (marked_from n names)
+are-new u [] n h = tt
+are-new u (x ∷ xs) n h = (h.0, h.1, refl, are-new (also x u) xs (suc n) h.2)
 
 -- the names that are made then
 pub made-names : (names : List Text) (n : ℕ) (w : Whole) → names_among (with_each (marked_from n names) w).made ≡ names_among w.made ++ names
@@ -64,20 +73,18 @@ called-before (x ∷ xs) n w s h = called-before xs (suc n) (with_made (record {
 
 module _ (w w' : Whole) (t : Tree) where
   -- each of them is a name of the program's top
-  pub are-top-names : (hs : List Helper) (names : List Text) (n : ℕ) (v : Whole) → ((y : Text) → v.in_use y ≡ false → w.in_use y ≡ false) → w.free_symbol ≤ n → with_each (marked_from n names) v ≡ w' → AreFresh v.in_use hs names → AreFound t (marked_from n names) → Each (IsTopName w w' t) (marked_from n names)
-  are-top-names [] [] n v less low e h found = tt
-  are-top-names (g ∷ gs) (x ∷ xs) n v less low e h found =
+  pub are-top-names : (names : List Text) (n : ℕ) (v : Whole) → ((y : Text) → v.in_use y ≡ false → w.in_use y ≡ false) → w.free_symbol ≤ n → with_each (marked_from n names) v ≡ w' → AreFree v.in_use names → AreFound t (marked_from n names) → Each (IsTopName w w' t) (marked_from n names)
+  are-top-names [] n v less low e h found = tt
+  are-top-names (x ∷ xs) n v less low e h found =
       let b : Bound = record { name = x; symbol = Some n } in
       let next : Whole = with_made (b ∷ []) v in (
         record {
-          free = less x h.0.free;
+          free = less x h.0;
           number = n;
           symbol = refl;
           new = low;
           called = ap (λ (z : Whole). z.called n) (sym e) ∙ called-before xs (suc n) next n (omega arith) ∙ (λ i. if eq-eqb n n refl i then x else v.called n);
           found = found.0;
         },
-        are-top-names gs xs (suc n) next (λ y k. less y (or_parts _ _ k).0) (omega arith) e h.1 found.1,
+        are-top-names xs (suc n) next (λ y k. less y (or_parts _ _ k).0) (omega arith) e h.2 found.1,
       )
-  are-top-names [] (x ∷ xs) n v less low e h found = absurd h
-  are-top-names (g ∷ gs) [] n v less low e h found = absurd h

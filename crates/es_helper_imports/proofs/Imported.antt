@@ -23,12 +23,14 @@ use Rattle.es_module_names.specs.Laws.{SameOutside}
 use Rattle.es_module_names.proofs.BareNames.{law_outside_bare_proof}
 use Rattle.es_reached.proofs.Results.{form-same, outside-then, rules-bare, source-form, source-well-bound}
 use Rattle.es_reached.proofs.Sources.{law_bare_source_proof}
-use Rattle.es_helper_calls.specs.HelperCalls.{bound_of, calling, helpers_among, helpers_called, helpers_in}
+use Rattle.es_helper_calls.specs.HelperCalls.{bound_of, calling, helpers_called, helpers_in}
 use Rattle.es_helper_calls.specs.Importing.{is_module}
 use Rattle.es_helper_calls.specs.Laws.{HaveNames}
-use Rattle.es_helper_calls.proofs.CallsKept.{law_calls_kept_proof}
-use Rattle.es_helper_names.specs.CallNames.{AreTopNames, IsTopName}
-use Rattle.es_helper_names.proofs.CallNames.{law_call_names_proof}
+use Rattle.es_helper_calls.proofs.CalledTrees.{Calls}
+use Rattle.es_helper_calls.proofs.CallingTrees.{calls-named}
+use Rattle.es_helper_calls.proofs.CallsKept.{calls-kept}
+use Rattle.es_helper_names.specs.CallNames.{IsTopName}
+use Rattle.es_helper_names.proofs.CallNames.{calls-top, law_call_names_proof}
 use Rattle.es_top_imports.specs.Laws.{AreFound, AreNew, AsksMore, ImportsMore, list_place, locals, sources_of, with_each}
 use Rattle.es_top_imports.specs.TopImports.{Import, top_of, with_top}
 use Rattle.es_top_imports.proofs.ImportsMore.{law_imports_more_proof}
@@ -36,9 +38,9 @@ use Rattle.es_top_imports.proofs.TopForms.{program-is}
 use Rattle.es_helper_imports.specs.Imported.{ImportsTo, helper_source, imports_of, marked_from, unmarked}
 use Rattle.es_helper_imports.specs.Laws.{IsImported, LawImported}
 use Rattle.es_helper_imports.proofs.BareCalls.{bare-calling, bare-helpers}
-use Rattle.es_helper_imports.proofs.CalledHelpers.{have-names, have-top-names, names-hold, unmarked-name}
-use Rattle.es_helper_imports.proofs.FreshNames.{are-new, are-texts, are-top-names, locals-are, made-names, sources-are}
-use Rattle.es_helper_imports.proofs.TopCalls.{bare-top, calling-top, helpers-top, top-quiet}
+use Rattle.es_helper_imports.proofs.CalledHelpers.{names-hold, unmarked-name}
+use Rattle.es_helper_imports.proofs.FreshNames.{AreFree, are-free, are-new, are-texts, are-top-names, locals-are, made-names, sources-are}
+use Rattle.es_helper_imports.proofs.BareTops.{bare-top}
 
 -- THE SOURCE of a program is a module where the program is one
 
@@ -102,8 +104,11 @@ module _ (m : Text) (p q : Tree) (names : List Text) (form : has_form s-Program 
   abbrev name_of : Helper → Bound
   name_of g = bound_of called (marked_from first.free_symbol names) g
 
+  abbrev calling_so : Tree
+  calling_so = calling (λ g. identifier (name_of g)) seen_source
+
   abbrev after : Tree
-  after = calling (λ g. identifier (name_of g)) top
+  after = with_top news calling_so
 
   same : bare seen_source ≡ bare p
   same = law_bare_source_proof p
@@ -117,32 +122,23 @@ module _ (m : Text) (p q : Tree) (names : List Text) (form : has_form s-Program 
   local-names : locals imported ≡ marked_from first.free_symbol names
   local-names = locals-are m first.in_use called names first.free_symbol h.fresh
 
-  texts : Each IsText (marked_from first.free_symbol names)
-  texts = are-texts first first.in_use called names first.free_symbol h.fresh
+  free : AreFree first.in_use names
+  free = are-free first first.in_use called names h.fresh
 
   new : AreNew first.in_use first.free_symbol (locals imported)
-  new = subst (λ (bs : List Bound). AreNew first.in_use first.free_symbol bs) (sym local-names) (are-new first.in_use called names first.free_symbol h.fresh texts)
+  new = subst (λ (bs : List Bound). AreNew first.in_use first.free_symbol bs) (sym local-names) (are-new first.in_use names first.free_symbol free)
 
   more : ImportsMore (is_module p) imported first seen_source top
   more = law_imports_more_proof (is_module p) imported first seen_source (module-text p seen_source same) form-there (rules-bare p seen_source (sym same) right) bound-there new (λ e. (require e, or_right (is_among (names_of p) (codes "require")) true refl))
 
-  quiet : helpers_among news ≡ []
-  quiet = top-quiet (is_module p) imported
-
-  same-helpers : helpers_in seen_source ≡ helpers_in p
-  same-helpers = sym (bare-helpers seen_source) ∙ ap (λ t. helpers_in t) same ∙ bare-helpers p
-
-  top-helpers : helpers_in top ≡ helpers_in p
-  top-helpers = helpers-top news seen_source quiet (program-is seen_source form-there) ∙ same-helpers
+  same-helpers : helpers_in p ≡ helpers_in seen_source
+  same-helpers = sym (bare-helpers p) ∙ ap (λ t. helpers_in t) (sym same) ∙ bare-helpers seen_source
 
   top-names : Each (IsTopName first last top) (marked_from first.free_symbol names)
-  top-names = are-top-names first last top called names first.free_symbol first (λ y e. e) (omega arith) (ap (λ bs. with_each bs first) (sym local-names)) h.fresh (subst (λ (bs : List Bound). AreFound top bs) local-names more.found)
+  top-names = are-top-names first last top names first.free_symbol first (λ y e. e) (omega arith) (ap (λ bs. with_each bs first) (sym local-names)) free (subst (λ (bs : List Bound). AreFound top bs) local-names more.found)
 
-  tops : AreTopNames first last top name_of (helpers_in seen_source)
-  tops = subst (λ (gs : List Helper). AreTopNames first last top name_of gs) (sym same-helpers) (have-top-names first last top name_of (helpers_in p) (names-hold (IsTopName first last top) first.in_use (helpers_in p) names first.free_symbol h.fresh top-names))
-
-  have : HaveNames name_of (helpers_in top)
-  have = subst (λ (gs : List Helper). HaveNames name_of gs) (sym top-helpers) (have-names name_of (helpers_in p) (names-hold IsText first.in_use (helpers_in p) names first.free_symbol h.fresh texts))
+  have : (P : Bound → Type 0) → Each P (marked_from first.free_symbol names) → HaveNames P name_of (helpers_in seen_source)
+  have P each = subst (λ (gs : List Helper). HaveNames P name_of gs) same-helpers (names-hold P first.in_use (helpers_in p) names first.free_symbol h.fresh each)
 
   written : bare after ≡ bare q
   written =
@@ -150,7 +146,7 @@ module _ (m : Text) (p q : Tree) (names : List Text) (form : has_form s-Program 
       let d : Helper → Tree = λ g. identifier (bound_of called (unmarked names) g) in
       let other : Trees = trees (map (top_of (is_module p)) (imports_of m called (unmarked names))) in
       let callees : ◌≡◌ {A = Helper → Tree} (λ g. bare (c g)) (λ g. bare (d g)) = λ i g. unmarked-name called names first.free_symbol g i in
-      ap (λ t. bare t) (calling-top c news seen_source quiet (program-is seen_source form-there)) ∙ bare-top news (calling c seen_source) ∙ ap (λ t. with_top (bare_trees news) t) (bare-calling c seen_source) ∙
+      bare-top news calling_so ∙ ap (λ t. with_top (bare_trees news) t) (bare-calling c seen_source) ∙
       (λ i. with_top (bare-news m (is_module p) called names first.free_symbol i) (calling (callees i) (same i))) ∙
       ap (λ t. with_top (bare_trees other) t) (sym (bare-calling d p)) ∙ sym (bare-top other (calling d p)) ∙ sym h.written
 
@@ -159,8 +155,10 @@ module _ (m : Text) (p q : Tree) (names : List Text) (form : has_form s-Program 
 
   imports : IsImported m p q names
   imports =
-      let kept = law_calls_kept_proof top last name_of more.form more.kept more.bound have in
-      let known = law_call_names_proof seen_source first last news name_of form-there bound-there more.bound more.bindings quiet tops in
+      let texts = have IsText (are-texts first.in_use names first.free_symbol free) in
+      let called_so : Calls (λ f b. IsText b) top after = calls-top (λ f b. IsText b) news (program-is seen_source form-there) (calls-named IsText name_of seen_source texts) in
+      let kept = calls-kept (λ f b. IsText b) (λ f b e. e) top after last called_so more.form more.kept more.bound in
+      let known = law_call_names_proof seen_source first last news name_of form-there bound-there more.bound more.bindings (have (IsTopName first last top) top-names) in
       record {
         resolved = after;
         written = written;

@@ -1,5 +1,8 @@
 pub mod BareCalls
-pub mod TopCalls
+pub mod BareConstructs
+pub mod DeclaredSymbols
+pub mod BareLists
+pub mod BareTops
 pub mod FreshNames
 pub mod CalledHelpers
 pub mod Imported

@@ -18,43 +18,45 @@ use Rattle.es_resolution.proofs.Basics.{bytes_eq-self}
 use Rattle.es_runs.proofs.Weights.{tree_size-bare}
 use Rattle.es_steps.specs.Nodes.{joined_trees}
 use Rattle.es_steps.specs.Open.{after_imports, is_import}
-use Rattle.es_helper_calls.specs.HelperCalls.{bound_of, calling_here, handed_on, helper_of, helpers_among, helpers_called, helpers_in, helpers_in_field, helpers_in_fields, is_called, is_dotted, is_helper, made_helpers, named_helper, noted, own_helper, passed_helper, used_helper}
+use Rattle.es_helper_calls.specs.HelperCalls.{bound_of, calling, handed_on, helper_of, helpers_among, helpers_called, helpers_in, helpers_in_field, helpers_in_fields, is_called, is_dotted, is_helper, made_helpers, named_helper, noted, own_helper, passed_helper, used_helper}
 use Rattle.es_helper_calls.specs.Importing.{is_module}
-use Rattle.es_helper_calls.proofs.CallNodes.{named, now, now_among, now_by, now_in}
-use Rattle.es_helper_calls.proofs.Callees.{IsUse, here-called, here-passed, use-shape}
-use Rattle.es_helper_calls.proofs.Callees.IsUse.{a_call, a_pass}
+use Rattle.es_helper_calls.proofs.CalledTrees.{Calls, CallsAll, CallsBy, CallsHere, CallsIn}
+use Rattle.es_helper_calls.proofs.CalledTrees.Calls.{becomes}
+use Rattle.es_helper_calls.proofs.CalledTrees.CallsAll.{next, none}
+use Rattle.es_helper_calls.proofs.CalledTrees.CallsBy.{at_many, at_none, at_one, at_statements}
+use Rattle.es_helper_calls.proofs.CalledTrees.CallsHere.{calls, lists, passes, stays}
+use Rattle.es_helper_calls.proofs.CalledTrees.CallsIn.{ends, goes}
+use Rattle.es_helper_calls.proofs.CallingTrees.{AnyWay, calls-anyhow, named_by}
 use Rattle.es_top_imports.specs.TopImports.{Import, top_of, with_top}
 use Rattle.es_helper_imports.specs.Imported.{imported_as, imports_of, unmarked}
 use Rattle.es_helper_imports.specs.Laws.{LawImportedSize}
 
--- WHERE HELPERS ARE CALLED BY NAMES a tree has no more nodes
+-- WHERE PARTS OF CALLS GIVE WAY TO NAMES a tree has no more nodes
 
-module _ (c : Helper → Bound) where
-  size-used : (h : Helper) (k : AstType) (l : Label) (fs : Fields) → IsUse h k l fs → fields_size (calling_here (named c) (Some h) (now_in c fs)) ≤ fields_size (now_in c fs)
-  size-used h k l _ (a_call {f = node j m gs} {fs = fs} mark e) = rw (here-called (named c) (node j m gs) fs h e) (omega arith)
-  size-used h k l _ (a_pass {f = f} {t = node j m gs} {fs = fs} mark e d) = rw (here-passed (named c) f (node j m gs) fs h e) (omega arith)
-
-  size-here : (h : Option Helper) (k : AstType) (l : Label) (fs : Fields) → used_helper k l fs ≡ h → fields_size (calling_here (named c) h (now_in c fs)) ≤ fields_size (now_in c fs)
-  size-here None k l fs e = omega arith
-  size-here (Some h) k l fs e = size-used h k l fs (use-shape k l fs h e)
-
+module _ (P : Tree → Bound → Type 0) where
   mutual
-    size-now : (t : Tree) → tree_size (now c t) ≤ tree_size t
-    size-now (node k l fs) = let here = size-here (used_helper k l fs) k l fs refl in let inner = size-now-in fs in omega arith
+    size-now : {t u : Tree} → Calls P t u → tree_size u ≤ tree_size t
+    size-now (becomes h) = let inner = size-here h in omega arith
 
-    size-now-in : (fs : Fields) → fields_size (now_in c fs) ≤ fields_size fs
-    size-now-in done = omega arith
-    size-now-in (f then fs) = let first = size-now-by f in let rest = size-now-in fs in omega arith
+    size-here : {k : AstType} {l : Label} {fs gs : Fields} → CallsHere P k l fs gs → fields_size gs ≤ fields_size fs
+    size-here (stays h) = size-in h
+    size-here (calls {f = node j m hs} b p mark it h) = let rest = size-in h in omega arith
+    size-here (passes {t = node j m hs} b p mark other it k h) = let first = size-now k in let rest = size-in h in omega arith
+    size-here (lists {ks = node j m hs} b p texts k h) = let first = size-now k in let second = size-now h in omega arith
 
-    size-now-by : (f : Field) → field_size (now_by c f) ≤ field_size f
-    size-now-by missing = omega arith
-    size-now-by (one t) = size-now t
-    size-now-by (many ts) = size-now-among ts
-    size-now-by (statements ts) = size-now-among ts
+    size-in : {fs gs : Fields} → CallsIn P fs gs → fields_size gs ≤ fields_size fs
+    size-in ends = omega arith
+    size-in (goes k h) = let first = size-by k in let rest = size-in h in omega arith
 
-    size-now-among : (ts : Trees) → trees_size (now_among c ts) ≤ trees_size ts
-    size-now-among empty = omega arith
-    size-now-among (t before ts) = let first = size-now t in let rest = size-now-among ts in omega arith
+    size-by : {f g : Field} → CallsBy P f g → field_size g ≤ field_size f
+    size-by at_none = omega arith
+    size-by (at_one h) = size-now h
+    size-by (at_many h) = size-all h
+    size-by (at_statements h) = size-all h
+
+    size-all : {ts us : Trees} → CallsAll P ts us → trees_size us ≤ trees_size ts
+    size-all none = omega arith
+    size-all (next k h) = let first = size-now k in let rest = size-all h in omega arith
 
 -- WHAT IS IMPORTED
 
@@ -80,7 +82,7 @@ size-after xs (t before ts) = at (is_import t) (size-after xs ts)
     at true rest = omega arith
     at false rest = size-joined xs (t before ts)
 
-size-top : (xs : Trees) (t : Tree) → tree_size (with_top xs t) ≤ tree_size t + trees_size xs
+pub size-top : (xs : Trees) (t : Tree) → tree_size (with_top xs t) ≤ tree_size t + trees_size xs
 size-top xs (node k l (f then (statements ts then fs))) = let more = size-after xs ts in omega arith
 size-top xs _ = omega arith
 
@@ -231,8 +233,8 @@ law_imported_size_proof in_use m p q names to =
     let bs = unmarked names in
     let ms = imports_of m hs bs in
     let same = sym (tree_size-bare q) ∙ ap tree_size to.written ∙ tree_size-bare (imported_as m hs bs p) in
-    let calls = size-now (bound_of hs bs) p in
-    let top = size-top (trees (map (top_of (is_module p)) ms)) (now (bound_of hs bs) p) in
+    let calls = size-now AnyWay (calls-anyhow (bound_of hs bs) p) in
+    let top = size-top (trees (map (top_of (is_module p)) ms)) (calling (named_by (bound_of hs bs)) p) in
     let more = size-imported (is_module p) ms in
     let shorter = size-of-imports m hs bs in
     let few = few-called p in

@@ -1,5 +1,5 @@
-pub mod CalledTrees
+pub mod CalledRoles
+pub mod PlainTrees
 pub mod CalledFrames
 pub mod CalledNames
-pub mod CallingTrees
 pub mod CallNames

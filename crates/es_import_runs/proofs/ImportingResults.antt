@@ -56,7 +56,7 @@ use Rattle.es_helper_calls.specs.HelperCalls.{bound_of, calling, calling_among, 
 use Rattle.es_helper_calls.specs.Importing.{is_module}
 use Rattle.es_helper_imports.specs.Imported.{AreFresh, ImportsTo, imported_as, imports_of, unmarked}
 use Rattle.es_helper_imports.proofs.BareCalls.{bare-calling, bare-helpers}
-use Rattle.es_helper_imports.proofs.TopCalls.{bare-top}
+use Rattle.es_helper_imports.proofs.BareTops.{bare-top}
 use Rattle.es_top_imports.specs.Laws.{list_place}
 use Rattle.es_top_imports.specs.TopImports.{top_of, with_top}
 use Rattle.es_statement_steps.specs.Laws.{TagsAreNoChains, assumes_no_all, powers_there}

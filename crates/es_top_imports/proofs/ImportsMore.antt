@@ -28,14 +28,14 @@ use Rattle.es_top_imports.proofs.TopSteps.{RequireUnbound}
 
 -- THE FIRST IMPORTS of a list, and the rest
 
-record IsSplit (ts before_it after_it : Trees) : Type 0 where
-  same : ts ≡ joined_trees before_it after_it
-  behind : (bs : Trees) → after_imports bs ts ≡ joined_trees before_it (joined_trees bs after_it)
+pub record IsSplit (ts before_it after_it : Trees) : Type 0 where
+  pub same : ts ≡ joined_trees before_it after_it
+  pub behind : (bs : Trees) → after_imports bs ts ≡ joined_trees before_it (joined_trees bs after_it)
 
-data Split (ts : Trees) : Type 0 where
+pub data Split (ts : Trees) : Type 0 where
   splits : (before_it after_it : Trees) → IsSplit ts before_it after_it → Split ts
 
-split : (ts : Trees) → Split ts
+pub split : (ts : Trees) → Split ts
 split empty = splits empty empty (record { same = refl; behind = λ bs. sym (joined-empty bs) })
 split (t before ts) = at (is_import t) refl (split ts)
   where
@@ -61,7 +61,7 @@ asked false (i ∷ is) = asked false is
 between : (read : Tree → List Text) (before_it bs after_it : Trees) → texts_among read (joined_trees before_it (joined_trees bs after_it)) ≡ texts_among read before_it ++ (texts_among read bs ++ texts_among read after_it)
 between read before_it bs after_it = texts-joined read before_it (joined_trees bs after_it) ∙ ap (λ xs. texts_among read before_it ++ xs) (texts-joined read bs after_it)
 
-unread : (read : Tree → List Text) (before_it bs after_it : Trees) → texts_among read bs ≡ [] → texts_among read (joined_trees before_it (joined_trees bs after_it)) ≡ texts_among read (joined_trees before_it after_it)
+pub unread : (read : Tree → List Text) (before_it bs after_it : Trees) → texts_among read bs ≡ [] → texts_among read (joined_trees before_it (joined_trees bs after_it)) ≡ texts_among read (joined_trees before_it after_it)
 unread read before_it bs after_it e = between read before_it bs after_it ∙ (λ j. texts_among read before_it ++ (e j ++ texts_among read after_it)) ∙ sym (texts-joined read before_it after_it)
 
 -- NAMES are found in the list that declares them

@@ -35,7 +35,7 @@ program-is (node k l fs) f = absurd (let no : false ≡ true = (node_form s-Prog
 
 -- THE STATEMENT
 
-statement-formed : (in_module : Bool) (i : Import) → IsText i.local → has_form s-Statement (top_of in_module i) ≡ true
+pub statement-formed : (in_module : Bool) (i : Import) → IsText i.local → has_form s-Statement (top_of in_module i) ≡ true
 statement-formed true i named = rw named refl
 statement-formed false i named = rw named refl
 
@@ -47,17 +47,17 @@ list-formed s (b before before_it) t after_it h k = let parts = first-formed s b
 
 -- THE PROGRAM
 
-module _ (l : Label) (d : Field) (before_it after_it : Trees) (in_module : Bool) (i : Import) (named : IsText i.local) where
+module _ (l : Label) (d : Field) (before_it after_it : Trees) (t : Tree) (formed : has_form s-Statement t ≡ true) where
   abbrev old_fields : Fields
   old_fields = d then (statements (joined_trees before_it after_it) then done)
 
   abbrev new_fields : Fields
-  new_fields = d then (statements (joined_trees before_it (top_of in_module i before after_it)) then done)
+  new_fields = d then (statements (joined_trees before_it (t before after_it)) then done)
 
   pub program-formed : has_form s-Program (node Program l old_fields) ≡ true → has_form s-Program (node Program l new_fields) ≡ true
   program-formed f =
       let m = node_form s-Program Program l old_fields f in
       let parts = and_parts _ _ m.children in
       let list = (and_parts (trees_form s-Statement s-Statement (joined_trees before_it after_it)) true parts.1).0 in
-      let more = list-formed s-Statement before_it (top_of in_module i) after_it (statement-formed in_module i named) list in
+      let more = list-formed s-Statement before_it t after_it formed list in
       has_form-node s-Program Program l new_fields (record { sort = m.sort; texts = m.texts; flags = m.flags; start = m.start; stop = m.stop; agree = refl; children = and_from _ _ parts.0 (and_from _ true more refl) })

@@ -22,7 +22,7 @@ use Rattle.es_top_imports.specs.Laws.{AreNew, locals, with_each}
 use Rattle.es_top_imports.specs.TopImports.{Import, TopRule, top_of}
 use Rattle.es_top_imports.proofs.TopForms.{program-formed, program_with}
 use Rattle.es_top_imports.proofs.TopRules.{top-lawful, top-writes}
-use Rattle.es_top_imports.proofs.TopStatic.{breaks-none}
+use Rattle.es_top_imports.proofs.TopStatic.{IsTop, breaks-none, import-top}
 use Rattle.es_top_imports.proofs.TopSteps.{RequireUnbound, require-stays, the-step}
 
 module _ (in_module : Bool) (l : Label) (d : Field) (module_text : in_module ≡ true → first_text l.texts ≡ codes "module") where
@@ -50,13 +50,16 @@ module _ (in_module : Bool) (l : Label) (d : Field) (module_text : in_module ≡
     abbrev whole_after : Whole
     whole_after = with_made (next_name w x ∷ []) w
 
+    is_top : IsTop in_module (x ∷ []) l (top_of in_module one_import)
+    is_top = import-top in_module l module_text one_import named
+
     step : Step (TopRule in_module) the_program (nothing_beside w) (opened (program_with l d (joined_trees before_it after_it))) (nothing_beside whole_after) (opened (program_with l d with_it))
     step = the-step in_module w l d before_it after_it source x free h.require
 
     ready-after : Ready whole_after with_it
     ready-after = record {
-      form = program-formed l d before_it after_it in_module one_import named h.form;
-      kept = breaks-none w l d before_it after_it in_module one_import free named module_text h.form h.kept h.bound.named;
+      form = program-formed l d before_it after_it (top_of in_module one_import) is_top.form h.form;
+      kept = breaks-none w l d before_it after_it (top_of in_module one_import) in_module (x ∷ []) (free, tt) is_top h.form h.kept h.bound.named;
       bound = reached-keeps (TopRule in_module) (top-lawful in_module) (top-writes in_module) (program_with l d (joined_trees before_it after_it)) (program_with l d with_it) w whole_after refl h.bound (goes step stays);
       require = require-stays in_module w l d before_it after_it source x free h.bound.named h.require;
     }

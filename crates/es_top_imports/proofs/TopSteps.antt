@@ -11,9 +11,9 @@ use Rattle.es_resolution.specs.Resolved.{nowhere, or_around, place_in}
 use Rattle.es_resolution.proofs.Basics.{either_of, sought-append}
 use Rattle.es_steps.specs.Laws.{nothing_beside}
 use Rattle.es_steps.specs.Nodes.{joined_trees}
-use Rattle.es_steps.specs.Open.{OpenFields, is_body, opened, opened_fields}
+use Rattle.es_steps.specs.Open.{is_body, no_additions, nothing_pending, opened, opened_fields}
 use Rattle.es_steps.specs.Rules.{next_name, with_made}
-use Rattle.es_steps.specs.Steps.{Site, Step, Whole, site_in, the_program}
+use Rattle.es_steps.specs.Steps.{Ledger, Site, Spot, Step, Whole, at_list, site_in, the_program}
 use Rattle.es_steps.specs.Steps.FieldStep.{acts_on_list}
 use Rattle.es_steps.specs.Steps.FieldsStep.{in_first, in_later}
 use Rattle.es_steps.specs.Steps.Step.{inside}
@@ -29,6 +29,14 @@ use Rattle.es_top_imports.proofs.TopKept.{KnowsRequire, behind}
 -- where `require` is found by nothing at the top of a script
 abbrev pub RequireUnbound : Bool → Whole → Tree → Type 0
 RequireUnbound in_module w p = in_module ≡ false → ((list_place p).scope (codes "require") ≡ None) × (w.in_use (codes "require") ≡ true)
+
+-- A RULE acts on the list of a program: its site, and the step
+
+abbrev pub list_site : Label → Field → Trees → Site
+list_site l d ts = site_in the_program Program l (opened_fields (is_body Program) (d then (statements ts then done))) 1
+
+pub list-step : (R : Site → Ledger → Spot → Ledger → Spot → Type 0) (w w' : Whole) (l : Label) (d : Field) (ts us : Trees) → R (list_site l d ts) (nothing_beside w) (at_list nothing_pending None no_additions ts) (nothing_beside w') (at_list nothing_pending None no_additions us) → Step R the_program (nothing_beside w) (opened (program_with l d ts)) (nothing_beside w') (opened (program_with l d us))
+list-step R w w' l d ts us h = inside (in_later (in_first (acts_on_list ts us h)))
 
 module _ (in_module : Bool) (w : Whole) (l : Label) (d : Field) (before_it after_it : Trees) (source x : Text) (free : w.in_use x ≡ false) where
   abbrev it : Bound
@@ -53,11 +61,8 @@ module _ (in_module : Bool) (w : Whole) (l : Label) (d : Field) (before_it after
   abbrev old_fields : Fields
   old_fields = d then (statements old_list then done)
 
-  abbrev open_fields : OpenFields
-  open_fields = opened_fields (is_body Program) old_fields
-
   abbrev n : Site
-  n = site_in the_program Program l open_fields 1
+  n = list_site l d old_list
 
   place-same : n.names ≡ list_place old
   place-same = ap (λ (fs : Fields). place_in nowhere Program l (role_at reads Program l fs) fs 1) (finished-fields (is_body Program) old_fields)
@@ -66,7 +71,7 @@ module _ (in_module : Bool) (w : Whole) (l : Label) (d : Field) (before_it after
   knows h e = let k = h e in ((λ i. (place-same i).scope (codes "require")) ∙ k.0, k.1)
 
   pub the-step : RequireUnbound in_module w old → Step (TopRule in_module) the_program (nothing_beside w) (opened old) (nothing_beside (with_made (it ∷ []) w)) (opened new)
-  the-step h = inside (in_later (in_first (acts_on_list old_list new_list (imports before_it after_it source x refl free (knows h)))))
+  the-step h = list-step (TopRule in_module) w (with_made (it ∷ []) w) l d old_list new_list (imports before_it after_it source x refl free (knows h))
 
   -- a name in use is found as before
   module _ (y : Text) (u : w.in_use y ≡ true) where

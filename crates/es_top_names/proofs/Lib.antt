@@ -1,5 +1,3 @@
-pub mod BareLists
-pub mod DeclaredSymbols
 pub mod RequireFree
 pub mod RootRules
 pub mod RootSteps

@@ -1,6 +1,6 @@
 -- Where a script's own scope binds no `require`, nor does that of what the lowerings make of it.
-use Rattle.std.proofs.Common.{◌≡◌, ℕ, refl, sym, ap, ◌∙◌, List, [], ◌∷◌}
-use Rattle.std.specs.Prelude.{Bool, true, false, ◌&&◌, ◌||◌, not, Option, Some, None, is_some, codes}
+use Rattle.std.proofs.Common.{◌≡◌, refl, sym, ap, ◌∙◌, List, [], ◌∷◌}
+use Rattle.std.specs.Prelude.{Bool, true, false, ◌&&◌, ◌||◌, not, is_some, codes}
 use Rattle.es_tree.specs.Fresh.{is_among}
 use Rattle.es_tree.specs.HasForm.{has_form}
 use Rattle.es_tree.specs.Names.{names_of}
@@ -27,15 +27,11 @@ use Rattle.es_reached.proofs.Results.{form-same, program-kind, source-form, sour
 use Rattle.es_reached.proofs.Sources.{law_bare_source_proof}
 use Rattle.es_top_imports.specs.Laws.{list_place}
 use Rattle.es_top_names.specs.TopNames.{LawRequireFree}
-use Rattle.es_top_names.proofs.BareLists.{lists-alike}
+use Rattle.es_helper_imports.proofs.BareLists.{lists-alike, none-found}
 use Rattle.es_top_names.proofs.RootRules.{parts-all}
 use Rattle.es_top_names.proofs.RootSteps.{list-kept}
 use Rattle.es_top_names.proofs.SameSort.{law_same_sort_proof}
 use Rattle.es_top_names.proofs.SourceList.{source-found}
-
-pub none-found : (s : Option ℕ) → is_some s ≡ false → s ≡ None
-none-found None e = refl
-none-found (Some n) e = absurd (cc e)
 
 -- A name that is in use finds a symbol from the list of what rules make of a program, which are among all, where the program's own scope binds it.
 pub found-after : (o : EnvOptions) (R : Site → Ledger → Spot → Ledger → Spot → Type 0) → ((n : Site) (s : Ledger) (x : Spot) (s' : Ledger) (y : Spot) → R n s x s' y → AllRules o n s x s' y) →

@@ -16,7 +16,7 @@ use Rattle.es_resolution.proofs.Declares.{bound-append}
 use Rattle.es_resolution.proofs.Roles.{role-same}
 use Rattle.es_reached.proofs.BareNodes.{has-child-bare}
 use Rattle.es_top_imports.specs.Laws.{list_place}
-use Rattle.es_top_names.proofs.DeclaredSymbols.{at_top, list-finds, top_declares}
+use Rattle.es_helper_imports.proofs.DeclaredSymbols.{at_top, list-finds, top_declares}
 
 -- ROLES
 
@@ -82,3 +82,7 @@ top-alike v x t u same = sym (top-bare v x u) ∙ (ap (top_declares v x) (sym sa
 -- a name is found from the list of one where it is found from that of the other
 pub lists-alike : (t u : Tree) → kind_of t ≡ Program → kind_of u ≡ Program → IsResolved t → IsResolved u → bare t ≡ bare u → (x : Text) → is_some ((list_place u).scope x) ≡ is_some ((list_place t).scope x)
 lists-alike t u e d h k same x = list-finds u d k x ∙ ((λ i. top-alike false x t u same i || top-alike true x t u same i) ∙ sym (list-finds t e h x))
+
+pub none-found : (s : Option ℕ) → is_some s ≡ false → s ≡ None
+none-found None e = refl
+none-found (Some n) e = absurd (cc e)
