@@ -5,10 +5,12 @@ ghost use Rattle.std.specs.Prelude.{◌≡◌};
 ghost use Rattle.es_tree.specs.Tree.{fields_of, kind_of, label_of};
 ghost use Rattle.es_tree.specs.Views.{plain_field};
 ghost use Rattle.es_tree.specs.Walks.{any_in_field, any_node};
+ghost use Rattle.es_excluded_keys.specs.ExcludedKeys.{names_helpers};
 ghost use Rattle.es_searches.specs.Searches.{is_sought};
 ghost use Rattle.es_super_calls.specs.Constructors.{is_derived_class};
 
 use es_nodes::construct::is_using;
+use es_rest_nodes::strays::is_rest_declaration;
 use es_tree::kind::Kind;
 use es_tree::node::{Field, Node};
 
@@ -19,6 +21,10 @@ pub enum Sought {
     Using,
     /// A class that extends another.
     DerivedClass,
+    /// A declaration of an object rest.
+    RestDeclaration,
+    /// A name `babelHelpers`.
+    HelpersName,
 }
 
 /// Whether such a node stands anywhere in the program. Takes no memory.
@@ -62,6 +68,8 @@ fn is_sought(node: &Node, sought: Sought) -> bool
     match sought {
         Sought::Using => is_using(node),
         Sought::DerivedClass => is_derived_class(node),
+        Sought::RestDeclaration => is_rest_declaration(node),
+        Sought::HelpersName => names_helpers(node),
     }
 }
 
@@ -70,6 +78,15 @@ fn is_derived_class(node: &Node) -> bool
 {
     match &node.kind {
         Kind::ClassDeclaration { .. } | Kind::ClassExpression { .. } => node.child_at(1).is_some(),
+        _ => false,
+    }
+}
+
+fn names_helpers(node: &Node) -> bool
+    ensures { result ≡ names_helpers (kind_of node.now) (label_of node.now) (fields_of node.now) }
+{
+    match &node.kind {
+        Kind::Identifier { name, .. } => name.as_str() == "babelHelpers",
         _ => false,
     }
 }

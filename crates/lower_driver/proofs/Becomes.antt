@@ -56,7 +56,7 @@ use Rattle.lower_temporaries.specs.declared.state.TransformState.{TransformState
 use Rattle.lower_driver.specs.Copies.{IsCopy}
 use Rattle.lower_driver.specs.Lowers.{LowersInPlace, rests_there}
 use Rattle.lower_driver.specs.Visits.{AreTaken}
-use Rattle.lower_driver.proofs.BareConstructs.{same-constructs}
+use Rattle.es_helper_imports.proofs.BareConstructs.{same-constructs}
 use Rattle.lower_driver.proofs.CoreNodes.{no-rest}
 use Rattle.lower_driver.proofs.CopiedOptions.{copied-enabled, copied-reached, copied-unsupported}
 use Rattle.lower_driver.proofs.InOrder.{anyhow}
@@ -321,6 +321,6 @@ stays-in-place o p form right none =
       size = at (rests_there o p);
     }
   where
-    at : (b : Bool) → tree_size p ≤ (if b then 384 else 64) * tree_size p + 64
+    at : (b : Bool) → tree_size p ≤ (if b then 372 else 64) * tree_size p
     at true = omega arith
     at false = omega arith

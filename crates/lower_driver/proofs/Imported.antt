@@ -1,4 +1,4 @@
--- What a source becomes last: its helpers are imported, or it stays as it is.
+-- What a source becomes once lists of excluded keys are shared: its helpers are imported, or it stays as it is.
 use Rattle.std.proofs.Common.{◌≡◌, ◌∙◌, ◌+◌, ◌≤◌, List, [], None, Option, Some, ℕ, ap, arith, refl, sym, true≢false}
 use Rattle.std.proofs.lemmas.Bool.{and_parts}
 use Rattle.std.specs.Prelude.{Bool, true, false, ◌&&◌, ◌||◌, codes, not, is_some, option_map, string_bytes, if◌then◌else◌}
@@ -33,11 +33,13 @@ use Rattle.es_top_names.proofs.RequireFree.{law_require_free_proof}
 use Rattle.es_unsupported.specs.FirstUnsupported.{first_unsupported}
 use Rattle.es_unsupported.proofs.Firsts.{left_none, right_none}
 use Rattle.lower_driver.specs.Imports.{Imports}
+use Rattle.lower_driver.specs.SharesKeys.{SharesKeys}
 use Rattle.lower_driver.specs.UnsupportedPrograms.{first_refused}
-use Rattle.lower_driver.proofs.BareConstructs.{same-constructs}
+use Rattle.es_helper_imports.proofs.BareConstructs.{same-constructs}
 use Rattle.lower_driver.proofs.CoreNodes.{no-spread}
 use Rattle.lower_driver.proofs.EitherTest.{any-where, none-of-tree}
 use Rattle.lower_driver.proofs.Moved.{off-anyway}
+use Rattle.lower_driver.proofs.Shared.{none-shared, shared-program, shared-require}
 
 -- WHERE NOTHING NEEDS A HELPER
 
@@ -113,29 +115,46 @@ require-unbound o made own p on none = at (binds_require p) (ap (λ (b : Bool). 
 
 -- WHAT IT BECOMES
 
-module _ (o : EnvOptions) (made : Bool) (own : Option ℕ) (q lowered written : Tree) (later last : List Text) (form : has_form s-Program q ≡ true) (right : breaks q ≡ []) (none : first_refused o made own q ≡ None) (result : IsLowered o q lowered later) (m : Imports (imports_helpers o made q) (string_bytes o.helper_loader.module_name) lowered written last) where
+module _
+    (o : EnvOptions) (made shares_on : Bool) (own : Option ℕ) (q lowered shared written : Tree) (later keys last : List Text) (form : has_form s-Program q ≡ true) (right : breaks q ≡ []) (none : first_refused o made own q ≡ None) (result : IsLowered o q lowered later) (shares : SharesKeys shares_on lowered shared keys)
+    (m : Imports (imports_helpers o made q) (string_bytes o.helper_loader.module_name) shared written last) where
   abbrev module_text : Text
   module_text = string_bytes o.helper_loader.module_name
 
-  -- nor does what was lowered in place
+  -- nor does what was lowered in place,
   pub require-free : imports_helpers o made q ≡ true → is_module lowered ≡ false → (list_place (source lowered)).scope (codes "require") ≡ None
   require-free on script = law_require_free_proof o q lowered later form right result (require-unbound o made own q on (right_none (first_unsupported o q) (first_unimported o made own q) none)) script
 
-  pub is-imported : imports_helpers o made q ≡ true → IsImported module_text lowered written last
-  is-imported on = law_imported_proof module_text lowered written last result.result.form result.result.kept (require-free on) (m.goes on)
+  -- nor what shares lists
+  there : (has_form s-Program shared ≡ true) × (breaks shared ≡ [])
+  there = shared-program shares_on lowered shared keys result.result.form result.result.kept shares
+
+  pub is-imported : imports_helpers o made q ≡ true → IsImported module_text shared written last
+  is-imported on = law_imported_proof module_text shared written last there.0 there.1 (shared-require shares_on lowered shared keys result.result.form result.result.kept shares (require-free on)) (m.goes on)
+
+  -- a program that breaks no static rule
+  pub imported-program : (has_form s-Program written ≡ true) × (breaks written ≡ [])
+  imported-program = at (imports_helpers o made q) refl
+    where
+      at : (b : Bool) → imports_helpers o made q ≡ b → (has_form s-Program written ≡ true) × (breaks written ≡ [])
+      at true on = let is = is-imported on in (is.form, is.kept)
+      at false off = rw (m.stays off).0 there
 
   pub none-left : has_enabled_construct o lowered ≡ false → has_enabled_construct o written ≡ false
   none-left earlier = at (imports_helpers o made q) refl
     where
+      none-there : has_enabled_construct o shared ≡ false
+      none-there = none-shared shares_on lowered shared keys shares o earlier
+
       at : (b : Bool) → imports_helpers o made q ≡ b → has_enabled_construct o written ≡ false
       at true on =
-          let hs = helpers_called lowered in
-          same-constructs o (imported_as module_text hs (unmarked last) lowered) written (m.goes on).written ∙ law_no_constructs_proof o module_text hs (unmarked last) lowered earlier
-      at false off = ap (has_enabled_construct o) (m.stays off).0 ∙ earlier
+          let hs = helpers_called shared in
+          same-constructs o (imported_as module_text hs (unmarked last) shared) written (m.goes on).written ∙ law_no_constructs_proof o module_text hs (unmarked last) shared none-there
+      at false off = ap (has_enabled_construct o) (m.stays off).0 ∙ none-there
 
-  pub size-after : tree_size written ≤ tree_size lowered + (if imports_helpers o made q then 36 else 0)
+  pub size-after : tree_size written ≤ tree_size shared + (if imports_helpers o made q then 36 else 0)
   size-after = at (imports_helpers o made q) refl
     where
-      at : (b : Bool) → imports_helpers o made q ≡ b → tree_size written ≤ tree_size lowered + (if b then 36 else 0)
-      at true on = law_imported_size_proof (first_whole lowered).in_use module_text lowered written last (m.goes on)
+      at : (b : Bool) → imports_helpers o made q ≡ b → tree_size written ≤ tree_size shared + (if b then 36 else 0)
+      at true on = law_imported_size_proof (first_whole shared).in_use module_text shared written last (m.goes on)
       at false off = rw (m.stays off).0 (omega arith)

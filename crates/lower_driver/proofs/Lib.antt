@@ -5,7 +5,6 @@ pub mod EnabledRows
 pub mod QuietArrows
 pub mod NoneUnsupported
 pub mod Untagged
-pub mod BareConstructs
 pub mod CopiedOptions
 pub mod NoneLeft
 pub mod Settled
@@ -13,6 +12,7 @@ pub mod Visits
 pub mod EitherTest
 pub mod Becomes
 pub mod FewScopes
+pub mod Shared
 pub mod Imported
 pub mod InOrder
 pub mod Set

@@ -1,5 +1,5 @@
 -- What a source becomes by all lowerings, stage after stage: its exports of object rests are split, its `using` moves out of heads of loops and is lowered, at last at the top of a module, patterns with a rest move,
--- constructs are lowered where they stand, helpers are imported, and names for `this` are set. And why it is refused: for what is found in it before constructs are lowered where they
+-- constructs are lowered where they stand, lists of excluded keys are shared, helpers are imported, and names for `this` are set. And why it is refused: for what is found in it before constructs are lowered where they
 -- stand.
 use Rattle.std.proofs.Common.{◌≡◌, ◌∙◌, ◌*◌, ◌+◌, ◌≤◌, ◌++◌, List, [], ◌∷◌, Option, ℕ, ap, arith, refl, subst, sym, true≢false}
 use Rattle.std.specs.Prelude.{Bool, true, false, ◌&&◌, Err, IfErr, IsErrAnd, None, Ok, Result, is_some, not, string_bytes, if◌then◌else◌}
@@ -8,7 +8,7 @@ use Rattle.es_tree.specs.Core.{IsCoreProgram}
 use Rattle.es_tree.specs.HasForm.{has_form}
 use Rattle.es_tree.specs.Options.{is_external}
 use Rattle.es_tree.specs.StaticRules.{breaks}
-use Rattle.es_tree.specs.Tree.{Tree, tree_size}
+use Rattle.es_tree.specs.Tree.{Tree, node, tree_size}
 use Rattle.es_tree.specs.Walks.{any_node, first_node}
 use Rattle.es_tree.specs.Words.{Text}
 use Rattle.es_tree.specs.declared.error.LowerError.{LowerError}
@@ -21,6 +21,9 @@ use Rattle.es_rest_shapes.specs.HelperNames.{binds_helpers}
 use Rattle.es_pattern_moves.specs.Moved.{plainly}
 use Rattle.es_pattern_moves.specs.Weights.{weighed}
 use Rattle.es_pattern_moves.proofs.MovedSize.{law_moved_size_proof}
+use Rattle.es_excluded_keys.specs.ExcludedKeys.{names_itself, shares_keys}
+use Rattle.es_helper_imports.specs.Imported.{ImportsTo}
+use Rattle.es_steps.specs.CoreBridge.{first_whole}
 use Rattle.es_lowered.specs.Moved.{IsMoved}
 use Rattle.es_lowered.specs.Used.{IsUsed}
 use Rattle.es_reached.specs.Reached.{IsCoreResult}
@@ -39,15 +42,17 @@ use Rattle.lower_driver.specs.Imports.{Imports}
 use Rattle.lower_driver.specs.Lowers.{Lowers, LowersInPlace, most_for_each, rests_there}
 use Rattle.lower_driver.specs.Moves.{Moves}
 use Rattle.lower_driver.specs.Sets.{Sets, sets_this}
+use Rattle.lower_driver.specs.SharesKeys.{SharesKeys}
 use Rattle.lower_driver.specs.Splits.{Splits, splits_exports}
 use Rattle.lower_driver.specs.Tops.{Tops, lowers_top}
 use Rattle.lower_driver.specs.Uses.{Heads, Uses, lowers_using, using_there}
 use Rattle.lower_driver.specs.UnsupportedPrograms.{Finds, IsFirstOrMemory, IsUnsupportedOrMemory, first_refused}
 use Rattle.lower_driver.proofs.CopiedOptions.{copied-refused}
 use Rattle.lower_driver.proofs.CoreNodes.{no-class, no-class-among-statements, no-rest, no-using}
-use Rattle.lower_driver.proofs.Imported.{core-unimporting, is-imported, none-left, require-free, size-after}
+use Rattle.lower_driver.proofs.Imported.{core-unimporting, imported-program, is-imported, none-left, require-free, size-after}
 use Rattle.lower_driver.proofs.Moved.{is-moved, moved-weight, moves-itself, no-moves, off-anyway, one-program, stays-itself}
 use Rattle.lower_driver.proofs.Set.{is-set, none-after, set-size, sets-itself}
+use Rattle.lower_driver.proofs.Shared.{is-shared, none-shares, shared-size}
 use Rattle.lower_driver.proofs.Splits.{is-split, off-without, one-split, same-using, split-weight, splits-itself}
 use Rattle.lower_driver.proofs.Tops.{is-topped, one-topped, top-weight, tops-as, tops-itself, untopped-off}
 use Rattle.lower_driver.proofs.Used.{heads-as, heads-itself, is-headed, is-used, one-headed, one-used, unasked-off, uses-as, uses-itself}
@@ -139,9 +144,9 @@ none-more [] = refl
 none-more (x ∷ xs) = ap (λ ys. x ∷ ys) (none-more xs)
 
 module _
-    (o : EnvOptions) (s p t v z q lowered imported written : Tree) (heads contexts top_names names later last : List Text) (form : has_form s-Program s ≡ true) (right : breaks s ≡ []) (x : Splits (splits_exports o s) s p) (h : Heads (lowers_using o p) p t heads) (u : Uses (lowers_using o p) t v contexts)
-    (y : Tops (lowers_top o p v) v z top_names) (m : Moves (is_some o.es2018.object_rest_spread) z q names) (none : first_refused o (lowers_using o p) (own_call o p) q ≡ None) (in_place : LowersInPlace o q lowered later) (imports : Imports (imports_helpers o (lowers_using o p) q) (string_bytes o.helper_loader.module_name) lowered imported last)
-    (sets : Sets (sets_this o s) later imported written) where
+    (o : EnvOptions) (s p t v z q lowered shared imported written : Tree) (heads contexts top_names names later keys last : List Text) (form : has_form s-Program s ≡ true) (right : breaks s ≡ []) (x : Splits (splits_exports o s) s p) (h : Heads (lowers_using o p) p t heads) (u : Uses (lowers_using o p) t v contexts)
+    (y : Tops (lowers_top o p v) v z top_names) (m : Moves (is_some o.es2018.object_rest_spread) z q names) (none : first_refused o (lowers_using o p) (own_call o p) q ≡ None) (in_place : LowersInPlace o q lowered later) (shares : SharesKeys (shares_keys o (names_itself p) q) lowered shared keys)
+    (imports : Imports (imports_helpers o (lowers_using o p) q) (string_bytes o.helper_loader.module_name) shared imported last) (sets : Sets (sets_this o s) later imported written) where
   abbrev on : Bool
   on = is_some o.es2018.object_rest_spread
 
@@ -151,8 +156,11 @@ module _
   abbrev own : Option ℕ
   own = own_call o p
 
+  abbrev sharing : Bool
+  sharing = shares_keys o (names_itself p) q
+
   abbrev all_names : List Text
-  all_names = heads ++ contexts ++ top_names ++ names ++ later ++ last
+  all_names = heads ++ contexts ++ top_names ++ names ++ later ++ keys ++ last
 
   split_there : IsSplit (splits_exports o s) s p
   split_there = is-split (splits_exports o s) s p form right x
@@ -184,13 +192,15 @@ module _
       let third = y.stays (untopped-off o p v off) in
       record { same = third.0 ∙ second.0 ∙ first.0; heads_none = first.1; contexts_none = second.1; tops_none = third.1 }
 
-  -- and where no rest is either so do the first and the fifth
+  -- and where no rest is either so do the first and the fifth, and no list is shared
   record Same : Type 0 where
     split : p ≡ s
     moved : q ≡ s
     unmade : made ≡ false
     unused : Unused
     names_none : names ≡ []
+    unshared : shared ≡ lowered
+    keys_none : keys ≡ []
 
   same-there : using_there o s ≡ false → rests_there o s ≡ false → Same
   same-there none_used none_moved =
@@ -199,13 +209,15 @@ module _
       let there = second.same ∙ first in
       let rests : (on && any_node is_object_rest z) ≡ false = ap (λ (t : Tree). on && any_node is_object_rest t) there ∙ none_moved in
       let third = stays-itself on z (no-moves on z rests) q names m in
-      record { split = first; moved = third.0 ∙ there; unmade = unasked-off o p (same-using o s p x ∙ none_used); unused = second; names_none = third.1 }
+      let moved = third.0 ∙ there in
+      let fourth = shares.stays (none-shares o (names_itself p) q (ap (rests_there o) moved ∙ none_moved)) in
+      record { split = first; moved = moved; unmade = unasked-off o p (same-using o s p x ∙ none_used); unused = second; names_none = third.1; unshared = fourth.0; keys_none = fourth.1 }
 
   -- where it imports no helper, either, and has no class that extends another, what is lowered in place is what is written
   as-before : Same → imports_helpers o false s ≡ false → any_node is_derived_class s ≡ false → (written ≡ lowered) × (last ≡ [])
   as-before same off none =
       let unimported = imports.stays (ap (imports_helpers o made) same.moved ∙ ap (λ (b : Bool). imports_helpers o b s) same.unmade ∙ off) in
-      (sets.stays (off-anyway (is_some o.es2015.arrow_function) (any_node is_derived_class s) none) ∙ unimported.0, unimported.1)
+      (sets.stays (off-anyway (is_some o.es2015.arrow_function) (any_node is_derived_class s) none) ∙ unimported.0 ∙ same.unshared, unimported.1)
 
   core-there : IsCoreProgram s → IsCoreResult o s written all_names
   core-there core =
@@ -214,7 +226,9 @@ module _
       let stays = as-before same (core-unimporting o false s refl core.core rests) (no-class s core.core) in
       let there : IsCoreResult o s lowered later = subst (λ (t : Tree). IsCoreResult o t lowered later) same.moved (in_place.core (subst (λ (t : Tree). IsCoreProgram t) (sym same.moved) core)) in
       let unused = same.unused in
-      let named : all_names ≡ later = ap (λ (xs : List Text). xs ++ contexts ++ top_names ++ names ++ later ++ last) unused.heads_none ∙ ap (λ (xs : List Text). xs ++ top_names ++ names ++ later ++ last) unused.contexts_none ∙ ap (λ (xs : List Text). xs ++ names ++ later ++ last) unused.tops_none ∙ ap (λ (xs : List Text). xs ++ later ++ last) same.names_none ∙ ap (λ (xs : List Text). later ++ xs) stays.1 ∙ none-more later in
+      let named : all_names ≡ later =
+      ap (λ (xs : List Text). xs ++ contexts ++ top_names ++ names ++ later ++ keys ++ last) unused.heads_none ∙ ap (λ (xs : List Text). xs ++ top_names ++ names ++ later ++ keys ++ last) unused.contexts_none ∙ ap (λ (xs : List Text). xs ++ names ++ later ++ keys ++ last) unused.tops_none
+      ∙ ap (λ (xs : List Text). xs ++ later ++ keys ++ last) same.names_none ∙ ap (λ (xs : List Text). later ++ xs ++ last) same.keys_none ∙ ap (λ (xs : List Text). xs ++ last) (none-more later) ∙ ap (λ (xs : List Text). later ++ xs) stays.1 ∙ none-more later in
       subst (λ (xs : List Text). IsCoreResult o s written xs) (sym named) (subst (λ (t : Tree). IsCoreResult o s t later) (sym stays.0) there)
 
   statements-there : using_there o s ≡ false → rests_there o s ≡ false → imports_helpers o false s ≡ false → RunsAsStatements o s → RunAlike (supply_there o s) (assumes_no_all o s) s written
@@ -229,8 +243,9 @@ module _
       let m : Text = string_bytes o.helper_loader.module_name in
       let same = same-there no_using no_rests in
       let asked : imports_helpers o made q ≡ true = ap (imports_helpers o made) same.moved ∙ ap (λ (b : Bool). imports_helpers o b s) same.unmade ∙ on_here in
-      let require = require-free o made own q lowered imported later last moved_there.form moved_there.kept none in_place.result imports asked in
-      let there : RunAlike (supply_in m q) (assumes_no_all o q) q imported = in_place.importing (ap (rests_there o) same.moved ∙ no_rests) (subst (λ (t : Tree). IsStatementProgram t) (sym same.moved) class) m imported last (subst (λ (t : Tree). RunsImporting o m t) (sym same.moved) runs) require (imports.goes asked) in
+      let require = require-free o made sharing own q lowered shared imported later keys last moved_there.form moved_there.kept none in_place.result shares imports asked in
+      let goes : ImportsTo (first_whole lowered).in_use m lowered imported last = subst (λ (t : Tree). ImportsTo (first_whole t).in_use m t imported last) same.unshared (imports.goes asked) in
+      let there : RunAlike (supply_in m q) (assumes_no_all o q) q imported = in_place.importing (ap (rests_there o) same.moved ∙ no_rests) (subst (λ (t : Tree). IsStatementProgram t) (sym same.moved) class) m imported last (subst (λ (t : Tree). RunsImporting o m t) (sym same.moved) runs) require goes in
       let unset : written ≡ imported = sets.stays (off-anyway (is_some o.es2015.arrow_function) (any_node is_derived_class s) (no-class-among-statements s class.without_functions)) in
       subst (λ (t : Tree). RunAlike (supply_in m s) (assumes_no_all o s) s t) (sym unset) (subst (λ (t : Tree). RunAlike (supply_in m t) (assumes_no_all o t) t imported) same.moved there)
 
@@ -245,41 +260,46 @@ module _
       at true paid weight = omega (arith, paid, weight)
       at false paid weight = omega (arith, paid, weight)
 
-  most : (b : Bool) → tree_size lowered ≤ (if b then 384 else 64) * tree_size q + 64 → tree_size lowered ≤ 384 * tree_size q + 64
+  most : (b : Bool) → tree_size lowered ≤ (if b then 372 else 64) * tree_size q → tree_size lowered ≤ 372 * tree_size q
   most true h = h
   most false h = omega (arith, h)
 
-  lowered-size : tree_size lowered ≤ most_for_each (using_there o s) (rests_there o s) (splits_exports o s) * tree_size s + 64
-  lowered-size = at (using_there o s) (rests_there o s) refl refl
-    where
-      rests : (b : Bool) → 2 * tree_size q ≤ (if b then 8 else 7) * tree_size s → tree_size lowered ≤ 384 * tree_size q + 64 → tree_size lowered ≤ most_for_each false true b * tree_size s + 64
-      rests true paid g = omega (arith, paid, g)
-      rests false paid g = omega (arith, paid, g)
+  half-more : (b : Bool) → 2 * tree_size shared ≤ (if b then 3 * tree_size lowered + 2 else 2 * tree_size lowered) → 2 * tree_size shared ≤ 3 * tree_size lowered + 2
+  half-more true h = h
+  half-more false h = omega (arith, h)
 
-      at : (a b : Bool) → using_there o s ≡ a → rests_there o s ≡ b → tree_size lowered ≤ most_for_each a b (splits_exports o s) * tree_size s + 64
-      at true b _ d = let g = most (rests_there o q) in_place.size in let e = used-and-moved-size o s p t v z q heads contexts top_names names form x h u y m in omega (arith, g, e)
-      at false true e d = rests (splits_exports o s) (moved-size (same-used e).same) (most (rests_there o q) in_place.size)
+  some-node : (tree : Tree) → 1 ≤ tree_size tree
+  some-node (node k l fs) = omega arith
+
+  shared-most : tree_size shared ≤ most_for_each (using_there o s) (rests_there o s) (splits_exports o s) * tree_size s
+  shared-most = at (using_there o s) (rests_there o s) refl refl
+    where
+      grown : tree_size lowered ≤ 372 * tree_size q
+      grown = most (rests_there o q) in_place.size
+
+      more : 2 * tree_size shared ≤ 3 * tree_size lowered + 2
+      more = half-more sharing (shared-size sharing lowered shared keys shares)
+
+      rests : (b : Bool) → 2 * tree_size q ≤ (if b then 8 else 7) * tree_size s → tree_size shared ≤ most_for_each false true b * tree_size s
+      rests true paid = omega (arith, paid, grown, more, some-node s)
+      rests false paid = omega (arith, paid, grown, more, some-node s)
+
+      at : (a b : Bool) → using_there o s ≡ a → rests_there o s ≡ b → tree_size shared ≤ most_for_each a b (splits_exports o s) * tree_size s
+      at true b _ d = let e = used-and-moved-size o s p t v z q heads contexts top_names names form x h u y m in omega (arith, e, grown, more, some-node s)
+      at false true e d = rests (splits_exports o s) (moved-size (same-used e).same)
       at false false e d =
           let same = same-there e d in
-          subst (λ (n : ℕ). tree_size lowered ≤ n * tree_size s + 64) (ap (λ b. if b then 384 else 64) (ap (rests_there o) same.moved ∙ d)) (subst (λ (t : Tree). tree_size lowered ≤ (if rests_there o q then 384 else 64) * tree_size t + 64) same.moved in_place.size)
+          subst (λ (t : Tree). tree_size t ≤ 64 * tree_size s) (sym same.unshared)
+          (subst (λ (n : ℕ). tree_size lowered ≤ n * tree_size s) (ap (λ b. if b then 372 else 64) (ap (rests_there o) same.moved ∙ d)) (subst (λ (t : Tree). tree_size lowered ≤ (if rests_there o q then 372 else 64) * tree_size t) same.moved in_place.size))
 
-  imported-size : tree_size imported ≤ most_for_each (using_there o s) (rests_there o s) (splits_exports o s) * tree_size s + (if imports_helpers o made q then 100 else 64)
-  imported-size = at (imports_helpers o made q) (size-after o made own q lowered imported later last moved_there.form moved_there.kept none in_place.result imports)
-    where
-      at : (b : Bool) → tree_size imported ≤ tree_size lowered + (if b then 36 else 0) → tree_size imported ≤ most_for_each (using_there o s) (rests_there o s) (splits_exports o s) * tree_size s + (if b then 100 else 64)
-      at true more = let least = lowered-size in omega (arith, least, more)
-      at false more = let least = lowered-size in omega (arith, least, more)
+  imported-size : tree_size imported ≤ most_for_each (using_there o s) (rests_there o s) (splits_exports o s) * tree_size s + (if imports_helpers o made q then 36 else 0)
+  imported-size = let least = shared-most in let more = size-after o made sharing own q lowered shared imported later keys last moved_there.form moved_there.kept none in_place.result shares imports in omega (arith, least, more)
 
-  sized : tree_size written ≤ (if sets_this o s then 3 else 1) * (most_for_each (using_there o s) (rests_there o s) (splits_exports o s) * tree_size s + (if imports_helpers o made q then 100 else 64))
+  sized : tree_size written ≤ (if sets_this o s then 3 else 1) * (most_for_each (using_there o s) (rests_there o s) (splits_exports o s) * tree_size s + (if imports_helpers o made q then 36 else 0))
   sized = set-size (sets_this o s) later imported written sets _ imported-size
 
-  -- what is imported is a program that breaks no static rule
-  imported-program : (has_form s-Program imported ≡ true) × (breaks imported ≡ [])
-  imported-program = at (imports_helpers o made q) refl
-    where
-      at : (b : Bool) → imports_helpers o made q ≡ b → (has_form s-Program imported ≡ true) × (breaks imported ≡ [])
-      at true e = let there = is-imported o made own q lowered imported later last moved_there.form moved_there.kept none in_place.result imports e in (there.form, there.kept)
-      at false e = rw (imports.stays e).0 (in_place.result.result.form, in_place.result.result.kept)
+  imported-there : (has_form s-Program imported ≡ true) × (breaks imported ≡ [])
+  imported-there = imported-program o made sharing own q lowered shared imported later keys last moved_there.form moved_there.kept none in_place.result shares imports
 
   pub lowers : has_enabled_construct o s ≡ true → Lowers o s written all_names
   lowers some = record {
@@ -305,14 +325,18 @@ module _
     lowered = lowered;
     later_names = later;
     in_place = in_place;
+    shared = shared;
+    key_names = keys;
+    shares = shares;
+    is_shared = is-shared sharing lowered shared keys in_place.result.result.form in_place.result.result.kept shares;
     imported = imported;
     last_names = last;
     imports = imports;
-    is_imported = is-imported o made own q lowered imported later last moved_there.form moved_there.kept none in_place.result imports;
+    is_imported = is-imported o made sharing own q lowered shared imported later keys last moved_there.form moved_there.kept none in_place.result shares imports;
     sets = sets;
-    is_set = is-set (sets_this o s) later imported written sets imported-program.0 imported-program.1;
+    is_set = is-set (sets_this o s) later imported written sets imported-there.0 imported-there.1;
     all_names = refl;
-    none = none-after (sets_this o s) later imported written sets o (none-left o made own q lowered imported later last moved_there.form moved_there.kept none in_place.result imports in_place.none);
+    none = none-after (sets_this o s) later imported written sets o (none-left o made sharing own q lowered shared imported later keys last moved_there.form moved_there.kept none in_place.result shares imports in_place.none);
     core = core-there;
     statements = statements-there;
     statements_importing = importing-there;
@@ -332,6 +356,8 @@ becomes-itself o p form right unused rests off none in_place =
     let y = tops-itself (lowers_top o p p) p (untopped-off o p p off_here) in
     let headed-there = is-headed o p form right p [] h in
     let used-there = is-used o p form right p p [] [] h u in
+    let unshared : shares_keys o (names_itself p) p ≡ false = none-shares o (names_itself p) p rests in
+    let shares : SharesKeys (shares_keys o (names_itself p) p) p p [] = record { goes = λ asked. absurd (true≢false (sym asked ∙ unshared)); stays = λ e. (refl, refl) } in
     let imports : Imports (imports_helpers o (lowers_using o p) p) (string_bytes o.helper_loader.module_name) p p [] = record { goes = λ asked. absurd (true≢false (sym asked ∙ off)); stays = λ e. (refl, refl) } in
     let sets = sets-itself (sets_this o p) p in
     record {
@@ -357,6 +383,10 @@ becomes-itself o p form right unused rests off none in_place =
       lowered = p;
       later_names = [];
       in_place = in_place;
+      shared = p;
+      key_names = [];
+      shares = shares;
+      is_shared = λ asked. absurd (true≢false (sym asked ∙ unshared));
       imported = p;
       last_names = [];
       imports = imports;
@@ -369,7 +399,7 @@ becomes-itself o p form right unused rests off none in_place =
       statements = λ no_using no_rests unasked runs. in_place.statements no_rests runs;
       statements_importing = λ no_using no_rests on_here class runs. absurd (true≢false (sym on_here ∙ ap (λ (b : Bool). imports_helpers o b p) (sym off_here) ∙ off));
       unchanged = λ unasked. record { same = refl; no_names = refl };
-      size = sized o p p p p p p p p p [] [] [] [] [] [] form right x h u y m none in_place imports sets;
+      size = sized o p p p p p p p p p p [] [] [] [] [] [] [] form right x h u y m none in_place shares imports sets;
     }
 
 -- WHY IT IS REFUSED

@@ -25,7 +25,8 @@ use Rattle.es_reached.proofs.Results.{source-well-bound}
 use Rattle.es_rest_shapes.specs.HelperNames.{binds_helpers}
 use Rattle.es_rest_rows.proofs.HelperNames.{FindsNone, helpers_name, is_other_name, place-none, unbound-passes}
 use Rattle.es_top_imports.specs.Laws.{list_place}
-use Rattle.es_top_names.proofs.RequireFree.{found-after, none-found}
+use Rattle.es_helper_imports.proofs.BareLists.{none-found}
+use Rattle.es_top_names.proofs.RequireFree.{found-after}
 use Rattle.es_top_names.proofs.SourceList.{source-found}
 use Rattle.es_pattern_moves.specs.Moved.{plainly as plainly_headed}
 use Rattle.es_pattern_moves.specs.Weights.{weighed}

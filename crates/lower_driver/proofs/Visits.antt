@@ -91,7 +91,7 @@ use Rattle.es_reached.proofs.Sources.{law_bare_seen_proof, law_bare_source_proof
 use Rattle.lower_temporaries.specs.Takings.{moment_of, pending_of}
 use Rattle.lower_temporaries.specs.declared.state.TransformState.{TransformState}
 use Rattle.lower_driver.specs.Visits.{IsWalked, visit_ending, visit_profile}
-use Rattle.lower_driver.proofs.BareConstructs.{same-arrows}
+use Rattle.es_helper_imports.proofs.BareConstructs.{same-arrows}
 use Rattle.lower_driver.specs.Constructs.{is_lowered_construct, is_lowered_export}
 use Rattle.lower_driver.proofs.EitherTest.{none-of-trees}
 use Rattle.lower_driver.proofs.InOrder.{anyhow, arrow-order, whole-order, writing-order}

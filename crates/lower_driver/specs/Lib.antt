@@ -1,4 +1,5 @@
 pub mod Copies
+pub mod SharesKeys
 pub mod Imports
 pub mod Constructs
 pub mod Lowered

@@ -17,6 +17,8 @@ use Rattle.es_lowered.specs.Lowered.{IsLowered}
 use Rattle.es_lowered.specs.Moved.{IsMoved}
 use Rattle.es_lowered.specs.Set.{IsSet}
 use Rattle.es_lowered.specs.Used.{IsUsed}
+use Rattle.es_excluded_keys.specs.ExcludedKeys.{names_itself, shares_keys}
+use Rattle.es_excluded_keys.specs.Laws.{IsShared}
 use Rattle.es_reached.specs.Reached.{IsCoreResult}
 use Rattle.es_resolution.specs.Laws.{source as with_symbols}
 use Rattle.es_statement_runs.specs.Programs.{IsStatementProgram}
@@ -27,6 +29,7 @@ use Rattle.es_top_imports.specs.Laws.{list_place}
 use Rattle.lower_driver.specs.Imports.{Imports}
 use Rattle.lower_driver.specs.Moves.{Moves}
 use Rattle.lower_driver.specs.Sets.{Sets, sets_this}
+use Rattle.lower_driver.specs.SharesKeys.{SharesKeys}
 use Rattle.lower_driver.specs.Splits.{Splits, splits_exports}
 use Rattle.lower_driver.specs.Tops.{Tops, lowers_top}
 use Rattle.lower_driver.specs.Uses.{Heads, Uses, lowers_using, using_there}
@@ -58,17 +61,17 @@ pub record LowersInPlace (o : EnvOptions) (source written : Tree) (names : List 
   -- is bound nowhere, whatever is lowered beside it, but exponentiation in a script.
   pub importing : rests_there o source ≡ false → IsStatementProgram source → (m : Text) (imported : Tree) (last : List Text) → RunsImporting o m source → (is_module written ≡ false → (list_place (with_symbols written)).scope (codes "require") ≡ None) →
       ImportsTo (first_whole written).in_use m written imported last → RunAlike (supply_in m source) (assumes_no_all o source) source imported
-  -- It has at most so many nodes for each of the source's, and as many more: an object rest makes a text for each property before it, and the
-  -- walk that takes rests is the last of three.
-  pub size : tree_size written ≤ (if rests_there o source then 384 else 64) * tree_size source + 64
+  -- It has at most so many nodes for each of the source's: an object rest makes a text for each property before it, and the walk that takes rests is the
+  -- last of three.
+  pub size : tree_size written ≤ (if rests_there o source then 372 else 64) * tree_size source
 
 -- The most nodes that are written for one of the source's, where `using` stands that is asked for, where an object rest does, and where an export of one
 -- is split: moving `using` out of heads, lowering it and moving patterns make at most ten of one, moving patterns alone three and a half, and four where
--- exports were split.
+-- exports were split; and constants for lists of excluded keys make half as many more.
 abbrev pub most_for_each : Bool → Bool → Bool → ℕ
-most_for_each true rests splits = 3840
-most_for_each false true true = 1536
-most_for_each false true false = 1344
+most_for_each true rests splits = 5760
+most_for_each false true true = 2304
+most_for_each false true false = 2016
 most_for_each false false splits = 64
 
 -- What a source of any kind becomes under these options: this program, with these fresh names.
@@ -102,21 +105,28 @@ pub record Lowers (o : EnvOptions) (source written : Tree) (names : List Text) :
   pub lowered : Tree
   pub later_names : List Text
   pub in_place : LowersInPlace o moved lowered later_names
-  -- then, where helpers are not properties of `babelHelpers`, the program imports those that it calls: it stays a program that breaks no
+  -- then, where an object rest was lowered of a source that named no `babelHelpers` itself, names of constants stand for the lists of the keys that
+  -- rests leave out: it stays a program that breaks no static rule, each name keeps its binding, and it asks for the same modules and exports the same
+  -- names.
+  pub shared : Tree
+  pub key_names : List Text
+  pub shares : SharesKeys (shares_keys o (names_itself split) moved) lowered shared key_names
+  pub is_shared : shares_keys o (names_itself split) moved ≡ true → IsShared lowered shared key_names
+  -- Then, where helpers are not properties of `babelHelpers`, the program imports those that it calls: it stays a program that breaks no
   -- static rule, each name keeps its binding, and it asks for the same modules but for those of the helpers, and exports the same names.
   pub imported : Tree
   pub last_names : List Text
-  pub imports : Imports (imports_helpers o (lowers_using o split) moved) (string_bytes o.helper_loader.module_name) lowered imported last_names
-  pub is_imported : imports_helpers o (lowers_using o split) moved ≡ true → IsImported (string_bytes o.helper_loader.module_name) lowered imported last_names
+  pub imports : Imports (imports_helpers o (lowers_using o split) moved) (string_bytes o.helper_loader.module_name) shared imported last_names
+  pub is_imported : imports_helpers o (lowers_using o split) moved ≡ true → IsImported (string_bytes o.helper_loader.module_name) shared imported last_names
   -- And last the constructors of classes that extend others set their name for `this` behind `super(..)`, by steps of a row that does so: each name
   -- keeps its binding, what is written has form, keeps all static rules, asks for the same modules and exports the same names.
   pub sets : Sets (sets_this o source) later_names imported written
   pub is_set : IsSet (sets_this o source) imported written
-  pub all_names : names ≡ head_names ++ context_names ++ top_names ++ first_names ++ later_names ++ last_names
+  pub all_names : names ≡ head_names ++ context_names ++ top_names ++ first_names ++ later_names ++ key_names ++ last_names
   -- no construct is left that the options ask to lower
   pub none : has_enabled_construct o written ≡ false
-  -- In a core program no `using` stands, no pattern moves, no helper is imported and no constructor stands, nor in one of statements where neither
-  -- `using` nor an object rest or spread is taken: the source itself and what is written run alike (`LowersInPlace`).
+  -- In a core program no `using` stands, no pattern moves, no list is shared, no helper is imported and no constructor stands, nor in one of statements
+  -- where neither `using` nor an object rest or spread is taken: the source itself and what is written run alike (`LowersInPlace`).
   pub core : IsCoreProgram source → IsCoreResult o source written names
   pub statements : using_there o source ≡ false → rests_there o source ≡ false → imports_helpers o false source ≡ false → RunsAsStatements o source → RunAlike (supply_there o source) (assumes_no_all o source) source written
   -- a program that imports the helper of object spread, or requires it, runs alike under what its import or call of `require` means
@@ -125,4 +135,4 @@ pub record Lowers (o : EnvOptions) (source written : Tree) (names : List Text) :
   -- where the options ask for no construct of the source, nothing is changed
   pub unchanged : has_enabled_construct o source ≡ false → IsAsBefore source written names
   -- the nodes of the source and of what is written, with those of the imports: where a name is set behind `super(..)`, three times as many
-  pub size : tree_size written ≤ (if sets_this o source then 3 else 1) * (most_for_each (using_there o source) (rests_there o source) (splits_exports o source) * tree_size source + (if imports_helpers o (lowers_using o split) moved then 100 else 64))
+  pub size : tree_size written ≤ (if sets_this o source then 3 else 1) * (most_for_each (using_there o source) (rests_there o source) (splits_exports o source) * tree_size source + (if imports_helpers o (lowers_using o split) moved then 36 else 0))

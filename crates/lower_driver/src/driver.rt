@@ -1,6 +1,6 @@
 //! One run: a program is read and checked, its exports of object rests are split, its `using` moves out of heads of loops and is lowered, patterns with an
-//! object rest move to declarations, it is visited once by the lowerings that its options ask for, walked for its arrows and for its object rests, its helpers are
-//! imported, its constructors set their name for `this`, and it is written.
+//! object rest move to declarations, it is visited once by the lowerings that its options ask for, walked for its arrows and for its object rests, its lists of
+//! excluded keys become constants, its helpers are imported, its constructors set their name for `this`, and it is written.
 ghost use Rattle.std.specs.Prelude.{◌≡◌, ◌<◌, ◌∷◌, ◌*◌, ◌^◌, [], IfErr, IfOk, None, false, map, option_map, string_bytes, true};
 ghost use Rattle.serde_json.specs.View.{view};
 ghost use Rattle.es_tree.specs.Constructs.{has_enabled_construct};
@@ -28,6 +28,7 @@ use crate::importing::import_helpers;
 use crate::moving::move_patterns;
 use crate::reading::{read_bytes, read_source};
 use crate::resources::{asks_for_using, lower_top, lower_using, move_heads};
+use crate::sharing::share_keys;
 use crate::splitting::split_exports;
 use crate::visiting::{take_rests, visit, walk};
 use es_json::program::ReadProgram;
@@ -46,6 +47,7 @@ use es_tree::operators::SourceType;
 use es_tree::options::{EnvOptions, options_fault};
 use es_unsupported::finding::find_unsupported;
 use lower_editions::es2020::ES2020;
+use lower_excluded_keys::{names_itself, shares_keys};
 use lower_helper_imports::{HelperImports, own_call};
 use lower_temporaries::state::TransformState;
 use lower_temporaries::warning::Warning;
@@ -206,18 +208,22 @@ fn lower_constructs(
     let split = split_exports(alloc, read, options)?;
     let asked = asks_for_using(&split.program, options);
     let own = own_call(&split.program, options);
+    let named = names_itself(&split.program, options);
     let (headed, mut names) = move_heads(alloc, split, asked)?;
     let (used, mut contexts) = lower_using(alloc, headed, asked)?;
     let (topped, mut top) = lower_top(alloc, used, asked)?;
     let (moved, mut first) = move_patterns(alloc, topped, options)?;
     let imports = HelperImports::of_program(&moved.program, options, asked, own);
+    let shares = shares_keys(&moved.program, options, named);
     let (lowered, ctx) = lower_in_place(alloc, moved, options, asked, own, imports)?;
-    let (imported, mut last) = import_helpers(alloc, lowered, options, imports.are_asked())?;
+    let (shared, mut keys) = share_keys(alloc, lowered, shares)?;
+    let (imported, mut last) = import_helpers(alloc, shared, options, imports.are_asked())?;
     let program = set_this(imported, &ctx, sets)?;
     names.append(&mut contexts)?;
     names.append(&mut top)?;
     names.append(&mut first)?;
     names.append(&mut ctx.into_uids())?;
+    names.append(&mut keys)?;
     names.append(&mut last)?;
     Ok((program, names))
 }

@@ -1,4 +1,4 @@
-//! What comes last of a run: helpers that are no properties of `babelHelpers` are imported, or required by a script.
+//! What comes once lists of excluded keys are constants: helpers that are no properties of `babelHelpers` are imported, or required by a script.
 ghost use Rattle.std.specs.Prelude.{◌≡◌, IfOk, map, string_bytes, true};
 ghost use Rattle.es_tree.specs.HasForm.{has_form};
 ghost use Rattle.es_tree.specs.declared.table.Sort.TheVariants.{Program as s-Program};

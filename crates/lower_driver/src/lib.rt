@@ -8,5 +8,6 @@ mod importing;
 mod moving;
 mod reading;
 mod resources;
+mod sharing;
 mod splitting;
 mod visiting;

@@ -11,7 +11,7 @@ use Rattle.es_helper_calls.specs.HelperCalls.{bound_of, calling, helpers_called}
 use Rattle.es_helper_calls.specs.Importing.{is_module}
 use Rattle.es_helper_imports.specs.Imported.{AreFresh, ImportsTo, helper_source, imported_as, imports_of, unmarked}
 use Rattle.es_helper_imports.proofs.BareCalls.{bare-calling}
-use Rattle.es_helper_imports.proofs.TopCalls.{bare-top}
+use Rattle.es_helper_imports.proofs.BareTops.{bare-top}
 use Rattle.es_top_imports.specs.TopImports.{top_of, with_top}
 use Rattle.lower_helper_imports.specs.Parts.{all_statements, callee_of, source_type, top_statement}
 use Rattle.lower_helper_imports.proofs.PutStatements.{statements_of}

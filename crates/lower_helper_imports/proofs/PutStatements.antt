@@ -1,8 +1,8 @@
 -- The statements that import helpers, put in one after the other, and the program with all of them.
-use Rattle.std.proofs.Common.{◌≡◌, ◌∙◌, ◌+◌, ◌∷◌, List, [], ap, codes, inl, inr, length, map, refl, subst, sym, ℕ}
+use Rattle.std.proofs.Common.{◌≡◌, ◌∙◌, ◌+◌, ◌∷◌, List, [], Vec, ap, codes, inl, inr, length, map, refl, subst, sym, ℕ}
 use Rattle.std.specs.Prelude.{◌⊎◌, String, bytes_eq, insert, string_bytes}
 use Rattle.std.specs.declared.alloc.Global.{Global}
-use Rattle.es_tree.specs.Tree.{Tree, done, ◌then◌, many, statements, trees}
+use Rattle.es_tree.specs.Tree.{Tree, done, ◌then◌, many, statements, empty, ◌before◌, trees}
 use Rattle.es_tree.specs.Views.{plain}
 use Rattle.es_tree.specs.Words.{Text, source_type_text}
 use Rattle.es_tree.specs.declared.helper.Helper.{Helper}
@@ -57,3 +57,10 @@ closed-program e q p m hs xs same is put =
     let sort : q.source_type ≡ source_type (is_module p) = ap (λ (r : Program). r.source_type) same ∙ sym (sort-is e p is) in
     ap plain_program same ∙ ap (λ ts. plain e.id e.span (k-Program e.source_type e.scope) (many (trees e.directives.items) then statements ts then done)) put
     ∙ ap (λ v. with_top (trees (statements_of q.source_type m hs xs)) v) is ∙ ap (λ t. with_top (trees (statements_of t m hs xs)) p) sort
+
+-- with one statement more behind its imports it is that with the statement at its top
+pub put-behind : (e : Program) (body : Vec Tree Global) (s : Tree) (k : ℕ) → k ≡ imports_before e.body.items → body.items ≡ insert e.body.items k s → plain_program (record e { body = body }) ≡ with_top (s before empty) (plain_program e)
+put-behind e body s k first put =
+    let ts = e.body.items in
+    let all = inserted-all k ts (s ∷ []) (k + 1) body.items first (inserted-next k ts (s ∷ []) k ts body.items [] s put (inserted-none k ts (s ∷ []) first)) in
+    ap (λ us. plain e.id e.span (k-Program e.source_type e.scope) (many (trees e.directives.items) then statements us then done)) all

@@ -15,7 +15,7 @@ use lower_fresh_names::nodes::new_name;
 use std::alloc::{AllocError, Global};
 
 /// The id of made nodes.
-pub(crate) const ID: NodeId = NodeId(0);
+pub const ID: NodeId = NodeId(0);
 
 /// The helpers that the built lowerings call, or hand on.
 static MADE_HELPERS: [Helper; 6] = [
@@ -121,7 +121,7 @@ fn handed_on(helper: Option<Helper>) -> Option<Helper>
 }
 
 /// The helper that the expression is, as a property of `babelHelpers`.
-fn helper_of(callee: &Node) -> Option<Helper>
+pub fn helper_of(callee: &Node) -> Option<Helper>
     ensures { result ≡ helper_of callee.now }
 {
     match (&callee.kind, callee.fields.as_slice()) {

@@ -23,10 +23,10 @@ ghost use Rattle.es_tree.specs.declared.table.Sort.TheVariants.{Program as s-Pro
 ghost use Rattle.es_helper_imports.specs.Imported.{ImportsTo};
 ghost use Rattle.es_steps.specs.CoreBridge.{first_whole};
 
-mod calls;
+pub mod calls;
 mod finding;
 mod names;
-mod statements;
+pub mod statements;
 
 use crate::calls::{call_by_names, helpers_called};
 pub use crate::finding::{HelperImports, own_call};

@@ -1,8 +1,9 @@
 //! The statements that import helpers: `import _objectSpread from "@oxc-project/runtime/helpers/objectSpread2";` in a module (ECMA-262, 16.2.2), and
 //! `var _objectSpread = require("@oxc-project/runtime/helpers/objectSpread2");` in a script.
-ghost use Rattle.std.specs.Prelude.{◌≡◌, IfOk, map, string_bytes};
-ghost use Rattle.es_tree.specs.Tree.{trees};
+ghost use Rattle.std.specs.Prelude.{◌≡◌, IfOk, OnOk, map, string_bytes};
+ghost use Rattle.es_tree.specs.Tree.{◌before◌, empty, trees};
 ghost use Rattle.es_statements.specs.ProgramArity.{IsProgram};
+ghost use Rattle.es_statements.specs.ProgramPlain.{plain_program};
 ghost use Rattle.es_helper_calls.specs.Importing.{is_module};
 ghost use Rattle.es_helper_imports.specs.Imported.{helper_source};
 ghost use Rattle.es_steps.specs.Open.{is_import};
@@ -47,6 +48,15 @@ pub(crate) fn import_all(
         index += 1;
     }
     program.close(alloc)
+}
+
+/// Puts a statement behind the imports that a program begins with. Fails only for want of memory.
+pub fn put_behind_imports(program: &mut Program, statement: Statement) -> Result<(), AllocError>
+    ensures { OnOk result (plain_program program.new ≡ with_top (statement before empty) (plain_program program.old)) }
+{
+    let index = imports_before(program.body.as_slice());
+    program.body.insert(index, statement)?;
+    Ok(())
 }
 
 /// How many imports a program begins with.

@@ -29,22 +29,22 @@ lower_tree-requires-clause-size c = rw c.in_ok-read.ensures.tree (generated-smal
 uncapped : (n : ℕ) → n < 2 ^ 64 → capped n ≡ n
 uncapped n small = omega (arith, small)
 
-more-at-most : (imports : Bool) → (if imports then 100 else 64) ≤ 100
+more-at-most : (imports : Bool) → (if imports then 36 else 0) ≤ 36
 more-at-most true = omega arith
 more-at-most false = omega arith
 
-within : (sets using rests splits imports : Bool) (n m : ℕ) → m ≤ (if sets then 3 else 1) * (most_for_each using rests splits * n + (if imports then 100 else 64)) → n < 2 ^ 20 → m < 2 ^ 64
+within : (sets using rests splits imports : Bool) (n m : ℕ) → m ≤ (if sets then 3 else 1) * (most_for_each using rests splits * n + (if imports then 36 else 0)) → n < 2 ^ 20 → m < 2 ^ 64
 within sets using rests splits imports n m size small =
     let some = least using rests splits imports n small in
-    thrice sets (most_for_each using rests splits * n + (if imports then 100 else 64)) size some
+    thrice sets (most_for_each using rests splits * n + (if imports then 36 else 0)) size some
   where
-    least : (using rests splits imports : Bool) (n : ℕ) → n < 2 ^ 20 → most_for_each using rests splits * n + (if imports then 100 else 64) < 2 ^ 32
+    least : (using rests splits imports : Bool) (n : ℕ) → n < 2 ^ 20 → most_for_each using rests splits * n + (if imports then 36 else 0) < 2 ^ 33
     least true rests splits imports n small = let more = more-at-most imports in omega (arith, small, more)
     least false true true imports n small = let more = more-at-most imports in omega (arith, small, more)
     least false true false imports n small = let more = more-at-most imports in omega (arith, small, more)
     least false false splits imports n small = let more = more-at-most imports in omega (arith, small, more)
 
-    thrice : (sets : Bool) (k : ℕ) → m ≤ (if sets then 3 else 1) * k → k < 2 ^ 32 → m < 2 ^ 64
+    thrice : (sets : Bool) (k : ℕ) → m ≤ (if sets then 3 else 1) * k → k < 2 ^ 33 → m < 2 ^ 64
     thrice true k h small = omega (arith, h, small)
     thrice false k h small = omega (arith, h, small)
 

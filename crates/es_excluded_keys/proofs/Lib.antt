@@ -1,0 +1,9 @@
+pub mod TakenCalls
+pub mod SharedCalls
+pub mod SharedLists
+pub mod MarkedTrees
+pub mod TopFinds
+pub mod KeysShared
+pub mod NoConstructs
+pub mod Sizes
+pub mod SameSort

@@ -1,0 +1,2 @@
+pub mod ExcludedKeys
+pub mod Laws

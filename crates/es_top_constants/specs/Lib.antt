@@ -1,0 +1,2 @@
+pub mod TopConstants
+pub mod Laws
