@@ -8,3 +8,15 @@ pub mod Kept
 pub mod NoSilence
 pub mod SomeOptions
 pub mod StoredSteps
+pub mod LiteralKeys
+pub mod SeenPlaces
+pub mod SparedNames
+pub mod TakenGroups
+pub mod TakenNames
+pub mod SourcePlaces
+pub mod SeenPrograms
+pub mod TakenPlaces
+pub mod NestedPlaces
+pub mod Nests
+pub mod KeyLeaves
+pub mod Takes

@@ -105,12 +105,12 @@ pub data StoredAt (w : Whole) (vx : Bool × Text) : Tree → Tree → Type 0 whe
 abbrev pub SomeStored : Whole → Tree → Tree → Type 0
 SomeStored w a b = Picked (Bool × Text) (λ i. StoredAt w i a b)
 
-record Shape (p : Tree) : Type 0 where
-  label : Label
-  parts : Trees
-  same : p ≡ pattern_node label parts
+pub record Shape (p : Tree) : Type 0 where
+  pub label : Label
+  pub parts : Trees
+  pub same : p ≡ pattern_node label parts
 
-plain_shape : (p : Tree) → is_plain_pattern p ≡ true → Shape p
+pub plain_shape : (p : Tree) → is_plain_pattern p ≡ true → Shape p
 plain_shape (node ObjectPattern l (many ps then done)) e = record { label = l; parts = ps; same = refl }
 plain_shape (node ObjectPattern l (many ps then (f then fs))) e = absurd (let no : false ≡ true = (and_parts (bears_rest (node ObjectPattern l (many ps then (f then fs)))) false e).1 in cc no)
 plain_shape (node ObjectPattern l (missing then fs)) e = absurd (let no : false ≡ true = (and_parts (bears_rest (node ObjectPattern l (missing then fs))) false e).1 in cc no)
@@ -119,22 +119,22 @@ plain_shape (node ObjectPattern l (statements t then fs)) e = absurd (let no : f
 plain_shape (node ObjectPattern l done) e = absurd (let no : false ≡ true = (and_parts (bears_rest (node ObjectPattern l done)) false e).1 in cc no)
 plain_shape (node k l fs) e = absurd (cc e)
 
-row_nodes : {n : Site} {s s' : Ledger} {x y : Spot} → RestRow n s x s' y → AtNodes x y
+pub row_nodes : {n : Site} {s s' : Ledger} {x y : Spot} → RestRow n s x s' y → AtNodes x y
 row_nodes (stores m l a c p e x b1 b2 b3 b4 b5 b6 b7) = tt
 row_nodes (takes m l lp lr ls a ps c t xs b1 b2 b3 b4 b5 b6 b7 b8 b9) = tt
 row_nodes (nested m l lp lq ls a ps rs c k p v u x b1 b2 b3 b4 b5 b6 b7 b8 b9) = tt
 
-row_pending : {n : Site} {s s' : Ledger} {x y : Spot} → RestRow n s x s' y → pending_in s' ≡ pending_in s
+pub row_pending : {n : Site} {s s' : Ledger} {x y : Spot} → RestRow n s x s' y → pending_in s' ≡ pending_in s
 row_pending (stores m l a c p e x b1 b2 b3 b4 b5 b6 b7) = refl
 row_pending (takes m l lp lr ls a ps c t xs b1 b2 b3 b4 b5 b6 b7 b8 b9) = refl
 row_pending (nested m l lp lq ls a ps rs c k p v u x b1 b2 b3 b4 b5 b6 b7 b8 b9) = refl
 
-row_this : {n : Site} {s s' : Ledger} {x y : Spot} → RestRow n s x s' y → this_in s' ≡ this_in s
+pub row_this : {n : Site} {s s' : Ledger} {x y : Spot} → RestRow n s x s' y → this_in s' ≡ this_in s
 row_this (stores m l a c p e x b1 b2 b3 b4 b5 b6 b7) = refl
 row_this (takes m l lp lr ls a ps c t xs b1 b2 b3 b4 b5 b6 b7 b8 b9) = refl
 row_this (nested m l lp lq ls a ps rs c k p v u x b1 b2 b3 b4 b5 b6 b7 b8 b9) = refl
 
-row_top : {n : Site} {s s' : Ledger} {x y : Spot} → RestRow n s x s' y → top_beside s' ≡ top_beside s
+pub row_top : {n : Site} {s s' : Ledger} {x y : Spot} → RestRow n s x s' y → top_beside s' ≡ top_beside s
 row_top (stores m l a c p e x b1 b2 b3 b4 b5 b6 b7) = refl
 row_top (takes m l lp lr ls a ps c t xs b1 b2 b3 b4 b5 b6 b7 b8 b9) = refl
 row_top (nested m l lp lq ls a ps rs c k p v u x b1 b2 b3 b4 b5 b6 b7 b8 b9) = refl
@@ -158,17 +158,17 @@ stores-rule = record {
 }
 
 -- IT DECLARES ITS NAME MORE
-lone_joined : (a c : Trees) (l : Label) (p e : Tree) → is_lone_declarator (joined_trees a (declares_as l p e before c)) ≡ false
+pub lone_joined : (a c : Trees) (l : Label) (p e : Tree) → is_lone_declarator (joined_trees a (declares_as l p e before c)) ≡ false
 lone_joined empty empty l p e = refl
 lone_joined empty (d before c) l p e = refl
 lone_joined (d before empty) c l p e = refl
 lone_joined (d before (b before a)) c l p e = refl
 
-or_true : (b : Bool) → (b || true) ≡ true
+pub or_true : (b : Bool) → (b || true) ≡ true
 or_true true = refl
 or_true false = refl
 
-one_name : (x y : Text) → (bytes_eq y x || false) ≡ true → y ≡ x
+pub one_name : (x y : Text) → (bytes_eq y x || false) ≡ true → y ≡ x
 one_name x y e = at (bytes_eq y x) refl e
   where
     at : (b : Bool) → bytes_eq y x ≡ b → (b || false) ≡ true → y ≡ x
@@ -202,11 +202,11 @@ grow w i _ _ (stored_at m l lp a c ps e s word new) =
     grows m (joined_trees a (declares_as l (pattern_node lp ps) e before c)) _ word (lone_joined a c l (pattern_node lp ps) e) (more_names i.1 l lp ps c e s a) (names_it i.1 l lp ps c e s a)
 
 -- IT IS A ROW OF THE MACHINE
-joined_same : (a c : Trees) → joined_trees a c ≡ followed a c
+pub joined_same : (a c : Trees) → joined_trees a c ≡ followed a c
 joined_same empty c = refl
 joined_same (d before a) c = ap (λ ts. d before ts) (joined_same a c)
 
-joined_avoids : (bad : Level → Text → Bool) (t : Take) (a c : Trees) → avoids_trees bad t (joined_trees a c) ≡ true → (avoids_trees bad t a ≡ true) × (avoids_trees bad t c ≡ true)
+pub joined_avoids : (bad : Level → Text → Bool) (t : Take) (a c : Trees) → avoids_trees bad t (joined_trees a c) ≡ true → (avoids_trees bad t a ≡ true) × (avoids_trees bad t c ≡ true)
 joined_avoids bad t empty c h = (refl, h)
 joined_avoids bad t (d before a) c h =
     let p = and_parts (avoids bad t d) (avoids_trees bad t (joined_trees a c)) h in
@@ -217,10 +217,10 @@ joined_avoids bad t (d before a) c h =
     both true b e f = f
     both false b e f = absurd (cc e)
 
-declared_is : (ds : List Declared) (x : Text) → declares ds x ≡ true → is_declared ds x ≡ true
+pub declared_is : (ds : List Declared) (x : Text) → declares ds x ≡ true → is_declared ds x ≡ true
 declared_is ds x h = ap (λ b. not (is_free b)) (top_bound ds x) ∙ ap not (entered_free ds [] (λ z. free) x refl ∙ ap (λ es. not (declares es x)) (append-nil ds) ∙ ap not h)
 
-undeclared_is : (ds : List Declared) (y : Text) → is_declared ds y ≡ true → declares ds y ≡ true
+pub undeclared_is : (ds : List Declared) (y : Text) → is_declared ds y ≡ true → declares ds y ≡ true
 undeclared_is ds y h = at (declares ds y) refl
   where
     at : (b : Bool) → declares ds y ≡ b → b ≡ true
@@ -229,7 +229,7 @@ undeclared_is ds y h = at (declares ds y) refl
         let f : is_free (scope_of ds y) ≡ true = ap is_free (top_bound ds y) ∙ entered_free ds [] (λ z. free) y refl ∙ ap (λ es. not (declares es y)) (append-nil ds) ∙ ap not g in
         absurd (let no : true ≡ false = sym h ∙ ap not f in cc no)
 
-still_declared : {fresh : Text → Bool} {ds es : List Declared} → NamesMore fresh ds es → (y : Text) → declares ds y ≡ true → declares es y ≡ true
+pub still_declared : {fresh : Text → Bool} {ds es : List Declared} → NamesMore fresh ds es → (y : Text) → declares ds y ≡ true → declares es y ≡ true
 still_declared no_names y e = e
 still_declared (as_before {d = d} {ds = ds} {es = es} h) y e = at (bytes_eq d.name y) (declares ds y) (declares es y) e (still_declared h y)
   where
@@ -238,7 +238,7 @@ still_declared (as_before {d = d} {ds = ds} {es = es} h) y e = at (bytes_eq d.na
     at false b c e f = f e
 still_declared (one_more {d = d} e h) y g = ap (λ b. bytes_eq d.name y || b) (still_declared h y g) ∙ or_true (bytes_eq d.name y)
 
-no_using : (a b : Bool) → b ≡ true → not (a && b) ≡ true → a ≡ false
+pub no_using : (a b : Bool) → b ≡ true → not (a && b) ≡ true → a ≡ false
 no_using true true e h = absurd (cc h)
 no_using true false e h = absurd (cc e)
 no_using false b e h = refl
@@ -327,7 +327,7 @@ module _ (u : Supply) (w : Whole) (v : Bool) (x : Text) (new : IsNew w x) (p q :
 -- what the changed place says
 module _ (A : Tree → Tree → Type 0) (T : Type 0) (says : (a b : Tree) → A a b → T) where
   mutual
-    said_of : {a b : Tree} → Changed A a b → T
+    pub said_of : {a b : Tree} → Changed A a b → T
     said_of (here {a = a} {b = b} h) = says a b h
     said_of (below h) = said_in h
 
@@ -344,7 +344,7 @@ module _ (A : Tree → Tree → Type 0) (T : Type 0) (says : (a b : Tree) → A 
     said_among (head_of h) = said_of h
     said_among (tail_of h) = said_among h
 
-kind_program : (t : Tree) → has_form s-Program t ≡ true → is_program (kind_of t) ≡ true
+pub kind_program : (t : Tree) → has_form s-Program t ≡ true → is_program (kind_of t) ≡ true
 kind_program (node k l fs) h = subst (λ j. is_program j ≡ true) (sym (form-placed (node k l fs) h).0) refl
 
 -- of an open program with nothing pending
