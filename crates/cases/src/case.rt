@@ -1,4 +1,4 @@
-//! Files of cases, whose fields are taken by name: a derived reader of sixteen fields costs a minute of proof.
+//! Files of cases, whose fields are taken by name: a derived reader of so many fields costs minutes of proof.
 use anyhow::bail;
 use serde_json::Value;
 use std::fs;
@@ -55,9 +55,19 @@ impl<'f> Case<'f> {
         self.0.get("input")
     }
 
-    /// The input as it stands. Where it is said in neither way, the first read fails.
+    /// The input as it stands. Where it is said in no way, the first read fails.
     pub fn bytes(self) -> Option<&'f str> {
         self.text("bytes")
+    }
+
+    /// The input in parts, each a text and how often it stands.
+    pub fn input_parts(self) -> Option<&'f Vec<Value>> {
+        self.0.get("input_parts")?.as_array()
+    }
+
+    /// Of how many statements the made script is that is the input.
+    pub fn made_statements(self) -> Option<u64> {
+        self.number("made")
     }
 
     /// The output as a tree, which is the input where that is kept.
@@ -78,13 +88,38 @@ impl<'f> Case<'f> {
         self.text("line")
     }
 
+    /// The output as a line in parts, as those of the input.
+    pub fn line_parts(self) -> Option<&'f Vec<Value>> {
+        self.0.get("line_parts")?.as_array()
+    }
+
     /// The lines of the notes.
     pub fn notes(self) -> Option<&'f Vec<Value>> {
         self.0.get("notes")?.as_array()
     }
 
     pub fn status(self) -> u64 {
-        self.0.get("status").and_then(Value::as_u64).unwrap_or(0)
+        self.number("status").unwrap_or(0)
+    }
+
+    /// The read that fails, where reads are numbered from 0.
+    pub fn failing_read(self) -> Option<u32> {
+        u32::try_from(self.number("failing_read")?).ok()
+    }
+
+    /// How many bytes of the output are taken before a write fails.
+    pub fn output_room(self) -> Option<usize> {
+        self.room("output_room")
+    }
+
+    /// How many bytes of the notes are taken before a write fails.
+    pub fn notes_room(self) -> Option<usize> {
+        self.room("notes_room")
+    }
+
+    /// Whether its input and its notes go over a reader and a writer of std, who takes no more where one in memory fails.
+    pub fn is_over_std(self) -> bool {
+        self.is_set("over_std")
     }
 
     /// Whether the output, given as an input with the same words, is written as it stands.
@@ -118,14 +153,10 @@ impl<'f> Case<'f> {
             Some("has no name")
         } else if !self.has("words") {
             Some("has no words")
-        } else if self.has("input") && self.has("bytes") {
-            Some("has an input and bytes")
-        } else if self.has("output") && self.has("kept") {
-            Some("has an output, and keeps the input")
-        } else if self.has("line") && (self.output().is_some() || self.has("canonical")) {
-            Some("has an output and a line")
-        } else if self.has("canonical") && self.output().is_some() {
-            Some("has an output and another in canonical form")
+        } else if self.has_two(&["input", "bytes", "input_parts", "made"]) {
+            Some("has two inputs")
+        } else if self.has_two(&["output", "kept", "canonical", "line", "line_parts"]) {
+            Some("has two outputs")
         } else if self.runs_again() && self.output().is_none() {
             Some("is to run again, and has no output")
         } else {
@@ -144,6 +175,28 @@ impl<'f> Case<'f> {
     fn has(self, name: &str) -> bool {
         self.0.get(name).is_some()
     }
+
+    /// Whether it has two of these fields.
+    fn has_two(self, names: &[&str]) -> bool {
+        let mut has_one = false;
+        for name in names {
+            if self.has(name) {
+                if has_one {
+                    return true;
+                }
+                has_one = true;
+            }
+        }
+        false
+    }
+
+    fn number(self, name: &str) -> Option<u64> {
+        self.0.get(name)?.as_u64()
+    }
+
+    fn room(self, name: &str) -> Option<usize> {
+        usize::try_from(self.number(name)?).ok()
+    }
 }
 
 /// Whether a case has a field of this name, which holds such values. The source and what it becomes as JavaScript,
@@ -151,10 +204,11 @@ impl<'f> Case<'f> {
 fn is_field(name: &str, value: &Value) -> bool {
     match name {
         "name" | "source" | "lowered" | "bytes" | "line" | "differs" => value.is_string(),
-        "module" | "spans" | "kept" | "again" | "by_pairs" => value.is_boolean(),
+        "module" | "spans" | "kept" | "again" | "by_pairs" | "over_std" => value.is_boolean(),
         "input" | "output" | "canonical" => true,
         "words" | "notes" => are_texts(value),
-        "status" => value.is_u64(),
+        "input_parts" | "line_parts" => are_parts(value),
+        "status" | "made" | "failing_read" | "output_room" | "notes_room" => value.is_u64(),
         _ => false,
     }
 }
@@ -162,6 +216,20 @@ fn is_field(name: &str, value: &Value) -> bool {
 fn are_texts(value: &Value) -> bool {
     match value {
         Value::Array(items) => items.iter().all(Value::is_string),
+        _ => false,
+    }
+}
+
+fn are_parts(value: &Value) -> bool {
+    match value {
+        Value::Array(items) => items.iter().all(is_part),
+        _ => false,
+    }
+}
+
+fn is_part(value: &Value) -> bool {
+    match (value.get("text"), value.get("times")) {
+        (Some(text), Some(times)) => text.is_string() && times.is_u64(),
         _ => false,
     }
 }

@@ -5,6 +5,7 @@ use crate::expected::{input_of, notes_of, output_of, words_of};
 use lower_command::mem_sink::MemSink;
 use lower_command::mem_source::MemSource;
 use lower_command::run::run_tool;
+use lower_command::std_ends::{StdSink, StdSource};
 use std::alloc::{AllocError, Global};
 
 /// What a run left.
@@ -19,26 +20,70 @@ pub struct Outcome {
 const PIECE: usize = 61;
 
 /// The most bytes of an output, and of notes.
-const ROOM: usize = 1 << 20;
+const ROOM: usize = 1 << 26;
 
 /// An input of these bytes. Where there are none, the first read fails.
-fn source_of(alloc: Global, bytes: Option<Vec<u8>>) -> Result<MemSource, AllocError> {
-    match bytes {
-        Some(bytes) => Ok(MemSource::new(bytes, PIECE, Vec::new(alloc))),
-        None => Ok(MemSource::new(Vec::new(alloc), PIECE, vec![in alloc; 0]?)),
+fn source_of(
+    alloc: Global,
+    bytes: Option<Vec<u8>>,
+    failing_read: Option<u32>,
+) -> Result<MemSource, AllocError> {
+    match (bytes, failing_read) {
+        (Some(bytes), None) => Ok(MemSource::new(bytes, PIECE, Vec::new(alloc))),
+        (Some(bytes), Some(read)) => Ok(MemSource::new(bytes, PIECE, vec![in alloc; read]?)),
+        (None, _) => Ok(MemSource::new(Vec::new(alloc), PIECE, vec![in alloc; 0]?)),
     }
 }
 
-/// Runs the tool on these words and this input.
-fn run(alloc: Global, words: &[String], input: Option<Vec<u8>>) -> Result<Outcome, AllocError> {
-    let mut source = source_of(alloc, input)?;
-    let mut output = MemSink::new(alloc, ROOM, PIECE, Vec::new(alloc))?;
-    let mut notes = MemSink::new(alloc, ROOM, PIECE, Vec::new(alloc))?;
+fn sink_of(alloc: Global, room: Option<usize>) -> Result<MemSink, AllocError> {
+    MemSink::new(alloc, room.unwrap_or(ROOM), PIECE, Vec::new(alloc))
+}
+
+/// Runs the tool on these words, over ends as the case has them.
+fn run_case(alloc: Global, case: Case<'_>, words: &[String]) -> Result<Outcome, AllocError> {
+    let input = input_of(alloc, case)?;
+    let output = sink_of(alloc, case.output_room())?;
+    if case.is_over_std() {
+        return run_over_std(alloc, case, words, input, output);
+    }
+    let source = source_of(alloc, input, case.failing_read())?;
+    let notes = sink_of(alloc, case.notes_room())?;
+    run(alloc, words, source, output, notes)
+}
+
+/// Runs the tool on these words over these ends.
+fn run(
+    alloc: Global,
+    words: &[String],
+    mut source: MemSource,
+    mut output: MemSink,
+    mut notes: MemSink,
+) -> Result<Outcome, AllocError> {
     let status = run_tool(alloc, words, &mut source, &mut output, &mut notes);
     Ok(Outcome {
         status,
         output: output.bytes().to_vec(alloc)?,
         notes: notes.bytes().to_vec(alloc)?,
+    })
+}
+
+/// Runs the tool over a reader of the input and a writer of notes of std, which has room for as many bytes as the case says.
+fn run_over_std(
+    alloc: Global,
+    case: Case<'_>,
+    words: &[String],
+    input: Option<Vec<u8>>,
+    mut output: MemSink,
+) -> Result<Outcome, AllocError> {
+    let bytes = input.unwrap_or(Vec::new(alloc));
+    let mut noted = vec![in alloc; 0u8; case.notes_room().unwrap_or(0)]?;
+    let mut source = StdSource::new(&bytes[..]);
+    let mut notes = StdSink::new(&mut noted[..]);
+    let status = run_tool(alloc, words, &mut source, &mut output, &mut notes);
+    Ok(Outcome {
+        status,
+        output: output.bytes().to_vec(alloc)?,
+        notes: noted,
     })
 }
 
@@ -51,7 +96,7 @@ pub fn compare_run(
     differences: &mut Differences,
 ) -> Result<(), AllocError> {
     let words = words_of(alloc, case, flags)?;
-    let outcome = run(alloc, &words, input_of(alloc, case)?)?;
+    let outcome = run_case(alloc, case, &words)?;
     differences.compare_statuses(u64::from(outcome.status), case.status())?;
     compare_notes(alloc, case, &outcome.notes, differences)?;
     if flags.is_empty() {
@@ -68,7 +113,16 @@ fn compare_notes(
     differences: &mut Differences,
 ) -> Result<(), AllocError> {
     let wanted = notes_of(alloc, case)?;
-    differences.compare_texts("notes", found, wanted.as_bytes())
+    let wanted = front(wanted.as_bytes(), case.notes_room());
+    differences.compare_texts("notes", found, wanted)
+}
+
+/// What of a text goes into so much room.
+fn front(text: &[u8], room: Option<usize>) -> &[u8] {
+    match room {
+        Some(room) => text.get(..room).unwrap_or(text),
+        None => text,
+    }
 }
 
 /// Compares the output, and where the case says so what it gives as an input.
@@ -80,7 +134,8 @@ fn compare_outputs(
     differences: &mut Differences,
 ) -> Result<(), AllocError> {
     let wanted = output_of(alloc, case)?;
-    differences.compare_texts("output", found, wanted.as_bytes())?;
+    let taken = front(wanted.as_bytes(), case.output_room());
+    differences.compare_texts("output", found, taken)?;
     if case.runs_again() {
         compare_again(alloc, words, wanted.as_bytes(), differences)?;
     }
@@ -94,6 +149,13 @@ fn compare_again(
     output: &[u8],
     differences: &mut Differences,
 ) -> Result<(), AllocError> {
-    let again = run(alloc, words, Some(output.to_vec(alloc)?))?;
+    let source = source_of(alloc, Some(output.to_vec(alloc)?), None)?;
+    let again = run(
+        alloc,
+        words,
+        source,
+        sink_of(alloc, None)?,
+        sink_of(alloc, None)?,
+    )?;
     differences.compare_texts("again", &again.output, output)
 }

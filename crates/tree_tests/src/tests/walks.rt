@@ -88,6 +88,15 @@ fn objects(alloc: Global, count: usize) -> Result<Value, AllocError> {
     Ok(Value::Array(objects))
 }
 
+/// So many arrays, one in the other.
+fn nested(alloc: Global, depth: u32) -> Result<Value, AllocError> {
+    let mut value = Value::Null;
+    for _i in 0..depth {
+        value = Value::Array(vec![in alloc; value]?);
+    }
+    Ok(value)
+}
+
 #[test]
 fn values_are_measured(rt: HostRuntime) -> Result<(), Fail> {
     let alloc = rt.alloc();
@@ -101,6 +110,21 @@ fn values_are_measured(rt: HostRuntime) -> Result<(), Fail> {
         matches!(
             read_program(alloc, &too_many),
             Err(LowerError::TooLarge(1_048_576))
+        )
+    );
+    Ok(())
+}
+
+#[test]
+fn a_value_nests_400_deep(rt: HostRuntime) -> Result<(), Fail> {
+    let alloc = rt.alloc();
+    let deep = nested(alloc, 400)?;
+    assert!(rt; matches!(read_program(alloc, &deep), Err(LowerError::Shape(_))));
+    let too_deep = nested(alloc, 401)?;
+    assert!(rt;
+        matches!(
+            read_program(alloc, &too_deep),
+            Err(LowerError::TooDeep(401))
         )
     );
     Ok(())

@@ -1,4 +1,0 @@
-mod ends;
-mod limits;
-mod made_script;
-mod words;
