@@ -5,3 +5,4 @@ pub mod construct;
 pub mod core_grammar;
 pub mod count;
 pub mod fields;
+pub mod rest_targets;

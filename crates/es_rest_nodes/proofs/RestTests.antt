@@ -8,7 +8,8 @@ use Rattle.es_tree.specs.Views.{plain_field, plain_fields}
 use Rattle.es_tree.specs.declared.ast_type.AstType.TheVariants.{PatternProperty, TemplateElement, VariableDeclarator}
 use Rattle.es_tree.specs.declared.node.Field.{Field as NodeField}
 use Rattle.es_runs.specs.Duplication.{has_no_fields}
-use Rattle.es_rest_shapes.specs.RestShapes.{any_child, any_child_by, any_tree, are_plain, are_plain_members, are_plain_parts, bears_second, is_misplaced, is_named_rest, is_odd_pattern, is_plain_first, is_plain_property, is_plain_target, is_stray_rest, template_text}
+use Rattle.es_tree.specs.PropertyKeys.{template_text}
+use Rattle.es_rest_shapes.specs.RestShapes.{any_child, any_child_by, any_tree, are_plain, are_plain_members, are_plain_parts, bears_second, is_misplaced, is_named_rest, is_odd_pattern, is_plain_first, is_plain_property, is_plain_target, is_stray_rest}
 use Rattle.es_rest_nodes.specs.RestFields.{is_plain_pair, is_stray_declarator, on_list, on_one, on_two, sole_text}
 
 -- LISTS

@@ -1,9 +1,12 @@
 -- Tests of patterns with a rest, as the code has them: each of what stands in a node's fields.
 use Rattle.std.specs.Prelude.{◌&&◌, ◌||◌, Bool, false, not, true, Option, None}
-use Rattle.es_tree.specs.Tree.{Tree, node, Trees, empty, ◌before◌, Fields, done, ◌then◌, Field, one, many}
+use Rattle.es_tree.specs.Tree.{Tree, node, Label, Trees, empty, ◌before◌, Fields, done, ◌then◌, Field, one, many}
 use Rattle.es_tree.specs.Words.{Text}
+use Rattle.es_tree.specs.RestTargets.{is_rest_assignment}
+use Rattle.es_tree.specs.declared.ast_type.AstType.{AstType}
 use Rattle.es_tree.specs.declared.ast_type.AstType.TheVariants.{TemplateElement}
-use Rattle.es_rest_shapes.specs.RestShapes.{any_beside, any_child, any_child_by, any_tree, bears_rest, declares_rest, is_misplaced, is_name, is_odd_pattern, is_plain_key, is_plain_value, is_read_key, is_rest_declarator, second_text}
+use Rattle.es_tree.specs.PropertyKeys.{is_read_key, second_text}
+use Rattle.es_rest_shapes.specs.RestShapes.{any_beside, any_child, any_child_by, any_tree, bears_rest, declares_rest, is_misplaced, is_name, is_odd_pattern, is_plain_key, is_plain_value, is_rest_declarator}
 
 -- one child, of which this holds
 abbrev pub on_one : (Tree → Bool) → Fields → Bool
@@ -47,6 +50,11 @@ is_stray_declaration fs = holds_pattern_list fs || (not (is_list fs) && any_chil
 abbrev pub is_stray_property : Fields → Bool
 is_stray_property done = false
 is_stray_property (k then fs) = any_child_by is_misplaced k || any_beside fs
+
+-- what an assignment may not hold: a pattern with a rest beside what it assigns to, and there one that isn't lowered
+abbrev pub is_stray_assignment : AstType → Label → Fields → Bool
+is_stray_assignment k l done = false
+is_stray_assignment k l (f then fs) = (any_child_by is_misplaced f && not (is_rest_assignment k l (f then fs))) || any_child is_misplaced fs
 
 -- what an export may not hold
 abbrev pub is_exported_rest : Tree → Bool

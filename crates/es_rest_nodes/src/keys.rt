@@ -1,13 +1,14 @@
 //! Keys whose text stands in the program: literals, and templates without expressions (ECMA-262, 13.2.3 and 13.2.8).
-ghost use Rattle.std.specs.Prelude.{◌≡◌, option_copied};
+ghost use Rattle.std.specs.Prelude.{◌≡◌, IfOk, option_copied, string_bytes};
 ghost use Rattle.es_tree.specs.Tree.{trees};
 ghost use Rattle.es_tree.specs.Views.{plain_field, plain_fields};
 ghost use Rattle.es_runs.specs.Duplication.{has_no_fields};
-ghost use Rattle.es_rest_shapes.specs.RestShapes.{boolean_text, is_literal_key, literal_text, template_text};
+ghost use Rattle.es_tree.specs.PropertyKeys.{boolean_text, is_literal_key, key_text, literal_text, template_text};
 ghost use Rattle.es_rest_nodes.specs.RestFields.{element_text, lists_text, sole_text};
 
 use es_tree::kind::Kind;
 use es_tree::node::{Field, Node};
+use std::alloc::{AllocError, Global};
 
 /// The text of a literal as a key, or of a template without expressions: `"null"` for `null`, and `"16"` for `0x10`. None for any other node.
 pub fn literal_text(literal: &Node) -> Option<&str>
@@ -23,6 +24,19 @@ pub fn literal_text(literal: &Node) -> Option<&str>
     }
 }
 
+/// The text of a key: that of a literal, `"16"` for `0x10`, or the one that it has, `"a"` for `a`.
+pub fn key_text(key: &Node, alloc: Global) -> Result<String, AllocError>
+    ensures { IfOk result (λ text. string_bytes text ≡ key_text key.now) }
+{
+    if let Some(text) = literal_text(key) {
+        return String::from_str(alloc, text);
+    }
+    match key.kind.text(0) {
+        Some(text) => String::from_str(alloc, text),
+        None => Ok(String::new(alloc)),
+    }
+}
+
 fn boolean_text(value: bool) -> &'static str
     ensures { result.now ≡ boolean_text value }
 {
@@ -30,7 +44,7 @@ fn boolean_text(value: bool) -> &'static str
 }
 
 /// Whether a key is a literal, or a template without expressions.
-pub(crate) fn is_literal_key(key: &Node) -> bool
+pub fn is_literal_key(key: &Node) -> bool
     ensures { result ≡ is_literal_key key.now }
 {
     literal_text(key).is_some()

@@ -3,9 +3,10 @@ ghost use Rattle.std.specs.Prelude.{◌≡◌};
 ghost use Rattle.es_tree.specs.Tree.{fields_of, kind_of, label_of, trees};
 ghost use Rattle.es_tree.specs.Views.{plain_field, plain_fields};
 ghost use Rattle.es_rest_shapes.specs.RestShapes.{any_beside, any_child, any_child_by, any_tree, bears_rest, is_misplaced, is_odd_pattern, is_rest_declaration, is_rest_declarator, is_stray_rest};
-ghost use Rattle.es_rest_nodes.specs.RestFields.{holds_odd_pair, holds_pattern_list, holds_rest_declarator, is_exported_rest, is_list, is_pair, is_stray_declaration, is_stray_declarator, is_stray_property};
+ghost use Rattle.es_rest_nodes.specs.RestFields.{holds_odd_pair, holds_pattern_list, holds_rest_declarator, is_exported_rest, is_list, is_pair, is_stray_assignment, is_stray_declaration, is_stray_declarator, is_stray_property};
 
 use crate::patterns::{bears_rest, is_plain_pattern, is_rest_declarator};
+use es_nodes::rest_targets::is_rest_assignment;
 use es_tree::kind::Kind;
 use es_tree::node::{Field, Node};
 
@@ -19,7 +20,20 @@ pub fn is_stray_rest(node: &Node) -> bool
         Kind::ExportNamedDeclaration => any_exported(node.fields.as_slice()),
         Kind::ObjectPattern | Kind::AssignmentPattern => any_beside(node.fields.as_slice()),
         Kind::PatternProperty { .. } => is_stray_property(node.fields.as_slice()),
+        Kind::AssignmentExpression { .. } => is_stray_assignment(node),
         _ => any_misplaced(node.fields.as_slice()),
+    }
+}
+
+/// Whether an assignment holds one beside what it assigns to, or that one where it isn't lowered.
+fn is_stray_assignment(node: &Node) -> bool
+    ensures { result ≡ is_stray_assignment (kind_of node.now) (label_of node.now) (fields_of node.now) }
+{
+    match node.fields.as_slice() {
+        [target, others @ ..] => {
+            (holds_misplaced(target) && !is_rest_assignment(node)) || any_misplaced(others)
+        }
+        [] => false,
     }
 }
 

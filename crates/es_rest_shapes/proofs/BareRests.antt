@@ -1,15 +1,18 @@
 -- Ids and marks mean nothing to patterns with a rest, whether they are declared or stray.
 use Rattle.std.proofs.Common.{◌≡◌, ◌∙◌, refl, sym, ap}
-use Rattle.std.specs.Prelude.{Bool, ◌||◌, ◌&&◌, not, is_some}
+use Rattle.std.specs.Prelude.{Bool, ◌||◌, ◌&&◌, not, bytes_eq, codes, is_some}
 use Rattle.es_tree.specs.Bare.{bare, bare_field, bare_fields, bare_label, bare_trees}
 use Rattle.es_tree.specs.Constructs.{any_kind, field_at, has_member, is_rest}
-use Rattle.es_tree.specs.Names.{has_computed}
+use Rattle.es_tree.specs.HasForm.{same_type}
+use Rattle.es_tree.specs.Names.{first_text, has_computed}
 use Rattle.es_tree.specs.Tree.{Tree, node, Label, Fields, done, ◌then◌, Field, missing, one, many, statements, Trees, empty, ◌before◌}
 use Rattle.es_tree.specs.Walks.{any_in_field, any_in_fields, any_in_trees, any_node}
 use Rattle.es_tree.specs.declared.ast_type.AstType.{AstType}
-use Rattle.es_tree.specs.declared.ast_type.AstType.TheVariants.{AssignmentPattern, ExportNamedDeclaration, Identifier, ObjectPattern, ObjectTarget, PatternProperty, RestElement, TemplateElement, TemplateLiteral, VariableDeclaration, VariableDeclarator}
+use Rattle.es_tree.specs.declared.ast_type.AstType.TheVariants.{AssignmentExpression, AssignmentPattern, ExportNamedDeclaration, Identifier, ObjectPattern, ObjectTarget, PatternProperty, RestElement, TemplateElement, TemplateLiteral, VariableDeclaration, VariableDeclarator}
 use Rattle.es_rest_shapes.specs.Laws.{LawBareRests}
-use Rattle.es_rest_shapes.specs.RestShapes.{any_beside, any_child, any_child_by, any_tree, are_plain_members, are_plain_parts, bears_among, bears_by, bears_first, bears_rest, bears_second, declares_rest, is_known_key, is_misplaced, is_name, is_named_rest, is_odd_pattern, is_plain_first, is_plain_key, is_plain_pattern, is_plain_property, is_plain_target, is_plain_value, is_rest_declaration, is_rest_declarator, is_stray_rest, literal_text, template_text}
+use Rattle.es_tree.specs.RestTargets.{is_rest_assignment, is_rest_target}
+use Rattle.es_tree.specs.PropertyKeys.{literal_text, template_text}
+use Rattle.es_rest_shapes.specs.RestShapes.{any_beside, any_child, any_child_by, any_tree, are_plain_members, are_plain_parts, bears_among, bears_by, bears_first, bears_rest, bears_second, declares_rest, is_known_key, is_misplaced, is_name, is_named_rest, is_odd_pattern, is_plain_first, is_plain_key, is_plain_pattern, is_plain_property, is_plain_target, is_plain_value, is_rest_declaration, is_rest_declarator, is_stray_rest}
 
 -- CHILDREN
 
@@ -182,6 +185,19 @@ declaration-bare _ l fs = refl
 declares-bare : (t : Tree) → declares_rest (bare t) ≡ declares_rest t
 declares-bare (node k l fs) = declaration-bare k l fs
 
+-- ASSIGNMENTS
+
+rest-target-bare : (f : Field) → is_rest_target (bare_field f) ≡ is_rest_target f
+rest-target-bare missing = refl
+rest-target-bare (one (node k l fs)) = ap (λ b. same_type k ObjectTarget && b) (members-bare fs)
+rest-target-bare (many ts) = refl
+rest-target-bare (statements ts) = refl
+
+pub assignment-bare : (k : AstType) (l : Label) (fs : Fields) → is_rest_assignment k (bare_label l) (bare_fields fs) ≡ is_rest_assignment k l fs
+assignment-bare AssignmentExpression l (f then fs) = ap (λ b. bytes_eq (first_text l.texts) (codes "=") && b) (rest-target-bare f)
+assignment-bare AssignmentExpression l done = refl
+assignment-bare _ l fs = refl
+
 -- THE OTHERS
 
 misplaced-bare : (t : Tree) → is_misplaced (bare t) ≡ is_misplaced t
@@ -219,6 +235,8 @@ stray-bare ObjectPattern l fs = beside-bare fs
 stray-bare PatternProperty l (k then fs) = λ i. child-bare is_misplaced misplaced-bare k i || beside-bare fs i
 stray-bare PatternProperty l done = refl
 stray-bare AssignmentPattern l fs = beside-bare fs
+stray-bare AssignmentExpression l (f then fs) = λ i. (child-bare is_misplaced misplaced-bare f i && not (assignment-bare AssignmentExpression l (f then fs) i)) || all-bare fs i
+stray-bare AssignmentExpression l done = refl
 stray-bare _ l fs = all-bare fs
 
 -- EVERY NODE
@@ -250,4 +268,4 @@ pub strays-bare : (t : Tree) → any_node is_stray_rest (bare t) ≡ any_node is
 strays-bare t = nodes-bare is_stray_rest stray-bare t
 
 pub law_bare_rests_proof : LawBareRests
-law_bare_rests_proof t u e = record { strays = bare-alike is_stray_rest stray-bare t u e; declared = bare-alike is_rest_declaration declaration-bare t u e }
+law_bare_rests_proof t u e = record { strays = bare-alike is_stray_rest stray-bare t u e; declared = bare-alike is_rest_declaration declaration-bare t u e; assigned = bare-alike is_rest_assignment assignment-bare t u e }

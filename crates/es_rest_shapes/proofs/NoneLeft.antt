@@ -1,13 +1,15 @@
 -- Where no pattern with a rest is declared, and none stands where it isn't lowered, there is none: each child of each node is at its place.
 use Rattle.std.proofs.Common.{◌≡◌, ◌∙◌, ap, refl, sym}
-use Rattle.std.specs.Prelude.{false, ◌||◌, ◌&&◌, not}
+use Rattle.std.specs.Prelude.{Bool, false, true, ◌||◌, ◌&&◌, not, bytes_eq, codes}
 use Rattle.std.proofs.lemmas.Bool.{or_from, or_parts}
 use Rattle.es_tree.specs.Constructs.{is_object_rest}
+use Rattle.es_tree.specs.Names.{first_text}
 use Rattle.es_tree.specs.Tree.{Tree, node, Label, Fields, done, ◌then◌, Field, missing, one, many, statements, Trees, empty, ◌before◌}
 use Rattle.es_tree.specs.Walks.{any_in_field, any_in_fields, any_in_trees, any_node}
 use Rattle.es_tree.specs.declared.ast_type.AstType.{AstType}
-use Rattle.es_tree.specs.declared.ast_type.AstType.TheVariants.{AssignmentPattern, ExportNamedDeclaration, ObjectPattern, PatternProperty, VariableDeclaration, VariableDeclarator}
-use Rattle.es_rest_shapes.specs.Laws.{LawDeclaredRests, LawNoneLeft}
+use Rattle.es_tree.specs.declared.ast_type.AstType.TheVariants.{AssignmentExpression, AssignmentPattern, ExportNamedDeclaration, ObjectPattern, ObjectTarget, PatternProperty, VariableDeclaration, VariableDeclarator}
+use Rattle.es_rest_shapes.specs.Laws.{LawAssignedRests, LawDeclaredRests, LawNoneLeft}
+use Rattle.es_tree.specs.RestTargets.{is_rest_assignment, is_rest_target}
 use Rattle.es_rest_shapes.specs.RestShapes.{any_beside, any_child, any_child_by, any_tree, bears_among, bears_by, bears_first, bears_rest, bears_second, declares_rest, is_misplaced, is_odd_pattern, is_plain_pattern, is_rest_declaration, is_rest_declarator, is_stray_rest}
 use Rattle.es_rest_shapes.proofs.Children.{either-none, fewer}
 
@@ -52,29 +54,42 @@ second-placed k fs m s =
     let h = or_parts (any_child_by is_misplaced k) (any_beside fs) s in
     or_from (any_child_by is_misplaced k) (any_child is_misplaced fs) h.0 (first-placed fs (or_parts (bears_first fs) false m).0 h.1)
 
-pub children-placed : (k : AstType) (l : Label) (fs : Fields) → is_misplaced (node k l fs) ≡ false → is_rest_declaration k l fs ≡ false → is_stray_rest k l fs ≡ false → any_child is_misplaced fs ≡ false
-children-placed VariableDeclarator l (one p then one e then done) m d s = declarator-children p e m s
-children-placed VariableDeclarator l (one p then one e then f then fs) m d s = s
-children-placed VariableDeclarator l (one p then many ts then fs) m d s = s
-children-placed VariableDeclarator l (one p then statements ts then fs) m d s = s
-children-placed VariableDeclarator l (one p then missing then fs) m d s = s
-children-placed VariableDeclarator l (one p then done) m d s = s
-children-placed VariableDeclarator l (many ts then fs) m d s = s
-children-placed VariableDeclarator l (statements ts then fs) m d s = s
-children-placed VariableDeclarator l (missing then fs) m d s = s
-children-placed VariableDeclarator l done m d s = s
-children-placed VariableDeclaration l (many ds then done) m d s = declaration-children ds d s
-children-placed VariableDeclaration l (many ds then f then fs) m d s = s
-children-placed VariableDeclaration l (one t then fs) m d s = s
-children-placed VariableDeclaration l (statements ts then fs) m d s = s
-children-placed VariableDeclaration l (missing then fs) m d s = s
-children-placed VariableDeclaration l done m d s = s
-children-placed ExportNamedDeclaration l fs m d s = export-children fs s
-children-placed ObjectPattern l fs m d s = pattern-placed l fs m s
-children-placed PatternProperty l (k then fs) m d s = second-placed k fs m s
-children-placed PatternProperty l done m d s = s
-children-placed AssignmentPattern l fs m d s = first-placed fs (or_parts (bears_first fs) false m).0 s
-children-placed _ l fs m d s = s
+-- what stands in an assignment that isn't to a pattern with a rest
+assignment-placed : (l : Label) (f : Field) (fs : Fields) → is_rest_assignment AssignmentExpression l (f then fs) ≡ false → is_stray_rest AssignmentExpression l (f then fs) ≡ false → any_child is_misplaced (f then fs) ≡ false
+assignment-placed l f fs a s =
+    let h = or_parts (any_child_by is_misplaced f && not (is_rest_assignment AssignmentExpression l (f then fs))) (any_child is_misplaced fs) s in
+    or_from (any_child_by is_misplaced f) (any_child is_misplaced fs) (target (any_child_by is_misplaced f) (is_rest_assignment AssignmentExpression l (f then fs)) a h.0) h.1
+  where
+    target : (b c : Bool) → c ≡ false → (b && not c) ≡ false → b ≡ false
+    target true false e h = h
+    target true true e h = e
+    target false c e h = refl
+
+pub children-placed : (k : AstType) (l : Label) (fs : Fields) → is_misplaced (node k l fs) ≡ false → is_rest_declaration k l fs ≡ false → is_rest_assignment k l fs ≡ false → is_stray_rest k l fs ≡ false → any_child is_misplaced fs ≡ false
+children-placed VariableDeclarator l (one p then one e then done) m d a s = declarator-children p e m s
+children-placed VariableDeclarator l (one p then one e then f then fs) m d a s = s
+children-placed VariableDeclarator l (one p then many ts then fs) m d a s = s
+children-placed VariableDeclarator l (one p then statements ts then fs) m d a s = s
+children-placed VariableDeclarator l (one p then missing then fs) m d a s = s
+children-placed VariableDeclarator l (one p then done) m d a s = s
+children-placed VariableDeclarator l (many ts then fs) m d a s = s
+children-placed VariableDeclarator l (statements ts then fs) m d a s = s
+children-placed VariableDeclarator l (missing then fs) m d a s = s
+children-placed VariableDeclarator l done m d a s = s
+children-placed VariableDeclaration l (many ds then done) m d a s = declaration-children ds d s
+children-placed VariableDeclaration l (many ds then f then fs) m d a s = s
+children-placed VariableDeclaration l (one t then fs) m d a s = s
+children-placed VariableDeclaration l (statements ts then fs) m d a s = s
+children-placed VariableDeclaration l (missing then fs) m d a s = s
+children-placed VariableDeclaration l done m d a s = s
+children-placed ExportNamedDeclaration l fs m d a s = export-children fs s
+children-placed ObjectPattern l fs m d a s = pattern-placed l fs m s
+children-placed PatternProperty l (k then fs) m d a s = second-placed k fs m s
+children-placed PatternProperty l done m d a s = s
+children-placed AssignmentPattern l fs m d a s = first-placed fs (or_parts (bears_first fs) false m).0 s
+children-placed AssignmentExpression l (f then fs) m d a s = assignment-placed l f fs a s
+children-placed AssignmentExpression l done m d a s = s
+children-placed _ l fs m d a s = s
 
 -- NONE
 
@@ -86,32 +101,35 @@ own-rest _ l fs e = e
 
 mutual
   pub law_none_left_proof : LawNoneLeft
-  law_none_left_proof (node k l fs) m s d =
+  law_none_left_proof (node k l fs) m s d a =
       let strays = or_parts (is_stray_rest k l fs) (any_in_fields is_stray_rest fs) s in
       let declared = or_parts (is_rest_declaration k l fs) (any_in_fields is_rest_declaration fs) d in
-      or_from (is_object_rest k l fs) (any_in_fields is_object_rest fs) (own-rest k l fs (or_parts (bears_rest (node k l fs)) (is_rest_declarator (node k l fs)) m).0) (none-in fs (children-placed k l fs m declared.0 strays.0) strays.1 declared.1)
+      let assigned = or_parts (is_rest_assignment k l fs) (any_in_fields is_rest_assignment fs) a in
+      or_from (is_object_rest k l fs) (any_in_fields is_object_rest fs) (own-rest k l fs (or_parts (bears_rest (node k l fs)) (is_rest_declarator (node k l fs)) m).0) (none-in fs (children-placed k l fs m declared.0 assigned.0 strays.0) strays.1 declared.1 assigned.1)
 
-  none-in : (fs : Fields) → any_child is_misplaced fs ≡ false → any_in_fields is_stray_rest fs ≡ false → any_in_fields is_rest_declaration fs ≡ false → any_in_fields is_object_rest fs ≡ false
-  none-in done m s d = refl
-  none-in (f then fs) m s d =
+  none-in : (fs : Fields) → any_child is_misplaced fs ≡ false → any_in_fields is_stray_rest fs ≡ false → any_in_fields is_rest_declaration fs ≡ false → any_in_fields is_rest_assignment fs ≡ false → any_in_fields is_object_rest fs ≡ false
+  none-in done m s d a = refl
+  none-in (f then fs) m s d a =
       let placed = or_parts (any_child_by is_misplaced f) (any_child is_misplaced fs) m in
       let strays = or_parts (any_in_field is_stray_rest f) (any_in_fields is_stray_rest fs) s in
       let declared = or_parts (any_in_field is_rest_declaration f) (any_in_fields is_rest_declaration fs) d in
-      or_from (any_in_field is_object_rest f) (any_in_fields is_object_rest fs) (none-by f placed.0 strays.0 declared.0) (none-in fs placed.1 strays.1 declared.1)
+      let assigned = or_parts (any_in_field is_rest_assignment f) (any_in_fields is_rest_assignment fs) a in
+      or_from (any_in_field is_object_rest f) (any_in_fields is_object_rest fs) (none-by f placed.0 strays.0 declared.0 assigned.0) (none-in fs placed.1 strays.1 declared.1 assigned.1)
 
-  none-by : (f : Field) → any_child_by is_misplaced f ≡ false → any_in_field is_stray_rest f ≡ false → any_in_field is_rest_declaration f ≡ false → any_in_field is_object_rest f ≡ false
-  none-by missing m s d = refl
-  none-by (one t) m s d = law_none_left_proof t m s d
-  none-by (many ts) m s d = none-all ts m s d
-  none-by (statements ts) m s d = none-all ts m s d
+  none-by : (f : Field) → any_child_by is_misplaced f ≡ false → any_in_field is_stray_rest f ≡ false → any_in_field is_rest_declaration f ≡ false → any_in_field is_rest_assignment f ≡ false → any_in_field is_object_rest f ≡ false
+  none-by missing m s d a = refl
+  none-by (one t) m s d a = law_none_left_proof t m s d a
+  none-by (many ts) m s d a = none-all ts m s d a
+  none-by (statements ts) m s d a = none-all ts m s d a
 
-  none-all : (ts : Trees) → any_tree is_misplaced ts ≡ false → any_in_trees is_stray_rest ts ≡ false → any_in_trees is_rest_declaration ts ≡ false → any_in_trees is_object_rest ts ≡ false
-  none-all empty m s d = refl
-  none-all (t before ts) m s d =
+  none-all : (ts : Trees) → any_tree is_misplaced ts ≡ false → any_in_trees is_stray_rest ts ≡ false → any_in_trees is_rest_declaration ts ≡ false → any_in_trees is_rest_assignment ts ≡ false → any_in_trees is_object_rest ts ≡ false
+  none-all empty m s d a = refl
+  none-all (t before ts) m s d a =
       let placed = or_parts (is_misplaced t) (any_tree is_misplaced ts) m in
       let strays = or_parts (any_node is_stray_rest t) (any_in_trees is_stray_rest ts) s in
       let declared = or_parts (any_node is_rest_declaration t) (any_in_trees is_rest_declaration ts) d in
-      or_from (any_node is_object_rest t) (any_in_trees is_object_rest ts) (law_none_left_proof t placed.0 strays.0 declared.0) (none-all ts placed.1 strays.1 declared.1)
+      let assigned = or_parts (any_node is_rest_assignment t) (any_in_trees is_rest_assignment ts) a in
+      or_from (any_node is_object_rest t) (any_in_trees is_object_rest ts) (law_none_left_proof t placed.0 strays.0 declared.0 assigned.0) (none-all ts placed.1 strays.1 declared.1 assigned.1)
 
 -- WHAT IS DECLARED is one
 
@@ -189,3 +207,49 @@ mutual
   undeclared-all (t before ts) e =
       let h = or_parts (any_node is_object_rest t) (any_in_trees is_object_rest ts) e in
       or_from (any_node is_rest_declaration t) (any_in_trees is_rest_declaration ts) (law_declared_rests_proof t h.0) (undeclared-all ts h.1)
+
+-- WHAT IS ASSIGNED TO is one
+
+target-none : (f : Field) → any_in_field is_object_rest f ≡ false → is_rest_target f ≡ false
+target-none (one (node ObjectTarget l fs)) e = (or_parts (is_object_rest ObjectTarget l fs) (any_in_fields is_object_rest fs) e).0
+target-none (one (node _ l fs)) e = refl
+target-none missing e = refl
+target-none (many ts) e = refl
+target-none (statements ts) e = refl
+
+pub assignment-none : (k : AstType) (l : Label) (fs : Fields) → any_in_fields is_object_rest fs ≡ false → is_rest_assignment k l fs ≡ false
+assignment-none AssignmentExpression l (f then fs) e = and-none (bytes_eq (first_text l.texts) (codes "=")) (is_rest_target f) (target-none f (or_parts (any_in_field is_object_rest f) (any_in_fields is_object_rest fs) e).0)
+  where
+    and-none : (a b : Bool) → b ≡ false → (a && b) ≡ false
+    and-none true b h = h
+    and-none false b h = refl
+assignment-none AssignmentExpression l done e = and-false (bytes_eq (first_text l.texts) (codes "="))
+  where
+    and-false : (a : Bool) → (a && false) ≡ false
+    and-false true = refl
+    and-false false = refl
+assignment-none _ l fs e = refl
+
+mutual
+  pub law_assigned_rests_proof : LawAssignedRests
+  law_assigned_rests_proof (node k l fs) e =
+      let h = or_parts (is_object_rest k l fs) (any_in_fields is_object_rest fs) e in
+      or_from (is_rest_assignment k l fs) (any_in_fields is_rest_assignment fs) (assignment-none k l fs h.1) (assigned-in fs h.1)
+
+  assigned-in : (fs : Fields) → any_in_fields is_object_rest fs ≡ false → any_in_fields is_rest_assignment fs ≡ false
+  assigned-in done e = refl
+  assigned-in (f then fs) e =
+      let h = or_parts (any_in_field is_object_rest f) (any_in_fields is_object_rest fs) e in
+      or_from (any_in_field is_rest_assignment f) (any_in_fields is_rest_assignment fs) (assigned-by f h.0) (assigned-in fs h.1)
+
+  assigned-by : (f : Field) → any_in_field is_object_rest f ≡ false → any_in_field is_rest_assignment f ≡ false
+  assigned-by missing e = refl
+  assigned-by (one t) e = law_assigned_rests_proof t e
+  assigned-by (many ts) e = assigned-all ts e
+  assigned-by (statements ts) e = assigned-all ts e
+
+  assigned-all : (ts : Trees) → any_in_trees is_object_rest ts ≡ false → any_in_trees is_rest_assignment ts ≡ false
+  assigned-all empty e = refl
+  assigned-all (t before ts) e =
+      let h = or_parts (any_node is_object_rest t) (any_in_trees is_object_rest ts) e in
+      or_from (any_node is_rest_assignment t) (any_in_trees is_rest_assignment ts) (law_assigned_rests_proof t h.0) (assigned-all ts h.1)

@@ -6,7 +6,8 @@ use Rattle.es_tree.specs.Constructs.{is_object_rest}
 use Rattle.es_tree.specs.Tree.{Tree, node, Label, Fields, done, ◌then◌, Field, missing, one, many, statements, Trees, empty, ◌before◌}
 use Rattle.es_tree.specs.Walks.{any_in_field, any_in_fields, any_in_trees, any_node}
 use Rattle.es_tree.specs.declared.ast_type.AstType.{AstType}
-use Rattle.es_tree.specs.declared.ast_type.AstType.TheVariants.{AssignmentPattern, ExportNamedDeclaration, ObjectPattern, PatternProperty, VariableDeclaration, VariableDeclarator}
+use Rattle.es_tree.specs.declared.ast_type.AstType.TheVariants.{AssignmentExpression, AssignmentPattern, ExportNamedDeclaration, ObjectPattern, PatternProperty, VariableDeclaration, VariableDeclarator}
+use Rattle.es_tree.specs.RestTargets.{is_rest_assignment}
 use Rattle.es_rest_shapes.specs.RestShapes.{any_beside, any_child, any_child_by, any_tree, bears_rest, declares_rest, is_misplaced, is_odd_pattern, is_plain_pattern, is_rest_declarator, is_stray_rest}
 use Rattle.es_rest_shapes.proofs.NoneLeft.{bears-none, declaration-rest, declarator-rest}
 
@@ -73,4 +74,11 @@ stray-none PatternProperty l (k then fs) h =
     or_from (any_child_by is_misplaced k) (any_beside fs) (child-none is_misplaced misplaced-none k g.0) (beside-none fs g.1)
 stray-none PatternProperty l done h = refl
 stray-none AssignmentPattern l fs h = beside-none fs h
+stray-none AssignmentExpression l (f then fs) h =
+    let g = or_parts (any_child_by is_misplaced f) (any_child is_misplaced fs) (placed (f then fs) h) in
+    or_from (any_child_by is_misplaced f && not (is_rest_assignment AssignmentExpression l (f then fs))) (any_child is_misplaced fs) (at (any_child_by is_misplaced f) (not (is_rest_assignment AssignmentExpression l (f then fs))) g.0) g.1
+  where
+    at : (a b : Bool) → a ≡ false → (a && b) ≡ false
+    at a b e = rw e refl
+stray-none AssignmentExpression l done h = refl
 stray-none _ l fs h = placed fs h

@@ -1,14 +1,13 @@
 -- Which object patterns with a rest are lowered (ECMA-262, 14.3.3): those that a declarator with a value declares, and that no module exports:
 -- `const { a, "b": c = 1, [2]: d, [k]: e, ...g } = f`, and those in the properties of such a pattern, `const { a: { ...b }, c: { ...d } = {} } = f`.
--- The text of a key that isn't computed stands in the program, and so it does of a computed literal and of a template without expressions, as in
--- `["b"]`, `[2]`, `[null]` and `[true]`; any other computed key is read.
-use Rattle.std.specs.Prelude.{◌&&◌, ◌||◌, not, Bool, true, false, List, [], ◌∷◌, Option, None, Some, codes, is_some, unwrap_or}
+use Rattle.std.specs.Prelude.{◌&&◌, ◌||◌, not, Bool, true, false}
 use Rattle.es_tree.specs.Constructs.{is_object_rest}
-use Rattle.es_tree.specs.Names.{first_text, flag_at, has_computed}
-use Rattle.es_tree.specs.Tree.{Tree, node, Label, Fields, done, ◌then◌, Field, missing, one, many, statements, Trees, empty, ◌before◌, label_of}
-use Rattle.es_tree.specs.Words.{Text}
+use Rattle.es_tree.specs.Names.{has_computed}
+use Rattle.es_tree.specs.PropertyKeys.{is_literal_key, is_read_key}
+use Rattle.es_tree.specs.RestTargets.{is_rest_assignment}
+use Rattle.es_tree.specs.Tree.{Tree, node, Label, Fields, done, ◌then◌, Field, missing, one, many, statements, Trees, empty, ◌before◌}
 use Rattle.es_tree.specs.declared.ast_type.AstType.{AstType}
-use Rattle.es_tree.specs.declared.ast_type.AstType.TheVariants.{AssignmentPattern, BigIntLiteral, BooleanLiteral, ExportNamedDeclaration, Identifier, NullLiteral, NumericLiteral, ObjectPattern, PatternProperty, RestElement, StringLiteral, TemplateElement, TemplateLiteral, VariableDeclaration, VariableDeclarator}
+use Rattle.es_tree.specs.declared.ast_type.AstType.TheVariants.{AssignmentExpression, AssignmentPattern, ExportNamedDeclaration, Identifier, ObjectPattern, PatternProperty, RestElement, VariableDeclaration, VariableDeclarator}
 
 -- PATTERNS
 
@@ -43,49 +42,13 @@ abbrev pub is_name : Tree → Bool
 is_name (node Identifier l done) = true
 is_name _ = false
 
-abbrev pub second_text : List (Option Text) → Option Text
-second_text [] = None
-second_text (t ∷ []) = None
-second_text (t ∷ u ∷ us) = u
-
--- the text of a template without expressions, as it is evaluated (13.2.8)
-abbrev pub template_text : Fields → Option Text
-template_text (many (node TemplateElement l fs before empty) then (many empty then done)) = second_text l.texts
-template_text fs = None
-
-abbrev pub boolean_text : Bool → Text
-boolean_text true = codes "true"
-boolean_text false = codes "false"
-
--- The text of a literal as a key (13.2.3 and 7.1.19), or of a template that is one: it is evaluated without an effect, and gives the same key each
--- time. A number and a BigInt have two texts: as they stand in the source, and as a key (docs/TREE.md).
-abbrev pub literal_text : Tree → Option Text
-literal_text (node NullLiteral l fs) = Some (codes "null")
-literal_text (node BooleanLiteral l fs) = Some (boolean_text (flag_at 0 l.flags))
-literal_text (node NumericLiteral l fs) = second_text l.texts
-literal_text (node BigIntLiteral l fs) = second_text l.texts
-literal_text (node StringLiteral l fs) = Some (first_text l.texts)
-literal_text (node TemplateLiteral l fs) = template_text fs
-literal_text _ = None
-
-abbrev pub is_literal_key : Tree → Bool
-is_literal_key k = is_some (literal_text k)
-
 -- a key whose text stands in the program where it isn't computed: a name or a literal
 abbrev pub is_known_key : Tree → Bool
 is_known_key k = is_name k || is_literal_key k
 
--- its text
-abbrev pub key_text : Tree → Text
-key_text k = unwrap_or (literal_text k) (first_text (label_of k).texts)
-
 -- a key that may be computed, which any expression may be
 abbrev pub is_plain_key : Bool → Tree → Bool
 is_plain_key computed k = computed || is_known_key k
-
--- whether it is read: it is computed, and no literal
-abbrev pub is_read_key : Bool → Tree → Bool
-is_read_key computed k = computed && not (is_literal_key k)
 
 -- a property whose key is read
 abbrev pub reads_key : Tree → Bool
@@ -165,7 +128,7 @@ is_rest_declaration _ l fs = false
 abbrev pub declares_rest : Tree → Bool
 declares_rest (node k l fs) = is_rest_declaration k l fs
 
--- THE OTHERS: a node that holds, in one of its fields, a pattern with a rest that isn't lowered there
+-- THE OTHERS: a node that holds, in one of its fields, a pattern with a rest that isn't lowered there. An assignment's own pattern is.
 
 -- a pattern where no declarator declares it, or a declarator outside a declaration
 abbrev pub is_misplaced : Tree → Bool
@@ -187,4 +150,5 @@ is_stray_rest ExportNamedDeclaration l fs = any_child (λ t. is_misplaced t || d
 is_stray_rest ObjectPattern l fs = any_beside fs
 is_stray_rest PatternProperty l (k then fs) = any_child_by is_misplaced k || any_beside fs
 is_stray_rest AssignmentPattern l fs = any_beside fs
+is_stray_rest AssignmentExpression l (f then fs) = (any_child_by is_misplaced f && not (is_rest_assignment AssignmentExpression l (f then fs))) || any_child is_misplaced fs
 is_stray_rest k l fs = any_child is_misplaced fs

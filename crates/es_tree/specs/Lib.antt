@@ -31,6 +31,8 @@ pub mod Causes
 pub mod Options
 pub mod Helpers
 pub mod Children
+pub mod PropertyKeys
+pub mod RestTargets
 pub mod CoreStaticRules
 pub mod Ancestors
 pub mod DeclaredNames
