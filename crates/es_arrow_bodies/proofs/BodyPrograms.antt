@@ -7,28 +7,28 @@ use Rattle.es_steps.specs.Steps.{Ledger, Site, Spot}
 use Rattle.es_steps.proofs.BridgeInclusion.{all_under, step_under}
 use Rattle.es_steps.proofs.CatchRests.{catch-rest-lawful}
 use Rattle.es_steps.proofs.FormRules.{FormLawful, both-form}
-use Rattle.es_steps.proofs.Heads.{head-lawful}
+use Rattle.es_steps.proofs.Heads.{head-lawful, target-lawful}
 use Rattle.es_steps.proofs.Parameters.{parameter-lawful}
 use Rattle.es_steps.proofs.Reached.{bindings-keep}
-use Rattle.es_steps.proofs.RulesWrite.{catch-rest-writes, head-writes, parameter-writes, split-writes, takes-rest-writes}
+use Rattle.es_steps.proofs.RulesWrite.{catch-rest-writes, head-writes, parameter-writes, split-writes, takes-rest-writes, target-writes}
 use Rattle.es_steps.proofs.Splits.{split-lawful}
 use Rattle.es_steps.proofs.StepsKept.{reached-keeps}
 use Rattle.es_steps.proofs.Taken.{Lawful, Writes, both-lawful, both-write}
 use Rattle.es_steps.proofs.TakesRest.{takes-rest-lawful}
 use Rattle.es_valid_rests.specs.RestRules.{Binding, OutsidePart, Unexported}
 use Rattle.es_valid_rests.proofs.FacedSteps.{FaceLawful}
-use Rattle.es_valid_rests.proofs.RestForms.{catch-rest-form, head-rest-form}
+use Rattle.es_valid_rests.proofs.RestForms.{catch-rest-form, head-rest-form, target-head-form}
 use Rattle.es_valid_rests.proofs.RestFormsDeclared.{split-form, takes-form}
 use Rattle.es_valid_rests.proofs.RestFormsMoved.{parameter-form}
 use Rattle.es_valid_rests.proofs.RestNamesParametersRule.{parameter-good}
-use Rattle.es_valid_rests.proofs.RestNamesRules.{GoodLawful, catch-good, either-good, head-good, split-good, takes-good}
+use Rattle.es_valid_rests.proofs.RestNamesRules.{GoodLawful, catch-good, either-good, head-good, split-good, takes-good, target-good}
 use Rattle.es_valid_rests.proofs.RestPlacesDeclared.{takes-faced}
 use Rattle.es_valid_rests.proofs.RestPlacesFunctions.{parameter-faced}
-use Rattle.es_valid_rests.proofs.RestPlacesHeads.{head-rest-faced}
+use Rattle.es_valid_rests.proofs.RestPlacesHeads.{head-rest-faced, target-head-faced}
 use Rattle.es_valid_rests.proofs.RestPlacesMoved.{catch-rest-faced}
 use Rattle.es_valid_rests.proofs.RestPlacesSplits.{split-faced}
 use Rattle.es_valid_rests.proofs.RestPrograms.{source-outside, source-rules}
-use Rattle.es_valid_rests.proofs.RestReadRules.{both-read, catch-read, head-read, parameter-read, split-read, takes-read}
+use Rattle.es_valid_rests.proofs.RestReadRules.{both-read, catch-read, head-read, parameter-read, split-read, takes-read, target-read}
 use Rattle.es_valid_rests.proofs.RestReads.{ReadLawful}
 use Rattle.es_valid_rests.proofs.RestSteps.{both-faced, source-form}
 use Rattle.es_arrow_bodies.specs.ArrowBodies.{BodyRule, WithBodies}
@@ -58,16 +58,16 @@ unexported-good = record { good = λ s s' t u h. split-good.good s s' t u (step_
 -- AND BODIES
 
 bodies-form : FormLawful WithBodies
-bodies-form = both-form (both-form unexported-form (both-form takes-form (both-form catch-rest-form (both-form head-rest-form parameter-form)))) body-form
+bodies-form = both-form (both-form unexported-form (both-form takes-form (both-form catch-rest-form (both-form head-rest-form (both-form target-head-form parameter-form))))) body-form
 
 bodies-faced : FaceLawful WithBodies
-bodies-faced = both-faced (both-faced unexported-faced (both-faced takes-faced (both-faced catch-rest-faced (both-faced head-rest-faced parameter-faced)))) body-faced
+bodies-faced = both-faced (both-faced unexported-faced (both-faced takes-faced (both-faced catch-rest-faced (both-faced head-rest-faced (both-faced target-head-faced parameter-faced))))) body-faced
 
 bodies-read : ReadLawful WithBodies
-bodies-read = both-read (both-read split-read (both-read takes-read (both-read catch-read (both-read head-read parameter-read)))) body-read
+bodies-read = both-read (both-read split-read (both-read takes-read (both-read catch-read (both-read head-read (both-read target-read parameter-read))))) body-read
 
 bodies-good : GoodLawful WithBodies
-bodies-good = either-good (either-good unexported-good (either-good takes-good (either-good catch-good (either-good head-good parameter-good)))) body-good
+bodies-good = either-good (either-good unexported-good (either-good takes-good (either-good catch-good (either-good head-good (either-good target-good parameter-good))))) body-good
 
 pub law_body_form_proof : LawBodyForm
 law_body_form_proof = source-form WithBodies bodies-form bodies-faced
@@ -93,10 +93,10 @@ wide n s x s' y (inl h) = inl (rests h)
     rests (inr (inr h)) = inr (inr h)
 
 wide-lawful : Lawful Wide
-wide-lawful = both-lawful (both-lawful split-lawful (both-lawful takes-rest-lawful (both-lawful catch-rest-lawful (both-lawful head-lawful parameter-lawful)))) body-lawful
+wide-lawful = both-lawful (both-lawful split-lawful (both-lawful takes-rest-lawful (both-lawful catch-rest-lawful (both-lawful head-lawful (both-lawful target-lawful parameter-lawful))))) body-lawful
 
 wide-writes : Writes Wide
-wide-writes = both-write (both-write split-writes (both-write takes-rest-writes (both-write catch-rest-writes (both-write head-writes parameter-writes)))) body-writes
+wide-writes = both-write (both-write split-writes (both-write takes-rest-writes (both-write catch-rest-writes (both-write head-writes (both-write target-writes parameter-writes))))) body-writes
 
 pub law_body_bound_proof : LawBodyBound
 law_body_bound_proof p q w w' k h steps = reached-keeps Wide wide-lawful wide-writes p q w w' k h (all_under WithBodies Wide wide steps)

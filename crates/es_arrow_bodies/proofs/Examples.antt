@@ -46,7 +46,7 @@ body-steps : (w : Whole) â†’ IsFreshName w.in_use (codes "ref") (codes "_ref") â
 body-steps w f a b =
     let moved = moves_one empty empty empty empty (return_node called before empty) (made [] []) rest_members rest_pattern (identifier (the_ref w)) refl refl alone (may-move w a b) in
     goes (inside (in_later (in_first (in_program refl (in_head (inside (in_first (in_child (acts short_arrow with_body (inr (returns called-expression)))))))))))
-    (goes (inside (in_later (in_first (in_program refl (in_head (inside (in_first (in_child (acts with_body (with_moved w) (inl (inr (inr (inr (inr (in_arrow f moved)))))))))))))))
+    (goes (inside (in_later (in_first (in_program refl (in_head (inside (in_first (in_child (acts with_body (with_moved w) (inl (inr (inr (inr (inr (inr (in_arrow f moved))))))))))))))))
     stays)
 
 pub law_body_examples_proof : LawBodyExamples

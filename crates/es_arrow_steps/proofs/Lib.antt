@@ -6,3 +6,4 @@ pub mod Sited
 pub mod Converted
 pub mod Walks
 pub mod FirstUses
+pub mod RestNodes

@@ -14,8 +14,9 @@ use Rattle.es_steps.specs.CatchPatterns.CatchRest.{moves}
 use Rattle.es_steps.specs.CoreRules.{RowRule, where_on}
 use Rattle.es_steps.specs.Exponentiation.{ExponentiationRule}
 use Rattle.es_steps.specs.LogicalAssignment.{LogicalAssignmentRule}
-use Rattle.es_steps.specs.LoopHeads.{HeadRest}
+use Rattle.es_steps.specs.LoopHeads.{HeadRest, TargetHead}
 use Rattle.es_steps.specs.LoopHeads.HeadRest.{lexical_head, var_head}
+use Rattle.es_steps.specs.LoopHeads.TargetHead.{target_head}
 use Rattle.es_steps.specs.NamespaceExports.{NamespaceRule}
 use Rattle.es_steps.specs.NamespaceExports.NamespaceRule.{exports}
 use Rattle.es_steps.specs.NullishCoalescing.{NullishCoalescingRule}
@@ -29,6 +30,7 @@ use Rattle.es_steps.specs.OptionalCatch.CatchRule.{catches}
 use Rattle.es_steps.specs.OptionalChaining.{OptionalChainingRule}
 use Rattle.es_steps.specs.ParameterPatterns.{ParameterRest}
 use Rattle.es_steps.specs.ParameterPatterns.ParameterRest.{in_arrow, in_declaration, in_expression}
+use Rattle.es_steps.specs.RestAssignments.{RestAssignmentRule}
 use Rattle.es_steps.specs.Rules.{Replacing, Writing, either_rule, next_name, with_made}
 use Rattle.es_steps.specs.Rules.Replacing.{replaces}
 use Rattle.es_steps.specs.Rules.Writing.{all_pending, body_declarators, declarators, insertions}
@@ -51,6 +53,7 @@ use Rattle.es_steps.proofs.Chains.{chaining-makes}
 use Rattle.es_steps.proofs.Coalesces.{coalescing-makes}
 use Rattle.es_steps.proofs.Made.{Makes}
 use Rattle.es_steps.proofs.Raises.{raising-makes}
+use Rattle.es_steps.proofs.RestAssignments.{assigning_rest-makes}
 use Rattle.es_steps.proofs.Spreads.{spread-makes}
 use Rattle.es_steps.proofs.Taken.{whole_in}
 use Rattle.es_steps.proofs.Temporaries.{AreTaken}
@@ -120,6 +123,9 @@ head-acts : ActsSo HeadRest
 head-acts n s s' x y (lexical_head {x = z} k h fresh a b c d) = record { moves = declared_name z fresh.free; list = tt }
 head-acts n s s' x y (var_head {x = z} k h fresh a b c d) = record { moves = declared_name z fresh.free; list = tt }
 
+target-acts : ActsSo TargetHead
+target-acts n s s' x y (target_head {x = z} k h fresh a b c) = record { moves = declared_name z fresh.free; list = tt }
+
 parameter-acts : ActsSo ParameterRest
 parameter-acts n s s' x y (in_declaration {x = z} fresh f h) = record { moves = declared_name z fresh.free; list = tt }
 parameter-acts n s s' x y (in_expression {x = z} fresh f h) = record { moves = declared_name z fresh.free; list = tt }
@@ -169,7 +175,7 @@ all-act o =
     (on-acts o.es2016.exponentiation_operator _ (row-acts ExponentiationRule raising-makes))))))
     (both-act (on-acts o.es2019.optional_catch_binding _ catch-acts)
     (both-act (on-acts o.es2020.export_namespace_from _ namespace-acts)
-    (both-act (on-acts (is_some o.es2018.object_rest_spread) _ (both-act spread-acts (both-act split-acts (both-act takes-rest-acts (both-act catch-rest-acts (both-act head-acts parameter-acts))))))
+    (both-act (on-acts (is_some o.es2018.object_rest_spread) _ (both-act (both-act spread-acts (row-acts RestAssignmentRule assigning_rest-makes)) (both-act split-acts (both-act takes-rest-acts (both-act catch-rest-acts (both-act head-acts (both-act target-acts parameter-acts)))))))
     (both-act (on-acts o.es2026.explicit_resource_management _ (both-act block-acts (both-act body-acts (both-act loop-acts (both-act switch-acts head-using-acts))))) (on-acts (is_some o.es2015.arrow_function) _ arrow-acts)))))
 
 pub walk-acts : ActsSo ArrowWalkRule

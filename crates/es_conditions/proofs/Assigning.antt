@@ -25,7 +25,8 @@ use Rattle.es_steps.specs.LogicalAssignment.LogicalAssignmentRule.{to_name, to_s
 use Rattle.es_steps.specs.Nodes.{made, identifier}
 use Rattle.es_steps.specs.Slots.{holds, in_open_slot}
 use Rattle.es_steps.specs.Steps.{Site, Whole}
-use Rattle.es_steps.specs.WrapRule.{is_member_target, is_rest_target, is_wrapped_for, takes_for_target, takes_one}
+use Rattle.es_tree.specs.RestTargets.{is_rest_target}
+use Rattle.es_steps.specs.WrapRule.{is_member_target, is_wrapped_for, takes_for_target, takes_one}
 use Rattle.es_steps.proofs.FormMembers.{member-form}
 use Rattle.es_steps.proofs.FormParts.{formed-bare}
 use Rattle.es_steps.proofs.FormRows.{two-parts}

@@ -23,7 +23,7 @@ use Rattle.es_steps.specs.WrapRule.{is_wrapped_for, takes_one}
 use Rattle.es_conditions.specs.CoreConditions.{each_passes, each_passes_among, is_free, is_past_chains, is_placed, is_unmarked_chain}
 use Rattle.es_conditions.specs.Laws.{Keeps}
 use Rattle.es_conditions.proofs.Marks.{first-of, none-where, second-of}
-use Rattle.es_conditions.proofs.Parts.{Made, Part, PartsAmong, among-at, among-first, among-none, made-called, made-object, made-static, part-at, part-of, some_site}
+use Rattle.es_conditions.proofs.Parts.{Made, Part, PartsAmong, among-at, among-first, among-none, among-parts, made-called, made-object, made-static, part-at, part-of, some_site}
 use Rattle.es_conditions.proofs.Rows.{Wrapped, free-of, is-wrapped, known-made, scope_at, wrapped-free, wrapped-of}
 use Rattle.es_conditions.proofs.Unwrapped.{no-nullish, static-holds, two-hold-none, unwrapped}
 
@@ -51,23 +51,10 @@ module _ (o : EnvOptions) (s : Text → Option ℕ) (within : Bool) where
   more-pieces t ts h k = record { among = among-first o s t ts h.part k.among; none = λ d. or_from (holds (is_wrapped_for o) t) (holds_trees (is_wrapped_for o) ts) (h.none d) (k.none d) }
 
   first-piece : (t : Tree) (ts : Trees) → Pieces (t before ts) → Piece t
-  first-piece t ts h = record {
-    part = record {
-      valued = λ m j e. (and_parts (each_passes (is_placed o) m t) (each_passes_among (is_placed o) m ts) (h.among.valued m j e)).0;
-      marked = record { tidy = λ on. first-of (strays false t) (strays_nodes false ts) (h.among.tidy on); full = λ on. first-of (any_node is_unmarked_chain t) (any_in_trees is_unmarked_chain ts) (h.among.full on) };
-    };
-    none = λ d. first-of (holds (is_wrapped_for o) t) (holds_trees (is_wrapped_for o) ts) (h.none d);
-  }
+  first-piece t ts h = record { part = (among-parts o s t ts h.among).0; none = λ d. first-of (holds (is_wrapped_for o) t) (holds_trees (is_wrapped_for o) ts) (h.none d) }
 
   rest-pieces : (t : Tree) (ts : Trees) → Pieces (t before ts) → Pieces ts
-  rest-pieces t ts h = record {
-    among = record {
-      valued = λ m j e. (and_parts (each_passes (is_placed o) m t) (each_passes_among (is_placed o) m ts) (h.among.valued m j e)).1;
-      tidy = λ on. second-of (strays false t) (strays_nodes false ts) (h.among.tidy on);
-      full = λ on. second-of (any_node is_unmarked_chain t) (any_in_trees is_unmarked_chain ts) (h.among.full on);
-    };
-    none = λ d. second-of (holds (is_wrapped_for o) t) (holds_trees (is_wrapped_for o) ts) (h.none d);
-  }
+  rest-pieces t ts h = record { among = (among-parts o s t ts h.among).1; none = λ d. second-of (holds (is_wrapped_for o) t) (holds_trees (is_wrapped_for o) ts) (h.none d) }
 
   abbrev ArePieces : List Tree → Type 0
   ArePieces [] = Unit {0}

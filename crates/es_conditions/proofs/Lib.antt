@@ -9,6 +9,7 @@ pub mod Coalescing
 pub mod Assigning
 pub mod Powers
 pub mod Copies
+pub mod RestAssigning
 pub mod Spines
 pub mod ChainRows
 pub mod Catches

@@ -5,7 +5,7 @@ use Rattle.std.specs.Prelude.{Option, codes, is_some, not, if◌then◌else◌}
 use Rattle.std.proofs.lemmas.Bool.{and_parts, and_from}
 use Rattle.es_tree.specs.Words.{Text}
 use Rattle.es_tree.specs.Ancestors.{ancestor, leads_by}
-use Rattle.es_tree.specs.Constructs.{is_exponentiation, is_object_spread}
+use Rattle.es_tree.specs.Constructs.{is_exponentiation}
 use Rattle.es_tree.specs.Names.{first_text}
 use Rattle.es_tree.specs.Tree.{Tree, node, Label, Fields, done, ◌then◌, Field, missing, one, many, statements, Trees, empty, ◌before◌}
 use Rattle.es_tree.specs.declared.ast_type.AstType.{AstType}
@@ -23,7 +23,7 @@ use Rattle.es_steps.specs.Open.{OpenFields, finished_fields, is_body, is_stateme
 use Rattle.es_steps.specs.Steps.{Site, outline, site_in}
 use Rattle.es_steps.proofs.Sites.{AgreeOnUsed, PlacesAlike, place-inwards}
 use Rattle.es_changes.specs.Rules.{is_asked_for}
-use Rattle.es_conditions.specs.CoreConditions.{accepts_chain, body_site, each_passes, each_passes_among, each_passes_by, each_passes_in, is_chain_placed, is_copy_free, is_placed, is_power_free, is_taken_over, is_unbound_if, takes_over}
+use Rattle.es_conditions.specs.CoreConditions.{accepts_chain, body_site, each_passes, each_passes_among, each_passes_by, each_passes_in, is_chain_placed, is_copied, is_copy_free, is_placed, is_power_free, is_taken_over, is_unbound_if, takes_over}
 
 -- NAMES: what those that are asked for find in a field doesn't depend on the node's role
 
@@ -202,7 +202,7 @@ module _ (o : EnvOptions) where
       and_from (is_power_free o m k l fs && is_copy_free o m k l fs) (is_chain_placed o m k)
       (and_from (is_power_free o m k l fs) (is_copy_free o m k l fs)
       (unbound-still (o.es2016.exponentiation_operator && is_exponentiation k l fs) (codes "Math") n m (scope (codes "Math") refl) names.0)
-      (unbound-still (is_some o.es2018.object_rest_spread && is_object_spread k l fs) (codes "babelHelpers") n m (scope (codes "babelHelpers") refl) names.1))
+      (unbound-still (is_some o.es2018.object_rest_spread && is_copied k l fs) (codes "babelHelpers") n m (scope (codes "babelHelpers") refl) names.1))
       (or-more (not (o.es2020.optional_chaining && is_chain_kind k)) (accepts_chain n) (accepts_chain m) accepted parts.1)
 
   mutual

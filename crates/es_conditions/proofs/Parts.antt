@@ -2,14 +2,14 @@
 -- the same from all of them.
 use Rattle.std.proofs.Common.{◌≡◌, ◌&&◌, ◌||◌, ℕ, Bool, true, false, List, [], ◌∷◌, ◌++◌, refl, sym, ◌∙◌, true≢false}
 use Rattle.std.specs.Prelude.{Option, Some, None, codes, is_some, not}
-use Rattle.std.proofs.lemmas.Bool.{and_parts, and_from}
-use Rattle.es_tree.specs.Constructs.{any_kind, is_exponentiation, is_object_spread, is_spread}
+use Rattle.std.proofs.lemmas.Bool.{and_parts, and_from, or_from}
+use Rattle.es_tree.specs.Constructs.{any_kind, is_exponentiation, is_spread}
 use Rattle.es_tree.specs.Parens.{without_parens}
 use Rattle.es_tree.specs.Tree.{Tree, node, Label, Fields, done, ◌then◌, one, many, Trees, empty, ◌before◌, trees}
 use Rattle.es_tree.specs.Walks.{any_in_trees, any_node}
 use Rattle.es_tree.specs.Words.{Text}
 use Rattle.es_tree.specs.declared.ast_type.AstType.{AstType}
-use Rattle.es_tree.specs.declared.ast_type.AstType.TheVariants.{AssignmentExpression, BinaryExpression, CallExpression, ConditionalExpression, Identifier, LogicalExpression, MemberExpression, NullLiteral, NumericLiteral, ObjectExpression, ParenthesizedExpression, SequenceExpression, UnaryExpression}
+use Rattle.es_tree.specs.declared.ast_type.AstType.TheVariants.{AssignmentExpression, BinaryExpression, CallExpression, ConditionalExpression, Identifier, LogicalExpression, MemberExpression, NullLiteral, NumericLiteral, ObjectExpression, ObjectTarget, ParenthesizedExpression, SequenceExpression, UnaryExpression}
 use Rattle.es_tree.specs.declared.options.EnvOptions.{EnvOptions}
 use Rattle.es_runs.specs.Alike.{Level, content_level, key_need, the_value}
 use Rattle.es_runs.specs.Core.{flag}
@@ -23,8 +23,8 @@ use Rattle.es_steps.specs.Open.{is_body, opened_fields}
 use Rattle.es_steps.specs.Steps.{Site, site_in}
 use Rattle.es_steps.proofs.Sites.{AgreeOnUsed, PlacesAlike}
 use Rattle.es_changes.specs.Rules.{is_asked_for}
-use Rattle.es_conditions.specs.CoreConditions.{accepts_chain, each_passes, each_passes_among, each_passes_in, is_chain_placed, is_copy_free, is_placed, is_power_free, is_taken_over, is_unmarked_chain}
-use Rattle.es_conditions.proofs.Marks.{Marked, first-of}
+use Rattle.es_conditions.specs.CoreConditions.{accepts_chain, each_passes, each_passes_among, each_passes_in, is_chain_placed, is_copied, is_copy_free, is_placed, is_power_free, is_taken_over, is_unmarked_chain}
+use Rattle.es_conditions.proofs.Marks.{Marked, first-of, second-of}
 use Rattle.es_conditions.proofs.Moves.{Moves, moved, moved-among}
 
 -- SITES from which the names that are asked for find these symbols
@@ -73,7 +73,7 @@ moves-over s n m h k none content e = record {
 abbrev pub some_site : (Text → Option ℕ) → Site
 some_site s = record { need = the_value; above = []; role = reads; names = record { scope = s; hoist = s; parameters = no_name } }
 
-key-value : (computed : Bool) → takes_value (content_level (key_need computed).level) ≡ true
+pub key-value : (computed : Bool) → takes_value (content_level (key_need computed).level) ≡ true
 key-value true = refl
 key-value false = refl
 
@@ -95,15 +95,16 @@ two-none false true b e = absurd (true≢false e)
 two-none false false true e = absurd (true≢false e)
 two-none false false false e = (refl, refl)
 
-no-spread : (k : AstType) (l : Label) → is_object_spread k l done ≡ false
-no-spread ObjectExpression l = refl
-no-spread k l = refl
+no-copy : (k : AstType) (l : Label) → is_copied k l done ≡ false
+no-copy ObjectExpression l = refl
+no-copy ObjectTarget l = refl
+no-copy k l = refl
 
 -- a node that is no construct whose lowering asks for a name, and no chain
-pub plain : (o : EnvOptions) (m : Site) (k : AstType) (l : Label) (fs : Fields) → is_exponentiation k l fs ≡ false → is_object_spread k l fs ≡ false → is_chain_kind k ≡ false → is_placed o m k l fs ≡ true
-plain o m k l fs power spread chain =
+pub plain : (o : EnvOptions) (m : Site) (k : AstType) (l : Label) (fs : Fields) → is_exponentiation k l fs ≡ false → is_copied k l fs ≡ false → is_chain_kind k ≡ false → is_placed o m k l fs ≡ true
+plain o m k l fs power copy chain =
     and_from (is_power_free o m k l fs && is_copy_free o m k l fs) (is_chain_placed o m k)
-    (and_from (is_power_free o m k l fs) (is_copy_free o m k l fs) (not-asked o.es2016.exponentiation_operator (is_exponentiation k l fs) _ power) (not-asked (is_some o.es2018.object_rest_spread) (is_object_spread k l fs) _ spread))
+    (and_from (is_power_free o m k l fs) (is_copy_free o m k l fs) (not-asked o.es2016.exponentiation_operator (is_exponentiation k l fs) _ power) (not-asked (is_some o.es2018.object_rest_spread) (is_copied k l fs) _ copy))
     (not-asked o.es2020.optional_chaining (is_chain_kind k) (accepts_chain m) chain)
 
 module _ (o : EnvOptions) (s : Text → Option ℕ) where
@@ -149,6 +150,19 @@ module _ (o : EnvOptions) (s : Text → Option ℕ) where
     full = λ on. rw (h.marked.full on) (k.full on);
   }
 
+  pub among-parts : (t : Tree) (ts : Trees) → PartsAmong (t before ts) → Part t × PartsAmong ts
+  among-parts t ts h = (
+    record {
+      valued = λ m j e. (and_parts (each_passes (is_placed o) m t) (each_passes_among (is_placed o) m ts) (h.valued m j e)).0;
+      marked = record { tidy = λ on. first-of (strays false t) (strays_nodes false ts) (h.tidy on); full = λ on. first-of (any_node is_unmarked_chain t) (any_in_trees is_unmarked_chain ts) (h.full on) };
+    },
+    record {
+      valued = λ m j e. (and_parts (each_passes (is_placed o) m t) (each_passes_among (is_placed o) m ts) (h.valued m j e)).1;
+      tidy = λ on. second-of (strays false t) (strays_nodes false ts) (h.tidy on);
+      full = λ on. second-of (any_node is_unmarked_chain t) (any_in_trees is_unmarked_chain ts) (h.full on);
+    },
+  )
+
   pub among-list : (ts : List Tree) → AreParts ts → PartsAmong (trees ts)
   among-list [] h = among-none
   among-list (t ∷ ts) h = among-first t (trees ts) h.0 (among-list ts h.1)
@@ -172,17 +186,20 @@ module _ (o : EnvOptions) (s : Text → Option ℕ) where
   part-member l a b h = two-parts (site_in (some_site s) MemberExpression l (opened_fields (is_body MemberExpression) (one a then one b then done))) a b _ _ false (record { scope = λ y u. refl; parameters = λ y u. refl }) (record { scope = λ y u. refl; parameters = λ y u. refl }) (h.valued (some_site s) (record { scope = λ y u. refl; parameters = λ y u. refl }) refl) h.marked.tidy h.marked.full
 
   -- inside parentheses
-  pub part-bare : (t : Tree) → Part t → Part (without_parens t)
-  part-bare (node ParenthesizedExpression l (one t then fs)) h =
+  pub part-inside : (l : Label) (t : Tree) (fs : Fields) → Part (node ParenthesizedExpression l (one t then fs)) → Part t
+  part-inside l t fs h =
       let passes = (and_parts (is_placed o (some_site s) ParenthesizedExpression l (one t then fs)) (each_passes_in (is_placed o) (site_in (some_site s) ParenthesizedExpression l (opened_fields (is_body ParenthesizedExpression) (one t then fs))) (is_body ParenthesizedExpression) (one t then fs)) (h.valued (some_site s) (record { scope = λ y u. refl; parameters = λ y u. refl }) refl)).1 in
-      part-bare t (part-at (site_in (some_site s) ParenthesizedExpression l (opened_fields (is_body ParenthesizedExpression) (one t then fs)) 0) t (record { scope = λ y u. refl; parameters = λ y u. refl }) (and_parts _ _ passes).0 (record { tidy = λ on. first-of (strays false t) _ (h.marked.tidy on); full = λ on. first-of (any_node is_unmarked_chain t) _ (h.marked.full on) }))
+      part-at (site_in (some_site s) ParenthesizedExpression l (opened_fields (is_body ParenthesizedExpression) (one t then fs)) 0) t (record { scope = λ y u. refl; parameters = λ y u. refl }) (and_parts _ _ passes).0 (record { tidy = λ on. first-of (strays false t) _ (h.marked.tidy on); full = λ on. first-of (any_node is_unmarked_chain t) _ (h.marked.full on) })
+
+  pub part-bare : (t : Tree) → Part t → Part (without_parens t)
+  part-bare (node ParenthesizedExpression l (one t then fs)) h = part-bare t (part-inside l t fs h)
   part-bare t h = h
 
   -- NODES
 
   pub made-leaf : (k : AstType) (l : Label) → is_exponentiation k l done ≡ false → is_chain_kind k ≡ false → is_marked k l.flags ≡ false → is_unmarked_chain k l done ≡ false → Made (node k l done)
   made-leaf k l e d tidy full = record {
-    anywhere = λ m h. and_from (is_placed o m k l done) true (plain o m k l done e (no-spread k l) d) refl;
+    anywhere = λ m h. and_from (is_placed o m k l done) true (plain o m k l done e (no-copy k l) d) refl;
     marked = record { tidy = λ on. rw tidy refl; full = λ on. rw full refl };
   }
 
@@ -193,7 +210,7 @@ module _ (o : EnvOptions) (s : Text → Option ℕ) where
   two-passes : (x a b : Bool) → x ≡ true → a ≡ true → b ≡ true → (x && (a && (b && true))) ≡ true
   two-passes x a b e d h = rw (e, d, h) refl
 
-  abbrev sites_of : Site → AstType → Label → Fields → ℕ → Site
+  abbrev pub sites_of : Site → AstType → Label → Fields → ℕ → Site
   sites_of m k l fs = site_in m k l (opened_fields (is_body k) fs)
 
   pub made-logical : (l : Label) (a b : Tree) → Part a → Part b → Made (node LogicalExpression l (one a then one b then done))
@@ -273,7 +290,7 @@ module _ (o : EnvOptions) (s : Text → Option ℕ) where
   -- an object literal without a spread
   pub made-object : (l : Label) (ts : Trees) → any_kind is_spread ts ≡ false → PartsAmong ts → Made (node ObjectExpression l (many ts then done))
   made-object l ts none h = record {
-    anywhere = λ m k. and_from (is_placed o m ObjectExpression l (many ts then done)) _ (plain o m ObjectExpression l (many ts then done) refl none refl) (and_from (each_passes_among (is_placed o) (sites_of m ObjectExpression l (many ts then done) 0) ts) true (h.valued (sites_of m ObjectExpression l (many ts then done) 0) (record { scope = k; parameters = λ y u. refl }) refl) refl);
+    anywhere = λ m k. and_from (is_placed o m ObjectExpression l (many ts then done)) _ (plain o m ObjectExpression l (many ts then done) refl (or_from (any_kind is_spread ts) false none refl) refl) (and_from (each_passes_among (is_placed o) (sites_of m ObjectExpression l (many ts then done) 0) ts) true (h.valued (sites_of m ObjectExpression l (many ts then done) 0) (record { scope = k; parameters = λ y u. refl }) refl) refl);
     marked = record { tidy = λ on. rw (h.tidy on) refl; full = λ on. rw (h.full on) refl };
   }
 

@@ -1,7 +1,7 @@
 -- What slots are wrapped for, and what not.
 use Rattle.std.proofs.Common.{◌≡◌, ◌&&◌, ◌||◌, Bool, true, false, [], ◌∷◌, refl, sym, true≢false}
 use Rattle.std.specs.Prelude.{is_some}
-use Rattle.std.proofs.lemmas.Bool.{and_left, and_right, or_from}
+use Rattle.std.proofs.lemmas.Bool.{and_left, and_right, or_from, or_right}
 use Rattle.es_tree.specs.Constructs.{field_at, is_chain, is_exponentiation, is_logical_assignment, is_nullish_coalescing}
 use Rattle.es_tree.specs.HasForm.{same_type}
 use Rattle.es_tree.specs.Tree.{node, Label, Fields, done, ◌then◌, one, label_of}
@@ -12,7 +12,8 @@ use Rattle.es_tree.specs.declared.options.EnvOptions.{EnvOptions}
 use Rattle.es_runs.specs.Rules.{member_node}
 use Rattle.es_steps.specs.Nodes.{made, word}
 use Rattle.es_steps.specs.Slots.{closes, holds, holds_fields}
-use Rattle.es_steps.specs.WrapRule.{is_rest_target, is_wrapped_for, takes_for_target}
+use Rattle.es_tree.specs.RestTargets.{is_rest_target}
+use Rattle.es_steps.specs.WrapRule.{is_wrapped_for, takes_for_target}
 
 five-none : (a b c d e : Bool) → a ≡ false → b ≡ false → c ≡ false → d ≡ false → e ≡ false → ((((a || b) || c) || d) || e) ≡ false
 five-none a b c d e ha hb hc hd he = or_from (((a || b) || c) || d) e (or_from ((a || b) || c) d (or_from (a || b) c (or_from a b ha hb) hc) hd) he
@@ -101,3 +102,6 @@ module _ (o : EnvOptions) (k : AstType) (l : Label) (fs : Fields) where
 
   pub logical-holds : wraps_logical ≡ true → holds (is_wrapped_for o) (node k l fs) ≡ true
   logical-holds h = either-way (is_wrapped_for o k l fs) (holds_fields (is_wrapped_for o) (closes k) fs) (by-fourth wraps_nullish wraps_chain wraps_power wraps_logical wraps_rest h)
+
+  pub rest-holds : wraps_rest ≡ true → holds (is_wrapped_for o) (node k l fs) ≡ true
+  rest-holds h = either-way (is_wrapped_for o k l fs) (holds_fields (is_wrapped_for o) (closes k) fs) (or_right (((wraps_nullish || wraps_chain) || wraps_power) || wraps_logical) wraps_rest h)

@@ -8,6 +8,7 @@ use Rattle.es_tree.specs.Constructs.{field_at, is_exponentiation, is_object_spre
 use Rattle.es_tree.specs.CoreStaticRules.{has_optional_in, is_optional}
 use Rattle.es_tree.specs.Names.{first_text}
 use Rattle.es_tree.specs.Parens.{without_parens}
+use Rattle.es_tree.specs.RestTargets.{is_rest_target}
 use Rattle.es_tree.specs.Tree.{Tree, node, Label, Fields, done, ◌then◌, Field, missing, one, many, statements, Trees, empty, ◌before◌, kind_of}
 use Rattle.es_tree.specs.Walks.{any_node}
 use Rattle.es_tree.specs.Words.{Text}
@@ -59,9 +60,13 @@ is_unbound_if asked x n = not asked || not (is_some (n.names.scope x))
 abbrev pub is_power_free : EnvOptions → Site → AstType → Label → Fields → Bool
 is_power_free o n k l fs = is_unbound_if (o.es2016.exponentiation_operator && is_exponentiation k l fs) (codes "Math") n
 
--- the node is no object literal with a spread that is to be lowered (13.2.5), or `babelHelpers` is unbound here
+-- an object literal with a spread, or an object target with a rest: a helper copies its properties
+abbrev pub is_copied : AstType → Label → Fields → Bool
+is_copied k l fs = is_object_spread k l fs || is_rest_target (one (node k l fs))
+
+-- the node is none that is to be lowered (13.2.5, 13.15.5), or `babelHelpers` is unbound here
 abbrev pub is_copy_free : EnvOptions → Site → AstType → Label → Fields → Bool
-is_copy_free o n k l fs = is_unbound_if (is_some o.es2018.object_rest_spread && is_object_spread k l fs) (codes "babelHelpers") n
+is_copy_free o n k l fs = is_unbound_if (is_some o.es2018.object_rest_spread && is_copied k l fs) (codes "babelHelpers") n
 
 -- CHAINS (13.3.9)
 

@@ -19,6 +19,7 @@ use Rattle.es_steps.specs.NullishCoalescing.{NullishCoalescingRule}
 use Rattle.es_steps.specs.ObjectSpread.{SpreadRule}
 use Rattle.es_steps.specs.Open.{is_body, opened_fields}
 use Rattle.es_steps.specs.OptionalChaining.{OptionalChainingRule}
+use Rattle.es_steps.specs.RestAssignments.{RestAssignmentRule}
 use Rattle.es_steps.specs.Slots.{holds, in_open_slot, is_slot}
 use Rattle.es_steps.specs.Steps.{Site, Whole, site_in}
 use Rattle.es_steps.specs.WrapRule.{called_arrow, is_wrapped_for, takes_one}
@@ -55,6 +56,7 @@ pub record RowsKeep (o : EnvOptions) : Type 0 where
   pub optional_chaining : o.es2020.optional_chaining ≡ true → Keeps (is_wrapped o) (is_free o) (OptionalChainingRule o.assumptions.no_document_all)
   pub exponentiation : o.es2016.exponentiation_operator ≡ true → Keeps (is_free o) (is_free o) ExponentiationRule
   pub object_spread : is_some o.es2018.object_rest_spread ≡ true → Keeps (is_free o) (is_free o) SpreadRule
+  pub rest_assignment : is_some o.es2018.object_rest_spread ≡ true → Keeps (is_free o) (is_free o) RestAssignmentRule
 
 abbrev pub LawRows : Type 0
 LawRows = (o : EnvOptions) → RowsKeep o

@@ -10,13 +10,12 @@ use Rattle.es_tree.specs.Words.{Text}
 use Rattle.es_tree.specs.declared.options.EnvOptions.{EnvOptions}
 use Rattle.es_tree.specs.declared.table.Sort.TheVariants.{Program as s-Program}
 use Rattle.es_resolution.specs.Laws.{source}
-use Rattle.es_steps.specs.AllRules.{AllRules, RestRule}
+use Rattle.es_steps.specs.AllRules.{AllRules, ObjectRule, RestRule}
 use Rattle.es_steps.specs.CoreBridge.{first_whole}
 use Rattle.es_steps.specs.CoreRules.{where_on}
 use Rattle.es_steps.specs.Laws.{IsWellBound, nothing_beside}
-use Rattle.es_steps.specs.ObjectSpread.{SpreadRule}
 use Rattle.es_steps.specs.Open.{opened}
-use Rattle.es_steps.specs.Rules.{Replacing, either_rule}
+use Rattle.es_steps.specs.Rules.{either_rule}
 use Rattle.es_steps.specs.Steps.{Ledger, Site, Spot, Step, Steps, Whole, the_program}
 use Rattle.es_steps.proofs.BridgeInclusion.{all_under}
 use Rattle.es_steps.proofs.Laws.{law_reached_proof}
@@ -64,7 +63,7 @@ module _ (o : EnvOptions) (on : is_some o.es2018.object_rest_spread ≡ true) wh
   among-parts n s x s' y r = inr (where-asked (is_some o.es2018.object_rest_spread) RestPart n s x s' y on (rests-part n s x s' y r))
 
   among-all : (n : Site) (s : Ledger) (x : Spot) (s' : Ledger) (y : Spot) → OutsidePart n s x s' y → AllRules o n s x s' y
-  among-all n s x s' y r = inr (inr (inr (inl (where-asked (is_some o.es2018.object_rest_spread) (either_rule (Replacing SpreadRule) RestRule) n s x s' y on (inr (rests-all n s x s' y r))))))
+  among-all n s x s' y r = inr (inr (inr (inl (where-asked (is_some o.es2018.object_rest_spread) (either_rule ObjectRule RestRule) n s x s' y on (inr (rests-all n s x s' y r))))))
 
 -- THE LAWS
 

@@ -2,7 +2,6 @@
 -- rests.
 use Rattle.std.specs.Prelude.{◌≡◌, List, [], false, true, is_some}
 use Rattle.es_tree.specs.Bare.{bare}
-use Rattle.es_tree.specs.Constructs.{is_object_rest}
 use Rattle.es_tree.specs.HasForm.{has_form}
 use Rattle.es_tree.specs.StaticRules.{breaks}
 use Rattle.es_tree.specs.Tree.{Tree}
@@ -17,6 +16,7 @@ use Rattle.es_steps.specs.Open.{opened}
 use Rattle.es_steps.specs.Rules.{either_rule}
 use Rattle.es_steps.specs.Steps.{Ledger, Site, Spot, Step, Steps, Whole, the_program}
 use Rattle.es_valid_arrows.specs.ArrowPlaces.{fits_arrows}
+use Rattle.es_reached.specs.NoRests.{is_declared_rest}
 use Rattle.es_reached.specs.Reached.{IsResultOf, built_rules}
 use Rattle.es_rest_rows.specs.RestRows.{RestRow, RestWalkRow}
 use Rattle.es_rest_shapes.specs.HelperNames.{binds_helpers}
@@ -46,6 +46,6 @@ LawLowered = (o : EnvOptions) (p q r t : Tree) (names more : List Text) (w : Who
 abbrev pub LawLoweredAlone : Type 0
 LawLoweredAlone = (o : EnvOptions) (p q : Tree) (names : List Text) → IsResultOf (built_rules o) p q names → IsLowered o p q names
 
--- Where no pattern with a rest stands, a walk that takes them leaves the program as it is, and makes no name.
+-- Where no pattern with a rest is declared, a walk that takes them leaves the program as it is, and makes no name.
 abbrev pub LawIdle : Type 0
-LawIdle = (p q : Tree) (w w' : Whole) → Steps (Step RestWalkRow the_program) (nothing_beside w) (opened p) (nothing_beside w') (opened q) → any_node is_object_rest p ≡ false → (q ≡ p) × (w' ≡ w)
+LawIdle = (p q : Tree) (w w' : Whole) → Steps (Step RestWalkRow the_program) (nothing_beside w) (opened p) (nothing_beside w') (opened q) → any_node is_declared_rest p ≡ false → (q ≡ p) × (w' ≡ w)

@@ -18,7 +18,7 @@ pub fn law_lowered_alone()
     ensures { LawLoweredAlone }
 {}
 
-/// Where no pattern with a rest stands, a walk that takes them changes nothing.
+/// Where no pattern with a rest is declared, a walk that takes them changes nothing.
 pub fn law_idle()
     ensures { LawIdle }
 {}

@@ -1,4 +1,4 @@
--- Steps of the core rules, of optional catch, namespace exports and object spread keep module requests and exported names.
+-- Steps of the core rules, of optional catch, namespace exports and object spread, and of rests in assignments keep module requests and exported names.
 use Rattle.std.proofs.Common.{◌≡◌, refl, sym, ap, subst, ◌∙◌, List}
 use Rattle.std.specs.Prelude.{true, false, is_some}
 use Rattle.es_tree.specs.HasForm.{has_form}
@@ -26,12 +26,12 @@ use Rattle.es_module_names.specs.Laws.{LawOutside, LawOutsideReached, SameOutsid
 use Rattle.es_module_names.specs.Modules.{exported, request, star_request, texts_among}
 use Rattle.es_module_names.proofs.HeldSteps.{named-read, none-hides}
 use Rattle.es_module_names.proofs.ProgramLists.{IsReading, exported-reading, exported-texts-after, request-reading, star-reading, texts-after, top-imports}
-use Rattle.es_module_names.proofs.RuleKinds.{NamesLawful, both-lawful, catch-lawful, on-lawful, spread-lawful, under-lawful}
+use Rattle.es_module_names.proofs.RuleKinds.{NamesLawful, both-lawful, catch-lawful, on-lawful, rest-assignment-lawful, spread-lawful, under-lawful}
 
 -- THE RULES that put no statement beside another, and the one that does
 
 pub alone-names : (o : EnvOptions) → NamesLawful (alone o)
-alone-names o = both-lawful (under-lawful o) (both-lawful (on-lawful o.es2019.optional_catch_binding _ catch-lawful) (on-lawful (is_some o.es2018.object_rest_spread) _ spread-lawful))
+alone-names o = both-lawful (under-lawful o) (both-lawful (on-lawful o.es2019.optional_catch_binding _ catch-lawful) (on-lawful (is_some o.es2018.object_rest_spread) _ (both-lawful spread-lawful rest-assignment-lawful)))
 
 -- STEPS
 

@@ -22,6 +22,8 @@ use Rattle.es_steps.specs.OptionalCatch.{CatchRule}
 use Rattle.es_steps.specs.OptionalCatch.CatchRule.{catches}
 use Rattle.es_steps.specs.OptionalChaining.{OptionalChainingRule}
 use Rattle.es_steps.specs.OptionalChaining.OptionalChainingRule.{by_tests, as_callee, in_delete}
+use Rattle.es_steps.specs.RestAssignments.{RestAssignmentRule}
+use Rattle.es_steps.specs.RestAssignments.RestAssignmentRule.{assigns}
 use Rattle.es_steps.specs.Rules.{Replacing, Writing, either_rule}
 use Rattle.es_steps.specs.Rules.Replacing.{replaces}
 use Rattle.es_steps.specs.Slots.{is_slot}
@@ -66,6 +68,9 @@ chaining-quiet : (no_all : Bool) (n : Site) (w : Whole) (bs : List Bound) (t u :
 chaining-quiet no_all n w bs t u (by_tests {m = m} {w = v} level walked tests) = record { acted = refl; left = short-quiet m v.tests void_zero_node v.current tests }
 chaining-quiet no_all n w bs t u (as_callee {m = m} {d = d} {w = v} level walked tests bound) = record { acted = refl; left = short-quiet m v.tests void_zero_node d tests }
 chaining-quiet no_all n w bs t u (in_delete {m = m} {w = v} texts alone chain walked tests) = record { acted = refl; left = short-quiet m v.tests true_node (delete_node v.current) tests }
+
+assigning-rest-quiet : (n : Site) (w : Whole) (bs : List Bound) (t u : Tree) → RestAssignmentRule n w bs t u → BothQuiet t u
+assigning-rest-quiet n w bs t u (assigns unbound used texts silent next takes) = record { acted = refl; left = refl }
 
 row-lawful : (R : Site → Whole → List Bound → Tree → Tree → Type 0) → ((n : Site) (w : Whole) (bs : List Bound) (t u : Tree) → R n w bs t u → BothQuiet t u) → NamesLawful (RowRule R)
 row-lawful R quiet = record { at_nodes = nodes }
@@ -120,6 +125,11 @@ spread-lawful = record { at_nodes = nodes }
   where
     nodes : (n : Site) (s s' : Ledger) (t u : Tree) → Replacing SpreadRule n s (at_node t) s' (at_node u) → BothQuiet t u ⊎ (is_slot n.above ≡ true)
     nodes n s s' t u (replaces bs (spreads {m = m} {ps = ps} {u = v} unbound used some silent r)) = inl (record { acted = refl; left = placed-quiet m v (copies-quiet (helper_node (codes "objectSpread2")) None [] ps v r tt) })
+
+-- RESTS IN ASSIGNMENTS
+
+pub rest-assignment-lawful : NamesLawful (RowRule RestAssignmentRule)
+rest-assignment-lawful = row-lawful RestAssignmentRule assigning-rest-quiet
 
 -- TOGETHER
 

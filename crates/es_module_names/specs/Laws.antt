@@ -26,7 +26,7 @@ StepsKeepOutside R = (t : Tree) (w w' : Whole) (x : Open) → has_form s-Program
 abbrev pub ReachedKeepsOutside : (Site → Ledger → Spot → Ledger → Spot → Type 0) → Type 0
 ReachedKeepsOutside R = (p q : Tree) (w w' : Whole) → has_form s-Program p ≡ true → Steps (Step R the_program) (nothing_beside w) (opened p) (nothing_beside w') (opened q) → SameOutside p q
 
--- the core rules, optional catch, namespace exports and object spread, as far as options ask for them
+-- the core rules, optional catch, namespace exports and object spread, and rests in assignments, as far as options ask for them
 abbrev pub LawOutside : Type 0
 LawOutside = (o : EnvOptions) → StepsKeepOutside (with_further_rules o)
 

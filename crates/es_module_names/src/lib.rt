@@ -5,8 +5,9 @@
 ghost use Rattle.es_module_names.specs.Examples.{LawExamples};
 ghost use Rattle.es_module_names.specs.Laws.{LawOutside, LawOutsideBare, LawOutsideReached};
 
-/// Whatever steps of the core rules, optional catch, namespace exports and object spread are taken from a program that has form, at
-/// whatever places and in whatever order: with all that is pending written it has the same module requests and exported names.
+/// Whatever steps of the core rules, optional catch, namespace exports and object spread, and of rests in assignments are taken from a
+/// program that has form, at whatever places and in whatever order: with all that is pending written it has the same module requests and
+/// exported names.
 pub fn law_outside()
     ensures { LawOutside }
 {}

@@ -2,26 +2,25 @@
 use Rattle.std.proofs.Common.{◌≡◌, inl, inr, subst}
 use Rattle.std.specs.Prelude.{Bool, true, false, is_some}
 use Rattle.es_tree.specs.declared.options.EnvOptions.{EnvOptions}
-use Rattle.es_steps.specs.AllRules.{AllRules, RestRule}
+use Rattle.es_steps.specs.AllRules.{AllRules, ObjectRule, RestRule}
 use Rattle.es_steps.specs.Arrows.{ArrowRule}
 use Rattle.es_steps.specs.Arrows.ArrowRule.{by_name, by_new_name, with_body, with_expression}
 use Rattle.es_steps.specs.CoreRules.{where_on}
-use Rattle.es_steps.specs.ObjectSpread.{SpreadRule}
-use Rattle.es_steps.specs.Rules.{Replacing, either_rule}
+use Rattle.es_steps.specs.Rules.{either_rule}
 use Rattle.es_steps.specs.Steps.{Ledger, Site, Spot}
 use Rattle.es_steps.proofs.FormRules.{AtNodes}
 use Rattle.es_valid_steps.specs.Laws.{with_further_rules}
 use Rattle.es_reached.specs.Reached.{built_rules}
 
-on-spread : (b : Bool) (n : Site) (s : Ledger) (x : Spot) (s' : Ledger) (y : Spot) → where_on b (Replacing SpreadRule) n s x s' y → where_on b (either_rule (Replacing SpreadRule) RestRule) n s x s' y
-on-spread true n s x s' y r = inl r
-on-spread false n s x s' y r = absurd r
+on-objects : (b : Bool) (n : Site) (s : Ledger) (x : Spot) (s' : Ledger) (y : Spot) → where_on b ObjectRule n s x s' y → where_on b (either_rule ObjectRule RestRule) n s x s' y
+on-objects true n s x s' y r = inl r
+on-objects false n s x s' y r = absurd r
 
 pub built-all : (o : EnvOptions) (n : Site) (s : Ledger) (x : Spot) (s' : Ledger) (y : Spot) → built_rules o n s x s' y → AllRules o n s x s' y
 built-all o n s x s' y (inl (inl r)) = inl r
 built-all o n s x s' y (inl (inr (inl r))) = inr (inl r)
 built-all o n s x s' y (inl (inr (inr (inl r)))) = inr (inr (inl r))
-built-all o n s x s' y (inl (inr (inr (inr r)))) = inr (inr (inr (inl (on-spread (is_some o.es2018.object_rest_spread) n s x s' y r))))
+built-all o n s x s' y (inl (inr (inr (inr r)))) = inr (inr (inr (inl (on-objects (is_some o.es2018.object_rest_spread) n s x s' y r))))
 built-all o n s x s' y (inr r) = inr (inr (inr (inr (inr r))))
 
 pub arrows-off : (o : EnvOptions) → is_some o.es2015.arrow_function ≡ false → (n : Site) (s : Ledger) (x : Spot) (s' : Ledger) (y : Spot) → built_rules o n s x s' y → with_further_rules o n s x s' y

@@ -1,15 +1,16 @@
 -- No rule of a built lowering makes what is sought: what a row makes consists of parts of what stood there and of made nodes of other kinds.
 use Rattle.std.proofs.Common.{◌≡◌, ◌∙◌, ℕ, refl, sym, subst, ap, inl, inr, List, [], ◌∷◌, ◌++◌, true≢false}
-use Rattle.std.specs.Prelude.{Bool, true, false, ◌&&◌, ◌||◌, Option, Some, None, is_some}
+use Rattle.std.specs.Prelude.{Bool, true, false, ◌&&◌, ◌||◌, Option, Some, None, is_some, map}
 use Rattle.es_tree.specs.Constructs.{any_kind, is_spread}
 use Rattle.es_tree.specs.Parens.{without_parens}
-use Rattle.es_tree.specs.Tree.{Tree, node, Label, Fields, Trees, many, trees, kind_of}
+use Rattle.es_tree.specs.Tree.{Tree, node, Label, Fields, one, many, fields, Trees, empty, ◌before◌, trees, kind_of}
 use Rattle.es_tree.specs.declared.ast_type.AstType.{AstType}
 use Rattle.es_tree.specs.declared.options.EnvOptions.{EnvOptions}
 use Rattle.es_runs.proofs.Named.{or_both, or_first, or_second}
 use Rattle.es_runs.specs.OptionalChaining.{has_tests, joined_by_or, member_at, null_checks, where_short}
 use Rattle.es_runs.specs.Rules.{assign_node, tested}
 use Rattle.es_resolution.specs.Declarations.{Bound}
+use Rattle.es_steps.specs.AllRules.{ObjectRule}
 use Rattle.es_steps.specs.Arrows.{ArrowRule}
 use Rattle.es_steps.specs.Arrows.ArrowRule.{by_name as by_this_name, by_new_name, with_body, with_expression}
 use Rattle.es_steps.specs.CoreRules.{RowRule, rule_under, where_on}
@@ -43,7 +44,11 @@ use Rattle.es_steps.specs.OptionalChaining.Walked.{base, marked_call, marked_mem
 use Rattle.es_steps.specs.Rules.{Replacing, Writing, either_rule}
 use Rattle.es_steps.specs.Rules.Replacing.{replaces}
 use Rattle.es_steps.specs.Rules.Writing.{all_pending, body_declarators, declarators, insertions}
+use Rattle.es_steps.specs.RestAssignments.{RestAssignmentRule, is_unused}
+use Rattle.es_steps.specs.RestAssignments.RestAssignmentRule.{assigns}
 use Rattle.es_steps.specs.Steps.{Ledger, Site, Spot, Whole}
+use Rattle.es_steps.proofs.RestParts.{EachAmong, EachTree}
+use Rattle.es_arrow_steps.proofs.RestNodes.{NodesRight, row-right}
 use Rattle.es_steps.specs.WrapRule.{WrapRule}
 use Rattle.es_steps.specs.WrapRule.WrapRule.{wraps}
 use Rattle.es_steps.proofs.Lists.{written-first}
@@ -51,7 +56,7 @@ use Rattle.es_steps.proofs.Opened.{written-none}
 use Rattle.es_valid_steps.specs.Laws.{with_further_rules}
 use Rattle.es_reached.specs.Reached.{built_rules}
 use Rattle.es_reached.specs.Unmade.{Sought, is_sought}
-use Rattle.es_reached.proofs.FreeTrees.{Free, FreeAll, LedgerFree, SpotFree, SpotKept, append-free, inner-free, is_part, placed-free, sought-made, spread-members, spread-part, vars-free}
+use Rattle.es_reached.proofs.FreeTrees.{Free, FreeAll, FreeIn, LedgerFree, SpotFree, SpotKept, append-free, inner-free, is_part, placed-free, sought-made, spread-members, spread-part, vars-free}
 
 module _ (sought : Sought) where
   abbrev T : AstType → Label → Fields → Bool
@@ -260,6 +265,40 @@ module _ (sought : Sought) where
       let k = copies-free _ None [] ps v d (refl, ((refl, tt), ((refl, tt), tt))) tt no-parts h.1.0 in
       record { free = placed-free sought m v k.free; kind = λ b. placed-kind m v b (k.kind b) }
 
+  -- RESTS IN ASSIGNMENTS
+
+  each-free : (ts : List Tree) → EachTree (Free T) ts → FreeAll T (trees ts)
+  each-free [] h = tt
+  each-free (t ∷ ts) h = (h.0, each-free ts h.1)
+
+  elements-free : (ts : List Tree) → EachTree (Free T) ts → FreeIn T (fields (map one ts))
+  elements-free [] h = tt
+  elements-free (t ∷ ts) h = (h.0, elements-free ts h.1)
+
+  nodes-free : NodesRight (Free T)
+  nodes-free = record {
+    name = λ x. (refl, tt);
+    text = λ x. (refl, tt);
+    member = λ o x h. (refl, (h, ((refl, tt), tt)));
+    array = λ ts h. (refl, elements-free ts h);
+    object = (refl, (tt, tt));
+    call = λ f ts h k. (refl, (h, (each-free ts k, tt)));
+    sequence = λ m ts h. (refl, (each-free ts h, tt));
+    assignment = λ t e d h k. (refl, (h, (k, tt)));
+    group = λ l ps d h. (rw d refl, (each-free ps h, tt));
+    key = λ l k v h. h.1.0;
+    keyed = λ l k v x h. (refl, ((refl, tt), h.1.1));
+    rest = λ l t h. h.1.0;
+  }
+
+  among-free : (ps : Trees) → FreeAll T ps → EachAmong (Free T) ps
+  among-free empty h = tt
+  among-free (p before ps) h = (h.0, among-free ps h.1)
+
+  assigning_rest-free : RowFree RestAssignmentRule
+  assigning_rest-free n w bs t u (assigns {m = m} {lp = lp} {ps = ps} {e = e} {x = x} {xs = xs} {us = us} unbound used texts silent next takes) h =
+      record { free = row-right (Free T) nodes-free _ lp m ps e x xs us (is_unused n.above) takes (among-free ps h.1.0.1.0) h.1.1.0; kind = λ m. refl }
+
   -- RULES
 
   abbrev pub RuleFree : (Site → Ledger → Spot → Ledger → Spot → Type 0) → Type 0
@@ -327,7 +366,7 @@ module _ (sought : Sought) where
       both-free (rule_under o) _ (under-free o)
       (both-free _ _ (on-free o.es2019.optional_catch_binding CatchRule catching-free)
       (both-free _ _ (on-free o.es2020.export_namespace_from NamespaceRule exporting-free)
-      (on-free (is_some o.es2018.object_rest_spread) (Replacing SpreadRule) (replacing-free SpreadRule spreading-free))))
+      (on-free (is_some o.es2018.object_rest_spread) ObjectRule (both-free (Replacing SpreadRule) (RowRule RestAssignmentRule) (replacing-free SpreadRule spreading-free) (row-free RestAssignmentRule assigning_rest-free)))))
 
   pub built-free : (o : EnvOptions) → RuleFree (built_rules o)
   built-free o = both-free (with_further_rules o) _ (further-free o) (on-free (is_some o.es2015.arrow_function) ArrowRule arrows-free)

@@ -18,9 +18,9 @@ use Rattle.es_steps.specs.Steps.TreesStep.{acts_on_flanked, after_flanked, flank
 use Rattle.es_steps.specs.Steps.Steps.{goes, stays}
 use Rattle.es_steps.proofs.Opened.{finished-followed, finished-opened, finished-trees}
 use Rattle.es_steps.proofs.Taken.{flanks-rest}
-use Rattle.es_reached.specs.NoRests.{LawNoRests, LawNoUsings}
+use Rattle.es_reached.specs.NoRests.{LawNoDeclaredRests, LawNoUsings, is_declared_rest}
 use Rattle.es_reached.specs.Reached.{built_rules}
-use Rattle.es_reached.specs.Unmade.{LawNoneMade, Sought, is_any_logical_assignment, is_any_power, is_sought, of_rests, of_usings}
+use Rattle.es_reached.specs.Unmade.{LawNoneMade, Sought, is_any_logical_assignment, is_any_power, is_sought, of_declared_rests, of_rests, of_usings}
 use Rattle.es_reached.proofs.FreeTrees.{Free, FreeAll, FreeBy, FreeIn, LedgerFree, body-free, flanks-free, free, free-body, free-flanks, free-joined, free-whole, is_part, joined-free, joined-kinds, joined-none, neither, none, rest-members, sought-bare, sought-made, spread-members, whole-free}
 use Rattle.es_reached.proofs.FreeRows.{RuleFree, built-free}
 use Rattle.es_reached.proofs.Sources.{law_bare_source_proof}
@@ -76,15 +76,15 @@ module _ (sought : Sought) where
       spreads : has_member is_spread (field_at 0 fs) ≡ false → has_member is_spread (field_at 0 gs) ≡ false
       spreads e = sym (spread-members (field_at 0 gs)) ∙ f false (spread-members (field_at 0 fs) ∙ e)
 
-      pattern-kept : T ObjectPattern l fs ≡ false → T ObjectPattern l gs ≡ false
-      pattern-kept e =
+      pattern-kept : (asked : Bool) → ((has_member is_rest (field_at 0 fs) && asked) || false || false || false || false || false) ≡ false → ((has_member is_rest (field_at 0 gs) && asked) || false || false || false || false || false) ≡ false
+      pattern-kept asked e =
           let x = has_member is_rest (field_at 0 fs) in
           let y = has_member is_rest (field_at 0 gs) in
-          or-none (y && sought.rests || false) ∙ or-false (y && sought.rests) ∙ one-off x y sought.rests rests (sym (or-none (x && sought.rests || false) ∙ or-false (x && sought.rests)) ∙ e)
+          or-none (y && asked || false) ∙ or-false (y && asked) ∙ one-off x y asked rests (sym (or-none (x && asked || false) ∙ or-false (x && asked)) ∙ e)
 
       at : (k : AstType) → T k l fs ≡ false → T k l gs ≡ false
-      at ObjectPattern e = pattern-kept e
-      at ObjectTarget e = pattern-kept e
+      at ObjectPattern e = pattern-kept (sought.rests ObjectPattern) e
+      at ObjectTarget e = pattern-kept (sought.rests ObjectTarget) e
       at ObjectExpression e =
           let x = has_member is_spread (field_at 0 fs) in
           let y = has_member is_spread (field_at 0 gs) in
@@ -245,11 +245,20 @@ rests-sought k l fs =
     (λ i. and-true (is_object_rest k l fs) i || and-false (is_object_spread k l fs) i || and-false (is_chain k l fs) i || and-false (is_any_logical_assignment k l fs) i || and-false (is_any_power k l fs) i || and-false (is_using k l fs) i)
     ∙ or-none (is_object_rest k l fs || false) ∙ or-false (is_object_rest k l fs)
 
-rests-in : (t : Tree) → any_node (is_sought of_rests) t ≡ any_node is_object_rest t
+pub rests-in : (t : Tree) → any_node (is_sought of_rests) t ≡ any_node is_object_rest t
 rests-in t = λ i. any_node (λ k l fs. rests-sought k l fs i) t
 
-pub law_no_rests_proof : LawNoRests
-law_no_rests_proof o p r names h e = sym (rests-in r) ∙ law_none_made_proof of_rests o p r names h (rests-in p ∙ e)
+-- those that are declared alone, too
+declared-sought : (k : AstType) (l : Label) (fs : Fields) → is_sought of_declared_rests k l fs ≡ is_declared_rest k l fs
+declared-sought k l fs =
+    (λ i. is_declared_rest k l fs || and-false (is_object_spread k l fs) i || and-false (is_chain k l fs) i || and-false (is_any_logical_assignment k l fs) i || and-false (is_any_power k l fs) i || and-false (is_using k l fs) i)
+    ∙ or-none (is_declared_rest k l fs || false) ∙ or-false (is_declared_rest k l fs)
+
+declared-in : (t : Tree) → any_node (is_sought of_declared_rests) t ≡ any_node is_declared_rest t
+declared-in t = λ i. any_node (λ k l fs. declared-sought k l fs i) t
+
+pub law_no_declared_rests_proof : LawNoDeclaredRests
+law_no_declared_rests_proof o p r names h e = sym (declared-in r) ∙ law_none_made_proof of_declared_rests o p r names h (declared-in p ∙ e)
 
 -- and so are declarations by `using`
 

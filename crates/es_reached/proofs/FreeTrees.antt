@@ -344,7 +344,7 @@ module _ (c : Sought) where
 
   own-bare : (k : AstType) (l : Label) (fs : Fields) → T k (bare_label l) (bare_fields fs) ≡ T k l fs
   own-bare k l fs = λ i.
-      (rest-bare k l fs i && c.rests)
+      (rest-bare k l fs i && c.rests k)
       || (spread-bare k l fs i && c.spreads)
       || (chain-bare k l fs i && c.chains)
       || (assignment-bare k l fs i && c.assignments)

@@ -81,18 +81,18 @@ module _ (T : AstType → Label → Fields → Bool) (steady : IsSteady T) where
   -- A RULE ACTS
 
   arrow-walked : (n : Site) (s s' : Ledger) (t u : Tree) → ArrowRule n s (at_node t) s' (at_node u) → Free T t → Walked s s' t u
-  arrow-walked n s s' t u (by_name {l = l} reads belongs reaches finds used symbol) d = record { free = (steady.made _ _ _ refl, tt); around = record { pending = refl; top = refl }; alike = record { kind = λ q b. b.name; member = refl } }
-  arrow-walked n s s' t u (by_new_name reads belongs reaches fresh) d = record { free = (steady.made _ _ _ refl, tt); around = record { pending = refl; top = refl }; alike = record { kind = λ q b. b.name; member = refl } }
-  arrow-walked n s s' t u (with_body none) d = record { free = (steady.made FunctionExpression _ _ refl, (tt, (d.1.0, (d.1.1.0, tt)))); around = record { pending = refl; top = refl }; alike = record { kind = λ q b. b.function; member = refl } }
+  arrow-walked n s s' t u (by_name {l = l} reads belongs reaches finds used symbol) d = record { free = (steady.made _ _ _ refl, tt); around = record { pending = refl; top = refl }; alike = record { kind = λ q b. b.name; member = refl; rest = refl } }
+  arrow-walked n s s' t u (by_new_name reads belongs reaches fresh) d = record { free = (steady.made _ _ _ refl, tt); around = record { pending = refl; top = refl }; alike = record { kind = λ q b. b.name; member = refl; rest = refl } }
+  arrow-walked n s s' t u (with_body none) d = record { free = (steady.made FunctionExpression _ _ refl, (tt, (d.1.0, (d.1.1.0, tt)))); around = record { pending = refl; top = refl }; alike = record { kind = λ q b. b.function; member = refl; rest = refl } }
   arrow-walked n s s' t u (with_expression expression none) d = record {
     free = (steady.made FunctionExpression _ _ refl, (tt, (d.1.0, ((steady.made FunctionBody _ _ refl, (tt, (((steady.made ReturnStatement _ _ refl, (d.1.1.0, tt)), tt), tt))), tt))));
     around = record { pending = refl; top = refl };
-    alike = record { kind = λ q b. b.function; member = refl };
+    alike = record { kind = λ q b. b.function; member = refl; rest = refl };
   }
 
   node-walked : (n : Site) (s s' : Ledger) (t u : Tree) → Walking n s (at_node t) s' (at_node u) → Free T t → Walked s s' t u
   node-walked n s s' t u (inl h) d = absurd (writes-lists h)
-  node-walked n s s' t u (inr (by_pending_name reads belongs reaches)) d = record { free = (steady.made _ _ _ refl, tt); around = record { pending = refl; top = refl }; alike = record { kind = λ q b. b.name; member = refl } }
+  node-walked n s s' t u (inr (by_pending_name reads belongs reaches)) d = record { free = (steady.made _ _ _ refl, tt); around = record { pending = refl; top = refl }; alike = record { kind = λ q b. b.name; member = refl; rest = refl } }
   node-walked n s s' t u (inr (by_rule h)) d = arrow-walked n s s' t u h d
 
   at-node : (n : Site) (s s' : Ledger) (t u : Tree) → Walking n s (at_node t) s' (at_node u) → Free T (finished (opened t)) → Walked s s' (finished (opened t)) (finished (opened u))
@@ -104,8 +104,8 @@ module _ (T : AstType → Label → Fields → Bool) (steady : IsSteady T) where
 
   body-alike : (vs ls : List Tree) (t u : Tree) → Alike t u → Alike (body_with vs ls t) (body_with vs ls u)
   body-alike [] [] t u h = h
-  body-alike [] (d ∷ ls) t u h = record { kind = λ q b. refl; member = refl }
-  body-alike (v ∷ vs) ls t u h = record { kind = λ q b. refl; member = refl }
+  body-alike [] (d ∷ ls) t u h = record { kind = λ q b. refl; member = refl; rest = refl }
+  body-alike (v ∷ vs) ls t u h = record { kind = λ q b. refl; member = refl; rest = refl }
 
   body-walked : (p q : Pending) (t u : Tree) → p ≡ q → Free T (written_body p t) → Free T u → Alike t u → Free T (written_body q u) × Alike (written_body p t) (written_body q u)
   body-walked p q t u e d h a =
@@ -119,7 +119,7 @@ module _ (T : AstType → Label → Fields → Bool) (steady : IsSteady T) where
 
   -- no test looks into a list of statements
   statements-alike : (ts us : Trees) → AlikeBy (statements ts) (statements us)
-  statements-alike ts us = record { child = λ q b. refl; target = refl; members = λ q b. refl; there = refl }
+  statements-alike ts us = record { child = λ q b. refl; target = refl; rest = refl; members = λ q b. refl; there = refl }
 
   first-alike : (f g : Field) (fs : Fields) → AlikeBy f g → AlikeIn (f then fs) (g then fs)
   first-alike f g fs h zero = h
@@ -151,7 +151,7 @@ module _ (T : AstType → Label → Fields → Bool) (steady : IsSteady T) where
 
     walked-by : {n : Site} {s s' : Ledger} {f g : OpenField} → FieldStep Walking n s f s' g → FreeBy T (finished_field f) → WalkedBy s s' (finished_field f) (finished_field g)
     walked-by (in_child h) d = let m = walked h d in record { free = m.free; around = m.around; alike = by-one m.alike }
-    walked-by (in_children h) d = let m = walked-all h d in record { free = m.free; around = m.around; alike = record { child = λ q b. refl; target = refl; members = m.kinds; there = refl } }
+    walked-by (in_children h) d = let m = walked-all h d in record { free = m.free; around = m.around; alike = record { child = λ q b. refl; target = refl; rest = refl; members = m.kinds; there = refl } }
     walked-by (in_body {p = p} {q = q} {t = t} {u = u} e y y' h) d =
         let m = walked h (free-body T p.vars p.lets (finished t) d).1 in
         let k = body-walked p q (finished t) (finished u) m.around.pending d m.free m.alike in

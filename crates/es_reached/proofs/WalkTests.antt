@@ -1,12 +1,14 @@
 -- What the tests of constructs ask of a node: nothing that a name in the place of a `this`, or a function in that of an arrow, changes.
 use Rattle.std.proofs.Common.{◌≡◌, ℕ, refl, sym, ◌∙◌}
 use Rattle.std.specs.Prelude.{Bool, true, false, ◌&&◌, ◌||◌, bytes_eq, codes, is_some, not}
-use Rattle.es_tree.specs.Constructs.{field_at, has_member, is_big_int, is_chain, is_child, is_enabled_statement, is_exponentiation, is_logical_assignment, is_namespace_export, is_nullish_coalescing, is_object_spread, is_optional_catch, is_private_member, is_private_name, is_private_target, is_spread, is_using, stands}
+use Rattle.es_tree.specs.Constructs.{field_at, has_member, is_big_int, is_chain, is_child, is_enabled_statement, is_exponentiation, is_logical_assignment, is_namespace_export, is_nullish_coalescing, is_object_spread, is_optional_catch, is_private_member, is_private_name, is_private_target, is_rest, is_spread, is_using, stands}
+use Rattle.es_tree.specs.HasForm.{same_type}
 use Rattle.es_tree.specs.Names.{first_text}
 use Rattle.es_tree.specs.Parens.{without_parens}
+use Rattle.es_tree.specs.RestTargets.{is_rest_assignment, is_rest_target}
 use Rattle.es_tree.specs.Tree.{Tree, node, Label, Fields, done, ◌then◌, Field, missing, one, many, statements, kind_of, fields_of}
 use Rattle.es_tree.specs.declared.ast_type.AstType.{AstType}
-use Rattle.es_tree.specs.declared.ast_type.AstType.TheVariants.{ArrowFunctionExpression, AssignmentExpression, BinaryExpression, CatchClause, ChainExpression, ExportAllDeclaration, FunctionExpression, Identifier, LogicalExpression, MemberExpression, ObjectExpression, ParenthesizedExpression, ThisExpression, VariableDeclaration}
+use Rattle.es_tree.specs.declared.ast_type.AstType.TheVariants.{ArrowFunctionExpression, AssignmentExpression, BinaryExpression, CatchClause, ChainExpression, ExportAllDeclaration, FunctionExpression, Identifier, LogicalExpression, MemberExpression, ObjectExpression, ObjectTarget, ParenthesizedExpression, ThisExpression, VariableDeclaration}
 use Rattle.es_tree.specs.declared.options.EnvOptions.{EnvOptions}
 use Rattle.es_reached.specs.Walks.{is_other_construct, is_other_expression}
 use Rattle.es_reached.proofs.FreeTrees.{PassesNoMade}
@@ -27,6 +29,9 @@ blind-private = record { name = refl; function = refl }
 blind-spread : IsBlind is_spread
 blind-spread = record { name = refl; function = refl }
 
+blind-rest : IsBlind is_rest
+blind-rest = record { name = refl; function = refl }
+
 -- ALIKE
 
 -- whether the tree is a private member, maybe in parentheses
@@ -37,11 +42,13 @@ is_private_inside t = is_private_member (kind_of (without_parens t)) (fields_of 
 pub record Alike (t u : Tree) : Type 0 where
   pub kind : (q : AstType → Bool) → IsBlind q → q (kind_of t) ≡ q (kind_of u)
   pub member : is_private_inside t ≡ is_private_inside u
+  pub rest : is_rest_target (one t) ≡ is_rest_target (one u)
 
 -- and so of two fields
 pub record AlikeBy (f g : Field) : Type 0 where
   pub child : (q : AstType → Bool) → IsBlind q → is_child q f ≡ is_child q g
   pub target : is_private_target f ≡ is_private_target g
+  pub rest : is_rest_target f ≡ is_rest_target g
   pub members : (q : AstType → Bool) → IsBlind q → has_member q f ≡ has_member q g
   pub there : stands f ≡ stands g
 
@@ -49,10 +56,10 @@ abbrev pub AlikeIn : Fields → Fields → Type 0
 AlikeIn fs gs = (n : ℕ) → AlikeBy (field_at n fs) (field_at n gs)
 
 pub by-same : (f : Field) → AlikeBy f f
-by-same f = record { child = λ q b. refl; target = refl; members = λ q b. refl; there = refl }
+by-same f = record { child = λ q b. refl; target = refl; rest = refl; members = λ q b. refl; there = refl }
 
 pub by-one : {t u : Tree} → Alike t u → AlikeBy (one t) (one u)
-by-one h = record { child = h.kind; target = h.member; members = λ q b. refl; there = refl }
+by-one h = record { child = h.kind; target = h.member; rest = h.rest; members = λ q b. refl; there = refl }
 
 -- a node is a private member by its fields
 abbrev is_member_by : AstType → Fields → Bool
@@ -75,7 +82,7 @@ by-alike MemberExpression fs gs h = (h 1).child is_private_name blind-private
 by-alike _ fs gs h = refl
 
 pub alike-node : (k : AstType) (l : Label) (fs gs : Fields) → AlikeIn fs gs → Alike (node k l fs) (node k l gs)
-alike-node k l fs gs h = record { kind = λ q b. refl; member = member-by k l fs ∙ by-alike k fs gs h ∙ sym (member-by k l gs) }
+alike-node k l fs gs h = record { kind = λ q b. refl; member = member-by k l fs ∙ by-alike k fs gs h ∙ sym (member-by k l gs); rest = λ i. same_type k ObjectTarget && (h 0).members is_rest blind-rest i }
 
 -- TESTS that ask for no more of fields, and that no made node passes
 
@@ -150,6 +157,17 @@ spreads-steady = record { made = made; same = same }
     same ObjectExpression l fs gs a = (a 0).members is_spread blind-spread
     same _ l fs gs a = refl
 
+rest-assignments-steady : IsSteady is_rest_assignment
+rest-assignments-steady = record { made = made; same = same }
+  where
+    made : PassesNoMade is_rest_assignment
+    made AssignmentExpression l fs h = absurd (cc h)
+    made _ l fs h = refl
+
+    same : (k : AstType) (l : Label) (fs gs : Fields) → AlikeIn fs gs → is_rest_assignment k l fs ≡ is_rest_assignment k l gs
+    same AssignmentExpression l fs gs a = λ i. bytes_eq (first_text l.texts) (codes "=") && (a 0).rest i
+    same _ l fs gs a = refl
+
 catches-steady : IsSteady is_optional_catch
 catches-steady = record { made = made; same = same }
   where
@@ -194,10 +212,12 @@ expressions-steady o =
     either-steady _ _
     (either-steady _ _
     (either-steady _ _
+    (either-steady _ _
     (either-steady _ _ (where-steady o.es2016.exponentiation_operator is_exponentiation powers-steady) (where-steady o.es2020.nullish_coalescing_operator is_nullish_coalescing coalescing-steady))
     (where-steady o.es2020.optional_chaining is_chain chains-steady))
     (where-steady o.es2021.logical_assignment_operators is_logical_assignment assignments-steady))
-    (where-steady (is_some o.es2018.object_rest_spread) is_object_spread spreads-steady)
+    (where-steady (is_some o.es2018.object_rest_spread) is_object_spread spreads-steady))
+    (where-steady (is_some o.es2018.object_rest_spread) is_rest_assignment rest-assignments-steady)
 
 statements-steady : (o : EnvOptions) → IsSteady (is_enabled_statement o)
 statements-steady o =

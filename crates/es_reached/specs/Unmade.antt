@@ -1,21 +1,22 @@
 -- Constructs that no row makes, as one test of nodes: those that are sought are found by it.
 use Rattle.std.specs.Prelude.{◌≡◌, List, Bool, true, false, ◌&&◌, ◌||◌, bytes_eq, codes}
 use Rattle.es_tree.specs.Constructs.{is_chain, is_object_rest, is_object_spread, is_using}
+use Rattle.es_tree.specs.HasForm.{same_type}
 use Rattle.es_tree.specs.Names.{first_text}
 use Rattle.es_tree.specs.Tree.{Tree, Label, Fields}
 use Rattle.es_tree.specs.Walks.{any_node}
 use Rattle.es_tree.specs.Words.{Text}
 use Rattle.es_tree.specs.declared.ast_type.AstType.{AstType}
-use Rattle.es_tree.specs.declared.ast_type.AstType.TheVariants.{AssignmentExpression, BinaryExpression}
+use Rattle.es_tree.specs.declared.ast_type.AstType.TheVariants.{AssignmentExpression, BinaryExpression, ObjectPattern}
 use Rattle.es_tree.specs.declared.options.EnvOptions.{EnvOptions}
 use Rattle.es_runs.specs.LogicalAssignment.{is_logical_assignment_operator}
 use Rattle.es_steps.specs.CoreBridge.{Reached, first_whole}
 use Rattle.es_reached.specs.Reached.{built_rules}
 
--- Which of these are sought: object patterns with a rest, object literals with a spread, optional chains, assignments by `||=`, `&&=` and `??=`,
+-- Which of these are sought: object patterns with a rest, of these kinds, object literals with a spread, optional chains, assignments by `||=`, `&&=` and `??=`,
 -- powers by `**` and `**=`, and declarations by `using`.
 pub record Sought : Type 0 where
-  pub rests : Bool
+  pub rests : AstType → Bool
   pub spreads : Bool
   pub chains : Bool
   pub assignments : Bool
@@ -35,7 +36,7 @@ is_any_power _ l fs = false
 
 abbrev pub is_sought : Sought → AstType → Label → Fields → Bool
 is_sought c k l fs =
-    (is_object_rest k l fs && c.rests)
+    (is_object_rest k l fs && c.rests k)
     || (is_object_spread k l fs && c.spreads)
     || (is_chain k l fs && c.chains)
     || (is_any_logical_assignment k l fs && c.assignments)
@@ -44,10 +45,14 @@ is_sought c k l fs =
 
 -- one of them alone
 abbrev pub nothing_sought : Sought
-nothing_sought = record { rests = false; spreads = false; chains = false; assignments = false; powers = false; usings = false }
+nothing_sought = record { rests = λ k. false; spreads = false; chains = false; assignments = false; powers = false; usings = false }
 
 abbrev pub of_rests : Sought
-of_rests = record nothing_sought { rests = true }
+of_rests = record nothing_sought { rests = λ k. true }
+
+-- those that are declared: one to which a value is assigned is an object target
+abbrev pub of_declared_rests : Sought
+of_declared_rests = record nothing_sought { rests = λ k. same_type k ObjectPattern }
 
 abbrev pub of_spreads : Sought
 of_spreads = record nothing_sought { spreads = true }

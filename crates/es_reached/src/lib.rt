@@ -3,7 +3,7 @@
 #![tactic(auto)]
 
 ghost use Rattle.es_reached.specs.BareTrees.{LawBarePlaces, LawBareSeen, LawBareSource};
-ghost use Rattle.es_reached.specs.NoRests.{LawNoRests, LawNoUsings};
+ghost use Rattle.es_reached.specs.NoRests.{LawNoDeclaredRests, LawNoUsings};
 ghost use Rattle.es_reached.specs.Reached.{LawCoreResult, LawFirst, LawResult};
 ghost use Rattle.es_reached.specs.Unmade.{LawNoneMade};
 ghost use Rattle.es_reached.specs.Walks.{LawWalkMakesNone};
@@ -40,9 +40,9 @@ pub fn law_bare_places()
     ensures { LawBarePlaces }
 {}
 
-/// No step of the built lowerings makes an object pattern with a rest, of bindings or of targets.
-pub fn law_no_rests()
-    ensures { LawNoRests }
+/// No step of the built lowerings makes an object pattern with a rest that is declared.
+pub fn law_no_declared_rests()
+    ensures { LawNoDeclaredRests }
 {}
 
 /// Nor a declaration by `using`.

@@ -11,3 +11,4 @@ pub mod WholeLists
 pub mod StrayLikes
 pub mod StrayRules
 pub mod StraySteps
+pub mod DeclaredRests

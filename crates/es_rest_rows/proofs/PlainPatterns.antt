@@ -24,7 +24,7 @@ not-both : (v : Bool) → not v ≡ true → v ≡ true → ⊥
 not-both true h e = true≢false (sym h)
 not-both false h e = true≢false (sym e)
 
-rest-bears-none : (t : Tree) → is_named_rest t ≡ true → bears_rest t ≡ false
+pub rest-bears-none : (t : Tree) → is_named_rest t ≡ true → bears_rest t ≡ false
 rest-bears-none (node RestElement l fs) h = refl
 rest-bears-none (node _ l fs) h = absurd (true≢false (sym h))
 

@@ -2,7 +2,7 @@
 use Rattle.std.proofs.Common.{◌≡◌, ◌∙◌, ℕ, zero, suc, refl, sym, ap, subst, List, [], ◌∷◌, true≢false}
 use Rattle.std.specs.Prelude.{Bool, true, false, ◌&&◌, ◌||◌, not, bytes_eq, codes, is_some, map}
 use Rattle.es_tree.specs.Ancestors.{Ancestor}
-use Rattle.es_tree.specs.Constructs.{any_kind, field_at, is_chain, is_enabled_statement, is_exponentiation, is_logical_assignment, is_nullish_coalescing, is_object_spread}
+use Rattle.es_tree.specs.Constructs.{any_kind, field_at, is_enabled_statement}
 use Rattle.es_tree.specs.Names.{first_text}
 use Rattle.es_tree.specs.Tree.{Tree, node, Label, Fields, done, ◌then◌, Field, missing, one, many, statements, Trees, empty, ◌before◌, fields, kind_of}
 use Rattle.es_tree.specs.Words.{Text}
@@ -19,6 +19,7 @@ use Rattle.es_steps.specs.Steps.Spot.{at_node}
 use Rattle.es_steps.proofs.FormRules.{AtNodes, no-names}
 use Rattle.es_steps.proofs.Opened.{finished-opened}
 use Rattle.es_steps.proofs.Written.{joined-twice}
+use Rattle.es_reached.specs.Walks.{is_other_expression}
 use Rattle.es_reached.proofs.FreeTrees.{Free, FreeAll, FreeBy, FreeIn, PassesNoMade, body-free, free, free-body, free-joined, free-whole, joined-free, joined-kinds, none, vars-free, whole-free}
 use Rattle.es_reached.proofs.WalkTests.{Alike, AlikeBy, AlikeIn, IsBlind, alike-node, by-one, by-same, others-steady}
 use Rattle.es_rest_rows.specs.Laws.{LawRestsMakeNone, is_other_construct}
@@ -60,10 +61,10 @@ module _ (o : EnvOptions) where
   off true = refl
   off false = refl
 
-  all-off : (a b c d e f g h v : Bool) → v ≡ false → ((a && false) || (b && false) || (c && false) || (d && false) || (e && false) || (f && false) || ((g && false) || (h && false) || v)) ≡ false
-  all-off a b c d e f g h v z = λ i. off a i || off b i || off c i || off d i || off e i || off f i || (off g i || off h i || z i)
+  all-off : (a b c d e f g h v : Bool) → v ≡ false → ((a && false) || (b && false) || (c && false) || (d && false) || (e && false) || (e && false) || (f && false) || ((g && false) || (h && false) || v)) ≡ false
+  all-off a b c d e f g h v z = λ i. off a i || off b i || off c i || off d i || off e i || off e i || off f i || (off g i || off h i || z i)
 
-  nothing-on : (v : Bool) → v ≡ false → ((o.es2016.exponentiation_operator && false) || (o.es2020.nullish_coalescing_operator && false) || (o.es2020.optional_chaining && false) || (o.es2021.logical_assignment_operators && false) || (is_some o.es2018.object_rest_spread && false) || (is_some o.es2015.arrow_function && false) || ((o.es2019.optional_catch_binding && false) || (o.es2020.export_namespace_from && false) || v)) ≡ false
+  nothing-on : (v : Bool) → v ≡ false → ((o.es2016.exponentiation_operator && false) || (o.es2020.nullish_coalescing_operator && false) || (o.es2020.optional_chaining && false) || (o.es2021.logical_assignment_operators && false) || (is_some o.es2018.object_rest_spread && false) || (is_some o.es2018.object_rest_spread && false) || (is_some o.es2015.arrow_function && false) || ((o.es2019.optional_catch_binding && false) || (o.es2020.export_namespace_from && false) || v)) ≡ false
   nothing-on v z = all-off o.es2016.exponentiation_operator o.es2020.nullish_coalescing_operator o.es2020.optional_chaining o.es2021.logical_assignment_operators (is_some o.es2018.object_rest_spread) (is_some o.es2015.arrow_function) o.es2019.optional_catch_binding o.es2020.export_namespace_from v z
 
   no-using : (b : Bool) → not b ≡ true → (o.es2026.explicit_resource_management && b) ≡ false
@@ -95,23 +96,14 @@ module _ (o : EnvOptions) where
   objects-other : (l : Label) → T ObjectExpression l (many empty then done) ≡ false
   objects-other l = nothing-on (o.es2026.explicit_resource_management && false) (off o.es2026.explicit_resource_management)
 
-  -- but for arrows and patterns they are the tests of a walk that lowers arrows
-  as-there : (a s f v p : Bool) → (a || (s && p) || (f && false) || v) ≡ ((a || (s && p)) || v)
-  as-there true s true v p = refl
-  as-there true s false v p = refl
-  as-there false true true true true = refl
-  as-there false true true true false = refl
-  as-there false true true false true = refl
-  as-there false true true false false = refl
-  as-there false true false true true = refl
-  as-there false true false true false = refl
-  as-there false true false false true = refl
-  as-there false true false false false = refl
-  as-there false false true v p = refl
-  as-there false false false v p = refl
+  -- but for arrows they are the tests of a walk that lowers arrows
+  as-there : (a f v : Bool) → (a || (f && false) || v) ≡ (a || v)
+  as-there true f v = refl
+  as-there false true v = refl
+  as-there false false v = refl
 
-  there : (k : AstType) (l : Label) (fs : Fields) → ((o.es2016.exponentiation_operator && is_exponentiation k l fs) || (o.es2020.nullish_coalescing_operator && is_nullish_coalescing k l fs) || (o.es2020.optional_chaining && is_chain k l fs) || (o.es2021.logical_assignment_operators && is_logical_assignment k l fs) || (is_some o.es2018.object_rest_spread && is_object_spread k l fs) || (is_some o.es2015.arrow_function && false) || is_enabled_statement o k l fs) ≡ ((o.es2016.exponentiation_operator && is_exponentiation k l fs) || (o.es2020.nullish_coalescing_operator && is_nullish_coalescing k l fs) || (o.es2020.optional_chaining && is_chain k l fs) || (o.es2021.logical_assignment_operators && is_logical_assignment k l fs) || (is_some o.es2018.object_rest_spread && is_object_spread k l fs) || is_enabled_statement o k l fs)
-  there k l fs = as-there ((o.es2016.exponentiation_operator && is_exponentiation k l fs) || (o.es2020.nullish_coalescing_operator && is_nullish_coalescing k l fs) || (o.es2020.optional_chaining && is_chain k l fs) || (o.es2021.logical_assignment_operators && is_logical_assignment k l fs)) (is_some o.es2018.object_rest_spread) (is_some o.es2015.arrow_function) (is_enabled_statement o k l fs) (is_object_spread k l fs)
+  there : (k : AstType) (l : Label) (fs : Fields) → (is_other_expression o k l fs || (is_some o.es2015.arrow_function && false) || is_enabled_statement o k l fs) ≡ (is_other_expression o k l fs || is_enabled_statement o k l fs)
+  there k l fs = as-there (is_other_expression o k l fs) (is_some o.es2015.arrow_function) (is_enabled_statement o k l fs)
 
   same-other : (k : AstType) (l : Label) (fs gs : Fields) → AlikeIn fs gs → T k l fs ≡ T k l gs
   same-other ArrowFunctionExpression l fs gs a = refl
@@ -165,7 +157,7 @@ parted-kinds q lp s ps u p x empty c = or-twice (q VariableDeclarator) (any_kind
 parted-kinds q lp s ps u p x (r before rs) c = or-twice (q VariableDeclarator) (any_kind q c) ∙ or-twice (q VariableDeclarator) (q VariableDeclarator || any_kind q c)
 
 list-alike : (ts us : Trees) → ((q : AstType → Bool) → IsBlind q → any_kind q ts ≡ any_kind q us) → AlikeBy (many ts) (many us)
-list-alike ts us h = record { child = λ q b. refl; target = refl; members = h; there = refl }
+list-alike ts us h = record { child = λ q b. refl; target = refl; rest = refl; members = h; there = refl }
 
 first-alike : (f g : Field) (fs : Fields) → AlikeBy f g → AlikeIn (f then fs) (g then fs)
 first-alike f g fs h zero = h
@@ -184,7 +176,7 @@ module _ (T : AstType → Label → Fields → Bool) (other : IsOther T) where
 
   -- a declaration of which a declarator became others
   declared : (m : Label) (a c : Trees) (d : Tree) (us : Trees) → ((q : AstType → Bool) → any_kind q (d before c) ≡ any_kind q (joined_trees us c)) → (Free T d → FreeAll T us) → Walked (declaring m (joined_trees a (d before c))) (declaring m (joined_trees a (joined_trees us c)))
-  declared m a c d us e split = record { free = left; alike = record { kind = λ q b. refl; member = refl } }
+  declared m a c d us e split = record { free = left; alike = record { kind = λ q b. refl; member = refl; rest = refl } }
     where
       old : Trees
       old = joined_trees a (d before c)
@@ -319,8 +311,8 @@ module _ (T : AstType → Label → Fields → Bool) (other : IsOther T) where
 
   body-alike : (vs ls : List Tree) (t u : Tree) → Alike t u → Alike (body_with vs ls t) (body_with vs ls u)
   body-alike [] [] t u h = h
-  body-alike [] (d ∷ ls) t u h = record { kind = λ q b. refl; member = refl }
-  body-alike (v ∷ vs) ls t u h = record { kind = λ q b. refl; member = refl }
+  body-alike [] (d ∷ ls) t u h = record { kind = λ q b. refl; member = refl; rest = refl }
+  body-alike (v ∷ vs) ls t u h = record { kind = λ q b. refl; member = refl; rest = refl }
 
   mutual
     walked : {up : List Ancestor} {t u : Tree} → Changed Rows None NoNames up t u → Walked t u
@@ -347,7 +339,7 @@ module _ (T : AstType → Label → Fields → Bool) (other : IsOther T) where
         let m = walked-all h in
         record {
           free = λ d. let parts = free-whole T p x a ts d in whole-free T other.made (with_vars bs p) y a us (record { pending = vars-free T other.made bs p parts.pending; excluded = parts.excluded; all = m.free parts.all });
-          alike = record { child = λ q b. refl; target = refl; members = λ q b. refl; there = refl };
+          alike = record { child = λ q b. refl; target = refl; rest = refl; members = λ q b. refl; there = refl };
         }
     walked-by (same_field {f = f}) = record { free = λ d. d; alike = by-same f }
 

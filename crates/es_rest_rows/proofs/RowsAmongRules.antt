@@ -35,7 +35,8 @@ use Rattle.es_rest_rows.specs.RestRows.PutsName.{for_pattern, with_default}
 use Rattle.es_rest_rows.specs.RestRows.RowsWhere.{nested, stores, takes}
 use Rattle.es_rest_rows.specs.RestRows.{NamesKeys, PutsName, RowsWhere, declaring, group, groups, groups_by, is_exported, keyed_by, keys_by, keys_of, left_of, names_key, parted, property_of, taken, text_of_key, with_rest}
 use Rattle.es_rest_rows.proofs.PlainPatterns.{plain-binds, plain-holds}
-use Rattle.es_rest_shapes.specs.RestShapes.{any_tree, is_name, is_plain_pattern, is_read_key, key_text, reads_key}
+use Rattle.es_tree.specs.PropertyKeys.{is_read_key, key_text}
+use Rattle.es_rest_shapes.specs.RestShapes.{any_tree, is_name, is_plain_pattern, reads_key}
 
 -- the groups of a property and those behind it, and the keys, where it is told whether its key is read
 abbrev groups_from : Bool → Label → Tree → List Bound → Trees → Tree → Trees → Trees

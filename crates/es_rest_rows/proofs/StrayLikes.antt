@@ -1,21 +1,23 @@
 -- What the nodes around see of a tree in which something changed: no pattern with a rest where none was, and what is plain is still so. Where the
 -- tree stands in a slot it may be wrapped, whatever it is: also a key of a parameter that is computed, which may be any expression.
 use Rattle.std.proofs.Common.{◌≡◌, ◌==◌, ◌∙◌, ℕ, zero, suc, refl, sym, ap, true≢false, List, ◌∷◌, arith}
-use Rattle.std.specs.Prelude.{Bool, true, false, ◌&&◌, ◌||◌, not, is_some}
+use Rattle.std.specs.Prelude.{Bool, bytes_eq, codes, false, is_some, not, true, ◌&&◌, ◌||◌}
 use Rattle.std.proofs.lemmas.Bool.{and_from, and_left, and_parts, ne_eqb, or_from, or_left, or_parts}
 use Rattle.es_tree.specs.Ancestors.{Ancestor, ancestor}
 use Rattle.es_tree.specs.Constructs.{any_kind, field_at, has_member, is_rest}
-use Rattle.es_tree.specs.Names.{has_computed}
+use Rattle.es_tree.specs.Names.{first_text, has_computed}
 use Rattle.es_tree.specs.Tree.{Tree, node, Label, Fields, done, ◌then◌, Field, missing, one, many, statements, Trees, empty, ◌before◌, kind_of}
+use Rattle.es_tree.specs.RestTargets.{is_rest_assignment, is_rest_target}
 use Rattle.es_tree.specs.declared.ast_type.AstType.{AstType}
-use Rattle.es_tree.specs.declared.ast_type.AstType.TheVariants.{AssignmentPattern, BigIntLiteral, BooleanLiteral, ExportNamedDeclaration, Identifier, NullLiteral, NumericLiteral, ObjectPattern, ObjectTarget, PatternProperty, RestElement, StringLiteral, TemplateElement, TemplateLiteral, VariableDeclaration, VariableDeclarator}
+use Rattle.es_tree.specs.declared.ast_type.AstType.TheVariants.{AssignmentExpression, AssignmentPattern, BigIntLiteral, BooleanLiteral, ExportNamedDeclaration, Identifier, NullLiteral, NumericLiteral, ObjectPattern, ObjectTarget, PatternProperty, RestElement, StringLiteral, TemplateElement, TemplateLiteral, VariableDeclaration, VariableDeclarator}
 use Rattle.es_steps.specs.Nodes.{joined_trees}
 use Rattle.es_steps.specs.Slots.{is_in_parameter, is_slot}
 use Rattle.es_reached.proofs.FreeTrees.{Free, FreeAll, neither}
-use Rattle.es_rest_shapes.specs.RestShapes.{any_beside, any_child, any_child_by, any_tree, are_plain_members, are_plain_parts, bears_among, bears_by, bears_first, bears_rest, bears_second, declares_rest, is_known_key, is_misplaced, is_name, is_named_rest, is_odd_pattern, is_plain_first, is_plain_key, is_plain_pattern, is_plain_property, is_plain_target, is_plain_value, is_rest_declaration, is_rest_declarator, is_stray_rest, template_text}
+use Rattle.es_tree.specs.PropertyKeys.{template_text}
+use Rattle.es_rest_shapes.specs.RestShapes.{any_beside, any_child, any_child_by, any_tree, are_plain_members, are_plain_parts, bears_among, bears_by, bears_first, bears_rest, bears_second, declares_rest, is_known_key, is_misplaced, is_name, is_named_rest, is_odd_pattern, is_plain_first, is_plain_key, is_plain_pattern, is_plain_property, is_plain_target, is_plain_value, is_rest_declaration, is_rest_declarator, is_stray_rest}
 use Rattle.es_rest_rows.proofs.Changes.{is_body_place}
-use Rattle.es_rest_rows.proofs.StrayNodes.{Mark, passes, is_acting, is_text_element, acting-element, acting-named, acting-property}
-use Rattle.es_rest_rows.proofs.StrayNodes.Mark.{a_declaration, a_declarator, a_pattern, a_rest, a_stray, an_export}
+use Rattle.es_rest_rows.proofs.StrayNodes.{Mark, acting-element, acting-named, acting-property, and-true, is_acting, is_text_element, passes}
+use Rattle.es_rest_rows.proofs.StrayNodes.Mark.{a_declaration, a_declarator, a_pattern, a_rest, a_stray, a_target, an_export}
 use Rattle.es_rest_rows.proofs.WholeLists.{joined-none}
 
 -- ALIKE, where the tree stands alone in a field
@@ -164,12 +166,22 @@ declaration-like _ l h e = refl
 stray-mark : {c : ℕ → List Ancestor} (k : AstType) (l : Label) {fs gs : Fields} → LikeIn c fs gs → is_misplaced (node k l fs) ≡ false → is_misplaced (node k l gs) ≡ false
 stray-mark k l {fs} {gs} h e = neither (bears_rest (node k l fs)) (is_rest_declarator (node k l fs)) (bears_rest (node k l gs)) (is_rest_declarator (node k l gs)) (pattern-like k l h) (declarator-like k l h) e
 
+-- a pattern that is assigned to is one afterwards, or is at its place
+assigned-like : {c : ℕ → List Ancestor} (k : AstType) (l : Label) {fs gs : Fields} → LikeIn c fs gs → passes a_target (node k l fs) ≡ false → passes a_target (node k l gs) ≡ false
+assigned-like ObjectTarget l {fs} {gs} h e = at (has_member is_rest (field_at 0 gs))
+  where
+    at : (b : Bool) → ((b || false) && not b) ≡ false
+    at true = refl
+    at false = refl
+assigned-like k l {fs} {gs} h e = and-true (is_misplaced (node k l gs)) ∙ stray-mark k l h (sym (and-true (is_misplaced (node k l fs))) ∙ e)
+
 node-marks : {c : ℕ → List Ancestor} (k : AstType) (l : Label) {fs gs : Fields} → LikeIn c fs gs → (m : Mark) → passes m (node k l fs) ≡ false → passes m (node k l gs) ≡ false
 node-marks k l h a_pattern e = pattern-like k l h e
 node-marks k l h a_declarator e = declarator-like k l h e
 node-marks k l h a_declaration e = declaration-like k l h e
 node-marks k l h a_rest e = e
 node-marks k l h a_stray e = stray-mark k l h e
+node-marks k l h a_target e = assigned-like k l h e
 node-marks k l {fs} {gs} h an_export e = neither (is_misplaced (node k l fs)) (declares_rest (node k l fs)) (is_misplaced (node k l gs)) (declares_rest (node k l gs)) (stray-mark k l h) (declaration-like k l h) e
 
 -- WHAT IS PLAIN
@@ -410,6 +422,24 @@ module _ (all : Fields) (up : List Ancestor) where
   property-stray l (first_like {f = f} {g = g} {fs = fs} h) e = neither (any_child_by is_misplaced f) (any_beside fs) (any_child_by is_misplaced g) (any_beside fs) (by-marks a_stray h) (λ x. x) e
   property-stray l (later_like {f = f} {fs = fs} {gs = gs} h) e = neither (any_child_by is_misplaced f) (any_beside fs) (any_child_by is_misplaced f) (any_beside gs) (λ x. x) (beside-stray h) e
 
+  -- what is assigned to is a pattern with a rest afterwards, too, or at its place
+  assigned-stray : {up : List Ancestor} (op : Bool) {f g : Field} → LikeBy up f g → (any_child_by is_misplaced f && not (op && is_rest_target f)) ≡ false → (any_child_by is_misplaced g && not (op && is_rest_target g)) ≡ false
+  assigned-stray true (one_like h) e = h.marks a_target e
+  assigned-stray false (one_like {t = t} {u = u} h) e = and-true (is_misplaced u) ∙ h.marks a_stray (sym (and-true (is_misplaced t)) ∙ e)
+  assigned-stray true (many_like {ts = ts} {us = us} h) e = and-true (any_tree is_misplaced us) ∙ all-marks a_stray h (sym (and-true (any_tree is_misplaced ts)) ∙ e)
+  assigned-stray false (many_like {ts = ts} {us = us} h) e = and-true (any_tree is_misplaced us) ∙ all-marks a_stray h (sym (and-true (any_tree is_misplaced ts)) ∙ e)
+  assigned-stray true (statements_like {ts = ts} {us = us} h) e = and-true (any_tree is_misplaced us) ∙ h a_stray (sym (and-true (any_tree is_misplaced ts)) ∙ e)
+  assigned-stray false (statements_like {ts = ts} {us = us} h) e = and-true (any_tree is_misplaced us) ∙ h a_stray (sym (and-true (any_tree is_misplaced ts)) ∙ e)
+  assigned-stray op equal_field e = e
+
+  assignment-stray : {c : ℕ → List Ancestor} (l : Label) {fs gs : Fields} → LikeIn c fs gs → is_stray_rest AssignmentExpression l fs ≡ false → is_stray_rest AssignmentExpression l gs ≡ false
+  assignment-stray l (first_like {f = f} {g = g} {fs = fs} h) e =
+      let op = bytes_eq (first_text l.texts) (codes "=") in
+      neither (any_child_by is_misplaced f && not (op && is_rest_target f)) (any_child is_misplaced fs) (any_child_by is_misplaced g && not (op && is_rest_target g)) (any_child is_misplaced fs) (assigned-stray op h) (λ x. x) e
+  assignment-stray l (later_like {f = f} {fs = fs} {gs = gs} h) e =
+      let here = any_child_by is_misplaced f && not (is_rest_assignment AssignmentExpression l (f then fs)) in
+      neither here (any_child is_misplaced fs) here (any_child is_misplaced gs) (λ x. x) (in-marks a_stray h) e
+
   pub stray-like : (k : AstType) (l : Label) {fs gs : Fields} → LikeIn (places all up k l) fs gs → is_stray_rest k l fs ≡ false → is_stray_rest k l gs ≡ false
   stray-like VariableDeclarator l h e = declarator-stray l h (in-marks a_stray h) e
   stray-like VariableDeclaration l h e = declaration-stray l h (in-marks a_stray h) e
@@ -417,6 +447,7 @@ module _ (all : Fields) (up : List Ancestor) where
   stray-like ObjectPattern l h e = beside-stray h e
   stray-like PatternProperty l h e = property-stray l h e
   stray-like AssignmentPattern l h e = beside-stray h e
+  stray-like AssignmentExpression l h e = assignment-stray l h e
   stray-like _ l h e = in-marks a_stray h e
 
 -- what stands in a slot, or as the body of an arrow, is at its place
@@ -454,4 +485,5 @@ module _ (all : Fields) (up : List Ancestor) where
   inside-placed ObjectPattern l fs i h e = absurd (true≢false (sym h))
   inside-placed PatternProperty l fs i h e = key-placed l fs i h e
   inside-placed AssignmentPattern l fs i h e = default-placed l fs i h e
+  inside-placed AssignmentExpression l fs i h e = absurd (true≢false (sym h))
   inside-placed _ l fs i h e = placed-each i fs e

@@ -7,6 +7,7 @@ use Rattle.es_tree.specs.Tree.{Tree, node, Label, Fields, done, ◌then◌, one,
 use Rattle.es_tree.specs.declared.ast_type.AstType.TheVariants.{ExportAllDeclaration, ExportNamedDeclaration, ImportDeclaration}
 use Rattle.es_tree.specs.declared.options.EnvOptions.{EnvOptions}
 use Rattle.es_resolution.specs.Declarations.{Bound}
+use Rattle.es_steps.specs.AllRules.{ObjectRule}
 use Rattle.es_steps.specs.Arrows.{ArrowRule}
 use Rattle.es_steps.specs.Arrows.ArrowRule.{by_name, by_new_name, with_body, with_expression}
 use Rattle.es_steps.specs.CoreRules.{RowRule, rule_under, where_on}
@@ -21,6 +22,7 @@ use Rattle.es_steps.specs.Open.{Additions, Pending, flanks_with, whole_list, wri
 use Rattle.es_steps.specs.OptionalCatch.{CatchRule}
 use Rattle.es_steps.specs.OptionalCatch.CatchRule.{catches}
 use Rattle.es_steps.specs.OptionalChaining.{OptionalChainingRule}
+use Rattle.es_steps.specs.RestAssignments.{RestAssignmentRule}
 use Rattle.es_steps.specs.Rules.{Replacing, Writing, either_rule, next_name}
 use Rattle.es_steps.specs.Rules.Replacing.{replaces}
 use Rattle.es_steps.specs.Rules.Writing.{all_pending, declarators}
@@ -41,8 +43,8 @@ use Rattle.es_rest_shapes.specs.RestShapes.{any_tree, is_misplaced}
 use Rattle.es_rest_rows.proofs.Changes.{Grown, RuleChanges, nodes-change}
 use Rattle.es_rest_rows.proofs.StrayLikes.{Besides}
 use Rattle.es_rest_rows.proofs.StrayNodes.{Clean, Mark, Replaced, Sound, above, below, is_acting, made, passes}
-use Rattle.es_rest_rows.proofs.StrayNodes.Mark.{a_declaration, a_declarator, a_pattern, a_rest, a_stray, an_export}
-use Rattle.es_rest_rows.proofs.StrayRows.{RowSound, assigning-sound, chaining-sound, coalescing-sound, raising-sound, spreading-sound}
+use Rattle.es_rest_rows.proofs.StrayNodes.Mark.{a_declaration, a_declarator, a_pattern, a_rest, a_stray, a_target, an_export}
+use Rattle.es_rest_rows.proofs.StrayRows.{RowSound, assigning-sound, chaining-sound, coalescing-sound, raising-sound, spreading-sound, assigning_rest-sound}
 
 -- a node on which a rule acts: in a slot any that is at its place, and elsewhere one that is no key, property or rest
 pub record Acted (up : List Ancestor) (t u : Tree) : Type 0 where
@@ -80,14 +82,14 @@ catch-nodes : (n : Site) (s s' : Ledger) (x y : Spot) → CatchRule n s x s' y �
 catch-nodes n s s' x y (catches fresh) = tt
 
 catches-node : (n : Site) (s s' : Ledger) (t u : Tree) → CatchRule n s (at_node t) s' (at_node u) → Acted n.above t u × Grown (λ bs. Unit {0}) s s'
-catches-node n s s' t u (catches {p = p} fresh) = (record { leaves = λ h e. made refl (above refl tt, ((below refl h).1.0, tt)); source = λ out. refl }, record { names = []; such = tt; pending = no-names p; top = refl })
+catches-node n s s' t u (catches {p = p} fresh) = (record { leaves = λ h e. made refl (above refl tt, ((below refl refl h).1.0, tt)); source = λ out. refl }, record { names = []; such = tt; pending = no-names p; top = refl })
 
 -- a `this` becomes a name, and an arrow a function of what stood in it
 arrow-node : (n : Site) (s s' : Ledger) (t u : Tree) → ArrowRule n s (at_node t) s' (at_node u) → Acted n.above t u × Grown (λ bs. Unit {0}) s s'
 arrow-node n s s' t u (by_name {p = p} reads belongs reaches finds used symbol) = (record { leaves = λ h e. made refl tt; source = λ out. refl }, record { names = []; such = tt; pending = no-names p; top = refl })
 arrow-node n s s' t u (by_new_name {p = p} reads belongs reaches fresh) = (record { leaves = λ h e. made refl tt; source = λ out. refl }, record { names = []; such = tt; pending = no-names p; top = refl })
-arrow-node n s s' t u (with_body none) = (record { leaves = λ h e. let p = below refl h in made refl (tt, (p.0, (p.1.0, tt))); source = λ out. refl }, same-pending s)
-arrow-node n s s' t u (with_expression expression none) = (record { leaves = λ h e. let p = below refl h in made refl (tt, (p.0, (above refl (tt, ((above refl (p.1.0, tt), tt), tt)), tt))); source = λ out. refl }, same-pending s)
+arrow-node n s s' t u (with_body none) = (record { leaves = λ h e. let p = below refl refl h in made refl (tt, (p.0, (p.1.0, tt))); source = λ out. refl }, same-pending s)
+arrow-node n s s' t u (with_expression expression none) = (record { leaves = λ h e. let p = below refl refl h in made refl (tt, (p.0, (above refl (tt, ((above refl (p.1.0, tt), tt), tt)), tt))); source = λ out. refl }, same-pending s)
 
 -- AN EXPORT becomes an import and an export
 
@@ -98,6 +100,7 @@ beside-marks a_declaration l k fs gs = refl
 beside-marks a_rest l k fs gs = refl
 beside-marks a_stray l k fs gs = refl
 beside-marks an_export l k fs gs = refl
+beside-marks a_target l k fs gs = refl
 
 -- it acts on nodes, and puts others beside them
 abbrev IsBeside : Spot → Spot → Type 0
@@ -122,7 +125,7 @@ exporting-change = record {
         source = refl;
         free = λ h.
             let stood : Clean (node ExportAllDeclaration m (one e then one r then many attributes then done)) = record { nodes = h } in
-            let k = below refl stood in
+            let k = below refl refl stood in
             let import : Sound (placed m (namespace_import (next_name w x) r attributes)) = above refl ((above refl (above refl tt, tt), tt), (k.1.0, (k.1.1.0, tt))) in
             let export : Sound (specifier_node (identifier (next_name w x)) e) = above refl (above refl tt, (k.0, tt)) in
             (import.free.nodes, ((refl, (tt, ((export.free.nodes, tt), (tt, (tt, tt))))), tt));
@@ -196,7 +199,7 @@ further-change o =
     both-change (rule_under o) _ (under-change o)
     (both-change _ _ (on-change o.es2019.optional_catch_binding CatchRule (nodes-change Acted Besides (λ bs. Unit {0}) CatchRule catch-nodes catches-node))
     (both-change _ _ (on-change o.es2020.export_namespace_from NamespaceRule exporting-change)
-    (on-change (is_some o.es2018.object_rest_spread) (Replacing SpreadRule) (replacing-change SpreadRule spreading-sound))))
+    (on-change (is_some o.es2018.object_rest_spread) ObjectRule (both-change (Replacing SpreadRule) (RowRule RestAssignmentRule) (replacing-change SpreadRule spreading-sound) (row-change RestAssignmentRule assigning_rest-sound)))))
 
 pub built-changes : (o : EnvOptions) → StrayChanges (built_rules o)
 built-changes o = both-change (with_further_rules o) _ (further-change o) (on-change (is_some o.es2015.arrow_function) ArrowRule (nodes-change Acted Besides (λ bs. Unit {0}) ArrowRule arrow-nodes arrow-node))

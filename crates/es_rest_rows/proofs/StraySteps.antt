@@ -27,7 +27,7 @@ use Rattle.es_rest_rows.proofs.StrayLikes.LikeAll.{beside_like, equal_trees, hea
 use Rattle.es_rest_rows.proofs.StrayLikes.LikeBy.{equal_field, many_like, one_like, statements_like}
 use Rattle.es_rest_rows.proofs.StrayLikes.LikeIn.{first_like, later_like}
 use Rattle.es_rest_rows.proofs.StrayNodes.{Clean, Mark, Replaced, Sound, SoundAll, above, acting-element, acting-key, acting-name, acting-named, acting-property, below, ordinary-marks, ordinary-plain, passes}
-use Rattle.es_rest_rows.proofs.StrayNodes.Mark.{a_declaration, a_declarator, a_pattern, a_rest, a_stray, an_export}
+use Rattle.es_rest_rows.proofs.StrayNodes.Mark.{a_declaration, a_declarator, a_pattern, a_rest, a_stray, a_target, an_export}
 use Rattle.es_rest_rows.proofs.StrayRules.{Acted, built-changes}
 use Rattle.es_rest_rows.proofs.WholeLists.{Each, Grows, body-each, declaring, each-free, each-list, each-none, free-each, list-each, more-none, none-each}
 
@@ -39,6 +39,7 @@ rest-declarators a_declarator l ds bs e = refl
 rest-declarators a_declaration l ds bs e = more-none is_rest_declarator (λ b. refl) ds bs e
 rest-declarators a_rest l ds bs e = refl
 rest-declarators a_stray l ds bs e = refl
+rest-declarators a_target l ds bs e = refl
 rest-declarators an_export l ds bs e = more-none is_rest_declarator (λ b. refl) ds bs e
 
 no-declarators : (m : Mark) (l : Label) → passes m (declaring l []) ≡ false
@@ -48,6 +49,7 @@ no-declarators a_declaration l = refl
 no-declarators a_rest l = refl
 no-declarators a_stray l = refl
 no-declarators an_export l = refl
+no-declarators a_target l = refl
 
 this-marks : (m : Mark) (b : Bound) → passes m (this_statement b) ≡ false
 this-marks a_pattern b = refl
@@ -56,6 +58,7 @@ this-marks a_declaration b = refl
 this-marks a_rest b = refl
 this-marks a_stray b = refl
 this-marks an_export b = refl
+this-marks a_target b = refl
 
 marks-grow : (m : Mark) → Grows (λ t. passes m t ≡ false)
 marks-grow m = record { more = rest-declarators m; new = λ l bs. rest-declarators m l [] bs (no-declarators m l); this = this-marks m }
@@ -89,7 +92,7 @@ returned : (e : Tree) → Sound e → Each Sound (return_node e before empty)
 returned e h = (above refl (h, tt), tt)
 
 returns : (e : Tree) → Each Sound (return_node e before empty) → Sound e
-returns e h = (below refl h.0.free).0
+returns e h = (below refl refl h.0.free).0
 
 sound-each : (ts : Trees) → Each Sound ts → SoundAll ts
 sound-each empty h = tt
@@ -103,7 +106,7 @@ sound-body : (ts : Trees) → Each Sound ts → Free is_stray_rest (body_node ts
 sound-body ts h = let k : Sound (body_node ts) = above refl (tt, (sound-each ts h, tt)) in k.free.nodes
 
 body-sound : (ts : Trees) → Free is_stray_rest (body_node ts) → Each Sound ts
-body-sound ts h = let k : Clean (body_node ts) = record { nodes = h } in each-sound ts (below refl k).1.0
+body-sound ts h = let k : Clean (body_node ts) = record { nodes = h } in each-sound ts (below refl refl k).1.0
 
 -- what a body holds
 held : (vs ls : List Tree) (t : Tree) → Free is_stray_rest (body_with vs ls t) → is_misplaced (body_with vs ls t) ≡ false → Sound t

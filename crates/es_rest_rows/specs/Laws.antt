@@ -10,6 +10,7 @@ use Rattle.es_steps.specs.Steps.{Ledger, Site, Spot, Step, Steps, Whole, at_node
 use Rattle.es_tree.specs.Constructs.{is_arrow, is_chain, is_enabled_statement, is_exponentiation, is_logical_assignment, is_nullish_coalescing, is_object_spread}
 use Rattle.es_tree.specs.HasForm.{has_form}
 use Rattle.es_tree.specs.Names.{first_text}
+use Rattle.es_tree.specs.RestTargets.{is_rest_assignment}
 use Rattle.es_tree.specs.Scopes.{name_in}
 use Rattle.es_tree.specs.StaticRules.{breaks}
 use Rattle.es_tree.specs.Tree.{Tree, Label, Fields}
@@ -19,10 +20,11 @@ use Rattle.es_tree.specs.declared.ast_type.AstType.{AstType}
 use Rattle.es_tree.specs.declared.ast_type.AstType.TheVariants.{ClassDeclaration, ClassExpression, Identifier}
 use Rattle.es_tree.specs.declared.options.EnvOptions.{EnvOptions}
 use Rattle.es_tree.specs.declared.table.Sort.TheVariants.{Program as s-Program}
+use Rattle.es_reached.specs.NoRests.{is_declared_rest}
 use Rattle.es_reached.specs.Reached.{built_rules}
 use Rattle.es_rest_rows.specs.RestRows.{RestRow, RestWalkRow}
 use Rattle.es_rest_shapes.specs.HelperNames.{binds_helpers}
-use Rattle.es_rest_shapes.specs.RestShapes.{is_stray_rest}
+use Rattle.es_rest_shapes.specs.RestShapes.{is_misplaced, is_rest_declaration, is_stray_rest}
 use Rattle.es_valid_rests.specs.RestRules.{OutsidePart}
 
 -- a rule at one node
@@ -38,6 +40,10 @@ LawRestRows = (n : Site) (s s' : Ledger) (t u : Tree) → AtNode RestRow n s t s
 abbrev pub LawStraysNotMade : Type 0
 LawStraysNotMade = (o : EnvOptions) (p r : Tree) (names : List Text) → Reached (built_rules o) p (first_whole p) names r → any_node is_stray_rest p ≡ false → any_node is_stray_rest r ≡ false
 
+-- Where none stands where it isn't lowered, and no declaration declares one, none is declared at all.
+abbrev pub LawNoneDeclared : Type 0
+LawNoneDeclared = (t : Tree) → is_misplaced t ≡ false → any_node is_stray_rest t ≡ false → any_node is_rest_declaration t ≡ false → any_node is_declared_rest t ≡ false
+
 -- `babelHelpers`, where it refers to a binding, or is one
 abbrev pub is_helper_binding : Text → Option ℕ → Bool
 is_helper_binding x s = bytes_eq x (codes "babelHelpers") && is_some s
@@ -52,7 +58,7 @@ is_bound_helper _ l fs = false
 abbrev pub LawHelpersUnbound : Type 0
 LawHelpersUnbound = (o : EnvOptions) (p r : Tree) (names : List Text) → has_form s-Program p ≡ true → breaks p ≡ [] → binds_helpers (symbols_of p) ≡ false → Reached (built_rules o) p (first_whole p) names r → any_node is_bound_helper r ≡ false
 
--- the constructs that options ask to lower, but for object rests
+-- the constructs that options ask to lower, but for object rests that are declared
 abbrev pub is_other_construct : EnvOptions → AstType → Label → Fields → Bool
 is_other_construct o k l fs =
     (o.es2016.exponentiation_operator && is_exponentiation k l fs)
@@ -60,6 +66,7 @@ is_other_construct o k l fs =
     || (o.es2020.optional_chaining && is_chain k l fs)
     || (o.es2021.logical_assignment_operators && is_logical_assignment k l fs)
     || (is_some o.es2018.object_rest_spread && is_object_spread k l fs)
+    || (is_some o.es2018.object_rest_spread && is_rest_assignment k l fs)
     || (is_some o.es2015.arrow_function && is_arrow k l fs)
     || is_enabled_statement o k l fs
 

@@ -27,7 +27,8 @@ use Rattle.es_tree.specs.Tree.{Tree, node, Label, done, ◌then◌, one, many, T
 use Rattle.es_tree.specs.Words.{Text}
 use Rattle.es_tree.specs.declared.ast_type.AstType.TheVariants.{AssignmentPattern, ExportNamedDeclaration, Identifier, PatternProperty, RestElement, VariableDeclaration}
 use Rattle.es_valid_rests.specs.RestRules.{all_declare}
-use Rattle.es_rest_shapes.specs.RestShapes.{any_tree, are_plain, bears_among, is_name, is_plain_pattern, key_text, reads_key}
+use Rattle.es_tree.specs.PropertyKeys.{key_text}
+use Rattle.es_rest_shapes.specs.RestShapes.{any_tree, are_plain, bears_among, is_name, is_plain_pattern, reads_key}
 
 -- whether a pattern binds this name
 abbrev pub binds_name : Text → Tree → Bool

@@ -1,11 +1,12 @@
 -- Each rule of a lowering is lawful alone: the core rules that options ask for are together, and what a row asks of its site it asks alone.
-use Rattle.std.proofs.Common.{◌∙◌, refl, ap, inl, inr}
-use Rattle.std.specs.Prelude.{Bool, true, false, not, ◌&&◌, List, codes, is_some}
+use Rattle.std.proofs.Common.{◌∙◌, refl, ap, subst, inl, inr}
+use Rattle.std.specs.Prelude.{Bool, true, false, not, ◌&&◌, List, ◌∷◌, ◌++◌, codes, is_some}
 use Rattle.es_tree.specs.Ancestors.{Ancestor}
 use Rattle.es_tree.specs.Tree.{Tree}
 use Rattle.es_tree.specs.declared.options.EnvOptions.{EnvOptions}
 use Rattle.es_runs.specs.OptionalChaining.{takes_value}
 use Rattle.es_resolution.specs.Declarations.{Bound}
+use Rattle.es_steps.specs.AllRules.{ObjectRule}
 use Rattle.es_steps.specs.CoreRules.{RowRule, rule_under, where_on}
 use Rattle.es_steps.specs.Exponentiation.{ExponentiationRule, IsMathFree}
 use Rattle.es_steps.specs.Exponentiation.ExponentiationRule.{power, power_assignment}
@@ -19,28 +20,31 @@ use Rattle.es_steps.specs.OptionalCatch.{CatchRule}
 use Rattle.es_steps.specs.OptionalCatch.CatchRule.{catches}
 use Rattle.es_steps.specs.OptionalChaining.{OptionalChainingRule}
 use Rattle.es_steps.specs.OptionalChaining.OptionalChainingRule.{by_tests, as_callee, in_delete}
+use Rattle.es_steps.specs.Nodes.{assign_node, identifier, placed, sequence_node}
+use Rattle.es_steps.specs.RestAssignments.{RestAssignmentRule, is_unused, value_after}
+use Rattle.es_steps.specs.RestAssignments.RestAssignmentRule.{assigns}
 use Rattle.es_steps.specs.Rules.{Replacing, Writing}
 use Rattle.es_steps.specs.Rules.Replacing.{replaces}
 use Rattle.es_steps.specs.Rules.Writing.{all_pending, body_declarators, declarators, insertions}
 use Rattle.es_steps.specs.Sites.{AreAlike, IsLocal}
 use Rattle.es_steps.specs.Slots.{in_open_slot, is_slot}
 use Rattle.es_steps.specs.Steps.{Ledger, Site, Spot, Whole}
-use Rattle.es_steps.specs.WrapRule.{OutsideSlots, WrapRule, takes_one}
+use Rattle.es_steps.specs.WrapRule.{WrapRule, takes_one}
 use Rattle.es_steps.specs.WrapRule.WrapRule.{wraps}
 use Rattle.es_steps.proofs.Catching.{catch-lawful}
-use Rattle.es_steps.proofs.CoreLaws.{made-writes, on-lawful, on-writes}
+use Rattle.es_steps.proofs.CoreLaws.{on-lawful, on-writes, row-lawful, row-writes-all}
 use Rattle.es_steps.proofs.FormRules.{on-form}
 use Rattle.es_steps.proofs.LocalRules.{both-local}
-use Rattle.es_steps.proofs.Made.{Makes, made-law}
-use Rattle.es_steps.proofs.RuleLaws.{node-lawful}
-use Rattle.es_steps.proofs.RulesWrite.{catch-writes, row-writes}
+use Rattle.es_steps.proofs.RestAssignments.{assigning_rest-makes}
+use Rattle.es_steps.proofs.RulesWrite.{catch-writes}
 use Rattle.es_steps.proofs.Spreads.{spread-makes}
 use Rattle.es_valid_steps.specs.Laws.{with_further_rules}
 use Rattle.es_valid_steps.proofs.FurtherForms.{catch-form, spread-form}
+use Rattle.es_valid_steps.proofs.RestAssignmentForms.{rest-assignment-form}
 use Rattle.es_changes.specs.Rules.{IsLawfulRule, is_asked_for}
 use Rattle.es_conditions.specs.CoreConditions.{is_in_chain}
 use Rattle.es_changes.proofs.Lawful.{law_lawful_proof}
-use Rattle.es_row_laws.specs.Laws.{LawLawfulRows, exponentiation_under, logical_assignment_under, nullish_coalescing_under, object_spread_under, optional_catch_under, optional_chaining_under, writing_under}
+use Rattle.es_row_laws.specs.Laws.{LawLawfulRows, exponentiation_under, logical_assignment_under, nullish_coalescing_under, object_spread_under, optional_catch_under, optional_chaining_under, rest_assignment_under, writing_under}
 use Rattle.es_row_laws.proofs.Fewer.{fewer-formed, fewer-lawful}
 
 -- WHERE EACH STANDS among those that options ask for
@@ -65,12 +69,15 @@ exponentiation-under o n s x s' y h = inr (inr (inr (inr h)))
 spread-anywhere : (n : Site) (s : Ledger) (x : Spot) (s' : Ledger) (y : Spot) → RowRule SpreadRule n s x s' y → Replacing SpreadRule n s x s' y
 spread-anywhere n s x s' y (replaces bs h) = replaces bs h.rule
 
-on-anywhere : (b : Bool) (n : Site) (s : Ledger) (x : Spot) (s' : Ledger) (y : Spot) → where_on b (RowRule SpreadRule) n s x s' y → where_on b (Replacing SpreadRule) n s x s' y
-on-anywhere true n s x s' y h = spread-anywhere n s x s' y h
-on-anywhere false n s x s' y h = h
+among-objects : (b : Bool) {R : Site → Ledger → Spot → Ledger → Spot → Type 0} → ((n : Site) (s : Ledger) (x : Spot) (s' : Ledger) (y : Spot) → R n s x s' y → ObjectRule n s x s' y) → (n : Site) (s : Ledger) (x : Spot) (s' : Ledger) (y : Spot) → where_on b R n s x s' y → where_on b ObjectRule n s x s' y
+among-objects true among n s x s' y h = among n s x s' y h
+among-objects false among n s x s' y h = h
 
 pub object-spread-under : (o : EnvOptions) (n : Site) (s : Ledger) (x : Spot) (s' : Ledger) (y : Spot) → object_spread_under o n s x s' y → with_further_rules o n s x s' y
-object-spread-under o n s x s' y h = inr (inr (inr (on-anywhere (is_some o.es2018.object_rest_spread) n s x s' y h.0)))
+object-spread-under o n s x s' y h = inr (inr (inr (among-objects (is_some o.es2018.object_rest_spread) (λ n s x s' y r. inl (spread-anywhere n s x s' y r)) n s x s' y h.0)))
+
+pub rest-assignment-under : (o : EnvOptions) (n : Site) (s : Ledger) (x : Spot) (s' : Ledger) (y : Spot) → rest_assignment_under o n s x s' y → with_further_rules o n s x s' y
+rest-assignment-under o n s x s' y h = inr (inr (inr (among-objects (is_some o.es2018.object_rest_spread) (λ n s x s' y r. inr r) n s x s' y h)))
 
 -- WHAT A ROW ASKS OF ITS SITE
 
@@ -120,6 +127,11 @@ catch-local n m s s' x y a (catches fresh) = catches fresh
 spreading-local : RowIsLocal SpreadRule
 spreading-local n m w bs t u a (spreads unbound used some quiet h) = spreads (a.scope (codes "babelHelpers") refl ∙ unbound) used some quiet h
 
+assigning-rest-local : RowIsLocal RestAssignmentRule
+assigning-rest-local n m w bs t u a (assigns {m = l} {e = e} {x = x} {xs = xs} {us = us} unbound used texts silent next takes) =
+    subst (λ (up : List Ancestor). RestAssignmentRule m w (x ∷ xs) t (placed l (sequence_node (assign_node (identifier x) e ∷ us ++ value_after (is_unused up) x)))) a.above
+    (assigns (a.scope (codes "babelHelpers") refl ∙ unbound) used texts silent next takes)
+
 -- THE LAWS
 
 pub writing-lawful : (o : EnvOptions) → IsLawfulRule (writing_under o)
@@ -144,17 +156,13 @@ optional-catch-lawful o =
     let on = o.es2019.optional_catch_binding in
     record { names = on-lawful on CatchRule catch-lawful; writes = on-writes on CatchRule catch-writes; form = on-form on CatchRule catch-form; local = on-local on CatchRule catch-local }
 
--- it makes the same outside slots as anywhere
-spread-outside : (n : Site) (w : Whole) (bs : List Bound) (t u : Tree) → OutsideSlots SpreadRule n w bs t u → Makes n w bs t u
-spread-outside n w bs t u h = spread-makes n w bs t u h.rule
-
 spread-row-lawful : (o : EnvOptions) → IsLawfulRule (where_on (is_some o.es2018.object_rest_spread) (RowRule SpreadRule))
 spread-row-lawful o =
     let on = is_some o.es2018.object_rest_spread in
     let R = RowRule SpreadRule in
     record {
-      names = on-lawful on R (node-lawful (OutsideSlots SpreadRule) (λ n w bs t u h used. made-law n w bs t u (spread-outside n w bs t u h) used));
-      writes = on-writes on R (row-writes {R = OutsideSlots SpreadRule} (made-writes (OutsideSlots SpreadRule) spread-outside));
+      names = on-lawful on R (row-lawful SpreadRule spread-makes);
+      writes = on-writes on R (row-writes-all SpreadRule spread-makes);
       form = on-form on R (fewer-formed spread-anywhere spread-form);
       local = on-local on R (row-local SpreadRule spreading-local);
     }
@@ -169,6 +177,17 @@ past-local o n m s s' x y a h = ((spread-row-lawful o).local n m s s' x y a h.0,
 pub object-spread-lawful : (o : EnvOptions) → IsLawfulRule (object_spread_under o)
 object-spread-lawful o = fewer-lawful (spread-row o) (spread-row-lawful o) (past-local o)
 
+pub rest-assignment-lawful : (o : EnvOptions) → IsLawfulRule (rest_assignment_under o)
+rest-assignment-lawful o =
+    let on = is_some o.es2018.object_rest_spread in
+    let R = RowRule RestAssignmentRule in
+    record {
+      names = on-lawful on R (row-lawful RestAssignmentRule assigning_rest-makes);
+      writes = on-writes on R (row-writes-all RestAssignmentRule assigning_rest-makes);
+      form = on-form on R rest-assignment-form;
+      local = on-local on R (row-local RestAssignmentRule assigning-rest-local);
+    }
+
 pub law_lawful_rows_proof : LawLawfulRows
 law_lawful_rows_proof o = record {
   writing = writing-lawful o;
@@ -178,4 +197,5 @@ law_lawful_rows_proof o = record {
   exponentiation = exponentiation-lawful o;
   optional_catch = optional-catch-lawful o;
   object_spread = object-spread-lawful o;
+  rest_assignment = rest-assignment-lawful o;
 }

@@ -1,14 +1,18 @@
 -- Steps among the fields of a node make it no construct of a lowering: rules act on no private member, on no parentheses and on no BigInt
 -- literal, but for the wrap rule, which acts on slots, and no operand of an assignment or an operator is one.
--- A field that holds something holds something after a step, and one that holds nothing has none. Nothing that rules make is a spread.
+-- A field that holds something holds something after a step, and one that holds nothing has none. Nothing that rules make is a spread, a rest
+-- or a pattern.
 use Rattle.std.proofs.Common.{◌≡◌, ◌∙◌, ℕ, zero, Bool, true, false, refl, sym, ap, subst, inl, inr, true≢false}
+use Rattle.std.proofs.lemmas.Bool.{and_right, or_from}
 use Rattle.std.specs.Prelude.{◌&&◌, ◌||◌, not, List, [], ◌∷◌, Option, None, Some, bytes_eq, codes, is_some}
-use Rattle.es_tree.specs.Constructs.{any_kind, field_at, has_member, is_big_int, is_chain, is_child, is_exponentiation, is_logical_assignment, is_nullish_coalescing, is_object_spread, is_optional_catch, is_private_member, is_private_name, is_private_target, is_spread, stands}
+use Rattle.es_tree.specs.Constructs.{any_kind, field_at, has_member, is_big_int, is_chain, is_child, is_exponentiation, is_logical_assignment, is_nullish_coalescing, is_object_spread, is_optional_catch, is_private_member, is_private_name, is_private_target, is_rest, is_spread, stands}
+use Rattle.es_tree.specs.CoreStaticRules.{is_simple_target as is_simple_kind}
 use Rattle.es_tree.specs.Names.{first_text}
 use Rattle.es_tree.specs.Parens.{without_parens}
-use Rattle.es_tree.specs.Tree.{Tree, node, Label, Trees, ◌before◌, fields_of, kind_of, trees}
+use Rattle.es_tree.specs.RestTargets.{is_rest_assignment, is_rest_target}
+use Rattle.es_tree.specs.Tree.{Tree, node, Label, Fields, ◌then◌, Field, one, many, statements, Trees, ◌before◌, fields_of, kind_of, trees}
 use Rattle.es_tree.specs.declared.ast_type.AstType.{AstType}
-use Rattle.es_tree.specs.declared.ast_type.AstType.TheVariants.{AssignmentExpression, BigIntLiteral, BinaryExpression, CatchClause, ChainExpression, Identifier, LogicalExpression, MemberExpression, ObjectExpression, ParenthesizedExpression, PrivateIdentifier, SpreadElement, UnaryExpression}
+use Rattle.es_tree.specs.declared.ast_type.AstType.TheVariants.{AssignmentExpression, BigIntLiteral, BinaryExpression, CatchClause, ChainExpression, Identifier, LogicalExpression, MemberExpression, ObjectExpression, ObjectTarget, ParenthesizedExpression, PrivateIdentifier, RestElement, SpreadElement, TargetRest, UnaryExpression}
 use Rattle.es_tree.specs.declared.options.EnvOptions.{EnvOptions}
 use Rattle.es_runs.specs.OptionalChaining.{has_tests, where_short}
 use Rattle.es_resolution.specs.Declarations.{Bound}
@@ -28,6 +32,8 @@ use Rattle.es_steps.specs.OptionalCatch.{CatchRule}
 use Rattle.es_steps.specs.OptionalCatch.CatchRule.{catches}
 use Rattle.es_steps.specs.OptionalChaining.{OptionalChainingRule}
 use Rattle.es_steps.specs.OptionalChaining.OptionalChainingRule.{by_tests, as_callee, in_delete}
+use Rattle.es_steps.specs.RestAssignments.{RestAssignmentRule}
+use Rattle.es_steps.specs.RestAssignments.RestAssignmentRule.{assigns}
 use Rattle.es_steps.specs.Rules.Replacing.{replaces}
 use Rattle.es_steps.specs.Slots.{is_slot}
 use Rattle.es_steps.specs.Steps.{FieldStep, FieldsStep, Ledger, Site, Spot, Step, TreesStep, Whole, at_node, site_in}
@@ -41,11 +47,11 @@ use Rattle.es_steps.proofs.RuleLaws.{writes-lists}
 use Rattle.es_steps.proofs.Taken.{flanks-rest}
 use Rattle.es_changes.specs.Rules.{IsLawfulRule}
 use Rattle.es_changes.proofs.Lawful.{law_lawful_proof}
-use Rattle.es_traverse.specs.Bodies.{BodiesStand, BodiesStandBy, BodiesStandIn}
+use Rattle.es_traverse.specs.Bodies.{BodiesStand, BodiesStandAmong, BodiesStandBy, BodiesStandIn}
 use Rattle.es_traverse.specs.Laws.{IsStable}
-use Rattle.es_row_laws.specs.Laws.{KeepsConstructs, LawStable, LawStableRows, is_lowered_assignment, is_lowered_power, is_simple, is_simple_target, object_spread_under, optional_catch_under}
+use Rattle.es_row_laws.specs.Laws.{KeepsConstructs, LawStable, LawStableRows, is_lowered_assignment, is_lowered_power, is_lowered_rest, is_simple, is_simple_node, is_simple_rest, is_simple_target, rests_are_simple, object_spread_under, optional_catch_under, rest_assignment_under}
 use Rattle.es_row_laws.proofs.Fewer.{fewer-stable}
-use Rattle.es_row_laws.proofs.Lawful.{exponentiation-under, logical-assignment-under, nullish-coalescing-under, object-spread-lawful, optional-catch-lawful, optional-chaining-under, writing-under}
+use Rattle.es_row_laws.proofs.Lawful.{exponentiation-under, logical-assignment-under, nullish-coalescing-under, object-spread-lawful, optional-catch-lawful, optional-chaining-under, rest-assignment-lawful, writing-under}
 
 -- WHERE RULES ACT
 
@@ -60,12 +66,15 @@ is_acted_on ObjectExpression = true
 is_acted_on UnaryExpression = true
 is_acted_on _ = false
 
--- what is made of them is no target and no spread
+-- what is made of them is no target, no spread and no rest
 abbrev is_no_part : AstType → Bool
 is_no_part Identifier = false
 is_no_part MemberExpression = false
+is_no_part ObjectTarget = false
 is_no_part ParenthesizedExpression = false
+is_no_part RestElement = false
 is_no_part SpreadElement = false
+is_no_part TargetRest = false
 is_no_part _ = true
 
 record Acts (t u : Tree) : Type 0 where
@@ -147,6 +156,9 @@ placed-made m (node k l fs) e = e
 spreading-acts : RowActs SpreadRule
 spreading-acts n w bs t u (spreads {m = m} {u = v} unbound used some quiet h) = record { on = refl; made = placed-made m v (copies-made h tt) }
 
+assigning-rest-acts : RowActs RestAssignmentRule
+assigning-rest-acts n w bs t u (assigns unbound used texts silent next takes) = record { on = refl; made = refl }
+
 -- TESTS OF NODES
 
 -- a test of kinds that is false of those on which rules act
@@ -170,32 +182,77 @@ private-acts (node MemberExpression l fs) e = absurd (true≢false (sym e))
 private-acts (node ParenthesizedExpression l fs) e = absurd (true≢false (sym e))
 private-acts (node _ l fs) e = refl
 
+simple-label : (k : AstType) (l : Label) (fs gs : Fields) → is_simple_node (node k l fs) ≡ is_simple_node (node k l gs)
+simple-label Identifier l fs gs = refl
+simple-label MemberExpression l fs gs = refl
+simple-label _ l fs gs = refl
+
 no-target : (t : Tree) → is_no_part (kind_of t) ≡ true → is_simple t ≡ false
 no-target (node Identifier l fs) e = absurd (true≢false (sym e))
 no-target (node MemberExpression l fs) e = absurd (true≢false (sym e))
 no-target (node ParenthesizedExpression l fs) e = absurd (true≢false (sym e))
 no-target (node _ l fs) e = refl
 
-no-spread : (k : AstType) → is_no_part k ≡ true → is_spread k ≡ false
+-- a test of kinds that is false of those that are made
+abbrev IsUnmade : (AstType → Bool) → Type 0
+IsUnmade test = (k : AstType) → is_no_part k ≡ true → test k ≡ false
+
+no-spread : IsUnmade is_spread
 no-spread SpreadElement e = absurd (true≢false (sym e))
 no-spread _ e = refl
+
+no-rest : IsUnmade is_rest
+no-rest RestElement e = absurd (true≢false (sym e))
+no-rest TargetRest e = absurd (true≢false (sym e))
+no-rest _ e = refl
+
+no-pattern : (t : Tree) → is_no_part (kind_of t) ≡ true → is_rest_target (one t) ≡ false
+no-pattern (node ObjectTarget l fs) e = absurd (true≢false (sym e))
+no-pattern (node _ l fs) e = refl
+
+no-name : (t : Tree) → is_no_part (kind_of t) ≡ true → is_simple_kind (kind_of (without_parens t)) ≡ false
+no-name (node Identifier l fs) e = absurd (true≢false (sym e))
+no-name (node MemberExpression l fs) e = absurd (true≢false (sym e))
+no-name (node ParenthesizedExpression l fs) e = absurd (true≢false (sym e))
+no-name (node _ l fs) e = refl
+
+-- no rest is acted on
+rest-acts : (t : Tree) → is_acted_on (kind_of t) ≡ true → is_simple_rest t ≡ true
+rest-acts (node TargetRest l fs) e = absurd (true≢false (sym e))
+rest-acts (node _ l fs) e = refl
+
+-- whether a field is a pattern whose rests are simple
+abbrev are_simple : Field → Bool
+are_simple (one (node ObjectTarget l (many ps then fs))) = rests_are_simple ps
+are_simple _ = false
+
+no-rests : (t : Tree) → is_no_part (kind_of t) ≡ true → are_simple (one t) ≡ false
+no-rests (node ObjectTarget l fs) e = absurd (true≢false (sym e))
+no-rests (node _ l fs) e = refl
+
+lowered-rest : (l : Label) (fs : Fields) → is_lowered_rest AssignmentExpression l fs ≡ (is_rest_assignment AssignmentExpression l fs && are_simple (field_at 0 fs))
+lowered-rest l (one (node ObjectTarget m (many ps then gs)) then fs) = refl
+lowered-rest l fs = sym (and_right (is_rest_assignment AssignmentExpression l fs) false refl)
 
 -- two tests neither of which was true stay so
 neither-true : (a b c d : Bool) → (a ≡ false → c ≡ false) → (b ≡ false → d ≡ false) → (a || b) ≡ false → (c || d) ≡ false
 neither-true true b c d f g e = absurd (true≢false e)
-neither-true false b true d f g e = absurd (true≢false (f refl))
-neither-true false b false d f g e = g e
-
--- and so of a list with these before it
-joined-kept : (test : AstType → Bool) (bs : List Tree) (ts us : Trees) → (any_kind test ts ≡ false → any_kind test us ≡ false) → any_kind test (joined_trees (trees bs) ts) ≡ false → any_kind test (joined_trees (trees bs) us) ≡ false
-joined-kept test [] ts us f = f
-joined-kept test (b ∷ bs) ts us f = neither-true (test (kind_of b)) (any_kind test (joined_trees (trees bs) ts)) (test (kind_of b)) (any_kind test (joined_trees (trees bs) us)) (λ e. e) (joined-kept test bs ts us f)
+neither-true false b c d f g e = or_from c d (f refl) (g e)
 
 -- of two tests one of which was false, that one stays so
 either-false : (a b c d : Bool) → (a ≡ false → c ≡ false) → (b ≡ false → d ≡ false) → (a && b) ≡ false → (c && d) ≡ false
 either-false a b false d f g e = refl
 either-false true b true d f g e = g e
 either-false false b true d f g e = absurd (true≢false (f refl))
+
+-- a list of which something is false, by a test of its trees
+abbrev ByFirst : (Tree → Bool) → (Trees → Bool) → Type 0
+ByFirst test all = (t u : Tree) (ts us : Trees) → (test t ≡ false → test u ≡ false) → (all ts ≡ false → all us ≡ false) → all (t before ts) ≡ false → all (u before us) ≡ false
+
+module _ (test : Tree → Bool) (all : Trees → Bool) (first : ByFirst test all) where
+  joined-still : (bs : List Tree) (ts us : Trees) → (all ts ≡ false → all us ≡ false) → all (joined_trees (trees bs) ts) ≡ false → all (joined_trees (trees bs) us) ≡ false
+  joined-still [] ts us f = f
+  joined-still (b ∷ bs) ts us f = first b b (joined_trees (trees bs) ts) (joined_trees (trees bs) us) (λ e. e) (joined-still bs ts us f)
 
 none-true : {b : Bool} → b ≡ false → b ≡ true → ⊥
 none-true e d = true≢false (sym d ∙ e)
@@ -278,43 +335,48 @@ module _ (R : Site → Ledger → Spot → Ledger → Spot → Type 0) (lawful :
 
   -- TARGETS that are no name and no member
 
-  mutual
-    plain-kept : {n : Site} {s s' : Ledger} {t u : Open} → Step R n s t s' u → is_slot n.above ≡ false → BodiesStand t → is_simple (finished t) ≡ false → is_simple (finished u) ≡ false
-    plain-kept (acts {n = n} {s = s} {s' = s'} t u r) slot h e = subst (λ (x : Tree). is_simple x ≡ false) (sym (finished-opened u)) (no-target u (acts-on n s s' t u slot r).made)
-    plain-kept (inside {k = ParenthesizedExpression} {l = l} r) slot h e = below-kept l r refl h e
-    plain-kept (inside {k = _} r) slot h e = e
+  module _ (test : Tree → Bool) (by_label : (k : AstType) (l : Label) (fs gs : Fields) → test (node k l fs) ≡ test (node k l gs)) (no_parens : (l : Label) (fs : Fields) → test (node ParenthesizedExpression l fs) ≡ false) (unmade : (t : Tree) → is_no_part (kind_of t) ≡ true → test (without_parens t) ≡ false) where
+    mutual
+      plain-kept : {n : Site} {s s' : Ledger} {t u : Open} → Step R n s t s' u → is_slot n.above ≡ false → BodiesStand t → test (without_parens (finished t)) ≡ false → test (without_parens (finished u)) ≡ false
+      plain-kept (acts {n = n} {s = s} {s' = s'} t u r) slot h e = subst (λ (x : Tree). test (without_parens x) ≡ false) (sym (finished-opened u)) (unmade u (acts-on n s s' t u slot r).made)
+      plain-kept (inside {k = ParenthesizedExpression} {l = l} r) slot h e = below-kept l r refl h e
+      plain-kept (inside {k = k} {l = l} {fs = fs} {gs = gs} r) slot h e = by_label k l (finished_fields gs) (finished_fields fs) ∙ e
 
-    below-kept : (l : Label) {c : ℕ → Site} {s s' : Ledger} {fs gs : OpenFields} → FieldsStep R c s fs s' gs → is_slot (c zero).above ≡ false → BodiesStandIn (λ i. false) fs →
-        is_simple (node ParenthesizedExpression l (finished_fields fs)) ≡ false → is_simple (node ParenthesizedExpression l (finished_fields gs)) ≡ false
-    below-kept l (in_first (in_child r)) slot h e = plain-kept r slot h.0 e
-    below-kept l (in_first (in_children r)) slot h e = refl
-    below-kept l (in_first (in_body x y z r)) slot h e = absurd (true≢false (sym h.0.0))
-    below-kept l (in_first (in_list x y r)) slot h e = refl
-    below-kept l (in_first (in_target x r)) slot h e = refl
-    below-kept l (in_first (in_program x r)) slot h e = refl
-    below-kept l (in_first (acts_on_list ts us r)) slot h e = refl
-    below-kept l (in_first (acts_on_body t u r)) slot h e = absurd (true≢false (sym h.0.0))
-    below-kept l (in_later {f = gap} r) slot h e = refl
-    below-kept l (in_later {f = child t} r) slot h e = e
-    below-kept l (in_later {f = body p t} r) slot h e = e
-    below-kept l (in_later {f = children ts} r) slot h e = refl
-    below-kept l (in_later {f = list p x a ts} r) slot h e = refl
+      below-kept : (l : Label) {c : ℕ → Site} {s s' : Ledger} {fs gs : OpenFields} → FieldsStep R c s fs s' gs → is_slot (c zero).above ≡ false → BodiesStandIn (λ i. false) fs →
+          test (without_parens (node ParenthesizedExpression l (finished_fields fs))) ≡ false → test (without_parens (node ParenthesizedExpression l (finished_fields gs))) ≡ false
+      below-kept l (in_first (in_child r)) slot h e = plain-kept r slot h.0 e
+      below-kept l (in_first (in_children r)) slot h e = no_parens l _
+      below-kept l (in_first (in_body x y z r)) slot h e = absurd (true≢false (sym h.0.0))
+      below-kept l (in_first (in_list x y r)) slot h e = no_parens l _
+      below-kept l (in_first (in_target x r)) slot h e = no_parens l _
+      below-kept l (in_first (in_program x r)) slot h e = no_parens l _
+      below-kept l (in_first (acts_on_list ts us r)) slot h e = no_parens l _
+      below-kept l (in_first (acts_on_body t u r)) slot h e = absurd (true≢false (sym h.0.0))
+      below-kept l (in_later {f = gap} r) slot h e = no_parens l _
+      below-kept l (in_later {f = child t} r) slot h e = e
+      below-kept l (in_later {f = body p t} r) slot h e = e
+      below-kept l (in_later {f = children ts} r) slot h e = no_parens l _
+      below-kept l (in_later {f = list p x a ts} r) slot h e = no_parens l _
 
-  simple-kept : {n : Site} {s s' : Ledger} {f g : OpenField} → FieldStep R n s f s' g → is_slot n.above ≡ false → BodiesStandBy false f → is_simple_target (finished_field f) ≡ false → is_simple_target (finished_field g) ≡ false
-  simple-kept (in_child r) slot h e = plain-kept r slot h e
-  simple-kept (in_children r) slot h e = refl
-  simple-kept (in_body x y z r) slot h e = absurd (true≢false (sym h.0))
-  simple-kept (in_list x y r) slot h e = refl
-  simple-kept (in_target x r) slot h e = refl
-  simple-kept (in_program x r) slot h e = refl
-  simple-kept (acts_on_list ts us r) slot h e = refl
-  simple-kept (acts_on_body t u r) slot h e = absurd (true≢false (sym h.0))
+  -- THE FIRST FIELD of an assignment
 
-  -- the first of the fields of an assignment
-  first-kept : (n : Site) (l : Label) (first : OpenFields) {s s' : Ledger} {fs gs : OpenFields} → FieldsStep R (site_in n AssignmentExpression l first) s fs s' gs → BodiesStandIn (λ i. false) fs →
-      is_simple_target (field_at 0 (finished_fields fs)) ≡ false → is_simple_target (field_at 0 (finished_fields gs)) ≡ false
-  first-kept n l first (in_first r) h e = simple-kept r refl h.0 e
-  first-kept n l first (in_later r) h e = e
+  module _ (test : Field → Bool) (lists : (ts : Trees) → (test (many ts) ≡ false) × (test (statements ts) ≡ false)) (each : (n : Site) (s s' : Ledger) (t u : Open) → Step R n s t s' u → is_slot n.above ≡ false → BodiesStand t → test (one (finished t)) ≡ false → test (one (finished u)) ≡ false) where
+    field-kept : {n : Site} {s s' : Ledger} {f g : OpenField} → FieldStep R n s f s' g → is_slot n.above ≡ false → BodiesStandBy false f → test (finished_field f) ≡ false → test (finished_field g) ≡ false
+    field-kept (in_child {n = n} {s = s} {s' = s'} {t = t} {u = u} r) slot h e = each n s s' t u r slot h e
+    field-kept (in_children r) slot h e = (lists _).0
+    field-kept (in_body x y z r) slot h e = absurd (true≢false (sym h.0))
+    field-kept (in_list x y r) slot h e = (lists _).1
+    field-kept (in_target x r) slot h e = (lists _).1
+    field-kept (in_program x r) slot h e = (lists _).1
+    field-kept (acts_on_list ts us r) slot h e = (lists _).1
+    field-kept (acts_on_body t u r) slot h e = absurd (true≢false (sym h.0))
+
+    first-still : {c : ℕ → Site} {s s' : Ledger} {fs gs : OpenFields} → FieldsStep R c s fs s' gs → is_slot (c zero).above ≡ false → BodiesStandIn (λ i. false) fs → test (field_at 0 (finished_fields fs)) ≡ false → test (field_at 0 (finished_fields gs)) ≡ false
+    first-still (in_first r) slot h e = field-kept r slot h.0 e
+    first-still (in_later r) slot h e = e
+
+  first-kept : {c : ℕ → Site} {s s' : Ledger} {fs gs : OpenFields} → FieldsStep R c s fs s' gs → is_slot (c zero).above ≡ false → BodiesStandIn (λ i. false) fs → is_simple_target (field_at 0 (finished_fields fs)) ≡ false → is_simple_target (field_at 0 (finished_fields gs)) ≡ false
+  first-kept r = first-still is_simple_target (λ ts. (refl, refl)) (λ n s s' t u q. plain-kept is_simple_node simple-label (λ l fs. refl) no-target q) r
 
   -- CONSTRUCTS
 
@@ -326,7 +388,7 @@ module _ (R : Site → Ledger → Spot → Ledger → Spot → Type 0) (lawful :
   assignment-stable : IsStable R is_lowered_assignment
   assignment-stable n s s' AssignmentExpression l first fs gs h r e =
       either-false (is_logical_assignment AssignmentExpression l (finished_fields fs)) (is_simple_target (field_at 0 (finished_fields fs))) (is_logical_assignment AssignmentExpression l (finished_fields gs)) (is_simple_target (field_at 0 (finished_fields gs)))
-      (assignment-kept n l first r h) (first-kept n l first r h) e
+      (assignment-kept n l first r h) (first-kept r refl h) e
   assignment-stable n s s' k l first fs gs h r e = refl
 
   operation-kept : (n : Site) (l : Label) (first : OpenFields) {s s' : Ledger} {fs gs : OpenFields} → FieldsStep R (site_in n BinaryExpression l first) s fs s' gs → BodiesStandIn (λ i. false) fs → is_exponentiation BinaryExpression l (finished_fields fs) ≡ false → is_exponentiation BinaryExpression l (finished_fields gs) ≡ false
@@ -346,7 +408,7 @@ module _ (R : Site → Ledger → Spot → Ledger → Spot → Type 0) (lawful :
   exponentiation-stable n s s' BinaryExpression l first fs gs h r e = operation-kept n l first r h e
   exponentiation-stable n s s' AssignmentExpression l first fs gs h r e =
       either-false (is_exponentiation AssignmentExpression l (finished_fields fs)) (is_simple_target (field_at 0 (finished_fields fs))) (is_exponentiation AssignmentExpression l (finished_fields gs)) (is_simple_target (field_at 0 (finished_fields gs)))
-      (raised-kept n l first r h) (first-kept n l first r h) e
+      (raised-kept n l first r h) (first-kept r refl h) e
   exponentiation-stable n s s' k l first fs gs h r e = refl
 
   -- these look at the kind and the label alone
@@ -377,49 +439,111 @@ module _ (R : Site → Ledger → Spot → Ledger → Spot → Type 0) (lawful :
   catch-stable n s s' CatchClause l first fs gs h r e = parameter-kept r e
   catch-stable n s s' k l first fs gs h r e = refl
 
-  -- OBJECT LITERALS: no property becomes a spread
+  -- LISTS
 
-  property-kept : {n : Site} {s s' : Ledger} {t u : Open} → Step R n s t s' u → is_slot n.above ≡ false → is_spread (kind_of (finished t)) ≡ false → is_spread (kind_of (finished u)) ≡ false
-  property-kept (acts {n = n} {s = s} {s' = s'} t u r) slot e = subst (λ (x : Tree). is_spread (kind_of x) ≡ false) (sym (finished-opened u)) (no-spread (kind_of u) (acts-on n s s' t u slot r).made)
-  property-kept (inside r) slot e = e
+  module _ (test : Tree → Bool) (all : Trees → Bool) (first : ByFirst test all) where
+    trees-still : ((n : Site) (s s' : Ledger) (t u : Open) → Step R n s t s' u → is_slot n.above ≡ false → BodiesStand t → test (finished t) ≡ false → test (finished u) ≡ false) →
+        {n : Site} {s s' : Ledger} {ts us : OpenTrees} → TreesStep R n s ts s' us → is_slot n.above ≡ false → BodiesStandAmong ts → all (finished_trees ts) ≡ false → all (finished_trees us) ≡ false
+    trees-still still (in_head {n = n} {s = s} {s' = s'} {t = t} {u = u} {ts = ts} r) slot h = first (finished t) (finished u) (finished_trees ts) (finished_trees ts) (still n s s' t u r slot h.0) (λ e. e)
+    trees-still still (in_tail {t = t} {ts = ts} {us = us} r) slot h = first (finished t) (finished t) (finished_trees ts) (finished_trees us) (λ e. e) (trees-still still r slot h.1)
+    trees-still still (in_flanked {n = n} {s = s} {s' = s'} {bs = bs} {cs = cs} {t = t} {u = u} {ts = ts} r) slot h =
+        let rest = joined_trees (trees cs) (finished_trees ts) in
+        joined-still test all first bs (finished t before rest) (finished u before rest) (first (finished t) (finished u) rest rest (still n s s' t u r slot h.0) (λ e. e))
+    trees-still still (after_flanked {bs = bs} {cs = cs} {t = t} {ts = ts} {us = us} r) slot h =
+        joined-still test all first bs (finished t before joined_trees (trees cs) (finished_trees ts)) (finished t before joined_trees (trees cs) (finished_trees us))
+        (joined-still test all first (finished t ∷ cs) (finished_trees ts) (finished_trees us) (trees-still still r slot h.1))
+    trees-still still (flanks {n = n} {s = s} {s' = s'} {bs = bs} {cs = cs} t u r) slot h = absurd (lawful.form.no_flanks n s s' t u bs cs r)
+    trees-still still (acts_on_flanked {n = n} {s = s} {s' = s'} {bs = bs} {cs = cs} {ts = ts} t us r) slot h =
+        let found = lawful.names.unflanking n s s' t bs cs us r in
+        let rest = finished_trees ts in
+        let same : flanks_with bs (finished (opened t)) cs rest ≡ finished_trees (followed_by (opened_trees us) ts) = (λ i. flanks_with bs (finished-opened t i) cs rest) ∙ sym (flanks-rest bs cs t rest) ∙ (λ i. joined_trees (found.1 i) rest) ∙ sym (finished-followed us ts) in
+        subst (λ (z : Trees). all z ≡ false) same
 
-  properties-kept : {n : Site} {s s' : Ledger} {ts us : OpenTrees} → TreesStep R n s ts s' us → is_slot n.above ≡ false → any_kind is_spread (finished_trees ts) ≡ false → any_kind is_spread (finished_trees us) ≡ false
-  properties-kept (in_head {t = t} {u = u} {ts = ts} r) slot =
-      let rest = any_kind is_spread (finished_trees ts) in
-      neither-true (is_spread (kind_of (finished t))) rest (is_spread (kind_of (finished u))) rest (property-kept r slot) (λ e. e)
-  properties-kept (in_tail {t = t} {ts = ts} {us = us} r) slot =
-      let first = is_spread (kind_of (finished t)) in
-      neither-true first (any_kind is_spread (finished_trees ts)) first (any_kind is_spread (finished_trees us)) (λ e. e) (properties-kept r slot)
-  properties-kept (in_flanked {bs = bs} {cs = cs} {t = t} {u = u} {ts = ts} r) slot =
-      let rest = joined_trees (trees cs) (finished_trees ts) in
-      joined-kept is_spread bs (finished t before rest) (finished u before rest) (neither-true (is_spread (kind_of (finished t))) (any_kind is_spread rest) (is_spread (kind_of (finished u))) (any_kind is_spread rest) (property-kept r slot) (λ e. e))
-  properties-kept (after_flanked {bs = bs} {cs = cs} {t = t} {ts = ts} {us = us} r) slot =
-      joined-kept is_spread bs (finished t before joined_trees (trees cs) (finished_trees ts)) (finished t before joined_trees (trees cs) (finished_trees us))
-      (joined-kept is_spread (finished t ∷ cs) (finished_trees ts) (finished_trees us) (properties-kept r slot))
-  properties-kept (flanks {n = n} {s = s} {s' = s'} {bs = bs} {cs = cs} t u r) slot = absurd (lawful.form.no_flanks n s s' t u bs cs r)
-  properties-kept (acts_on_flanked {n = n} {s = s} {s' = s'} {bs = bs} {cs = cs} {ts = ts} t us r) slot =
-      let found = lawful.names.unflanking n s s' t bs cs us r in
-      let rest = finished_trees ts in
-      let same : flanks_with bs (finished (opened t)) cs rest ≡ finished_trees (followed_by (opened_trees us) ts) = (λ i. flanks_with bs (finished-opened t i) cs rest) ∙ sym (flanks-rest bs cs t rest) ∙ (λ i. joined_trees (found.1 i) rest) ∙ sym (finished-followed us ts) in
-      subst (λ (z : Trees). any_kind is_spread z ≡ false) same
+  -- KINDS OF MEMBERS that rules don't make: no member becomes one
 
-  members-kept : {n : Site} {s s' : Ledger} {f g : OpenField} → FieldStep R n s f s' g → is_slot n.above ≡ false → has_member is_spread (finished_field f) ≡ false → has_member is_spread (finished_field g) ≡ false
-  members-kept (in_child r) slot e = refl
-  members-kept (in_children r) slot e = properties-kept r slot e
-  members-kept (in_body x y z r) slot e = refl
-  members-kept (in_list x y r) slot e = refl
-  members-kept (in_target x r) slot e = refl
-  members-kept (in_program x r) slot e = refl
-  members-kept (acts_on_list ts us r) slot e = refl
-  members-kept (acts_on_body t u r) slot e = refl
+  module _ (kinds : AstType → Bool) (unmade : IsUnmade kinds) where
+    member-still : (n : Site) (s s' : Ledger) (t u : Open) → Step R n s t s' u → is_slot n.above ≡ false → BodiesStand t → kinds (kind_of (finished t)) ≡ false → kinds (kind_of (finished u)) ≡ false
+    member-still n s s' x y (acts t u r) slot h e = subst (λ (z : Tree). kinds (kind_of z) ≡ false) (sym (finished-opened u)) (unmade (kind_of u) (acts-on n s s' t u slot r).made)
+    member-still n s s' x y (inside r) slot h e = e
 
-  object-kept : (n : Site) (l : Label) (first : OpenFields) {s s' : Ledger} {fs gs : OpenFields} → FieldsStep R (site_in n ObjectExpression l first) s fs s' gs → has_member is_spread (field_at 0 (finished_fields fs)) ≡ false → has_member is_spread (field_at 0 (finished_fields gs)) ≡ false
-  object-kept n l first (in_first r) e = members-kept r refl e
-  object-kept n l first (in_later r) e = e
+    field-still : {n : Site} {s s' : Ledger} {f g : OpenField} → FieldStep R n s f s' g → is_slot n.above ≡ false → BodiesStandBy false f → has_member kinds (finished_field f) ≡ false → has_member kinds (finished_field g) ≡ false
+    field-still (in_child r) slot h e = refl
+    field-still (in_children r) slot h e = trees-still (λ t. kinds (kind_of t)) (any_kind kinds) (λ t u ts us. neither-true (kinds (kind_of t)) (any_kind kinds ts) (kinds (kind_of u)) (any_kind kinds us)) member-still r slot h e
+    field-still (in_body x y z r) slot h e = refl
+    field-still (in_list x y r) slot h e = refl
+    field-still (in_target x r) slot h e = refl
+    field-still (in_program x r) slot h e = refl
+    field-still (acts_on_list ts us r) slot h e = refl
+    field-still (acts_on_body t u r) slot h e = refl
+
+    members-still : {c : ℕ → Site} {s s' : Ledger} {fs gs : OpenFields} → FieldsStep R c s fs s' gs → is_slot (c zero).above ≡ false → BodiesStandIn (λ i. false) fs → has_member kinds (field_at 0 (finished_fields fs)) ≡ false → has_member kinds (field_at 0 (finished_fields gs)) ≡ false
+    members-still (in_first r) slot h e = field-still r slot h.0 e
+    members-still (in_later r) slot h e = e
 
   spread-stable : IsStable R is_object_spread
-  spread-stable n s s' ObjectExpression l first fs gs h r e = object-kept n l first r e
+  spread-stable n s s' ObjectExpression l first fs gs h r e = members-still is_spread no-spread r refl h e
   spread-stable n s s' k l first fs gs h r e = refl
+
+  -- PATTERNS: none becomes one with a rest
+
+  pattern-still : (n : Site) (s s' : Ledger) (t u : Open) → Step R n s t s' u → is_slot n.above ≡ false → BodiesStand t → is_rest_target (one (finished t)) ≡ false → is_rest_target (one (finished u)) ≡ false
+  pattern-still n s s' x y (acts t u r) slot h e = subst (λ (z : Tree). is_rest_target (one z) ≡ false) (sym (finished-opened u)) (no-pattern u (acts-on n s s' t u slot r).made)
+  pattern-still n s s' x y (inside {k = ObjectTarget} r) slot h e = members-still is_rest no-rest r refl h e
+  pattern-still n s s' x y (inside {k = _} r) slot h e = e
+
+  -- and a rest that is assigned to no name and no member stays so
+
+  argument-still : (l : Label) {c : ℕ → Site} {s s' : Ledger} {fs gs : OpenFields} → FieldsStep R c s fs s' gs → is_slot (c zero).above ≡ false → BodiesStandIn (λ i. false) fs →
+      is_simple_rest (node TargetRest l (finished_fields fs)) ≡ false → is_simple_rest (node TargetRest l (finished_fields gs)) ≡ false
+  argument-still l (in_first (in_child r)) slot h e = plain-kept (λ t. is_simple_kind (kind_of t)) (λ k l fs gs. refl) (λ l fs. refl) no-name r slot h.0 e
+  argument-still l (in_first (in_children r)) slot h e = absurd (true≢false e)
+  argument-still l (in_first (in_body x y z r)) slot h e = absurd (true≢false (sym h.0.0))
+  argument-still l (in_first (in_list x y r)) slot h e = absurd (true≢false e)
+  argument-still l (in_first (in_target x r)) slot h e = absurd (true≢false e)
+  argument-still l (in_first (in_program x r)) slot h e = absurd (true≢false e)
+  argument-still l (in_first (acts_on_list ts us r)) slot h e = absurd (true≢false e)
+  argument-still l (in_first (acts_on_body t u r)) slot h e = absurd (true≢false (sym h.0.0))
+  argument-still l (in_later {f = gap} r) slot h e = absurd (true≢false e)
+  argument-still l (in_later {f = child t} r) slot h e = e
+  argument-still l (in_later {f = body p t} r) slot h e = e
+  argument-still l (in_later {f = children ts} r) slot h e = absurd (true≢false e)
+  argument-still l (in_later {f = list p x a ts} r) slot h e = absurd (true≢false e)
+
+  rest-still : (n : Site) (s s' : Ledger) (t u : Open) → Step R n s t s' u → is_slot n.above ≡ false → BodiesStand t → is_simple_rest (finished t) ≡ false → is_simple_rest (finished u) ≡ false
+  rest-still n s s' x y (acts t u r) slot h e = absurd (none-true (subst (λ (z : Tree). is_simple_rest z ≡ false) (finished-opened t) e) (rest-acts t (acts-on n s s' t u slot r).on))
+  rest-still n s s' x y (inside {k = TargetRest} {l = l} r) slot h e = argument-still l r refl h e
+  rest-still n s s' x y (inside {k = _} r) slot h e = absurd (true≢false e)
+
+  rests-still : (l : Label) {c : ℕ → Site} {s s' : Ledger} {fs gs : OpenFields} → FieldsStep R c s fs s' gs → is_slot (c zero).above ≡ false → BodiesStandIn (λ i. false) fs →
+      are_simple (one (node ObjectTarget l (finished_fields fs))) ≡ false → are_simple (one (node ObjectTarget l (finished_fields gs))) ≡ false
+  rests-still l (in_first (in_child r)) slot h e = refl
+  rests-still l (in_first (in_children r)) slot h e = trees-still is_simple_rest rests_are_simple (λ t u ts us. either-false (is_simple_rest t) (rests_are_simple ts) (is_simple_rest u) (rests_are_simple us)) rest-still r slot h.0 e
+  rests-still l (in_first (in_body x y z r)) slot h e = refl
+  rests-still l (in_first (in_list x y r)) slot h e = refl
+  rests-still l (in_first (in_target x r)) slot h e = refl
+  rests-still l (in_first (in_program x r)) slot h e = refl
+  rests-still l (in_first (acts_on_list ts us r)) slot h e = refl
+  rests-still l (in_first (acts_on_body t u r)) slot h e = refl
+  rests-still l (in_later {f = gap} r) slot h e = refl
+  rests-still l (in_later {f = child t} r) slot h e = refl
+  rests-still l (in_later {f = body p t} r) slot h e = refl
+  rests-still l (in_later {f = children ts} r) slot h e = e
+  rests-still l (in_later {f = list p x a ts} r) slot h e = refl
+
+  assigned-still : (n : Site) (s s' : Ledger) (t u : Open) → Step R n s t s' u → is_slot n.above ≡ false → BodiesStand t → are_simple (one (finished t)) ≡ false → are_simple (one (finished u)) ≡ false
+  assigned-still n s s' x y (acts t u r) slot h e = subst (λ (z : Tree). are_simple (one z) ≡ false) (sym (finished-opened u)) (no-rests u (acts-on n s s' t u slot r).made)
+  assigned-still n s s' x y (inside {k = ObjectTarget} {l = l} r) slot h e = rests-still l r refl h e
+  assigned-still n s s' x y (inside {k = _} r) slot h e = refl
+
+  rest-stable : IsStable R is_lowered_rest
+  rest-stable n s s' AssignmentExpression l first fs gs h r e =
+      let old = field_at 0 (finished_fields fs) in
+      let new = field_at 0 (finished_fields gs) in
+      let equals = bytes_eq (first_text l.texts) (codes "=") in
+      let target = first-still is_rest_target (λ ts. (refl, refl)) pattern-still r refl h in
+      let simple = first-still are_simple (λ ts. (refl, refl)) assigned-still r refl h in
+      lowered-rest l (finished_fields gs) ∙ either-false (equals && is_rest_target old) (are_simple old) (equals && is_rest_target new) (are_simple new) (either-false equals (is_rest_target old) equals (is_rest_target new) (λ d. d) target) simple (sym (lowered-rest l (finished_fields fs)) ∙ e)
+  rest-stable n s s' k l first fs gs h r e = refl
 
   all-stable : KeepsConstructs R
   all-stable = record {
@@ -429,6 +553,7 @@ module _ (R : Site → Ledger → Spot → Ledger → Spot → Type 0) (lawful :
     exponentiation = exponentiation-stable;
     optional_catch = catch-stable;
     object_spread = spread-stable;
+    rest_assignment = rest-stable;
   }
 
 -- THE LAWS
@@ -447,6 +572,7 @@ fewer-constructs o under =
       exponentiation = fewer-stable under is_lowered_power all.exponentiation;
       optional_catch = fewer-stable under is_optional_catch all.optional_catch;
       object_spread = fewer-stable under is_object_spread all.object_spread;
+      rest_assignment = fewer-stable under is_lowered_rest all.rest_assignment;
     }
 
 pub law_stable_rows_proof : LawStableRows
@@ -458,4 +584,5 @@ law_stable_rows_proof o = record {
   exponentiation = fewer-constructs o (exponentiation-under o);
   optional_catch = all-stable (optional_catch_under o) (optional-catch-lawful o) (on-acts o.es2019.optional_catch_binding CatchRule catch-acts);
   object_spread = all-stable (object_spread_under o) (object-spread-lawful o) (λ n s s' t u slot h. on-acts (is_some o.es2018.object_rest_spread) (RowRule SpreadRule) (row-acts SpreadRule spreading-acts) n s s' t u slot h.0);
+  rest_assignment = all-stable (rest_assignment_under o) (rest-assignment-lawful o) (on-acts (is_some o.es2018.object_rest_spread) (RowRule RestAssignmentRule) (row-acts RestAssignmentRule assigning-rest-acts));
 }

@@ -10,13 +10,14 @@ use Rattle.es_tree.specs.declared.ast_type.AstType.{AstType}
 use Rattle.es_tree.specs.declared.ast_type.AstType.TheVariants.{ArrayPattern, ArrowFunctionExpression, AssignmentPattern, ObjectPattern, PatternProperty, Program, RestElement}
 use Rattle.es_tree.specs.declared.options.EnvOptions.{EnvOptions}
 use Rattle.es_semantic.specs.declared.place.Role.{Role}
-use Rattle.es_steps.specs.AllRules.{RestRule, UsingRule, further_rules}
+use Rattle.es_steps.specs.AllRules.{ObjectRule, RestRule, UsingRule, further_rules}
 use Rattle.es_steps.specs.Arrows.{ArrowRule}
 use Rattle.es_steps.specs.Arrows.ArrowRule.{by_name, by_new_name, with_body, with_expression}
 use Rattle.es_steps.specs.CatchPatterns.CatchRest.{moves}
 use Rattle.es_steps.specs.CoreRules.{where_on}
 use Rattle.es_steps.specs.LoopHeads.{IsForEach}
 use Rattle.es_steps.specs.LoopHeads.HeadRest.{lexical_head, var_head}
+use Rattle.es_steps.specs.LoopHeads.TargetHead.{target_head}
 use Rattle.es_steps.specs.LoopHeads.IsForEach.{for_in, for_of}
 use Rattle.es_steps.specs.NamespaceExports.{NamespaceRule}
 use Rattle.es_steps.specs.NamespaceExports.NamespaceRule.{exports}
@@ -32,7 +33,9 @@ use Rattle.es_steps.specs.OptionalCatch.CatchRule.{catches}
 use Rattle.es_steps.specs.ParameterPatterns.ParameterRest.{in_declaration, in_expression, in_arrow}
 use Rattle.es_steps.specs.Patterns.{holds_rest}
 use Rattle.es_resolution.specs.Declarations.{Bound}
-use Rattle.es_steps.specs.Rules.{Replacing, either_rule}
+use Rattle.es_steps.specs.RestAssignments.{RestAssignmentRule}
+use Rattle.es_steps.specs.RestAssignments.RestAssignmentRule.{assigns}
+use Rattle.es_steps.specs.Rules.{either_rule}
 use Rattle.es_steps.specs.Rules.Replacing.{replaces}
 use Rattle.es_steps.specs.Steps.{Whole, Ledger, Site, Spot, at_node}
 use Rattle.es_steps.specs.ThisPlaces.{belongs_to_arrow, keeps_this}
@@ -64,9 +67,10 @@ rest-spot (inr (inl (takes_rest m l lp lr ls a ps c t d e f))) = refl
 rest-spot (inr (inr (inl (moves a b)))) = refl
 rest-spot (inr (inr (inr (inl (lexical_head a b c d e f g))))) = refl
 rest-spot (inr (inr (inr (inl (var_head a b c d e f g))))) = refl
-rest-spot (inr (inr (inr (inr (in_declaration a b c))))) = refl
-rest-spot (inr (inr (inr (inr (in_expression a b c))))) = refl
-rest-spot (inr (inr (inr (inr (in_arrow a b))))) = refl
+rest-spot (inr (inr (inr (inr (inl (target_head a b c d e f)))))) = refl
+rest-spot (inr (inr (inr (inr (inr (in_declaration a b c)))))) = refl
+rest-spot (inr (inr (inr (inr (inr (in_expression a b c)))))) = refl
+rest-spot (inr (inr (inr (inr (inr (in_arrow a b)))))) = refl
 
 using-spot : {n : Site} {s s' : Ledger} {x y : Spot} → UsingRule n s x s' y → is_at_node x ≡ true
 using-spot (inl (of_block a b c d)) = refl
@@ -85,14 +89,15 @@ arrow-spot (by_new_name a b c d) = refl
 arrow-spot (with_body a) = refl
 arrow-spot (with_expression a b) = refl
 
-objects-spot : {n : Site} {s s' : Ledger} {x y : Spot} → either_rule (Replacing SpreadRule) RestRule n s x s' y → is_at_node x ≡ true
-objects-spot (inl (replaces bs r)) = refl
+objects-spot : {n : Site} {s s' : Ledger} {x y : Spot} → either_rule ObjectRule RestRule n s x s' y → is_at_node x ≡ true
+objects-spot (inl (inl (replaces bs r))) = refl
+objects-spot (inl (inr (replaces bs r))) = refl
 objects-spot (inr r) = rest-spot r
 
 pub further-spot : (o : EnvOptions) (n : Site) (s s' : Ledger) (x y : Spot) → further_rules o n s x s' y → is_at_node x ≡ true
 further-spot o n s s' x y (inl r) = on-further _ CatchRule n s s' x y catch-spot o.es2019.optional_catch_binding r
 further-spot o n s s' x y (inr (inl r)) = on-further _ NamespaceRule n s s' x y namespace-spot o.es2020.export_namespace_from r
-further-spot o n s s' x y (inr (inr (inl r))) = on-further _ (either_rule (Replacing SpreadRule) RestRule) n s s' x y objects-spot (is_some o.es2018.object_rest_spread) r
+further-spot o n s s' x y (inr (inr (inl r))) = on-further _ (either_rule ObjectRule RestRule) n s s' x y objects-spot (is_some o.es2018.object_rest_spread) r
 further-spot o n s s' x y (inr (inr (inr (inl r)))) = on-further _ UsingRule n s s' x y using-spot o.es2026.explicit_resource_management r
 further-spot o n s s' x y (inr (inr (inr (inr r)))) = on-further _ ArrowRule n s s' x y arrow-spot (is_some o.es2015.arrow_function) r
 
@@ -149,15 +154,20 @@ module _ (used : Text → Bool) (look : Text → Option ℕ) where
   no-rest-rule a (inr (inr (inl (moves b c)))) h = cc (h.0)
   no-rest-rule a (inr (inr (inr (inl (lexical_head b c d e f g i))))) h = no-head b h.0
   no-rest-rule a (inr (inr (inr (inl (var_head b c d e f g i))))) h = no-head b h.0
-  no-rest-rule a (inr (inr (inr (inr (in_declaration b c d))))) h = cc (h.0)
-  no-rest-rule a (inr (inr (inr (inr (in_expression b c d))))) h = cc (h.0)
-  no-rest-rule a (inr (inr (inr (inr (in_arrow b c))))) h = cc (h.0)
+  no-rest-rule a (inr (inr (inr (inr (inl (target_head b c d e f g)))))) h = no-head b h.0
+  no-rest-rule a (inr (inr (inr (inr (inr (in_declaration b c d)))))) h = cc (h.0)
+  no-rest-rule a (inr (inr (inr (inr (inr (in_expression b c d)))))) h = cc (h.0)
+  no-rest-rule a (inr (inr (inr (inr (inr (in_arrow b c)))))) h = cc (h.0)
 
   no-spread : (a : Bool) {n : Site} {w : Whole} {bs : List Bound} {t u : Tree} → SpreadRule n w bs t u → Tied used look a t → ⊥
   no-spread a (spreads b c d e f) h = cc (h.0)
 
-  no-objects : (a : Bool) {n : Site} {s s' : Ledger} {t : Tree} {y : Spot} → either_rule (Replacing SpreadRule) RestRule n s (at_node t) s' y → Tied used look a t → ⊥
-  no-objects a (inl (replaces bs r)) h = no-spread a r h
+  no-rest-assignment : (a : Bool) {n : Site} {w : Whole} {bs : List Bound} {t u : Tree} → RestAssignmentRule n w bs t u → Tied used look a t → ⊥
+  no-rest-assignment a (assigns b c d e f g) h = cc (h.2.0.0)
+
+  no-objects : (a : Bool) {n : Site} {s s' : Ledger} {t : Tree} {y : Spot} → either_rule ObjectRule RestRule n s (at_node t) s' y → Tied used look a t → ⊥
+  no-objects a (inl (inl (replaces bs r))) h = no-spread a r h
+  no-objects a (inl (inr (replaces bs r))) h = no-rest-assignment a r.rule h
   no-objects a (inr r) h = no-rest-rule a r h
 
   no-using : (a : Bool) {n : Site} {s s' : Ledger} {t : Tree} {y : Spot} → UsingRule n s (at_node t) s' y → Tied used look a t → ⊥
@@ -182,7 +192,7 @@ module _ (used : Text → Bool) (look : Text → Option ℕ) where
   pub no-further : (o : EnvOptions) (a : Bool) (n : Site) (s s' : Ledger) (t : Tree) (y : Spot) → further_rules o n s (at_node t) s' y → AboveFits n.above → Tied used look a t → ⊥
   no-further o a n s s' t y (inl r) up h = on-further ⊥ CatchRule n s s' (at_node t) y (λ q. no-catch a q h) o.es2019.optional_catch_binding r
   no-further o a n s s' t y (inr (inl r)) up h = on-further ⊥ NamespaceRule n s s' (at_node t) y (λ q. no-namespace a q h) o.es2020.export_namespace_from r
-  no-further o a n s s' t y (inr (inr (inl r))) up h = on-further ⊥ (either_rule (Replacing SpreadRule) RestRule) n s s' (at_node t) y (λ q. no-objects a q h) (is_some o.es2018.object_rest_spread) r
+  no-further o a n s s' t y (inr (inr (inl r))) up h = on-further ⊥ (either_rule ObjectRule RestRule) n s s' (at_node t) y (λ q. no-objects a q h) (is_some o.es2018.object_rest_spread) r
   no-further o a n s s' t y (inr (inr (inr (inl r)))) up h = on-further ⊥ UsingRule n s s' (at_node t) y (λ q. no-using a q h) o.es2026.explicit_resource_management r
   no-further o a n s s' t y (inr (inr (inr (inr r)))) up h = on-further ⊥ ArrowRule n s s' (at_node t) y (λ q. no-arrow-rule a q up h) (is_some o.es2015.arrow_function) r
 
@@ -207,15 +217,20 @@ rest-kind (inr (inl (takes_rest m l lp lr ls a ps c t d e f))) = refl
 rest-kind (inr (inr (inl (moves a b)))) = refl
 rest-kind (inr (inr (inr (inl (lexical_head a b c d e f g))))) = head-kind a _ _
 rest-kind (inr (inr (inr (inl (var_head a b c d e f g))))) = head-kind a _ _
-rest-kind (inr (inr (inr (inr (in_declaration a b c))))) = refl
-rest-kind (inr (inr (inr (inr (in_expression a b c))))) = refl
-rest-kind (inr (inr (inr (inr (in_arrow a b))))) = refl
+rest-kind (inr (inr (inr (inr (inl (target_head a b c d e f)))))) = head-kind a _ _
+rest-kind (inr (inr (inr (inr (inr (in_declaration a b c)))))) = refl
+rest-kind (inr (inr (inr (inr (inr (in_expression a b c)))))) = refl
+rest-kind (inr (inr (inr (inr (inr (in_arrow a b)))))) = refl
 
 spread-kind : {n : Site} {w : Whole} {bs : List Bound} {t u : Tree} → SpreadRule n w bs t u → is_no_program t ≡ true
 spread-kind (spreads b c d e f) = refl
 
-objects-kind : {n : Site} {s s' : Ledger} {t : Tree} {y : Spot} → either_rule (Replacing SpreadRule) RestRule n s (at_node t) s' y → is_no_program t ≡ true
-objects-kind (inl (replaces bs r)) = spread-kind r
+rest-assignment-kind : {n : Site} {w : Whole} {bs : List Bound} {t u : Tree} → RestAssignmentRule n w bs t u → is_no_program t ≡ true
+rest-assignment-kind (assigns b c d e f g) = refl
+
+objects-kind : {n : Site} {s s' : Ledger} {t : Tree} {y : Spot} → either_rule ObjectRule RestRule n s (at_node t) s' y → is_no_program t ≡ true
+objects-kind (inl (inl (replaces bs r))) = spread-kind r
+objects-kind (inl (inr (replaces bs r))) = rest-assignment-kind r.rule
 objects-kind (inr r) = rest-kind r
 
 using-kind : {n : Site} {s s' : Ledger} {t : Tree} {y : Spot} → UsingRule n s (at_node t) s' y → is_no_program t ≡ true
@@ -240,7 +255,7 @@ arrow-kind (with_expression a b) = refl
 pub further-kind : (o : EnvOptions) (n : Site) (s s' : Ledger) (t : Tree) (y : Spot) → further_rules o n s (at_node t) s' y → is_no_program t ≡ true
 further-kind o n s s' t y (inl r) = on-further _ CatchRule n s s' (at_node t) y catch-kind o.es2019.optional_catch_binding r
 further-kind o n s s' t y (inr (inl r)) = on-further _ NamespaceRule n s s' (at_node t) y namespace-kind o.es2020.export_namespace_from r
-further-kind o n s s' t y (inr (inr (inl r))) = on-further _ (either_rule (Replacing SpreadRule) RestRule) n s s' (at_node t) y objects-kind (is_some o.es2018.object_rest_spread) r
+further-kind o n s s' t y (inr (inr (inl r))) = on-further _ (either_rule ObjectRule RestRule) n s s' (at_node t) y objects-kind (is_some o.es2018.object_rest_spread) r
 further-kind o n s s' t y (inr (inr (inr (inl r)))) = on-further _ UsingRule n s s' (at_node t) y using-kind o.es2026.explicit_resource_management r
 further-kind o n s s' t y (inr (inr (inr (inr r)))) = on-further _ ArrowRule n s s' (at_node t) y arrow-kind (is_some o.es2015.arrow_function) r
 

@@ -31,7 +31,7 @@ use Rattle.es_steps.proofs.Taken.{Lawful, Writes, both-lawful, both-write}
 use Rattle.es_steps.proofs.Temporaries.{taken-numbered}
 use Rattle.es_steps.proofs.WrapsSlots.{with-none, wrap-lawful, wrap-writes}
 
-row-lawful : (R : Site → Whole → List Bound → Tree → Tree → Type 0) → ((n : Site) (w : Whole) (bs : List Bound) (t u : Tree) → R n w bs t u → Makes n w bs t u) → Lawful (RowRule R)
+pub row-lawful : (R : Site → Whole → List Bound → Tree → Tree → Type 0) → ((n : Site) (w : Whole) (bs : List Bound) (t u : Tree) → R n w bs t u → Makes n w bs t u) → Lawful (RowRule R)
 row-lawful R makes = node-lawful (OutsideSlots R) (λ n w bs t u h used. made-law n w bs t u (makes n w bs t u h.rule) used)
 
 no-class-name : (t : Tree) (l : Label) (fs : Fields) → IsPlain t → t ≡ node Identifier l fs → ⊥
@@ -46,7 +46,7 @@ made-writes R makes = record {
   names = λ q n w bs t u h words new k. (makes n w bs t u h).fits.passes q words new k;
 }
 
-row-writes-all : (R : Site → Whole → List Bound → Tree → Tree → Type 0) → ((n : Site) (w : Whole) (bs : List Bound) (t u : Tree) → R n w bs t u → Makes n w bs t u) → Writes (RowRule R)
+pub row-writes-all : (R : Site → Whole → List Bound → Tree → Tree → Type 0) → ((n : Site) (w : Whole) (bs : List Bound) (t u : Tree) → R n w bs t u → Makes n w bs t u) → Writes (RowRule R)
 row-writes-all R makes = row-writes {R = OutsideSlots R} (made-writes (OutsideSlots R) (λ n w bs t u h. makes n w bs t u h.rule))
 
 -- WHICH OF THEM ARE ON

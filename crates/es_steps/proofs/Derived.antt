@@ -104,7 +104,7 @@ silent true = refl
 silent false = refl
 
 derived : Steps (Step RestRule the_program) (ledger first_whole nothing_pending None no_additions) (opened (program source)) (ledger (with_made (it ∷ []) first_whole) nothing_pending None no_additions) (opened (program split))
-derived = goes (inside (in_later (in_first (in_program refl (in_head (acts source moved (inr (inr (inr (inr (in_declaration fresh named (moves_one empty empty empty empty reads_a (made [] []) pattern_fields (defaulted pattern) (defaulted (identifier it)) refl refl (with_default silent) may)))))))))))) (goes (inside (in_later (in_first (in_program refl (in_head (inside (in_later (in_later (in_first (in_child (inside (in_later (in_first (in_target refl (in_head (acts (let_statement pattern it) the_split (inr (inl (takes_rest (made (Some (codes "let") ∷ []) []) (made [] []) (made [] []) (made [] []) (record (made (Some (codes "_ref") ∷ []) []) { marks = Some 3 ∷ [] }) empty (a_property before empty) empty (name (codes "b") 2) (beside (codes "a" ∷ [])) refl refl))))))))))))))))))) stays)
+derived = goes (inside (in_later (in_first (in_program refl (in_head (acts source moved (inr (inr (inr (inr (inr (in_declaration fresh named (moves_one empty empty empty empty reads_a (made [] []) pattern_fields (defaulted pattern) (defaulted (identifier it)) refl refl (with_default silent) may))))))))))))) (goes (inside (in_later (in_first (in_program refl (in_head (inside (in_later (in_later (in_first (in_child (inside (in_later (in_first (in_target refl (in_head (acts (let_statement pattern it) the_split (inr (inl (takes_rest (made (Some (codes "let") ∷ []) []) (made [] []) (made [] []) (made [] []) (record (made (Some (codes "_ref") ∷ []) []) { marks = Some 3 ∷ [] }) empty (a_property before empty) empty (name (codes "b") 2) (beside (codes "a" ∷ [])) refl refl))))))))))))))))))) stays)
 
 source_resolved : IsResolved (program source)
 source_resolved = is_resolved-sound (program source) refl

@@ -131,11 +131,11 @@ nodes-only R at law = record {
   at_bodies = λ n s s' p t u h. absurd (at n s s' (at_body p t) (at_node u) h);
 }
 
-replaces-nodes : (R : Site → Whole → List Bound → Tree → Tree → Type 0) (n : Site) (s s' : Ledger) (x y : Spot) → RowRule R n s x s' y → AtNodes x y
+pub replaces-nodes : (R : Site → Whole → List Bound → Tree → Tree → Type 0) (n : Site) (s s' : Ledger) (x y : Spot) → RowRule R n s x s' y → AtNodes x y
 replaces-nodes R n s s' x y (replaces bs h) = tt
 
 -- a row
-row-form : (R : Site → Whole → List Bound → Tree → Tree → Type 0) → ((n : Site) (w : Whole) (bs : List Bound) (t u : Tree) (a : Sort) → R n w bs t u → has_form a t ≡ true → RowForm a bs u) → FormLawful (RowRule R)
+pub row-form : (R : Site → Whole → List Bound → Tree → Tree → Type 0) → ((n : Site) (w : Whole) (bs : List Bound) (t u : Tree) (a : Sort) → R n w bs t u → has_form a t ≡ true → RowForm a bs u) → FormLawful (RowRule R)
 row-form R law = nodes-only (RowRule R) (replaces-nodes R) nodes
   where
     nodes : (n : Site) (s s' : Ledger) (t u : Tree) (a : Sort) → (is_slot n.above ≡ true → a ≡ s-Expression) → RowRule R n s (at_node t) s' (at_node u) → has_form a t ≡ true → NodeFormed a s s' u

@@ -35,7 +35,7 @@ by_using l = record l { texts = Some (codes "using") ∷ [] }
 head-kept : (n : Site) (w : Whole) (m l k : Label) (p e b : Tree) (x : Text) (free : w.in_use x ≡ false) (apart : Named (avoiding (declared false (Binds Constant) p) w.in_use) w.free_symbol reads e) (quiet : IsSilent reads e) (body : declared false reads b ≡ []) → Named w.in_use w.free_symbol n.role (node ForOfStatement m (head_fields (by_using l) k p e b)) →
     Kept (knowing w x free) n.names sealed n.role (node ForOfStatement m (head_fields (by_using l) k p e b)) (node ForOfStatement m (block_head l k (next_name w x) p e b))
 head-kept n w m l k p e b x free apart quiet body used =
-    let h = head-loop n w m (by_using l) k p e b x free sealed (declared false (Binds Constant) p) (next_name w x ∷ []) [] (lexical-binds w x free Constant p refl) apart quiet body for_of used in
+    let h = head-loop n w m (by_using l) k p e b x free sealed (declared false (Binds Constant) p) (next_name w x ∷ []) [] (lexical-binds w x free Constant refl) refl apart quiet body for_of used in
     let z = knowing w x free in
     let more = own-more w.in_use z.in_use_after z.more w.free_symbol z.free_after z.freer in
     record {

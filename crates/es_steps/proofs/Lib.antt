@@ -30,6 +30,8 @@ pub mod UsingWrites
 pub mod HeadUsings
 pub mod StepsKept
 pub mod Spreads
+pub mod RestParts
+pub mod RestAssignments
 pub mod Laws
 pub mod BoundOnce
 pub mod Reached

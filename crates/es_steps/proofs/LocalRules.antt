@@ -1,6 +1,7 @@
 -- The rules are local: of a site they ask the need, the ancestors, the role, and what a few names find.
-use Rattle.std.proofs.Common.{◌≡◌, ℕ, ap, inl, inr, ◌∙◌, List, subst, sym}
+use Rattle.std.proofs.Common.{◌≡◌, ℕ, ap, inl, inr, ◌∙◌, List, ◌∷◌, ◌++◌, subst, sym}
 use Rattle.std.specs.Prelude.{◌&&◌, Bool, true, false, Some, codes, is_some}
+use Rattle.es_tree.specs.Ancestors.{Ancestor}
 use Rattle.es_tree.specs.Tree.{Tree, Label, Fields, Trees, done, statements, ◌then◌, ◌before◌}
 use Rattle.es_tree.specs.Words.{Text}
 use Rattle.es_tree.specs.declared.ast_type.AstType.{AstType}
@@ -21,8 +22,9 @@ use Rattle.es_steps.specs.Exponentiation.{ExponentiationRule, IsMathFree}
 use Rattle.es_steps.specs.Exponentiation.ExponentiationRule.{power, power_assignment}
 use Rattle.es_steps.specs.LogicalAssignment.{LogicalAssignmentRule}
 use Rattle.es_steps.specs.LogicalAssignment.LogicalAssignmentRule.{to_computed_member, to_name, to_static_member}
-use Rattle.es_steps.specs.LoopHeads.{HeadRest}
+use Rattle.es_steps.specs.LoopHeads.{HeadRest, TargetHead}
 use Rattle.es_steps.specs.LoopHeads.HeadRest.{lexical_head, var_head}
+use Rattle.es_steps.specs.LoopHeads.TargetHead.{target_head}
 use Rattle.es_steps.specs.NamespaceExports.{NamespaceRule}
 use Rattle.es_steps.specs.NamespaceExports.NamespaceRule.{exports}
 use Rattle.es_steps.specs.NullishCoalescing.{NullishCoalescingRule}
@@ -36,10 +38,12 @@ use Rattle.es_steps.specs.OptionalCatch.{CatchRule}
 use Rattle.es_steps.specs.OptionalCatch.CatchRule.{catches}
 use Rattle.es_steps.specs.OptionalChaining.{OptionalChainingRule}
 use Rattle.es_steps.specs.OptionalChaining.OptionalChainingRule.{as_callee, by_tests, in_delete}
-use Rattle.es_steps.specs.Nodes.{joined_trees}
+use Rattle.es_steps.specs.Nodes.{assign_node, identifier, joined_trees, placed, sequence_node}
 use Rattle.es_steps.specs.ParameterPatterns.{ParameterRest, body_fields}
 use Rattle.es_steps.specs.ParameterPatterns.ParameterRest.{in_arrow, in_declaration, in_expression}
 use Rattle.es_steps.specs.Open.{Additions, Pending}
+use Rattle.es_steps.specs.RestAssignments.{RestAssignmentRule, is_unused, value_after}
+use Rattle.es_steps.specs.RestAssignments.RestAssignmentRule.{assigns}
 use Rattle.es_steps.specs.Rules.{Replacing, Writing, either_rule}
 use Rattle.es_steps.specs.Rules.Replacing.{replaces}
 use Rattle.es_steps.specs.Rules.Writing.{all_pending, body_declarators, declarators, insertions}
@@ -142,6 +146,9 @@ module _ (asked : Ledger → Text → Bool) where
   head-local n m s s' x y a (lexical_head k e f d1 d2 d3 d4) = lexical_head k e f d1 d2 d3 d4
   head-local n m s s' x y a (var_head k e f d1 d2 d3 d4) = var_head k e f d1 d2 d3 d4
 
+  target-local : IsLocal asked TargetHead
+  target-local n m s s' x y a (target_head k e f d1 d2 d3) = target_head k e f d1 d2 d3
+
   parameter-local : IsLocal asked ParameterRest
   parameter-local n m s s' x y a (in_declaration f e d) = in_declaration f e d
   parameter-local n m s s' x y a (in_expression f e d) = in_expression f e d
@@ -150,6 +157,11 @@ module _ (asked : Ledger → Text → Bool) where
   module _ (helpers : (s : Ledger) → (the_whole s).in_use (codes "babelHelpers") ≡ true → asked s (codes "babelHelpers") ≡ true) where
     spread-local : RowAsks SpreadRule
     spread-local n m s bs t u a (spreads e f d1 d2 d3) = spreads (a.scope (codes "babelHelpers") (helpers s f) ∙ e) f d1 d2 d3
+
+    rest-assignment-local : RowAsks RestAssignmentRule
+    rest-assignment-local n m s bs t u a (assigns {m = l} {e = e} {x = x} {xs = xs} {us = us} d f texts silent next takes) =
+        subst (λ (up : List Ancestor). RestAssignmentRule m (the_whole s) (x ∷ xs) t (placed l (sequence_node (assign_node (identifier x) e ∷ us ++ value_after (is_unused up) x)))) a.above
+        (assigns (a.scope (codes "babelHelpers") (helpers s f) ∙ d) f texts silent next takes)
 
     takes-rest-local : IsLocal asked TakesRest
     takes-rest-local n m s s' x y a (takes_rest l1 l2 l3 l4 l5 ts ps us t d e f) = takes_rest l1 l2 l3 l4 l5 ts ps us t d (a.scope (codes "babelHelpers") (helpers s f) ∙ e) f
@@ -199,7 +211,7 @@ module _ (asked : Ledger → Text → Bool) where
     further-local o arrows =
         both-local (on-local o.es2019.optional_catch_binding catch-local)
         (both-local (on-local o.es2020.export_namespace_from namespace-local)
-        (both-local (on-local (is_some o.es2018.object_rest_spread) (both-local (replacing-local spread-local) (both-local split-local (both-local takes-rest-local (both-local catch-rest-local (both-local head-local parameter-local))))))
+        (both-local (on-local (is_some o.es2018.object_rest_spread) (both-local (both-local (replacing-local spread-local) (row-local rest-assignment-local)) (both-local split-local (both-local takes-rest-local (both-local catch-rest-local (both-local head-local (both-local target-local parameter-local)))))))
         (both-local (on-local o.es2026.explicit_resource_management using-local) arrows)))
 
   module _ (this : (w : Whole) (p : Pending) (b : Bound) (a : Additions) → w.in_use b.name ≡ true → asked (ledger w p (Some b) a) b.name ≡ true) where

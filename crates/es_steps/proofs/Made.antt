@@ -1,7 +1,7 @@
 -- What a row makes consists of the parts of what stood there, of temporaries, and of words that refer to nothing. Where each
 -- part fits, so does what is made of them; and a row whose node fits, declares the same and binds the same is lawful.
 use Rattle.std.proofs.Common.{arith, ◌≡◌, ℕ, refl, sym, ◌∙◌, List, [], ◌∷◌, ◌++◌}
-use Rattle.std.specs.Prelude.{Bool, true, false, ◌&&◌, Option, Some, None, codes, if◌then◌else◌}
+use Rattle.std.specs.Prelude.{Bool, true, false, Option, Some, None, codes, if◌then◌else◌}
 use Rattle.std.specs.List.{list_all}
 use Rattle.es_tree.specs.Words.{Text}
 use Rattle.es_tree.specs.Names.{first_text, has_computed}

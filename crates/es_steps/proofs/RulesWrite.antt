@@ -23,7 +23,7 @@ use Rattle.es_steps.specs.Rules.{next_name}
 use Rattle.es_steps.specs.NamespaceExports.{NamespaceRule}
 use Rattle.es_steps.specs.CatchPatterns.{CatchRest}
 use Rattle.es_steps.specs.ParameterPatterns.{ParameterRest, HoldsPattern, MovesParameter}
-use Rattle.es_steps.specs.LoopHeads.{HeadRest}
+use Rattle.es_steps.specs.LoopHeads.{HeadRest, TargetHead}
 use Rattle.es_steps.specs.Patterns.{let_statement}
 use Rattle.es_steps.specs.NamespaceExports.NamespaceRule.{exports}
 use Rattle.es_steps.specs.CatchPatterns.CatchRest.{moves}
@@ -31,6 +31,7 @@ use Rattle.es_steps.specs.ParameterPatterns.HoldsPattern.{alone, with_default}
 use Rattle.es_steps.specs.ParameterPatterns.MovesParameter.{moves_one}
 use Rattle.es_steps.specs.ParameterPatterns.ParameterRest.{in_declaration, in_expression, in_arrow}
 use Rattle.es_steps.specs.LoopHeads.HeadRest.{lexical_head, var_head}
+use Rattle.es_steps.specs.LoopHeads.TargetHead.{target_head}
 use Rattle.es_steps.specs.LoopHeads.IsForEach.{for_in, for_of}
 use Rattle.es_steps.specs.ObjectRest.{AreKeys, IsKey, RestOf, SplitRule, SplitsOff, TakesRest, and_declarator, declares_as, declares_rest, declares_some, helper_node, pattern_node}
 use Rattle.es_steps.specs.ObjectRest.IsKey.{name_key, text_key}
@@ -48,7 +49,7 @@ use Rattle.es_steps.proofs.Arrows.{arrow-only}
 use Rattle.es_steps.proofs.Catching.{catch-only}
 use Rattle.es_steps.proofs.CatchRests.{catch-rest-only}
 use Rattle.es_steps.proofs.Fronts.{front-of, front-pass, front-some}
-use Rattle.es_steps.proofs.Heads.{head-only}
+use Rattle.es_steps.proofs.Heads.{head-only, target-only}
 use Rattle.es_steps.proofs.Lists.{goes_on, written-first}
 use Rattle.es_steps.proofs.Namespaces.{exports-nodes}
 use Rattle.es_steps.proofs.Numbered.{Numbered, numbered-old, numbered-new}
@@ -283,6 +284,25 @@ head-writes = writes-nodes {R = HeadRest} (record { only = head-only; imports = 
     names q n s s' t u a b (lexical_head {w = w} {x = x} for_of h1 h2 h3 h4 h5 h6) k = let it = one-new q w x a in ((tt, ((tt, (((tt, (it, (tt, tt))), tt), tt)), (k.1.1.0, ((tt, (((tt, (((tt, (k.1.0.1.0.0.1.0, (it, tt))), tt), tt)), (k.1.1.1.0, tt)), tt)), tt)))), record { pending = b.pending; this = b.this; top = b.top })
     names q n s s' t u a b (var_head {w = w} {x = x} for_in h1 h2 h3 h4 h5 h6) k = let it = one-new q w x a in ((tt, ((tt, (((tt, (it, (tt, tt))), tt), tt)), (k.1.1.0, ((tt, (((tt, (((tt, (k.1.0.1.0.0.1.0, (it, tt))), tt), tt)), (k.1.1.1.0, tt)), tt)), tt)))), record { pending = b.pending; this = b.this; top = b.top })
     names q n s s' t u a b (var_head {w = w} {x = x} for_of h1 h2 h3 h4 h5 h6) k = let it = one-new q w x a in ((tt, ((tt, (((tt, (it, (tt, tt))), tt), tt)), (k.1.1.0, ((tt, (((tt, (((tt, (k.1.0.1.0.0.1.0, (it, tt))), tt), tt)), (k.1.1.1.0, tt)), tt)), tt)))), record { pending = b.pending; this = b.this; top = b.top })
+
+pub target-writes : Writes TargetHead
+target-writes = writes-nodes {R = TargetHead} (record { only = target-only; imports = imports; no_names = none; freer = grows; same_called = called; names = names })
+  where
+    imports : (n : Site) (s s' : Ledger) (t u : Tree) → TargetHead n s (at_node t) s' (at_node u) → is_import u ≡ is_import t
+    imports n s s' t u (target_head a b c d e f) = refl
+
+    none : (n : Site) (s s' : Ledger) (l : Label) (fs : Fields) (u : Tree) → n.role ≡ Binds Class → TargetHead n s (at_node (node Identifier l fs)) s' (at_node u) → ⊥
+    none n s s' l fs u e (target_head a b c d f g) = elim a [ ]
+
+    grows : (n : Site) (s s' : Ledger) (t u : Tree) → TargetHead n s (at_node t) s' (at_node u) → (whole_in s).free_symbol ≤ (whole_in s').free_symbol
+    grows n s s' t u (target_head {w = w} a b c d e f) = longer w.free_symbol 1
+
+    called : (n : Site) (s s' : Ledger) (t u : Tree) → TargetHead n s (at_node t) s' (at_node u) → (m : ℕ) → m < (whole_in s).free_symbol → (whole_in s').called m ≡ (whole_in s).called m
+    called n s s' t u (target_head {w = w} {x = x} a b c d e f) = numbered-old w.called w.free_symbol (next_name w x ∷ []) (refl, tt)
+
+    names : (q : Text → Option ℕ → Bool) (n : Site) (s s' : Ledger) (t u : Tree) → Allows q (whole_in s) (whole_in s') → LedgerPasses q s → TargetHead n s (at_node t) s' (at_node u) → Passes q t → Passes q u × LedgerPasses q s'
+    names q n s s' t u a b (target_head {w = w} {x = x} for_in h1 h2 h3 h4 h5) k = let it = one-new q w x a in ((tt, ((tt, (((tt, (it, (tt, tt))), tt), tt)), (k.1.1.0, ((tt, (((tt, ((tt, (k.1.0, (it, tt))), tt)), (k.1.1.1.0, tt)), tt)), tt)))), record { pending = b.pending; this = b.this; top = b.top })
+    names q n s s' t u a b (target_head {w = w} {x = x} for_of h1 h2 h3 h4 h5) k = let it = one-new q w x a in ((tt, ((tt, (((tt, (it, (tt, tt))), tt), tt)), (k.1.1.0, ((tt, (((tt, ((tt, (k.1.0, (it, tt))), tt)), (k.1.1.1.0, tt)), tt)), tt)))), record { pending = b.pending; this = b.this; top = b.top })
 
 -- OBJECT REST
 

@@ -34,7 +34,7 @@ use Rattle.es_steps.proofs.Written.{nil-right, body_place, named-joined, join-na
 abbrev keys : List Tree → Fields
 keys ks = fields (map one ks)
 
-none-if : (b : Bool) (xs bs : List Bound) → xs ≡ [] → bs ≡ [] → (if b then xs else []) ++ bs ≡ []
+pub none-if : (b : Bool) (xs bs : List Bound) → xs ≡ [] → bs ≡ [] → (if b then xs else []) ++ bs ≡ []
 none-if true xs bs e h = λ i. e i ++ h i
 none-if false xs bs e h = h
 

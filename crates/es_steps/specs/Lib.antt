@@ -24,6 +24,7 @@ pub mod Exponentiation
 pub mod OptionalChaining
 pub mod Slots
 pub mod WrapRule
+pub mod RestAssignments
 pub mod CoreRules
 pub mod AllRules
 pub mod Sites

@@ -2,14 +2,15 @@
 -- `(() => e)()` where it holds a construct that the options ask for whose lowering may take or declare a temporary, so that
 -- the temporary has a list of its own.
 use Rattle.std.specs.Prelude.{◌≡◌, ◌&&◌, ◌||◌, Bool, true, false, List, [], ◌∷◌, bytes_eq, codes, is_some}
-use Rattle.es_tree.specs.Constructs.{field_at, has_member, is_chain, is_exponentiation, is_logical_assignment, is_nullish_coalescing, is_rest}
+use Rattle.es_tree.specs.Constructs.{field_at, is_chain, is_exponentiation, is_logical_assignment, is_nullish_coalescing}
 use Rattle.es_tree.specs.HasForm.{same_type}
 use Rattle.es_tree.specs.Names.{first_text}
 use Rattle.es_tree.specs.Parens.{without_parens}
+use Rattle.es_tree.specs.RestTargets.{is_rest_target}
 use Rattle.es_tree.specs.declared.ast_type.AstType.{AstType}
-use Rattle.es_tree.specs.declared.ast_type.AstType.TheVariants.{AssignmentExpression, CallExpression, MemberExpression, ObjectTarget}
+use Rattle.es_tree.specs.declared.ast_type.AstType.TheVariants.{AssignmentExpression, CallExpression, MemberExpression}
 use Rattle.es_tree.specs.declared.options.EnvOptions.{EnvOptions}
-use Rattle.es_tree.specs.Tree.{Tree, node, Label, Fields, done, ◌then◌, Field, one, many, empty, fields_of, kind_of, label_of}
+use Rattle.es_tree.specs.Tree.{Tree, node, Label, Fields, done, ◌then◌, Field, one, many, empty, kind_of, label_of}
 use Rattle.es_runs.specs.Rules.{in_place_of}
 use Rattle.es_semantic.specs.RolesOf.{reads}
 use Rattle.es_resolution.specs.Declarations.{Bound}
@@ -22,11 +23,6 @@ use Rattle.es_steps.specs.Steps.{Whole, Site, Ledger, Spot, at_node, IsExpressio
 abbrev pub is_member_target : Field → Bool
 is_member_target (one t) = same_type (kind_of (without_parens t)) MemberExpression
 is_member_target _ = false
-
--- an object target with a rest
-abbrev pub is_rest_target : Field → Bool
-is_rest_target (one t) = same_type (kind_of t) ObjectTarget && has_member is_rest (field_at 0 (fields_of t))
-is_rest_target _ = false
 
 -- A logical assignment to a member, and one by `??=` to a name where what it becomes is lowered too.
 abbrev pub takes_for_target : EnvOptions → Label → Fields → Bool

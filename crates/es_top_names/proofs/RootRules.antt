@@ -7,7 +7,7 @@ use Rattle.es_tree.specs.declared.ast_type.AstType.{AstType}
 use Rattle.es_tree.specs.declared.ast_type.AstType.TheVariants.{Program}
 use Rattle.es_tree.specs.declared.options.EnvOptions.{EnvOptions}
 use Rattle.es_resolution.specs.Declarations.{Bound, is_var_scope}
-use Rattle.es_steps.specs.AllRules.{AllRules, RestRule}
+use Rattle.es_steps.specs.AllRules.{AllRules, ObjectRule, RestRule}
 use Rattle.es_steps.specs.Arrows.{ArrowRule}
 use Rattle.es_steps.specs.Arrows.ArrowRule.{by_name, by_new_name, with_body, with_expression}
 use Rattle.es_steps.specs.CatchPatterns.{CatchRest}
@@ -17,9 +17,10 @@ use Rattle.es_steps.specs.Exponentiation.{ExponentiationRule}
 use Rattle.es_steps.specs.Exponentiation.ExponentiationRule.{power, power_assignment}
 use Rattle.es_steps.specs.LogicalAssignment.{LogicalAssignmentRule}
 use Rattle.es_steps.specs.LogicalAssignment.LogicalAssignmentRule.{to_computed_member, to_name, to_static_member}
-use Rattle.es_steps.specs.LoopHeads.{HeadRest, IsForEach}
+use Rattle.es_steps.specs.LoopHeads.{HeadRest, IsForEach, TargetHead}
 use Rattle.es_steps.specs.LoopHeads.HeadRest.{lexical_head, var_head}
 use Rattle.es_steps.specs.LoopHeads.IsForEach.{for_in, for_of}
+use Rattle.es_steps.specs.LoopHeads.TargetHead.{target_head}
 use Rattle.es_steps.specs.NamespaceExports.{NamespaceRule}
 use Rattle.es_steps.specs.NamespaceExports.NamespaceRule.{exports}
 use Rattle.es_steps.specs.NullishCoalescing.{NullishCoalescingRule}
@@ -35,6 +36,8 @@ use Rattle.es_steps.specs.OptionalChaining.{OptionalChainingRule}
 use Rattle.es_steps.specs.OptionalChaining.OptionalChainingRule.{as_callee, by_tests, in_delete}
 use Rattle.es_steps.specs.ParameterPatterns.{ParameterRest}
 use Rattle.es_steps.specs.ParameterPatterns.ParameterRest.{in_arrow, in_declaration, in_expression}
+use Rattle.es_steps.specs.RestAssignments.{RestAssignmentRule}
+use Rattle.es_steps.specs.RestAssignments.RestAssignmentRule.{assigns}
 use Rattle.es_steps.specs.Rules.{Replacing, Writing, either_rule}
 use Rattle.es_steps.specs.Rules.Replacing.{replaces}
 use Rattle.es_steps.specs.Rules.Writing.{all_pending, body_declarators, declarators, insertions}
@@ -111,6 +114,9 @@ chaining-off no_all n w bs t u (in_delete texts alone chain walked tests) = refl
 spreading-off : RowsOff SpreadRule
 spreading-off n w bs t u (spreads unbound used some silent r) = refl
 
+assigning_rest-off : RowsOff RestAssignmentRule
+assigning_rest-off n w bs t u (assigns unbound used texts silent next takes) = refl
+
 catch-off : NeverAtProgram CatchRule
 catch-off n s s' x y (catches fresh) = refl
 
@@ -133,6 +139,9 @@ for-each-off k for_of = refl
 head-off : NeverAtProgram HeadRest
 head-off n s s' x y (lexical_head {k = k} loop h fresh a b c d) = for-each-off k loop
 head-off n s s' x y (var_head {k = k} loop h fresh a b c d) = for-each-off k loop
+
+target-off : NeverAtProgram TargetHead
+target-off n s s' x y (target_head {k = k} loop h fresh a b c) = for-each-off k loop
 
 parameter-off : NeverAtProgram ParameterRest
 parameter-off n s s' x y (in_declaration fresh f h) = refl
@@ -191,7 +200,7 @@ all-off o =
     (on-off o.es2016.exponentiation_operator _ (row-off ExponentiationRule raising-off))))))
     (both-off (on-off o.es2019.optional_catch_binding _ catch-off)
     (both-off (on-off o.es2020.export_namespace_from _ namespace-off)
-    (both-off (on-off (is_some o.es2018.object_rest_spread) _ (both-off (replacing-off SpreadRule spreading-off) (both-off split-off (both-off takes-rest-off (both-off catch-rest-off (both-off head-off parameter-off))))))
+    (both-off (on-off (is_some o.es2018.object_rest_spread) _ (both-off (both-off (replacing-off SpreadRule spreading-off) (row-off RestAssignmentRule assigning_rest-off)) (both-off split-off (both-off takes-rest-off (both-off catch-rest-off (both-off head-off (both-off target-off parameter-off)))))))
     (both-off (on-off o.es2026.explicit_resource_management _ (both-off block-off (both-off body-off (both-off loop-off (both-off switch-off head-using-off))))) (on-off (is_some o.es2015.arrow_function) _ arrow-off)))))
 
 -- THE LOWERINGS' RULES are among all rules
@@ -201,7 +210,7 @@ rests-all n s x s' y (inl r) = inl r.0.0
 rests-all n s x s' y (inr (inl r)) = inr (inl r.0)
 rests-all n s x s' y (inr (inr r)) = inr (inr r)
 
-on-rests : (b : Bool) (n : Site) (s : Ledger) (x : Spot) (s' : Ledger) (y : Spot) → where_on b OutsidePart n s x s' y → where_on b (either_rule (Replacing SpreadRule) RestRule) n s x s' y
+on-rests : (b : Bool) (n : Site) (s : Ledger) (x : Spot) (s' : Ledger) (y : Spot) → where_on b OutsidePart n s x s' y → where_on b (either_rule ObjectRule RestRule) n s x s' y
 on-rests true n s x s' y r = inr (rests-all n s x s' y r)
 on-rests false n s x s' y r = absurd r
 

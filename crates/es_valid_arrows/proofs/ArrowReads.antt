@@ -33,7 +33,7 @@ use Rattle.es_module_names.specs.Modules.{exported, request, star_request, texts
 use Rattle.es_module_names.proofs.Held.{is_unread}
 use Rattle.es_module_names.proofs.HeldSteps.{Hides, ReadLawful, Unseen, named-read}
 use Rattle.es_module_names.proofs.ProgramLists.{IsReading, exported-reading, exported-texts-after, request-reading, star-reading, texts-after, top-imports}
-use Rattle.es_module_names.proofs.RuleKinds.{BothQuiet, both-lawful, catch-lawful, on-lawful, spread-lawful, under-lawful}
+use Rattle.es_module_names.proofs.RuleKinds.{BothQuiet, both-lawful, catch-lawful, on-lawful, rest-assignment-lawful, spread-lawful, under-lawful}
 use Rattle.es_valid_arrows.specs.Laws.{LawArrowOutside, with_arrows}
 use Rattle.es_valid_arrows.proofs.ArrowSteps.{OnTheWay, arrows_alone, arrows-apart, arrows-wide, arrows-written, one-step as formed-step, same-source, source-begins}
 use Rattle.es_valid_arrows.proofs.Wide.{program-wide}
@@ -79,7 +79,7 @@ arrows-read : (o : EnvOptions) → ReadLawful belongs_to_arrow (arrows_alone o)
 arrows-read o = record { at_nodes = nodes }
   where
     alone-read : ReadLawful belongs_to_arrow (alone o)
-    alone-read = named-read belongs_to_arrow (alone o) (both-lawful (under-lawful o) (both-lawful (on-lawful o.es2019.optional_catch_binding _ catch-lawful) (on-lawful (is_some o.es2018.object_rest_spread) _ spread-lawful)))
+    alone-read = named-read belongs_to_arrow (alone o) (both-lawful (under-lawful o) (both-lawful (on-lawful o.es2019.optional_catch_binding _ catch-lawful) (on-lawful (is_some o.es2018.object_rest_spread) _ (both-lawful spread-lawful rest-assignment-lawful))))
 
     nodes : (n : Site) (s s' : Ledger) (t u : Tree) → arrows_alone o n s (at_node t) s' (at_node u) → BothQuiet t u ⊎ Unseen belongs_to_arrow n.above
     nodes n s s' t u (inl h) = alone-read.at_nodes n s s' t u h

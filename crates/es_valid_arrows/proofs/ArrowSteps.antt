@@ -6,14 +6,14 @@ use Rattle.es_tree.specs.Tree.{Tree, Trees, empty}
 use Rattle.es_tree.specs.declared.options.EnvOptions.{EnvOptions}
 use Rattle.es_tree.specs.declared.table.Sort.TheVariants.{Program as s-Program}
 use Rattle.es_resolution.specs.Declarations.{Bound}
+use Rattle.es_steps.specs.AllRules.{ObjectRule}
 use Rattle.es_steps.specs.Arrows.{ArrowRule}
 use Rattle.es_steps.specs.CoreRules.{RowRule, rows_under, where_on}
 use Rattle.es_steps.specs.Laws.{nothing_beside}
 use Rattle.es_steps.specs.NamespaceExports.{NamespaceRule}
-use Rattle.es_steps.specs.ObjectSpread.{SpreadRule}
 use Rattle.es_steps.specs.Open.{Additions, Open, Pending, finished, flanks_with, opened}
 use Rattle.es_steps.specs.OptionalCatch.{CatchRule}
-use Rattle.es_steps.specs.Rules.{Replacing, Writing, either_rule}
+use Rattle.es_steps.specs.Rules.{Writing, either_rule}
 use Rattle.es_steps.specs.Rules.Replacing.{replaces}
 use Rattle.es_steps.specs.Steps.{Ledger, Site, Spot, Whole, the_program, Step, Steps}
 use Rattle.es_steps.specs.Steps.Spot.{at_beside, at_list, at_trees}
@@ -27,8 +27,8 @@ use Rattle.es_steps.proofs.FormRules.{AtNodes, both-form, lawful-in, on-form}
 use Rattle.es_steps.proofs.FormSteps.{tree-left}
 use Rattle.es_steps.proofs.Opened.{finished-opened}
 use Rattle.es_steps.proofs.Taken.{this_in}
-use Rattle.es_valid_steps.proofs.FurtherForms.{catch-nodes, spread-nodes}
-use Rattle.es_valid_steps.proofs.FurtherSteps.{alone, alone-form, alone-written, apart}
+use Rattle.es_valid_steps.proofs.FurtherForms.{catch-nodes}
+use Rattle.es_valid_steps.proofs.FurtherSteps.{alone, alone-form, alone-written, apart, object-nodes}
 use Rattle.es_valid_steps.proofs.ProgramLists.{ProgramExported, program-exported}
 use Rattle.es_valid_steps.proofs.ProgramLists.ProgramExported.{at_list as in_the_list}
 use Rattle.es_valid_steps.proofs.Spread.{finished-spread, spread, spread-opened}
@@ -71,7 +71,7 @@ alone-lists o n s s' p q x y a b ts us (inl (inl r)) = r
 alone-lists o n s s' p q x y a b ts us (inl (inr (inl r))) = absurd (wrap-nodes o n s s' (at_list p x a ts) (at_list q y b us) r)
 alone-lists o n s s' p q x y a b ts us (inl (inr (inr r))) = absurd (rows-nodes o n s s' (at_list p x a ts) (at_list q y b us) r)
 alone-lists o n s s' p q x y a b ts us (inr (inl r)) = absurd (on-nodes o.es2019.optional_catch_binding CatchRule catch-nodes n s s' (at_list p x a ts) (at_list q y b us) r)
-alone-lists o n s s' p q x y a b ts us (inr (inr r)) = absurd (on-nodes (is_some o.es2018.object_rest_spread) (Replacing SpreadRule) spread-nodes n s s' (at_list p x a ts) (at_list q y b us) r)
+alone-lists o n s s' p q x y a b ts us (inr (inr r)) = absurd (on-nodes (is_some o.es2018.object_rest_spread) ObjectRule object-nodes n s s' (at_list p x a ts) (at_list q y b us) r)
 
 pub arrows-wide : (o : EnvOptions) → WideLawful (arrows_alone o)
 arrows-wide o = both-form (lawful-in this_named (alone o) (alone-form o) (alone-lists o)) (on-form (is_some o.es2015.arrow_function) ArrowRule arrow-wide-form)

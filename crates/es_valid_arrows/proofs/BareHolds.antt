@@ -11,7 +11,8 @@ use Rattle.es_tree.specs.declared.ast_type.AstType.{AstType}
 use Rattle.es_tree.specs.declared.ast_type.AstType.TheVariants.{AssignmentExpression, BinaryExpression, ChainExpression, LogicalExpression, MemberExpression, ObjectTarget}
 use Rattle.es_tree.specs.declared.options.EnvOptions.{EnvOptions}
 use Rattle.es_steps.specs.Slots.{closes, holds, holds_field, holds_fields, holds_trees}
-use Rattle.es_steps.specs.WrapRule.{is_member_target, is_rest_target, is_wrapped_for}
+use Rattle.es_tree.specs.RestTargets.{is_rest_target}
+use Rattle.es_steps.specs.WrapRule.{is_member_target, is_wrapped_for}
 use Rattle.es_steps.proofs.BridgeTrees.{without_parens-bare}
 
 -- FIELDS

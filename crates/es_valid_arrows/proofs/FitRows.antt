@@ -1,9 +1,9 @@
 -- Rows leave arrows that can become functions: what a row makes consists of parts of what stood there and of made nodes of other kinds.
 use Rattle.std.proofs.Common.{◌≡◌, ℕ, refl, sym, subst, List, [], ◌∷◌, ◌++◌, true≢false}
-use Rattle.std.specs.Prelude.{◌&&◌, ◌||◌, not, Bool, true, false, Option, Some, None}
+use Rattle.std.specs.Prelude.{◌&&◌, ◌||◌, not, Bool, true, false, Option, Some, None, map}
 use Rattle.std.proofs.lemmas.Bool.{and_right, or_from}
 use Rattle.es_tree.specs.Parens.{without_parens}
-use Rattle.es_tree.specs.Tree.{Tree, node, Label, Fields, Trees, trees, kind_of}
+use Rattle.es_tree.specs.Tree.{Tree, node, Label, Fields, one, fields, Trees, empty, ◌before◌, trees, kind_of}
 use Rattle.es_tree.specs.declared.ast_type.AstType.{AstType}
 use Rattle.es_tree.specs.declared.ast_type.AstType.TheVariants.{ObjectProperty, Super, ThisExpression, UnaryExpression}
 use Rattle.es_tree.specs.declared.options.EnvOptions.{EnvOptions}
@@ -32,11 +32,15 @@ use Rattle.es_steps.specs.OptionalChaining.OptionalChainingRule.{as_callee, by_t
 use Rattle.es_steps.specs.OptionalChaining.Receives.{by_name, by_temporary as received_by_temporary, by_this}
 use Rattle.es_steps.specs.OptionalChaining.Tested.{as_name, in_holder, in_temporary}
 use Rattle.es_steps.specs.OptionalChaining.Walked.{base, marked_call, marked_member, plain_call, plain_member}
+use Rattle.es_steps.specs.RestAssignments.{RestAssignmentRule, is_unused}
+use Rattle.es_steps.specs.RestAssignments.RestAssignmentRule.{assigns}
 use Rattle.es_steps.specs.Steps.{Site, Whole}
+use Rattle.es_steps.proofs.RestParts.{EachAmong, EachTree}
+use Rattle.es_arrow_steps.proofs.RestNodes.{NodesRight, row-right}
 use Rattle.es_valid_steps.specs.ArrowNodes.{is_arrow_accessor, is_this_within}
 use Rattle.es_conditions.proofs.Marks.{first-of}
 use Rattle.es_valid_arrows.specs.ArrowPlaces.{is_outer}
-use Rattle.es_valid_arrows.proofs.Fits.{ArrowsFit, ArrowsFitAll}
+use Rattle.es_valid_arrows.proofs.Fits.{ArrowsFit, ArrowsFitAll, ArrowsFitIn}
 use Rattle.es_valid_arrows.proofs.FitTrees.{appended-fit, inner-fit, is_settled}
 
 -- no test of a node asks where it stood
@@ -264,3 +268,37 @@ module _ (options : EnvOptions) (arrow reaches : Bool) where
   pub spreading-fit : RowFit SpreadRule
   spreading-fit n w bs t u (spreads {m = m} {ps = ps} {u = v} unbound used some quiet d) h =
       placed-fit m v (copies-fit _ None [] ps v d (refl, ((refl, tt), ((refl, tt), tt))) tt tt h.1.0)
+
+  -- RESTS IN ASSIGNMENTS
+
+  each-fit : (ts : List Tree) → EachTree Fit ts → FitAll (trees ts)
+  each-fit [] h = tt
+  each-fit (t ∷ ts) h = (h.0, each-fit ts h.1)
+
+  elements-fit : (ts : List Tree) → EachTree Fit ts → ArrowsFitIn options (λ i f. arrow) (λ i. false) (λ i. reaches) (fields (map one ts))
+  elements-fit [] h = tt
+  elements-fit (t ∷ ts) h = (h.0, elements-fit ts h.1)
+
+  nodes-fit : NodesRight Fit
+  nodes-fit = record {
+    name = λ x. (refl, tt);
+    text = λ x. (refl, tt);
+    member = λ o x h. (refl, (h, ((refl, tt), tt)));
+    array = λ ts h. (refl, elements-fit ts h);
+    object = (refl, (tt, tt));
+    call = λ f ts h k. (refl, (h, (each-fit ts k, tt)));
+    sequence = λ m ts h. (refl, (each-fit ts h, tt));
+    assignment = λ t e d h k. (refl, (h, (k, tt)));
+    group = λ l ps d h. (refl, (each-fit ps h, tt));
+    key = λ l k v h. h.1.0;
+    keyed = λ l k v x h. (refl, ((refl, tt), h.1.1));
+    rest = λ l t h. h.1.0;
+  }
+
+  among-fit : (ps : Trees) → FitAll ps → EachAmong Fit ps
+  among-fit empty h = tt
+  among-fit (p before ps) h = (h.0, among-fit ps h.1)
+
+  pub assigning_rest-fit : RowFit RestAssignmentRule
+  assigning_rest-fit n w bs t u (assigns {m = m} {lp = lp} {ps = ps} {e = e} {x = x} {xs = xs} {us = us} unbound used texts silent next takes) h =
+      record { fit = row-right Fit nodes-fit _ lp m ps e x xs us (is_unused n.above) takes (among-fit ps h.1.0.1.0) h.1.1.0; kind = refl }

@@ -27,6 +27,8 @@ use Rattle.es_steps.specs.OptionalCatch.{CatchRule}
 use Rattle.es_steps.specs.OptionalCatch.CatchRule.{catches}
 use Rattle.es_steps.specs.OptionalChaining.{OptionalChainingRule}
 use Rattle.es_steps.specs.OptionalChaining.OptionalChainingRule.{by_tests, as_callee, in_delete}
+use Rattle.es_steps.specs.RestAssignments.{RestAssignmentRule}
+use Rattle.es_steps.specs.RestAssignments.RestAssignmentRule.{assigns}
 use Rattle.es_steps.specs.Rules.{Replacing, Writing, either_rule, next_name}
 use Rattle.es_steps.specs.Rules.Replacing.{replaces}
 use Rattle.es_steps.specs.Slots.{holds, is_in_parameter, is_slot}
@@ -43,9 +45,9 @@ use Rattle.es_conditions.proofs.Unwrapped.{name-holds, no-nullish, two-hold-none
 use Rattle.es_conditions.proofs.Wraps.{arrow-holds}
 use Rattle.es_valid_arrows.proofs.Fits.{ArrowsFit, ArrowsFitAll}
 use Rattle.es_valid_arrows.proofs.ArrowSteps.{arrows_alone}
-use Rattle.es_valid_arrows.proofs.FitRows.{Replaced, RowFit, assigning-fit, chaining-fit, coalescing-fit, raising-fit, spreading-fit}
+use Rattle.es_valid_arrows.proofs.FitRows.{Replaced, RowFit, assigning-fit, chaining-fit, coalescing-fit, raising-fit, spreading-fit, assigning_rest-fit}
 use Rattle.es_valid_arrows.proofs.FitTrees.{FitSeen, anywhere, anywhere-all, apart-fits, is_settled, lower, lower-all, settled-pattern, settled-seen, settled-this, settled-unseen}
-use Rattle.es_valid_arrows.proofs.HeldRows.{None_of, RowHeld, assigning-held, chaining-held, coalescing-held, raising-held, spreading-held}
+use Rattle.es_valid_arrows.proofs.HeldRows.{None_of, RowHeld, assigning-held, chaining-held, coalescing-held, raising-held, spreading-held, assigning_rest-held}
 use Rattle.es_valid_arrows.proofs.HeldTrees.{identifier-none}
 use Rattle.es_valid_arrows.proofs.Nested.{edges-nested, nested}
 use Rattle.es_valid_arrows.proofs.WrappedParts.{SeenAlike, unseen-alike}
@@ -130,6 +132,9 @@ module _ (o : EnvOptions) where
 
   spreading-kind : (n : Site) (w : Whole) (bs : List Bound) (t u : Tree) → SpreadRule n w bs t u → is_settled (kind_of t) ≡ true
   spreading-kind n w bs t u (spreads unbound used some quiet d) = refl
+
+  assigning_rest-kind : (n : Site) (w : Whole) (bs : List Bound) (t u : Tree) → RestAssignmentRule n w bs t u → is_settled (kind_of t) ≡ true
+  assigning_rest-kind n w bs t u (assigns unbound used texts silent next takes) = refl
 
   -- what is in a slot that is wrapped belongs to an arrow already
   wrap-fits : FitLawful o (WrapRule o)
@@ -222,7 +227,7 @@ module _ (o : EnvOptions) where
       (on-fits o.es2016.exponentiation_operator _ (λ on. core-row ExponentiationRule raising-kind (λ b r. raising-fit o b r) (raising-held o on))))))
 
   alone-fits : FitLawful o (alone o)
-  alone-fits = both-fits under-fits (both-fits (on-fits o.es2019.optional_catch_binding _ (λ on. catch-fits)) (on-fits (is_some o.es2018.object_rest_spread) _ (λ on. row-fits SpreadRule SpreadRule (λ n w bs t u h. h) spreading-kind (λ b r. spreading-fit o b r) (spreading-held o))))
+  alone-fits = both-fits under-fits (both-fits (on-fits o.es2019.optional_catch_binding _ (λ on. catch-fits)) (on-fits (is_some o.es2018.object_rest_spread) _ (λ on. both-fits (row-fits SpreadRule SpreadRule (λ n w bs t u h. h) spreading-kind (λ b r. spreading-fit o b r) (spreading-held o)) (core-row RestAssignmentRule assigning_rest-kind (λ b r. assigning_rest-fit o b r) (assigning_rest-held o on)))))
 
   pub arrows-fit : FitLawful o (arrows_alone o)
   arrows-fit = both-fits alone-fits (on-fits (is_some o.es2015.arrow_function) _ (λ on. arrow-fits))

@@ -1,12 +1,12 @@
 -- Rows leave nothing that a slot is wrapped for where nothing was.
 use Rattle.std.proofs.Common.{◌≡◌, refl, ap, subst, ◌∙◌, List, [], ◌∷◌, ◌++◌}
-use Rattle.std.specs.Prelude.{◌||◌, Bool, true, false, Option, Some, None, codes}
+use Rattle.std.specs.Prelude.{◌||◌, Bool, true, false, Option, Some, None, codes, is_some}
 use Rattle.std.proofs.lemmas.Bool.{or_from, or_right}
 use Rattle.es_tree.specs.Constructs.{is_private_member}
 use Rattle.es_tree.specs.HasForm.{has_form}
 use Rattle.es_tree.specs.Tree.{Tree, node, Label, Fields, done, ◌then◌, Field, one, many, Trees, fields_of, kind_of, trees}
 use Rattle.es_tree.specs.declared.ast_type.AstType.{AstType}
-use Rattle.es_tree.specs.declared.ast_type.AstType.TheVariants.{AssignmentExpression, BinaryExpression, CallExpression, ChainExpression, Identifier, LogicalExpression, MemberExpression, ObjectExpression, SpreadElement, UnaryExpression}
+use Rattle.es_tree.specs.declared.ast_type.AstType.TheVariants.{AssignmentExpression, BinaryExpression, CallExpression, ChainExpression, Identifier, LogicalExpression, MemberExpression, ObjectExpression, ObjectTarget, SpreadElement, UnaryExpression}
 use Rattle.es_tree.specs.declared.options.EnvOptions.{EnvOptions}
 use Rattle.es_tree.specs.declared.table.Sort.{Sort}
 use Rattle.es_tree.specs.declared.table.Sort.TheVariants.{AssignmentTarget as s-AssignmentTarget, Expression as s-Expression}
@@ -17,7 +17,7 @@ use Rattle.es_steps.specs.Exponentiation.{ExponentiationRule}
 use Rattle.es_steps.specs.Exponentiation.ExponentiationRule.{power, power_assignment}
 use Rattle.es_steps.specs.LogicalAssignment.{LogicalAssignmentRule}
 use Rattle.es_steps.specs.LogicalAssignment.LogicalAssignmentRule.{to_computed_member, to_name, to_static_member}
-use Rattle.es_steps.specs.Nodes.{call_node, made, object_node, placed}
+use Rattle.es_steps.specs.Nodes.{call_node, identifier, made, object_node, placed}
 use Rattle.es_steps.specs.NullishCoalescing.{NullishCoalescingRule}
 use Rattle.es_steps.specs.NullishCoalescing.NullishCoalescingRule.{reading_again, with_temporary}
 use Rattle.es_steps.specs.ObjectRest.{helper_node}
@@ -26,6 +26,8 @@ use Rattle.es_steps.specs.ObjectSpread.Copies.{copies, keeps, no_more}
 use Rattle.es_steps.specs.ObjectSpread.SpreadRule.{spreads}
 use Rattle.es_steps.specs.OptionalChaining.{OptionalChainingRule}
 use Rattle.es_steps.specs.OptionalChaining.OptionalChainingRule.{as_callee, by_tests, in_delete}
+use Rattle.es_steps.specs.RestAssignments.{RestAssignmentRule}
+use Rattle.es_steps.specs.RestAssignments.RestAssignmentRule.{assigns}
 use Rattle.es_steps.specs.Slots.{closes, holds, holds_field, holds_fields, holds_trees}
 use Rattle.es_steps.specs.Steps.{Site, Whole}
 use Rattle.es_steps.specs.WrapRule.{is_wrapped_for}
@@ -33,12 +35,13 @@ use Rattle.es_steps.proofs.FormMembers.{member-form}
 use Rattle.es_steps.proofs.FormParts.{formed-bare}
 use Rattle.es_steps.proofs.FormRows.{two-parts}
 use Rattle.es_steps.proofs.FormSorts.{form-narrower}
+use Rattle.es_steps.proofs.RestParts.{pattern-rest}
 use Rattle.es_conditions.proofs.Assigning.{a-member, expression-name, member-holds, name-none, no-private, right-none, where-holds}
 use Rattle.es_conditions.proofs.ChainRows.{inside-holds}
 use Rattle.es_conditions.proofs.Coalescing.{coalescing-holds}
 use Rattle.es_conditions.proofs.Marks.{first-of, second-of}
 use Rattle.es_conditions.proofs.Powers.{assignment-holds, call-holds}
-use Rattle.es_conditions.proofs.Unwrapped.{chain-holds, either-way, no-nullish, static-holds, two-hold-none, unwrapped}
+use Rattle.es_conditions.proofs.Unwrapped.{chain-holds, either-way, no-nullish, rest-holds, static-holds, two-hold-none, unwrapped}
 
 module _ (o : EnvOptions) where
   abbrev pub None_of : Tree → Type 0
@@ -147,3 +150,10 @@ module _ (o : EnvOptions) where
   pub spreading-held : RowHeld SpreadRule
   spreading-held n w bs s t u (spreads {m = m} {ps = ps} {u = v} unbound used some quiet d) f none =
       placed-none m v (copies-none None [] ps v d tt refl (first-of (holds_trees (is_wrapped_for o) ps) false (second-of (is_wrapped_for o ObjectExpression m (many ps then done)) _ none)))
+
+  -- RESTS IN ASSIGNMENTS
+
+  -- that is wrapped for
+  pub assigning_rest-held : is_some o.es2018.object_rest_spread ≡ true → RowHeld RestAssignmentRule
+  assigning_rest-held on n w bs s t u (assigns {m = m} {lp = lp} {ps = ps} {e = e} {x = x} {xs = xs} {us = us} unbound used texts silent next takes) f none =
+      absurd (neither t (rest-holds o AssignmentExpression m (one (node ObjectTarget lp (many ps then done)) then one e then done) (rw (on, pattern-rest (identifier x) lp _ ps xs us takes) refl)) none)

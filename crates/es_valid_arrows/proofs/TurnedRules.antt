@@ -18,6 +18,7 @@ use Rattle.es_steps.specs.Steps.Spot.{at_node}
 use Rattle.es_valid_steps.specs.PlaceRules.{Keeps}
 use Rattle.es_valid_steps.proofs.Changed.Changed.{function, named}
 use Rattle.es_valid_steps.proofs.FurtherRows.{catch-lawful, spread-lawful}
+use Rattle.es_valid_steps.proofs.RestAssignmentPlaces.{rest-assignment-lawful}
 use Rattle.es_valid_steps.proofs.FurtherSteps.{alone}
 use Rattle.es_valid_steps.proofs.PlaceRows.{NodeKept, PlaceLawful, both-lawful, on-lawful, under-lawful}
 use Rattle.es_valid_steps.proofs.Slots.{SlotHead}
@@ -51,7 +52,7 @@ module _ (o : EnvOptions) where
   arrows-turned = record { at_nodes = nodes }
     where
       others : TurnedLawful o (alone o)
-      others = other-turned (alone o) (both-lawful (under-lawful o) (both-lawful (on-lawful o.es2019.optional_catch_binding _ catch-lawful) (on-lawful (is_some o.es2018.object_rest_spread) _ spread-lawful)))
+      others = other-turned (alone o) (both-lawful (under-lawful o) (both-lawful (on-lawful o.es2019.optional_catch_binding _ catch-lawful) (on-lawful (is_some o.es2018.object_rest_spread) _ (both-lawful spread-lawful rest-assignment-lawful))))
 
       on-turned : (b : Bool) → TurnedLawful o (where_on b ArrowRule)
       on-turned true = arrow-turned

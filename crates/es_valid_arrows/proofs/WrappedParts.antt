@@ -8,7 +8,8 @@ use Rattle.es_tree.specs.Tree.{Tree, node, Label, Fields, done, ◌then◌, Fiel
 use Rattle.es_tree.specs.declared.ast_type.AstType.{AstType}
 use Rattle.es_tree.specs.declared.ast_type.AstType.TheVariants.{AssignmentExpression, BigIntLiteral, MemberExpression, ObjectTarget, ParenthesizedExpression, PrivateIdentifier, RestElement, TargetRest}
 use Rattle.es_tree.specs.declared.options.EnvOptions.{EnvOptions}
-use Rattle.es_steps.specs.WrapRule.{is_member_target, is_rest_target, is_wrapped_for, takes_for_target}
+use Rattle.es_tree.specs.RestTargets.{is_rest_target}
+use Rattle.es_steps.specs.WrapRule.{is_member_target, is_wrapped_for, takes_for_target}
 
 -- a field that nodes around see as before
 pub record SeenAlike (f g : Field) : Type 0 where

@@ -1,5 +1,5 @@
 -- What each rule keeps of the rules of declared names, in one statement for a set of rules.
-use Rattle.std.proofs.Common.{◌≡◌, ℕ, suc, inl, inr, refl, sym, ap, subst, ◌∙◌, List, [], ◌∷◌, ◌++◌}
+use Rattle.std.proofs.Common.{◌≡◌, inl, inr, refl, sym, ap, subst, ◌∙◌, List, [], ◌∷◌, ◌++◌}
 use Rattle.std.specs.Prelude.{◌⊎◌, Bool, true, false, ◌&&◌, Option, Some, is_some}
 use Rattle.es_tree.specs.Ancestors.{Ancestor}
 use Rattle.es_tree.specs.Constructs.{field_at}
@@ -7,7 +7,7 @@ use Rattle.es_tree.specs.DeclaredNames.{Name, declared, name}
 use Rattle.es_tree.specs.HasForm.{has_form, same_type}
 use Rattle.es_tree.specs.Names.{first_text}
 use Rattle.es_tree.specs.StaticRules.{is_constructor_key}
-use Rattle.es_tree.specs.Tree.{Tree, node, Label, Fields, done, ◌then◌, missing, one, many, empty, kind_of}
+use Rattle.es_tree.specs.Tree.{Tree, node, Label, done, ◌then◌, missing, one, many, empty, kind_of}
 use Rattle.es_tree.specs.Words.{Text}
 use Rattle.es_tree.specs.declared.ast_type.AstType.{AstType}
 use Rattle.es_tree.specs.declared.ast_type.AstType.TheVariants.{ArrowFunctionExpression, AssignmentExpression, BinaryExpression, BlockStatement, CallExpression, CatchClause, ChainExpression, ClassDeclaration, ConditionalExpression, ExportDefaultDeclaration, ExportSpecifier, FunctionDeclaration, Identifier, LogicalExpression, MethodDefinition, ObjectExpression, PrivateIdentifier, Program, PropertyDefinition, SequenceExpression, StringLiteral, UnaryExpression}
@@ -33,12 +33,15 @@ use Rattle.es_steps.specs.OptionalCatch.{CatchRule}
 use Rattle.es_steps.specs.OptionalCatch.CatchRule.{catches}
 use Rattle.es_steps.specs.OptionalChaining.{OptionalChainingRule}
 use Rattle.es_steps.specs.OptionalChaining.OptionalChainingRule.{by_tests, as_callee, in_delete}
+use Rattle.es_steps.specs.RestAssignments.{RestAssignmentRule}
+use Rattle.es_steps.specs.RestAssignments.RestAssignmentRule.{assigns}
 use Rattle.es_steps.specs.Rules.{Replacing, Writing, also_all, either_rule}
 use Rattle.es_steps.specs.Rules.Replacing.{replaces}
 use Rattle.es_steps.specs.Slots.{holds, is_slot}
 use Rattle.es_steps.specs.Steps.{Whole, Ledger, Site, Spot}
 use Rattle.es_steps.specs.Steps.Spot.{at_node}
-use Rattle.es_steps.specs.WrapRule.{OutsideSlots, WrapRule, called_arrow, is_rest_target, is_wrapped_for, takes_for_target}
+use Rattle.es_tree.specs.RestTargets.{is_rest_target}
+use Rattle.es_steps.specs.WrapRule.{OutsideSlots, WrapRule, called_arrow, is_wrapped_for, takes_for_target}
 use Rattle.es_steps.specs.WrapRule.WrapRule.{wraps}
 use Rattle.es_steps.proofs.Assigns.{assigning-makes}
 use Rattle.es_steps.proofs.Chains.{chaining-makes}
@@ -47,15 +50,17 @@ use Rattle.es_steps.proofs.FormRules.{no-names}
 use Rattle.es_steps.proofs.Kept.{Each}
 use Rattle.es_steps.proofs.Made.{Makes}
 use Rattle.es_steps.proofs.Raises.{raising-makes}
+use Rattle.es_steps.proofs.RestAssignments.{assigning_rest-makes}
 use Rattle.es_steps.proofs.RuleLaws.{used-after, writes-lists}
 use Rattle.es_steps.proofs.Spreads.{spread-makes}
 use Rattle.es_steps.proofs.Taken.{pending_in, this_in, top_in, whole_in}
 use Rattle.es_steps.proofs.Temporaries.{AreTaken, each-map, taken-found, taken-fresh}
 use Rattle.es_valid_steps.proofs.FurtherSteps.{alone}
-use Rattle.es_valid_names.proofs.Claims.{Around, Clear, ClearBy, ClearIn, Distinct, Stand, above, around_in, claims, claims_in, elsewhere, in_body, is_owned, stand_in}
+use Rattle.es_valid_names.proofs.Claims.{Around, Clear, Distinct, Stand, above, claims, claims_in, elsewhere, is_owned}
 use Rattle.es_valid_names.proofs.ClearRows.{assigning-clear, chaining-clear, coalescing-clear, raising-clear, spread-kind, spreading-clear}
 use Rattle.es_valid_names.proofs.Grown.{Grown, new_list, grown-self, never, or-none, still-apart}
-use Rattle.es_valid_names.proofs.MoreAround.{Allows, clear-more}
+use Rattle.es_valid_names.proofs.MoreAround.{Allows, clear-more, moved-in}
+use Rattle.es_valid_names.proofs.RestAssignmentNames.{assigning-rest-clear}
 use Rattle.es_valid_names.proofs.Mute.{Free, expression-kind, free-exported, is_member, is_outer, mute-expression}
 
 -- WHAT A RULE LEAVES
@@ -213,15 +218,6 @@ no-construct o l =
     (and-none (o.es2021.logical_assignment_operators && false) (takes_for_target o l done) (never o.es2021.logical_assignment_operators false refl)))
     (and-none (is_some o.es2018.object_rest_spread && false) (is_rest_target (field_at 0 done)) (never (is_some o.es2018.object_rest_spread) false refl))
 
--- another place, for what isn't asked where it stands
-stand-same : (st st' : Stand) (k : AstType) (all : Fields) (i : ℕ) → same_type k ExportSpecifier ≡ false → stand_in st k all i ≡ stand_in st' k all i
-stand-same st st' ExportSpecifier all i e = absurd (cc e)
-stand-same st st' _ all i e = refl
-
-moved-in : (c : Around) (gs : List (List Name)) (st st' : Stand) (k : AstType) (all : Fields) (i : ℕ) (fs : Fields) → same_type k ExportSpecifier ≡ false → ClearIn c gs st k all i fs → ClearIn c gs st' k all i fs
-moved-in c gs st st' k all i done e h = tt
-moved-in c gs st st' k all i (f then fs) e h = (subst (λ (s : Stand). ClearBy (around_in c (in_body k i) gs) s f) (stand-same st st' k all i e) h.0, moved-in c gs st st' k all (suc i) fs e h.1)
-
 -- an expression that holds a construct
 record Wrapped (t : Tree) : Type 0 where
   member : is_member (kind_of t) ≡ false
@@ -328,8 +324,14 @@ chains-names no_all = core-row (OptionalChainingRule no_all) (chaining-makes no_
 spread-names : NameLawful (Replacing SpreadRule)
 spread-names = row-names SpreadRule SpreadRule (λ n w bs t u h. h) spread-makes spreading-kinds (λ c st. spreading-clear c st)
 
+assigning-rest-kinds : (n : Site) (w : Whole) (bs : List Bound) (t u : Tree) → RestAssignmentRule n w bs t u → RowKinds t u
+assigning-rest-kinds n w bs t u (assigns unbound used texts silent next takes) = record { old = refl; left = refl }
+
+assigns-rest-names : NameLawful (RowRule RestAssignmentRule)
+assigns-rest-names = core-row RestAssignmentRule assigning_rest-makes assigning-rest-kinds (λ c st. assigning-rest-clear c st)
+
 under-names : (o : EnvOptions) → NameLawful (rule_under o)
 under-names o = both-names writing-names (both-names (wrap-names o) (both-names (on-names o.es2021.logical_assignment_operators _ assigns-names) (both-names (both-names (on-names o.es2020.nullish_coalescing_operator _ coalesces-names) (on-names o.es2020.optional_chaining _ (chains-names o.assumptions.no_document_all))) (on-names o.es2016.exponentiation_operator _ raises-names))))
 
 pub alone-names : (o : EnvOptions) → NameLawful (alone o)
-alone-names o = both-names (under-names o) (both-names (on-names o.es2019.optional_catch_binding _ catch-names) (on-names (is_some o.es2018.object_rest_spread) _ spread-names))
+alone-names o = both-names (under-names o) (both-names (on-names o.es2019.optional_catch_binding _ catch-names) (on-names (is_some o.es2018.object_rest_spread) _ (both-names spread-names assigns-rest-names)))

@@ -1,4 +1,4 @@
--- Steps of the core rules, of optional catch, namespace exports and object spread break no rule of declared names.
+-- Steps of the core rules, of optional catch, namespace exports and object spread, and of rests in assignments break no rule of declared names.
 use Rattle.std.proofs.Common.{◌≡◌, refl, sym, ap, subst, ◌∙◌, [], ◌∷◌}
 use Rattle.std.specs.Prelude.{true}
 use Rattle.std.proofs.lemmas.Bool.{and_parts}

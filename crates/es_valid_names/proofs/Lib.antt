@@ -4,6 +4,7 @@ pub mod Grown
 pub mod MoreAround
 pub mod OneMore
 pub mod ClearRows
+pub mod RestAssignmentNames
 pub mod ClearRules
 pub mod ClearPending
 pub mod ClearNodes

@@ -1,13 +1,14 @@
 -- What keeps the rules keeps them where more names are in use, and more are declared around.
-use Rattle.std.proofs.Common.{◌≡◌, ℕ, suc, refl, List, [], ◌∷◌, ◌++◌}
+use Rattle.std.proofs.Common.{◌≡◌, ℕ, suc, refl, subst, List, [], ◌∷◌, ◌++◌}
 use Rattle.std.specs.Prelude.{Bool, true, false, not, ◌&&◌, ◌||◌}
 use Rattle.std.specs.List.{list_any}
 use Rattle.es_tree.specs.DeclaredNames.{Name, is_same_name}
+use Rattle.es_tree.specs.HasForm.{same_type}
 use Rattle.es_tree.specs.Names.{first_text}
 use Rattle.es_tree.specs.Tree.{Tree, node, Label, Fields, done, ◌then◌, Field, missing, one, many, statements, Trees, empty, ◌before◌}
 use Rattle.es_tree.specs.Words.{Text}
 use Rattle.es_tree.specs.declared.ast_type.AstType.{AstType}
-use Rattle.es_tree.specs.declared.ast_type.AstType.TheVariants.{Identifier, PrivateIdentifier}
+use Rattle.es_tree.specs.declared.ast_type.AstType.TheVariants.{ExportSpecifier, Identifier, PrivateIdentifier}
 use Rattle.es_tree.specs.declared.place.Namespace.TheVariants.{PrivateNames}
 use Rattle.es_valid_names.proofs.Claims.{Around, Clear, ClearAll, ClearBy, ClearIn, OwnClear, Stand, around_in, has_private, in_body, is_key, is_local, is_owner, is_plain, is_wrong, joined, owned, stand_in}
 use Rattle.es_valid_names.proofs.Grown.{Grown, no_list, same_list, new_list, still-distinct}
@@ -97,3 +98,15 @@ mutual
   pub clear-more-all : (c d : Around) → Allows c d → (s : Stand) (ts : Trees) → ClearAll c s ts → ClearAll d s ts
   clear-more-all c d h s empty e = tt
   clear-more-all c d h s (t before ts) e = (clear-more c d h s t e.0, clear-more-all c d h s ts e.1)
+
+-- another place, where nothing in the fields is asked where the node stands
+pub moved-where : (c : Around) (gs : List (List Name)) (st st' : Stand) (k : AstType) (all : Fields) (i : ℕ) (fs : Fields) → ((i : ℕ) → stand_in st k all i ≡ stand_in st' k all i) → ClearIn c gs st k all i fs → ClearIn c gs st' k all i fs
+moved-where c gs st st' k all i done e h = tt
+moved-where c gs st st' k all i (f then fs) e h = (subst (λ (s : Stand). ClearBy (around_in c (in_body k i) gs) s f) (e i) h.0, moved-where c gs st st' k all (suc i) fs e h.1)
+
+stand-same : (st st' : Stand) (k : AstType) → same_type k ExportSpecifier ≡ false → (all : Fields) (i : ℕ) → stand_in st k all i ≡ stand_in st' k all i
+stand-same st st' ExportSpecifier e all i = absurd (cc e)
+stand-same st st' _ e all i = refl
+
+pub moved-in : (c : Around) (gs : List (List Name)) (st st' : Stand) (k : AstType) (all : Fields) (i : ℕ) (fs : Fields) → same_type k ExportSpecifier ≡ false → ClearIn c gs st k all i fs → ClearIn c gs st' k all i fs
+moved-in c gs st st' k all i fs e h = moved-where c gs st st' k all i fs (stand-same st st' k e all) h

@@ -24,8 +24,8 @@ pub fn law_bare_names()
     ensures { LawBareNames }
 {}
 
-/// Whatever steps of the core rules, of optional catch, namespace exports and object spread are taken, as options ask for them, from a program that has
-/// form and breaks none of the three: with all that is pending written no scope and no class declares a name twice where it may not, and
+/// Whatever steps of the core rules, of optional catch, namespace exports and object spread, and of rests in assignments are taken, as options ask for
+/// them, from a program that has form and breaks none of the three: with all that is pending written no scope and no class declares a name twice where it may not, and
 /// what a class has is right.
 pub fn law_names()
     ensures { LawNames }

@@ -57,7 +57,7 @@ may-move w a b = record {
 parameter-steps : (w : Whole) → IsFreshName w.in_use (codes "ref") (codes "_ref") → w.in_use (codes "a") ≡ true → w.in_use (codes "b") ≡ true → Leads RestPart w (the_ref w) (program_of (codes "script") (with_parameter ∷ [])) (program_of (codes "script") (parameter_moved w ∷ []))
 parameter-steps w f a b =
     let moved = moves_one empty empty empty empty (trees (called_with_rest ∷ [])) (made [] []) rest_members rest_pattern (identifier (the_ref w)) refl refl alone (may-move w a b) in
-    goes (inside (in_later (in_first (in_program refl (in_head (acts with_parameter (parameter_moved w) (inr (inr (inr (inr (in_declaration f named moved))))))))))) stays
+    goes (inside (in_later (in_first (in_program refl (in_head (acts with_parameter (parameter_moved w) (inr (inr (inr (inr (inr (in_declaration f named moved)))))))))))) stays
 
 silent-word : (v : Bool) → declared v reads (word (codes "s")) ≡ []
 silent-word true = refl

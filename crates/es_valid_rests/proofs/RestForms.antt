@@ -5,20 +5,22 @@ use Rattle.std.proofs.lemmas.Bool.{and_from, and_parts}
 use Rattle.es_tree.specs.Attributes.{text_entries, texts_fit}
 use Rattle.es_tree.specs.HasForm.{has_form, is_of_sort}
 use Rattle.es_tree.specs.Names.{first_text}
+use Rattle.es_tree.specs.RestTargets.{is_rest_target}
 use Rattle.es_tree.specs.Tree.{Tree, node, Label, Fields, done, ◌then◌, missing, one, many, statements, empty, ◌before◌}
 use Rattle.es_tree.specs.Words.{Text}
 use Rattle.es_tree.specs.declared.ast_type.AstType.{AstType}
-use Rattle.es_tree.specs.declared.ast_type.AstType.TheVariants.{BlockStatement, CatchClause, ForInStatement, ForOfStatement, VariableDeclaration, VariableDeclarator}
+use Rattle.es_tree.specs.declared.ast_type.AstType.TheVariants.{AssignmentExpression, BlockStatement, CatchClause, ExpressionStatement, ForInStatement, ForOfStatement, ObjectTarget, VariableDeclaration, VariableDeclarator}
 use Rattle.es_tree.specs.declared.table.Sort.{Sort}
-use Rattle.es_tree.specs.declared.table.Sort.TheVariants.{Binding as s-Binding, BlockStatement as s-BlockStatement, Expression as s-Expression, ForLeft as s-ForLeft, Statement as s-Statement, VariableDeclarator as s-VariableDeclarator}
+use Rattle.es_tree.specs.declared.table.Sort.TheVariants.{AssignmentTarget as s-AssignmentTarget, Binding as s-Binding, BlockStatement as s-BlockStatement, Expression as s-Expression, ForLeft as s-ForLeft, Statement as s-Statement, VariableDeclarator as s-VariableDeclarator}
 use Rattle.es_tree.proofs.NodeForm.{node_form, has_form-node}
 use Rattle.es_resolution.specs.Declarations.{Bound}
 use Rattle.es_steps.specs.CatchPatterns.{CatchRest}
 use Rattle.es_steps.specs.CatchPatterns.CatchRest.{moves}
-use Rattle.es_steps.specs.LoopHeads.{HeadRest, IsForEach, head_fields, new_head}
+use Rattle.es_steps.specs.LoopHeads.{HeadRest, IsForEach, TargetHead, assigning_head, head_fields, new_head}
 use Rattle.es_steps.specs.LoopHeads.HeadRest.{lexical_head, var_head}
 use Rattle.es_steps.specs.LoopHeads.IsForEach.{for_in, for_of}
-use Rattle.es_steps.specs.Nodes.{block_node, declaration_node, declarator, declarator_with, identifier, made}
+use Rattle.es_steps.specs.LoopHeads.TargetHead.{target_head}
+use Rattle.es_steps.specs.Nodes.{assign_node, block_node, declaration_node, declarator, declarator_with, identifier, made, statement_node}
 use Rattle.es_steps.specs.Patterns.{let_statement}
 use Rattle.es_steps.specs.Rules.{next_name}
 use Rattle.es_steps.specs.Slots.{is_slot}
@@ -28,7 +30,7 @@ use Rattle.es_steps.proofs.CatchRests.{catch-rest-only}
 use Rattle.es_steps.proofs.FormParts.{IsFormed, IsText, formed-name, no-span}
 use Rattle.es_steps.proofs.FormRows.{next-text}
 use Rattle.es_steps.proofs.FormRules.{FormLawful, NodeFormed, no-names, nodes-only}
-use Rattle.es_steps.proofs.Heads.{head-only}
+use Rattle.es_steps.proofs.Heads.{head-only, target-only}
 
 -- SORTS
 
@@ -92,29 +94,35 @@ catch-rest-form = nodes-only CatchRest catch-rest-only nodes
 
 -- HEADS OF LOOPS
 
-pub for-each-form : (k : AstType) (a : Sort) (m l l' : Label) (p e b : Tree) (it : Bound) → IsForEach k → IsText it → has_form a (node k m (head_fields l l' p e b)) ≡ true → has_form a (node k m (new_head (first_text l.texts) it p e b)) ≡ true
-for-each-form k a m l l' p e b it each named h = at k each h
+-- a loop that leaves a declaration of the name in its head, and a block with another statement before its body
+each-form : {k : AstType} → IsForEach k → (a : Sort) (m : Label) (kind : Text) (t u e b : Tree) (it : Bound) → IsText it → (has_form s-ForLeft t ≡ true → IsWord kind × (has_form s-Statement u ≡ true)) → has_form a (node k m (one t then one e then one b then done)) ≡ true →
+    has_form a (node k m (one (declaration_node kind (declarator it ∷ [])) then one e then one (block_node (u before b before empty)) then done)) ≡ true
+each-form each a m kind t u e b it named formed h = at each h
   where
-    head : Tree
-    head = node VariableDeclaration l (many (node VariableDeclarator l' (one p then missing then done) before empty) then done)
-
-    parts : (has_form s-ForLeft head && (has_form s-Expression e && (has_form s-Statement b && true))) ≡ true → (has_form s-ForLeft (declaration_node (first_text l.texts) (declarator it ∷ [])) && (has_form s-Expression e && (has_form s-Statement (block_node (declaration_node (first_text l.texts) (declarator_with p (identifier it) ∷ []) before b before empty)) && true))) ≡ true
+    parts : (has_form s-ForLeft t && (has_form s-Expression e && (has_form s-Statement b && true))) ≡ true → (has_form s-ForLeft (declaration_node kind (declarator it ∷ [])) && (has_form s-Expression e && (has_form s-Statement (block_node (u before b before empty)) && true))) ≡ true
     parts d =
-        let first = and_parts (has_form s-ForLeft head) (has_form s-Expression e && (has_form s-Statement b && true)) d in
+        let first = and_parts (has_form s-ForLeft t) (has_form s-Expression e && (has_form s-Statement b && true)) d in
         let second = and_parts (has_form s-Expression e) (has_form s-Statement b && true) first.1 in
         let third = and_parts (has_form s-Statement b) true second.1 in
-        let declaration = node_form s-ForLeft VariableDeclaration l (many (node VariableDeclarator l' (one p then missing then done) before empty) then done) first.0 in
-        let word = its-word l.texts declaration.texts in
-        let one_declarator = (and_parts (has_form s-VariableDeclarator (node VariableDeclarator l' (one p then missing then done)) && true) true declaration.children).0 in
-        let target = (and_parts (has_form s-Binding p) true (node_form s-VariableDeclarator VariableDeclarator l' (one p then missing then done) (and_parts (has_form s-VariableDeclarator (node VariableDeclarator l' (one p then missing then done))) true one_declarator).0).children).0 in
-        let left = formed-declaration s-ForLeft (first_text l.texts) (declarator it) refl word (bare-declarator it named) in
-        let moved = formed-declaration s-Statement (first_text l.texts) (declarator_with p (identifier it)) refl word (formed-declarator p (identifier it) target (formed-name it named)) in
-        let block = formed-block s-Statement (declaration_node (first_text l.texts) (declarator_with p (identifier it) ∷ [])) b refl moved third.0 in
-        and_from _ _ left (and_from (has_form s-Expression e) _ second.0 (and_from _ true block refl))
+        let moved = formed first.0 in
+        let left = formed-declaration s-ForLeft kind (declarator it) refl moved.0 (bare-declarator it named) in
+        and_from _ _ left (and_from (has_form s-Expression e) _ second.0 (and_from _ true (formed-block s-Statement u b refl moved.1 third.0) refl))
 
-    at : (k : AstType) → IsForEach k → has_form a (node k m (head_fields l l' p e b)) ≡ true → has_form a (node k m (new_head (first_text l.texts) it p e b)) ≡ true
-    at k for_in h = let f = node_form a ForInStatement m (head_fields l l' p e b) h in has_form-node a ForInStatement m (new_head (first_text l.texts) it p e b) (record { sort = f.sort; texts = f.texts; flags = f.flags; start = f.start; stop = f.stop; agree = refl; children = parts f.children })
-    at k for_of h = let f = node_form a ForOfStatement m (head_fields l l' p e b) h in has_form-node a ForOfStatement m (new_head (first_text l.texts) it p e b) (record { sort = f.sort; texts = f.texts; flags = f.flags; start = f.start; stop = f.stop; agree = refl; children = parts f.children })
+    at : {k : AstType} → IsForEach k → has_form a (node k m (one t then one e then one b then done)) ≡ true → has_form a (node k m (one (declaration_node kind (declarator it ∷ [])) then one e then one (block_node (u before b before empty)) then done)) ≡ true
+    at for_in h = let f = node_form a ForInStatement m (one t then one e then one b then done) h in has_form-node a ForInStatement m (one (declaration_node kind (declarator it ∷ [])) then one e then one (block_node (u before b before empty)) then done) (record { sort = f.sort; texts = f.texts; flags = f.flags; start = f.start; stop = f.stop; agree = refl; children = parts f.children })
+    at for_of h = let f = node_form a ForOfStatement m (one t then one e then one b then done) h in has_form-node a ForOfStatement m (one (declaration_node kind (declarator it ∷ [])) then one e then one (block_node (u before b before empty)) then done) (record { sort = f.sort; texts = f.texts; flags = f.flags; start = f.start; stop = f.stop; agree = refl; children = parts f.children })
+
+-- the declaration of a pattern in its head moves
+declared-form : (l l' : Label) (p : Tree) (it : Bound) → IsText it → has_form s-ForLeft (node VariableDeclaration l (many (node VariableDeclarator l' (one p then missing then done) before empty) then done)) ≡ true → IsWord (first_text l.texts) × (has_form s-Statement (declaration_node (first_text l.texts) (declarator_with p (identifier it) ∷ [])) ≡ true)
+declared-form l l' p it named f =
+    let declaration = node_form s-ForLeft VariableDeclaration l (many (node VariableDeclarator l' (one p then missing then done) before empty) then done) f in
+    let word = its-word l.texts declaration.texts in
+    let one_declarator = (and_parts (has_form s-VariableDeclarator (node VariableDeclarator l' (one p then missing then done)) && true) true declaration.children).0 in
+    let target = (and_parts (has_form s-Binding p) true (node_form s-VariableDeclarator VariableDeclarator l' (one p then missing then done) (and_parts (has_form s-VariableDeclarator (node VariableDeclarator l' (one p then missing then done))) true one_declarator).0).children).0 in
+    (word, formed-declaration s-Statement (first_text l.texts) (declarator_with p (identifier it)) refl word (formed-declarator p (identifier it) target (formed-name it named)))
+
+pub for-each-form : (k : AstType) (a : Sort) (m l l' : Label) (p e b : Tree) (it : Bound) → IsForEach k → IsText it → has_form a (node k m (head_fields l l' p e b)) ≡ true → has_form a (node k m (new_head (first_text l.texts) it p e b)) ≡ true
+for-each-form k a m l l' p e b it each named h = each-form each a m (first_text l.texts) _ (declaration_node (first_text l.texts) (declarator_with p (identifier it) ∷ [])) e b it named (declared-form l l' p it named) h
 
 pub head-rest-form : FormLawful HeadRest
 head-rest-form = nodes-only HeadRest head-only nodes
@@ -124,3 +132,31 @@ head-rest-form = nodes-only HeadRest head-only nodes
         record { formed = for-each-form k a m l l' p e b (next_name w x) each (next-text w (codes "ref") (next_name w x) (record { fresh = fresh; symbol = refl })) h; names = record { names = []; texts = tt; pending = no-names q; this = refl; top = refl } }
     nodes n s s' t u a slot (var_head {w = w} {q = q} {k = k} {m = m} {l = l} {l' = l'} {p = p} {e = e} {b = b} {x = x} each holds fresh variable none silent body) h =
         record { formed = for-each-form k a m l l' p e b (next_name w x) each (next-text w (codes "ref") (next_name w x) (record { fresh = fresh; symbol = refl })) h; names = record { names = []; texts = tt; pending = no-names q; this = refl; top = refl } }
+
+-- TARGETS
+
+pub data IsObjectTarget : Tree → Type 0 where
+  object_target : {l : Label} {fs : Fields} → IsObjectTarget (node ObjectTarget l fs)
+
+pub rest-target : (t : Tree) → is_rest_target (one t) ≡ true → IsObjectTarget t
+rest-target (node ObjectTarget l fs) h = object_target
+rest-target (node _ l fs) h = absurd (cc h)
+
+-- `t = x;`
+formed-assigned : (t : Tree) (it : Bound) → IsObjectTarget t → IsText it → has_form s-ForLeft t ≡ true → has_form s-Statement (statement_node (assign_node t (identifier it))) ≡ true
+formed-assigned t it (object_target {l = l} {fs = fs}) named h =
+    let span = no-span [] [] in
+    let equals = no-span (Some (codes "=") ∷ []) [] in
+    let target = at-sort s-ForLeft s-AssignmentTarget ObjectTarget l fs refl h in
+    let assigned = has_form-node s-Expression AssignmentExpression (made (Some (codes "=") ∷ []) []) (one t then one (identifier it) then done) (record { sort = refl; texts = refl; flags = refl; start = equals.start; stop = equals.stop; agree = refl; children = and_from _ _ target (and_from _ true (formed-name it named) refl) }) in
+    has_form-node s-Statement ExpressionStatement (made [] []) (one (assign_node t (identifier it)) then done) (record { sort = refl; texts = refl; flags = refl; start = span.start; stop = span.stop; agree = refl; children = and_from _ true assigned refl })
+
+pub target-form : {k : AstType} (a : Sort) (m : Label) (t e b : Tree) (it : Bound) → IsForEach k → IsObjectTarget t → IsText it → has_form a (node k m (one t then one e then one b then done)) ≡ true → has_form a (node k m (assigning_head it t e b)) ≡ true
+target-form a m t e b it each is named h = each-form each a m (codes "var") t (statement_node (assign_node t (identifier it))) e b it named (λ f. (refl, formed-assigned t it is named f)) h
+
+pub target-head-form : FormLawful TargetHead
+target-head-form = nodes-only TargetHead target-only nodes
+  where
+    nodes : (n : Site) (s s' : Ledger) (t u : Tree) (a : Sort) → (is_slot n.above ≡ true → a ≡ s-Expression) → TargetHead n s (at_node t) s' (at_node u) → has_form a t ≡ true → NodeFormed a s s' u
+    nodes n s s' t u a slot (target_head {w = w} {q = q} {m = m} {t = p} {e = e} {b = b} {x = x} each rest fresh silent quiet body) h =
+        record { formed = target-form a m p e b (next_name w x) each (rest-target p rest) (next-text w (codes "ref") (next_name w x) (record { fresh = fresh; symbol = refl })) h; names = record { names = []; texts = tt; pending = no-names q; this = refl; top = refl } }

@@ -1,25 +1,25 @@
 -- Object rests that are taken in a declaration keep form, where each declarator that is left declares a name or a pattern.
 use Rattle.std.proofs.Common.{◌≡◌, refl, sym, ap, subst, List, [], ◌∷◌, map}
-use Rattle.std.specs.Prelude.{Bool, true, false, ◌&&◌, codes, if◌then◌else◌}
+use Rattle.std.specs.Prelude.{Bool, true, false, ◌&&◌, if◌then◌else◌}
 use Rattle.std.proofs.lemmas.Bool.{and_from, and_parts}
 use Rattle.es_tree.specs.Attributes.{flag_entries}
 use Rattle.es_tree.specs.Children.{child_at}
-use Rattle.es_tree.specs.HasForm.{elements_form, flag_of, has_form, is_computed, is_of_sort, sort_at, sort_before_fields, sort_before_trees, trees_form}
+use Rattle.es_tree.specs.HasForm.{flag_of, has_form, is_computed, is_of_sort, sort_at, sort_before_trees, trees_form}
 use Rattle.es_tree.specs.Names.{flag_at}
-use Rattle.es_tree.specs.Tree.{Tree, node, Label, Fields, done, ◌then◌, Field, one, many, Trees, empty, ◌before◌, fields, fields_of, kind_of}
+use Rattle.es_tree.specs.Tree.{Tree, node, Label, done, ◌then◌, Field, one, many, Trees, empty, ◌before◌, fields_of, kind_of}
 use Rattle.es_tree.specs.Words.{Text}
 use Rattle.es_tree.specs.declared.ast_type.AstType.{AstType}
-use Rattle.es_tree.specs.declared.ast_type.AstType.TheVariants.{ArrayExpression, ArrayPattern, AssignmentPattern, CallExpression, Identifier, ObjectPattern, PatternProperty, RestElement, SequenceExpression, VariableDeclaration, VariableDeclarator}
+use Rattle.es_tree.specs.declared.ast_type.AstType.TheVariants.{ArrayPattern, AssignmentPattern, Identifier, ObjectPattern, PatternProperty, RestElement, VariableDeclaration, VariableDeclarator}
 use Rattle.es_tree.specs.declared.table.FieldName.TheVariants.{Computed as f-Computed}
 use Rattle.es_tree.specs.declared.table.Sort.{Sort}
-use Rattle.es_tree.specs.declared.table.Sort.TheVariants.{Argument as s-Argument, Binding as s-Binding, Expression as s-Expression, Pattern as s-Pattern, PatternMember as s-PatternMember, PatternMemberRest as s-PatternMemberRest, PropertyKey as s-PropertyKey, VariableDeclarator as s-VariableDeclarator}
+use Rattle.es_tree.specs.declared.table.Sort.TheVariants.{Binding as s-Binding, Expression as s-Expression, Pattern as s-Pattern, PatternMember as s-PatternMember, PatternMemberRest as s-PatternMemberRest, PropertyKey as s-PropertyKey, VariableDeclarator as s-VariableDeclarator}
 use Rattle.es_tree.proofs.NodeForm.{node_form, has_form-node}
 use Rattle.es_semantic.specs.RolesOf.{reads, role_at}
 use Rattle.es_semantic.specs.declared.place.Role.{Role}
 use Rattle.es_semantic.specs.declared.place.Role.TheVariants.{Nothing}
 use Rattle.es_resolution.specs.Declarations.{Bound}
-use Rattle.es_steps.specs.Nodes.{array_node, call_node, declarator_with, identifier, joined_trees, made, member_node, object_node, sequence_node, string_node, word}
-use Rattle.es_steps.specs.ObjectRest.{AreKeys, IsKey, RestOf, SplitRule, SplitsOff, TakesRest, and_declarator, declares_as, declares_some, helper_node, pattern_node}
+use Rattle.es_steps.specs.Nodes.{declarator_with, identifier, joined_trees, made, string_node}
+use Rattle.es_steps.specs.ObjectRest.{AreKeys, IsKey, RestOf, SplitRule, SplitsOff, TakesRest, and_declarator, declares_as, declares_some, pattern_node}
 use Rattle.es_steps.specs.ObjectRest.IsKey.{name_key, text_key}
 use Rattle.es_steps.specs.ObjectRest.RestOf.{alone, beside, mapped}
 use Rattle.es_steps.specs.ObjectRest.SplitRule.{splits}
@@ -30,14 +30,15 @@ use Rattle.es_steps.specs.Slots.{is_slot}
 use Rattle.es_steps.specs.Steps.{Ledger, Site, Spot, Whole}
 use Rattle.es_steps.specs.Steps.Spot.{at_node}
 use Rattle.es_steps.proofs.FormLists.{first-formed}
-use Rattle.es_steps.proofs.FormMembers.{formed-call, formed-first, formed-member}
+use Rattle.es_steps.proofs.FormMembers.{formed-first}
 use Rattle.es_steps.proofs.FormParts.{IsFormed, IsText, formed-name, no-span}
+use Rattle.es_steps.proofs.FormPowers.{AreFormed}
 use Rattle.es_steps.proofs.FormRows.{next-text}
 use Rattle.es_steps.proofs.FormRules.{AtNodes, FormLawful, NodeFormed, no-names, nodes-only, nothing-new}
-use Rattle.es_steps.proofs.FormSorts.{form-wider}
 use Rattle.es_steps.proofs.Fronts.{Front, front-of, front-some}
 use Rattle.es_steps.proofs.Fronts.Front.{of_none, of_some}
 use Rattle.es_steps.proofs.TakesRest.{texts-are-keys}
+use Rattle.es_valid_steps.proofs.RestAssignmentForms.{formed-left, formed-whole}
 use Rattle.es_valid_rests.specs.RestRules.{Binding, all_declare, is_binding, is_binding_kind}
 use Rattle.es_valid_rests.proofs.RestForms.{at-sort, bound-name, formed-declarator}
 
@@ -334,13 +335,6 @@ split-form = nodes-only (Binding SplitRule) split-nodes nodes
 
 -- A REST
 
--- calls, and lists of keys
-call-formed : (f : Tree) (ts : Trees) → IsFormed f → trees_form s-Argument s-Argument ts ≡ true → IsFormed (node CallExpression (made [] (false ∷ [])) (one f then many ts then done))
-call-formed f ts g k = formed-call (made [] (false ∷ [])) false f ts refl refl (no-span [] (false ∷ [])) g k
-
-argument : (t : Tree) (ts : Trees) → IsFormed t → trees_form s-Argument s-Argument ts ≡ true → trees_form s-Argument s-Argument (t before ts) ≡ true
-argument t ts h k = formed-first s-Argument t ts (form-wider s-Argument t refl h) k
-
 module _ (ds : Trees) (all : AreDeclarators ds) where
   key-form : (k : Tree) → IsKey ds k → IsFormed k
   key-form k (text_key x) = refl
@@ -353,38 +347,14 @@ module _ (ds : Trees) (all : AreDeclarators ds) where
       let here = (rest-parts s-PatternMember s-PatternMemberRest a property c (pattern-members lp pattern f.target)).it in
       read-key (sort_before_trees s-PatternMember s-PatternMemberRest c) reads lq key v (ap (λ b. if b then reads else Nothing) computed) here
 
-  keys-form : (ks : List Tree) → AreKeys ds ks → elements_form s-Argument s-Argument (fields (map one ks)) ≡ true
-  keys-form [] h = refl
-  keys-form (k ∷ ks) h = and_from _ _ (subst (λ (b : Sort). has_form b k ≡ true) (sym (one-element (fields (map one ks)))) (form-wider s-Argument k refl (key-form k h.0))) (keys-form ks h.1)
-    where
-      one-element : (fs : Fields) → sort_before_fields s-Argument s-Argument fs ≡ s-Argument
-      one-element done = refl
-      one-element (f then fs) = refl
-
-  formed-keys : (ks : List Tree) → AreKeys ds ks → IsFormed (array_node ks)
-  formed-keys ks h = let span = no-span [] [] in has_form-node s-Expression ArrayExpression (made [] []) (fields (map one ks)) (record { sort = refl; texts = refl; flags = refl; start = span.start; stop = span.stop; agree = refl; children = keys-form ks h })
-
-  mapped-formed : (ks : List Tree) → AreKeys ds ks → IsFormed (call_node (member_node (array_node ks) (codes "map")) (helper_node (codes "toPropertyKey") ∷ []))
-  mapped-formed ks h =
-      let member = formed-member (made [] (false ∷ false ∷ [])) false false (array_node ks) (word (codes "map")) refl refl (no-span [] (false ∷ false ∷ [])) (formed-keys ks h) refl in
-      let helper = helper_node (codes "toPropertyKey") in
-      call-formed (member_node (array_node ks) (codes "map")) (helper before empty) member (argument helper empty refl refl)
+  keys-form : (ks : List Tree) → AreKeys ds ks → AreFormed ks
+  keys-form [] h = tt
+  keys-form (k ∷ ks) h = (key-form k h.0, keys-form ks h.1)
 
   value-form : (lp ls : Label) (ps fs : Trees) (e : Tree) → RestOf ds lp (node Identifier ls done) ps fs e → IsFormed (node Identifier ls done) → IsFormed e
-  value-form lp ls ps fs e (beside ks) h =
-      let texts = array_node (map string_node ks) in
-      call-formed (helper_node (codes "objectWithoutProperties")) (node Identifier ls done before texts before empty) refl (argument (node Identifier ls done) (texts before empty) h (argument texts empty (formed-keys (map string_node ks) (texts-are-keys ds ks)) refl))
-  value-form lp ls ps fs e (mapped ks k) h =
-      let keys = call_node (member_node (array_node ks) (codes "map")) (helper_node (codes "toPropertyKey") ∷ []) in
-      call-formed (helper_node (codes "objectWithoutProperties")) (node Identifier ls done before keys before empty) refl (argument (node Identifier ls done) (keys before empty) h (argument keys empty (mapped-formed ks k) refl))
-  value-form lp ls ps fs e alone h =
-      let it : Tree = node Identifier ls done in
-      let empties = call_node (helper_node (codes "objectDestructuringEmpty")) (it ∷ []) in
-      let called = call-formed (helper_node (codes "objectDestructuringEmpty")) (it before empty) refl (argument it empty h refl) in
-      let span = no-span [] [] in
-      let both = has_form-node s-Expression SequenceExpression (made [] []) (many (empties before it before empty) then done) (record { sort = refl; texts = refl; flags = refl; start = span.start; stop = span.stop; agree = refl; children = rw (called, h) refl }) in
-      let sequence = sequence_node (empties ∷ it ∷ []) in
-      call-formed (helper_node (codes "extends")) (object_node [] before sequence before empty) refl (argument (object_node []) (sequence before empty) refl (argument sequence empty both refl))
+  value-form lp ls ps fs e (beside ks) h = formed-left false (node Identifier ls done) (map string_node ks) h (keys-form (map string_node ks) (texts-are-keys ds ks))
+  value-form lp ls ps fs e (mapped ks k) h = formed-left true (node Identifier ls done) ks h (keys-form ks k)
+  value-form lp ls ps fs e alone h = formed-whole (node Identifier ls done) h
 
 -- what a rest declares, where each declarator declares a name or a pattern
 pub last-kind : (a fs c : Trees) (v e : Tree) → all_declare (joined_trees a (joined_trees (and_declarator fs v e) c)) ≡ true → is_binding_kind (kind_of v) ≡ true

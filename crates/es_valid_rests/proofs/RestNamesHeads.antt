@@ -12,17 +12,17 @@ use Rattle.es_tree.specs.StaticRules.{is_constructor_key}
 use Rattle.es_tree.specs.Tree.{Tree, node, Label, Fields, done, ◌then◌, Field, missing, one, many, statements, empty, ◌before◌, kind_of}
 use Rattle.es_tree.specs.Words.{Text}
 use Rattle.es_tree.specs.declared.ast_type.AstType.{AstType}
-use Rattle.es_tree.specs.declared.ast_type.AstType.TheVariants.{BlockStatement, CatchClause, ForInStatement, ForOfStatement, Program, VariableDeclarator}
+use Rattle.es_tree.specs.declared.ast_type.AstType.TheVariants.{AssignmentExpression, BlockStatement, CatchClause, ExpressionStatement, ForInStatement, ForOfStatement, Program, VariableDeclaration, VariableDeclarator}
 use Rattle.es_tree.specs.declared.place.Namespace.TheVariants.{Scope}
 use Rattle.es_tree.specs.declared.table.Sort.{Sort}
 use Rattle.es_tree.specs.declared.table.Sort.TheVariants.{Expression as s-Expression, ForLeft as s-ForLeft}
 use Rattle.es_tree.proofs.NodeForm.{node_form}
 use Rattle.es_resolution.specs.Declarations.{Bound}
-use Rattle.es_steps.specs.LoopHeads.{HeadRest, IsForEach, head_fields, new_head}
+use Rattle.es_steps.specs.LoopHeads.{HeadRest, IsForEach, TargetHead}
 use Rattle.es_steps.specs.LoopHeads.HeadRest.{lexical_head, var_head}
 use Rattle.es_steps.specs.LoopHeads.IsForEach.{for_in, for_of}
-use Rattle.es_steps.specs.Nodes.{declaration_node, declarator, declarator_with, identifier, made}
-use Rattle.es_steps.specs.Patterns.{holds_rest}
+use Rattle.es_steps.specs.LoopHeads.TargetHead.{target_head}
+use Rattle.es_steps.specs.Nodes.{assign_node, block_node, declaration_node, declarator, declarator_with, identifier, made, statement_node}
 use Rattle.es_steps.specs.Open.{Additions, Pending}
 use Rattle.es_steps.specs.Rules.{next_name, with_made}
 use Rattle.es_steps.specs.Slots.{is_slot}
@@ -35,16 +35,19 @@ use Rattle.es_valid_names.proofs.Claims.{Around, Clear, ClearBy, Distinct, Stand
 use Rattle.es_valid_names.proofs.ClearPending.{expression-mute}
 use Rattle.es_valid_names.proofs.ClearRules.{NameLawful, NodeKept, taken-new, use_in}
 use Rattle.es_valid_names.proofs.Grown.{Grown, IsNew, grown-both, grown-self, no_list, still-distinct}
-use Rattle.es_valid_names.proofs.MoreAround.{clear-more}
+use Rattle.es_valid_names.proofs.MoreAround.{Allows, clear-more}
 use Rattle.es_valid_names.proofs.Mute.{Free, is_member}
 use Rattle.es_valid_names.proofs.OneMore.{one-apart}
 use Rattle.es_valid_names.proofs.OneMore.OneMore.{now}
 use Rattle.es_tree.specs.Fresh.{IsFreshName}
+use Rattle.es_valid_rests.proofs.RestForms.{IsObjectTarget, rest-target}
+use Rattle.es_valid_rests.proofs.RestForms.IsObjectTarget.{object_target}
 use Rattle.es_valid_rests.proofs.RestNamesParts.{Part, Parts, part-self, parts-both, parts-distinct, same-parts}
 use Rattle.es_valid_rests.proofs.RestNamesParts.Part.{none, drop}
+use Rattle.es_valid_rests.proofs.RestNamesParts.Parts.{no_list}
 use Rattle.es_valid_rests.proofs.RestNamesAround.{Fit, Parent, claims-fit, declarator-fit, declaring, innermost, looked_at, plain-fit, plain-private}
 use Rattle.es_valid_rests.proofs.RestNamesAround.Parent.{same_parent, no_parent}
-use Rattle.es_valid_rests.proofs.RestNamesCatch.{joined-block, rest-pattern}
+use Rattle.es_valid_rests.proofs.RestNamesCatch.{rest-pattern}
 use Rattle.es_valid_rests.proofs.RestNamesFresh.{fresh-claims, fresh_names, vars-grown}
 
 -- LOOPS that take each of some values
@@ -111,11 +114,14 @@ loop-values for_of a m h e b f = (and_parts (has_form s-Expression e) _ (and_par
 
 -- LISTS of the loop before and after
 
-old-shape : (gs es hs : List (List Name)) → es ≡ [] → (((gs ++ []) ++ []) ++ []) ++ (es ++ (hs ++ [])) ≡ gs ++ hs
-old-shape gs es hs e = λ i. append-nil (append-nil (append-nil gs i) i) i ++ (e i ++ append-nil hs i)
+old-shape : (gs es hs : List (List Name)) → es ≡ [] → gs ++ (es ++ (hs ++ [])) ≡ gs ++ hs
+old-shape gs es hs e = λ i. gs ++ (e i ++ append-nil hs i)
 
-new-shape : (ns es gs hs : List (List Name)) → es ≡ [] → (((ns ++ []) ++ []) ++ []) ++ (es ++ ((((((gs ++ []) ++ []) ++ []) ++ (hs ++ [])) ++ []) ++ [])) ≡ ns ++ (gs ++ hs)
-new-shape ns es gs hs e = λ i. append-nil (append-nil (append-nil ns i) i) i ++ (e i ++ (append-nil _ ∙ joined-block gs hs) i)
+block-shape : (gs hs : List (List Name)) → (gs ++ (hs ++ [])) ++ [] ≡ gs ++ hs
+block-shape gs hs = append-nil (gs ++ (hs ++ [])) ∙ ap (λ xs. gs ++ xs) (append-nil hs)
+
+new-shape : (ns es gs hs : List (List Name)) → es ≡ [] → (((ns ++ []) ++ []) ++ []) ++ (es ++ ((((gs ++ (hs ++ [])) ++ []) ++ []))) ≡ ns ++ (gs ++ hs)
+new-shape ns es gs hs e = λ i. append-nil (append-nil (append-nil ns i) i) i ++ (e i ++ (append-nil _ ∙ block-shape gs hs) i)
 
 -- a fresh name in the head, as the loop sees it, and what is around it
 head-own : (v : Bool) (x : Text) → push (fresh_names v (1 ∷ []) x) [] ≡ (name Scope 1 x v ∷ []) ∷ []
@@ -126,19 +132,121 @@ head-grown : (used used' : Text → Bool) (v : Bool) (ns : List ℕ) (x : Text) 
 head-grown used used' true ns x e d = no_list
 head-grown used used' false ns x e d = vars-grown used used' x e d (0 ∷ ns)
 
-module _ {k : AstType} (each : IsForEach k) (m l l' : Label) (p e b : Tree) (x : Bound) (member : is_member (kind_of p) ≡ false) (values : has_form s-Expression e ≡ true) where
-  abbrev word : Text
-  word = first_text l.texts
+-- the statements of the block in the loop
+abbrev block_of : Tree → Tree → Fields
+block_of u b = statements (u before b before empty) then done
 
+abbrev in_block : Tree → Tree → ℕ → List Ancestor → List Ancestor
+in_block u b d vp = above BlockStatement (made [] []) (block_of u b) 0 d ∷ vp
+
+-- what moves from the head of a loop to a statement of a block: what it declares where the ancestors of the two fit, and what is clear there
+pub record MovesHead (t u b : Tree) : Type 0 where
+  pub parts : {k : AstType} → IsForEach k → (m : Label) (fs : Fields) {loose : Bool} (n d : ℕ) (up vp : List Ancestor) → Fit loose (above k m fs 0 n ∷ up) (in_block u b d vp) → Parts loose (claims is_owned (above k m fs 0 n ∷ up) t) (claims is_owned (in_block u b d vp) u)
+  pub clear : (c d : Around) → Allows c d → Clear c elsewhere t → Clear d elsewhere u
+
+module _ {k : AstType} (each : IsForEach k) (m : Label) (word : Text) (t u e b : Tree) (x : Bound) (moves : MovesHead t u b) (values : has_form s-Expression e ≡ true) where
   abbrev old : Fields
-  old = head_fields l l' p e b
+  old = one t then one e then one b then done
 
   abbrev new : Fields
-  new = new_head word x p e b
+  new = one (declaration_node word (declarator x ∷ [])) then one e then one (block_node (u before b before empty)) then done
 
   abbrev in_loop : ℕ → ℕ → List Ancestor → List Ancestor
   in_loop i n up = above k m old i n ∷ up
 
+  abbrev in_made : ℕ → List Ancestor → List Ancestor
+  in_made d vp = in_block u b d vp
+
+  abbrev new_part : Fields
+  new_part = one (identifier x) then missing then done
+
+  abbrev new_parts : Fields
+  new_parts = many (declarator x before empty) then done
+
+  abbrev new_param : ℕ → List Ancestor → List Ancestor
+  new_param n up = declaring (made [] []) new_part (made (Some word ∷ []) []) new_parts (above k m new 0 n ∷ up)
+
+  both-parts : {loose : Bool} (n d : ℕ) (up vp : List Ancestor) → Fit loose (in_loop 0 n up) (in_made d vp) → Fit loose (in_loop 2 n up) (in_made d vp) → Parent loose (in_loop 2 n up) (in_made d vp) → Parts loose (claims is_owned (in_loop 0 n up) t ++ claims is_owned (in_loop 2 n up) b) (claims is_owned (in_made d vp) u ++ claims is_owned (in_made d vp) b)
+  both-parts n d up vp f g h = parts-both (moves.parts each m old n d up vp f) (claims-fit (in_loop 2 n up) (in_made d vp) g h b)
+
+  silent : (n : ℕ) (up : List Ancestor) → claims is_owned (in_loop 1 n up) e ≡ []
+  silent n up = expression-mute (in_loop 1 n up) e values (λ y. loop-unbound each m old 1 n up y)
+
+  old-claims : (n : ℕ) (up : List Ancestor) → claims_in is_owned up k m old n 0 old ≡ claims is_owned (in_loop 0 n up) t ++ claims is_owned (in_loop 2 n up) b
+  old-claims n up = old-shape (claims is_owned (in_loop 0 n up) t) (claims is_owned (in_loop 1 n up) e) (claims is_owned (in_loop 2 n up) b) (silent n up)
+
+  new-claims : (n : ℕ) (up : List Ancestor) → claims_in is_owned up k m new n 0 new ≡ claims is_owned (new_param n up) (identifier x) ++ (claims is_owned (in_made 0 (in_loop 2 n up)) u ++ claims is_owned (in_made 0 (in_loop 2 n up)) b)
+  new-claims n up = new-shape (claims is_owned (new_param n up) (identifier x)) (claims is_owned (in_loop 1 n up) e) (claims is_owned (in_made 0 (in_loop 2 n up)) u) (claims is_owned (in_made 0 (in_loop 2 n up)) b) (silent n up)
+
+  fresh-head : (n : ℕ) (up : List Ancestor) → claims is_owned (new_param n up) (identifier x) ≡ push (fresh_names (is_lexical word) (n ∷ scopes up) x.name) []
+  fresh-head n up = fresh-claims (made [] []) (made (Some word ∷ []) []) new_part new_parts (above k m new 0 n ∷ up) x ∙ ap (λ ns. push (fresh_names (is_lexical word) ns x.name) []) (loop-scopes each m new 0 n up)
+
+  -- the made block in the loop
+  made-fit : {loose : Bool} (i n : ℕ) (up : List Ancestor) → Part loose (looked_at (n ∷ scopes up)) (looked_at (0 ∷ (n ∷ scopes up))) → Part loose (looked_at (n ∷ [])) (looked_at (0 ∷ [])) → Fit loose (in_loop i n up) (in_made 0 (in_loop 2 n up))
+  made-fit {loose} i n up h f = loop-fit each m (made [] []) old (block_of u b) i n 0 up (in_loop 2 n up) (loop-module each m old 2 n up) (loop-clause each m old 2 n up) (subst (λ (ns : List ℕ). Part loose (looked_at (n ∷ scopes up)) (looked_at (0 ∷ ns))) (sym (loop-scopes each m old 2 n up)) h) f
+
+  module _ (used used' : Text → Bool) (free : used x.name ≡ false) (known : used' x.name ≡ true) where
+    head-claims : (up : List Ancestor) → Grown used used' (claims is_owned up (node k m old)) (claims is_owned up (node k m new))
+    head-claims up =
+        let fit : (i : ℕ) → Fit false (in_loop i 0 up) (in_made 0 (in_loop 2 0 up)) = λ i. made-fit i 0 up (part-self _) (part-self _) in
+        let same = same-parts (both-parts 0 0 up (in_loop 2 0 up) (fit 0) (fit 2) (same_parent refl)) in
+        let earlier = loop-claims each m old up ∙ old-claims 0 up in
+        let later = loop-claims each m new up ∙ new-claims 0 up ∙ (λ i. fresh-head 0 up i ++ same i) in
+        let mine = claims is_owned (in_loop 0 0 up) t ++ claims is_owned (in_loop 2 0 up) b in
+        subst (λ (gs : List (List Name)). Grown used used' gs (claims is_owned up (node k m new))) (sym earlier)
+        (subst (λ (gs : List (List Name)). Grown used used' mine gs) (sym later)
+        (grown-both (head-grown used used' (is_lexical word) (scopes up) x.name free known) (grown-self mine)))
+
+    module _ (more : (y : Text) → used y ≡ true → used' y ≡ true) (start : Distinct used [] (claims_in is_owned [] k m old 1 0 old)) where
+      begins : Distinct used [] (claims is_owned (in_loop 0 1 []) t ++ claims is_owned (in_loop 2 1 []) b)
+      begins = subst (λ (gs : List (List Name)). Distinct used [] gs) (old-claims 1 []) start
+
+      loop-distinct : Distinct used' [] (claims_in is_owned [] k m new 1 0 new)
+      loop-distinct =
+          let fit : (i : ℕ) → Fit true (in_loop i 1 []) (in_made 0 (in_loop 2 1 [])) = λ i. made-fit i 1 [] (part-self _) (drop 1 refl none) in
+          let parts = both-parts 1 0 [] (in_loop 2 1 []) (fit 0) (fit 2) (no_parent refl refl) in
+          let moved = claims is_owned (in_made 0 (in_loop 2 1 [])) u ++ claims is_owned (in_made 0 (in_loop 2 1 [])) b in
+          let named = new-claims 1 [] ∙ (λ i. (fresh-head 1 [] ∙ head-own (is_lexical word) x.name) i ++ moved) in
+          let n = name Scope 1 x.name (is_lexical word) in
+          let fresh : IsNew used used' n = record { space = refl; fresh = free; known = known } in
+          subst (λ (gs : List (List Name)). Distinct used' [] gs) (sym named) (one-apart used used' n fresh more (now _) (parts-distinct used parts begins))
+
+      made-distinct : Distinct used' [] ((claims is_owned (in_made 1 []) u ++ (claims is_owned (in_made 1 []) b ++ [])) ++ [])
+      made-distinct =
+          let fit : (i : ℕ) → Fit true (in_loop i 1 []) (in_made 1 []) = λ i. loop-fit each m (made [] []) old (block_of u b) i 1 1 [] [] refl refl (part-self _) (part-self _) in
+          let parts = both-parts 1 1 [] [] (fit 0) (fit 2) (same_parent refl) in
+          still-distinct used used' more [] _ (subst (λ (gs : List (List Name)). Distinct used [] gs) (sym (block-shape (claims is_owned (in_made 1 []) u) (claims is_owned (in_made 1 []) b))) (parts-distinct used parts begins))
+
+-- one of them
+head-kept : (w : Whole) (q : Pending) (o : Option Bound) (y : Additions) (a : Sort) {k : AstType} → IsForEach k → (m : Label) (word : Text) (t u e b : Tree) (x : Text) → MovesHead t u b → IsFreshName w.in_use (codes "ref") x → has_form a (node k m (one t then one e then one b then done)) ≡ true →
+    NodeKept (ledger w q o y) (ledger (with_made (next_name w x ∷ []) w) q o y) (node k m (one t then one e then one b then done)) (node k m (one (declaration_node word (declarator (next_name w x) ∷ [])) then one e then one (block_node (u before b before empty)) then done))
+head-kept w q o y a {k} each m word t u e b x moves fresh f =
+    let name : Bound = next_name w x in
+    let s = ledger w q o y in
+    let s' = ledger (with_made (name ∷ []) w) q o y in
+    let taken : AreTaken w.in_use w.free_symbol (name ∷ []) = ((fresh.free, refl), tt) in
+    let new = taken-new w (name ∷ []) taken in
+    let values = loop-values each a m t e b f in
+    record {
+      grown = head-claims each m word t u e b name moves values (use_in s) (use_in s') new.0.0 new.0.1;
+      clear = λ c d g later h st z.
+          let was = loop-clear each c st m _ _ _ z in
+          let free : c.used name.name ≡ false = (λ i. g i name.name) ∙ new.0.0 in
+          let known : d.used name.name ≡ true = (λ i. later i name.name) ∙ new.0.1 in
+          let own = loop-distinct each m word t u e b name moves values c.used d.used free known h.used was.own in
+          let made_own = made-distinct each m word t u e b name moves values c.used d.used free known h.used was.own in
+          let declares : Clear d elsewhere (declarator name) = (tt, refl, ((tt, refl, tt), (tt, tt))) in
+          clear-loop each d st m _ _ _ (record { own = own; head = (tt, refl, ((declares, tt), tt)); values = clear-more c d h elsewhere e was.values; body = (made_own, refl, ((moves.clear c d h was.head, (clear-more c d h elsewhere b was.body, tt)), tt)) });
+      name = refl;
+      key = λ z. absurd (cc (loop-key each m (one (declaration_node word (declarator name ∷ [])) then one e then one (block_node (u before b before empty)) then done), z));
+      imports = refl;
+      inside = loop-inside each;
+      names = record { names = []; pending = no-names q; this = refl; top = refl; fresh = tt; more = λ z g. used-after (name ∷ []) w.in_use z g };
+    }
+
+-- DECLARATIONS
+
+module _ (l l' : Label) (p b : Tree) (x : Bound) where
   abbrev old_part : Fields
   old_part = one p then missing then done
 
@@ -151,112 +259,52 @@ module _ {k : AstType} (each : IsForEach k) (m l l' : Label) (p e b : Tree) (x :
   abbrev moved_parts : Fields
   moved_parts = many (declarator_with p (identifier x) before empty) then done
 
-  abbrev new_part : Fields
-  new_part = one (identifier x) then missing then done
+  declaration-parts : is_member (kind_of p) ≡ false → {loose : Bool} (up vp : List Ancestor) → Fit loose up vp → Parts loose (claims is_owned up (node VariableDeclaration l old_parts)) (claims is_owned vp (declaration_node (first_text l.texts) (declarator_with p (identifier x) ∷ [])))
+  declaration-parts member up vp f =
+      let word = made (Some (first_text l.texts) ∷ []) [] in
+      parts-both (parts-both (parts-both (plain-fit (declaring l' old_part l old_parts up) (declaring (made [] []) moved_part word moved_parts vp) (declarator-fit l' (made [] []) l word old_part moved_part old_parts moved_parts up vp refl f) p member) no_list) no_list) no_list
 
-  abbrev new_parts : Fields
-  new_parts = many (declarator x before empty) then done
+  declaration-moves : is_member (kind_of p) ≡ false → MovesHead (node VariableDeclaration l old_parts) (declaration_node (first_text l.texts) (declarator_with p (identifier x) ∷ [])) b
+  declaration-moves member = record {
+    parts = λ each m fs n d up vp f. declaration-parts member _ _ f;
+    clear = λ c d h z. (tt, refl, (((tt, refl, (clear-more c d h elsewhere p z.2.0.0.2.0, ((tt, refl, tt), tt))), tt), tt));
+  }
 
-  abbrev made_fields : Fields
-  made_fields = statements (declaration_node word (declarator_with p (identifier x) ∷ []) before b before empty) then done
+-- TARGETS
 
-  abbrev in_made : ℕ → List Ancestor → List Ancestor
-  in_made d vp = above BlockStatement (made [] []) made_fields 0 d ∷ vp
+module _ (t b : Tree) (x : Bound) where
+  abbrev assigned : List Ancestor → List Ancestor
+  assigned vp = above AssignmentExpression (made (Some (codes "=") ∷ []) []) (one t then one (identifier x) then done) 0 0 ∷ (above ExpressionStatement (made [] []) (one (assign_node t (identifier x)) then done) 0 0 ∷ vp)
 
-  abbrev old_param : ℕ → List Ancestor → List Ancestor
-  old_param n up = declaring l' old_part l old_parts (in_loop 0 n up)
+  into : {k : AstType} → IsForEach k → (m : Label) (fs : Fields) {loose : Bool} (n : ℕ) (up vp : List Ancestor) → Fit loose (above k m fs 0 n ∷ up) vp → Fit loose (above k m fs 0 n ∷ up) (assigned vp)
+  into for_in m fs n up vp f = record { module_around = f.module_around; top = refl; clause = refl; hoisted = f.hoisted; first = f.first; bound = λ y. none; declares = λ y. none; private = λ y. plain-private (above ForInStatement m fs 0 n ∷ up) (assigned vp) refl refl y }
+  into for_of m fs n up vp f = record { module_around = f.module_around; top = refl; clause = refl; hoisted = f.hoisted; first = f.first; bound = λ y. none; declares = λ y. none; private = λ y. plain-private (above ForOfStatement m fs 0 n ∷ up) (assigned vp) refl refl y }
 
-  abbrev moved_param : List Ancestor → List Ancestor
-  moved_param vp = declaring (made [] []) moved_part (made (Some word ∷ []) []) moved_parts vp
+  assignment-parts : is_member (kind_of t) ≡ false → {loose : Bool} (up vp : List Ancestor) → Fit loose up (assigned vp) → Parts loose (claims is_owned up t) (claims is_owned vp (statement_node (assign_node t (identifier x))))
+  assignment-parts member {loose} up vp f =
+      let inner = claims is_owned (assigned vp) t in
+      subst (λ (gs : List (List Name)). Parts loose (claims is_owned up t) gs) (sym (append-nil (inner ++ []) ∙ append-nil inner)) (plain-fit up (assigned vp) f t member)
 
-  abbrev new_param : ℕ → List Ancestor → List Ancestor
-  new_param n up = declaring (made [] []) new_part (made (Some word ∷ []) []) new_parts (in_loop 0 n up)
+  assignment-moves : is_member (kind_of t) ≡ false → MovesHead t (statement_node (assign_node t (identifier x))) b
+  assignment-moves member = record {
+    parts = λ each m fs n d up vp f. assignment-parts member _ _ (into each m fs n up _ f);
+    clear = λ c d h z. (tt, refl, ((tt, refl, (clear-more c d h elsewhere t z, ((tt, refl, tt), tt))), tt));
+  }
 
-  param-parts : {loose : Bool} (n d : ℕ) (up vp : List Ancestor) → Fit loose (in_loop 0 n up) (in_made d vp) → Parts loose (claims is_owned (old_param n up) p) (claims is_owned (moved_param (in_made d vp)) p)
-  param-parts n d up vp f = plain-fit (old_param n up) (moved_param (in_made d vp)) (declarator-fit l' (made [] []) l (made (Some word ∷ []) []) old_part moved_part old_parts moved_parts (in_loop 0 n up) (in_made d vp) refl f) p member
+target-member : (t : Tree) → IsObjectTarget t → is_member (kind_of t) ≡ false
+target-member t object_target = refl
 
-  both-parts : {loose : Bool} (n d : ℕ) (up vp : List Ancestor) → Fit loose (in_loop 0 n up) (in_made d vp) → Fit loose (in_loop 2 n up) (in_made d vp) → Parent loose (in_loop 2 n up) (in_made d vp) → Parts loose (claims is_owned (old_param n up) p ++ claims is_owned (in_loop 2 n up) b) (claims is_owned (moved_param (in_made d vp)) p ++ claims is_owned (in_made d vp) b)
-  both-parts n d up vp f g h = parts-both (param-parts n d up vp f) (claims-fit (in_loop 2 n up) (in_made d vp) g h b)
-
-  silent : (n : ℕ) (up : List Ancestor) → claims is_owned (in_loop 1 n up) e ≡ []
-  silent n up = expression-mute (in_loop 1 n up) e values (λ y. loop-unbound each m old 1 n up y)
-
-  old-claims : (n : ℕ) (up : List Ancestor) → claims_in is_owned up k m old n 0 old ≡ claims is_owned (old_param n up) p ++ claims is_owned (in_loop 2 n up) b
-  old-claims n up = old-shape (claims is_owned (old_param n up) p) (claims is_owned (in_loop 1 n up) e) (claims is_owned (in_loop 2 n up) b) (silent n up)
-
-  new-claims : (n : ℕ) (up : List Ancestor) → claims_in is_owned up k m new n 0 new ≡ claims is_owned (new_param n up) (identifier x) ++ (claims is_owned (moved_param (in_made 0 (in_loop 2 n up))) p ++ claims is_owned (in_made 0 (in_loop 2 n up)) b)
-  new-claims n up = new-shape (claims is_owned (new_param n up) (identifier x)) (claims is_owned (in_loop 1 n up) e) (claims is_owned (moved_param (in_made 0 (in_loop 2 n up))) p) (claims is_owned (in_made 0 (in_loop 2 n up)) b) (silent n up)
-
-  fresh-head : (n : ℕ) (up : List Ancestor) → claims is_owned (new_param n up) (identifier x) ≡ push (fresh_names (is_lexical word) (n ∷ scopes up) x.name) []
-  fresh-head n up = fresh-claims (made [] []) (made (Some word ∷ []) []) new_part new_parts (in_loop 0 n up) x ∙ ap (λ ns. push (fresh_names (is_lexical word) ns x.name) []) (loop-scopes each m old 0 n up)
-
-  -- the made block in the loop
-  made-fit : {loose : Bool} (i n : ℕ) (up : List Ancestor) → Part loose (looked_at (n ∷ scopes up)) (looked_at (0 ∷ (n ∷ scopes up))) → Part loose (looked_at (n ∷ [])) (looked_at (0 ∷ [])) → Fit loose (in_loop i n up) (in_made 0 (in_loop 2 n up))
-  made-fit {loose} i n up h f = loop-fit each m (made [] []) old made_fields i n 0 up (in_loop 2 n up) (loop-module each m old 2 n up) (loop-clause each m old 2 n up) (subst (λ (ns : List ℕ). Part loose (looked_at (n ∷ scopes up)) (looked_at (0 ∷ ns))) (sym (loop-scopes each m old 2 n up)) h) f
-
-  module _ (used used' : Text → Bool) (free : used x.name ≡ false) (known : used' x.name ≡ true) where
-    head-claims : (up : List Ancestor) → Grown used used' (claims is_owned up (node k m old)) (claims is_owned up (node k m new))
-    head-claims up =
-        let fit : (i : ℕ) → Fit false (in_loop i 0 up) (in_made 0 (in_loop 2 0 up)) = λ i. made-fit i 0 up (part-self _) (part-self _) in
-        let same = same-parts (both-parts 0 0 up (in_loop 2 0 up) (fit 0) (fit 2) (same_parent refl)) in
-        let earlier = loop-claims each m old up ∙ old-claims 0 up in
-        let later = loop-claims each m new up ∙ new-claims 0 up ∙ (λ i. fresh-head 0 up i ++ same i) in
-        subst (λ (gs : List (List Name)). Grown used used' gs (claims is_owned up (node k m new))) (sym earlier)
-        (subst (λ (gs : List (List Name)). Grown used used' (claims is_owned (old_param 0 up) p ++ claims is_owned (in_loop 2 0 up) b) gs) (sym later)
-        (grown-both (head-grown used used' (is_lexical word) (scopes up) x.name free known) (grown-self (claims is_owned (old_param 0 up) p ++ claims is_owned (in_loop 2 0 up) b))))
-
-    module _ (more : (y : Text) → used y ≡ true → used' y ≡ true) (start : Distinct used [] (claims_in is_owned [] k m old 1 0 old)) where
-      begins : Distinct used [] (claims is_owned (old_param 1 []) p ++ claims is_owned (in_loop 2 1 []) b)
-      begins = subst (λ (gs : List (List Name)). Distinct used [] gs) (old-claims 1 []) start
-
-      loop-distinct : Distinct used' [] (claims_in is_owned [] k m new 1 0 new)
-      loop-distinct =
-          let fit : (i : ℕ) → Fit true (in_loop i 1 []) (in_made 0 (in_loop 2 1 [])) = λ i. made-fit i 1 [] (part-self _) (drop 1 refl none) in
-          let parts = both-parts 1 0 [] (in_loop 2 1 []) (fit 0) (fit 2) (no_parent refl refl) in
-          let named = new-claims 1 [] ∙ (λ i. (fresh-head 1 [] ∙ head-own (is_lexical word) x.name) i ++ (claims is_owned (moved_param (in_made 0 (in_loop 2 1 []))) p ++ claims is_owned (in_made 0 (in_loop 2 1 [])) b)) in
-          let n = name Scope 1 x.name (is_lexical word) in
-          let fresh : IsNew used used' n = record { space = refl; fresh = free; known = known } in
-          subst (λ (gs : List (List Name)). Distinct used' [] gs) (sym named) (one-apart used used' n fresh more (now _) (parts-distinct used parts begins))
-
-      made-distinct : Distinct used' [] (((((claims is_owned (moved_param (in_made 1 [])) p ++ []) ++ []) ++ []) ++ (claims is_owned (in_made 1 []) b ++ [])) ++ [])
-      made-distinct =
-          let fit : (i : ℕ) → Fit true (in_loop i 1 []) (in_made 1 []) = λ i. loop-fit each m (made [] []) old made_fields i 1 1 [] [] refl refl (part-self _) (part-self _) in
-          let parts = both-parts 1 1 [] [] (fit 0) (fit 2) (same_parent refl) in
-          still-distinct used used' more [] _ (subst (λ (gs : List (List Name)). Distinct used [] gs) (sym (joined-block (claims is_owned (moved_param (in_made 1 [])) p) (claims is_owned (in_made 1 []) b))) (parts-distinct used parts begins))
-
--- one of them, whatever word declares
-head-kept : (w : Whole) (q : Pending) (o : Option Bound) (y : Additions) (a : Sort) {k : AstType} → IsForEach k → (m l l' : Label) (p e b : Tree) (x : Text) → holds_rest p ≡ true → IsFreshName w.in_use (codes "ref") x → has_form a (node k m (head_fields l l' p e b)) ≡ true →
-    NodeKept (ledger w q o y) (ledger (with_made (next_name w x ∷ []) w) q o y) (node k m (head_fields l l' p e b)) (node k m (new_head (first_text l.texts) (next_name w x) p e b))
-head-kept w q o y a {k} each m l l' p e b x holds fresh f =
-    let name : Bound = next_name w x in
-    let s = ledger w q o y in
-    let s' = ledger (with_made (name ∷ []) w) q o y in
-    let taken : AreTaken w.in_use w.free_symbol (name ∷ []) = ((fresh.free, refl), tt) in
-    let new = taken-new w (name ∷ []) taken in
-    let member = (rest-pattern p holds).member in
-    let values = loop-values each a m _ e b f in
-    record {
-      grown = head-claims each m l l' p e b name member values (use_in s) (use_in s') new.0.0 new.0.1;
-      clear = λ c d g later h st z.
-          let was = loop-clear each c st m _ _ _ z in
-          let free : c.used name.name ≡ false = (λ i. g i name.name) ∙ new.0.0 in
-          let known : d.used name.name ≡ true = (λ i. later i name.name) ∙ new.0.1 in
-          let own = loop-distinct each m l l' p e b name member values c.used d.used free known h.used was.own in
-          let made_own = made-distinct each m l l' p e b name member values c.used d.used free known h.used was.own in
-          let moved = clear-more c d h elsewhere p was.head.2.0.0.2.0 in
-          let declares : Clear d elsewhere (declarator name) = (tt, refl, ((tt, refl, tt), (tt, tt))) in
-          let declares_with : Clear d elsewhere (declarator_with p (identifier name)) = (tt, refl, (moved, ((tt, refl, tt), tt))) in
-          clear-loop each d st m _ _ _ (record { own = own; head = (tt, refl, ((declares, tt), tt)); values = clear-more c d h elsewhere e was.values; body = (made_own, refl, (((tt, refl, ((declares_with, tt), tt)), (clear-more c d h elsewhere b was.body, tt)), tt)) });
-      name = refl;
-      key = λ z. absurd (cc (loop-key each m (new_head (first_text l.texts) name p e b), z));
-      imports = refl;
-      inside = loop-inside each;
-      names = record { names = []; pending = no-names q; this = refl; top = refl; fresh = tt; more = λ z g. used-after (name ∷ []) w.in_use z g };
-    }
+-- THE RULES
 
 pub head-rest-names : NameLawful HeadRest
 head-rest-names = record { at_nodes = nodes }
   where
     nodes : (n : Site) (s s' : Ledger) (t u : Tree) (a : Sort) → (is_slot n.above ≡ true → a ≡ s-Expression) → HeadRest n s (at_node t) s' (at_node u) → has_form a t ≡ true → has_form a u ≡ true → NodeKept s s' t u
-    nodes n s s' t u a slot (lexical_head {w = w} {s = o} {q = q} {a = y} {m = m} {l = l} {l' = l'} {p = p} {e = e} {b = b} {x = x} each holds fresh lexical apart silent body) f formed = head-kept w q o y a each m l l' p e b x holds fresh f
-    nodes n s s' t u a slot (var_head {w = w} {s = o} {q = q} {a = y} {m = m} {l = l} {l' = l'} {p = p} {e = e} {b = b} {x = x} each holds fresh by_var names silent body) f formed = head-kept w q o y a each m l l' p e b x holds fresh f
+    nodes n s s' t u a slot (lexical_head {w = w} {s = o} {q = q} {a = y} {m = m} {l = l} {l' = l'} {p = p} {e = e} {b = b} {x = x} each holds fresh lexical apart silent body) f formed = head-kept w q o y a each m (first_text l.texts) _ _ e b x (declaration-moves l l' p b (next_name w x) (rest-pattern p holds).member) fresh f
+    nodes n s s' t u a slot (var_head {w = w} {s = o} {q = q} {a = y} {m = m} {l = l} {l' = l'} {p = p} {e = e} {b = b} {x = x} each holds fresh by_var names silent body) f formed = head-kept w q o y a each m (first_text l.texts) _ _ e b x (declaration-moves l l' p b (next_name w x) (rest-pattern p holds).member) fresh f
+
+pub target-head-names : NameLawful TargetHead
+target-head-names = record { at_nodes = nodes }
+  where
+    nodes : (n : Site) (s s' : Ledger) (t u : Tree) (a : Sort) → (is_slot n.above ≡ true → a ≡ s-Expression) → TargetHead n s (at_node t) s' (at_node u) → has_form a t ≡ true → has_form a u ≡ true → NodeKept s s' t u
+    nodes n s s' t u a slot (target_head {w = w} {s = o} {q = q} {a = y} {m = m} {t = p} {e = e} {b = b} {x = x} each rest fresh silent quiet body) f formed = head-kept w q o y a each m (codes "var") p _ e b x (assignment-moves p b (next_name w x) (target-member p (rest-target p rest))) fresh f

@@ -18,16 +18,16 @@ use Rattle.es_valid_names.proofs.ClearRules.{NameLawful}
 use Rattle.es_valid_names.proofs.NameSteps.{Good, one-step}
 use Rattle.es_valid_rests.specs.RestRules.{Binding}
 use Rattle.es_valid_rests.proofs.OneOf.{one-of}
-use Rattle.es_valid_rests.proofs.RestForms.{catch-rest-form, head-rest-form}
+use Rattle.es_valid_rests.proofs.RestForms.{catch-rest-form, head-rest-form, target-head-form}
 use Rattle.es_valid_rests.proofs.RestFormsDeclared.{split-form, takes-form}
 use Rattle.es_valid_rests.proofs.RestNamesCatch.{catch-rest-names}
-use Rattle.es_valid_rests.proofs.RestNamesHeads.{head-rest-names}
+use Rattle.es_valid_rests.proofs.RestNamesHeads.{head-rest-names, target-head-names}
 use Rattle.es_valid_rests.proofs.RestNamesSplits.{split-names}
 use Rattle.es_valid_rests.proofs.RestNamesSteps.{WideLawful}
 use Rattle.es_valid_rests.proofs.RestNamesTaken.{takes-names}
 use Rattle.es_valid_rests.proofs.RestNamesWalk.{wide-good}
 use Rattle.es_steps.specs.CatchPatterns.{CatchRest}
-use Rattle.es_steps.specs.LoopHeads.{HeadRest}
+use Rattle.es_steps.specs.LoopHeads.{HeadRest, TargetHead}
 
 pub record GoodLawful (R : Site → Ledger → Spot → Ledger → Spot → Type 0) : Type 0 where
   pub good : (s s' : Ledger) (t u : Open) → Step R the_program s t s' u → Good s t → Good s' u
@@ -64,3 +64,6 @@ catch-good = named-good CatchRest catch-rest-form catch-rest-names
 
 pub head-good : GoodLawful HeadRest
 head-good = named-good HeadRest head-rest-form head-rest-names
+
+pub target-good : GoodLawful TargetHead
+target-good = named-good TargetHead target-head-form target-head-names

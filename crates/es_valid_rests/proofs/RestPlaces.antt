@@ -12,7 +12,7 @@ use Rattle.es_tree.specs.Table.{own_kinds}
 use Rattle.es_tree.specs.Tree.{Tree, node, Label, Fields, done, ◌then◌, one, many, Trees, kind_of}
 use Rattle.es_tree.specs.Words.{Text}
 use Rattle.es_tree.specs.declared.ast_type.AstType.{AstType}
-use Rattle.es_tree.specs.declared.ast_type.AstType.TheVariants.{ArrayPattern, ArrowFunctionExpression, AssignmentPattern, BlockStatement, CatchClause, ExportNamedDeclaration, ForInStatement, ForOfStatement, FunctionBody, FunctionDeclaration, FunctionExpression, Identifier, LabeledStatement, ObjectPattern, ObjectTarget, PatternProperty, Program, RestElement, TargetRest, VariableDeclaration, VariableDeclarator}
+use Rattle.es_tree.specs.declared.ast_type.AstType.TheVariants.{ArrayPattern, ArrowFunctionExpression, AssignmentPattern, BlockStatement, CatchClause, ExportNamedDeclaration, ExpressionStatement, ForInStatement, ForOfStatement, FunctionBody, FunctionDeclaration, FunctionExpression, Identifier, LabeledStatement, ObjectPattern, ObjectTarget, PatternProperty, Program, RestElement, TargetRest, VariableDeclaration, VariableDeclarator}
 use Rattle.es_tree.specs.declared.place.Place.{Place}
 use Rattle.es_tree.specs.declared.place.Place.TheVariants.{Declared, Declarator, Other, ProgramBody, Target}
 use Rattle.es_resolution.specs.Declarations.{Bound}
@@ -30,12 +30,14 @@ is_calm ArrowFunctionExpression = true
 is_calm AssignmentPattern = true
 is_calm BlockStatement = true
 is_calm CatchClause = true
+is_calm ExpressionStatement = true
 is_calm ForInStatement = true
 is_calm ForOfStatement = true
 is_calm FunctionBody = true
 is_calm FunctionDeclaration = true
 is_calm FunctionExpression = true
 is_calm ObjectPattern = true
+is_calm ObjectTarget = true
 is_calm PatternProperty = true
 is_calm RestElement = true
 is_calm _ = false
@@ -63,12 +65,14 @@ module _ (l : Label) (fs : Fields) where
   calm AssignmentPattern e = record { jump = λ up. refl; label = λ up. refl; returned = λ up. refl; super_word = λ up. refl; chain = refl; optional = refl; deleted = refl; value = λ p. refl; using_word = λ up. refl; head = λ up. refl; item = λ up. refl; accessor = refl; meta = λ up. refl; simple = refl }
   calm BlockStatement e = record { jump = λ up. refl; label = λ up. refl; returned = λ up. refl; super_word = λ up. refl; chain = refl; optional = refl; deleted = refl; value = λ p. refl; using_word = λ up. refl; head = λ up. refl; item = λ up. refl; accessor = refl; meta = λ up. refl; simple = refl }
   calm CatchClause e = record { jump = λ up. refl; label = λ up. refl; returned = λ up. refl; super_word = λ up. refl; chain = refl; optional = refl; deleted = refl; value = λ p. refl; using_word = λ up. refl; head = λ up. refl; item = λ up. refl; accessor = refl; meta = λ up. refl; simple = refl }
+  calm ExpressionStatement e = record { jump = λ up. refl; label = λ up. refl; returned = λ up. refl; super_word = λ up. refl; chain = refl; optional = refl; deleted = refl; value = λ p. refl; using_word = λ up. refl; head = λ up. refl; item = λ up. refl; accessor = refl; meta = λ up. refl; simple = refl }
   calm ForInStatement e = record { jump = λ up. refl; label = λ up. refl; returned = λ up. refl; super_word = λ up. refl; chain = refl; optional = refl; deleted = refl; value = λ p. refl; using_word = λ up. refl; head = λ up. refl; item = λ up. refl; accessor = refl; meta = λ up. refl; simple = refl }
   calm ForOfStatement e = record { jump = λ up. refl; label = λ up. refl; returned = λ up. refl; super_word = λ up. refl; chain = refl; optional = refl; deleted = refl; value = λ p. refl; using_word = λ up. refl; head = λ up. refl; item = λ up. refl; accessor = refl; meta = λ up. refl; simple = refl }
   calm FunctionBody e = record { jump = λ up. refl; label = λ up. refl; returned = λ up. refl; super_word = λ up. refl; chain = refl; optional = refl; deleted = refl; value = λ p. refl; using_word = λ up. refl; head = λ up. refl; item = λ up. refl; accessor = refl; meta = λ up. refl; simple = refl }
   calm FunctionDeclaration e = record { jump = λ up. refl; label = λ up. refl; returned = λ up. refl; super_word = λ up. refl; chain = refl; optional = refl; deleted = refl; value = λ p. refl; using_word = λ up. refl; head = λ up. refl; item = λ up. refl; accessor = refl; meta = λ up. refl; simple = refl }
   calm FunctionExpression e = record { jump = λ up. refl; label = λ up. refl; returned = λ up. refl; super_word = λ up. refl; chain = refl; optional = refl; deleted = refl; value = λ p. refl; using_word = λ up. refl; head = λ up. refl; item = λ up. refl; accessor = refl; meta = λ up. refl; simple = refl }
   calm ObjectPattern e = record { jump = λ up. refl; label = λ up. refl; returned = λ up. refl; super_word = λ up. refl; chain = refl; optional = refl; deleted = refl; value = λ p. refl; using_word = λ up. refl; head = λ up. refl; item = λ up. refl; accessor = refl; meta = λ up. refl; simple = refl }
+  calm ObjectTarget e = record { jump = λ up. refl; label = λ up. refl; returned = λ up. refl; super_word = λ up. refl; chain = refl; optional = refl; deleted = refl; value = λ p. refl; using_word = λ up. refl; head = λ up. refl; item = λ up. refl; accessor = refl; meta = λ up. refl; simple = refl }
   calm PatternProperty e = record { jump = λ up. refl; label = λ up. refl; returned = λ up. refl; super_word = λ up. refl; chain = refl; optional = refl; deleted = refl; value = λ p. refl; using_word = λ up. refl; head = λ up. refl; item = λ up. refl; accessor = refl; meta = λ up. refl; simple = refl }
   calm RestElement e = record { jump = λ up. refl; label = λ up. refl; returned = λ up. refl; super_word = λ up. refl; chain = refl; optional = refl; deleted = refl; value = λ p. refl; using_word = λ up. refl; head = λ up. refl; item = λ up. refl; accessor = refl; meta = λ up. refl; simple = refl }
   calm _ e = absurd (cc e)
@@ -131,8 +135,9 @@ no-rest true y false w = refl
 no-rest false y true w = refl
 no-rest false y false w = refl
 
--- declarators and their declarations, functions
+-- declarators and their declarations, functions, expressions as statements
 abbrev pub is_level : AstType → Bool
+is_level ExpressionStatement = true
 is_level FunctionDeclaration = true
 is_level FunctionExpression = true
 is_level VariableDeclaration = true
@@ -150,6 +155,8 @@ record Stands (k : AstType) (l : Label) (fs : Fields) (i : ℕ) (up : List Ances
   inner_rest : (a : Ancestor) (t : Tree) → is_bad_rest (a ∷ (ancestor k l fs i 0 ∷ up)) t ≡ false
 
 stands-there : (k : AstType) (l : Label) (fs : Fields) (i : ℕ) (up : List Ancestor) → is_level k ≡ true → Stands k l fs i up
+stands-there ExpressionStatement l fs i [] e = record { label = refl; top = refl; for_in = refl; for_of = refl; exported = refl; lone = refl; rest = λ t. refl; inner_rest = λ a t. no-rest (leads_by RestElement 0 a) (not (same_type (kind_of t) Identifier)) (leads_by TargetRest 0 a) (not (is_simple_target (kind_of (without_parens t)))) }
+stands-there ExpressionStatement l fs i (b ∷ up) e = record { label = refl; top = refl; for_in = refl; for_of = refl; exported = refl; lone = refl; rest = λ t. refl; inner_rest = λ a t. no-rest (leads_by RestElement 0 a) (not (same_type (kind_of t) Identifier)) (leads_by TargetRest 0 a) (not (is_simple_target (kind_of (without_parens t)))) }
 stands-there FunctionDeclaration l fs i [] e = record { label = refl; top = refl; for_in = refl; for_of = refl; exported = refl; lone = refl; rest = λ t. refl; inner_rest = λ a t. no-rest (leads_by RestElement 0 a) (not (same_type (kind_of t) Identifier)) (leads_by TargetRest 0 a) (not (is_simple_target (kind_of (without_parens t)))) }
 stands-there FunctionDeclaration l fs i (b ∷ up) e = record { label = refl; top = refl; for_in = refl; for_of = refl; exported = refl; lone = refl; rest = λ t. refl; inner_rest = λ a t. no-rest (leads_by RestElement 0 a) (not (same_type (kind_of t) Identifier)) (leads_by TargetRest 0 a) (not (is_simple_target (kind_of (without_parens t)))) }
 stands-there FunctionExpression l fs i [] e = record { label = refl; top = refl; for_in = refl; for_of = refl; exported = refl; lone = refl; rest = λ t. refl; inner_rest = λ a t. no-rest (leads_by RestElement 0 a) (not (same_type (kind_of t) Identifier)) (leads_by TargetRest 0 a) (not (is_simple_target (kind_of (without_parens t)))) }

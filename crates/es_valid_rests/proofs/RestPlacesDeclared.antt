@@ -1,19 +1,18 @@
 -- Object rests that are taken in a declaration: the rules of places are kept.
-use Rattle.std.proofs.Common.{◌≡◌, ℕ, zero, suc, refl, ap, List, [], ◌∷◌, map}
+use Rattle.std.proofs.Common.{◌≡◌, refl, ap, List, [], ◌∷◌, map}
 use Rattle.std.specs.Prelude.{Bool, true, false, not, ◌&&◌, ◌||◌, bytes_eq, codes, Some}
 use Rattle.es_tree.specs.Ancestors.{Ancestor, ancestor, is_script_top, place_of, stands_in}
 use Rattle.es_tree.specs.CoreStaticRules.{is_bad_target}
 use Rattle.es_tree.specs.HasForm.{has_form}
 use Rattle.es_tree.specs.Names.{first_text}
 use Rattle.es_tree.specs.StaticRules.{binds_name, has_pattern, has_value, is_bad_for, is_bad_rest, is_bad_using, is_lone_declarator}
-use Rattle.es_tree.specs.Tree.{Tree, node, Label, Fields, done, ◌then◌, one, many, Trees, empty, ◌before◌, fields, kind_of, label_of}
-use Rattle.es_tree.specs.Words.{Text}
-use Rattle.es_tree.specs.declared.ast_type.AstType.TheVariants.{ArrayExpression, CallExpression, ExportNamedDeclaration, ForInStatement, ForOfStatement, Identifier, MemberExpression, ObjectPattern, RestElement, SequenceExpression, StringLiteral, VariableDeclaration, VariableDeclarator}
+use Rattle.es_tree.specs.Tree.{Tree, node, Label, Fields, done, ◌then◌, one, many, Trees, empty, ◌before◌, kind_of}
+use Rattle.es_tree.specs.declared.ast_type.AstType.TheVariants.{ExportNamedDeclaration, ForInStatement, ForOfStatement, Identifier, ObjectPattern, RestElement, StringLiteral, VariableDeclaration, VariableDeclarator}
 use Rattle.es_tree.specs.declared.place.Place.{Place}
 use Rattle.es_tree.specs.declared.place.Place.TheVariants.{Target}
 use Rattle.es_tree.specs.declared.table.Sort.{Sort}
-use Rattle.es_steps.specs.Nodes.{array_node, call_node, declarator_with, joined_trees, made, member_node, object_node, sequence_node, string_node, word}
-use Rattle.es_steps.specs.ObjectRest.{AreKeys, IsKey, RestOf, TakesRest, and_declarator, declares_as, declares_rest, helper_node, pattern_node}
+use Rattle.es_steps.specs.Nodes.{declarator_with, joined_trees, made, string_node}
+use Rattle.es_steps.specs.ObjectRest.{AreKeys, IsKey, RestOf, TakesRest, and_declarator, declares_as, declares_rest, pattern_node}
 use Rattle.es_steps.specs.ObjectRest.IsKey.{name_key, text_key}
 use Rattle.es_steps.specs.ObjectRest.RestOf.{alone, beside, mapped}
 use Rattle.es_steps.specs.ObjectRest.TakesRest.{takes_rest}
@@ -21,18 +20,19 @@ use Rattle.es_steps.specs.Steps.{Ledger, Site}
 use Rattle.es_steps.specs.Steps.Spot.{at_node}
 use Rattle.es_steps.proofs.Fronts.{Front, front-of}
 use Rattle.es_steps.proofs.Fronts.Front.{of_none, of_some}
+use Rattle.es_steps.proofs.RestParts.{EachTree}
 use Rattle.es_steps.proofs.TakesRest.{texts-are-keys}
-use Rattle.es_valid_steps.specs.PlaceRules.{Keeps, KeepsAll, KeepsHere, KeepsIn}
-use Rattle.es_valid_steps.proofs.Free.{Free, free-as, made-there, room-in, unmarked}
-use Rattle.es_valid_steps.proofs.Free.Under.{deeper as deeper_under, itself as itself_under}
-use Rattle.es_valid_steps.proofs.Loose.{Loose, loose}
+use Rattle.es_valid_steps.specs.PlaceRules.{Keeps, KeepsAll, KeepsHere}
+use Rattle.es_valid_steps.proofs.Free.{Free, unmarked}
+use Rattle.es_valid_steps.proofs.Free.Under.{itself as itself_under}
 use Rattle.es_valid_steps.proofs.Loose.OpenPlace.{at_other}
-use Rattle.es_valid_steps.proofs.MadeNodes.{free-call, free-empty, free-member, free-more, free-name, free-node, free-object, in-sequence}
+use Rattle.es_valid_steps.proofs.MadeNodes.{free-leaf, free-name}
 use Rattle.es_valid_steps.proofs.Offers.{Alike, near-self, offers-self}
+use Rattle.es_valid_steps.proofs.RestAssignmentPlaces.{left-of-free, whole-free}
 use Rattle.es_valid_rests.specs.RestRules.{Binding, is_binding_kind}
 use Rattle.es_valid_rests.proofs.FacedSteps.{FaceLawful, NodeFaced}
 use Rattle.es_valid_rests.proofs.RestFormsDeclared.{last-kind, takes-nodes}
-use Rattle.es_valid_rests.proofs.RestPlaces.{and-first, declarator-loose, declarator-target, level-loose, no-rest, valued-here}
+use Rattle.es_valid_rests.proofs.RestPlaces.{and-first, declarator-loose, declarator-target, level-loose, valued-here}
 use Rattle.es_valid_rests.proofs.RestPlacesFunctions.{all-again, all-joined, all-parts}
 use Rattle.es_valid_rests.proofs.RestPlacesPatterns.{binding-goes, clear-offers, declarator-goes, members-go, pattern-here}
 use Rattle.es_valid_rests.proofs.RestPlacesPatterns.Clear.{itself, deeper}
@@ -124,97 +124,27 @@ declared-keeps up m a c d es r h =
     let parts = all-parts there a (d before c) all in
     (declares-again up m a d c r.pattern r.valued (joined_trees a (joined_trees es c)) h.0, (all-joined there a (joined_trees es c) parts.0 (all-joined there es c (r.left after_it parts.1.0) parts.1.1), tt))
 
--- KEYS, in an array that stands in some node
-
-module _ (ds : Trees) (elements : Fields) (b : Ancestor) (up : List Ancestor) where
-  abbrev at_key : ℕ → List Ancestor
-  at_key i = ancestor ArrayExpression (made [] []) elements i 0 ∷ b ∷ up
-
-  array-loose : (i : ℕ) → Loose (at_key i)
-  array-loose i = record { label = refl; top = refl; for_in = refl; for_of = refl; exported = refl; lone = refl; rest = λ t. refl; inner_rest = λ a t. no-rest _ _ _ _ }
-
-  key-target : (i : ℕ) (k : Tree) → is_bad_target (place_of (at_key i)) k ≡ false
-  key-target zero k = refl
-  key-target (suc zero) k = refl
-  key-target (suc (suc i)) k = refl
-
-  key-keeps : (i : ℕ) (k : Tree) → IsKey ds k → Keeps (at_key i) k
-  key-keeps i k (text_key x) = (made-there (at_key i) StringLiteral (made (Some x ∷ []) []) done (array-loose i) (key-target i (string_node x)) refl refl refl, tt)
-  key-keeps i k (name_key l lp lq lk xs ys a c v e d computed) = (made-there (at_key i) Identifier lk done (array-loose i) (key-target i (node Identifier lk done)) refl refl refl, tt)
-
-  keys-keep : (i : ℕ) (ks : List Tree) → AreKeys ds ks → KeepsIn (b ∷ up) ArrayExpression (made [] []) elements i (fields (map one ks))
-  keys-keep i [] h = tt
-  keys-keep i (k ∷ ks) h = (key-keeps i k h.0, keys-keep (suc i) ks h.1)
-
--- THE CALL OF THE HELPER, as a declarator's value
+-- THE VALUE of a rest, as a declarator's
 
 module _ (l : Label) (fs : Fields) (vp : List Ancestor) where
   abbrev at_value : List Ancestor
   at_value = ancestor VariableDeclarator l fs 1 0 ∷ vp
 
-  abbrev call_label : Label
-  call_label = made [] (false ∷ [])
+  keys-free : (ds : Trees) (ks : List Tree) → AreKeys ds ks → EachTree (Free at_value) ks
+  keys-free ds [] h = tt
+  keys-free ds (k ∷ ks) h = (at k h.0, keys-free ds ks h.1)
+    where
+      at : (k : Tree) → IsKey ds k → Free at_value k
+      at k (text_key x) = free-leaf at_value StringLiteral (made (Some x ∷ []) []) refl refl refl
+      at k (name_key m lp lq lk xs ys a c v e d computed) = free-name at_value lk
 
-  abbrev at_argument : Fields → List Ancestor
-  at_argument all = ancestor CallExpression call_label all 1 0 ∷ at_value
-
-  helper-free : (h : Text) → Free at_value (helper_node h)
-  helper-free h = free-member at_value (made [] (false ∷ false ∷ [])) (word (codes "babelHelpers")) (word h) refl (free-as false true at_value (word (codes "babelHelpers")) (free-name at_value _)) (free-name at_value _)
-
-  -- the call of a helper, with arguments that keep the rules where they are
-  helper-keeps : (h : Text) (arguments : Trees) → KeepsAll (at_argument (one (helper_node h) then many arguments then done)) arguments → Keeps at_value (node CallExpression call_label (one (helper_node h) then many arguments then done))
-  helper-keeps h arguments k =
-      let all : Fields = one (helper_node h) then many arguments then done in
-      let callee = helper-free h (ancestor CallExpression call_label all 0 0 ∷ at_value) (room-in at_value at_value CallExpression call_label all 0 refl itself_under at_other) in
-      (made-there at_value CallExpression call_label all (declarator-loose l fs 1 vp) refl refl refl refl, (callee, (k, tt)))
-
-  -- `objectDestructuringEmpty(s), s`
-  empties-free : (ls : Label) → Free at_value (sequence_node (call_node (helper_node (codes "objectDestructuringEmpty")) (node Identifier ls done ∷ []) ∷ node Identifier ls done ∷ []))
-  empties-free ls =
-      let it : Tree = node Identifier ls done in
-      let helper = helper_node (codes "objectDestructuringEmpty") in
-      let call = call_node helper (it ∷ []) in
-      let list = free-more at_value it empty (free-name at_value ls) (free-empty at_value) in
-      let called = free-call at_value call_label helper (it before empty) refl (free-as true false at_value helper (helper-free (codes "objectDestructuringEmpty"))) list in
-      free-node at_value SequenceExpression (made [] []) (many (call before it before empty) then done) refl refl refl (in-sequence at_value (made [] []) (call before it before empty) (free-more at_value call (it before empty) called list))
-
-  -- `[keys].map(toPropertyKey)` as the argument
-  mapped-keeps : (ds : Trees) (all : Fields) (ks : List Tree) → AreKeys ds ks → Keeps (at_argument all) (call_node (member_node (array_node ks) (codes "map")) (helper_node (codes "toPropertyKey") ∷ []))
-  mapped-keeps ds all ks h =
-      let helper = helper_node (codes "toPropertyKey") in
-      let inner : Fields = one (member_node (array_node ks) (codes "map")) then many (helper before empty) then done in
-      let parts : Fields = one (array_node ks) then one (word (codes "map")) then done in
-      let m = made [] (false ∷ false ∷ []) in
-      let in_callee = ancestor CallExpression call_label inner 0 0 ∷ at_argument all in
-      let in_object = ancestor MemberExpression m parts 0 0 ∷ in_callee in
-      let listed : KeepsHere in_object (array_node ks) = record { jump = refl; label = refl; returned = refl; super_word = refl; target = refl; chain = refl; mark = refl; deleted = refl; value = refl; using_word = refl; head = refl; item = refl; accessor = refl; rest = refl; declaration = refl; meta = refl } in
-      let array : Keeps in_object (array_node ks) = (listed, keys-keep ds (fields (map one ks)) (ancestor MemberExpression m parts 0 0) in_callee 0 ks h) in
-      let property = made-there (ancestor MemberExpression m parts 1 0 ∷ in_callee) Identifier (label_of (word (codes "map"))) done (loose m parts 1 0 in_callee MemberExpression refl) refl refl refl refl in
-      let member = made-there in_callee MemberExpression m parts (loose call_label inner 0 0 (at_argument all) CallExpression refl) refl refl refl refl in
-      let called = made-there (at_argument all) CallExpression call_label inner (loose call_label all 1 0 at_value CallExpression refl) refl refl refl refl in
-      let argument = helper-free (codes "toPropertyKey") (ancestor CallExpression call_label inner 1 0 ∷ at_argument all) (room-in at_value (at_argument all) CallExpression call_label inner 1 refl (deeper_under refl itself_under) at_other) in
-      (called, ((member, (array, ((property, tt), tt))), ((argument, tt), tt)))
+  value-free : (ds : Trees) (lp ls : Label) (ps gs : Trees) (e : Tree) → RestOf ds lp (node Identifier ls done) ps gs e → Free at_value e
+  value-free ds lp ls ps gs e (beside ks) = left-of-free at_value false (node Identifier ls done) (map string_node ks) (free-name at_value ls) (keys-free ds (map string_node ks) (texts-are-keys ds ks))
+  value-free ds lp ls ps gs e (mapped ks h) = left-of-free at_value true (node Identifier ls done) ks (free-name at_value ls) (keys-free ds ks h)
+  value-free ds lp ls ps gs e alone = whole-free at_value (node Identifier ls done) (free-name at_value ls)
 
   value-keeps : (ds : Trees) (lp ls : Label) (ps gs : Trees) (e : Tree) → RestOf ds lp (node Identifier ls done) ps gs e → Keeps at_value e
-  value-keeps ds lp ls ps gs e (beside ks) =
-      let it : Tree = node Identifier ls done in
-      let texts = map string_node ks in
-      let array = array_node texts in
-      let all : Fields = one (helper_node (codes "objectWithoutProperties")) then many (it before array before empty) then done in
-      let argument = made-there (at_argument all) Identifier ls done (loose call_label all 1 0 at_value CallExpression refl) refl refl refl refl in
-      let listed : KeepsHere (at_argument all) array = record { jump = refl; label = refl; returned = refl; super_word = refl; target = refl; chain = refl; mark = refl; deleted = refl; value = refl; using_word = refl; head = refl; item = refl; accessor = refl; rest = refl; declaration = refl; meta = refl } in
-      helper-keeps (codes "objectWithoutProperties") (it before array before empty) ((argument, tt), ((listed, keys-keep ds (fields (map one texts)) (ancestor CallExpression call_label all 1 0) at_value 0 texts (texts-are-keys ds ks)), tt))
-  value-keeps ds lp ls ps gs e (mapped ks h) =
-      let it : Tree = node Identifier ls done in
-      let keys = call_node (member_node (array_node ks) (codes "map")) (helper_node (codes "toPropertyKey") ∷ []) in
-      let all : Fields = one (helper_node (codes "objectWithoutProperties")) then many (it before keys before empty) then done in
-      let argument = made-there (at_argument all) Identifier ls done (loose call_label all 1 0 at_value CallExpression refl) refl refl refl refl in
-      helper-keeps (codes "objectWithoutProperties") (it before keys before empty) ((argument, tt), (mapped-keeps ds all ks h, tt))
-  value-keeps ds lp ls ps gs e alone =
-      let both = sequence_node (call_node (helper_node (codes "objectDestructuringEmpty")) (node Identifier ls done ∷ []) ∷ node Identifier ls done ∷ []) in
-      let arguments : Trees = object_node [] before both before empty in
-      let all : Fields = one (helper_node (codes "extends")) then many arguments then done in
-      helper-keeps (codes "extends") arguments (free-more at_value (object_node []) (both before empty) (free-object at_value (made [] []) empty (free-empty at_value)) (free-more at_value both empty (empties-free ls) (free-empty at_value)) (at_argument all) (room-in at_value at_value CallExpression call_label all 1 refl itself_under at_other))
+  value-keeps ds lp ls ps gs e r = value-free ds lp ls ps gs e r at_value (record { under = itself_under; is_loose = declarator-loose l fs 1 vp; place = at_other })
 
 -- A REST
 

@@ -48,8 +48,8 @@ use Rattle.es_steps.proofs.FormSteps.{formed-after}
 use Rattle.es_valid_rests.specs.Laws.{LawRestOutside, LawRestRules, with_rests}
 use Rattle.es_valid_rests.specs.RestRules.{Binding, OutsidePart, Unexported}
 use Rattle.es_valid_rests.proofs.FacedSteps.{FaceLawful}
-use Rattle.es_valid_rests.proofs.RestForms.{catch-rest-form, head-rest-form}
-use Rattle.es_valid_rests.proofs.RestNamesRules.{GoodLawful, catch-good, either-good, head-good, split-good, takes-good}
+use Rattle.es_valid_rests.proofs.RestForms.{catch-rest-form, head-rest-form, target-head-form}
+use Rattle.es_valid_rests.proofs.RestNamesRules.{GoodLawful, catch-good, either-good, head-good, target-good, split-good, takes-good}
 use Rattle.es_valid_rests.proofs.RestNamesParametersRule.{parameter-good}
 use Rattle.es_valid_rests.proofs.OneOf.{one-of}
 use Rattle.es_valid_rests.proofs.RestFormsDeclared.{split-form, takes-form}
@@ -58,9 +58,9 @@ use Rattle.es_valid_rests.proofs.RestPlacesDeclared.{takes-faced}
 use Rattle.es_valid_rests.proofs.RestPlacesFunctions.{parameter-faced}
 use Rattle.es_valid_rests.proofs.RestPlacesSplits.{split-faced}
 use Rattle.es_valid_rests.proofs.RestReadPrograms.{program-read}
-use Rattle.es_valid_rests.proofs.RestReadRules.{both-read, catch-read, head-read, on-read, parameter-read, split-read, takes-read}
+use Rattle.es_valid_rests.proofs.RestReadRules.{both-read, catch-read, head-read, target-read, on-read, parameter-read, split-read, takes-read}
 use Rattle.es_valid_rests.proofs.RestReads.{ReadLawful, SameRead}
-use Rattle.es_valid_rests.proofs.RestPlacesHeads.{head-rest-faced}
+use Rattle.es_valid_rests.proofs.RestPlacesHeads.{head-rest-faced, target-head-faced}
 use Rattle.es_valid_rests.proofs.RestPlacesMoved.{catch-rest-faced}
 use Rattle.es_valid_rests.proofs.RestSteps.{asked, both-faced, rests-apart, rests-form, rests-written, rests_alone, source-form, source-places}
 
@@ -184,19 +184,19 @@ narrow-faced : (R : Site → Ledger → Spot → Ledger → Spot → Type 0) →
 narrow-faced R law = record { at_nodes = λ n s s' x y h. law.at_nodes n s s' x y h.0; leaves = λ n s s' t u a up h f g. law.leaves n s s' t u a up h.0 f g }
 
 outside-form : FormLawful OutsidePart
-outside-form = both-form (narrow-form _ split-form) (both-form takes-form (both-form catch-rest-form (both-form head-rest-form parameter-form)))
+outside-form = both-form (narrow-form _ split-form) (both-form takes-form (both-form catch-rest-form (both-form head-rest-form (both-form target-head-form parameter-form))))
 
 outside-faced : FaceLawful OutsidePart
-outside-faced = both-faced (narrow-faced _ split-faced) (both-faced takes-faced (both-faced catch-rest-faced (both-faced head-rest-faced parameter-faced)))
+outside-faced = both-faced (narrow-faced _ split-faced) (both-faced takes-faced (both-faced catch-rest-faced (both-faced head-rest-faced (both-faced target-head-faced parameter-faced))))
 
 outside-read : ReadLawful OutsidePart
-outside-read = both-read split-read (both-read takes-read (both-read catch-read (both-read head-read parameter-read)))
+outside-read = both-read split-read (both-read takes-read (both-read catch-read (both-read head-read (both-read target-read parameter-read))))
 
 unexported-good : GoodLawful (Unexported (Binding SplitRule))
 unexported-good = record { good = λ s s' t u h. split-good.good s s' t u (step_under (Unexported (Binding SplitRule)) (Binding SplitRule) (λ n s x s' y r. r.0) h) }
 
 outside-good : GoodLawful OutsidePart
-outside-good = either-good unexported-good (either-good takes-good (either-good catch-good (either-good head-good parameter-good)))
+outside-good = either-good unexported-good (either-good takes-good (either-good catch-good (either-good head-good (either-good target-good parameter-good))))
 
 pub law_rest_outside_proof : LawRestOutside
 law_rest_outside_proof o = source-outside OutsidePart outside-form outside-faced o outside-read

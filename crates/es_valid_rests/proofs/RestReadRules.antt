@@ -10,9 +10,10 @@ use Rattle.es_tree.specs.declared.ast_type.AstType.TheVariants.{Identifier, Prog
 use Rattle.es_steps.specs.CatchPatterns.{CatchRest}
 use Rattle.es_steps.specs.CatchPatterns.CatchRest.{moves}
 use Rattle.es_steps.specs.CoreRules.{where_on}
-use Rattle.es_steps.specs.LoopHeads.{HeadRest, IsForEach}
+use Rattle.es_steps.specs.LoopHeads.{HeadRest, IsForEach, TargetHead}
 use Rattle.es_steps.specs.LoopHeads.HeadRest.{lexical_head, var_head}
 use Rattle.es_steps.specs.LoopHeads.IsForEach.{for_in, for_of}
+use Rattle.es_steps.specs.LoopHeads.TargetHead.{target_head}
 use Rattle.es_steps.specs.Nodes.{joined_trees}
 use Rattle.es_steps.specs.ObjectRest.{SplitRule, TakesRest, and_declarator, declares_rest}
 use Rattle.es_steps.specs.ObjectRest.SplitRule.{splits}
@@ -26,7 +27,7 @@ use Rattle.es_steps.proofs.CatchRests.{catch-rest-only}
 use Rattle.es_steps.proofs.FormRules.{AtNodes}
 use Rattle.es_steps.proofs.Fronts.{Front, front-of}
 use Rattle.es_steps.proofs.Fronts.Front.{of_none, of_some}
-use Rattle.es_steps.proofs.Heads.{head-only}
+use Rattle.es_steps.proofs.Heads.{head-only, target-only}
 use Rattle.es_steps.proofs.Parameters.{parameter-only}
 use Rattle.es_module_names.specs.Modules.{bound_texts, declarator_texts, texts_among}
 use Rattle.es_module_names.proofs.Readings.{texts_of}
@@ -69,6 +70,19 @@ head-read = record { at_nodes = head-only; leaves = leaves; beside = beside; wit
     within : (n : Site) (s s' : Ledger) (t u : Tree) → HeadRest n s (at_node t) s' (at_node u) → same_type (kind_of t) Program ≡ false
     within n s s' t u (lexical_head {k = k} each holds fresh lexical apart silent body) = no-loop-program k each
     within n s s' t u (var_head {k = k} each holds fresh variable none silent body) = no-loop-program k each
+
+pub target-read : ReadLawful TargetHead
+target-read = record { at_nodes = target-only; leaves = leaves; beside = beside; within = within }
+  where
+    leaves : (n : Site) (s s' : Ledger) (t u : Tree) → TargetHead n s (at_node t) s' (at_node u) → SameRead n.above t u
+    leaves n s s' t u (target_head for_in rest fresh silent quiet body) = record { kind = refl; label = refl; bound = refl; declarator = refl; declared = λ e. refl; specifier = refl; request = refl; star = refl; exported = refl }
+    leaves n s s' t u (target_head for_of rest fresh silent quiet body) = record { kind = refl; label = refl; bound = refl; declarator = refl; declared = λ e. refl; specifier = refl; request = refl; star = refl; exported = refl }
+
+    beside : (n : Site) (s s' : Ledger) (t u : Tree) → TargetHead n s (at_node t) s' (at_node u) → SameBeside s s'
+    beside n s s' t u (target_head each rest fresh silent quiet body) = record { pending = refl; this = refl; top = refl }
+
+    within : (n : Site) (s s' : Ledger) (t u : Tree) → TargetHead n s (at_node t) s' (at_node u) → same_type (kind_of t) Program ≡ false
+    within n s s' t u (target_head {k = k} each rest fresh silent quiet body) = no-loop-program k each
 
 pub parameter-read : ReadLawful ParameterRest
 parameter-read = record { at_nodes = parameter-only; leaves = leaves; beside = beside; within = within }

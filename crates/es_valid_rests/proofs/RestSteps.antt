@@ -22,10 +22,8 @@ use Rattle.es_steps.proofs.Opened.{finished-opened}
 use Rattle.es_steps.specs.FormLaws.{StepsKeepForm}
 use Rattle.es_valid_steps.specs.Laws.{StepsKeepPlaces}
 use Rattle.es_valid_steps.specs.PlaceRules.{Keeps}
-use Rattle.es_valid_steps.proofs.FurtherRows.{catch-lawful, spread-lawful}
-use Rattle.es_valid_steps.proofs.FurtherSteps.{alone, alone-form, alone-written, apart}
+use Rattle.es_valid_steps.proofs.FurtherSteps.{alone, alone-form, alone-lawful, alone-written, apart}
 use Rattle.es_valid_steps.proofs.NamespaceRows.{ProgramLeft, program-left}
-use Rattle.es_valid_steps.proofs.PlaceRows.{PlaceLawful, both-lawful, on-lawful, under-lawful}
 use Rattle.es_valid_steps.proofs.PlaceSteps.{kept-after}
 use Rattle.es_valid_steps.proofs.ProgramLists.{program-exported}
 use Rattle.es_valid_steps.proofs.Spread.{finished-spread, spread, spread-opened}
@@ -36,12 +34,12 @@ use Rattle.es_valid_rests.specs.Laws.{LawRestForm, LawRestPlaces, with_rests}
 use Rattle.es_valid_rests.specs.RestRules.{RestPart}
 use Rattle.es_valid_rests.proofs.FacedSteps.{FaceLawful, NodeFaced, faced-after}
 use Rattle.es_valid_rests.proofs.OneOf.{one-of}
-use Rattle.es_valid_rests.proofs.RestForms.{catch-rest-form, head-rest-form}
+use Rattle.es_valid_rests.proofs.RestForms.{catch-rest-form, head-rest-form, target-head-form}
 use Rattle.es_valid_rests.proofs.RestFormsDeclared.{split-form, takes-form}
 use Rattle.es_valid_rests.proofs.RestFormsMoved.{parameter-form}
 use Rattle.es_valid_rests.proofs.RestPlacesDeclared.{takes-faced}
 use Rattle.es_valid_rests.proofs.RestPlacesFunctions.{parameter-faced}
-use Rattle.es_valid_rests.proofs.RestPlacesHeads.{head-rest-faced}
+use Rattle.es_valid_rests.proofs.RestPlacesHeads.{head-rest-faced, target-head-faced}
 use Rattle.es_valid_rests.proofs.RestPlacesMoved.{catch-rest-faced}
 use Rattle.es_valid_rests.proofs.RestPlacesSplits.{split-faced}
 
@@ -63,9 +61,6 @@ on-faced true R h = h
 on-faced false R h = record { at_nodes = λ n s s' x y d. absurd d; leaves = λ n s s' t u a up d f g. absurd d }
 
 -- THE RULES that put no statement beside another, those of object rests among them
-
-alone-lawful : (o : EnvOptions) → PlaceLawful (alone o)
-alone-lawful o = both-lawful (under-lawful o) (both-lawful (on-lawful o.es2019.optional_catch_binding _ catch-lawful) (on-lawful (is_some o.es2018.object_rest_spread) _ spread-lawful))
 
 same-source : (t : Tree) → finished (spread (opened t)) ≡ t
 same-source t = finished-spread (opened t) ∙ finished-opened t
@@ -138,10 +133,10 @@ module _ (Q : Site → Ledger → Spot → Ledger → Spot → Type 0) (form : F
 -- THE LAWS, of all rules of object rests
 
 rest-form : FormLawful RestPart
-rest-form = both-form split-form (both-form takes-form (both-form catch-rest-form (both-form head-rest-form parameter-form)))
+rest-form = both-form split-form (both-form takes-form (both-form catch-rest-form (both-form head-rest-form (both-form target-head-form parameter-form))))
 
 rest-faced : FaceLawful RestPart
-rest-faced = both-faced split-faced (both-faced takes-faced (both-faced catch-rest-faced (both-faced head-rest-faced parameter-faced)))
+rest-faced = both-faced split-faced (both-faced takes-faced (both-faced catch-rest-faced (both-faced head-rest-faced (both-faced target-head-faced parameter-faced))))
 
 pub law_rest_form_proof : LawRestForm
 law_rest_form_proof = source-form RestPart rest-form rest-faced

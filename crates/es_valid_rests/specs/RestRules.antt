@@ -7,7 +7,7 @@ use Rattle.es_tree.specs.Tree.{Tree, node, ◌then◌, many, Trees, empty, ◌be
 use Rattle.es_tree.specs.declared.ast_type.AstType.{AstType}
 use Rattle.es_tree.specs.declared.ast_type.AstType.TheVariants.{ArrayPattern, ExportNamedDeclaration, Identifier, ObjectPattern, VariableDeclaration}
 use Rattle.es_steps.specs.CatchPatterns.{CatchRest}
-use Rattle.es_steps.specs.LoopHeads.{HeadRest}
+use Rattle.es_steps.specs.LoopHeads.{HeadRest, TargetHead}
 use Rattle.es_steps.specs.ObjectRest.{SplitRule, TakesRest}
 use Rattle.es_steps.specs.ParameterPatterns.{ParameterRest}
 use Rattle.es_steps.specs.Rules.{either_rule}
@@ -45,8 +45,8 @@ Unexported R n s x s' y = R n s x s' y × (stands_in ExportNamedDeclaration 0 n.
 
 -- THE RULES OF OBJECT RESTS, so far as it is proved that what they write is a program
 abbrev pub RestPart : Site → Ledger → Spot → Ledger → Spot → Type 0
-RestPart = either_rule (Binding SplitRule) (either_rule (Binding TakesRest) (either_rule CatchRest (either_rule HeadRest ParameterRest)))
+RestPart = either_rule (Binding SplitRule) (either_rule (Binding TakesRest) (either_rule CatchRest (either_rule HeadRest (either_rule TargetHead ParameterRest))))
 
 -- those of which it is proved of all nineteen static rules, and of what other modules see
 abbrev pub OutsidePart : Site → Ledger → Spot → Ledger → Spot → Type 0
-OutsidePart = either_rule (Unexported (Binding SplitRule)) (either_rule (Binding TakesRest) (either_rule CatchRest (either_rule HeadRest ParameterRest)))
+OutsidePart = either_rule (Unexported (Binding SplitRule)) (either_rule (Binding TakesRest) (either_rule CatchRest (either_rule HeadRest (either_rule TargetHead ParameterRest))))

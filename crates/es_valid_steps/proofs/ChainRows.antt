@@ -35,7 +35,7 @@ use Rattle.es_steps.proofs.FormChains.{chain-content, continued-form, element-fo
 use Rattle.es_steps.proofs.FormMembers.{call-form, member-form}
 use Rattle.es_steps.proofs.FormParts.{IsFormed, and-left, formed-bare}
 use Rattle.es_valid_steps.specs.PlaceRules.{Keeps, KeepsHere}
-use Rattle.es_valid_steps.proofs.Free.{Free, FreeAll, FreeAs, From, Under, all-parts, as-free, bare-part, free-as, free-bare, in-parens, is_plain, is_super_kind, member-key, member-object, object-free, parens, part}
+use Rattle.es_valid_steps.proofs.Free.{Free, FreeAll, FreeAs, From, Under, all-parts, as-free, bare-part, free-as, free-bare, in-parens, is_plain, is_super_kind, member-key, member-object, object-free, parens, part, plain-between}
 use Rattle.es_valid_steps.proofs.Free.From.{from_other, from_spine}
 use Rattle.es_valid_steps.proofs.Free.Under.{deeper, itself}
 use Rattle.es_valid_steps.proofs.MadeNodes.{free-binary, free-call, free-empty, free-leaf, free-logical, free-member, free-more, free-name, free-node, free-null, free-zero, in-conditional, in-unary, left-keeps, is_acted}
@@ -138,25 +138,25 @@ module _ (up : List Ancestor) (no_all : Bool) (known : Whole) where
     walked-free vp k l all e w u plain place (base link alone) f h = record { tests = tt; current = part up vp k l all 0 e u plain (subst (λ (q : Place). From e q) (sym place) (from_spine link)) h }
     walked-free vp k l all e w u plain place (plain_member {l = m} {computed = computed} {o = o} {p = p} {w = v} flags inner) f h =
         let here = ancestor k l all 0 0 ∷ vp in
-        let below = walked-free here MemberExpression m (one o then one p then done) o v (deeper plain u) refl (spine-link here place) inner (member-form m computed false o p flags f).object h.1.0 in
-        let key = as-free up p (part up here MemberExpression m (one o then one p then done) 1 p (deeper plain u) refl from_other h.1.1.0) in
+        let below = walked-free here MemberExpression m (one o then one p then done) o v (deeper (plain-between k plain) u) refl (spine-link here place) inner (member-form m computed false o p flags f).object h.1.0 in
+        let key = as-free up p (part up here MemberExpression m (one o then one p then done) 1 p (deeper (plain-between k plain) u) refl from_other h.1.1.0) in
         record { tests = below.tests; current = free-as _ _ up (member_at m computed v.current p) (member-at-free up m computed v.current p (λ wp r c d. below.current wp r (λ x. absurd (cc x)) (λ x. d refl)) key) }
     walked-free vp k l all e w u plain place (plain_call {l = m} {f = g} {arguments = ts} {w = v} flags inner) f h =
         let here = ancestor k l all 0 0 ∷ vp in
-        let below = walked-free here CallExpression m (one g then many ts then done) g v (deeper plain u) refl (spine-link here place) inner (call-form m g ts f).callee h.1.0 in
-        let args = all-parts up here CallExpression m (one g then many ts then done) 1 ts (deeper plain u) refl refl refl refl h.1.1.0 in
+        let below = walked-free here CallExpression m (one g then many ts then done) g v (deeper (plain-between k plain) u) refl (spine-link here place) inner (call-form m g ts f).callee h.1.0 in
+        let args = all-parts up here CallExpression m (one g then many ts then done) 1 ts (deeper (plain-between k plain) u) refl refl refl refl h.1.1.0 in
         record { tests = below.tests; current = free-as _ _ up (call_at m v.current ts) (call-at-free up m v.current ts (λ wp r c d. below.current wp r (λ x. c refl) (λ x. absurd (cc x))) args) }
     walked-free vp k l all e w u plain place (marked_member {l = m} {computed = computed} {o = o} {p = p} {w = v} {u = t} flags inner tested) f h =
         let here = ancestor k l all 0 0 ∷ vp in
-        let below = continued-free here MemberExpression m (one o then one p then done) o v (deeper plain u) refl (spine-link here place) refl (ap (λ bs. not (flag_at 1 bs)) flags) inner (member-form m computed true o p flags f).object h.1.0 in
-        let key = as-free up p (part up here MemberExpression m (one o then one p then done) 1 p (deeper plain u) refl from_other h.1.1.0) in
+        let below = continued-free here MemberExpression m (one o then one p then done) o v (deeper (plain-between k plain) u) refl (spine-link here place) refl (ap (λ bs. not (flag_at 1 bs)) flags) inner (member-form m computed true o p flags f).object h.1.0 in
+        let key = as-free up p (part up here MemberExpression m (one o then one p then done) 1 p (deeper (plain-between k plain) u) refl from_other h.1.1.0) in
         let after = tested-free v t tested below in
         record { tests = after.tests; current = free-as _ _ up (member_at m computed t.current p) (member-at-free up m computed t.current p (free-as false true up t.current after.current) key) }
     walked-free vp k l all e w u plain place (marked_call {l = m} {f = g} {arguments = ts} {w = v} flags inner called) f h =
         let here = ancestor k l all 0 0 ∷ vp in
         let callee = (call-form m g ts f).callee in
-        let below = continued-free here CallExpression m (one g then many ts then done) g v (deeper plain u) refl (spine-link here place) (ap (λ bs. not (flag_at 0 bs)) flags) refl inner callee h.1.0 in
-        let args = all-parts up here CallExpression m (one g then many ts then done) 1 ts (deeper plain u) refl refl refl refl h.1.1.0 in
+        let below = continued-free here CallExpression m (one g then many ts then done) g v (deeper (plain-between k plain) u) refl (spine-link here place) (ap (λ bs. not (flag_at 0 bs)) flags) refl inner callee h.1.0 in
+        let args = all-parts up here CallExpression m (one g then many ts then done) 1 ts (deeper (plain-between k plain) u) refl refl refl refl h.1.1.0 in
         let after = called-free m ts args v w called (continued-form no_all known g v inner callee).current below in
         record { tests = after.tests; current = free-as _ _ up w.current after.current }
 

@@ -9,7 +9,7 @@ use Rattle.es_tree.specs.Parens.{without_parens}
 use Rattle.es_tree.specs.StaticRules.{is_bad_accessor, is_bad_for, is_bad_using, is_declaration, is_duplicate_label, is_label, is_lone_body, is_misplaced_meta, is_misplaced_module_item, is_misplaced_return, is_misplaced_super, is_missing_label, is_unmarked_callee, is_unmarked_object}
 use Rattle.es_tree.specs.Tree.{Tree, node, Label, Fields, done, ◌then◌, missing, one, many, statements, Trees, empty, ◌before◌, kind_of}
 use Rattle.es_tree.specs.declared.ast_type.AstType.{AstType}
-use Rattle.es_tree.specs.declared.ast_type.AstType.TheVariants.{ArrowFunctionExpression, AssignmentExpression, BinaryExpression, BooleanLiteral, CallExpression, ChainExpression, ConditionalExpression, FunctionBody, Identifier, ImportAttribute, ImportNamespaceSpecifier, LogicalExpression, MemberExpression, NullLiteral, NumericLiteral, ObjectExpression, ParenthesizedExpression, SequenceExpression, SpreadElement, StringLiteral, Super, ThisExpression, UnaryExpression}
+use Rattle.es_tree.specs.declared.ast_type.AstType.TheVariants.{ArrayExpression, ArrowFunctionExpression, AssignmentExpression, BinaryExpression, BooleanLiteral, CallExpression, ChainExpression, ConditionalExpression, FunctionBody, Identifier, ImportAttribute, ImportNamespaceSpecifier, LogicalExpression, MemberExpression, NullLiteral, NumericLiteral, ObjectExpression, ObjectTarget, ParenthesizedExpression, SequenceExpression, SpreadElement, StringLiteral, Super, TargetProperty, TargetRest, ThisExpression, UnaryExpression}
 use Rattle.es_tree.specs.declared.place.Place.{Place}
 use Rattle.es_tree.specs.declared.place.Place.TheVariants.{Other, Spine, Target}
 use Rattle.es_tree.specs.declared.table.Sort.{Sort}
@@ -26,6 +26,7 @@ use Rattle.es_valid_steps.proofs.Offers.PlaceOffers.{on_spine, same_place}
 -- BELOW: expressions between, through which all searches go
 
 abbrev pub is_plain : AstType → Bool
+is_plain ArrayExpression = true
 is_plain AssignmentExpression = true
 is_plain BinaryExpression = true
 is_plain CallExpression = true
@@ -38,9 +39,22 @@ is_plain SequenceExpression = true
 is_plain UnaryExpression = true
 is_plain ObjectExpression = true
 is_plain SpreadElement = true
+is_plain TargetProperty = true
 is_plain _ = false
 
+-- so do they through patterns
+abbrev pub is_between : AstType → Bool
+is_between ObjectTarget = true
+is_between TargetRest = true
+is_between k = is_plain k
+
+pub plain-between : (k : AstType) → is_plain k ≡ true → is_between k ≡ true
+plain-between ObjectTarget e = absurd (cc e)
+plain-between TargetRest e = absurd (cc e)
+plain-between _ e = e
+
 plain-loose : (k : AstType) → is_plain k ≡ true → is_loose k ≡ true
+plain-loose ArrayExpression e = refl
 plain-loose AssignmentExpression e = refl
 plain-loose BinaryExpression e = refl
 plain-loose CallExpression e = refl
@@ -53,6 +67,7 @@ plain-loose SequenceExpression e = refl
 plain-loose UnaryExpression e = refl
 plain-loose ObjectExpression e = refl
 plain-loose SpreadElement e = refl
+plain-loose TargetProperty e = refl
 plain-loose _ e = absurd (cc e)
 
 -- the searches find the same, and the parent offers nothing of its own
@@ -72,25 +87,30 @@ record Silent (up : List Ancestor) : Type 0 where
   class : in_derived up ≡ false
 
 module _ (l : Label) (all : Fields) (i : ℕ) (up : List Ancestor) where
-  plain-searches : (k : AstType) → is_plain k ≡ true → SameSearches up (ancestor k l all i 0 ∷ up)
-  plain-searches AssignmentExpression e = record { labels = refl; loop = refl; breakable = refl; function = refl; members = refl; calls = refl; targets = refl; in_module = refl }
-  plain-searches BinaryExpression e = record { labels = refl; loop = refl; breakable = refl; function = refl; members = refl; calls = refl; targets = refl; in_module = refl }
-  plain-searches CallExpression e = record { labels = refl; loop = refl; breakable = refl; function = refl; members = refl; calls = refl; targets = refl; in_module = refl }
-  plain-searches ChainExpression e = record { labels = refl; loop = refl; breakable = refl; function = refl; members = refl; calls = refl; targets = refl; in_module = refl }
-  plain-searches ConditionalExpression e = record { labels = refl; loop = refl; breakable = refl; function = refl; members = refl; calls = refl; targets = refl; in_module = refl }
-  plain-searches LogicalExpression e = record { labels = refl; loop = refl; breakable = refl; function = refl; members = refl; calls = refl; targets = refl; in_module = refl }
-  plain-searches MemberExpression e = record { labels = refl; loop = refl; breakable = refl; function = refl; members = refl; calls = refl; targets = refl; in_module = refl }
-  plain-searches ParenthesizedExpression e = record { labels = refl; loop = refl; breakable = refl; function = refl; members = refl; calls = refl; targets = refl; in_module = refl }
-  plain-searches SequenceExpression e = record { labels = refl; loop = refl; breakable = refl; function = refl; members = refl; calls = refl; targets = refl; in_module = refl }
-  plain-searches UnaryExpression e = record { labels = refl; loop = refl; breakable = refl; function = refl; members = refl; calls = refl; targets = refl; in_module = refl }
-  plain-searches ObjectExpression e = record { labels = refl; loop = refl; breakable = refl; function = refl; members = refl; calls = refl; targets = refl; in_module = refl }
-  plain-searches SpreadElement e = record { labels = refl; loop = refl; breakable = refl; function = refl; members = refl; calls = refl; targets = refl; in_module = refl }
-  plain-searches _ e = absurd (cc e)
+  between-searches : (k : AstType) → is_between k ≡ true → SameSearches up (ancestor k l all i 0 ∷ up)
+  between-searches ArrayExpression e = record { labels = refl; loop = refl; breakable = refl; function = refl; members = refl; calls = refl; targets = refl; in_module = refl }
+  between-searches AssignmentExpression e = record { labels = refl; loop = refl; breakable = refl; function = refl; members = refl; calls = refl; targets = refl; in_module = refl }
+  between-searches BinaryExpression e = record { labels = refl; loop = refl; breakable = refl; function = refl; members = refl; calls = refl; targets = refl; in_module = refl }
+  between-searches CallExpression e = record { labels = refl; loop = refl; breakable = refl; function = refl; members = refl; calls = refl; targets = refl; in_module = refl }
+  between-searches ChainExpression e = record { labels = refl; loop = refl; breakable = refl; function = refl; members = refl; calls = refl; targets = refl; in_module = refl }
+  between-searches ConditionalExpression e = record { labels = refl; loop = refl; breakable = refl; function = refl; members = refl; calls = refl; targets = refl; in_module = refl }
+  between-searches LogicalExpression e = record { labels = refl; loop = refl; breakable = refl; function = refl; members = refl; calls = refl; targets = refl; in_module = refl }
+  between-searches MemberExpression e = record { labels = refl; loop = refl; breakable = refl; function = refl; members = refl; calls = refl; targets = refl; in_module = refl }
+  between-searches ParenthesizedExpression e = record { labels = refl; loop = refl; breakable = refl; function = refl; members = refl; calls = refl; targets = refl; in_module = refl }
+  between-searches SequenceExpression e = record { labels = refl; loop = refl; breakable = refl; function = refl; members = refl; calls = refl; targets = refl; in_module = refl }
+  between-searches UnaryExpression e = record { labels = refl; loop = refl; breakable = refl; function = refl; members = refl; calls = refl; targets = refl; in_module = refl }
+  between-searches ObjectExpression e = record { labels = refl; loop = refl; breakable = refl; function = refl; members = refl; calls = refl; targets = refl; in_module = refl }
+  between-searches SpreadElement e = record { labels = refl; loop = refl; breakable = refl; function = refl; members = refl; calls = refl; targets = refl; in_module = refl }
+  between-searches ObjectTarget e = record { labels = refl; loop = refl; breakable = refl; function = refl; members = refl; calls = refl; targets = refl; in_module = refl }
+  between-searches TargetProperty e = record { labels = refl; loop = refl; breakable = refl; function = refl; members = refl; calls = refl; targets = refl; in_module = refl }
+  between-searches TargetRest e = record { labels = refl; loop = refl; breakable = refl; function = refl; members = refl; calls = refl; targets = refl; in_module = refl }
+  between-searches _ e = absurd (cc e)
 
-  plain-silent : (k : AstType) → is_plain k ≡ true → Silent (ancestor k l all i 0 ∷ up)
-  plain-silent k e = record { method = method k e; constructor = constructor k e up; class = class k e }
+  between-silent : (k : AstType) → is_between k ≡ true → Silent (ancestor k l all i 0 ∷ up)
+  between-silent k e = record { method = method k e; constructor = constructor k e up; class = class k e }
     where
-      method : (k : AstType) → is_plain k ≡ true → is_method_value (ancestor k l all i 0 ∷ up) ≡ false
+      method : (k : AstType) → is_between k ≡ true → is_method_value (ancestor k l all i 0 ∷ up) ≡ false
+      method ArrayExpression e = refl
       method AssignmentExpression e = refl
       method BinaryExpression e = refl
       method CallExpression e = refl
@@ -103,10 +123,14 @@ module _ (l : Label) (all : Fields) (i : ℕ) (up : List Ancestor) where
       method UnaryExpression e = refl
       method ObjectExpression e = refl
       method SpreadElement e = refl
+      method ObjectTarget e = refl
+      method TargetProperty e = refl
+      method TargetRest e = refl
       method _ e = absurd (cc e)
 
-      constructor : (k : AstType) → is_plain k ≡ true → (up : List Ancestor) → is_derived_constructor (ancestor k l all i 0 ∷ up) ≡ false
+      constructor : (k : AstType) → is_between k ≡ true → (up : List Ancestor) → is_derived_constructor (ancestor k l all i 0 ∷ up) ≡ false
       constructor k e [] = refl
+      constructor ArrayExpression e (c ∷ up) = refl
       constructor AssignmentExpression e (c ∷ up) = refl
       constructor BinaryExpression e (c ∷ up) = refl
       constructor CallExpression e (c ∷ up) = refl
@@ -119,9 +143,13 @@ module _ (l : Label) (all : Fields) (i : ℕ) (up : List Ancestor) where
       constructor UnaryExpression e (c ∷ up) = refl
       constructor ObjectExpression e (c ∷ up) = refl
       constructor SpreadElement e (c ∷ up) = refl
+      constructor ObjectTarget e (c ∷ up) = refl
+      constructor TargetProperty e (c ∷ up) = refl
+      constructor TargetRest e (c ∷ up) = refl
       constructor _ e (c ∷ up) = absurd (cc e)
 
-      class : (k : AstType) → is_plain k ≡ true → in_derived (ancestor k l all i 0 ∷ up) ≡ false
+      class : (k : AstType) → is_between k ≡ true → in_derived (ancestor k l all i 0 ∷ up) ≡ false
+      class ArrayExpression e = refl
       class AssignmentExpression e = refl
       class BinaryExpression e = refl
       class CallExpression e = refl
@@ -134,28 +162,31 @@ module _ (l : Label) (all : Fields) (i : ℕ) (up : List Ancestor) where
       class UnaryExpression e = refl
       class ObjectExpression e = refl
       class SpreadElement e = refl
+      class ObjectTarget e = refl
+      class TargetProperty e = refl
+      class TargetRest e = refl
       class _ e = absurd (cc e)
 
 pub data Under (up : List Ancestor) : List Ancestor → Type 0 where
   itself : Under up up
-  deeper : {vp : List Ancestor} {k : AstType} {l : Label} {all : Fields} {i : ℕ} → is_plain k ≡ true → Under up vp → Under up (ancestor k l all i 0 ∷ vp)
+  deeper : {vp : List Ancestor} {k : AstType} {l : Label} {all : Fields} {i : ℕ} → is_between k ≡ true → Under up vp → Under up (ancestor k l all i 0 ∷ vp)
 
 under-searches : (up vp : List Ancestor) → Under up vp → SameSearches up vp
 under-searches up vp itself = record { labels = refl; loop = refl; breakable = refl; function = refl; members = refl; calls = refl; targets = refl; in_module = refl }
 under-searches up wp (deeper {vp = vp} {k = k} {l = l} {all = all} {i = i} e u) =
     let s = under-searches up vp u in
-    let n = plain-searches l all i vp k e in
+    let n = between-searches l all i vp k e in
     record { labels = n.labels ∙ s.labels; loop = n.loop ∙ s.loop; breakable = n.breakable ∙ s.breakable; function = n.function ∙ s.function; members = n.members ∙ s.members; calls = n.calls ∙ s.calls; targets = n.targets ∙ s.targets; in_module = n.in_module ∙ s.in_module }
 
 pub no-true : (b : Bool) (A : Type 0) → b ≡ false → b ≡ true → A
 no-true b A e d = absurd (cc (e, d))
 
 -- what stands directly in an expression somewhere below is offered the same anywhere else below
-under-offers : (up vp wp : List Ancestor) (k : AstType) (l : Label) (all : Fields) (i : ℕ) → is_plain k ≡ true → Under up vp → Under up wp → Offers true (ancestor k l all i 0 ∷ vp) wp
+pub under-offers : (up vp wp : List Ancestor) (k : AstType) (l : Label) (all : Fields) (i : ℕ) → is_between k ≡ true → Under up vp → Under up wp → Offers true (ancestor k l all i 0 ∷ vp) wp
 under-offers up vp wp k l all i e u w =
     let a = under-searches up (ancestor k l all i 0 ∷ vp) (deeper e u) in
     let b = under-searches up wp w in
-    let s = plain-silent l all i vp k e in
+    let s = between-silent l all i vp k e in
     record {
       labels = b.labels ∙ sym a.labels;
       loop = λ j h. b.loop ∙ sym a.loop ∙ h;
@@ -178,7 +209,7 @@ pub record Room (up vp : List Ancestor) : Type 0 where
   pub place : OpenPlace (place_of vp)
 
 pub room-in : (up vp : List Ancestor) (k : AstType) (l : Label) (all : Fields) (i : ℕ) → is_plain k ≡ true → Under up vp → OpenPlace (place_in (place_of vp) k l i) → Room up (ancestor k l all i 0 ∷ vp)
-room-in up vp k l all i e u o = record { under = deeper e u; is_loose = loose l all i 0 vp k (plain-loose k e); place = o }
+room-in up vp k l all i e u o = record { under = deeper (plain-between k e) u; is_loose = loose l all i 0 vp k (plain-loose k e); place = o }
 
 -- An expression that keeps the rules wherever there is room; `super` only as a callee or as an object.
 abbrev pub FreeAs : Bool → Bool → List Ancestor → Tree → Type 0
@@ -199,18 +230,18 @@ as-free up t h vp r = h vp r (λ e. absurd (cc e)) (λ e. absurd (cc e))
 pub data From (t : Tree) : Place → Type 0 where
   from_other : From t Other
   from_spine : is_link t ≡ false → From t Spine
-  from_target : {s : Sort} → is_simple_target (kind_of t) ≡ true → From t (Target s)
+  from_target : {s : Sort} → is_simple_target (kind_of (without_parens t)) ≡ true → From t (Target s)
 
 from-goes : (t : Tree) (p q : Place) → From t p → OpenPlace q → PlaceGoes t p q
 from-goes t p q from_other at_other = within (same_place Other)
 from-goes t p q from_other at_spine = within on_spine
 from-goes t p q (from_spine e) at_other = off_spine e
 from-goes t p q (from_spine e) at_spine = within (same_place Spine)
-from-goes t p q (from_target e) o = off_target e o
+from-goes t p q (from_target e) o = off_target e
 
 -- what stands directly in an expression somewhere below
 pub part : (up vp : List Ancestor) (k : AstType) (l : Label) (all : Fields) (i : ℕ) (t : Tree) → Under up vp → is_plain k ≡ true → From t (place_of (ancestor k l all i 0 ∷ vp)) → Keeps (ancestor k l all i 0 ∷ vp) t → FreeAs (is_unmarked_callee (ancestor k l all i 0 ∷ vp)) (is_unmarked_object (ancestor k l all i 0 ∷ vp)) up t
-part up vp k l all i t u e f h wp r c o = goes (ancestor k l all i 0 ∷ vp) wp (loose l all i 0 vp k (plain-loose k e)) r.is_loose true (under-offers up vp wp k l all i e u r.under) t (super-moved (ancestor k l all i 0 ∷ vp) wp true (under-offers up vp wp k l all i e u r.under) c o t) (from-goes t (place_of (ancestor k l all i 0 ∷ vp)) (place_of wp) f r.place) (λ d. absurd (cc d)) h
+part up vp k l all i t u e f h wp r c o = goes (ancestor k l all i 0 ∷ vp) wp (loose l all i 0 vp k (plain-loose k e)) r.is_loose true (under-offers up vp wp k l all i (plain-between k e) u r.under) t (super-moved (ancestor k l all i 0 ∷ vp) wp true (under-offers up vp wp k l all i (plain-between k e) u r.under) c o t) (from-goes t (place_of (ancestor k l all i 0 ∷ vp)) (place_of wp) f r.place) (λ d. absurd (cc d)) h
 
 -- and below parentheses
 
@@ -219,20 +250,12 @@ is_parenthesized (node ParenthesizedExpression l (one t then fs)) = true
 is_parenthesized _ = false
 
 pub bare-part : (up vp : List Ancestor) (k : AstType) (l : Label) (all : Fields) (i : ℕ) (t : Tree) → Under up vp → is_plain k ≡ true → (is_parenthesized t ≡ false → From t (place_of (ancestor k l all i 0 ∷ vp))) → Keeps (ancestor k l all i 0 ∷ vp) t → FreeAs (is_unmarked_callee (ancestor k l all i 0 ∷ vp)) (is_unmarked_object (ancestor k l all i 0 ∷ vp)) up (without_parens t)
-bare-part up vp k l all i (node ParenthesizedExpression m (one t then fs)) u e f h = free-as _ _ up (without_parens t) (as-free up (without_parens t) (bare-part up (ancestor k l all i 0 ∷ vp) ParenthesizedExpression m (one t then fs) 0 t (deeper e u) refl (λ d. from_other) h.1.0))
+bare-part up vp k l all i (node ParenthesizedExpression m (one t then fs)) u e f h = free-as _ _ up (without_parens t) (as-free up (without_parens t) (bare-part up (ancestor k l all i 0 ∷ vp) ParenthesizedExpression m (one t then fs) 0 t (deeper (plain-between k e) u) refl (λ d. from_other) h.1.0))
 bare-part up vp k l all i (node ParenthesizedExpression m done) u e f h = part up vp k l all i _ u e (f refl) h
 bare-part up vp k l all i (node ParenthesizedExpression m (missing then fs)) u e f h = part up vp k l all i _ u e (f refl) h
 bare-part up vp k l all i (node ParenthesizedExpression m (many ts then fs)) u e f h = part up vp k l all i _ u e (f refl) h
 bare-part up vp k l all i (node ParenthesizedExpression m (statements ts then fs)) u e f h = part up vp k l all i _ u e (f refl) h
 bare-part up vp k l all i (node _ m fs) u e f h = part up vp k l all i _ u e (f refl) h
-
-pub without-none : (t : Tree) → is_parenthesized t ≡ false → without_parens t ≡ t
-without-none (node ParenthesizedExpression l (one t then fs)) e = absurd (cc e)
-without-none (node ParenthesizedExpression l done) e = refl
-without-none (node ParenthesizedExpression l (missing then fs)) e = refl
-without-none (node ParenthesizedExpression l (many ts then fs)) e = refl
-without-none (node ParenthesizedExpression l (statements ts then fs)) e = refl
-without-none (node _ l fs) e = refl
 
 abbrev pub FreeAll : List Ancestor → Trees → Type 0
 FreeAll up ts = (vp : List Ancestor) → Room up vp → KeepsAll vp ts
@@ -280,6 +303,7 @@ module _ (up : List Ancestor) (m : Label) where
 
 -- kinds that break no rule by themselves but by marks and by what they delete
 abbrev pub is_quiet : AstType → Bool
+is_quiet ArrayExpression = true
 is_quiet AssignmentExpression = true
 is_quiet BinaryExpression = true
 is_quiet FunctionBody = true
@@ -316,6 +340,7 @@ module _ (l : Label) (fs : Fields) where
     pub meta : (up : List Ancestor) → is_misplaced_meta up (node k l fs) ≡ false
 
   pub quiet : (k : AstType) → is_quiet k ≡ true → Quiet k
+  quiet ArrayExpression e = record { jump = λ up. refl; returned = λ up. refl; super_word = λ up. refl; chain = refl; value = λ p. refl; using_word = λ up. refl; head = λ up. refl; item = λ up. refl; accessor = refl; declaration = refl; meta = λ up. refl }
   quiet AssignmentExpression e = record { jump = λ up. refl; returned = λ up. refl; super_word = λ up. refl; chain = refl; value = λ p. refl; using_word = λ up. refl; head = λ up. refl; item = λ up. refl; accessor = refl; declaration = refl; meta = λ up. refl }
   quiet BinaryExpression e = record { jump = λ up. refl; returned = λ up. refl; super_word = λ up. refl; chain = refl; value = λ p. refl; using_word = λ up. refl; head = λ up. refl; item = λ up. refl; accessor = refl; declaration = refl; meta = λ up. refl }
   quiet FunctionBody e = record { jump = λ up. refl; returned = λ up. refl; super_word = λ up. refl; chain = refl; value = λ p. refl; using_word = λ up. refl; head = λ up. refl; item = λ up. refl; accessor = refl; declaration = refl; meta = λ up. refl }

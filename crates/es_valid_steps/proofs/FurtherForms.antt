@@ -64,7 +64,7 @@ members-list : (ps : List Tree) → AreMembers ps → trees_form s-ObjectMember 
 members-list [] h = refl
 members-list (p ∷ ps) h = formed-first s-ObjectMember p (trees ps) h.0 (members-list ps h.1)
 
-formed-object : (ps : List Tree) → AreMembers ps → IsFormed (object_node ps)
+pub formed-object : (ps : List Tree) → AreMembers ps → IsFormed (object_node ps)
 formed-object ps h =
     let span = no-span [] [] in
     has_form-node s-Expression ObjectExpression (made [] []) (many (trees ps) then done) (record { sort = refl; texts = refl; flags = refl; start = span.start; stop = span.stop; agree = refl; children = and_from _ true (members-list ps h) refl })
@@ -73,7 +73,7 @@ arguments-list : (ts : List Tree) → AreFormed ts → trees_form s-Argument s-A
 arguments-list [] h = refl
 arguments-list (t ∷ ts) h = formed-first s-Argument t (trees ts) (form-wider s-Argument t refl h.0) (arguments-list ts h.1)
 
-formed-called : (f : Tree) (ts : List Tree) → IsFormed f → AreFormed ts → IsFormed (call_node f ts)
+pub formed-called : (f : Tree) (ts : List Tree) → IsFormed f → AreFormed ts → IsFormed (call_node f ts)
 formed-called f ts h k = formed-call (made [] (false ∷ [])) false f (trees ts) refl refl (no-span [] (false ∷ [])) h (arguments-list ts k)
 
 pub or-none : (b : Bool) → (b || false) ≡ true → b ≡ true

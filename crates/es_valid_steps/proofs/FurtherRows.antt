@@ -106,7 +106,7 @@ module _ (up : List Ancestor) (f : Tree) (h : Free up f) where
   placed-keeps : (t : Tree) (m : Label) (u : Tree) → is_acted (kind_of t) ≡ true → KeepsHere up t → CopyFree up f (Some u) → NodeLeft up t (placed m u)
   placed-keeps t m u acted here (a_copy ts k) = record { keeps = left-keeps up t CallExpression (record (made [] (false ∷ [])) { start = m.start; stop = m.stop }) (one f then many (trees ts) then done) acted here refl refl (in-call up (record (made [] (false ∷ [])) { start = m.start; stop = m.stop }) f (trees ts) refl (free-as true false up f h) k); left = refl }
 
-helper-free : (up : List Ancestor) (x : List ℕ) → Free up (helper_node x)
+pub helper-free : (up : List Ancestor) (x : List ℕ) → Free up (helper_node x)
 helper-free up x = free-member up (made [] (false ∷ false ∷ [])) (word (codes "babelHelpers")) (word x) refl (free-as false true up (word (codes "babelHelpers")) (free-name up _)) (free-name up _)
 
 pub spread-lawful : PlaceLawful (Replacing SpreadRule)

@@ -1,23 +1,25 @@
--- Steps of the core rules, of optional catch, namespace exports and object spread keep form and the static rules of places.
+-- Steps of the core rules, of optional catch, namespace exports and object spread, and of rests in assignments keep form and the static rules of
+-- places.
 use Rattle.std.proofs.Common.{◌≡◌, inl, inr, sym, subst, ◌∙◌, List, []}
 use Rattle.std.specs.Prelude.{Bool, true, false, is_some}
 use Rattle.es_tree.specs.HasForm.{has_form}
 use Rattle.es_tree.specs.Tree.{Tree, Trees, empty}
 use Rattle.es_tree.specs.declared.options.EnvOptions.{EnvOptions}
 use Rattle.es_tree.specs.declared.table.Sort.TheVariants.{Program as s-Program}
+use Rattle.es_steps.specs.AllRules.{ObjectRule}
 use Rattle.es_steps.specs.CoreRules.{rule_under, where_on}
 use Rattle.es_steps.specs.NamespaceExports.{NamespaceRule}
-use Rattle.es_steps.specs.ObjectSpread.{SpreadRule}
 use Rattle.es_steps.specs.Open.{Open, finished, flanks_with, opened}
 use Rattle.es_steps.specs.OptionalCatch.{CatchRule}
-use Rattle.es_steps.specs.Rules.{Replacing, either_rule}
+use Rattle.es_steps.specs.RestAssignments.{RestAssignmentRule}
+use Rattle.es_steps.specs.Rules.{either_rule}
 use Rattle.es_steps.specs.Steps.{Ledger, Site, Spot, the_program, Step, Steps}
 use Rattle.es_steps.specs.Steps.Spot.{at_beside, at_trees}
 use Rattle.es_steps.specs.Steps.Steps.{stays, goes}
 use Rattle.es_steps.proofs.BridgeInclusion.{all_under}
 use Rattle.es_steps.proofs.CoreLaws.{rule-under-lawful}
 use Rattle.es_steps.proofs.FormOpen.{IsProper, opened-proper}
-use Rattle.es_steps.proofs.FormRules.{AtNodes, FormLawful, both-form, on-form, rule-under-form}
+use Rattle.es_steps.proofs.FormRules.{AtNodes, FormLawful, both-form, on-form, replaces-nodes, rule-under-form}
 use Rattle.es_steps.proofs.FormSteps.{formed-after}
 use Rattle.es_steps.proofs.Opened.{finished-opened}
 use Rattle.es_valid_steps.specs.Laws.{LawFurtherForm, LawFurtherPlaces, with_further_rules}
@@ -28,6 +30,8 @@ use Rattle.es_valid_steps.proofs.NamespaceRows.{ProgramLeft, program-left}
 use Rattle.es_valid_steps.proofs.PlaceRows.{PlaceLawful, both-lawful, on-lawful, under-lawful}
 use Rattle.es_valid_steps.proofs.PlaceSteps.{kept-after}
 use Rattle.es_valid_steps.proofs.ProgramLists.{program-exported}
+use Rattle.es_valid_steps.proofs.RestAssignmentForms.{rest-assignment-form}
+use Rattle.es_valid_steps.proofs.RestAssignmentPlaces.{rest-assignment-lawful}
 use Rattle.es_valid_steps.proofs.Spread.{finished-spread, spread, spread-opened}
 use Rattle.es_valid_steps.proofs.SpreadSteps.{SameBoth, Went, spread-step}
 use Rattle.es_valid_steps.proofs.SpreadSteps.Went.{moves, rests, leaves}
@@ -36,13 +40,17 @@ use Rattle.es_valid_steps.proofs.Visits.{law_places_proof}
 -- THE RULES that put no statement beside another
 
 abbrev pub alone : EnvOptions → Site → Ledger → Spot → Ledger → Spot → Type 0
-alone o = either_rule (rule_under o) (either_rule (where_on o.es2019.optional_catch_binding CatchRule) (where_on (is_some o.es2018.object_rest_spread) (Replacing SpreadRule)))
+alone o = either_rule (rule_under o) (either_rule (where_on o.es2019.optional_catch_binding CatchRule) (where_on (is_some o.es2018.object_rest_spread) ObjectRule))
 
 pub alone-form : (o : EnvOptions) → FormLawful (alone o)
-alone-form o = both-form (rule-under-form o) (both-form (on-form o.es2019.optional_catch_binding _ catch-form) (on-form (is_some o.es2018.object_rest_spread) _ spread-form))
+alone-form o = both-form (rule-under-form o) (both-form (on-form o.es2019.optional_catch_binding _ catch-form) (on-form (is_some o.es2018.object_rest_spread) _ (both-form spread-form rest-assignment-form)))
 
-alone-lawful : (o : EnvOptions) → PlaceLawful (alone o)
-alone-lawful o = both-lawful (under-lawful o) (both-lawful (on-lawful o.es2019.optional_catch_binding _ catch-lawful) (on-lawful (is_some o.es2018.object_rest_spread) _ spread-lawful))
+pub alone-lawful : (o : EnvOptions) → PlaceLawful (alone o)
+alone-lawful o = both-lawful (under-lawful o) (both-lawful (on-lawful o.es2019.optional_catch_binding _ catch-lawful) (on-lawful (is_some o.es2018.object_rest_spread) _ (both-lawful spread-lawful rest-assignment-lawful)))
+
+pub object-nodes : (n : Site) (s s' : Ledger) (x y : Spot) → ObjectRule n s x s' y → AtNodes x y
+object-nodes n s s' x y (inl r) = spread-nodes n s s' x y r
+object-nodes n s s' x y (inr r) = replaces-nodes RestAssignmentRule n s s' x y r
 
 on-nodes : (b : Bool) (R : Site → Ledger → Spot → Ledger → Spot → Type 0) → ((n : Site) (s s' : Ledger) (x y : Spot) → R n s x s' y → AtNodes x y) → (n : Site) (s s' : Ledger) (x y : Spot) → where_on b R n s x s' y → AtNodes x y
 on-nodes true R at n s s' x y r = at n s s' x y r
@@ -51,7 +59,7 @@ on-nodes false R at n s s' x y r = absurd r
 pub alone-written : (o : EnvOptions) (n : Site) (s s' : Ledger) (t : Tree) (bs cs : List Tree) (us : Trees) → alone o n s (at_beside bs t cs) s' (at_trees us) → (s ≡ s') × (flanks_with bs t cs empty ≡ us)
 alone-written o n s s' t bs cs us (inl r) = (rule-under-lawful o).unflanking n s s' t bs cs us r
 alone-written o n s s' t bs cs us (inr (inl r)) = absurd (on-nodes o.es2019.optional_catch_binding CatchRule catch-nodes n s s' (at_beside bs t cs) (at_trees us) r)
-alone-written o n s s' t bs cs us (inr (inr r)) = absurd (on-nodes (is_some o.es2018.object_rest_spread) (Replacing SpreadRule) spread-nodes n s s' (at_beside bs t cs) (at_trees us) r)
+alone-written o n s s' t bs cs us (inr (inr r)) = absurd (on-nodes (is_some o.es2018.object_rest_spread) ObjectRule object-nodes n s s' (at_beside bs t cs) (at_trees us) r)
 
 -- the others lower namespace exports
 on-exports : (b : Bool) (n : Site) (s : Ledger) (x : Spot) (s' : Ledger) (y : Spot) → where_on b NamespaceRule n s x s' y → NamespaceRule n s x s' y

@@ -21,4 +21,6 @@ pub mod NamespaceRows
 pub mod NamespacePlaces
 pub mod FurtherForms
 pub mod FurtherRows
+pub mod RestAssignmentForms
+pub mod RestAssignmentPlaces
 pub mod FurtherSteps

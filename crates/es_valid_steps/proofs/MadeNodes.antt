@@ -21,7 +21,7 @@ use Rattle.es_steps.specs.Nodes.{made}
 use Rattle.es_valid_steps.specs.PlaceRules.{Keeps, KeepsHere, KeepsIn}
 use Rattle.es_valid_steps.proofs.Free.{Free, FreeAll, FreeAs, Under, is_quiet, made-here, made-there, quiet, room-in, unmarked}
 use Rattle.es_valid_steps.proofs.Free.Under.{deeper, itself}
-use Rattle.es_valid_steps.proofs.Loose.{Loose, OpenPlace, loose}
+use Rattle.es_valid_steps.proofs.Loose.{Loose, OpenPlace, loose, simple-target}
 use Rattle.es_valid_steps.proofs.Loose.OpenPlace.{at_other, at_spine}
 
 link-open : (p : Place) → OpenPlace (link_place p)
@@ -35,14 +35,6 @@ Inside up k l fs = (vp : List Ancestor) → Under up vp → KeepsIn vp k l fs 0 
 -- what is written keeps them as a target
 abbrev pub FreeTarget : List Ancestor → Tree → Type 0
 FreeTarget up t = (vp : List Ancestor) → Under up vp → Loose vp → Keeps vp t
-
-simple-target : (p : Place) (t : Tree) → is_simple_target (kind_of (without_parens t)) ≡ true → is_bad_target p t ≡ false
-simple-target (Target s) t e = ap (λ v. not (list_any (same_type (kind_of t)) (own_kinds s) || v)) e ∙ last (list_any (same_type (kind_of t)) (own_kinds s))
-  where
-    last : (b : Bool) → not (b || true) ≡ false
-    last true = refl
-    last false = refl
-simple-target _ t e = refl
 
 module _ (up : List Ancestor) where
   pub free-node : (k : AstType) (l : Label) (fs : Fields) → is_quiet k ≡ true → is_optional k l ≡ false → is_bad_delete (node k l fs) ≡ false → Inside up k l fs → Free up (node k l fs)

@@ -47,9 +47,9 @@ pub record PlaceLawful (R : Site → Ledger → Spot → Ledger → Spot → Typ
 
 -- KINDS
 
-record RowKinds (t u : Tree) : Type 0 where
-  acted : is_acted (kind_of t) ≡ true
-  left : is_left_kind (kind_of u) ≡ true
+pub record RowKinds (t u : Tree) : Type 0 where
+  pub acted : is_acted (kind_of t) ≡ true
+  pub left : is_left_kind (kind_of u) ≡ true
 
 coalescing-kinds : (n : Site) (w : Whole) (bs : List Bound) (t u : Tree) → NullishCoalescingRule n w bs t u → RowKinds t u
 coalescing-kinds n w bs t u (with_temporary texts again next) = record { acted = refl; left = refl }
@@ -79,7 +79,7 @@ chaining-kinds no_all n w bs t u (in_delete {m = m} {w = v} texts alone chain wa
 
 -- ROWS
 
-row-lawful : (R : Site → Whole → List Bound → Tree → Tree → Type 0) → ((n : Site) (w : Whole) (bs : List Bound) (t u : Tree) → R n w bs t u → RowKinds t u) → ((n : Site) (w : Whole) (bs : List Bound) (t u : Tree) (a : Sort) (up : List Ancestor) → R n w bs t u → has_form a t ≡ true → Keeps up t → Keeps up u) → PlaceLawful (RowRule R)
+pub row-lawful : (R : Site → Whole → List Bound → Tree → Tree → Type 0) → ((n : Site) (w : Whole) (bs : List Bound) (t u : Tree) → R n w bs t u → RowKinds t u) → ((n : Site) (w : Whole) (bs : List Bound) (t u : Tree) (a : Sort) (up : List Ancestor) → R n w bs t u → has_form a t ≡ true → Keeps up t → Keeps up u) → PlaceLawful (RowRule R)
 row-lawful R kinds keeps = record { at_nodes = nodes }
   where
     nodes : (turns : Bool) (n : Site) (s s' : Ledger) (t u : Tree) (a : Sort) (up : List Ancestor) → (is_slot n.above ≡ true → a ≡ s-Expression) → (is_slot n.above ≡ true → SlotHead up) → RowRule R n s (at_node t) s' (at_node u) → has_form a t ≡ true → Keeps up t → NodeKept turns n up t u

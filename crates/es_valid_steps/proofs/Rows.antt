@@ -1,5 +1,5 @@
 -- The rows of coalescing, logical assignment and exponentiation keep the rules of places.
-use Rattle.std.proofs.Common.{◌≡◌, ℕ, refl, sym, ap, subst, ◌∙◌, List, [], ◌∷◌, ◌++◌}
+use Rattle.std.proofs.Common.{◌≡◌, ℕ, refl, ap, subst, ◌∙◌, List, [], ◌∷◌, ◌++◌}
 use Rattle.std.specs.Prelude.{Bool, true, false, Option, Some, codes, is_some}
 use Rattle.es_tree.specs.Ancestors.{Ancestor}
 use Rattle.es_tree.specs.CoreStaticRules.{is_simple_target}
@@ -36,7 +36,7 @@ use Rattle.es_steps.proofs.FormRows.{two-parts}
 use Rattle.es_steps.proofs.FormSorts.{form-narrower}
 use Rattle.es_steps.specs.Rules.{with_made}
 use Rattle.es_valid_steps.specs.PlaceRules.{Keeps, KeepsHere}
-use Rattle.es_valid_steps.proofs.Free.{Free, FreeAll, FreeAs, as-free, bare-part, free-as, is_super_kind, member-key, member-object, object-free, part, without-none}
+use Rattle.es_valid_steps.proofs.Free.{Free, FreeAll, FreeAs, as-free, bare-part, free-as, is_super_kind, member-key, member-object, object-free, part}
 use Rattle.es_valid_steps.proofs.Free.From.{from_other, from_target}
 use Rattle.es_valid_steps.proofs.Free.Under.{itself}
 use Rattle.es_valid_steps.proofs.MadeNodes.{FreeTarget, Inside, free-assignment, free-binary, free-empty, free-leaf, free-logical, free-member, free-more, free-name, free-node, free-null, free-zero, in-assignment, in-call, in-conditional, in-logical, in-sequence, left-keeps, member-target, name-target}
@@ -47,11 +47,11 @@ left-free : (up : List Ancestor) (m : Label) (l r : Tree) → Keeps up (node Log
 left-free up m l r h = (as-free up l (part up up LogicalExpression m _ 0 l itself refl from_other h.1.0), as-free up r (part up up LogicalExpression m _ 1 r itself refl from_other h.1.1.0))
 
 module _ (up : List Ancestor) (m : Label) (t r : Tree) (h : Keeps up (node AssignmentExpression m (one t then one r then done))) where
-  value-free : Free up r
+  pub value-free : Free up r
   value-free = as-free up r (part up up AssignmentExpression m _ 1 r itself refl from_other h.1.1.0)
 
   target-free : (x : Tree) → without_parens t ≡ x → is_simple_target (kind_of x) ≡ true → Free up x
-  target-free x e s = subst (λ (y : Tree). Free up y) e (as-free up (without_parens t) (bare-part up up AssignmentExpression m _ 0 t itself refl (λ d. from_target (ap (λ y. is_simple_target (kind_of y)) (sym (without-none t d) ∙ e) ∙ s)) h.1.0))
+  target-free x e s = subst (λ (y : Tree). Free up y) e (as-free up (without_parens t) (bare-part up up AssignmentExpression m _ 0 t itself refl (λ d. from_target (ap (λ y. is_simple_target (kind_of y)) e ∙ s)) h.1.0))
 
 -- OBJECTS
 

@@ -8,14 +8,14 @@ use Rattle.es_tree.specs.Walks.{any_node, any_in_fields}
 use Rattle.es_tree.specs.declared.ast_type.AstType.{AstType}
 use Rattle.es_tree.specs.declared.options.EnvOptions.{EnvOptions}
 use Rattle.es_tree.specs.declared.table.Sort.TheVariants.{Program as s-Program}
+use Rattle.es_steps.specs.AllRules.{ObjectRule}
 use Rattle.es_steps.specs.CoreRules.{CoreRule, rule_under, where_on}
 use Rattle.es_steps.specs.FormLaws.{StepsKeepForm}
 use Rattle.es_steps.specs.Laws.{nothing_beside}
 use Rattle.es_steps.specs.NamespaceExports.{NamespaceRule}
-use Rattle.es_steps.specs.ObjectSpread.{SpreadRule}
 use Rattle.es_steps.specs.Open.{Open, opened, finished}
 use Rattle.es_steps.specs.OptionalCatch.{CatchRule}
-use Rattle.es_steps.specs.Rules.{Replacing, either_rule}
+use Rattle.es_steps.specs.Rules.{either_rule}
 use Rattle.es_steps.specs.Steps.{Whole, Ledger, Site, Spot, the_program, Step, Steps}
 use Rattle.es_valid_steps.specs.PlaceRules.{Keeps, place_breaks}
 
@@ -51,13 +51,14 @@ LawPlacesReached = (o : EnvOptions) → ReachedKeepsPlaces (rule_under o)
 abbrev pub LawCorePlaces : Type 0
 LawCorePlaces = (o : EnvOptions) → StepsKeepPlaces (CoreRule o)
 
--- WITH OPTIONAL CATCH, NAMESPACE EXPORTS AND OBJECT SPREAD, as far as options ask for them: form is kept, and so are these rules.
+-- WITH OPTIONAL CATCH, NAMESPACE EXPORTS AND OBJECT SPREAD, AND RESTS IN ASSIGNMENTS, as far as options ask for them: form is kept, and so are
+-- these rules.
 
 abbrev pub with_further_rules : EnvOptions → Site → Ledger → Spot → Ledger → Spot → Type 0
 with_further_rules o =
     either_rule (rule_under o)
     (either_rule (where_on o.es2019.optional_catch_binding CatchRule)
-    (either_rule (where_on o.es2020.export_namespace_from NamespaceRule) (where_on (is_some o.es2018.object_rest_spread) (Replacing SpreadRule))))
+    (either_rule (where_on o.es2020.export_namespace_from NamespaceRule) (where_on (is_some o.es2018.object_rest_spread) ObjectRule)))
 
 abbrev pub LawFurtherForm : Type 0
 LawFurtherForm = (o : EnvOptions) → StepsKeepForm (with_further_rules o)

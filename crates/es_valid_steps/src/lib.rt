@@ -30,7 +30,7 @@ pub fn law_core_places()
     ensures { LawCorePlaces }
 {}
 
-/// Steps of these and of optional catch, namespace exports and object spread keep form.
+/// Steps of these and of optional catch, namespace exports and object spread, and of rests in assignments keep form.
 pub fn law_further_form()
     ensures { LawFurtherForm }
 {}

@@ -1,6 +1,6 @@
 -- Steps of `using` and of the other rules keep form and the static rules of places.
 use Rattle.std.proofs.Common.{◌≡◌, refl, sym, subst, ◌∙◌, []}
-use Rattle.std.specs.Prelude.{true, is_some}
+use Rattle.std.specs.Prelude.{true}
 use Rattle.es_tree.specs.HasForm.{has_form}
 use Rattle.es_tree.specs.Tree.{Tree}
 use Rattle.es_tree.specs.declared.options.EnvOptions.{EnvOptions}
@@ -14,10 +14,8 @@ use Rattle.es_steps.proofs.FormSteps.{formed-after}
 use Rattle.es_steps.proofs.Opened.{finished-opened}
 use Rattle.es_valid_steps.specs.Laws.{StepsKeepPlaces}
 use Rattle.es_valid_steps.specs.PlaceRules.{Keeps}
-use Rattle.es_valid_steps.proofs.FurtherRows.{catch-lawful, spread-lawful}
-use Rattle.es_valid_steps.proofs.FurtherSteps.{alone, alone-form}
+use Rattle.es_valid_steps.proofs.FurtherSteps.{alone, alone-form, alone-lawful}
 use Rattle.es_valid_steps.proofs.NamespaceRows.{ProgramLeft, program-left}
-use Rattle.es_valid_steps.proofs.PlaceRows.{PlaceLawful, both-lawful, on-lawful, under-lawful}
 use Rattle.es_valid_steps.proofs.PlaceSteps.{kept-after}
 use Rattle.es_valid_steps.proofs.ProgramLists.{program-exported}
 use Rattle.es_valid_steps.proofs.Spread.{finished-spread, spread, spread-opened}
@@ -28,9 +26,6 @@ use Rattle.es_valid_using.proofs.UsingNamesSteps.{KeepsForm}
 use Rattle.es_valid_using.proofs.UsingSteps.{StepOf, all-sorted, either_way, step-of}
 use Rattle.es_valid_using.proofs.UsingSteps.StepOf.{by_other, by_using, by_none, by_export}
 use Rattle.es_valid_using.proofs.UsingTrees.{TreeAfter, UsingLawful, tree-after}
-
-alone-lawful : (o : EnvOptions) → PlaceLawful (alone o)
-alone-lawful o = both-lawful (under-lawful o) (both-lawful (on-lawful o.es2019.optional_catch_binding _ catch-lawful) (on-lawful (is_some o.es2018.object_rest_spread) _ spread-lawful))
 
 -- A STEP of a rule of `using`
 

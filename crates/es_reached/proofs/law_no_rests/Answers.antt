@@ -1,5 +1,0 @@
-use Rattle.es_reached.proofs.FreeSteps.{law_no_rests_proof}
-use Rattle.es_reached.proofs.law_no_rests.Goals as goal
-
-pub returns : goal.returns
-returns c = law_no_rests_proof
