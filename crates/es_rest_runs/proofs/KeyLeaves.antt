@@ -14,7 +14,8 @@ use Rattle.es_tree.specs.declared.table.FieldName.TheVariants.{Computed as f-Com
 use Rattle.es_tree.specs.declared.table.Sort.TheVariants.{Expression as s-Expression, PropertyKey as s-PropertyKey, TemplateElement as s-TemplateElement}
 use Rattle.es_tree.proofs.NodeForm.{node_form}
 use Rattle.es_resolution.proofs.AllForms.{All}
-use Rattle.es_rest_shapes.specs.RestShapes.{is_known_key, is_literal_key, is_plain_key, is_plain_property, is_plain_value, is_read_key, key_text, second_text, template_text}
+use Rattle.es_tree.specs.PropertyKeys.{is_literal_key, is_read_key, key_text, second_text, template_text}
+use Rattle.es_rest_shapes.specs.RestShapes.{is_known_key, is_plain_key, is_plain_property, is_plain_value}
 use Rattle.es_statement_runs.specs.Helpers.Supply.{by_global}
 use Rattle.es_statement_runs.specs.Kinds.{sense}
 use Rattle.es_statement_runs.specs.Laws.{is_key, key_text as text_of_key}

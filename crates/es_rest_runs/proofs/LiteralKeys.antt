@@ -10,7 +10,7 @@ use Rattle.es_statement_runs.specs.Helpers.{Supply}
 use Rattle.es_statement_runs.specs.Kinds.{boolean_text as text_of_boolean, second_text as cooked_text}
 use Rattle.es_split_runs.specs.Laws.{LeavesOut}
 use Rattle.es_split_runs.proofs.KeyTexts.{literal_leaves, whole_template_leaves}
-use Rattle.es_rest_shapes.specs.RestShapes.{boolean_text, is_literal_key, key_text, second_text, template_text}
+use Rattle.es_tree.specs.PropertyKeys.{boolean_text, is_literal_key, key_text, second_text, template_text}
 use Rattle.es_rest_runs.specs.Laws.{LawLiteralKeys}
 
 boolean-same : (fs : List Bool) → text_of_boolean (flag fs) ≡ boolean_text (flag_at 0 fs)

@@ -15,7 +15,8 @@ use Rattle.es_steps.specs.Nodes.{array_node, call_node, identifier as bound_name
 use Rattle.es_steps.specs.ObjectRest.{helper_node, pattern_node}
 use Rattle.es_steps.specs.Rules.{next_name, with_made}
 use Rattle.es_steps.specs.Steps.{Whole}
-use Rattle.es_rest_shapes.specs.RestShapes.{any_tree, are_plain, is_literal_key, is_plain_property, is_read_key, key_text, reads_key}
+use Rattle.es_tree.specs.PropertyKeys.{is_literal_key, is_read_key, key_text}
+use Rattle.es_rest_shapes.specs.RestShapes.{any_tree, are_plain, is_plain_property, reads_key}
 use Rattle.es_rest_rows.specs.RestRows.{NamesKeys, declaring, group, groups, groups_by, keyed_by, keys_by, keys_of, left_of, names_key}
 use Rattle.es_rest_rows.specs.RestRows.NamesKeys.{knows, no_properties, reads_one}
 use Rattle.es_statement_runs.specs.Helpers.Supply.{by_global}

@@ -14,7 +14,7 @@ use Rattle.es_tree.specs.Tree.{Tree, node, Label, Fields, done, ◌then◌, one,
 use Rattle.es_tree.specs.Walks.{all_nodes}
 use Rattle.es_tree.specs.declared.ast_type.AstType.{AstType}
 use Rattle.es_tree.specs.declared.ast_type.AstType.TheVariants.{CallExpression, Identifier, ObjectPattern, VariableDeclarator}
-use Rattle.es_rest_shapes.specs.RestShapes.{is_literal_key, key_text}
+use Rattle.es_tree.specs.PropertyKeys.{is_literal_key, key_text}
 use Rattle.es_rest_rows.specs.RestRows.{RestRow}
 use Rattle.es_rest_rows.specs.RestRows.RowsWhere.{nested, stores, takes}
 use Rattle.es_statement_runs.specs.Helpers.{Supply, is_helper, silent_names}

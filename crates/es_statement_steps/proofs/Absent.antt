@@ -1,7 +1,7 @@
 -- A construct that doesn't stand in a program stands in none that steps lead to, so that its row never acts.
 use Rattle.std.proofs.Common.{◌≡◌, inl, inr, refl, sym, ap, subst, ◌∙◌, List, [], ◌∷◌}
 use Rattle.std.specs.Prelude.{Bool, true, false, ◌&&◌, ◌||◌, Option, Some, bytes_eq, codes}
-use Rattle.es_tree.specs.Constructs.{any_kind, is_spread}
+use Rattle.es_tree.specs.Constructs.{any_kind, is_rest, is_spread}
 use Rattle.es_tree.specs.Names.{first_text}
 use Rattle.es_tree.specs.Tree.{Tree, node, Label, Fields, done, ◌then◌, Field, missing, one, many, statements, Trees, empty, ◌before◌}
 use Rattle.es_tree.specs.Walks.{any_node}
@@ -9,6 +9,7 @@ use Rattle.es_tree.specs.Words.{Text}
 use Rattle.es_tree.specs.declared.ast_type.AstType.{AstType}
 use Rattle.es_tree.specs.declared.ast_type.AstType.TheVariants.{ChainExpression}
 use Rattle.es_tree.specs.declared.options.EnvOptions.{EnvOptions}
+use Rattle.es_runs.proofs.Named.{or_first}
 use Rattle.es_runs.specs.LogicalAssignment.{is_logical_assignment_operator}
 use Rattle.es_resolution.specs.Declarations.{Bound}
 use Rattle.es_resolution.specs.Laws.{source}
@@ -22,16 +23,21 @@ use Rattle.es_steps.specs.ObjectSpread.SpreadRule.{spreads}
 use Rattle.es_steps.specs.Open.{Open, finished, finished_fields}
 use Rattle.es_steps.specs.OptionalChaining.{OptionalChainingRule}
 use Rattle.es_steps.specs.OptionalChaining.OptionalChainingRule.{by_tests, as_callee, in_delete}
+use Rattle.es_steps.specs.Nodes.{identifier}
+use Rattle.es_steps.specs.RestAssignments.{RestAssignmentRule}
+use Rattle.es_steps.specs.RestAssignments.RestAssignmentRule.{assigns}
 use Rattle.es_steps.specs.Rules.{Replacing}
 use Rattle.es_steps.specs.Rules.Replacing.{replaces}
 use Rattle.es_steps.specs.Steps.{Ledger, Site, Spot, Step, Whole, the_program}
 use Rattle.es_steps.specs.WrapRule.{OutsideSlots}
 use Rattle.es_steps.proofs.BridgeInclusion.{step_under}
 use Rattle.es_steps.proofs.FormOpen.{IsProper}
-use Rattle.es_valid_steps.proofs.FurtherSteps.{alone}
+use Rattle.es_valid_steps.proofs.FurtherSteps.{alone as all_alone}
+use Rattle.es_statement_steps.proofs.AloneRules.{alone, among-all}
 use Rattle.es_reached.specs.Reached.{built_rules}
-use Rattle.es_reached.specs.Unmade.{Sought, is_sought, of_assignments, of_chains, of_powers, of_spreads}
+use Rattle.es_reached.specs.Unmade.{Sought, is_sought, of_assignments, of_chains, of_powers, of_rests, of_spreads}
 use Rattle.es_reached.proofs.FreeRows.{built-free}
+use Rattle.es_steps.proofs.RestParts.{pattern-rest}
 use Rattle.es_reached.proofs.FreeSteps.{kept, or-none, source-sought}
 use Rattle.es_reached.proofs.FreeTrees.{Free, FreeAll, FreeBy, FreeIn, LedgerFree, free, inner-free}
 use Rattle.es_statement_steps.proofs.Below.{Below, BelowField, BelowTrees}
@@ -51,9 +57,12 @@ pub absent-source : (p : Tree) → Absent p (source p)
 absent-source p c e = free (is_sought c) (source p) (sym (source-sought c p) ∙ e)
 
 alone-built : (o : EnvOptions) (n : Site) (s : Ledger) (x : Spot) (s' : Ledger) (y : Spot) → alone o n s x s' y → built_rules o n s x s' y
-alone-built o n s x s' y (inl r) = inl (inl r)
-alone-built o n s x s' y (inr (inl r)) = inl (inr (inl r))
-alone-built o n s x s' y (inr (inr r)) = inl (inr (inr (inr r)))
+alone-built o n s x s' y r = at (among-all o n s x s' y r)
+  where
+    at : all_alone o n s x s' y → built_rules o n s x s' y
+    at (inl q) = inl (inl q)
+    at (inr (inl q)) = inl (inr (inl q))
+    at (inr (inr q)) = inl (inr (inr (inr q)))
 
 exports-built : (o : EnvOptions) (n : Site) (s : Ledger) (x : Spot) (s' : Ledger) (y : Spot) → Exports o n s x s' y → built_rules o n s x s' y
 exports-built o n s x s' y r = inl (inr (inr (inl r)))
@@ -137,6 +146,10 @@ power-acts : (n : Site) (w : Whole) (bs : List Bound) (t u : Tree) → Exponenti
 power-acts n w bs t u (power {m = m} f texts left right) h = no-one (bytes_eq (first_text m.texts) (codes "**")) (ap (λ (ts : List (Option Text)). bytes_eq (first_text ts) (codes "**")) texts) h.0
 power-acts n w bs t u (power_assignment {m = m} f texts right alone twice) h = no-last (is_logical_assignment_operator (first_text m.texts)) (bytes_eq (first_text m.texts) (codes "**=")) (ap (λ (ts : List (Option Text)). bytes_eq (first_text ts) (codes "**=")) texts) h.0
 
+rest-acts : (n : Site) (w : Whole) (bs : List Bound) (t u : Tree) → RestAssignmentRule n w bs t u → Free (is_sought of_rests) t → ⊥
+rest-acts n w bs t u (assigns {lp = lp} {ps = ps} {x = x} {xs = xs} {us = us} scope used texts silent next takes) h =
+    no-both (any_kind is_rest ps) (pattern-rest (identifier x) lp _ ps xs us takes) (or_first (any_kind is_rest ps && true) false (sym (or-none ((any_kind is_rest ps && true) || false)) ∙ h.1.0.0))
+
 -- no step is one of this rule, where what doesn't stand in the program doesn't stand there either
 abbrev pub Never : Tree → (Site → Ledger → Spot → Ledger → Spot → Type 0) → Type 0
 Never p R = (s s' : Ledger) (x y : Open) → Step R the_program s x s' y → IsProper x → Class (finished x) → Absent p (finished x) → ⊥
@@ -152,6 +165,9 @@ no-assignment p e s s' x y h proper class a = never (is_sought of_assignments) (
 
 pub no-power : (p : Tree) → any_node (is_sought of_powers) p ≡ false → Never p (RowRule ExponentiationRule)
 no-power p e s s' x y h proper class a = never (is_sought of_powers) (OutsideSlots ExponentiationRule) (λ n w bs t u d. power-acts n w bs t u d.rule) h proper class (a of_powers e)
+
+pub no-rest : (p : Tree) → any_node (is_sought of_rests) p ≡ false → Never p (RowRule RestAssignmentRule)
+no-rest p e s s' x y h proper class a = never (is_sought of_rests) (OutsideSlots RestAssignmentRule) (λ n w bs t u d. rest-acts n w bs t u d.rule) h proper class (a of_rests e)
 
 -- nor is one where it isn't asked for
 pub not-there : (asked there : Bool) (p : Tree) (R : Site → Ledger → Spot → Ledger → Spot → Type 0) → (asked && there) ≡ false → (there ≡ false → Never p R) → Never p (where_on asked R)

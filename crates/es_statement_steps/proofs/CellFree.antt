@@ -36,10 +36,10 @@ use Rattle.es_steps.specs.Steps.TreesStep.{acts_on_flanked, after_flanked, flank
 use Rattle.es_steps.specs.WrapRule.{WrapRule}
 use Rattle.es_steps.specs.WrapRule.WrapRule.{wraps}
 use Rattle.es_steps.proofs.Taken.{at-least, whole_in}
-use Rattle.es_valid_steps.specs.Laws.{with_further_rules}
 use Rattle.es_statement_runs.specs.Programs.{names_no_cell}
 use Rattle.es_statement_runs.specs.Scopes.{are_program_names, is_own_cell}
 use Rattle.es_statement_runs.proofs.OwnCells.{program_apart}
+use Rattle.es_statement_steps.proofs.AloneRules.{alone}
 use Rattle.es_statement_steps.proofs.Assignments.{assigning-shape}
 use Rattle.es_statement_steps.proofs.Chainings.{chaining-shape}
 use Rattle.es_statement_steps.proofs.Coalescings.{coalescing-shape}
@@ -179,19 +179,23 @@ catch-frees n s s' x y (catches {w = w} {x = name} fresh) = made-free w (next_na
 export-frees : Frees NamespaceRule
 export-frees n s s' x y (exports {w = w} {x = name} list fresh quiet silent none) = made-free w (next_name w name ∷ []) (new-fresh w _ (next_name w name) fresh)
 
-rules-frees : (o : EnvOptions) → Frees (with_further_rules o)
+-- the rules that act on programs of which laws of runs speak
+abbrev pub running_rules : EnvOptions → Site → Ledger → Spot → Ledger → Spot → Type 0
+running_rules o = either_rule (alone o) (where_on o.es2020.export_namespace_from NamespaceRule)
+
+rules-frees : (o : EnvOptions) → Frees (running_rules o)
 rules-frees o =
-    either-frees
+    either-frees (either-frees
     (either-frees writing-frees
     (either-frees (wrap-frees o)
     (either-frees (on-frees o.es2021.logical_assignment_operators (replacing-frees _ assigning-shape))
     (either-frees (either-frees (on-frees o.es2020.nullish_coalescing_operator (replacing-frees _ coalescing-shape)) (on-frees o.es2020.optional_chaining (replacing-frees _ (chaining-shape o.assumptions.no_document_all))))
     (on-frees o.es2016.exponentiation_operator (replacing-frees _ raising-shape))))))
-    (either-frees (on-frees o.es2019.optional_catch_binding catch-frees) (either-frees (on-frees o.es2020.export_namespace_from export-frees) (on-frees (is_some o.es2018.object_rest_spread) (replacing-frees SpreadRule spread-shape))))
+    (either-frees (on-frees o.es2019.optional_catch_binding catch-frees) (on-frees (is_some o.es2018.object_rest_spread) (replacing-frees SpreadRule spread-shape)))) (on-frees o.es2020.export_namespace_from export-frees)
 
 -- a step
-pub cells-step : (o : EnvOptions) {n : Site} {s s' : Ledger} {x y : Open} → Step (with_further_rules o) n s x s' y → UsesNoCell (whole_in s) → UsesNoCell (whole_in s')
-cells-step o h = whole-kept UsesNoCell (with_further_rules o) (rules-frees o) h
+pub cells-step : (o : EnvOptions) {n : Site} {s s' : Ledger} {x y : Open} → Step (running_rules o) n s x s' y → UsesNoCell (whole_in s) → UsesNoCell (whole_in s')
+cells-step o h = whole-kept UsesNoCell (running_rules o) (rules-frees o) h
 
 -- WHERE NAMES ARE IN USE none is such a cell
 pub cells-named : (w : Whole) → UsesNoCell w → (r : Role) (t : Tree) → Named w.in_use w.free_symbol r t → Named is_no_cell w.free_symbol r t

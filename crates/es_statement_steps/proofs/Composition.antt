@@ -1,7 +1,7 @@
 -- Steps one after another: what is known of a program is kept by each of them, and runs alike compose.
 use Rattle.std.proofs.Common.{arith, ◌≤◌, ◌<◌, inl, inr, ◌≡◌, ℕ, refl, sym, ap, subst, ◌∙◌, []}
 use Rattle.std.proofs.lemmas.Slice.Eq.{bytes_eq-Decides}
-use Rattle.std.specs.Prelude.{Bool, true, false, is_some}
+use Rattle.std.specs.Prelude.{Bool, true, false}
 use Rattle.es_tree.specs.HasForm.{has_form}
 use Rattle.es_tree.specs.StaticRules.{breaks}
 use Rattle.es_tree.specs.Tree.{Tree, node, kind_of}
@@ -31,10 +31,8 @@ use Rattle.es_steps.proofs.StepsKept.{IsClean, all-recalled, led}
 use Rattle.es_steps.proofs.Taken.{LedgerPasses, whole_in}
 use Rattle.es_valid_steps.specs.Laws.{with_further_rules}
 use Rattle.es_valid_steps.specs.PlaceRules.{Keeps}
-use Rattle.es_valid_steps.proofs.FurtherRows.{catch-lawful, spread-lawful}
-use Rattle.es_valid_steps.proofs.FurtherSteps.{alone, alone-form, alone-written}
+use Rattle.es_valid_steps.proofs.FurtherSteps.{alone, alone-form, alone-lawful, alone-written}
 use Rattle.es_valid_steps.proofs.NamespaceRows.{program-left}
-use Rattle.es_valid_steps.proofs.PlaceRows.{PlaceLawful, both-lawful, on-lawful, under-lawful}
 use Rattle.es_valid_steps.proofs.PlaceSteps.{kept-after}
 use Rattle.es_valid_steps.proofs.ProgramLists.{program-exported}
 use Rattle.es_valid_steps.proofs.Spread.{finished-spread, spread}
@@ -54,9 +52,6 @@ use Rattle.es_statement_steps.proofs.StepMoves.{Fine}
 use Rattle.es_statement_steps.proofs.Tamed.{Class}
 
 -- THE BUILT LOWERINGS but for arrows
-
-alone-lawful : (o : EnvOptions) → PlaceLawful (alone o)
-alone-lawful o = both-lawful (under-lawful o) (both-lawful (on-lawful o.es2019.optional_catch_binding _ catch-lawful) (on-lawful (is_some o.es2018.object_rest_spread) _ spread-lawful))
 
 told-apart : (o : EnvOptions) (n : Site) (s : Ledger) (x : Spot) (s' : Ledger) (y : Spot) → with_further_rules o n s x s' y → either_rule (alone o) (where_on o.es2020.export_namespace_from NamespaceRule) n s x s' y
 told-apart o n s x s' y (inl r) = inl (inl r)
@@ -95,7 +90,7 @@ known-fine {x = x} k = program_stands (finished x) k.form k.class k.keeps
 
 pub record AloneRuns (o : EnvOptions) (at : Site → Spot → Bool) (no_all : Bool) (u : Supply) (Clean : Whole → Tree → Type 0) : Type 0 where
   -- of the class
-  pub class : {s s' : Ledger} {x y : Open} → Step (alone o) the_program s x s' y → IsProper x → IsProper y → Class (finished x) → Class (finished y)
+  pub class : {s s' : Ledger} {x y : Open} → Step (only_where at (alone o)) the_program s x s' y → IsProper x → IsProper y → Class (finished x) → Clean (whole_in s) (finished x) → Class (finished y)
   -- and of runs, where Clean is kept
   pub clean : {s s' : Ledger} {x y : Open} → Step (only_where at (alone o)) the_program s x s' y → Known s x → Known s' y → Clean (whole_in s) (finished x) → Clean (whole_in s') (finished y)
   pub runs : {s s' : Ledger} {x y : Open} → Step (only_where at (alone o)) the_program s x s' y → Known s x → Known s' y → Clean (whole_in s) (finished x) → Clean (whole_in s') (finished y) → StepAlike no_all u (finished x) (finished y)
@@ -132,18 +127,18 @@ module _ (o : EnvOptions) (at : Site → Spot → Bool) (no_all : Bool) (u : Sup
       spread-step (only_where at (alone o)) (Exports o) (λ n s s' t u bs cs r. (alone-form o).no_flanks n s s' t u bs cs r.0) (λ n s s' t bs cs us r. alone-written o n s s' t bs cs us r.0)
       (step_under (only_where at (with_further_rules o)) (either_rule (only_where at (alone o)) (Exports o)) told-there h)
 
-  shaped-after : {s s' : Ledger} (x y : Open) → Split s s' x y → Shaped (spread x) → Shaped (spread y)
-  shaped-after x y (moves m) k =
+  shaped-after : {s s' : Ledger} (x y : Open) → Split s s' x y → Shaped (spread x) → Clean (whole_in s) (finished x) → Shaped (spread y)
+  shaped-after {s = s} x y (moves m) k c =
       let r = anywhere at (alone o) m in
       let next = formed-after (alone o) (alone-form o) r s-Program (λ e. absurd (cc e)) k.proper k.form in
       record {
         proper = next.proper;
         form = next.formed;
         keeps = (kept-after (alone o) (alone-form o) (alone-lawful o) r s-Program [] (λ e. absurd (cc e)) (λ e. absurd (cc e)) k.proper k.form k.keeps).keeps;
-        class = law.class r k.proper next.proper k.class;
+        class = law.class m k.proper next.proper k.class (subst (λ (t : Tree). Clean (whole_in s) t) (sym (finished-spread x)) c);
       }
-  shaped-after x y (rests e) k = subst (λ (z : Open). Shaped z) e.1 k
-  shaped-after x y (leaves r) k =
+  shaped-after x y (rests e) k c = subst (λ (z : Open). Shaped z) e.1 k
+  shaped-after x y (leaves r) k c =
       let form = subst (λ (t : Tree). has_form s-Program t ≡ true) (finished-spread x) k.form in
       let next = program-left (program-exported (exported o r) form) k.proper k.form in
       record { proper = next.proper; form = next.formed; keeps = next.keeps k.keeps; class = subst (λ (t : Tree). Class t) (sym (finished-spread y)) (exports.class r form (subst (λ (t : Tree). Class t) (finished-spread x) k.class)) }
@@ -205,11 +200,11 @@ module _ (o : EnvOptions) (at : Site → Spot → Bool) (no_all : Bool) (u : Sup
         let same : (k : ℕ) → k < (whole_in m).free_symbol → ends k ≡ (whole_in m).called k = λ k e. end k (longer-free k e rs.freer) ∙ rs.same k e in
         let first = led (AllRules o) lawful writes ends (goes all stays) same kind used beside names in
         let k = passed (AllRules o) lawful writes (is_called ends) all (record { words = λ w. refl; new = λ n e d. (bytes_eq-Decides ((whole_in m).called n) (ends n)).1 (sym (same n d)) }) beside names in
-        let kind_after = program-scope (finished y) (spread-form y (shaped-after x y (split one) shaped)) in
+        let kind_after = program-scope (finished y) (spread-form y (shaped-after x y (split one) shaped clean)) in
         let others = led (AllRules o) lawful writes ends later end kind_after first.named k.1 k.0 in
         let here = others.clean last in
         let resolved_after = first.resolved here resolved in
-        let shaped_after = shaped-after x y (split one) shaped in
+        let shaped_after = shaped-after x y (split one) shaped clean in
         let from_after = one-more from (anywhere at (with_further_rules o) one) in
         let alone_after = alone-after (AllRules o) lawful writes ends all same used names alone here in
         let known = known-of s x shaped alone (rules-there s x from alone) resolved used in

@@ -39,6 +39,7 @@ pub mod StepSplits
 pub mod Writings
 pub mod NothingBeside
 pub mod Arrowless
+pub mod AloneRules
 pub mod Composition
 pub mod NoSteps
 pub mod StepRules
@@ -83,3 +84,4 @@ pub mod ChainMarks
 pub mod ChainLevels
 pub mod ChainPlaces
 pub mod Absent
+pub mod RestsApart

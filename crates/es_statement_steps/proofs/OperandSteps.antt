@@ -16,11 +16,10 @@ use Rattle.es_steps.specs.Exponentiation.{ExponentiationRule}
 use Rattle.es_steps.specs.LogicalAssignment.{LogicalAssignmentRule}
 use Rattle.es_steps.specs.Open.{Open, finished, finished_fields}
 use Rattle.es_steps.specs.OptionalChaining.{OptionalChainingRule}
-use Rattle.es_steps.specs.Steps.{Ledger, Site, Spot, Step, Whole, site_in, the_program}
+use Rattle.es_steps.specs.Steps.{Ledger, Step, Whole, site_in, the_program}
 use Rattle.es_steps.proofs.BridgeInclusion.{step_under}
 use Rattle.es_steps.proofs.Taken.{whole_in}
-use Rattle.es_valid_steps.specs.Laws.{with_further_rules}
-use Rattle.es_valid_steps.proofs.FurtherSteps.{alone}
+use Rattle.es_statement_steps.proofs.AloneRules.{alone}
 use Rattle.es_valid_steps.proofs.Spread.{finished-spread, spread}
 use Rattle.es_statement_runs.specs.Helpers.{Supply, silent_names}
 use Rattle.es_statement_runs.specs.Helpers.Supply.{no_helpers}
@@ -29,7 +28,7 @@ use Rattle.es_statement_steps.specs.Laws.{no_chain_tag}
 use Rattle.es_statement_steps.proofs.Assignments.{AssigningRow, assigning-shape}
 use Rattle.es_statement_steps.proofs.Below.{both_below}
 use Rattle.es_statement_steps.proofs.CellPrograms.{named-meant}
-use Rattle.es_statement_steps.proofs.CellFree.{UsesNoCell, cells-named, cells-start, cells-step}
+use Rattle.es_statement_steps.proofs.CellFree.{UsesNoCell, cells-named, cells-start, cells-step, running_rules}
 use Rattle.es_statement_steps.proofs.ChainPlaces.{ChainsHere, chaining-keeps-here, chains-inwards, chains-program}
 use Rattle.es_statement_steps.proofs.Chainings.{ChainingRow, chaining-shape}
 use Rattle.es_statement_steps.proofs.ChainTags.{Unchained, Untagged, assigning-no-chain, catch-no-chain, chaining-no-chain, coalescing-no-chain, raising-no-chain, source-untagged, spread-no-chain, untagged-after}
@@ -62,14 +61,6 @@ suited-start o p h untagged = record { steady = steady-start p; cells = cells-st
 rows-untagged : (no_all : Bool) → RowsDo no_all Unchained
 rows-untagged no_all = record { assigning = assigning-no-chain; coalescing = coalescing-no-chain; chaining = chaining-no-chain no_all; raising = raising-no-chain; catching = catch-no-chain; spreading = spread-no-chain }
 
-alone-built : (o : EnvOptions) (n : Site) (s : Ledger) (x : Spot) (s' : Ledger) (y : Spot) → alone o n s x s' y → with_further_rules o n s x s' y
-alone-built o n s x s' y (inl h) = inl h
-alone-built o n s x s' y (inr (inl h)) = inr (inl h)
-alone-built o n s x s' y (inr (inr h)) = inr (inr (inr h))
-
-exports-built : (o : EnvOptions) (n : Site) (s : Ledger) (x : Spot) (s' : Ledger) (y : Spot) → Exports o n s x s' y → with_further_rules o n s x s' y
-exports-built o n s x s' y h = inr (inr (inl h))
-
 made-untagged : (k : AstType) (l : Label) (fs : Fields) → is_export_kind k ≡ true → no_chain_tag k l fs ≡ true
 made-untagged TaggedTemplateExpression l fs h = absurd (cc h)
 made-untagged _ l fs h = refl
@@ -78,14 +69,14 @@ module _ (o : EnvOptions) where
   pub suited-step : (s s' : Ledger) (x y : Open) → Step (alone o) the_program s x s' y → Known s x → Known s' y → Suited o (whole_in s) (finished x) → Suited o (whole_in s') (finished y)
   suited-step s s' x y h k m c = record {
     steady = steady-step o h k.proper m.proper c.steady;
-    cells = cells-step o (step_under (alone o) (with_further_rules o) (alone-built o) h) c.cells;
+    cells = cells-step o (step_under (alone o) (running_rules o) (λ n s x s' y r. inl r) h) c.cells;
     tags = λ e. untagged-after (StatementRules o) (statement-form o) (nodes-do o Unchained (rows-untagged o.assumptions.no_document_all)) (tamed-step o h k.proper m.proper k.class).0 k.proper m.proper k.class (c.tags e);
   }
 
   pub suited-export : (s s' : Ledger) (x y : Open) → Step (Exports o) the_program s x s' y → Known s (spread x) → Known s' (spread y) → Suited o (whole_in s) (finished x) → Suited o (whole_in s') (finished y)
   suited-export s s' x y h k m c = record {
     steady = steady-exported (exported o h) (subst (λ (t : Tree). has_form s-Program t ≡ true) (finished-spread x) k.form) m.proper c.steady;
-    cells = cells-step o (step_under (Exports o) (with_further_rules o) (exports-built o) h) c.cells;
+    cells = cells-step o (step_under (Exports o) (running_rules o) (λ n s x s' y r. inr r) h) c.cells;
     tags = λ e. exports-so no_chain_tag made-untagged (λ x new. refl) o h (subst (λ (t : Tree). has_form s-Program t ≡ true) (finished-spread x) k.form) (c.tags e);
   }
 

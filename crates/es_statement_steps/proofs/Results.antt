@@ -15,6 +15,6 @@ plain-where true false = refl
 plain-where false c = refl
 
 pub law_statement_result_proof : LawStatementResult
-law_statement_result_proof o p q r names runs untagged reached written =
+law_statement_result_proof o p q r names runs untagged lacks reached written =
     alike-seen (supply_there o p) (plain-where (spreads_there o p) (chains_there o p || (assignments_there o p || powers_there o p))) (assumes_no_all o p) p r p q refl written
-    (law_statement_rules_proof o p r names runs.class untagged runs.helpers (record { whole = reached.whole; steps = all_under (in_order o) (built_rules o) (λ n s x s' y h. h.0) reached.steps; made = reached.made }) (λ both. reached))
+    (law_statement_rules_proof o p r names runs.class untagged lacks runs.helpers (record { whole = reached.whole; steps = all_under (in_order o) (built_rules o) (λ n s x s' y h. h.0) reached.steps; made = reached.made }) (λ both. reached))

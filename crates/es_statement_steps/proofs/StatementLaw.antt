@@ -25,7 +25,7 @@ use Rattle.es_steps.specs.Rules.{Replacing}
 use Rattle.es_steps.specs.Steps.{Ledger, Site, Spot, Step, Whole, the_program}
 use Rattle.es_steps.proofs.BridgeInclusion.{all_under}
 use Rattle.es_steps.proofs.Taken.{whole_in}
-use Rattle.es_valid_steps.proofs.FurtherSteps.{alone}
+use Rattle.es_statement_steps.proofs.AloneRules.{alone}
 use Rattle.es_valid_steps.proofs.Spread.{finished-spread, spread}
 use Rattle.es_reached.specs.Reached.{built_rules}
 use Rattle.es_reached.specs.Unmade.{is_sought, of_chains}
@@ -35,7 +35,7 @@ use Rattle.es_statement_runs.specs.Programs.{IsStatementProgram, uses_no_helper}
 use Rattle.es_statement_runs.specs.HelperMembers.{no_helper_member}
 use Rattle.es_statement_runs.specs.Runs.{RunAlike}
 use Rattle.es_statement_runs.proofs.Spreads.{has_global_spread}
-use Rattle.es_statement_steps.specs.Laws.{LawStatementRules, TagsAreNoChains, assignments_there, assumes_no_all, chains_there, powers_there, spreads_there, supply_there}
+use Rattle.es_statement_steps.specs.Laws.{LacksRests, LawStatementRules, TagsAreNoChains, assignments_there, assumes_no_all, chains_there, powers_there, spreads_there, supply_there}
 use Rattle.es_statement_steps.specs.Orders.{in_order, is_in_order, only_where}
 use Rattle.es_statement_steps.proofs.Absent.{Absent, Never, absent-alone, absent-exports, absent-source, no-assignment, no-chain, no-power, no-spread, not-there}
 use Rattle.es_statement_steps.proofs.Composition.{AloneRuns, Exports, Known, NamespaceRuns, anywhere}
@@ -49,23 +49,24 @@ use Rattle.es_statement_steps.proofs.Nameless.{Nameless, export-nameless, is_out
 use Rattle.es_statement_steps.proofs.OperandSteps.{Suited, assigning-runs, chaining-runs, no-silent, raising-runs, suited-export, suited-start, suited-step}
 use Rattle.es_statement_steps.proofs.PlainSupplies.{is_core_supply, none-silent}
 use Rattle.es_statement_steps.proofs.ReachedRuns.{AllSilent, reached-runs, source-bare}
+use Rattle.es_statement_steps.proofs.RestsApart.{rests-apart}
 use Rattle.es_statement_steps.proofs.RowRuns.{StepAlike}
 use Rattle.es_statement_steps.proofs.SpreadRuns.{spread-keeps, spread-shape}
 use Rattle.es_statement_steps.proofs.StepRules.{Does, EachDoesWhere, Keeping, OffSlots, Runs, StatementRules, catch-runs, chains_under, spreads_under, coalescing-runs, off-does, on-does, on-where-does, replacing-runs, same-places, statement-does-where, tamed-step, tamed-where, where-does, writing-runs}
 
 -- THE LAW, from what each rule does and what is kept of a program on the way
 
-module _ (o : EnvOptions) (at there : Site → Spot → Bool) (off : OffSlots at there) (no_all : Bool) (u : Supply) (Clean : Whole → Tree → Type 0) (quiet : (w : Whole) (t : Tree) → Clean w t → silent_names u t ≡ [])
+module _ (o : EnvOptions) (p : Tree) (lacks : LacksRests o p) (at there : Site → Spot → Bool) (off : OffSlots at there) (no_all : Bool) (u : Supply) (Clean : Whole → Tree → Type 0) (quiet : (w : Whole) (t : Tree) → Clean w t → silent_names u t ≡ []) (absent : (w : Whole) (t : Tree) → Clean w t → Absent p t)
     (each : EachDoesWhere (Keeping no_all u Clean quiet) o there) (clean : (s s' : Ledger) (x y : Open) → Step (only_where at (alone o)) the_program s x s' y → Known s x → Known s' y → Clean (whole_in s) (finished x) → Clean (whole_in s') (finished y)) (exports : NamespaceRuns o no_all u Clean) where
   alone-runs : AloneRuns o at no_all u Clean
   alone-runs = record {
-    class = λ h proper after class. (tamed-step o h proper after class).1;
-    clean = λ h k m c. clean _ _ _ _ h k m c;
-    runs = λ h k m c d. statement-does-where (Keeping no_all u Clean quiet) o there each _ _ _ _ (tamed-where o at there off h k.proper m.proper k.class) k m c d;
+    class = λ h proper after class c. (tamed-step o (anywhere at (alone o) (rests-apart o p lacks at h proper class (absent _ _ c))) proper after class).1;
+    clean = λ h k m c. clean _ _ _ _ (rests-apart o p lacks at h k.proper k.class (absent _ _ c)) k m c;
+    runs = λ h k m c d. statement-does-where (Keeping no_all u Clean quiet) o there each _ _ _ _ (tamed-where o at there off (rests-apart o p lacks at h k.proper k.class (absent _ _ c)) k.proper m.proper k.class) k m c d;
   }
 
-  rules-run : (p q : Tree) (names : List Text) → IsStatementProgram p → AllSilent u p → Clean (first_whole p) (source p) → (reached : Reached (only_where at (built_rules o)) p (first_whole p) names q) → StepAlike no_all u p q × Clean reached.whole q
-  rules-run p q names h silent first reached = reached-runs o at no_all u Clean alone-runs exports p q names h silent first reached
+  rules-run : (q : Tree) (names : List Text) → IsStatementProgram p → AllSilent u p → Clean (first_whole p) (source p) → (reached : Reached (only_where at (built_rules o)) p (first_whole p) names q) → StepAlike no_all u p q × Clean reached.whole q
+  rules-run q names h silent first reached = reached-runs o at no_all u Clean alone-runs exports p q names h silent first reached
 
 -- steps at whatever places
 abbrev all_places : Site → Spot → Bool
@@ -100,7 +101,7 @@ not-so false h = refl
 
 -- WITH THE OBJECT OF ALL HELPERS, beside which no row of chains, logical assignment and exponentiation acts
 
-module _ (o : EnvOptions) (no_all : Bool) (p : Tree) (off : NoneBeside o p) where
+module _ (o : EnvOptions) (no_all : Bool) (p : Tree) (lacks : LacksRests o p) (off : NoneBeside o p) where
   abbrev IsWithoutKeys : Whole → Tree → Type 0
   IsWithoutKeys w t = IsKeyless t
 
@@ -138,8 +139,8 @@ module _ (o : EnvOptions) (no_all : Bool) (p : Tree) (off : NoneBeside o p) wher
   helped-run : (q : Tree) (names : List Text) → IsStatementProgram p → uses_no_helper by_global p ≡ true → Reached (built_rules o) p (first_whole p) names q → RunAlike by_global no_all p q
   helped-run q names h none reached =
       let keyless : IsKeyless (source p) = named-keyless (length (symbols_of p)) (is_among (names_of p)) (not-so (is_among (names_of p) (codes "babelHelpers")) none) reads (source p) (law_named_proof p (is_among (names_of p)) (length (symbols_of p)) h.form h.rules (λ x e. e) (omega arith)) in
-      (rules-run o all_places all_places (same-places all_places) no_all by_global Helped helped-silent helped-does helped-clean helped-exports
-      p q names h (λ t e. keyless_silent t (same-keyless t (source p) (e ∙ source-bare p) keyless)) (keyless, absent-source p) (reached-anywhere o p (first_whole p) names q reached)).0.runs
+      (rules-run o p lacks all_places all_places (same-places all_places) no_all by_global Helped helped-silent (λ w t c. c.1) helped-does helped-clean helped-exports
+      q names h (λ t e. keyless_silent t (same-keyless t (source p) (e ∙ source-bare p) keyless)) (keyless, absent-source p) (reached-anywhere o p (first_whole p) names q reached)).0.runs
 
 -- WITHOUT HELPERS, or with that of object spread alone; where chains act beside that, none has a member of the object of helpers
 
@@ -203,15 +204,15 @@ module _ (o : EnvOptions) (p : Tree) (no_all : Bool) (u : Supply) (plain : is_co
   abbrev StaysAsked : Type 0
   StaysAsked = (s s' : Ledger) (x y : Open) → Step (only_where at (StatementRules o)) the_program s x s' y → Known s x → Known s' y → Absent p (finished x) → Asked (finished x) → Asked (finished y)
 
-  plain-run : (first : Site → Spot → Bool) → OffSlots first at → Chains → Spreads → StaysAsked → ExportsKeep o Asked → (q : Tree) (names : List Text) → IsStatementProgram p → TagsAreNoChains o p → Asked (source p) → Reached (only_where first (built_rules o)) p (first_whole p) names q → StepAlike no_all u p q × Asked q
-  plain-run first off chains spreads stays kept q names h untagged so reached =
-      let r = rules-run o first at off no_all u (Lacking p (Plain o Asked)) kept-silent (plain-does chains spreads)
-      (λ s s' x y r k m c. let a = anywhere first (alone o) r in ((suited-step o s s' x y a k m c.0.0, stays s s' x y (tamed-where o first at off r k.proper m.proper k.class) k m c.1 c.0.1), absent-alone o p a k.alone c.1)) (plain-exports kept) p q names h (λ t e. none-silent u plain t) ((suited-start o p h untagged, so), absent-source p) reached in
+  plain-run : LacksRests o p → (first : Site → Spot → Bool) → OffSlots first at → Chains → Spreads → StaysAsked → ExportsKeep o Asked → (q : Tree) (names : List Text) → IsStatementProgram p → TagsAreNoChains o p → Asked (source p) → Reached (only_where first (built_rules o)) p (first_whole p) names q → StepAlike no_all u p q × Asked q
+  plain-run lacks first off chains spreads stays kept q names h untagged so reached =
+      let r = rules-run o p lacks first at off no_all u (Lacking p (Plain o Asked)) kept-silent (λ w t c. c.1) (plain-does chains spreads)
+      (λ s s' x y r k m c. let a = anywhere first (alone o) r in ((suited-step o s s' x y a k m c.0.0, stays s s' x y (tamed-where o first at off r k.proper m.proper k.class) k m c.1 c.0.1), absent-alone o p a k.alone c.1)) (plain-exports kept) q names h (λ t e. none-silent u plain t) ((suited-start o p h untagged, so), absent-source p) reached in
       (r.0, r.1.0.1)
 
   -- in whatever order
-  anyhow : Chains → Spreads → StaysAsked → ExportsKeep o Asked → (q : Tree) (names : List Text) → IsStatementProgram p → TagsAreNoChains o p → Asked (source p) → Reached (only_where at (built_rules o)) p (first_whole p) names q → StepAlike no_all u p q × Asked q
-  anyhow = plain-run at (same-places at)
+  anyhow : LacksRests o p → Chains → Spreads → StaysAsked → ExportsKeep o Asked → (q : Tree) (names : List Text) → IsStatementProgram p → TagsAreNoChains o p → Asked (source p) → Reached (only_where at (built_rules o)) p (first_whole p) names q → StepAlike no_all u p q × Asked q
+  anyhow lacks = plain-run lacks at (same-places at)
 
   -- rows that don't act
   no-chains : chains_there o p ≡ false → Chains
@@ -252,7 +253,7 @@ pub record KeptInOrder (o : EnvOptions) (p : Tree) (Asked : Tree → Type 0) : T
 
 -- THE LAWS
 
-module _ (o : EnvOptions) (p q : Tree) (names : List Text) (h : IsStatementProgram p) (untagged : TagsAreNoChains o p) where
+module _ (o : EnvOptions) (p q : Tree) (names : List Text) (h : IsStatementProgram p) (untagged : TagsAreNoChains o p) (lacks : LacksRests o p) where
   abbrev assumes : Bool
   assumes = assumes_no_all o p
 
@@ -265,7 +266,7 @@ module _ (o : EnvOptions) (p q : Tree) (names : List Text) (h : IsStatementProgr
     chains-on on none so reached =
         let members : all_nodes no_helper_member (source p) ≡ true =
         named-members (length (symbols_of p)) (is_among (names_of p)) (not-so (is_among (names_of p) (codes "babelHelpers")) none) reads (source p) (law_named_proof p (is_among (names_of p)) (length (symbols_of p)) h.form h.rules (λ x e. e) (omega arith)) in
-        let r = plain-run o p assumes spread_by_global refl (λ t. Nameless t × Asked t) is_outside (is_in_order o) (outside-slots o on)
+        let r = plain-run o p assumes spread_by_global refl (λ t. Nameless t × Asked t) is_outside lacks (is_in_order o) (outside-slots o on)
         (with-chains o p spread_by_global refl (λ t. Nameless t × Asked t) is_outside (λ a s s' x y r k m c d. nameless-runs o o.assumptions.no_document_all a s s' x y (anywhere is_outside Chains-row r) k m c.0 c.1.0))
         (with-spreads o p assumes spread_by_global refl (λ t. Nameless t × Asked t) is_outside refl)
         (λ s s' x y r k m a c. (statement-nameless o s s' x y r k m c.0, kept.steps s s' x y (anywhere is_outside (StatementRules o) r) k m a (λ e. c.0) c.1))
@@ -275,7 +276,7 @@ module _ (o : EnvOptions) (p q : Tree) (names : List Text) (h : IsStatementProgr
     -- and where they aren't
     chains-off : o.es2020.optional_chaining ≡ false → Asked (source p) → Reached (built_rules o) p (first_whole p) names q → StepAlike assumes spread_by_global p q × Asked q
     chains-off off so reached =
-        anyhow o p assumes spread_by_global refl Asked all_places (no-chains o p assumes spread_by_global refl Asked all_places (ap (λ b. b && any_node (is_sought of_chains) p) off)) (with-spreads o p assumes spread_by_global refl Asked all_places refl)
+        anyhow o p assumes spread_by_global refl Asked all_places lacks (no-chains o p assumes spread_by_global refl Asked all_places (ap (λ b. b && any_node (is_sought of_chains) p) off)) (with-spreads o p assumes spread_by_global refl Asked all_places refl)
         (λ s s' x y r k m a c. kept.steps s s' x y (anywhere all_places (StatementRules o) r) k m a (λ e. absurd (let no : false ≡ true = sym off ∙ e in cc no)) c) kept.exports q names h untagged so (reached-anywhere o p (first_whole p) names q reached)
 
     -- with object spread's helper alone it runs alike, and what is asked is kept
@@ -294,10 +295,10 @@ module _ (o : EnvOptions) (p q : Tree) (names : List Text) (h : IsStatementProgr
 
   -- object spread beside assignments and powers, and the others without helpers
   without-chains : chains_there o p ≡ false → Reached (built_rules o) p (first_whole p) names q → RunAlike spread_by_global assumes p q
-  without-chains d reached = (anyhow o p assumes spread_by_global refl Nothing-asked all_places (no-chains o p assumes spread_by_global refl Nothing-asked all_places d) (with-spreads o p assumes spread_by_global refl Nothing-asked all_places refl) (λ s s' x y r k m a c. tt) (anything-kept o) q names h untagged tt (reached-anywhere o p (first_whole p) names q reached)).0.runs
+  without-chains d reached = (anyhow o p assumes spread_by_global refl Nothing-asked all_places lacks (no-chains o p assumes spread_by_global refl Nothing-asked all_places d) (with-spreads o p assumes spread_by_global refl Nothing-asked all_places refl) (λ s s' x y r k m a c. tt) (anything-kept o) q names h untagged tt (reached-anywhere o p (first_whole p) names q reached)).0.runs
 
   without-spreads : spreads_there o p ≡ false → Reached (built_rules o) p (first_whole p) names q → RunAlike no_helpers assumes p q
-  without-spreads e reached = (anyhow o p assumes no_helpers refl Nothing-asked all_places
+  without-spreads e reached = (anyhow o p assumes no_helpers refl Nothing-asked all_places lacks
       (with-chains o p no_helpers refl Nothing-asked all_places (λ a s s' x y r k m c d. chaining-runs o o.assumptions.no_document_all a s s' x y (anywhere all_places Chains-row r) k m c.0 d.0))
       (no-spreads o p assumes no_helpers refl Nothing-asked all_places e) (λ s s' x y r k m a c. tt) (anything-kept o) q names h untagged tt (reached-anywhere o p (first_whole p) names q reached)).0.runs
 
@@ -311,9 +312,9 @@ module _ (o : EnvOptions) (p q : Tree) (names : List Text) (h : IsStatementProgr
       chosen true false true e d g none = without-chains d reached
       chosen true false false e d g none =
           let v = or_parts (assignments_there o p) (powers_there o p) g in
-          helped-run o assumes p (record { chains = d; assignments = v.0; powers = v.1 }) q names h none reached
+          helped-run o assumes p lacks (record { chains = d; assignments = v.0; powers = v.1 }) q names h none reached
       chosen false d c e f g none = without-spreads e reached
 
 pub law_statement_rules_proof : LawStatementRules
-law_statement_rules_proof o p q names h untagged none reached ordered =
-    by-rows o p q names h untagged (λ e d unnamed. (in-order-run o p q names h untagged (λ t. Unit {0}) (nothing-kept o p q names h untagged) unnamed tt (ordered (and_from (spreads_there o p) (chains_there o p) e d))).0.runs) none reached
+law_statement_rules_proof o p q names h untagged lacks none reached ordered =
+    by-rows o p q names h untagged lacks (λ e d unnamed. (in-order-run o p q names h untagged lacks (λ t. Unit {0}) (nothing-kept o p q names h untagged lacks) unnamed tt (ordered (and_from (spreads_there o p) (chains_there o p) e d))).0.runs) none reached

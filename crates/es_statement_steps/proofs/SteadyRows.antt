@@ -23,7 +23,7 @@ use Rattle.es_steps.specs.Open.{finished_fields}
 use Rattle.es_steps.specs.OptionalChaining.{OptionalChainingRule}
 use Rattle.es_steps.specs.OptionalChaining.OptionalChainingRule.{as_callee, by_tests, in_delete}
 use Rattle.es_steps.specs.Steps.{Site, Whole, site_in}
-use Rattle.es_valid_steps.proofs.FurtherSteps.{alone}
+use Rattle.es_statement_steps.proofs.AloneRules.{alone}
 use Rattle.es_statement_runs.specs.Helpers.{Supply}
 use Rattle.es_statement_runs.specs.Places.{Take}
 use Rattle.es_statement_steps.proofs.Assignments.{AssigningRow, assigning-shape}

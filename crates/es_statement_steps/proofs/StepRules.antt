@@ -29,7 +29,7 @@ use Rattle.es_steps.proofs.FormOpen.{IsProper}
 use Rattle.es_steps.proofs.FormRules.{AtNodes, FormLawful}
 use Rattle.es_steps.proofs.RuleLaws.{writes-lists}
 use Rattle.es_steps.proofs.Taken.{whole_in}
-use Rattle.es_valid_steps.proofs.FurtherSteps.{alone, alone-form}
+use Rattle.es_statement_steps.proofs.AloneRules.{alone, alone-form}
 use Rattle.es_statement_runs.specs.Helpers.{Supply, silent_names}
 use Rattle.es_statement_runs.specs.Programs.{is_statement_node}
 use Rattle.es_statement_steps.specs.Orders.{only_where}

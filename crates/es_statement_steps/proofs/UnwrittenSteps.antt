@@ -42,7 +42,7 @@ use Rattle.es_steps.proofs.Namespaces.{exports-nodes}
 use Rattle.es_steps.proofs.Opened.{finished-opened, finished-trees}
 use Rattle.es_steps.proofs.RuleLaws.{writes-lists}
 use Rattle.es_steps.proofs.Taken.{whole_in}
-use Rattle.es_valid_steps.proofs.FurtherSteps.{alone, alone-form}
+use Rattle.es_statement_steps.proofs.AloneRules.{alone, alone-form}
 use Rattle.es_valid_steps.proofs.ProgramLists.{Exported, ProgramExported, program-exported}
 use Rattle.es_valid_steps.proofs.ProgramLists.Exported.{here, there}
 use Rattle.es_valid_steps.proofs.ProgramLists.ProgramExported.{at_list as in_the_list}
