@@ -3,7 +3,7 @@ use Rattle.std.specs.Prelude.{◌&&◌, not}
 use Rattle.std.proofs.Common.{◌≡◌, ◌∙◌, ◌<◌, refl, arith, sym, List, [], ◌∷◌, Bool, false, length}
 use Rattle.es_tree.specs.Tree.{Tree, Trees, node, Label, Fields, done, ◌then◌, Field, missing, one, many, statements, empty, ◌before◌, trees}
 use Rattle.es_tree.specs.Views.{plain_field, plain_fields}
-use Rattle.es_tree.specs.declared.ast_type.AstType.TheVariants.{VariableDeclaration, VariableDeclarator}
+use Rattle.es_tree.specs.declared.ast_type.AstType.TheVariants.{ObjectTarget, VariableDeclaration, VariableDeclarator}
 use Rattle.es_tree.specs.declared.node.Field.{Field as NodeField}
 use Rattle.es_pattern_moves.specs.PatternMoves.{binds_let, moves_from_arrow, moves_from_catch, moves_from_function, moves_from_head}
 use Rattle.es_rest_nodes.specs.RestFields.{on_two}
@@ -84,8 +84,21 @@ declaration-first l (statements ts then gs) fs = no-pattern (node VariableDeclar
 declaration-first l (missing then gs) fs = no-pattern (node VariableDeclaration l (missing then gs)) fs (λ e. refl)
 declaration-first l done fs = no-pattern (node VariableDeclaration l done) fs (λ e. refl)
 
+target-first : (l : Label) (gs fs : Fields) → three_move (one (node ObjectTarget l gs) then fs) ≡ moves_from_head (one (node ObjectTarget l gs) then fs)
+target-first l gs (one e then one b then done) = refl
+target-first l gs (one e then one b then f then fs) = refl
+target-first l gs (one e then many ts then fs) = refl
+target-first l gs (one e then statements ts then fs) = refl
+target-first l gs (one e then missing then fs) = refl
+target-first l gs (one e then done) = refl
+target-first l gs (many ts then fs) = refl
+target-first l gs (statements ts then fs) = refl
+target-first l gs (missing then fs) = refl
+target-first l gs done = refl
+
 head-first : (h : Tree) (fs : Fields) → three_move (one h then fs) ≡ moves_from_head (one h then fs)
 head-first (node VariableDeclaration l gs) fs = declaration-first l gs fs
+head-first (node ObjectTarget l gs) fs = target-first l gs fs
 head-first h fs = no-pattern h fs (λ e. refl)
 
 pub head-three : (fs : Fields) → three_move fs ≡ moves_from_head fs

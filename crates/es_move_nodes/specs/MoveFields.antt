@@ -4,11 +4,11 @@ use Rattle.std.specs.List.{list_any}
 use Rattle.es_tree.specs.BoundNames.{bound_in_field}
 use Rattle.es_tree.specs.Tree.{Tree, node, Fields, done, ◌then◌, Field, missing, one, many, statements, Trees, empty, ◌before◌}
 use Rattle.es_tree.specs.Words.{Text}
-use Rattle.es_tree.specs.declared.ast_type.AstType.TheVariants.{VariableDeclaration, VariableDeclarator}
+use Rattle.es_tree.specs.declared.ast_type.AstType.TheVariants.{ObjectTarget, VariableDeclaration, VariableDeclarator}
 use Rattle.es_pattern_moves.specs.PatternMoves.{all_move, declarator_declares, is_called, is_rest_parameter, is_var, may_move, meets}
 use Rattle.es_rest_rows.specs.RestRows.{binds_name}
 use Rattle.es_rest_nodes.specs.RestFields.{on_list, on_two}
-use Rattle.es_rest_shapes.specs.RestShapes.{any_tree, is_plain_pattern}
+use Rattle.es_rest_shapes.specs.RestShapes.{any_tree, bears_rest, is_plain_pattern}
 
 -- NAMES
 
@@ -57,6 +57,7 @@ list_moves fs by_var e = on_list (λ ds. only_moves ds by_var e) fs
 
 abbrev pub head_moves : Tree → Tree → Bool
 head_moves (node VariableDeclaration l fs) e = list_moves fs (is_var l) e
+head_moves (node ObjectTarget l fs) e = bears_rest (node ObjectTarget l fs)
 head_moves _ e = false
 
 -- three children, of which this holds

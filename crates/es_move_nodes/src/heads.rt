@@ -1,4 +1,4 @@
-//! Heads of loops (ECMA-262, 14.7.5) out of which a pattern moves: `for (const { a, ...b } of e)`.
+//! Heads of loops (ECMA-262, 14.7.5) out of which a pattern moves: `for (const { a, ...b } of e)`, `for ({ a, ...b } of e)`.
 ghost use Rattle.std.specs.Prelude.{◌≡◌};
 ghost use Rattle.es_tree.specs.Tree.{trees};
 ghost use Rattle.es_tree.specs.Views.{plain_field, plain_fields};
@@ -7,12 +7,12 @@ ghost use Rattle.es_pattern_moves.specs.PatternMoves.{moves_from_head};
 
 use crate::declared::is_var_word;
 use crate::standing::meets;
-use es_rest_nodes::patterns::is_plain_pattern;
+use es_rest_nodes::patterns::{bears_rest, is_plain_pattern};
 use es_tree::kind::Kind;
 use es_tree::node::{Field, Node};
 
 /// Whether a pattern moves out of the head of a loop of these fields: it is declared alone, and none of its names is asked on the right side,
-/// which would ask it before it is set.
+/// which would ask it before it is set; or it is assigned to, and has a rest of its own.
 pub fn moves_from_head(fields: &[Field]) -> bool
     ensures { result ≡ moves_from_head (plain_fields fields.now) }
 {
@@ -35,6 +35,7 @@ fn head_moves(head: &Node, source: &Node) -> bool
         Kind::VariableDeclaration { kind } => {
             list_moves(head.fields.as_slice(), is_var_word(*kind), source)
         }
+        Kind::ObjectTarget => bears_rest(head),
         _ => false,
     }
 }

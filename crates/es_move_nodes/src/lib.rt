@@ -1,4 +1,5 @@
-//! Which object patterns with a rest, or with such a pattern in a property, move to a declaration of their own, as calls that take no memory.
+//! Which object patterns with a rest, or with such a pattern in a property, move to a declaration or an assignment of their own, as calls that
+//! take no memory.
 #![tactic(auto)]
 
 pub mod bound;

@@ -9,7 +9,7 @@ use Rattle.es_tree.specs.Tree.{Tree, node, Label, Fields, done, ◌then◌, Fiel
 use Rattle.es_tree.specs.Walks.{any_in_field, any_in_fields, any_in_trees, any_node}
 use Rattle.es_tree.specs.Words.{Text}
 use Rattle.es_tree.specs.declared.ast_type.AstType.{AstType}
-use Rattle.es_tree.specs.declared.ast_type.AstType.TheVariants.{ArrayPattern, ArrowFunctionExpression, AssignmentPattern, CatchClause, ClassDeclaration, ForInStatement, ForOfStatement, FunctionBody, FunctionDeclaration, FunctionExpression, Identifier, MemberExpression, MethodDefinition, ObjectPattern, ObjectProperty, PatternProperty, PropertyDefinition, RestElement, TargetProperty, VariableDeclaration, VariableDeclarator}
+use Rattle.es_tree.specs.declared.ast_type.AstType.TheVariants.{ArrayPattern, ArrowFunctionExpression, AssignmentPattern, CatchClause, ClassDeclaration, ForInStatement, ForOfStatement, FunctionBody, FunctionDeclaration, FunctionExpression, Identifier, MemberExpression, MethodDefinition, ObjectPattern, ObjectProperty, ObjectTarget, PatternProperty, PropertyDefinition, RestElement, TargetProperty, VariableDeclaration, VariableDeclarator}
 use Rattle.es_resolution.specs.Declarations.{is_var_scope}
 use Rattle.es_steps.specs.Nodes.{joined_trees}
 use Rattle.es_pattern_moves.specs.Laws.{LawBareMoves}
@@ -49,7 +49,7 @@ use Rattle.es_pattern_moves.specs.PatternMoves.{
 }
 use Rattle.es_rest_rows.specs.RestRows.{binds_name}
 use Rattle.es_rest_shapes.specs.RestShapes.{is_plain_pattern}
-use Rattle.es_rest_shapes.proofs.BareRests.{name-bare, plain-bare, trees-bare}
+use Rattle.es_rest_shapes.proofs.BareRests.{bears-bare, name-bare, plain-bare, trees-bare}
 
 -- LISTS
 
@@ -332,10 +332,12 @@ head-bare fs = same-bools (moves_from_head (bare_fields fs)) (moves_from_head fs
 
     to : (fs : Fields) → moves_from_head fs ≡ true → moves_from_head (bare_fields fs) ≡ true
     to (one (node VariableDeclaration l (many (node VariableDeclarator m (one p then missing then done) before empty) then done)) then one e then one b then done) h = same l p e ∙ h
+    to (one (node ObjectTarget l gs) then one e then one b then done) h = bears-bare (node ObjectTarget l gs) ∙ h
     to _ h = absurd (cc h)
 
     from : (fs : Fields) → moves_from_head (bare_fields fs) ≡ true → moves_from_head fs ≡ true
     from (one (node VariableDeclaration l (many (node VariableDeclarator m (one p then missing then done) before empty) then done)) then one e then one b then done) h = sym (same l p e) ∙ h
+    from (one (node ObjectTarget l gs) then one e then one b then done) h = sym (bears-bare (node ObjectTarget l gs)) ∙ h
     from _ h = absurd (cc h)
 
 function-bare : (fs : Fields) → moves_from_function (bare_fields fs) ≡ moves_from_function fs

@@ -6,14 +6,15 @@ use Rattle.std.proofs.lemmas.Bool.{and_parts, and_right, not-true, or_parts}
 use Rattle.es_tree.specs.Fresh.{IsFreshName}
 use Rattle.es_tree.specs.HasForm.{has_form, trees_form}
 use Rattle.es_tree.specs.Names.{first_text}
+use Rattle.es_tree.specs.RestTargets.{is_rest_target}
 use Rattle.es_tree.specs.Tree.{Tree, node, Label, Fields, done, ◌then◌, missing, one, many, Trees, empty, ◌before◌}
 use Rattle.es_tree.specs.Words.{Text}
 use Rattle.es_tree.specs.declared.ast_type.AstType.{AstType}
-use Rattle.es_tree.specs.declared.ast_type.AstType.TheVariants.{ForInStatement, ForOfStatement, FunctionBody, ObjectPattern, VariableDeclaration, VariableDeclarator}
+use Rattle.es_tree.specs.declared.ast_type.AstType.TheVariants.{ForInStatement, ForOfStatement, FunctionBody, ObjectPattern, ObjectTarget, VariableDeclaration, VariableDeclarator}
 use Rattle.es_tree.specs.declared.table.Sort.{Sort}
-use Rattle.es_tree.specs.declared.table.Sort.TheVariants.{Binding as s-Binding, Directive as s-Directive, Expression as s-Expression, ForLeft as s-ForLeft, Statement as s-Statement, VariableDeclarator as s-VariableDeclarator}
+use Rattle.es_tree.specs.declared.table.Sort.TheVariants.{AssignmentTarget as s-AssignmentTarget, Binding as s-Binding, Directive as s-Directive, Expression as s-Expression, ForLeft as s-ForLeft, Statement as s-Statement, VariableDeclarator as s-VariableDeclarator}
 use Rattle.es_tree.proofs.NodeForm.{node_form}
-use Rattle.es_semantic.specs.RolesOf.{binding_of, reads}
+use Rattle.es_semantic.specs.RolesOf.{binding_of, reads, refers}
 use Rattle.es_semantic.specs.declared.place.Binding.{Binding}
 use Rattle.es_semantic.specs.declared.place.Binding.TheVariants.{Constant, Let, Parameter, Variable}
 use Rattle.es_semantic.specs.declared.place.Role.TheVariants.{Binds}
@@ -23,9 +24,10 @@ use Rattle.es_resolution.specs.Resolved.{bound_by}
 use Rattle.es_resolution.proofs.AllForms.{All, AllAmong}
 use Rattle.es_changes.proofs.Expressions.{declares-none, law_expression_proof}
 use Rattle.es_steps.specs.CatchPatterns.CatchRest.{moves}
-use Rattle.es_steps.specs.LoopHeads.{HeadRest, IsForEach, head_fields, new_head}
+use Rattle.es_steps.specs.LoopHeads.{HeadRest, IsForEach, TargetHead, assigning_head, head_fields, new_head}
 use Rattle.es_steps.specs.LoopHeads.HeadRest.{lexical_head, var_head}
 use Rattle.es_steps.specs.LoopHeads.IsForEach.{for_in, for_of}
+use Rattle.es_steps.specs.LoopHeads.TargetHead.{target_head}
 use Rattle.es_steps.specs.Nodes.{joined_trees}
 use Rattle.es_steps.specs.Open.{Additions, Pending}
 use Rattle.es_steps.specs.ParameterPatterns.{HoldsPattern, MayMove, MovesParameter, StandsApart, body_fields, lexical_names, parameter_names, var_names}
@@ -39,10 +41,11 @@ use Rattle.es_steps.specs.Steps.Ledger.{ledger}
 use Rattle.es_steps.specs.Steps.Spot.{at_node}
 use Rattle.es_steps.proofs.Taken.{whole_in}
 use Rattle.es_steps.proofs.Written.{named-joined}
-use Rattle.es_valid_rests.proofs.RestForms.{at-sort}
+use Rattle.es_valid_rests.proofs.RestForms.{IsObjectTarget, at-sort, rest-target}
+use Rattle.es_valid_rests.proofs.RestForms.IsObjectTarget.{object_target}
 use Rattle.es_arrow_bodies.specs.ArrowBodies.BodyRule.{returns}
 use Rattle.es_pattern_moves.specs.MoveRows.{MoveWalkRow, MovesOne, MovesOut}
-use Rattle.es_pattern_moves.specs.MoveRows.MoveWalkRow.{from_arrow, from_catch, from_declaration, from_expression, from_head, from_value}
+use Rattle.es_pattern_moves.specs.MoveRows.MoveWalkRow.{from_arrow, from_catch, from_declaration, from_expression, from_head, from_target, from_value}
 use Rattle.es_pattern_moves.specs.MoveRows.MovesOne.{moves_one}
 use Rattle.es_pattern_moves.specs.PatternMoves.{are_later, binds_let, body_declares, declared_later, default_apart, is_var, may_move, meets, meets_among, moves_from_head, pattern_of, stands}
 use Rattle.es_pattern_moves.proofs.BodyNames.{body-out}
@@ -61,39 +64,50 @@ pattern-apart b p h y e = binding-out false b y p h (and_right (is_asked false (
 
 -- HEADS OF LOOPS
 
--- what the form of a loop says of its head
+-- what the form of a loop says of its parts
+record LoopForm (t e b : Tree) : Type 0 where
+  left : has_form s-ForLeft t ≡ true
+  value : has_form s-Expression e ≡ true
+  body : has_form s-Statement b ≡ true
+
+loop-form : (s : Sort) {k : AstType} (m : Label) (t e b : Tree) → IsForEach k → has_form s (node k m (one t then one e then one b then done)) ≡ true → LoopForm t e b
+loop-form s m t e b each h = at each h
+  where
+    parts : (has_form s-ForLeft t && (has_form s-Expression e && (has_form s-Statement b && true))) ≡ true → LoopForm t e b
+    parts d =
+        let first = and_parts (has_form s-ForLeft t) (has_form s-Expression e && (has_form s-Statement b && true)) d in
+        let second = and_parts (has_form s-Expression e) (has_form s-Statement b && true) first.1 in
+        record { left = first.0; value = second.0; body = (and_parts (has_form s-Statement b) true second.1).0 }
+
+    at : {k : AstType} → IsForEach k → has_form s (node k m (one t then one e then one b then done)) ≡ true → LoopForm t e b
+    at for_in h = parts (node_form s ForInStatement m (one t then one e then one b then done) h).children
+    at for_of h = parts (node_form s ForOfStatement m (one t then one e then one b then done) h).children
+
+-- and of one that declares a pattern
 pub record HeadForm (p e b : Tree) : Type 0 where
   pub pattern : has_form s-Binding p ≡ true
   pub value : has_form s-Expression e ≡ true
   pub body : has_form s-Statement b ≡ true
 
 pub head-form : (s : Sort) (k : AstType) (m l l' : Label) (p e b : Tree) → IsForEach k → has_form s (node k m (head_fields l l' p e b)) ≡ true → HeadForm p e b
-head-form s k m l l' p e b each h = at k each h
-  where
-    head : Tree
-    head = node VariableDeclaration l (many (node VariableDeclarator l' (one p then missing then done) before empty) then done)
-
-    parts : (has_form s-ForLeft head && (has_form s-Expression e && (has_form s-Statement b && true))) ≡ true → HeadForm p e b
-    parts d =
-        let first = and_parts (has_form s-ForLeft head) (has_form s-Expression e && (has_form s-Statement b && true)) d in
-        let second = and_parts (has_form s-Expression e) (has_form s-Statement b && true) first.1 in
-        let declaration = node_form s-ForLeft VariableDeclaration l (many (node VariableDeclarator l' (one p then missing then done) before empty) then done) first.0 in
-        let one_declarator = (and_parts (has_form s-VariableDeclarator (node VariableDeclarator l' (one p then missing then done)) && true) true declaration.children).0 in
-        let declarator = node_form s-VariableDeclarator VariableDeclarator l' (one p then missing then done) (and_parts (has_form s-VariableDeclarator (node VariableDeclarator l' (one p then missing then done))) true one_declarator).0 in
-        record { pattern = (and_parts (has_form s-Binding p) true declarator.children).0; value = second.0; body = (and_parts (has_form s-Statement b) true second.1).0 }
-
-    at : (k : AstType) → IsForEach k → has_form s (node k m (head_fields l l' p e b)) ≡ true → HeadForm p e b
-    at k for_in h = parts (node_form s ForInStatement m (head_fields l l' p e b) h).children
-    at k for_of h = parts (node_form s ForOfStatement m (head_fields l l' p e b) h).children
+head-form s k m l l' p e b each h =
+    let form = loop-form s m (node VariableDeclaration l (many (node VariableDeclarator l' (one p then missing then done) before empty) then done)) e b each h in
+    let declaration = node_form s-ForLeft VariableDeclaration l (many (node VariableDeclarator l' (one p then missing then done) before empty) then done) form.left in
+    let one_declarator = (and_parts (has_form s-VariableDeclarator (node VariableDeclarator l' (one p then missing then done)) && true) true declaration.children).0 in
+    let declarator = node_form s-VariableDeclarator VariableDeclarator l' (one p then missing then done) (and_parts (has_form s-VariableDeclarator (node VariableDeclarator l' (one p then missing then done))) true one_declarator).0 in
+    record { pattern = (and_parts (has_form s-Binding p) true declarator.children).0; value = form.value; body = form.body }
 
 -- and what is known of the parts of a loop at its place
 pub record HeadKnown (w : Whole) (e b : Tree) : Type 0 where
   pub named : Named w.in_use w.free_symbol reads e
   pub silent : declared false reads b ≡ []
 
+loop-known : (n : Site) (w : Whole) {k : AstType} (m : Label) (t e b : Tree) → IsForEach k → has_form s-Statement b ≡ true → Named w.in_use w.free_symbol n.role (node k m (one t then one e then one b then done)) → All Sound (node k m (one t then one e then one b then done)) → HeadKnown w e b
+loop-known n w m t e b for_in f h s = record { named = h.1.1.0; silent = quiet-body ForInStatement 2 b refl refl s.0.settled.1.1.0 s.1.1.1.0 f }
+loop-known n w m t e b for_of f h s = record { named = h.1.1.0; silent = quiet-body ForOfStatement 2 b refl refl s.0.settled.1.1.0 s.1.1.1.0 f }
+
 pub head-known : (n : Site) (w : Whole) (k : AstType) (m l l' : Label) (p e b : Tree) → IsForEach k → has_form s-Statement b ≡ true → Named w.in_use w.free_symbol n.role (node k m (head_fields l l' p e b)) → All Sound (node k m (head_fields l l' p e b)) → HeadKnown w e b
-head-known n w k m l l' p e b for_in f h s = record { named = h.1.1.0; silent = quiet-body ForInStatement 2 b refl refl s.0.settled.1.1.0 s.1.1.1.0 f }
-head-known n w k m l l' p e b for_of f h s = record { named = h.1.1.0; silent = quiet-body ForOfStatement 2 b refl refl s.0.settled.1.1.0 s.1.1.1.0 f }
+head-known n w k m l l' p e b each = loop-known n w m (node VariableDeclaration l (many (node VariableDeclarator l' (one p then missing then done) before empty) then done)) e b each
 
 var-word : (word : Text) → bytes_eq word (codes "var") ≡ true → binding_of word ≡ Variable
 var-word word e = ap (λ (a : Bool). if a then Variable else if bytes_eq word (codes "let") then Let else Constant) e
@@ -133,6 +147,18 @@ head-moves n w q s y k m l l' p e b x each head fresh named sound = at (is_var l
         let binding : Binding = binding_of (first_text l.texts) in
         lexical_head each (plain-holds p parts.0) fresh (lexical-word (first_text l.texts) c)
         (named-apart (λ z. binds_name z p) (declared false (Binds binding) p) (pattern-apart binding p form.pattern) w.in_use w.free_symbol reads e (not-met (is_var l) (meets p e) parts.1 c) known.named) value known.silent
+
+-- an object target declares nothing where a loop assigns to it
+target-moves : (n : Site) (w : Whole) (q : Pending) (s : Option Bound) (y : Additions) (k : AstType) (m : Label) (t e b : Tree) (x : Text) → IsForEach k → is_rest_target (one t) ≡ true → IsFreshName w.in_use (codes "ref") x →
+    Named w.in_use w.free_symbol n.role (node k m (one t then one e then one b then done)) → All Sound (node k m (one t then one e then one b then done)) →
+    TargetHead n (ledger w q s y) (at_node (node k m (one t then one e then one b then done))) (ledger (with_made (next_name w x ∷ []) w) q s y) (at_node (node k m (assigning_head (next_name w x) t e b)))
+target-moves n w q s y k m t e b x each rest fresh named sound =
+    let form = loop-form sound.0.sort m t e b each sound.0.form in
+    let known = loop-known n w m t e b each form.body named sound in
+    target_head each rest fresh (silent t (rest-target t rest) form.left) (law_expression_proof e form.value).declares_nothing known.silent
+  where
+    silent : (t : Tree) → IsObjectTarget t → has_form s-ForLeft t ≡ true → IsSilent (refers false true) t
+    silent t (object_target {l = l} {fs = fs}) h = λ v. declares-none v (refers false true) s-AssignmentTarget (node ObjectTarget l fs) refl refl (at-sort s-ForLeft s-AssignmentTarget ObjectTarget l fs refl h)
 
 -- PARAMETERS
 
@@ -214,7 +240,8 @@ parameters-move w x ps qs l ds ts us (moves_one a c es rest (node _ m fs) t u no
 pub row-moves : (n : Site) (s s' : Ledger) (t u : Tree) → MoveWalkRow n s (at_node t) s' (at_node u) → Named (whole_in s).in_use (whole_in s).free_symbol n.role t → All Sound t → MovesOut n s (at_node t) s' (at_node u)
 row-moves n s s' t u (from_catch m l p bs x plain fresh) h k = inl (inl (moves (plain-holds p (and_parts (is_plain_pattern p) (not (binds_let p)) plain).0) fresh))
 row-moves n s s' t u (from_head {w = w} {q = q} {s = z} {y = y} {k = k} m l l' p e b x each head fresh) h g = inl (inr (inl (head-moves n w q z y k m l l' p e b x each head fresh h g)))
-row-moves n s s' t u (from_declaration {w = w} m l ps qs ds ts us x called fresh moved) h k = inl (inr (inr (in_declaration fresh called (parameters-move w x ps qs l ds ts us moved h.1.1.0 k.1.1.0 k.1.1.1.0))))
-row-moves n s s' t u (from_expression {w = w} m l ps qs ds ts us x called fresh moved) h k = inl (inr (inr (in_expression fresh called (parameters-move w x ps qs l ds ts us moved h.1.1.0 k.1.1.0 k.1.1.1.0))))
-row-moves n s s' t u (from_arrow {w = w} m l ps qs ds ts us x fresh moved) h k = inl (inr (inr (in_arrow fresh (parameters-move w x ps qs l ds ts us moved h.1.0 k.1.0 k.1.1.0))))
+row-moves n s s' t u (from_target {w = w} {q = q} {s = z} {y = y} {k = k} m p e b x each rest fresh) h g = inl (inr (inr (inl (target-moves n w q z y k m p e b x each rest fresh h g))))
+row-moves n s s' t u (from_declaration {w = w} m l ps qs ds ts us x called fresh moved) h k = inl (inr (inr (inr (in_declaration fresh called (parameters-move w x ps qs l ds ts us moved h.1.1.0 k.1.1.0 k.1.1.1.0)))))
+row-moves n s s' t u (from_expression {w = w} m l ps qs ds ts us x called fresh moved) h k = inl (inr (inr (inr (in_expression fresh called (parameters-move w x ps qs l ds ts us moved h.1.1.0 k.1.1.0 k.1.1.1.0)))))
+row-moves n s s' t u (from_arrow {w = w} m l ps qs ds ts us x fresh moved) h k = inl (inr (inr (inr (in_arrow fresh (parameters-move w x ps qs l ds ts us moved h.1.0 k.1.0 k.1.1.0)))))
 row-moves n s s' t u (from_value m ps e x value apart) h k = inr (returns x)

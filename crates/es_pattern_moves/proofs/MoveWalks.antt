@@ -31,20 +31,20 @@ use Rattle.es_steps.proofs.CatchRests.{catch-rest-lawful}
 use Rattle.es_steps.proofs.FormOpen.{IsProper, opened-proper}
 use Rattle.es_steps.proofs.FormRules.{AtNodes, FormLawful, both-form}
 use Rattle.es_steps.proofs.FormSteps.{formed-after}
-use Rattle.es_steps.proofs.Heads.{head-lawful}
+use Rattle.es_steps.proofs.Heads.{head-lawful, target-lawful}
 use Rattle.es_steps.proofs.Lists.{whole-named}
 use Rattle.es_steps.proofs.Opened.{finished-opened}
 use Rattle.es_steps.proofs.Parameters.{parameter-lawful}
 use Rattle.es_steps.proofs.Passing.{called-passes}
-use Rattle.es_steps.proofs.RulesWrite.{catch-rest-writes, head-writes, parameter-writes}
+use Rattle.es_steps.proofs.RulesWrite.{catch-rest-writes, head-writes, parameter-writes, target-writes}
 use Rattle.es_steps.proofs.StepsKept.{all-recalled, led, none-beside}
 use Rattle.es_steps.proofs.Taken.{Lawful, Writes, both-lawful, both-write, whole_in}
 use Rattle.es_steps.proofs.Written.{named-joined}
 use Rattle.es_valid_rests.proofs.FacedSteps.{FaceLawful, faced-after}
-use Rattle.es_valid_rests.proofs.RestForms.{catch-rest-form, head-rest-form}
+use Rattle.es_valid_rests.proofs.RestForms.{catch-rest-form, head-rest-form, target-head-form}
 use Rattle.es_valid_rests.proofs.RestFormsMoved.{parameter-form}
 use Rattle.es_valid_rests.proofs.RestPlacesFunctions.{parameter-faced}
-use Rattle.es_valid_rests.proofs.RestPlacesHeads.{head-rest-faced}
+use Rattle.es_valid_rests.proofs.RestPlacesHeads.{head-rest-faced, target-head-faced}
 use Rattle.es_valid_rests.proofs.RestPlacesMoved.{catch-rest-faced}
 use Rattle.es_valid_rests.proofs.RestSteps.{both-faced}
 use Rattle.es_valid_steps.specs.PlaceRules.{Keeps}
@@ -54,7 +54,7 @@ use Rattle.es_arrow_bodies.proofs.BodyForms.{body-form}
 use Rattle.es_arrow_bodies.proofs.BodyPlaces.{body-faced}
 use Rattle.es_pattern_moves.specs.Laws.{LawMoveWalks}
 use Rattle.es_pattern_moves.specs.MoveRows.{MoveRow, MoveWalkRow, MovesOut}
-use Rattle.es_pattern_moves.specs.MoveRows.MoveWalkRow.{from_arrow, from_catch, from_declaration, from_expression, from_head, from_value}
+use Rattle.es_pattern_moves.specs.MoveRows.MoveWalkRow.{from_arrow, from_catch, from_declaration, from_expression, from_head, from_target, from_value}
 use Rattle.es_pattern_moves.proofs.MoveNodes.{row-moves}
 use Rattle.es_pattern_moves.proofs.Settled.{Sound, all-sound}
 
@@ -112,6 +112,7 @@ known-list w r p x a ts h = (whole-named w.in_use w.free_symbol r p x a ts h.0, 
 walk-nodes : (n : Site) (s s' : Ledger) (x y : Spot) → MoveWalkRow n s x s' y → AtNodes x y
 walk-nodes n s s' x y (from_catch m l p bs z plain fresh) = tt
 walk-nodes n s s' x y (from_head m l l' p e b z each head fresh) = tt
+walk-nodes n s s' x y (from_target m t e b z each rest fresh) = tt
 walk-nodes n s s' x y (from_declaration m l ps qs ds ts us z called fresh one) = tt
 walk-nodes n s s' x y (from_expression m l ps qs ds ts us z called fresh one) = tt
 walk-nodes n s s' x y (from_arrow m l ps qs ds ts us z fresh one) = tt
@@ -149,16 +150,16 @@ mutual
 -- STEPS: the rules by which patterns move, and that by which arrows get a body
 
 moves-lawful : Lawful MovesOut
-moves-lawful = both-lawful (both-lawful catch-rest-lawful (both-lawful head-lawful parameter-lawful)) body-lawful
+moves-lawful = both-lawful (both-lawful catch-rest-lawful (both-lawful head-lawful (both-lawful target-lawful parameter-lawful))) body-lawful
 
 moves-write : Writes MovesOut
-moves-write = both-write (both-write catch-rest-writes (both-write head-writes parameter-writes)) body-writes
+moves-write = both-write (both-write catch-rest-writes (both-write head-writes (both-write target-writes parameter-writes))) body-writes
 
 moves-form : FormLawful MovesOut
-moves-form = both-form (both-form catch-rest-form (both-form head-rest-form parameter-form)) body-form
+moves-form = both-form (both-form catch-rest-form (both-form head-rest-form (both-form target-head-form parameter-form))) body-form
 
 moves-faced : FaceLawful MovesOut
-moves-faced = both-faced (both-faced catch-rest-faced (both-faced head-rest-faced parameter-faced)) body-faced
+moves-faced = both-faced (both-faced catch-rest-faced (both-faced head-rest-faced (both-faced target-head-faced parameter-faced))) body-faced
 
 row-out : (n : Site) (s : Ledger) (x : Spot) (s' : Ledger) (y : Spot) → MoveRow n s x s' y → MovesOut n s x s' y
 row-out n s x s' y h = h.1

@@ -8,7 +8,7 @@ use Rattle.es_tree.specs.Names.{first_text}
 use Rattle.es_tree.specs.Tree.{Tree, node, Label, Fields, done, ◌then◌, Field, missing, one, many, statements, Trees, empty, ◌before◌}
 use Rattle.es_tree.specs.Words.{Text}
 use Rattle.es_tree.specs.declared.ast_type.AstType.{AstType}
-use Rattle.es_tree.specs.declared.ast_type.AstType.TheVariants.{ArrowFunctionExpression, AssignmentPattern, BlockStatement, CatchClause, ForInStatement, ForOfStatement, FunctionBody, FunctionDeclaration, FunctionExpression, ReturnStatement, VariableDeclaration, VariableDeclarator}
+use Rattle.es_tree.specs.declared.ast_type.AstType.TheVariants.{ArrowFunctionExpression, AssignmentExpression, AssignmentPattern, BlockStatement, CatchClause, ExpressionStatement, ForInStatement, ForOfStatement, FunctionBody, FunctionDeclaration, FunctionExpression, ObjectTarget, ReturnStatement, VariableDeclaration, VariableDeclarator}
 use Rattle.es_steps.specs.Nodes.{joined_trees}
 use Rattle.es_pattern_moves.specs.Laws.{LawOneMoved}
 use Rattle.es_pattern_moves.specs.Moved.{
@@ -95,6 +95,11 @@ module _ (bound : ℕ) (m m' : Makes) (same : MakeSame bound m m') where
       λ i.
       one (node VariableDeclaration (same.label p (Some (first_text l.texts) ∷ []) i) (many (node VariableDeclarator (same.label p [] i) (one (same.name n p lt i) then missing then done) before empty) then done)) then one e
       then one (node BlockStatement (same.block p i) (statements (declares-same (first_text l.texts) n p lt i before b before empty) then done)) then done
+  head-same n (one (node ObjectTarget l gs) then one e then one b then done) lt =
+      let t : Tree = node ObjectTarget l gs in
+      λ i.
+      one (node VariableDeclaration (same.label t (Some (codes "var") ∷ []) i) (many (node VariableDeclarator (same.label t [] i) (one (same.name n t lt i) then missing then done) before empty) then done)) then one e
+      then one (node BlockStatement (same.block t i) (statements (node ExpressionStatement (same.label t [] i) (one (node AssignmentExpression (same.label t (Some (codes "=") ∷ []) i) (one t then one (same.name n t lt i) then done)) then done) before b before empty) then done)) then done
   head-same n _ lt = refl
 
   moving : (n : ℕ) (k : AstType) (fs : Fields) → n + count_here k fs ≤ bound → moved_fields m' n k fs ≡ moved_fields m n k fs

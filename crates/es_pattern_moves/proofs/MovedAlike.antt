@@ -6,7 +6,7 @@ use Rattle.es_tree.specs.Names.{first_text}
 use Rattle.es_tree.specs.Tree.{Tree, node, Label, Fields, done, ◌then◌, Field, missing, one, many, statements, Trees, empty, ◌before◌}
 use Rattle.es_tree.specs.Words.{Text}
 use Rattle.es_tree.specs.declared.ast_type.AstType.{AstType}
-use Rattle.es_tree.specs.declared.ast_type.AstType.TheVariants.{ArrowFunctionExpression, AssignmentPattern, BlockStatement, CatchClause, ForInStatement, ForOfStatement, FunctionBody, FunctionDeclaration, FunctionExpression, Identifier, ReturnStatement, VariableDeclaration, VariableDeclarator}
+use Rattle.es_tree.specs.declared.ast_type.AstType.TheVariants.{ArrowFunctionExpression, AssignmentExpression, AssignmentPattern, BlockStatement, CatchClause, ExpressionStatement, ForInStatement, ForOfStatement, FunctionBody, FunctionDeclaration, FunctionExpression, Identifier, ObjectTarget, ReturnStatement, VariableDeclaration, VariableDeclarator}
 use Rattle.es_steps.specs.Nodes.{joined_trees, made}
 use Rattle.es_pattern_moves.specs.Moved.{
   Makes,
@@ -152,6 +152,11 @@ module _ (moves-same : (k : AstType) (l : Label) (fs : Fields) → moves_pattern
         λ i.
         one (node VariableDeclaration (h.label p (Some (first_text l.texts) ∷ []) i) (many (node VariableDeclarator (h.label p [] i) (one (h.name n p i) then missing then done) before empty) then done)) then one (bare e)
         then one (node BlockStatement (h.block p i) (statements (declares-bare (first_text l.texts) n p i before bare body before empty) then done)) then done
+    head-bare n (one (node ObjectTarget l gs) then one e then one body then done) d =
+        let t : Tree = node ObjectTarget l gs in
+        λ i.
+        one (node VariableDeclaration (h.label t (Some (codes "var") ∷ []) i) (many (node VariableDeclarator (h.label t [] i) (one (h.name n t i) then missing then done) before empty) then done)) then one (bare e)
+        then one (node BlockStatement (h.block t i) (statements (node ExpressionStatement (h.label t [] i) (one (node AssignmentExpression (h.label t (Some (codes "=") ∷ []) i) (one (bare t) then one (h.name n t i) then done)) then done) before bare body before empty) then done)) then done
     head-bare n _ d = absurd (cc d)
 
     moving : (n : ℕ) (k : AstType) (l : Label) (fs : Fields) → moves_pattern k l fs ≡ true → bare_fields (moved_fields m n k fs) ≡ moved_fields b n k (bare_fields fs)

@@ -24,7 +24,7 @@ use Rattle.es_steps.proofs.FormMembers.{formed-first}
 use Rattle.es_steps.proofs.FormParts.{IsText, formed-name}
 use Rattle.es_steps.proofs.FormRows.{next-text}
 use Rattle.es_steps.proofs.FormRules.{FormLawful, NodeFormed, no-names, nodes-only}
-use Rattle.es_valid_rests.proofs.RestForms.{at-sort, catch-rest-form, for-each-form, formed-declaration, formed-declarator}
+use Rattle.es_valid_rests.proofs.RestForms.{at-sort, catch-rest-form, for-each-form, formed-declaration, formed-declarator, rest-target, target-form}
 use Rattle.es_valid_rests.proofs.RestFormsDeclared.{list-joined, list-parts, rest-joined, rest-parts}
 use Rattle.es_valid_rests.proofs.RestFormsMoved.{body-statements, body-with}
 use Rattle.es_rest_shapes.specs.RestShapes.{is_plain_pattern}
@@ -33,7 +33,7 @@ use Rattle.es_arrow_bodies.specs.ArrowBodies.BodyRule.{returns}
 use Rattle.es_arrow_bodies.proofs.BodyForms.{body-form}
 use Rattle.es_pattern_moves.specs.MoveRows.{MoveWalkRow, MovesOne}
 use Rattle.es_pattern_moves.specs.MoveRows.MovesOne.{moves_one}
-use Rattle.es_pattern_moves.specs.MoveRows.MoveWalkRow.{from_arrow, from_catch, from_declaration, from_expression, from_head, from_value}
+use Rattle.es_pattern_moves.specs.MoveRows.MoveWalkRow.{from_arrow, from_catch, from_declaration, from_expression, from_head, from_target, from_value}
 use Rattle.es_pattern_moves.proofs.MovedRows.{walk-only}
 
 -- PARAMETERS
@@ -97,6 +97,8 @@ walk-form = nodes-only MoveWalkRow walk-only nodes
     nodes n s s' t u a slot (from_catch m l p bs x plain fresh) h = catch-rest-form.at_nodes n s s' t u a slot (moves (plain-holds p (and_parts _ _ plain).0) fresh) h
     nodes n s s' t u a slot (from_head {w = w} {q = q} {k = k} m l l' p e b x each from fresh) h =
         record { formed = for-each-form k a m l l' p e b (next_name w x) each (fresh-ref w x fresh) h; names = record { names = []; texts = tt; pending = no-names q; this = refl; top = refl } }
+    nodes n s s' t u a slot (from_target {w = w} {q = q} m p e b x each rest fresh) h =
+        record { formed = target-form a m p e b (next_name w x) each (rest-target p rest) (fresh-ref w x fresh) h; names = record { names = []; texts = tt; pending = no-names q; this = refl; top = refl } }
     nodes n s s' t u a slot (from_declaration {w = w} {q = q} {f = g} m l ps qs ds ts us x called fresh moved) h =
         let f = node_form a FunctionDeclaration m (g then many ps then one (node FunctionBody l (body_fields ds ts)) then done) h in
         let parts = and_parts _ (trees_form s-Pattern s-PatternRest ps && (has_form s-FunctionBody (node FunctionBody l (body_fields ds ts)) && true)) f.children in

@@ -25,13 +25,14 @@ use Rattle.es_steps.proofs.Opened.{finished-opened}
 use Rattle.es_steps.proofs.Taken.{pending_in, this_in, top_in, whole_in}
 use Rattle.es_rest_steps.proofs.RowsInside.{body-row as body-inside, no_names}
 use Rattle.es_pattern_moves.specs.MoveRows.{MoveWalkRow}
-use Rattle.es_pattern_moves.specs.MoveRows.MoveWalkRow.{from_arrow, from_catch, from_declaration, from_expression, from_head, from_value}
+use Rattle.es_pattern_moves.specs.MoveRows.MoveWalkRow.{from_arrow, from_catch, from_declaration, from_expression, from_head, from_target, from_value}
 
 -- A ROW acts at a node, wherever it stands, and leaves one that is a body of statements where it was
 
 pub walk-only : (n : Site) (s s' : Ledger) (x y : Spot) → MoveWalkRow n s x s' y → AtNodes x y
 walk-only n s s' x y (from_catch m l p bs z plain fresh) = tt
 walk-only n s s' x y (from_head m l l' p e b z each moves fresh) = tt
+walk-only n s s' x y (from_target m t e b z each rest fresh) = tt
 walk-only n s s' x y (from_declaration m l ps qs ds ts us z called fresh moves) = tt
 walk-only n s s' x y (from_expression m l ps qs ds ts us z called fresh moves) = tt
 walk-only n s s' x y (from_arrow m l ps qs ds ts us z fresh moves) = tt
@@ -40,6 +41,7 @@ walk-only n s s' x y (from_value m ps e z value moves) = tt
 pub walk-local : IsLocal (λ s. no_names) MoveWalkRow
 walk-local n n' s s' x y alike (from_catch m l p bs z plain fresh) = from_catch m l p bs z plain fresh
 walk-local n n' s s' x y alike (from_head m l l' p e b z each moves fresh) = from_head m l l' p e b z each moves fresh
+walk-local n n' s s' x y alike (from_target m t e b z each rest fresh) = from_target m t e b z each rest fresh
 walk-local n n' s s' x y alike (from_declaration m l ps qs ds ts us z called fresh moves) = from_declaration m l ps qs ds ts us z called fresh moves
 walk-local n n' s s' x y alike (from_expression m l ps qs ds ts us z called fresh moves) = from_expression m l ps qs ds ts us z called fresh moves
 walk-local n n' s s' x y alike (from_arrow m l ps qs ds ts us z fresh moves) = from_arrow m l ps qs ds ts us z fresh moves
@@ -53,6 +55,8 @@ walk-bodies : (n : Site) (s s' : Ledger) (x y : Spot) → MoveWalkRow n s x s' y
 walk-bodies n s s' x y (from_catch m l p bs z plain fresh) = refl
 walk-bodies n s s' x y (from_head m l l' p e b z for_in moves fresh) = refl
 walk-bodies n s s' x y (from_head m l l' p e b z for_of moves fresh) = refl
+walk-bodies n s s' x y (from_target m t e b z for_in rest fresh) = refl
+walk-bodies n s s' x y (from_target m t e b z for_of rest fresh) = refl
 walk-bodies n s s' x y (from_declaration m l ps qs ds ts us z called fresh moves) = refl
 walk-bodies n s s' x y (from_expression m l ps qs ds ts us z called fresh moves) = refl
 walk-bodies n s s' x y (from_arrow m l ps qs ds ts us z fresh moves) = refl

@@ -1,15 +1,16 @@
--- Moving makes a tree no larger than what it weighs: what is made for a pattern has five nodes more at most, for which the pattern and its rest, or
--- a pattern in it, weigh enough, and a body that is made has two, for which the function does. And a tree weighs no more than three and a half for
--- each node.
+-- Moving makes a tree no larger than what it weighs: what is made for a declared pattern has five nodes more at most, for which the pattern and its
+-- rest, or a pattern in it, weigh enough, a body that is made has two, for which the function does, and what is made for a target has seven, for
+-- which the loop weighs, too. And a tree weighs no more than three and a half for each node.
 use Rattle.std.proofs.Common.{◌≡◌, ◌≤◌, ◌∙◌, ℕ, suc, refl, sym, ap, arith, inl, inr, ⊎_elim, true≢false, []}
 use Rattle.std.specs.Prelude.{◌⊎◌, Bool, true, false, ◌+◌, ◌*◌, ◌||◌, not, codes, if◌then◌else◌}
 use Rattle.std.proofs.lemmas.Bool.{and_parts, or_cases}
 use Rattle.es_tree.specs.Constructs.{any_kind, is_rest}
 use Rattle.es_tree.specs.Names.{has_computed}
+use Rattle.es_tree.specs.RestTargets.{is_rest_target}
 use Rattle.es_tree.specs.Tree.{Tree, node, Label, Fields, done, ◌then◌, Field, missing, one, many, statements, Trees, empty, ◌before◌, field_size, fields_size, kind_of, tree_size, trees_size}
 use Rattle.es_tree.specs.Words.{Text}
 use Rattle.es_tree.specs.declared.ast_type.AstType.{AstType}
-use Rattle.es_tree.specs.declared.ast_type.AstType.TheVariants.{ArrowFunctionExpression, AssignmentPattern, CatchClause, ForInStatement, ForOfStatement, FunctionBody, FunctionDeclaration, FunctionExpression, ObjectPattern, PatternProperty, RestElement, ReturnStatement, VariableDeclaration, VariableDeclarator}
+use Rattle.es_tree.specs.declared.ast_type.AstType.TheVariants.{ArrowFunctionExpression, AssignmentPattern, CatchClause, ForInStatement, ForOfStatement, FunctionBody, FunctionDeclaration, FunctionExpression, ObjectPattern, ObjectTarget, PatternProperty, RestElement, ReturnStatement, TargetRest, VariableDeclaration, VariableDeclarator}
 use Rattle.es_steps.specs.Nodes.{joined_trees}
 use Rattle.es_pattern_moves.specs.Laws.{LawMovedSize}
 use Rattle.es_pattern_moves.specs.Moved.{
@@ -40,11 +41,13 @@ use Rattle.es_pattern_moves.specs.Weights.{own_weight, weighed, weighed_among, w
 use Rattle.es_rest_shapes.specs.RestShapes.{are_plain_members, are_plain_parts, bears_among, bears_rest, is_named_rest, is_plain_key, is_plain_pattern, is_plain_property, is_plain_target, is_plain_value}
 
 -- WHAT PATTERNS SPARE: of what a pattern and its rest weigh, all but the node itself is kept until the pattern moves, and so it is of the
--- patterns in its properties
+-- patterns in its properties, and of a target
 abbrev mutual
   spare : Tree → ℕ
   spare (node ObjectPattern l fs) = 5 + spare_in fs
   spare (node RestElement l fs) = 5
+  spare (node ObjectTarget l fs) = 5 + spare_in fs
+  spare (node TargetRest l fs) = 5
   spare (node PatternProperty l fs) = spare_in fs
   spare (node AssignmentPattern l fs) = spare_in fs
   spare (node VariableDeclaration l fs) = spare_in fs
@@ -69,6 +72,8 @@ abbrev mutual
 spare-node : (k : AstType) (l : Label) (fs : Fields) → 2 + spare (node k l fs) ≤ own_weight k + spare_in fs
 spare-node ObjectPattern l fs = omega arith
 spare-node RestElement l fs = omega arith
+spare-node ObjectTarget l fs = omega arith
+spare-node TargetRest l fs = omega arith
 spare-node PatternProperty l fs = omega arith
 spare-node AssignmentPattern l fs = omega arith
 spare-node VariableDeclaration l fs = omega arith
@@ -148,6 +153,20 @@ parameters-spare (t before ts) = at (is_rest_parameter t) refl (parameters-spare
     at true e h = omega (arith, parameter-spares t e)
     at false e h = omega arith
 
+-- a target with a rest among its members, which its own rest is
+rests-spare : (ts : Trees) → any_kind is_rest ts ≡ true → 5 ≤ spare_among ts
+rests-spare empty h = absurd (cc h)
+rests-spare (t before ts) h = ⊎_elim (λ e. omega (arith, rest-kind t e)) (λ e. omega (arith, rests-spare ts e)) (or_cases (is_rest (kind_of t)) (any_kind is_rest ts) h)
+  where
+    rest-kind : (t : Tree) → is_rest (kind_of t) ≡ true → 5 ≤ spare t
+    rest-kind (node RestElement l fs) e = omega arith
+    rest-kind (node TargetRest l fs) e = omega arith
+    rest-kind (node _ l fs) e = absurd (cc e)
+
+assigned-spares : (l : Label) (fs : Fields) → is_rest_target (one (node ObjectTarget l fs)) ≡ true → 10 ≤ spare (node ObjectTarget l fs)
+assigned-spares l (many ts then fs) h = omega (arith, rests-spare ts h)
+assigned-spares l _ h = absurd (cc h)
+
 function-spares : (fs : Fields) → 10 * count_function fs ≤ spare_in fs
 function-spares (f then many ps then fs) = omega (arith, parameters-spare ps)
 function-spares _ = omega arith
@@ -198,9 +217,10 @@ module _ (m : Makes) (small : (n : ℕ) (t : Tree) → tree_size (m.name n t) �
   catch-size n (one p then one b then done) h = omega (arith, plain-spares p (and_parts (is_plain_pattern p) (not (binds_let p)) h).0, small n p)
   catch-size n _ h = absurd (cc h)
 
-  head-size : (n : ℕ) (fs : Fields) → moves_from_head fs ≡ true → 2 * fields_size (moved_head m n fs) ≤ 2 * fields_size fs + spare_in fs
+  head-size : (n : ℕ) (fs : Fields) → moves_from_head fs ≡ true → 2 * fields_size (moved_head m n fs) ≤ 5 + 2 * fields_size fs + spare_in fs
   head-size n (one (node VariableDeclaration l (many (node VariableDeclarator l' (one p then missing then done) before empty) then done)) then one e then one b then done) h =
       omega (arith, plain-spares p (and_parts (is_plain_pattern p) (is_var l || not (meets p e)) h).0, small n p)
+  head-size n (one (node ObjectTarget l gs) then one e then one b then done) h = omega (arith, assigned-spares l gs h, small n (node ObjectTarget l gs))
   head-size n _ h = absurd (cc h)
 
   -- a node out of which patterns move spares nothing more, and what it becomes is paid for

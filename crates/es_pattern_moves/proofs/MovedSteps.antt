@@ -6,10 +6,11 @@ use Rattle.es_tree.specs.HasForm.{field_form, fields_form, has_form, is_of_sort,
 use Rattle.es_tree.specs.Attributes.{child_entries}
 use Rattle.es_tree.specs.Fresh.{IsFreshName}
 use Rattle.es_tree.specs.Names.{first_text}
+use Rattle.es_tree.specs.RestTargets.{is_rest_target}
 use Rattle.es_tree.specs.Tree.{Tree, node, Label, Fields, done, ◌then◌, Field, missing, one, many, statements, Trees, empty, ◌before◌}
 use Rattle.es_tree.specs.Words.{Text}
 use Rattle.es_tree.specs.declared.ast_type.AstType.{AstType}
-use Rattle.es_tree.specs.declared.ast_type.AstType.TheVariants.{ArrowFunctionExpression, AssignmentPattern, BlockStatement, CatchClause, ForInStatement, ForOfStatement, FunctionBody, FunctionDeclaration, FunctionExpression, Identifier, VariableDeclaration, VariableDeclarator}
+use Rattle.es_tree.specs.declared.ast_type.AstType.TheVariants.{ArrowFunctionExpression, AssignmentPattern, BlockStatement, CatchClause, ForInStatement, ForOfStatement, FunctionBody, FunctionDeclaration, FunctionExpression, Identifier, ObjectTarget, VariableDeclaration, VariableDeclarator}
 use Rattle.es_tree.specs.declared.table.Content.TheVariants.{Child as c-Child}
 use Rattle.es_tree.specs.declared.table.Often.TheVariants.{Optional}
 use Rattle.es_tree.specs.declared.table.Sort.{Sort}
@@ -24,7 +25,7 @@ use Rattle.es_semantic.specs.declared.place.Role.TheVariants.{Binds}
 use Rattle.es_changes.specs.Changes.{AsBody, Each, EachBy, EachIn}
 use Rattle.es_changes.proofs.Expressions.{body-expression, law_expression_proof}
 use Rattle.es_changes.proofs.StepRows.{steps-trans}
-use Rattle.es_steps.specs.LoopHeads.{IsForEach, head_fields, new_head}
+use Rattle.es_steps.specs.LoopHeads.{IsForEach, assigning_head, head_fields, new_head}
 use Rattle.es_steps.specs.LoopHeads.IsForEach.{for_in, for_of}
 use Rattle.es_steps.specs.Nodes.{block_node, identifier, joined_trees, made, return_node}
 use Rattle.es_steps.specs.Open.{Additions, Pending, is_body, is_statement_body, no_additions, nothing_pending, opened}
@@ -39,7 +40,7 @@ use Rattle.es_steps.specs.Steps.Steps.{goes, stays}
 use Rattle.es_rest_rows.specs.RestRows.{binds_name}
 use Rattle.es_rest_shapes.specs.RestShapes.{any_tree}
 use Rattle.es_pattern_moves.specs.MoveRows.{MoveWalkRow, MovesOne}
-use Rattle.es_pattern_moves.specs.MoveRows.MoveWalkRow.{from_arrow, from_catch, from_declaration, from_expression, from_head, from_value}
+use Rattle.es_pattern_moves.specs.MoveRows.MoveWalkRow.{from_arrow, from_catch, from_declaration, from_expression, from_head, from_target, from_value}
 use Rattle.es_pattern_moves.specs.Moved.{Makes, all_declared, all_named, count_here, count_rests, moved, moved_among, moved_arrow, moved_by, moved_catch, moved_fields, moved_function, moved_head, moved_here, moved_in, name_of, returning, with_declared, with_symbols}
 use Rattle.es_pattern_moves.specs.PatternMoves.{all_may_move, all_move, are_later, binds_let, body_declares, declared_later, default_apart, is_rest_parameter, is_value, may_move, meets_among, moves_from_arrow, moves_from_catch, moves_from_function, moves_from_head, moves_pattern, moves_with_body, pattern_of, stands, top_declares, var_declares}
 use Rattle.es_pattern_moves.proofs.MovedCounts.{fields-more, here-more, trees-more}
@@ -118,9 +119,11 @@ catch-shape _ h = absurd (cc h)
 
 data IsHead : Fields → Type 0 where
   a_head : (l l' : Label) (p e b : Tree) → moves_from_head (head_fields l l' p e b) ≡ true → IsHead (head_fields l l' p e b)
+  a_target : (l : Label) (gs : Fields) (e b : Tree) → is_rest_target (one (node ObjectTarget l gs)) ≡ true → IsHead (one (node ObjectTarget l gs) then one e then one b then done)
 
 head-shape : (fs : Fields) → moves_from_head fs ≡ true → IsHead fs
 head-shape (one (node VariableDeclaration l (many (node VariableDeclarator l' (one p then missing then done) before empty) then done)) then one e then one b then done) h = a_head l l' p e b h
+head-shape (one (node ObjectTarget l gs) then one e then one b then done) h = a_target l gs e b h
 head-shape _ h = absurd (cc h)
 
 data IsMovingBody (ps : Trees) : Tree → Type 0 where
@@ -281,6 +284,11 @@ module _ (names : List Text) (first : ℕ) (base : Text → Bool) (free : ℕ) w
         let lt : i < length names = omega (arith, le) in
         one-row n i w (node k m' (head_fields l l' p e b)) (node k m' (new_head (first_text l.texts) (next_name w x) p e b)) (node k m' (moved_head m i (head_fields l l' p e b))) here lt (ap (λ (z : Bound). node k m' (new_head (first_text l.texts) z p e b)) (is-bound names first base w i here lt))
         (λ q s y. from_head m' l l' p e b x each moves (is-fresh names first base w i here lt))
+    head-left k each m' (a_target l gs e b rest) le =
+        let t : Tree = node ObjectTarget l gs in
+        let lt : i < length names = omega (arith, le) in
+        one-row n i w (node k m' (one t then one e then one b then done)) (node k m' (assigning_head (next_name w x) t e b)) (node k m' (moved_head m i (one t then one e then one b then done))) here lt (ap (λ (z : Bound). node k m' (assigning_head z t e b)) (is-bound names first base w i here lt))
+        (λ q s y. from_target m' t e b x each rest (is-fresh names first base w i here lt))
 
     -- all parameters of a function
     function-rows : (build : Trees → Trees → Tree) (ps ts : Trees) →

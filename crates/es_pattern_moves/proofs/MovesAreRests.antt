@@ -6,7 +6,7 @@ use Rattle.es_tree.specs.Constructs.{is_object_rest}
 use Rattle.es_tree.specs.Tree.{Tree, node, Label, Fields, done, ◌then◌, Field, missing, one, many, statements, Trees, empty, ◌before◌}
 use Rattle.es_tree.specs.Walks.{any_in_field, any_in_fields, any_in_trees, any_node}
 use Rattle.es_tree.specs.declared.ast_type.AstType.{AstType}
-use Rattle.es_tree.specs.declared.ast_type.AstType.TheVariants.{ArrowFunctionExpression, AssignmentPattern, CatchClause, ForInStatement, ForOfStatement, FunctionBody, FunctionDeclaration, FunctionExpression, ObjectPattern, VariableDeclaration, VariableDeclarator}
+use Rattle.es_tree.specs.declared.ast_type.AstType.TheVariants.{ArrowFunctionExpression, AssignmentPattern, CatchClause, ForInStatement, ForOfStatement, FunctionBody, FunctionDeclaration, FunctionExpression, ObjectPattern, ObjectTarget, VariableDeclaration, VariableDeclarator}
 use Rattle.es_pattern_moves.specs.Laws.{LawMovesAreRests}
 use Rattle.es_pattern_moves.specs.PatternMoves.{all_may_move, all_move, is_rest_parameter, is_value, moves_from_arrow, moves_from_catch, moves_from_function, moves_from_head, moves_pattern, moves_with_body}
 use Rattle.es_rest_shapes.specs.RestShapes.{any_tree, is_plain_pattern}
@@ -47,6 +47,7 @@ head-rest : (fs : Fields) → moves_from_head fs ≡ true → any_in_fields is_o
 head-rest (one (node VariableDeclaration l (many (node VariableDeclarator m (one p then missing then done) before empty) then done)) then one e then one b then done) h =
     let has : any_node is_object_rest p ≡ true = plain-rest p (and_parts (is_plain_pattern p) _ h).0 in
     rw has refl
+head-rest (one (node ObjectTarget l gs) then one e then one b then done) h = let has : is_object_rest ObjectTarget l gs ≡ true = h in rw has refl
 head-rest _ h = absurd (cc h)
 
 function-rest : (fs : Fields) → moves_from_function fs ≡ true → any_in_fields is_object_rest fs ≡ true

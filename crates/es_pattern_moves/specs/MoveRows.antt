@@ -1,12 +1,13 @@
 -- A pattern with an object rest moves to a declaration of its own, with a fresh name in its place: `catch ({ a, ...b }) { f(b); }` becomes
 -- `catch (_ref) { let { a, ...b } = _ref; { f(b); } }`, `for (const { a, ...b } of c) f(b);` becomes
--- `for (const _ref of c) { const { a, ...b } = _ref; f(b); }`, and `function f({ a, ...b } = c) { g(b); }` becomes
+-- `for (const _ref of c) { const { a, ...b } = _ref; f(b); }`, `for ({ a, ...b } of c) f(b);` becomes
+-- `for (var _ref of c) { { a, ...b } = _ref; f(b); }`, and `function f({ a, ...b } = c) { g(b); }` becomes
 -- `function f(_ref = c) { let { a, ...b } = _ref; g(b); }`. An arrow function whose body is an expression gets a body of statements first:
 -- `({ a, ...b }) => f(b)` becomes `({ a, ...b }) => { return f(b); }`. Each row is a part of the rules of object rests, or that of bodies.
 use Rattle.std.specs.Prelude.{◌≡◌, ◌∷◌, false, true, Option, codes, []}
 use Rattle.es_resolution.specs.Declarations.{Bound}
 use Rattle.es_steps.specs.CatchPatterns.{CatchRest}
-use Rattle.es_steps.specs.LoopHeads.{HeadRest, IsForEach, head_fields, new_head}
+use Rattle.es_steps.specs.LoopHeads.{HeadRest, IsForEach, TargetHead, assigning_head, head_fields, new_head}
 use Rattle.es_steps.specs.Nodes.{block_node, body_node, identifier, joined_trees, return_node}
 use Rattle.es_steps.specs.Open.{Additions, Pending}
 use Rattle.es_steps.specs.ParameterPatterns.{HoldsPattern, IsFunctionName, ParameterRest, are_moved, body_fields}
@@ -15,6 +16,7 @@ use Rattle.es_steps.specs.Rules.{either_rule, next_name, with_made}
 use Rattle.es_steps.specs.Steps.{IsExpression, Ledger, Site, Spot, Whole, at_node, ledger}
 use Rattle.es_tree.specs.Fresh.{IsFreshName}
 use Rattle.es_tree.specs.Names.{first_text}
+use Rattle.es_tree.specs.RestTargets.{is_rest_target}
 use Rattle.es_tree.specs.Tree.{Field, Tree, node, Label, done, ◌then◌, many, one, statements, Trees, empty, ◌before◌}
 use Rattle.es_tree.specs.Words.{Text}
 use Rattle.es_tree.specs.declared.ast_type.AstType.{AstType}
@@ -25,7 +27,7 @@ use Rattle.es_rest_shapes.specs.RestShapes.{any_tree, is_plain_pattern}
 
 -- the rules of object rests that move a pattern, and that by which it gets a body to move into
 abbrev pub MovesOut : Site → Ledger → Spot → Ledger → Spot → Type 0
-MovesOut = either_rule (either_rule CatchRest (either_rule HeadRest ParameterRest)) BodyRule
+MovesOut = either_rule (either_rule CatchRest (either_rule HeadRest (either_rule TargetHead ParameterRest))) BodyRule
 
 -- WHERE THEY ACT, as tests of the tree tell it: that names are apart. That they are in use besides is a law over whole programs
 -- (`LawMoveWalks`).
@@ -42,6 +44,8 @@ pub data MoveWalkRow : Site → Ledger → Spot → Ledger → Spot → Type 0 w
       (at_node (node CatchClause m (one (identifier (next_name w x)) then one (block_node (let_statement p (next_name w x) before node BlockStatement l (statements bs then done) before empty)) then done)))
   from_head : {n : Site} {w : Whole} {q : Pending} {s : Option Bound} {y : Additions} {k : AstType} (m l l' : Label) (p e b : Tree) (x : Text) → IsForEach k → moves_from_head (head_fields l l' p e b) ≡ true → IsFreshName w.in_use (codes "ref") x →
       MoveWalkRow n (ledger w q s y) (at_node (node k m (head_fields l l' p e b))) (ledger (with_made (next_name w x ∷ []) w) q s y) (at_node (node k m (new_head (first_text l.texts) (next_name w x) p e b)))
+  from_target : {n : Site} {w : Whole} {q : Pending} {s : Option Bound} {y : Additions} {k : AstType} (m : Label) (t e b : Tree) (x : Text) → IsForEach k → is_rest_target (one t) ≡ true → IsFreshName w.in_use (codes "ref") x →
+      MoveWalkRow n (ledger w q s y) (at_node (node k m (one t then one e then one b then done))) (ledger (with_made (next_name w x ∷ []) w) q s y) (at_node (node k m (assigning_head (next_name w x) t e b)))
   from_declaration : {n : Site} {w : Whole} {q : Pending} {s : Option Bound} {y : Additions} {f : Field} (m l : Label) (ps qs ds ts us : Trees) (x : Text) → IsFunctionName f → IsFreshName w.in_use (codes "ref") x → MovesOne w x ps qs ts us →
       MoveWalkRow n (ledger w q s y) (at_node (node FunctionDeclaration m (f then many ps then one (node FunctionBody l (body_fields ds ts)) then done))) (ledger (with_made (next_name w x ∷ []) w) q s y)
       (at_node (node FunctionDeclaration m (f then many qs then one (node FunctionBody l (body_fields ds us)) then done)))

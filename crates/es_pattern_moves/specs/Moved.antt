@@ -8,15 +8,18 @@ use Rattle.es_tree.specs.Words.{Text}
 use Rattle.es_tree.specs.declared.ast_type.AstType.{AstType}
 use Rattle.es_tree.specs.declared.ast_type.AstType.TheVariants.{
   ArrowFunctionExpression,
+  AssignmentExpression,
   AssignmentPattern,
   BlockStatement,
   CatchClause,
+  ExpressionStatement,
   ForInStatement,
   ForOfStatement,
   FunctionBody,
   FunctionDeclaration,
   FunctionExpression,
   Identifier,
+  ObjectTarget,
   ReturnStatement,
   VariableDeclaration,
   VariableDeclarator,
@@ -38,9 +41,17 @@ made_for p texts = record (made texts []) { id = (label_of p).id }
 abbrev pub declares : Makes → Text → ℕ → Tree → Tree
 declares m kind n p = node VariableDeclaration (m.label p (Some kind ∷ [])) (many (node VariableDeclarator (m.label p []) (one p then one (m.name n p) then done) before empty) then done)
 
+-- `p = x;`
+abbrev pub assigns : Makes → ℕ → Tree → Tree
+assigns m n p = node ExpressionStatement (m.label p []) (one (node AssignmentExpression (m.label p (Some (codes "=") ∷ [])) (one p then one (m.name n p) then done)) then done)
+
+-- `{ s b }`, for the pattern p
+abbrev pub block_of : Makes → Tree → Tree → Tree → Tree
+block_of m p s b = node BlockStatement (m.block p) (statements (s before b before empty) then done)
+
 -- `{ kind p = x; b }`
 abbrev pub in_block : Makes → Text → ℕ → Tree → Tree → Tree
-in_block m kind n p b = node BlockStatement (m.block p) (statements (declares m kind n p before b before empty) then done)
+in_block m kind n p b = block_of m p (declares m kind n p) b
 
 -- CATCH CLAUSES
 
@@ -50,10 +61,15 @@ moved_catch m n fs = fs
 
 -- HEADS OF LOOPS
 
+-- `kind x`, for the pattern p
+abbrev pub names_alone : Makes → Text → ℕ → Tree → Tree
+names_alone m kind n p = node VariableDeclaration (m.label p (Some kind ∷ [])) (many (node VariableDeclarator (m.label p []) (one (m.name n p) then missing then done) before empty) then done)
+
 abbrev pub moved_head : Makes → ℕ → Fields → Fields
 moved_head m n (one (node VariableDeclaration l (many (node VariableDeclarator l' (one p then missing then done) before empty) then done)) then one e then one b then done) =
-    one (node VariableDeclaration (m.label p (Some (first_text l.texts) ∷ [])) (many (node VariableDeclarator (m.label p []) (one (m.name n p) then missing then done) before empty) then done)) then one e
-    then one (in_block m (first_text l.texts) n p b) then done
+    one (names_alone m (first_text l.texts) n p) then one e then one (in_block m (first_text l.texts) n p b) then done
+moved_head m n (one (node ObjectTarget l gs) then one e then one b then done) =
+    one (names_alone m (codes "var") n (node ObjectTarget l gs)) then one e then one (block_of m (node ObjectTarget l gs) (assigns m n (node ObjectTarget l gs)) b) then done
 moved_head m n fs = fs
 
 -- PARAMETERS

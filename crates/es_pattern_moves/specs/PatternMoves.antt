@@ -1,7 +1,9 @@
 -- Which object patterns with a rest, or with such a pattern in a property, move to a declaration of their own, in which their rests are taken: out
--- of a catch clause (ECMA-262, 14.15), out of the head of a loop (14.7.5), and out of the parameters of a function (10.2.11).
+-- of a catch clause (ECMA-262, 14.15), out of the head of a loop (14.7.5), and out of the parameters of a function (10.2.11). A pattern with a rest
+-- that the head of a loop assigns to moves to an assignment of its own.
 use Rattle.std.specs.Prelude.{◌&&◌, ◌||◌, not, Bool, false, true, bytes_eq, codes, ℕ, zero, suc}
 use Rattle.es_tree.specs.Names.{first_text, is_name_place}
+use Rattle.es_tree.specs.RestTargets.{is_rest_target}
 use Rattle.es_tree.specs.Tree.{Tree, node, Label, Fields, done, ◌then◌, Field, missing, one, many, statements, Trees, empty, ◌before◌, label_of}
 use Rattle.es_tree.specs.Words.{Text}
 use Rattle.es_tree.specs.declared.ast_type.AstType.{AstType}
@@ -16,6 +18,7 @@ use Rattle.es_tree.specs.declared.ast_type.AstType.TheVariants.{
   FunctionDeclaration,
   FunctionExpression,
   Identifier,
+  ObjectTarget,
   RestElement,
   VariableDeclaration,
   VariableDeclarator,
@@ -70,13 +73,15 @@ abbrev pub moves_from_catch : Fields → Bool
 moves_from_catch (one p then one b then done) = is_plain_pattern p && not (binds_let p)
 moves_from_catch _ = false
 
--- HEADS OF LOOPS: `for (const { a, ...b } of e)`, where none of the names is asked on the right side, which would ask it before it is set
+-- HEADS OF LOOPS: `for (const { a, ...b } of e)`, where none of the names is asked on the right side, which would ask it before it is set, and
+-- `for ({ a, ...b } of e)`, which declares none
 
 abbrev pub is_var : Label → Bool
 is_var l = bytes_eq (first_text l.texts) (codes "var")
 
 abbrev pub moves_from_head : Fields → Bool
 moves_from_head (one (node VariableDeclaration l (many (node VariableDeclarator m (one p then missing then done) before empty) then done)) then one e then one b then done) = is_plain_pattern p && (is_var l || not (meets p e))
+moves_from_head (one (node ObjectTarget l gs) then one e then one b then done) = is_rest_target (one (node ObjectTarget l gs))
 moves_from_head _ = false
 
 -- WHAT A BODY DECLARES (8.2.4 to 8.2.7): its own declarations, and what stands in it outside functions and static blocks and is declared by

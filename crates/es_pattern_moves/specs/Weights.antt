@@ -2,13 +2,17 @@
 use Rattle.std.specs.Prelude.{◌+◌, ℕ}
 use Rattle.es_tree.specs.Tree.{Tree, node, Fields, done, ◌then◌, Field, missing, one, many, statements, Trees, empty, ◌before◌}
 use Rattle.es_tree.specs.declared.ast_type.AstType.{AstType}
-use Rattle.es_tree.specs.declared.ast_type.AstType.TheVariants.{ArrowFunctionExpression, FunctionDeclaration, FunctionExpression, ObjectPattern, RestElement}
+use Rattle.es_tree.specs.declared.ast_type.AstType.TheVariants.{ArrowFunctionExpression, ForInStatement, ForOfStatement, FunctionDeclaration, FunctionExpression, ObjectPattern, ObjectTarget, RestElement, TargetRest}
 
 -- A node weighs two, and seven where something is made for it once patterns move: five more for a pattern and for a rest, one of which stands in
--- each pattern that moves, and as many for a function, which may get a body.
+-- each pattern that moves, as many for a function, which may get a body, and for a loop over the members of a value, which may get an assignment.
 abbrev pub own_weight : AstType → ℕ
 own_weight ObjectPattern = 7
 own_weight RestElement = 7
+own_weight ObjectTarget = 7
+own_weight TargetRest = 7
+own_weight ForInStatement = 7
+own_weight ForOfStatement = 7
 own_weight FunctionDeclaration = 7
 own_weight FunctionExpression = 7
 own_weight ArrowFunctionExpression = 7

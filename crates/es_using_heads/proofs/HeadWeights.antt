@@ -1,5 +1,5 @@
 -- What a program becomes weighs no more than twenty for each node of it, once its `using` is lowered, too. A node weighs and spares no more than sixteen
--- beside its parts. A loop that moves weighs 78 beside its right side and its body: two itself, six by its head, and seventy by its block with the
+-- beside its parts. A loop that moves weighs 79 beside its right side and its body: seven itself, six by its head, and 66 by its block with the
 -- declaration; which it, its declaration, its declarator and its name pay.
 use Rattle.std.proofs.Common.{◌≡◌, ◌≤◌, ◌∙◌, ℕ, suc, refl, ap, sym, arith, List}
 use Rattle.std.specs.Prelude.{Bool, true, false, ◌+◌, ◌*◌, codes, if◌then◌else◌}
@@ -19,7 +19,7 @@ use Rattle.es_using_rows.specs.UsingPlaces.{standing_in}
 use Rattle.es_using_rows.specs.declared.standing.Standing.{Standing}
 use Rattle.es_using_rows.specs.declared.standing.Standing.TheVariants.{Anywhere}
 use Rattle.es_using_rows.proofs.FormedNodes.{formed-nodes}
-use Rattle.es_using_rows.proofs.UsedSize.{AreNames, formed-others, has_others, here-paid, is_other, others-stay, spare, spare_among, spare_by, spare_in}
+use Rattle.es_using_rows.proofs.UsedSize.{AreNames, block-here, formed-others, has_others, here-paid, is_other, others-stay, spare, spare_among, spare_by, spare_in}
 use Rattle.es_using_heads.specs.Heads.{headed, headed_among, headed_by, headed_fields, headed_here, headed_in, moves_from_head, moves_using}
 use Rattle.es_using_heads.specs.Laws.{LawWeighed}
 use Rattle.es_using_heads.proofs.HeadShapes.{head-tests}
@@ -70,13 +70,13 @@ module _ (heads : List Text) (m : UsedMakes) (named : AreNames m) where
 
   -- A LOOP THAT MOVES, with its `using` lowered
   moved-weighs : (j n : ℕ) (l k : Label) (x e b : Tree) (v w : ℕ) → is_name x ≡ true → weighed (used m Anywhere n e).1 ≤ v → ((o : ℕ) → weighed (used m Anywhere o b).1 + spare (used m Anywhere o b).1 ≤ w) →
-      weighed_in (used_in m (standing_in ForOfStatement) n (headed_fields h j (head_fields l k x e b))).1 ≤ 76 + v + w
+      weighed_in (used_in m (standing_in ForOfStatement) n (headed_fields h j (head_fields l k x e b))).1 ≤ 72 + v + w
   moved-weighs j n l k (node Identifier p done) e b v w name value body =
       let x : Tree = node Identifier p done in
       let o : ℕ = (used m Anywhere n e).0 in
       let r : ℕ × Fields = used_in m (standing_in BlockStatement) o (statements (declares h (codes "using") j x before b before empty) then done) in
       let inner : weighed_in r.1 + spare_in r.1 ≤ 54 + w = omega (arith, body o) in
-      omega (arith, value, here-paid m named Anywhere r.0 BlockStatement (h.block x) r.1 (54 + w) refl inner)
+      omega (arith, value, block-here m named Anywhere r.0 (h.block x) r.1 (54 + w) inner)
   moved-weighs j n l k _ e b v w name value body = absurd (cc name)
 
   -- A NODE that moves, or doesn't
@@ -84,12 +84,12 @@ module _ (heads : List Text) (m : UsedMakes) (named : AreNames m) where
   abbrev Fits : Standing → ℕ → ℕ → ℕ × Tree → Type 0
   Fits s n w r = weighed (used m s n r.1).1 + spare (used m s n r.1).1 ≤ 20 + w
 
-  moving-fits : (s : Standing) (n j : ℕ) (k : AstType) (l : Label) (fs : Fields) (w : ℕ) → moves_using k l fs ≡ true → (moves_from_head fs ≡ true → weighed_in (used_in m (standing_in ForOfStatement) n (headed_fields h j fs)).1 + 2 ≤ 20 + w) → Fits s n w (suc j, node k l (headed_fields h j fs))
+  moving-fits : (s : Standing) (n j : ℕ) (k : AstType) (l : Label) (fs : Fields) (w : ℕ) → moves_using k l fs ≡ true → (moves_from_head fs ≡ true → weighed_in (used_in m (standing_in ForOfStatement) n (headed_fields h j fs)).1 + 7 ≤ 20 + w) → Fits s n w (suc j, node k l (headed_fields h j fs))
   moving-fits s n j ForOfStatement l fs w e moved = omega (arith, moved e)
   moving-fits s n j k l fs w e moved = absurd (cc e)
 
   here-fits : (s : Standing) (n j : ℕ) (k : AstType) (l : Label) (fs : Fields) (w : ℕ) → has_others k l fs ≡ true → weighed_in (used_in m (standing_in k) n fs).1 + spare_in (used_in m (standing_in k) n fs).1 ≤ w →
-      (moves_from_head fs ≡ true → weighed_in (used_in m (standing_in ForOfStatement) n (headed_fields h j fs)).1 + 2 ≤ 20 + w) → Fits s n w (headed_here h j k l fs)
+      (moves_from_head fs ≡ true → weighed_in (used_in m (standing_in ForOfStatement) n (headed_fields h j fs)).1 + 7 ≤ 20 + w) → Fits s n w (headed_here h j k l fs)
   here-fits s n j k l fs w others stays moved = at (moves_using k l fs) refl
     where
       at : (b : Bool) → moves_using k l fs ≡ b → Fits s n w (if b then (suc j, node k l (headed_fields h j fs)) else (j, node k l fs))
@@ -105,7 +105,7 @@ module _ (heads : List Text) (m : UsedMakes) (named : AreNames m) where
         omega (arith, here-fits s n j k l (headed_in h i fs).1 (20 * fields_size fs) (headed-others i k l fs d.0) (fields-fit (standing_in k) n i fs d.1) (λ e. head-fits n i j fs e d.1))
 
     -- in the head of a loop
-    head-fits : (n i j : ℕ) (fs : Fields) → moves_from_head (headed_in h i fs).1 ≡ true → all_in_fields has_others fs ≡ true → weighed_in (used_in m (standing_in ForOfStatement) n (headed_fields h j (headed_in h i fs).1)).1 + 2 ≤ 20 + 20 * fields_size fs
+    head-fits : (n i j : ℕ) (fs : Fields) → moves_from_head (headed_in h i fs).1 ≡ true → all_in_fields has_others fs ≡ true → weighed_in (used_in m (standing_in ForOfStatement) n (headed_fields h j (headed_in h i fs).1)).1 + 7 ≤ 20 + 20 * fields_size fs
     head-fits n i j (one (node VariableDeclaration l (many (node VariableDeclarator k (one x then missing then done) before empty) then done)) then one e then one b then done) moves o =
         let t : Tree = node VariableDeclaration l (many (node VariableDeclarator k (one x then missing then done) before empty) then done) in
         let d = and_parts (all_nodes has_others t) (all_in_fields has_others (one e then one b then done)) o in

@@ -199,13 +199,16 @@ module _ (m : Makes) (named : AreNames m) where
 
   -- A NODE at which `using` is lowered is paid for, and spares nothing more
 
-  abbrev Paid : Tree → Fields → Type 0
-  Paid t fs = weighed t + spare t ≤ 16 + (weighed_in fs + spare_in fs)
+  abbrev PaidWith : ℕ → Tree → Fields → Type 0
+  PaidWith w t fs = weighed t + spare t ≤ w + (weighed_in fs + spare_in fs)
 
-  block-paid : (s : Standing) (n : ℕ) (l : Label) (ts : Trees) → uses_in_list ts ≡ true → Paid (used_block m s n l (statements ts then done)) (statements ts then done)
+  abbrev Paid : Tree → Fields → Type 0
+  Paid t fs = PaidWith 16 t fs
+
+  block-paid : (s : Standing) (n : ℕ) (l : Label) (ts : Trees) → uses_in_list ts ≡ true → PaidWith 12 (used_block m s n l (statements ts then done)) (statements ts then done)
   block-paid s n l ts h = at (is_part s)
     where
-      at : (b : Bool) → let o : Tree = node BlockStatement l (statements ts then done) in Paid (if b then node BlockStatement l (statements (tried m n o (constants m n ts) before empty) then done) else tried m n o (constants m n ts)) (statements ts then done)
+      at : (b : Bool) → let o : Tree = node BlockStatement l (statements ts then done) in PaidWith 12 (if b then node BlockStatement l (statements (tried m n o (constants m n ts) before empty) then done) else tried m n o (constants m n ts)) (statements ts then done)
       at true = let d = and_parts (has_using ts) (are_used ts) h in omega (arith, tried-weighs n (node BlockStatement l (statements ts then done)) (constants m n ts), constants-leave n ts d.0 d.1)
       at false = let d = and_parts (has_using ts) (are_used ts) h in omega (arith, tried-weighs n (node BlockStatement l (statements ts then done)) (constants m n ts), constants-leave n ts d.0 d.1)
 
@@ -230,7 +233,7 @@ module _ (m : Makes) (named : AreNames m) where
   static-paid n l _ h = absurd (cc h)
 
   node-paid : (s : Standing) (n : ℕ) (k : AstType) (l : Label) (fs : Fields) → uses_here s k l fs ≡ true → Paid (used_node m s n k l fs) fs
-  node-paid s n BlockStatement l (statements ts then done) h = block-paid s n l ts h
+  node-paid s n BlockStatement l (statements ts then done) h = omega (arith, block-paid s n l ts h)
   node-paid s n BlockStatement l _ h = absurd (cc h)
   node-paid s n SwitchStatement l (d then many cs then done) h =
       let e = and_parts (some_case_has_using cs) (are_used_cases cs) h in
@@ -257,6 +260,18 @@ module _ (m : Makes) (named : AreNames m) where
       at : (b : Bool) → uses_here s k l fs ≡ b → PaidBy (16 + w) (if b then (suc n, used_node m s n k l fs) else (n, node k l fs))
       at true e = omega (arith, node-paid s n k l fs e, h)
       at false e = omega (arith, spare-node k l fs others, h)
+
+  -- a block less than others
+  pub block-here : (s : Standing) (n : ℕ) (l : Label) (fs : Fields) (w : ℕ) → weighed_in fs + spare_in fs ≤ w → PaidBy (12 + w) (used_here m s n BlockStatement l fs)
+  block-here s n l fs w h = at (uses_here s BlockStatement l fs) refl
+    where
+      used-block : (gs : Fields) → uses_here s BlockStatement l gs ≡ true → PaidWith 12 (used_node m s n BlockStatement l gs) gs
+      used-block (statements ts then done) e = block-paid s n l ts e
+      used-block _ e = absurd (cc e)
+
+      at : (b : Bool) → uses_here s BlockStatement l fs ≡ b → PaidBy (12 + w) (if b then (suc n, used_node m s n BlockStatement l fs) else (n, node BlockStatement l fs))
+      at true e = omega (arith, used-block fs e, h)
+      at false e = omega (arith, h)
 
   -- names and values stay of such kinds
 

@@ -7,7 +7,7 @@ use Rattle.es_tree.specs.Names.{first_text}
 use Rattle.es_tree.specs.Words.{Text}
 use Rattle.es_tree.specs.Tree.{Tree, node, Label, Fields, done, ◌then◌, Field, missing, one, many, statements, Trees, empty, ◌before◌, kind_of, label_of, trees}
 use Rattle.es_tree.specs.Views.{plain_field, plain_fields}
-use Rattle.es_tree.specs.declared.ast_type.AstType.TheVariants.{FunctionBody, VariableDeclaration, VariableDeclarator}
+use Rattle.es_tree.specs.declared.ast_type.AstType.TheVariants.{FunctionBody, ObjectTarget, VariableDeclaration, VariableDeclarator}
 use Rattle.es_tree.specs.declared.node.Field.{Field as NodeField}
 use Rattle.es_statements.specs.FunctionsArity.{IsFunctionBody}
 use Rattle.es_statements.specs.ProgramArity.{IsVariableDeclarator}
@@ -36,6 +36,7 @@ catch-fits _ h = absurd (cc h)
 
 pub head-fits : (fs : Fields) → moves_from_head fs ≡ true → Fits (required ∷ required ∷ required ∷ []) fs
 head-fits (one (node VariableDeclaration l (many (node VariableDeclarator m (one p then missing then done) before empty) then done)) then one e then one b then done) h = (tt, (tt, (tt, tt)))
+head-fits (one (node ObjectTarget l gs) then one e then one b then done) h = (tt, (tt, (tt, tt)))
 head-fits _ h = absurd (cc h)
 
 pub record LoopShape (fs : Fields) : Type 0 where
@@ -43,11 +44,12 @@ pub record LoopShape (fs : Fields) : Type 0 where
   pub source : Tree
   pub body : Tree
   pub fields : fs ≡ (one head then one source then one body then done)
-  pub alone : DeclaresAlone head
+  pub alone : (kind_of head ≡ ObjectTarget → ⊥) → DeclaresAlone head
 
 pub head-shape : (fs : Fields) → moves_from_head fs ≡ true → LoopShape fs
 head-shape (one (node VariableDeclaration l (many (node VariableDeclarator m (one p then missing then done) before empty) then done)) then one e then one b then done) h =
-    record { head = declared_alone l m p; source = e; body = b; fields = refl; alone = record { label = l; inner = m; pattern = p; tree = refl } }
+    record { head = declared_alone l m p; source = e; body = b; fields = refl; alone = λ other. record { label = l; inner = m; pattern = p; tree = refl } }
+head-shape (one (node ObjectTarget l gs) then one e then one b then done) h = record { head = node ObjectTarget l gs; source = e; body = b; fields = refl; alone = λ other. absurd (other refl) }
 head-shape _ h = absurd (cc h)
 
 -- FUNCTIONS

@@ -1,14 +1,13 @@
 -- What parts of a program become, each with the next number of a name: nodes, fields, parameters and their functions; and what is made.
-use Rattle.std.specs.Prelude.{◌≡◌, ◌+◌, ◌++◌, List, [], ◌∷◌, None, Option, Some, ℕ}
+use Rattle.std.specs.Prelude.{◌≡◌, ◌+◌, ◌++◌, List, [], ◌∷◌, None, Option, Some, codes, ℕ}
 use Rattle.es_tree.specs.Names.{first_text}
 use Rattle.es_tree.specs.Tree.{Tree, node, Label, Fields, done, ◌then◌, Field, missing, one, many, statements, Trees, empty, ◌before◌, label_of, trees}
 use Rattle.es_tree.specs.Words.{Text}
 use Rattle.es_tree.specs.declared.ast_type.AstType.{AstType}
-use Rattle.es_tree.specs.declared.ast_type.AstType.TheVariants.{AssignmentPattern, BlockStatement, FunctionBody, ReturnStatement, VariableDeclaration, VariableDeclarator}
+use Rattle.es_tree.specs.declared.ast_type.AstType.TheVariants.{AssignmentExpression, AssignmentPattern, BlockStatement, ExpressionStatement, FunctionBody, ReturnStatement, VariableDeclaration, VariableDeclarator}
 use Rattle.es_scope.specs.declared.uids.UidGenerator.{UidGenerator}
 use Rattle.es_steps.specs.Nodes.{joined_trees, made}
-use Rattle.lower_fresh_names.specs.Names.{name_with}
-use Rattle.es_pattern_moves.specs.Moved.{Makes, all_declared, all_named, count_arrow, count_function, count_here, count_rests, in_block, moved_arrow, moved_catch, moved_fields, moved_function, moved_head, moved_here, plain_name, with_declared}
+use Rattle.es_pattern_moves.specs.Moved.{Makes, all_declared, all_named, assigns, block_of, count_arrow, count_function, count_here, count_rests, in_block, moved_arrow, moved_catch, moved_fields, moved_function, moved_head, moved_here, plain_name, with_declared}
 use Rattle.lower_pattern_moves.specs.Moves.{MovesAs}
 
 -- WHAT IS MADE, with this id
@@ -20,9 +19,13 @@ made_with id texts = record (made texts []) { id = id }
 abbrev pub declaration_with : ℕ → Text → Tree → Field → Tree
 declaration_with id kind p v = node VariableDeclaration (made_with id (Some kind ∷ [])) (many (node VariableDeclarator (made_with id []) (one p then v then done) before empty) then done)
 
--- `{ kind p = x; b }`
-abbrev pub block_with : ℕ → Text → Text → Tree → Tree → Tree
-block_with id kind x p b = node BlockStatement (record (made_with id []) { marks = None ∷ [] }) (statements (declaration_with id kind p (one (name_with id x)) before b before empty) then done)
+-- `p = v;`
+abbrev pub assignment_with : ℕ → Tree → Tree → Tree
+assignment_with id p v = node ExpressionStatement (made_with id []) (one (node AssignmentExpression (made_with id (Some (codes "=") ∷ [])) (one p then one v then done)) then done)
+
+-- `{ s b }`
+abbrev pub block_with : ℕ → Tree → Tree → Tree
+block_with id s b = node BlockStatement (record (made_with id []) { marks = None ∷ [] }) (statements (s before b before empty) then done)
 
 -- `return e;`
 abbrev pub return_with : ℕ → Tree → Tree
@@ -46,6 +49,10 @@ named_by x p = plain_name x p
 -- a pattern: the name in its place, and the block `{ kind p = x; b }`
 abbrev pub moved_into_block : Text → Tree → Makes → ℕ → Tree → ℕ × (Tree × Tree)
 moved_into_block kind b m n p = (n + 1, (m.name n p, in_block m kind n p b))
+
+-- a target: the name in its place, and the block `{ t = x; b }`
+abbrev pub assigned_in_block : Tree → Makes → ℕ → Tree → ℕ × (Tree × Tree)
+assigned_in_block b m n t = (n + 1, (m.name n t, block_of m t (assigns m n t) b))
 
 -- parameters: those with names in place of patterns, and the declarations of these patterns
 abbrev pub moved_parameters : Makes → ℕ → Trees → ℕ × (Trees × Trees)

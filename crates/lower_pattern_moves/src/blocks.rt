@@ -8,22 +8,33 @@
 //!
 //!     for (const _ref of c) { const { a, ...b } = _ref; f(b); }
 //!
-//! The body of a catch clause keeps its own block in the new one: what it declares stays apart from the names of the pattern.
+//! The body of a catch clause keeps its own block in the new one: what it declares stays apart from the names of the pattern. A pattern that the
+//! head of a loop assigns to moves to an assignment:
+//!
+//! Before:
+//!
+//!     for ({ a, ...b } of c) f(b);
+//!
+//! After:
+//!
+//!     for (var _ref of c) { { a, ...b } = _ref; f(b); }
 //!
 //! The rules are `moved_catch` and `moved_head` of es_pattern_moves.
 ghost use Rattle.std.specs.Prelude.{◌≡◌, IfOk, true};
-ghost use Rattle.es_tree.specs.Views.{plain_fields};
+ghost use Rattle.es_tree.specs.Tree.{done, kind_of, one, ◌then◌};
+ghost use Rattle.es_tree.specs.Views.{plain_field, plain_fields};
 ghost use Rattle.es_tree.specs.Words.{variable_declaration_kind_text};
 ghost use Rattle.es_pattern_moves.specs.PatternMoves.{moves_from_catch, moves_from_head};
 ghost use Rattle.lower_pattern_moves.specs.Moves.{MovesAs};
-ghost use Rattle.lower_pattern_moves.specs.Parts.{DeclaresAlone, DeclaresBy, moved_catch_fields, moved_head_fields, moved_into_block};
+ghost use Rattle.lower_pattern_moves.specs.Parts.{DeclaresAlone, DeclaresBy, assigned_in_block, moved_catch_fields, moved_head_fields, moved_into_block};
 
-use crate::made_nodes::{BASE, new_declaration};
+use crate::made_nodes::{BASE, new_assignment, new_block, new_declaration};
 use es_scope::uids::UidGenerator;
-use es_statements::program::{BlockStatement, VariableDeclaration, VariableDeclarator};
+use es_statements::program::{VariableDeclaration, VariableDeclarator};
+use es_tree::ast_type::AstType;
 use es_tree::node::{Field, Node, exactly};
 use es_tree::operators::VariableDeclarationKind;
-use lower_fresh_names::nodes::{MADE, id_of, new_name};
+use lower_fresh_names::nodes::{id_of, new_name};
 use std::alloc::{AllocError, Global};
 
 /// `catch (_ref) { let { a, ...b } = _ref; { f(b); } }` for `catch ({ a, ...b }) { f(b); }`.
@@ -43,7 +54,8 @@ pub(crate) fn move_out_of_catch(
     Ok(moved)
 }
 
-/// `for (const _ref of c) { const { a, ...b } = _ref; f(b); }` for `for (const { a, ...b } of c) f(b);`, and likewise with `in`.
+/// `for (const _ref of c) { const { a, ...b } = _ref; f(b); }` for `for (const { a, ...b } of c) f(b);`, and likewise with `in`, and where the
+/// head assigns to the pattern.
 pub(crate) fn move_out_of_head(
     fields: Vec<Field>,
     uids: &mut UidGenerator,
@@ -53,9 +65,61 @@ pub(crate) fn move_out_of_head(
     ensures { IfOk result (λ moved. MovesAs moved_head_fields uids.old uids.new (plain_fields fields.items) (plain_fields moved.items)) }
 {
     let [head, source, body]: [Field; 3] = exactly(fields);
-    let (kind, pattern) = open_head(head.into_node());
+    move_left(head.into_node(), source, body.into_node(), uids, alloc)
+}
+
+/// What the fields of a loop with this head, right side and body become.
+fn move_left(
+    head: Node,
+    source: Field,
+    body: Node,
+    uids: &mut UidGenerator,
+    alloc: Global,
+) -> Result<Vec<Field>, AllocError>
+    requires { moves_from_head (one head then plain_field source then one body then done) ≡ true }
+    ensures { IfOk result (λ moved. MovesAs moved_head_fields uids.old uids.new (one head then plain_field source then one body then done) (plain_fields moved.items)) }
+{
+    match head.kind.ast_type() {
+        AstType::ObjectTarget => move_target(head, source, body, uids, alloc),
+        _ => move_declaration(head, source, body, uids, alloc),
+    }
+}
+
+/// `for (const _ref of c) { const { a, ...b } = _ref; f(b); }` for the declaration `const { a, ...b }`, the right side `c` and the body `f(b);`.
+fn move_declaration(
+    head: Node,
+    source: Field,
+    body: Node,
+    uids: &mut UidGenerator,
+    alloc: Global,
+) -> Result<Vec<Field>, AllocError>
+    requires alone { DeclaresAlone head }
+    requires moves { moves_from_head (one head then plain_field source then one body then done) ≡ true }
+    ensures { IfOk result (λ moved. MovesAs moved_head_fields uids.old uids.new (one head then plain_field source then one body then done) (plain_fields moved.items)) }
+{
+    let (kind, pattern) = open_head(head);
     let id = id_of(&pattern);
-    let (name, block) = move_into_block(kind, pattern, body.into_node(), uids, alloc)?;
+    let (name, block) = move_into_block(kind, pattern, body, uids, alloc)?;
+    let declaration = new_declaration(kind, id, name, None, alloc)?;
+    let moved = Vec::from_array(alloc, [Field::One(declaration), source, Field::One(block)])?;
+    Ok(moved)
+}
+
+/// `for (var _ref of c) { { a, ...b } = _ref; f(b); }` for the pattern `{ a, ...b }`, the right side `c` and the body `f(b);`.
+fn move_target(
+    target: Node,
+    source: Field,
+    body: Node,
+    uids: &mut UidGenerator,
+    alloc: Global,
+) -> Result<Vec<Field>, AllocError>
+    requires kind { kind_of target ≡ AstType.ObjectTarget }
+    requires moves { moves_from_head (one target then plain_field source then one body then done) ≡ true }
+    ensures { IfOk result (λ moved. MovesAs moved_head_fields uids.old uids.new (one target then plain_field source then one body then done) (plain_fields moved.items)) }
+{
+    let id = id_of(&target);
+    let (name, block) = assign_in_block(target, body, uids, alloc)?;
+    let kind = VariableDeclarationKind::Var;
     let declaration = new_declaration(kind, id, name, None, alloc)?;
     let moved = Vec::from_array(alloc, [Field::One(declaration), source, Field::One(block)])?;
     Ok(moved)
@@ -100,12 +164,24 @@ fn move_into_block(
     let name = new_name(id, text.as_str(), alloc)?;
     let value = new_name(id, text.as_str(), alloc)?;
     let declaration = new_declaration(kind, id, pattern, Some(value), alloc)?;
-    let block = BlockStatement {
-        id,
-        span: MADE,
-        scope: None,
-        body: Vec::from_array(alloc, [declaration, body])?,
-    };
-    let made = block.close(alloc)?;
-    Ok((name, made))
+    let block = new_block(id, declaration, body, alloc)?;
+    Ok((name, block))
+}
+
+/// The fresh name `_ref` for the pattern `{ a, ...b }`, and the block `{ { a, ...b } = _ref; f(b); }` for the body `f(b);`.
+fn assign_in_block(
+    target: Node,
+    body: Node,
+    uids: &mut UidGenerator,
+    alloc: Global,
+) -> Result<(Node, Node), AllocError>
+    ensures { IfOk result (λ moved. MovesAs (assigned_in_block body) uids.old uids.new target (moved.0, moved.1)) }
+{
+    let text = uids.generate(BASE)?;
+    let id = id_of(&target);
+    let name = new_name(id, text.as_str(), alloc)?;
+    let value = new_name(id, text.as_str(), alloc)?;
+    let assignment = new_assignment(id, target, value, alloc)?;
+    let block = new_block(id, assignment, body, alloc)?;
+    Ok((name, block))
 }

@@ -1,10 +1,12 @@
 //! Patterns with an object rest move to a declaration of their own, with a fresh name in their place, so that the lowering of declared
-//! rests takes them apart there: out of catch clauses (ECMA-262, 14.15), heads of loops (14.7.5) and parameters of functions (10.2.11).
+//! rests takes them apart there: out of catch clauses (ECMA-262, 14.15), heads of loops (14.7.5) and parameters of functions (10.2.11). A
+//! pattern with a rest that the head of a loop assigns to moves to an assignment of its own.
 //!
 //! | source | written |
 //! |---|---|
 //! | `catch ({ a, ...b }) { f(b); }` | `catch (_ref) { let { a, ...b } = _ref; { f(b); } }` |
 //! | `for (const { a, ...b } of c) f(b);` | `for (const _ref of c) { const { a, ...b } = _ref; f(b); }` |
+//! | `for ({ a, ...b } of c) f(b);` | `for (var _ref of c) { { a, ...b } = _ref; f(b); }` |
 //! | `function f({ a, ...b } = c) { g(b); }` | `function f(_ref = c) { let { a, ...b } = _ref; g(b); }` |
 //! | `(a, { ...b }) => { g(b); }` | `(a, _ref) => { let { ...b } = _ref; g(b); }` |
 //! | `(a, { ...b }) => g(b)` | `(a, _ref) => { let { ...b } = _ref; return g(b); }` |

@@ -1,18 +1,21 @@
-//! The declarations and names that are made: `let { a, ...b } = _ref;`, and for an arrow function whose body is an expression the body
+//! What is made: `let { a, ...b } = _ref;`, `{ a, ...b } = _ref;`, blocks, and for an arrow function whose body is an expression the body
 //! `{ return g(b); }`. A made node has no place in the source, and the id of its pattern or of the value that is returned, so that a refusal
 //! that is told at it names a node of the source.
 ghost use Rattle.std.specs.Prelude.{◌≡◌, IfOk};
 ghost use Rattle.es_tree.specs.Arity.{maybe};
 ghost use Rattle.es_tree.specs.Tree.{trees};
 ghost use Rattle.es_tree.specs.Words.{variable_declaration_kind_text};
-ghost use Rattle.lower_pattern_moves.specs.Parts.{body_with, declaration_with, return_with};
+ghost use Rattle.lower_pattern_moves.specs.Parts.{assignment_with, block_with, body_with, declaration_with, return_with};
 
+use es_expressions::operations::AssignmentExpression;
 use es_statements::control::ReturnStatement;
 use es_statements::functions::FunctionBody;
-use es_statements::program::{VariableDeclaration, VariableDeclarator};
+use es_statements::program::{
+    BlockStatement, ExpressionStatement, VariableDeclaration, VariableDeclarator,
+};
 use es_tree::ids::NodeId;
 use es_tree::node::Node;
-use es_tree::operators::VariableDeclarationKind;
+use es_tree::operators::{AssignmentOperator, VariableDeclarationKind};
 use lower_fresh_names::nodes::MADE;
 use std::alloc::{AllocError, Global};
 
@@ -43,6 +46,49 @@ pub(crate) fn new_declaration(
         declarations: Vec::from_array(alloc, [declared])?,
     };
     declaration.close(alloc)
+}
+
+/// `{ a, ...b } = _ref;` for the pattern `{ a, ...b }`, with its id.
+pub(crate) fn new_assignment(
+    id: NodeId,
+    target: Node,
+    value: Node,
+    alloc: Global,
+) -> Result<Node, AllocError>
+    ensures { IfOk result (λ made. made ≡ assignment_with id.0 target value) }
+{
+    let assignment = AssignmentExpression {
+        id,
+        span: MADE,
+        operator: AssignmentOperator::Assign,
+        left: target,
+        right: value,
+    };
+    let assigned = assignment.close(alloc)?;
+    let statement = ExpressionStatement {
+        id,
+        span: MADE,
+        expression: assigned,
+    };
+    statement.close(alloc)
+}
+
+/// The block `{ let { a, ...b } = _ref; f(b); }` of the statement `let { a, ...b } = _ref;` and the body `f(b);`.
+pub(crate) fn new_block(
+    id: NodeId,
+    first: Node,
+    body: Node,
+    alloc: Global,
+) -> Result<Node, AllocError>
+    ensures { IfOk result (λ made. made ≡ block_with id.0 first body) }
+{
+    let block = BlockStatement {
+        id,
+        span: MADE,
+        scope: None,
+        body: Vec::from_array(alloc, [first, body])?,
+    };
+    block.close(alloc)
 }
 
 /// `return g(b);` for the value `g(b)`.
