@@ -1,16 +1,17 @@
 -- The source of a program meets the conditions of a visit by the core lowerings. At each exponentiation that is to be lowered `Math` finds
--- nothing, and `babelHelpers` at each object literal with a spread, side by side over the program at its places and the source at its sites; chains stand as the static rules have them.
+-- nothing, and `babelHelpers` at each object literal with a spread and each object target with a rest, side by side over the program at its places and
+-- the source at its sites; chains stand as the static rules have them.
 use Rattle.std.proofs.Common.{◌≡◌, ℕ, zero, suc, ◌+◌, refl, sym, ap, subst, ◌∙◌, List, [], ◌∷◌}
 use Rattle.std.specs.Prelude.{Bool, true, false, not, ◌&&◌, ◌||◌, Option, Some, None, bytes_eq, is_some, codes, if◌then◌else◌}
 use Rattle.std.proofs.lemmas.Bool.{and_from, and_parts, true≢false}
-use Rattle.es_tree.specs.Constructs.{any_kind, field_at, has_member, is_big_int, is_child, is_exponentiation, is_object_spread, is_spread}
-use Rattle.es_tree.specs.HasForm.{has_form}
+use Rattle.es_tree.specs.Constructs.{any_kind, field_at, has_member, is_big_int, is_child, is_exponentiation, is_object_spread, is_rest, is_spread}
+use Rattle.es_tree.specs.HasForm.{has_form, same_type}
 use Rattle.es_tree.specs.Names.{first_text}
 use Rattle.es_tree.specs.Tree.{Tree, node, Label, Fields, done, ◌then◌, Field, missing, one, many, statements, Trees, empty, ◌before◌, kind_of}
 use Rattle.es_tree.specs.Walks.{any_node}
 use Rattle.es_tree.specs.Words.{Text}
 use Rattle.es_tree.specs.declared.ast_type.AstType.{AstType}
-use Rattle.es_tree.specs.declared.ast_type.AstType.TheVariants.{ArrowFunctionExpression, AssignmentExpression, BinaryExpression, FunctionBody, ObjectExpression, Program, StaticBlock}
+use Rattle.es_tree.specs.declared.ast_type.AstType.TheVariants.{ArrowFunctionExpression, AssignmentExpression, BinaryExpression, FunctionBody, ObjectExpression, ObjectTarget, Program, StaticBlock}
 use Rattle.es_tree.specs.declared.options.EnvOptions.{EnvOptions}
 use Rattle.es_tree.specs.declared.table.Sort.TheVariants.{Program as s-Program}
 use Rattle.es_tree.proofs.NodeForm.{node_form}
@@ -33,7 +34,7 @@ use Rattle.es_steps.specs.SourceSites.{FindsAlike, InProgram, SideBySide, SideBy
 use Rattle.es_steps.specs.Steps.{Site, site_in, the_program}
 use Rattle.es_steps.proofs.SourceSites.{law_source_sites_proof}
 use Rattle.es_valid_steps.proofs.Visits.{law_among_proof, law_places_proof}
-use Rattle.es_conditions.specs.CoreConditions.{body_site, each_passes, each_passes_among, each_passes_by, each_passes_in, holds_none_where, is_chain_inside, is_copy_free, is_known, is_power_free, is_settled, is_unmarked_chain, is_wrapped}
+use Rattle.es_conditions.specs.CoreConditions.{body_site, each_passes, each_passes_among, each_passes_by, each_passes_in, holds_none_where, is_chain_inside, is_copied, is_copy_free, is_known, is_power_free, is_settled, is_unmarked_chain, is_wrapped}
 use Rattle.es_conditions.proofs.Inward.{is-known}
 use Rattle.es_conditions.proofs.Marks.{none-where}
 use Rattle.es_rest_shapes.specs.HelperNames.{binds_helpers}
@@ -117,20 +118,23 @@ module _ (F : List Declared) where
   kind-kept : (p : Place) (n : ℕ) (t : Tree) → kind_of (resolved_tree F p n t) ≡ kind_of t
   kind-kept p n (node k l fs) = refl
 
-  spreads-kept : (p : Place) (n : ℕ) (ts : Trees) → any_kind is_spread (resolved_among F p n ts) ≡ any_kind is_spread ts
-  spreads-kept p n empty = refl
-  spreads-kept p n (t before ts) = λ i. is_spread (kind-kept p n t i) || spreads-kept p (n + scope_count_in t) ts i
+  kinds-kept : (test : AstType → Bool) (p : Place) (n : ℕ) (ts : Trees) → any_kind test (resolved_among F p n ts) ≡ any_kind test ts
+  kinds-kept test p n empty = refl
+  kinds-kept test p n (t before ts) = λ i. test (kind-kept p n t i) || kinds-kept test p (n + scope_count_in t) ts i
 
-  members-kept : (ps : ℕ → Place) (n : ℕ) (fs : Fields) → has_member is_spread (field_at 0 (resolved_in F ps n fs)) ≡ has_member is_spread (field_at 0 fs)
-  members-kept ps n done = refl
-  members-kept ps n (missing then fs) = refl
-  members-kept ps n (one t then fs) = refl
-  members-kept ps n (many ts then fs) = spreads-kept (ps zero) n ts
-  members-kept ps n (statements ts then fs) = refl
+  members-kept : (test : AstType → Bool) (ps : ℕ → Place) (n : ℕ) (fs : Fields) → has_member test (field_at 0 (resolved_in F ps n fs)) ≡ has_member test (field_at 0 fs)
+  members-kept test ps n done = refl
+  members-kept test ps n (missing then fs) = refl
+  members-kept test ps n (one t then fs) = refl
+  members-kept test ps n (many ts then fs) = kinds-kept test (ps zero) n ts
+  members-kept test ps n (statements ts then fs) = refl
 
   spread-kept : (ps : ℕ → Place) (n : ℕ) (k : AstType) (l : Label) (m : List (Option ℕ)) (fs : Fields) → is_object_spread k (marked l m) (resolved_in F ps n fs) ≡ is_object_spread k l fs
-  spread-kept ps n ObjectExpression l m fs = members-kept ps n fs
+  spread-kept ps n ObjectExpression l m fs = members-kept is_spread ps n fs
   spread-kept ps n _ l m fs = refl
+
+  copied-kept : (ps : ℕ → Place) (n : ℕ) (k : AstType) (l : Label) (m : List (Option ℕ)) (fs : Fields) → is_copied k (marked l m) (resolved_in F ps n fs) ≡ is_copied k l fs
+  copied-kept ps n k l m fs = λ i. spread-kept ps n k l m fs i || (same_type k ObjectTarget && members-kept is_rest ps n fs i)
 
 -- WHAT IS FOUND AMONG NODES
 
@@ -170,12 +174,12 @@ none-asked : (asked bound : Bool) → (not (asked && false) || bound) ≡ true
 none-asked true bound = refl
 none-asked false bound = refl
 
--- where an object literal with a spread is lowered, `babelHelpers` finds nothing
-spread-unbound : (asked spread bound declared binds : Bool) → (asked && ((spread && bound) || (declared && binds))) ≡ false → (asked && spread && bound) ≡ false
-spread-unbound true true true declared binds e = absurd (cc e)
-spread-unbound true true false declared binds e = refl
-spread-unbound true false bound declared binds e = refl
-spread-unbound false spread bound declared binds e = refl
+-- where a helper copies properties, `babelHelpers` finds nothing
+copied-unbound : (asked copied bound declared binds : Bool) → (asked && ((copied && bound) || (declared && binds))) ≡ false → (asked && copied && bound) ≡ false
+copied-unbound true true true declared binds e = absurd (cc e)
+copied-unbound true true false declared binds e = refl
+copied-unbound true false bound declared binds e = refl
+copied-unbound false copied bound declared binds e = refl
 
 abbrev is_unbound_where : Bool → Option ℕ → Bool
 is_unbound_where asked found = not asked || not (is_some found)
@@ -196,8 +200,8 @@ module _ (o : EnvOptions) (F : List Declared) where
       not-bound o.es2016.exponentiation_operator (is_exponentiation k l fs) (is_some (find F p.around (codes "Math"))) (first-unbound o F p.around k l fs none) in
       let asked = is_some o.es2018.object_rest_spread in
       let bound = is_some (find F p.around (codes "babelHelpers")) in
-      let unbound = spread-unbound asked (is_object_spread k l fs) bound (is_rest_declaration k l fs) (binds_helpers F) (second-unbound o F p.around k l fs none) in
-      let copy = (λ i. is_unbound_where (asked && spread-kept F ps next k l marks fs i) (look (codes "babelHelpers") i)) ∙ not-bound asked (is_object_spread k l fs) bound unbound in
+      let unbound = copied-unbound asked (is_copied k l fs) bound (is_rest_declaration k l fs) (binds_helpers F) (second-unbound o F p.around k l fs none) in
+      let copy = (λ i. is_unbound_where (asked && copied-kept F ps next k l marks fs i) (look (codes "babelHelpers") i)) ∙ not-bound asked (is_copied k l fs) bound unbound in
       and_from (is_power_free o m k (marked l marks) (resolved_in F ps next fs)) (is_copy_free o m k (marked l marks) (resolved_in F ps next fs)) power copy
 
   -- the site of the body of an arrow is near that of its field

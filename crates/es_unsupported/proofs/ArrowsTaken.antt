@@ -13,11 +13,15 @@ use Rattle.es_semantic.specs.SymbolsOf.{Declared, symbols_of}
 use Rattle.es_arrow_steps.specs.ThisFits.{reaches_in}
 use Rattle.es_valid_steps.specs.ArrowNodes.{is_arrow_accessor}
 use Rattle.es_valid_arrows.specs.ArrowPlaces.{arrow_in, arrows_fit, arrows_fit_all, arrows_fit_by, arrows_fit_in, is_outer, parameter_in}
-use Rattle.es_unsupported.specs.ArrowShapes.{arrow_place_in, arrow_shape, binds_arguments, inner_shape, outside, refers_by}
+use Rattle.es_unsupported.specs.ArrowShapes.{arrow_shape, binds_arguments, inner_shape, refers_by}
 use Rattle.es_unsupported.specs.EarlySuper.{calls_super_here}
 use Rattle.es_unsupported.specs.declared.arrow_places.ArrowPlace.{ArrowPlace}
+use Rattle.es_unsupported.specs.declared.node_places.NodePlace.{NodePlace}
 use Rattle.es_unsupported.specs.Laws.{LawArrowsTaken}
-use Rattle.es_unsupported.proofs.Taken.{NoneInWay, NoneInWayOfField, NoneInWayOfFields, NoneInWayOfTrees, taken-arrows}
+use Rattle.es_unsupported.specs.NodePlaces.{node_place_in, program_place}
+use Rattle.es_unsupported.specs.PatternPlaces.{pattern_shape}
+use Rattle.es_unsupported.proofs.Firsts.{right_none}
+use Rattle.es_unsupported.proofs.Taken.{NoneTold, NoneToldOfField, NoneToldOfFields, NoneToldOfTrees, taken-places}
 
 -- what is outer in an arrow has a shape
 inner-found : (q : ArrowPlace) (r : Bool) (k : AstType) (l : Label) (fs : Fields) → is_outer q.reaches k l fs ≡ true → inner_shape q r k l fs ≡ None → ⊥
@@ -44,25 +48,25 @@ node-fits o on q r k l fs h =
     at false false false false s found h = refl
 
 -- what is known of places, field by field
-abbrev Tells : (ℕ → Field → ArrowPlace) → (ℕ → Field → Bool) → (ℕ → Bool) → (ℕ → Bool) → Type 0
-Tells qs arrows parameters reaches = (i : ℕ) (f : Field) → ((qs i f).in_arrow ≡ arrows i f) × ((qs i f).parameter ≡ parameters i) × ((qs i f).reaches ≡ reaches i)
+abbrev Tells : (ℕ → Field → NodePlace) → (ℕ → Field → Bool) → (ℕ → Bool) → (ℕ → Bool) → Type 0
+Tells qs arrows parameters reaches = (i : ℕ) (f : Field) → ((qs i f).arrows.in_arrow ≡ arrows i f) × ((qs i f).arrows.parameter ≡ parameters i) × ((qs i f).arrows.reaches ≡ reaches i)
 
 module _ (o : EnvOptions) (ds : List Declared) (on : is_some o.es2015.arrow_function ≡ true) where
-  place-tells : (binds : Bool) (q : ArrowPlace) (k : AstType) (l : Label) (fs : Fields) →
-      Tells (arrow_place_in o binds q k l fs) (λ i f. arrow_in o q.in_arrow q.parameter (ancestor k l done i 0) f) (λ i. parameter_in q.parameter (ancestor k l done i 0)) (λ i. reaches_in q.reaches (ancestor k l done i 0))
+  place-tells : (binds : Bool) (q : NodePlace) (k : AstType) (l : Label) (fs : Fields) →
+      Tells (node_place_in o binds q k l fs) (λ i f. arrow_in o q.arrows.in_arrow q.arrows.parameter (ancestor k l done i 0) f) (λ i. parameter_in q.arrows.parameter (ancestor k l done i 0)) (λ i. reaches_in q.arrows.reaches (ancestor k l done i 0))
   place-tells binds q k l fs i f = (rw on refl, rw on refl, rw on refl)
 
   mutual
-    fits-of : (p : Place) (q : ArrowPlace) (n : ℕ) (t : Tree) → NoneInWay o ds p q n t → arrows_fit o q.in_arrow q.parameter q.reaches t ≡ true
+    fits-of : (p : Place) (q : NodePlace) (n : ℕ) (t : Tree) → NoneTold o ds p q n t → arrows_fit o q.arrows.in_arrow q.arrows.parameter q.arrows.reaches t ≡ true
     fits-of p q n (node k l fs) h =
-        let arrows : ℕ → Field → Bool = λ i f. arrow_in o q.in_arrow q.parameter (ancestor k l done i 0) f in
-        let parameters : ℕ → Bool = λ i. parameter_in q.parameter (ancestor k l done i 0) in
-        let reaches : ℕ → Bool = λ i. reaches_in q.reaches (ancestor k l done i 0) in
+        let arrows : ℕ → Field → Bool = λ i f. arrow_in o q.arrows.in_arrow q.arrows.parameter (ancestor k l done i 0) f in
+        let parameters : ℕ → Bool = λ i. parameter_in q.arrows.parameter (ancestor k l done i 0) in
+        let reaches : ℕ → Bool = λ i. reaches_in q.arrows.reaches (ancestor k l done i 0) in
         let binds = binds_arguments ds (own_scope n k fs) k in
-        and_from (not ((is_outer q.reaches k l fs && q.in_arrow) || is_arrow_accessor k l fs)) (arrows_fit_in o arrows parameters reaches fs)
-        (node-fits o on q (refers_by p.role) k l fs h.0) (fits-of-fields (place_in p n k l fs) (arrow_place_in o binds q k l fs) arrows parameters reaches (place-tells binds q k l fs) (n + own_scope_count k fs) fs h.1)
+        and_from (not ((is_outer q.arrows.reaches k l fs && q.arrows.in_arrow) || is_arrow_accessor k l fs)) (arrows_fit_in o arrows parameters reaches fs)
+        (node-fits o on q.arrows (refers_by p.role) k l fs (right_none (pattern_shape o q.pattern k l fs) (arrow_shape o q.arrows (refers_by p.role) k l fs) h.0)) (fits-of-fields (place_in p n k l fs) (node_place_in o binds q k l fs) arrows parameters reaches (place-tells binds q k l fs) (n + own_scope_count k fs) fs h.1)
 
-    fits-of-fields : (ps : ℕ → Place) (qs : ℕ → Field → ArrowPlace) (arrows : ℕ → Field → Bool) (parameters reaches : ℕ → Bool) → Tells qs arrows parameters reaches → (n : ℕ) (fs : Fields) → NoneInWayOfFields o ds ps qs n fs → arrows_fit_in o arrows parameters reaches fs ≡ true
+    fits-of-fields : (ps : ℕ → Place) (qs : ℕ → Field → NodePlace) (arrows : ℕ → Field → Bool) (parameters reaches : ℕ → Bool) → Tells qs arrows parameters reaches → (n : ℕ) (fs : Fields) → NoneToldOfFields o ds ps qs n fs → arrows_fit_in o arrows parameters reaches fs ≡ true
     fits-of-fields ps qs arrows parameters reaches tells n done h = refl
     fits-of-fields ps qs arrows parameters reaches tells n (f then fs) h =
         let told = tells zero f in
@@ -70,16 +74,16 @@ module _ (o : EnvOptions) (ds : List Declared) (on : is_some o.es2015.arrow_func
         ((λ j. arrows_fit_by o (sym told.0 j) (sym told.1 j) (sym told.2 j) f) ∙ fits-of-field (ps zero) (qs zero f) n f h.0)
         (fits-of-fields (λ i. ps (suc i)) (λ i. qs (suc i)) (λ i. arrows (suc i)) (λ i. parameters (suc i)) (λ i. reaches (suc i)) (λ i. tells (suc i)) (n + scope_count_in_field f) fs h.1)
 
-    fits-of-field : (p : Place) (q : ArrowPlace) (n : ℕ) (f : Field) → NoneInWayOfField o ds p q n f → arrows_fit_by o q.in_arrow q.parameter q.reaches f ≡ true
+    fits-of-field : (p : Place) (q : NodePlace) (n : ℕ) (f : Field) → NoneToldOfField o ds p q n f → arrows_fit_by o q.arrows.in_arrow q.arrows.parameter q.arrows.reaches f ≡ true
     fits-of-field p q n missing h = refl
     fits-of-field p q n (one t) h = fits-of p q n t h
     fits-of-field p q n (many ts) h = fits-of-trees p q n ts h
     fits-of-field p q n (statements ts) h = fits-of-trees p q n ts h
 
-    fits-of-trees : (p : Place) (q : ArrowPlace) (n : ℕ) (ts : Trees) → NoneInWayOfTrees o ds p q n ts → arrows_fit_all o q.in_arrow q.parameter q.reaches ts ≡ true
+    fits-of-trees : (p : Place) (q : NodePlace) (n : ℕ) (ts : Trees) → NoneToldOfTrees o ds p q n ts → arrows_fit_all o q.arrows.in_arrow q.arrows.parameter q.arrows.reaches ts ≡ true
     fits-of-trees p q n empty h = refl
     fits-of-trees p q n (t before ts) h =
-        and_from (arrows_fit o q.in_arrow q.parameter q.reaches t) (arrows_fit_all o q.in_arrow q.parameter q.reaches ts) (fits-of p q n t h.0) (fits-of-trees p q (n + scope_count_in t) ts h.1)
+        and_from (arrows_fit o q.arrows.in_arrow q.arrows.parameter q.arrows.reaches t) (arrows_fit_all o q.arrows.in_arrow q.arrows.parameter q.arrows.reaches ts) (fits-of p q n t h.0) (fits-of-trees p q (n + scope_count_in t) ts h.1)
 
 pub law_arrows_taken_proof : LawArrowsTaken
-law_arrows_taken_proof o p on taken = fits-of o (symbols_of p) on (outermost p) outside 1 p (taken-arrows o p taken)
+law_arrows_taken_proof o p on taken = fits-of o (symbols_of p) on (outermost p) program_place 1 p (taken-places o p taken)

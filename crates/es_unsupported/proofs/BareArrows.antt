@@ -2,20 +2,21 @@
 use Rattle.std.proofs.Common.{◌≡◌, ◌∙◌, ℕ, zero, suc, ◌==◌, Bool, false, ◌&&◌, ◌||◌, not, Option, Some, None, is_some, bytes_eq, codes, if◌then◌else◌, List, refl, sym, ap}
 use Rattle.es_tree.specs.Ancestors.{ancestor, is_field_value}
 use Rattle.es_tree.specs.Bare.{bare, bare_field, bare_fields, bare_label, bare_trees}
-use Rattle.es_tree.specs.Constructs.{field_at, is_chain, is_logical_assignment, is_nullish_coalescing, is_private_target, is_rest}
+use Rattle.es_tree.specs.Constructs.{field_at, is_chain, is_logical_assignment, is_nullish_coalescing, is_private_target}
 use Rattle.es_tree.specs.HasForm.{same_type}
 use Rattle.es_tree.specs.Names.{first_text}
 use Rattle.es_tree.specs.StaticRules.{is_accessor_word}
 use Rattle.es_tree.specs.Tree.{Tree, node, Label, Fields, done, ◌then◌, Field, missing, one, many, statements, Trees, empty, ◌before◌}
 use Rattle.es_tree.specs.Walks.{NodeTest}
 use Rattle.es_tree.specs.declared.ast_type.AstType.{AstType}
-use Rattle.es_tree.specs.declared.ast_type.AstType.TheVariants.{ArrowFunctionExpression, AssignmentExpression, CallExpression, ChainExpression, LogicalExpression, MemberExpression, ObjectProperty, ObjectTarget, ThisExpression, UnaryExpression}
+use Rattle.es_tree.specs.declared.ast_type.AstType.TheVariants.{ArrowFunctionExpression, AssignmentExpression, CallExpression, ChainExpression, LogicalExpression, MemberExpression, ObjectProperty, ThisExpression, UnaryExpression}
 use Rattle.es_tree.specs.declared.error.UnsupportedKind.TheVariants.{ArrowOuter, ArrowThis}
 use Rattle.es_tree.specs.declared.options.EnvOptions.{EnvOptions}
 use Rattle.es_semantic.specs.Places.{is_inside}
 use Rattle.es_steps.specs.Slots.{closes, holds, holds_field, holds_fields, holds_trees, leads_to_value}
 use Rattle.es_steps.specs.ThisPlaces.{keeps_this}
-use Rattle.es_steps.specs.WrapRule.{is_member_target, is_rest_target, is_wrapped_for}
+use Rattle.es_tree.specs.RestTargets.{is_rest_target}
+use Rattle.es_steps.specs.WrapRule.{is_member_target, is_wrapped_for}
 use Rattle.es_arrow_steps.specs.ThisFits.{reaches_in}
 use Rattle.es_valid_steps.specs.ArrowNodes.{is_arrow_accessor, is_kind_within, is_this_within}
 use Rattle.es_valid_arrows.specs.ArrowPlaces.{parameter_in}
@@ -26,7 +27,7 @@ use Rattle.es_super_calls.proofs.BareStandings.{standing-bare}
 use Rattle.es_unsupported.specs.ArrowShapes.{arrow_place_in, arrow_shape, inner_shape}
 use Rattle.es_unsupported.specs.EarlySuper.{arrow_this, arrow_this_among, arrow_this_by, arrow_this_in, has_arrow_this}
 use Rattle.es_unsupported.specs.declared.arrow_places.ArrowPlace.{ArrowPlace}
-use Rattle.es_unsupported.proofs.BareNodes.{child-bare, exponentiation-bare, field_at-bare, first_member-bare, kind-bare, kind_within-bare, private-target-bare}
+use Rattle.es_unsupported.proofs.BareNodes.{child-bare, exponentiation-bare, field_at-bare, kind-bare, kind_within-bare, private-target-bare, rest-target-bare}
 
 -- WHAT A SLOT IS WRAPPED FOR
 
@@ -49,12 +50,6 @@ member-target-bare missing = refl
 member-target-bare (one t) = ap (λ k. same_type k MemberExpression) (kind_within-bare t)
 member-target-bare (many ts) = refl
 member-target-bare (statements ts) = refl
-
-rest-target-bare : (f : Field) → is_rest_target (bare_field f) ≡ is_rest_target f
-rest-target-bare missing = refl
-rest-target-bare (one (node k l fs)) = ap (λ b. same_type k ObjectTarget && b) (first_member-bare is_rest fs)
-rest-target-bare (many ts) = refl
-rest-target-bare (statements ts) = refl
 
 wrapped_for-bare : (o : EnvOptions) (k : AstType) (l : Label) (fs : Fields) → is_wrapped_for o k (bare_label l) (bare_fields fs) ≡ is_wrapped_for o k l fs
 wrapped_for-bare o k l fs =
@@ -129,14 +124,14 @@ place_with o binds q k l i held standing has_this =
       own_arguments = (not (wrapped || same_type k ArrowFunctionExpression) && q.own_arguments) || (binds && is_inside k i);
     } else q
 
-place-bare : (o : EnvOptions) (binds : Bool) (q : ArrowPlace) (k : AstType) (l : Label) (fs : Fields) (i : ℕ) (f : Field) → arrow_place_in o binds q k (bare_label l) (bare_fields fs) i (bare_field f) ≡ arrow_place_in o binds q k l fs i f
-place-bare o binds q k l fs i f = λ j. place_with o binds q k l i (wrapped-bare o f j) (standing-bare q.standing k l fs i j) (has_this-bare fs j)
+arrow_place-bare : (o : EnvOptions) (binds : Bool) (q : ArrowPlace) (k : AstType) (l : Label) (fs : Fields) (i : ℕ) (f : Field) → arrow_place_in o binds q k (bare_label l) (bare_fields fs) i (bare_field f) ≡ arrow_place_in o binds q k l fs i f
+arrow_place-bare o binds q k l fs i f = λ j. place_with o binds q k l i (wrapped-bare o f j) (standing-bare q.standing k l fs i j) (has_this-bare fs j)
 
 -- so it is where two nodes and two fields differ in marks alone
-pub place-marked : (o : EnvOptions) (binds : Bool) (q : ArrowPlace) (k : AstType) (l : Label) (ms : List (Option ℕ)) (fs gs : Fields) (i : ℕ) (f g : Field) → bare_fields gs ≡ bare_fields fs → bare_field g ≡ bare_field f →
+pub arrow_place-marked : (o : EnvOptions) (binds : Bool) (q : ArrowPlace) (k : AstType) (l : Label) (ms : List (Option ℕ)) (fs gs : Fields) (i : ℕ) (f g : Field) → bare_fields gs ≡ bare_fields fs → bare_field g ≡ bare_field f →
     arrow_place_in o binds q k (record l { marks = ms }) gs i g ≡ arrow_place_in o binds q k l fs i f
-place-marked o binds q k l ms fs gs i f g e d =
-    sym (place-bare o binds q k (record l { marks = ms }) gs i g) ∙ ((λ j. arrow_place_in o binds q k (bare_label l) (e j) i (d j)) ∙ place-bare o binds q k l fs i f)
+arrow_place-marked o binds q k l ms fs gs i f g e d =
+    sym (arrow_place-bare o binds q k (record l { marks = ms }) gs i g) ∙ ((λ j. arrow_place_in o binds q k (bare_label l) (e j) i (d j)) ∙ arrow_place-bare o binds q k l fs i f)
 
 -- SHAPES
 

@@ -3,8 +3,10 @@ use Rattle.std.proofs.Common.{◌≡◌, ◌∙◌, ℕ, zero, suc, Bool, ◌&&�
 use Rattle.es_tree.specs.Bare.{bare, bare_field, bare_fields, bare_label, bare_trees}
 use Rattle.es_tree.specs.Children.{child_at}
 use Rattle.es_tree.specs.Constructs.{any_kind, field_at, has_member, is_big_int, is_child, is_exponentiation, is_object_rest, is_object_spread, is_private_member, is_private_name, is_private_target, is_rest, is_spread}
+use Rattle.es_tree.specs.HasForm.{same_type}
 use Rattle.es_tree.specs.Names.{first_text}
 use Rattle.es_tree.specs.Parens.{without_parens}
+use Rattle.es_tree.specs.RestTargets.{is_rest_target}
 use Rattle.es_tree.specs.Tree.{Tree, node, Label, Fields, done, ◌then◌, Field, missing, one, many, statements, Trees, empty, ◌before◌, fields_of, kind_of}
 use Rattle.es_tree.specs.declared.ast_type.AstType.{AstType}
 use Rattle.es_tree.specs.declared.ast_type.AstType.TheVariants.{AssignmentExpression, BinaryExpression, MemberExpression, ObjectExpression, ObjectPattern, ObjectTarget, ParenthesizedExpression}
@@ -66,6 +68,12 @@ pub object-rest-bare : (k : AstType) (l : Label) (fs : Fields) → is_object_res
 object-rest-bare ObjectPattern l fs = first_member-bare is_rest fs
 object-rest-bare ObjectTarget l fs = first_member-bare is_rest fs
 object-rest-bare _ l fs = refl
+
+pub rest-target-bare : (f : Field) → is_rest_target (bare_field f) ≡ is_rest_target f
+rest-target-bare missing = refl
+rest-target-bare (one (node k l fs)) = ap (λ b. same_type k ObjectTarget && b) (first_member-bare is_rest fs)
+rest-target-bare (many ts) = refl
+rest-target-bare (statements ts) = refl
 
 -- CHILDREN
 

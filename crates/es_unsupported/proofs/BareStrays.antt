@@ -4,10 +4,11 @@ use Rattle.std.specs.Prelude.{◌&&◌, ◌||◌, not, if◌then◌else◌}
 use Rattle.es_tree.specs.Bare.{bare, bare_field, bare_fields, bare_label, bare_trees}
 use Rattle.es_tree.specs.Tree.{Tree, node, Label, Fields, done, ◌then◌, Field, missing, one, many, statements, Trees, empty, ◌before◌}
 use Rattle.es_tree.specs.declared.ast_type.AstType.{AstType}
-use Rattle.es_tree.specs.declared.ast_type.AstType.TheVariants.{ArrayPattern, ArrayTarget, ArrowFunctionExpression, AssignmentPattern, FunctionDeclaration, FunctionExpression, RestElement, TargetProperty, TargetRest, TargetWithDefault, VariableDeclaration, VariableDeclarator}
+use Rattle.es_tree.specs.declared.ast_type.AstType.TheVariants.{ArrowFunctionExpression, AssignmentPattern, FunctionDeclaration, FunctionExpression, VariableDeclaration, VariableDeclarator}
 use Rattle.es_tree.specs.declared.error.UnsupportedKind.TheVariants.{HeadName, NotBuilt, RestParameter}
 use Rattle.es_rest_shapes.specs.RestShapes.{any_child, any_child_by, any_tree}
 use Rattle.es_rest_shapes.proofs.BareRests.{plain-bare, stray-bare}
+use Rattle.es_unsupported.specs.PatternPlaces.{nests_patterns}
 use Rattle.es_unsupported.specs.Shapes.{begins_with_rest, declares_head, has_rest_parameter, holds_stray, is_rest_parameter, stray_shape}
 use Rattle.es_unsupported.proofs.BareNodes.{has_child-bare}
 
@@ -43,18 +44,12 @@ has_parameter-bare ArrowFunctionExpression fs = parameters-bare fs
 has_parameter-bare _ fs = refl
 
 pub holds_stray-bare : (k : AstType) (l : Label) (fs : Fields) → holds_stray k (bare_label l) (bare_fields fs) ≡ holds_stray k l fs
-holds_stray-bare k l fs = λ i. stray-bare k l fs i || has_parameter-bare k fs i
+holds_stray-bare k l fs = λ i. (not (nests_patterns k) && stray-bare k l fs i) || has_parameter-bare k fs i
 
 head-bare : (fs : Fields) → declares_head (bare_fields fs) ≡ declares_head fs
 head-bare fs = λ i. begins-bare fs i && not (has_child-bare 1 fs i)
 
 pub stray_shape-bare : (k : AstType) (fs : Fields) → stray_shape k (bare_fields fs) ≡ stray_shape k fs
-stray_shape-bare ArrayPattern fs = refl
-stray_shape-bare RestElement fs = refl
-stray_shape-bare TargetProperty fs = refl
-stray_shape-bare TargetWithDefault fs = refl
-stray_shape-bare ArrayTarget fs = refl
-stray_shape-bare TargetRest fs = refl
 stray_shape-bare VariableDeclaration fs = refl
 stray_shape-bare VariableDeclarator fs = ap (λ b. if b then HeadName else NotBuilt) (head-bare fs)
 stray_shape-bare k fs = ap (λ b. if b then RestParameter else NotBuilt) (has_parameter-bare k fs)

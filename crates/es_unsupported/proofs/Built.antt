@@ -1,7 +1,6 @@
 -- Where nothing is found, no construct stands in a program that no lowering takes.
 use Rattle.std.proofs.Common.{◌≡◌, ℕ, zero, suc, ◌+◌, List, Bool, true, false, Option, Some, None, if◌then◌else◌, refl}
-use Rattle.std.specs.Prelude.{◌&&◌, ◌||◌, is_some}
-use Rattle.std.proofs.lemmas.Bool.{or_from, or_parts}
+use Rattle.std.proofs.lemmas.Bool.{or_from}
 use Rattle.es_tree.specs.Tree.{Tree, node, Label, Fields, done, ◌then◌, Field, missing, one, many, statements, Trees, empty, ◌before◌}
 use Rattle.es_tree.specs.Walks.{any_in_field, any_in_fields, any_in_trees, any_node}
 use Rattle.es_tree.specs.declared.ast_type.AstType.{AstType}
@@ -9,10 +8,9 @@ use Rattle.es_tree.specs.declared.error.UnsupportedKind.{UnsupportedKind}
 use Rattle.es_tree.specs.declared.options.EnvOptions.{EnvOptions}
 use Rattle.es_semantic.specs.Places.{Place, own_scope_count, outermost, place_in, scope_count_in, scope_count_in_field, visits, visits_in_field, visits_in_fields, visits_in_trees}
 use Rattle.es_semantic.specs.SymbolsOf.{Declared, symbols_of}
-use Rattle.es_rest_shapes.specs.RestShapes.{is_stray_rest}
 use Rattle.es_unsupported.specs.FirstUnsupported.{first_among, found_at}
-use Rattle.es_unsupported.specs.Laws.{LawBuilt, LawStraysTaken}
-use Rattle.es_unsupported.specs.Shapes.{has_rest_parameter, is_unbuilt_node, shape_at, stray_shape}
+use Rattle.es_unsupported.specs.Laws.{LawBuilt}
+use Rattle.es_unsupported.specs.Shapes.{is_unbuilt_node, shape_at, stray_shape}
 use Rattle.es_unsupported.proofs.Firsts.{left_none, right_none}
 use Rattle.es_unsupported.proofs.Taken.{each-none, none_found, taken-shapes}
 
@@ -54,41 +52,3 @@ module _ (o : EnvOptions) (ds : List Declared) where
 
 pub law_built_proof : LawBuilt
 law_built_proof o p taken = built o (symbols_of p) (outermost p) 1 p (taken-shapes o p taken)
-
--- OBJECT RESTS, where they are taken: none stands where it isn't lowered
-
-module _ (o : EnvOptions) (on : is_some o.es2018.object_rest_spread ≡ true) where
-  no-stray : (k : AstType) (l : Label) (fs : Fields) → is_unbuilt_node o k l fs ≡ false → is_stray_rest k l fs ≡ false
-  no-stray k l fs h = of-first (is_some o.es2018.object_rest_spread) (is_stray_rest k l fs) (has_rest_parameter k fs) _ on h
-    where
-      of-first : (asked is also a : Bool) → asked ≡ true → ((asked && (is || also)) || a) ≡ false → is ≡ false
-      of-first true false also a e h = refl
-      of-first true true also a e h = absurd (cc h)
-      of-first false is also a e h = absurd (cc e)
-
-  mutual
-    none-stray : (t : Tree) → any_node (is_unbuilt_node o) t ≡ false → any_node is_stray_rest t ≡ false
-    none-stray (node k l fs) h =
-        let g = or_parts (is_unbuilt_node o k l fs) (any_in_fields (is_unbuilt_node o) fs) h in
-        or_from (is_stray_rest k l fs) (any_in_fields is_stray_rest fs) (no-stray k l fs g.0) (none-stray-in fs g.1)
-
-    none-stray-in : (fs : Fields) → any_in_fields (is_unbuilt_node o) fs ≡ false → any_in_fields is_stray_rest fs ≡ false
-    none-stray-in done h = refl
-    none-stray-in (f then fs) h =
-        let g = or_parts (any_in_field (is_unbuilt_node o) f) (any_in_fields (is_unbuilt_node o) fs) h in
-        or_from (any_in_field is_stray_rest f) (any_in_fields is_stray_rest fs) (none-stray-by f g.0) (none-stray-in fs g.1)
-
-    none-stray-by : (f : Field) → any_in_field (is_unbuilt_node o) f ≡ false → any_in_field is_stray_rest f ≡ false
-    none-stray-by missing h = refl
-    none-stray-by (one t) h = none-stray t h
-    none-stray-by (many ts) h = none-stray-among ts h
-    none-stray-by (statements ts) h = none-stray-among ts h
-
-    none-stray-among : (ts : Trees) → any_in_trees (is_unbuilt_node o) ts ≡ false → any_in_trees is_stray_rest ts ≡ false
-    none-stray-among empty h = refl
-    none-stray-among (t before ts) h =
-        let g = or_parts (any_node (is_unbuilt_node o) t) (any_in_trees (is_unbuilt_node o) ts) h in
-        or_from (any_node is_stray_rest t) (any_in_trees is_stray_rest ts) (none-stray t g.0) (none-stray-among ts g.1)
-
-pub law_strays_taken_proof : LawStraysTaken
-law_strays_taken_proof o p on taken = none-stray o on p (law_built_proof o p taken)

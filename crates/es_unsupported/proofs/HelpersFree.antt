@@ -2,13 +2,13 @@
 use Rattle.std.proofs.Common.{◌≡◌, ℕ, zero, suc, ◌+◌, List, Bool, true, false, Option, Some, None, if◌then◌else◌, refl, true≢false, sym, ◌∙◌}
 use Rattle.std.specs.Prelude.{◌&&◌, ◌||◌, is_some}
 use Rattle.std.proofs.lemmas.Bool.{or_from}
-use Rattle.es_tree.specs.Constructs.{is_object_spread}
 use Rattle.es_tree.specs.Tree.{Tree, node, Label, Fields, done, ◌then◌, Field, missing, one, many, statements, Trees, empty, ◌before◌}
 use Rattle.es_tree.specs.Walks.{any_in_field, any_in_fields, any_in_trees, any_node}
 use Rattle.es_tree.specs.declared.ast_type.AstType.{AstType}
 use Rattle.es_tree.specs.declared.options.EnvOptions.{EnvOptions}
 use Rattle.es_semantic.specs.Places.{Place, own_scope_count, outermost, place_in, scope_count_in, scope_count_in_field, visits, visits_in_field, visits_in_fields, visits_in_trees}
 use Rattle.es_semantic.specs.SymbolsOf.{Declared, symbols_of}
+use Rattle.es_conditions.specs.CoreConditions.{is_copied}
 use Rattle.es_rest_shapes.specs.HelperNames.{binds_helpers}
 use Rattle.es_rest_shapes.specs.RestShapes.{is_rest_declaration}
 use Rattle.es_unsupported.specs.FirstUnsupported.{first_among, found_at}
@@ -25,21 +25,21 @@ third-off false false true x y z s h = absurd (cc h)
 third-off false false false x y z s h = refl
 
 -- where a name that a rest's helper is a property of is bound, no rest is declared
-undeclared : (on declared spread binds bound : Bool) → on ≡ true → binds ≡ true → (on && ((spread && bound) || (declared && binds))) ≡ false → declared ≡ false
-undeclared on false spread binds bound e d h = refl
-undeclared true true spread true bound e d h = absurd (cc (last (spread && bound) h))
+undeclared : (on declared copied binds bound : Bool) → on ≡ true → binds ≡ true → (on && ((copied && bound) || (declared && binds))) ≡ false → declared ≡ false
+undeclared on false copied binds bound e d h = refl
+undeclared true true copied true bound e d h = absurd (cc (last (copied && bound) h))
   where
     last : (a : Bool) → (a || true) ≡ false → true ≡ false
     last true h = h
     last false h = h
-undeclared false true spread binds bound e d h = absurd (cc e)
-undeclared true true spread false bound e d h = absurd (cc d)
+undeclared false true copied binds bound e d h = absurd (cc e)
+undeclared true true copied false bound e d h = absurd (cc d)
 
 module _ (o : EnvOptions) (on : is_some o.es2018.object_rest_spread ≡ true) (ds : List Declared) (binds : binds_helpers ds ≡ true) where
   free-node : (up : List ℕ) (k : AstType) (l : Label) (fs : Fields) → shape_at o ds up k l fs ≡ None → is_rest_declaration k l fs ≡ false
   free-node up k l fs h =
       let row = third-off (is_unbuilt o ds up k l fs) (is_math_bound o ds up k l fs) (is_helper_bound o ds up k l fs) _ _ _ _ h in
-      undeclared (is_some o.es2018.object_rest_spread) (is_rest_declaration k l fs) (is_object_spread k l fs) (binds_helpers ds) _ on binds row
+      undeclared (is_some o.es2018.object_rest_spread) (is_rest_declaration k l fs) (is_copied k l fs) (binds_helpers ds) _ on binds row
 
   mutual
     free : (p : Place) (n : ℕ) (t : Tree) → first_among o ds (visits p n t) ≡ None → any_node is_rest_declaration t ≡ false

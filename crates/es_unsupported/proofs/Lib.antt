@@ -1,6 +1,7 @@
 pub mod BareNodes
 pub mod BareSpreads
 pub mod BareArrows
+pub mod BarePlaces
 pub mod BareStrays
 pub mod BareUsing
 pub mod EarlyWalks
@@ -15,4 +16,5 @@ pub mod Programs
 pub mod Taken
 pub mod ArrowsTaken
 pub mod Built
+pub mod StraysTaken
 pub mod HelpersFree

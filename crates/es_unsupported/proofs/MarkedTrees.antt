@@ -23,18 +23,20 @@ use Rattle.es_semantic.specs.SymbolsOf.{Declared, find, is_bound}
 use Rattle.es_semantic.specs.declared.place.Role.{Role}
 use Rattle.es_semantic.specs.declared.place.Role.TheVariants.{Nothing, Binds}
 use Rattle.es_semantic.proofs.VisitCounts.{named_makes}
+use Rattle.es_conditions.specs.CoreConditions.{is_copied}
 use Rattle.es_rest_shapes.specs.HelperNames.{binds_helpers}
 use Rattle.es_rest_shapes.proofs.BareRests.{declaration-bare}
 use Rattle.es_using_heads.proofs.HeadAlike.{asks-bare}
-use Rattle.es_unsupported.specs.ArrowShapes.{arrow_place_in, arrow_shape, binds_arguments, may_bind_arguments, refers_by}
+use Rattle.es_unsupported.specs.ArrowShapes.{binds_arguments, may_bind_arguments, refers_by}
 use Rattle.es_unsupported.specs.FirstUnsupported.{first_of, first_of_field, first_of_fields, first_of_trees, found_at}
 use Rattle.es_unsupported.specs.MarkedWalk.{FindsFrom, LooksUp, LooksUpInField, LooksUpInFields, LooksUpInTrees, around_marked, first_at, first_in_field, first_in_fields, first_in_trees, has_known_scope, refers_by_mark, scope_mark}
+use Rattle.es_unsupported.specs.NodePlaces.{node_place_in, place_shape}
 use Rattle.es_runs.specs.OptionalChaining.{is_chain_kind}
 use Rattle.es_chain_tags.specs.ChainTags.{has_chain_tag, is_chain_below}
 use Rattle.es_unsupported.specs.Shapes.{Row, always, first_row, is_head_name, is_helper_bound, is_math_bound, is_spread_literal, is_tag_chain, is_unbuilt, is_using_function, rows, shape_at, stray_shape}
-use Rattle.es_unsupported.specs.declared.arrow_places.ArrowPlace.{ArrowPlace}
-use Rattle.es_unsupported.proofs.BareArrows.{arrow_shape-marked, place-marked}
-use Rattle.es_unsupported.proofs.BareNodes.{exponentiation-bare, kind_within-bare, object-spread-bare}
+use Rattle.es_unsupported.specs.declared.node_places.NodePlace.{NodePlace}
+use Rattle.es_unsupported.proofs.BareNodes.{exponentiation-bare, kind_within-bare, object-spread-bare, rest-target-bare}
+use Rattle.es_unsupported.proofs.BarePlaces.{node_place-marked, place_shape-marked}
 use Rattle.es_unsupported.proofs.BareSpreads.{literal-bare}
 use Rattle.es_unsupported.proofs.BareStrays.{holds_stray-bare, stray_shape-bare}
 use Rattle.es_unsupported.proofs.BareUsing.{clashes-bare}
@@ -97,9 +99,12 @@ named-row x test same = record { holds = same; shape = λ k fs. refl }
 math_bound-bare : LooksAtNoMark (record { shape = always MathBound; holds = is_math_bound })
 math_bound-bare = named-row MathBound is_math_bound (λ o ds up k l fs. ap (λ b. o.es2016.exponentiation_operator && b && is_some (find ds up (codes "Math"))) (exponentiation-bare k l fs))
 
+copied-bare : (k : AstType) (l : Label) (fs : Fields) → is_copied k (bare_label l) (bare_fields fs) ≡ is_copied k l fs
+copied-bare k l fs = λ i. object-spread-bare k l fs i || rest-target-bare (one (node k l fs)) i
+
 helper_bound-bare : LooksAtNoMark (record { shape = always HelperName; holds = is_helper_bound })
 helper_bound-bare =
-    named-row HelperName is_helper_bound (λ o ds up k l fs i. is_some o.es2018.object_rest_spread && ((object-spread-bare k l fs i && is_some (find ds up (codes "babelHelpers"))) || (declaration-bare k l fs i && binds_helpers ds)))
+    named-row HelperName is_helper_bound (λ o ds up k l fs i. is_some o.es2018.object_rest_spread && ((copied-bare k l fs i && is_some (find ds up (codes "babelHelpers"))) || (declaration-bare k l fs i && binds_helpers ds)))
 
 spread_literal-bare : LooksAtNoMark (record { shape = always SpreadLiteral; holds = is_spread_literal })
 spread_literal-bare = named-row SpreadLiteral is_spread_literal (λ o ds up k l fs. ap (λ b. is_some o.es2018.object_rest_spread && b) (literal-bare k l fs))
@@ -182,9 +187,9 @@ refers-marked ds p m (Binds b) x = refl
 refers-marked ds p m _ x = refl
 
 -- no other node asks for that
-reference-marked : (o : EnvOptions) (ds : List Declared) (p : Place) (n m : ℕ) (q : ArrowPlace) (k : AstType) (l : Label) (fs : Fields) →
-    arrow_shape o q (refers_by_mark (own_marks_of ds p n m k l fs)) k l fs ≡ arrow_shape o q (refers_by p.role) k l fs
-reference-marked o ds p n m q Identifier l fs = ap (λ r. arrow_shape o q r Identifier l fs) (refers-marked ds p m p.role (first_text l.texts))
+reference-marked : (o : EnvOptions) (ds : List Declared) (p : Place) (n m : ℕ) (q : NodePlace) (k : AstType) (l : Label) (fs : Fields) →
+    place_shape o q (refers_by_mark (own_marks_of ds p n m k l fs)) k l fs ≡ place_shape o q (refers_by p.role) k l fs
+reference-marked o ds p n m q Identifier l fs = ap (λ r. place_shape o q r Identifier l fs) (refers-marked ds p m p.role (first_text l.texts))
 reference-marked o ds p n m q _ l fs = refl
 
 -- the scope of a node is that of its mark, where it makes one
@@ -196,12 +201,12 @@ binds-marked : (ds : List Declared) (p : Place) (n m : ℕ) (k : AstType) (l : L
 binds-marked ds p n m k l fs = where-so (may_bind_arguments k) (λ s. is_bound ds s (codes "arguments")) (scope_mark (own_marks_of ds p n m k l fs)) (own_scope n k fs) (λ e. own-marked ds p n m k l fs (and_parts (makes_scope k) (not (same_type k FunctionBody)) e).0)
 
 -- what is known of places is the same of fields that differ in marks alone
-abbrev Alike : (qs rs : ℕ → Field → ArrowPlace) → Type 0
+abbrev Alike : (qs rs : ℕ → Field → NodePlace) → Type 0
 Alike qs rs = (i : ℕ) (f g : Field) → bare_field g ≡ bare_field f → qs i g ≡ rs i f
 
 module _ (o : EnvOptions) (ds : List Declared) where
   mutual
-    pub first-marked : (p : Place) (q : ArrowPlace) (n m : ℕ) (t : Tree) → first_at o ds p.around q (marked_tree ds p n m t) ≡ first_of o ds p q n t
+    pub first-marked : (p : Place) (q : NodePlace) (n m : ℕ) (t : Tree) → first_at o ds p.around q (marked_tree ds p n m t) ≡ first_of o ds p q n t
     first-marked p q n m (node k l fs) =
         let ps = place_in p n k l fs in
         let s = n + own_scope_count k fs in
@@ -211,15 +216,15 @@ module _ (o : EnvOptions) (ds : List Declared) where
         let marks : Label = record l { marks = own } in
         let same : bare_fields gs ≡ bare_fields fs = bare-fields ds ps s r fs in
         let here : shape_at o ds p.around k marks gs ≡ shape_at o ds p.around k l fs = shape-marked o ds p.around k l own fs gs same in
-        let arrow : arrow_shape o q (refers_by_mark own) k marks gs ≡ arrow_shape o q (refers_by p.role) k l fs = arrow_shape-marked o q (refers_by_mark own) k l own fs gs same ∙ reference-marked o ds p n m q k l fs in
+        let there : place_shape o q (refers_by_mark own) k marks gs ≡ place_shape o q (refers_by p.role) k l fs = place_shape-marked o q k l own fs gs same (refers_by_mark own) ∙ reference-marked o ds p n m q k l fs in
         let ups : around_marked p.around k marks gs ≡ (λ i. (ps i).around) = λ j i. around-marked ds p ps n m s r k l fs i j in
-        let qs : ℕ → Field → ArrowPlace = arrow_place_in o (binds_arguments ds (scope_mark own) k) q k marks gs in
-        let rs : ℕ → Field → ArrowPlace = arrow_place_in o (binds_arguments ds (own_scope n k fs) k) q k l fs in
-        let alike : Alike qs rs = λ i f g e. place-marked o (binds_arguments ds (scope_mark own) k) q k l own fs gs i f g same e ∙ ap (λ b. arrow_place_in o b q k l fs i f) (binds-marked ds p n m k l fs) in
+        let qs : ℕ → Field → NodePlace = node_place_in o (binds_arguments ds (scope_mark own) k) q k marks gs in
+        let rs : ℕ → Field → NodePlace = node_place_in o (binds_arguments ds (own_scope n k fs) k) q k l fs in
+        let alike : Alike qs rs = λ i f g e. node_place-marked o q k l own fs gs same (binds_arguments ds (scope_mark own) k) i f g e ∙ ap (λ b. node_place_in o b q k l fs i f) (binds-marked ds p n m k l fs) in
         let inner : first_in_fields o ds (around_marked p.around k marks gs) qs gs ≡ first_of_fields o ds ps rs s fs = ap (λ us. first_in_fields o ds us qs gs) ups ∙ first-marked-fields ps qs rs alike s r fs in
-        λ j. option_or (found_at l.id (option_or (here j) (arrow j))) (inner j)
+        λ j. option_or (found_at l.id (option_or (here j) (there j))) (inner j)
 
-    first-marked-fields : (ps : ℕ → Place) (qs rs : ℕ → Field → ArrowPlace) → Alike qs rs → (n m : ℕ) (fs : Fields) → first_in_fields o ds (λ i. (ps i).around) qs (marked_in_fields ds ps n m fs) ≡ first_of_fields o ds ps rs n fs
+    first-marked-fields : (ps : ℕ → Place) (qs rs : ℕ → Field → NodePlace) → Alike qs rs → (n m : ℕ) (fs : Fields) → first_in_fields o ds (λ i. (ps i).around) qs (marked_in_fields ds ps n m fs) ≡ first_of_fields o ds ps rs n fs
     first-marked-fields ps qs rs alike n m done = refl
     first-marked-fields ps qs rs alike n m (f then fs) =
         let g = marked_in_field ds (ps zero) n m f in
@@ -228,13 +233,13 @@ module _ (o : EnvOptions) (ds : List Declared) where
         let field : first_in_field o ds (ps zero).around (qs zero g) g ≡ first_of_field o ds (ps zero) (rs zero f) n f = ap (λ q. first_in_field o ds (ps zero).around q g) (alike zero f g (bare-field ds (ps zero) n m f)) ∙ first-marked-field (ps zero) (rs zero f) n m f in
         λ j. option_or (field j) (first-marked-fields (λ i. ps (suc i)) (λ i. qs (suc i)) (λ i. rs (suc i)) (λ i. alike (suc i)) s t fs j)
 
-    first-marked-field : (p : Place) (q : ArrowPlace) (n m : ℕ) (f : Field) → first_in_field o ds p.around q (marked_in_field ds p n m f) ≡ first_of_field o ds p q n f
+    first-marked-field : (p : Place) (q : NodePlace) (n m : ℕ) (f : Field) → first_in_field o ds p.around q (marked_in_field ds p n m f) ≡ first_of_field o ds p q n f
     first-marked-field p q n m missing = refl
     first-marked-field p q n m (one t) = first-marked p q n m t
     first-marked-field p q n m (many ts) = first-marked-trees p q n m ts
     first-marked-field p q n m (statements ts) = first-marked-trees p q n m ts
 
-    first-marked-trees : (p : Place) (q : ArrowPlace) (n m : ℕ) (ts : Trees) → first_in_trees o ds p.around q (marked_in_trees ds p n m ts) ≡ first_of_trees o ds p q n ts
+    first-marked-trees : (p : Place) (q : NodePlace) (n m : ℕ) (ts : Trees) → first_in_trees o ds p.around q (marked_in_trees ds p n m ts) ≡ first_of_trees o ds p q n ts
     first-marked-trees p q n m empty = refl
     first-marked-trees p q n m (t before ts) =
         λ j. option_or (first-marked p q n m t j) (first-marked-trees p q (n + scope_count_in t) (m + length (references_among ds (visits p n t))) ts j)

@@ -10,11 +10,12 @@ use Rattle.es_tree.specs.declared.error.UnsupportedKind.{UnsupportedKind}
 use Rattle.es_tree.specs.declared.options.EnvOptions.{EnvOptions}
 use Rattle.es_scope.specs.declared.scoping.Scoping.{Scoping}
 use Rattle.es_semantic.specs.SymbolsOf.{Declared}
-use Rattle.es_unsupported.specs.ArrowShapes.{arrow_place_in, arrow_shape, binds_arguments}
+use Rattle.es_unsupported.specs.ArrowShapes.{binds_arguments}
 use Rattle.es_unsupported.specs.FirstUnsupported.{found_at}
 use Rattle.es_unsupported.specs.MarkedWalk.{FindsFrom, LooksUp, LooksUpInField, LooksUpInFields, LooksUpInTrees, around_marked, first_at, first_in_fields, refers_by_mark, scope_mark}
+use Rattle.es_unsupported.specs.NodePlaces.{node_place_in, place_shape}
 use Rattle.es_unsupported.specs.Shapes.{shape_at}
-use Rattle.es_unsupported.specs.declared.arrow_places.ArrowPlace.{ArrowPlace}
+use Rattle.es_unsupported.specs.declared.node_places.NodePlace.{NodePlace}
 use Rattle.es_unsupported.proofs.Firsts.{holds_at}
 
 pub both_true : (a b : Bool) → (a && b) ≡ true → (a ≡ true) × (b ≡ true)
@@ -57,13 +58,13 @@ module _ (s : Scoping) (ds : List Declared) (up : List ℕ) where
   pub below_look_up : (t : Tree) → LooksUp s ds up t → LooksUpInFields s ds (around_marked up (kind_of t) (label_of t) (fields_of t)) (fields_of t)
   below_look_up (node k l fs) h = h.1
 
-module _ (o : EnvOptions) (ds : List Declared) (up : List ℕ) (q : ArrowPlace) where
+module _ (o : EnvOptions) (ds : List Declared) (up : List ℕ) (q : NodePlace) where
   -- the shape of a node, and what is known of what stands in its fields
   abbrev pub own_shape : Tree → Option UnsupportedKind
-  own_shape t = option_or (shape_at o ds up (kind_of t) (label_of t) (fields_of t)) (arrow_shape o q (refers_by_mark (label_of t).marks) (kind_of t) (label_of t) (fields_of t))
+  own_shape t = option_or (shape_at o ds up (kind_of t) (label_of t) (fields_of t)) (place_shape o q (refers_by_mark (label_of t).marks) (kind_of t) (label_of t) (fields_of t))
 
-  abbrev pub own_places : Tree → ℕ → Field → ArrowPlace
-  own_places t = arrow_place_in o (binds_arguments ds (scope_mark (label_of t).marks) (kind_of t)) q (kind_of t) (label_of t) (fields_of t)
+  abbrev pub own_places : Tree → ℕ → Field → NodePlace
+  own_places t = node_place_in o (binds_arguments ds (scope_mark (label_of t).marks) (kind_of t)) q (kind_of t) (label_of t) (fields_of t)
 
   -- a node that has a shape is the first of its tree
   pub found_here : (t : Tree) (shape : UnsupportedKind) (id : ℕ) → id ≡ (label_of t).id → Some shape ≡ own_shape t → Some (shape, id) ≡ first_at o ds up q t
@@ -74,6 +75,6 @@ module _ (o : EnvOptions) (ds : List Declared) (up : List ℕ) (q : ArrowPlace) 
   found_below (node k l fs) r none h = sym (ap (λ s. option_or (found_at l.id s) (first_in_fields o ds (around_marked up k l fs) (own_places (node k l fs)) fs)) (sym none) ∙ h)
 
 -- what is known of a place is the same whether or not it is asked what a scope binds, where no arrow is to become a function
-pub asked_place : (o : EnvOptions) (asked binds : Bool) (q : ArrowPlace) (k : AstType) (l : Label) (fs : Fields) (i : ℕ) (f : Field) → asked ≡ is_some o.es2015.arrow_function → arrow_place_in o (asked && binds) q k l fs i f ≡ arrow_place_in o binds q k l fs i f
+pub asked_place : (o : EnvOptions) (asked binds : Bool) (q : NodePlace) (k : AstType) (l : Label) (fs : Fields) (i : ℕ) (f : Field) → asked ≡ is_some o.es2015.arrow_function → node_place_in o (asked && binds) q k l fs i f ≡ node_place_in o binds q k l fs i f
 asked_place o true binds q k l fs i f e = refl
 asked_place o false binds q k l fs i f e = rw (← e) refl

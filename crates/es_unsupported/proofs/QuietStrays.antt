@@ -1,16 +1,19 @@
--- What holds no object pattern with a rest holds none that isn't lowered, and is no function with such a parameter.
+-- What holds no object pattern with a rest holds none that isn't lowered, and is no function with such a parameter; and what is none is told in no pattern.
 use Rattle.std.proofs.Common.{◌≡◌, ap, refl}
-use Rattle.std.specs.Prelude.{false, ◌&&◌, Bool, true}
+use Rattle.std.specs.Prelude.{false, ◌&&◌, Bool, true, not, None, is_some, if◌then◌else◌}
 use Rattle.std.proofs.lemmas.Bool.{or_from, or_parts}
 use Rattle.es_tree.specs.Constructs.{is_object_rest}
 use Rattle.es_tree.specs.Tree.{Tree, node, Label, Fields, done, ◌then◌, Field, missing, one, many, statements, Trees, empty, ◌before◌}
 use Rattle.es_tree.specs.Walks.{any_in_field, any_in_fields, any_in_trees, any_node}
 use Rattle.es_tree.specs.declared.ast_type.AstType.{AstType}
 use Rattle.es_tree.specs.declared.ast_type.AstType.TheVariants.{ArrowFunctionExpression, AssignmentPattern, FunctionDeclaration, FunctionExpression, ObjectPattern}
+use Rattle.es_tree.specs.declared.options.EnvOptions.{EnvOptions}
 use Rattle.es_rest_shapes.specs.RestShapes.{any_child, any_child_by, any_tree, are_plain_parts, bears_rest, is_plain_pattern, is_stray_rest}
 use Rattle.es_rest_shapes.proofs.NoneLeft.{bears-none}
 use Rattle.es_rest_shapes.proofs.Quiet.{stray-none}
+use Rattle.es_unsupported.specs.PatternPlaces.{nested_shape, nests_patterns, pattern_shape}
 use Rattle.es_unsupported.specs.Shapes.{begins_with_rest, has_rest_parameter, holds_stray, is_rest_parameter}
+use Rattle.es_unsupported.specs.declared.pattern_places.PatternPlace.{PatternPlace}
 
 -- a plain pattern bears a rest
 
@@ -63,4 +66,9 @@ has_parameter-none ArrowFunctionExpression fs h = children-none fs h
 has_parameter-none _ fs h = refl
 
 pub holds_stray-none : (k : AstType) (l : Label) (fs : Fields) → any_in_fields is_object_rest fs ≡ false → holds_stray k l fs ≡ false
-holds_stray-none k l fs h = or_from (is_stray_rest k l fs) (has_rest_parameter k fs) (stray-none k l fs h) (has_parameter-none k fs h)
+holds_stray-none k l fs h =
+    or_from (not (nests_patterns k) && is_stray_rest k l fs) (has_rest_parameter k fs) (last-off (not (nests_patterns k)) (is_stray_rest k l fs) (stray-none k l fs h)) (has_parameter-none k fs h)
+
+-- nor is a node without a rest told inside a pattern
+pub pattern-none : (o : EnvOptions) (q : PatternPlace) (k : AstType) (l : Label) (fs : Fields) → (is_some o.es2018.object_rest_spread && is_object_rest k l fs) ≡ false → pattern_shape o q k l fs ≡ None
+pattern-none o q k l fs h = ap (λ b. if b then nested_shape q else None) h

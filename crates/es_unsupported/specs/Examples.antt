@@ -4,13 +4,13 @@ use Rattle.es_tree.specs.HasForm.{has_form}
 use Rattle.es_tree.specs.Order.{renumber}
 use Rattle.es_tree.specs.Tree.{Tree, node, done, ◌then◌, missing, one, many, statements, empty, trees}
 use Rattle.es_tree.specs.Words.{Text}
-use Rattle.es_tree.specs.declared.ast_type.AstType.TheVariants.{ArrayPattern, ArrayTarget, ArrowFunctionExpression, AssignmentExpression, AssignmentPattern, ClassDeclaration, EmptyStatement, ForOfStatement, FunctionDeclaration, FunctionExpression, LogicalExpression, MethodDefinition, ObjectPattern, ObjectTarget, PatternProperty, Program, RestElement, Super, TargetRest, UnaryExpression, VariableDeclaration, VariableDeclarator}
+use Rattle.es_tree.specs.declared.ast_type.AstType.TheVariants.{ArrayPattern, ArrayTarget, ArrowFunctionExpression, AssignmentPattern, ClassDeclaration, EmptyStatement, ForOfStatement, FunctionDeclaration, FunctionExpression, LogicalExpression, MethodDefinition, ObjectPattern, ObjectTarget, ParenthesizedExpression, PatternProperty, Program, RestElement, Super, TargetProperty, TargetRest, TargetWithDefault, UnaryExpression, VariableDeclaration, VariableDeclarator}
 use Rattle.es_tree.specs.declared.error.UnsupportedKind.{UnsupportedKind}
 use Rattle.es_tree.specs.declared.error.UnsupportedKind.TheVariants.{ArrowOuter, ArrowThis, HeadName, HelperName, RestInArray, RestNested, RestParameter, UsingFunction}
 use Rattle.es_tree.specs.declared.options.EnvOptions.{EnvOptions}
 use Rattle.es_tree.specs.declared.options.HelperLoaderMode.TheVariants.{External}
 use Rattle.es_tree.specs.declared.table.Sort.TheVariants.{Program as s-Program}
-use Rattle.es_steps.specs.Nodes.{arrow_node, body_node, call_node, made, member_node, statement_node, this_expression, word}
+use Rattle.es_steps.specs.Nodes.{arrow_node, assign_node, body_node, call_node, made, member_node, statement_node, this_expression, word}
 use Rattle.es_unsupported.specs.FirstUnsupported.{first_unsupported}
 
 -- OPTIONS that ask for arrows, for `??`, for object rests and spreads or for `using`, and for nothing else
@@ -120,15 +120,29 @@ loop_over w p e =
 abbrev pub array_pattern : Tree → Tree
 array_pattern p = node ArrayPattern (made [] []) (one p then done)
 
--- `[t] = b`
+-- `[t] = b;`
 abbrev pub array_assignment : Tree → Tree
-array_assignment t = node AssignmentExpression (made (Some (codes "=") ∷ []) []) (one (node ArrayTarget (made [] []) (one t then done)) then one (word (codes "b")) then done)
+array_assignment t = statement_node (assign_node (node ArrayTarget (made [] []) (one t then done)) (word (codes "b")))
 
 -- `{ ...x }` as a target
 abbrev pub rest_target : Text → Tree
 rest_target x =
     let rest : Tree = node TargetRest (made [] []) (one (word x) then done) in
     node ObjectTarget (made [] []) (many (trees (rest ∷ [])) then done)
+
+-- `{ k: t }` as a target
+abbrev pub target_in_property : Tree → Tree
+target_in_property t =
+    let property : Tree = node TargetProperty (made [] (false ∷ false ∷ [])) (one (word (codes "k")) then one t then done) in
+    node ObjectTarget (made [] []) (many (trees (property ∷ [])) then done)
+
+-- `t = e` as a target
+abbrev pub target_with_default : Tree → Tree → Tree
+target_with_default t e = node TargetWithDefault (made [] []) (one t then one e then done)
+
+-- `(t = b)`
+abbrev pub assignment_in_parens : Tree → Tree
+assignment_in_parens t = node ParenthesizedExpression (made [] []) (one (assign_node t (word (codes "b"))) then done)
 
 -- EXAMPLES
 
@@ -174,16 +188,27 @@ pub record LawShapeExamples : Type 0 where
   -- `let { k: { ...a } } = b;`, `let { k: { ...a } = b } = b;`, `let { k: [{ ...a }] } = b;` and `function f({ k: { ...a } }) {}`
   pub rest_in_property : Finds false true (declaration (codes "let") (in_property (rest_pattern (codes "a"))) ∷ []) None
   pub rest_of_default : Finds false true (declaration (codes "let") (in_property (with_default (rest_pattern (codes "a")))) ∷ []) None
-  pub array_in_property : Finds false true (declaration (codes "let") (in_property (array_pattern (rest_pattern (codes "a")))) ∷ []) (Some (RestInArray, 6))
+  pub array_in_property : Finds false true (declaration (codes "let") (in_property (array_pattern (rest_pattern (codes "a")))) ∷ []) (Some (RestInArray, 7))
   pub property_parameter : Finds false true (function_node (in_property (rest_pattern (codes "a")) ∷ []) [] ∷ []) (Some (RestParameter, 1))
   -- `function f({ ...a } = b) {}`: the function has it, not the parameter; `for (let { ...a } of a) ;`
   pub rest_default : Finds false true (function_node (with_default (rest_pattern (codes "a")) ∷ []) [] ∷ []) (Some (RestParameter, 1))
   pub rest_head : Finds false true (loop_over (codes "let") (rest_pattern (codes "a")) (word (codes "a")) ∷ []) (Some (HeadName, 3))
-  -- `function f([{ ...a }]) {}`, `function f([{ k: { ...a } }]) {}` and `[{ ...a }] = b;`
-  pub rest_in_array : Finds false true (function_node (array_pattern (rest_pattern (codes "a")) ∷ []) [] ∷ []) (Some (RestInArray, 3))
-  pub property_in_array : Finds false true (function_node (array_pattern (in_property (rest_pattern (codes "a"))) ∷ []) [] ∷ []) (Some (RestInArray, 3))
-  pub rest_nested : Finds false true (statement_node (array_assignment (rest_target (codes "a"))) ∷ []) (Some (RestNested, 3))
+  -- `let [{ ...a }] = b;`, `function f([{ ...a }]) {}` and `function f([{ k: { ...a } }]) {}`
+  pub array_declared : Finds false true (declaration (codes "let") (array_pattern (rest_pattern (codes "a"))) ∷ []) (Some (RestInArray, 4))
+  pub rest_in_array : Finds false true (function_node (array_pattern (rest_pattern (codes "a")) ∷ []) [] ∷ []) (Some (RestInArray, 4))
+  pub property_in_array : Finds false true (function_node (array_pattern (in_property (rest_pattern (codes "a"))) ∷ []) [] ∷ []) (Some (RestInArray, 7))
+  -- `[{ ...a }] = b;`, `a = ({ k: { ...a } } = b);` and `a = ({ ...a } = b);`
+  pub rest_nested : Finds false true (array_assignment (rest_target (codes "a")) ∷ []) (Some (RestNested, 4))
+  pub target_nested : Finds false true (statement_node (assign_node (word (codes "a")) (assignment_in_parens (target_in_property (rest_target (codes "a"))))) ∷ []) (Some (RestNested, 9))
+  pub rest_assigned : Finds false true (statement_node (assign_node (word (codes "a")) (assignment_in_parens (rest_target (codes "a")))) ∷ []) None
+  -- An assignment in a default value is inside no pattern: `({ k: a = ({ ...a } = b) } = b);`, and so it is in a parameter: `function f([a = ({ ...a } = b)]) {}`.
+  pub target_default : Finds false true (statement_node (assignment_in_parens (target_in_property (target_with_default (word (codes "a")) (assignment_in_parens (rest_target (codes "a")))))) ∷ []) None
+  pub parameter_default : Finds false true (function_node (array_pattern (parameter_with (assignment_in_parens (rest_target (codes "a")))) ∷ []) [] ∷ []) None
   pub bound_helper : Finds false true (rest_declaration (codes "babelHelpers") ∷ []) (Some (HelperName, 1))
+  -- `function f(babelHelpers) { ({ ...a } = b); }` and `function f(babelHelpers) { [{ ...a }] = b; }`; `function f(babelHelpers) {} ({ ...a } = b);`
+  pub bound_target : Finds false true (function_node (word (codes "babelHelpers") ∷ []) (statement_node (assignment_in_parens (rest_target (codes "a"))) ∷ []) ∷ []) (Some (HelperName, 8))
+  pub bound_nested : Finds false true (function_node (word (codes "babelHelpers") ∷ []) (array_assignment (rest_target (codes "a")) ∷ []) ∷ []) (Some (HelperName, 8))
+  pub bound_elsewhere : Finds false true (function_node (word (codes "babelHelpers") ∷ []) [] ∷ statement_node (assignment_in_parens (rest_target (codes "a"))) ∷ []) None
   -- where `using` is lowered, `for (using a of a) ;`
   pub using_head : FindsUsing (loop_over (codes "using") (word (codes "a")) (word (codes "a")) ∷ []) (Some (HeadName, 1))
   -- `function f(g) { using a = b; function g() {} }`, and without the parameter

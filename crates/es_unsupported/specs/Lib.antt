@@ -1,5 +1,7 @@
 pub mod SpreadLiterals
 pub mod ArrowShapes
+pub mod PatternPlaces
+pub mod NodePlaces
 pub mod Shapes
 pub mod FirstUnsupported
 pub mod MarkedWalk

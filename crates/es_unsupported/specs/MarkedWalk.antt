@@ -10,10 +10,11 @@ use Rattle.es_scope.specs.Tables.{Finds}
 use Rattle.es_scope.specs.declared.scoping.Scoping.{Scoping}
 use Rattle.es_semantic.specs.Places.{first, has_name_scope, is_inside, makes_scope}
 use Rattle.es_semantic.specs.SymbolsOf.{Declared, find}
-use Rattle.es_unsupported.specs.ArrowShapes.{arrow_place_in, arrow_shape, binds_arguments}
+use Rattle.es_unsupported.specs.ArrowShapes.{binds_arguments}
 use Rattle.es_unsupported.specs.FirstUnsupported.{found_at}
+use Rattle.es_unsupported.specs.NodePlaces.{node_place_in, place_shape}
 use Rattle.es_unsupported.specs.Shapes.{shape_at}
-use Rattle.es_unsupported.specs.declared.arrow_places.ArrowPlace.{ArrowPlace}
+use Rattle.es_unsupported.specs.declared.node_places.NodePlace.{NodePlace}
 use Rattle.es_unsupported.specs.declared.scopes.FieldScopes.{FieldScopes}
 
 -- SCOPES
@@ -50,22 +51,22 @@ refers_by_mark _ = false
 
 abbrev mutual
   -- at the first node of a tree, in node order, that has a shape
-  pub first_at : EnvOptions → List Declared → List ℕ → ArrowPlace → Tree → Option (UnsupportedKind × ℕ)
+  pub first_at : EnvOptions → List Declared → List ℕ → NodePlace → Tree → Option (UnsupportedKind × ℕ)
   first_at o ds up q (node k l fs) =
-      option_or (found_at l.id (option_or (shape_at o ds up k l fs) (arrow_shape o q (refers_by_mark l.marks) k l fs)))
-      (first_in_fields o ds (around_marked up k l fs) (arrow_place_in o (binds_arguments ds (scope_mark l.marks) k) q k l fs) fs)
+      option_or (found_at l.id (option_or (shape_at o ds up k l fs) (place_shape o q (refers_by_mark l.marks) k l fs)))
+      (first_in_fields o ds (around_marked up k l fs) (node_place_in o (binds_arguments ds (scope_mark l.marks) k) q k l fs) fs)
 
-  pub first_in_fields : EnvOptions → List Declared → (ℕ → List ℕ) → (ℕ → Field → ArrowPlace) → Fields → Option (UnsupportedKind × ℕ)
+  pub first_in_fields : EnvOptions → List Declared → (ℕ → List ℕ) → (ℕ → Field → NodePlace) → Fields → Option (UnsupportedKind × ℕ)
   first_in_fields o ds ups qs done = None
   first_in_fields o ds ups qs (f then fs) = option_or (first_in_field o ds (ups zero) (qs zero f) f) (first_in_fields o ds (λ i. ups (suc i)) (λ i. qs (suc i)) fs)
 
-  pub first_in_field : EnvOptions → List Declared → List ℕ → ArrowPlace → Field → Option (UnsupportedKind × ℕ)
+  pub first_in_field : EnvOptions → List Declared → List ℕ → NodePlace → Field → Option (UnsupportedKind × ℕ)
   first_in_field o ds up q missing = None
   first_in_field o ds up q (one t) = first_at o ds up q t
   first_in_field o ds up q (many ts) = first_in_trees o ds up q ts
   first_in_field o ds up q (statements ts) = first_in_trees o ds up q ts
 
-  pub first_in_trees : EnvOptions → List Declared → List ℕ → ArrowPlace → Trees → Option (UnsupportedKind × ℕ)
+  pub first_in_trees : EnvOptions → List Declared → List ℕ → NodePlace → Trees → Option (UnsupportedKind × ℕ)
   first_in_trees o ds up q empty = None
   first_in_trees o ds up q (t before ts) = option_or (first_at o ds up q t) (first_in_trees o ds up q ts)
 

@@ -1,20 +1,22 @@
 -- The shapes that a run doesn't take: one row of a table for each, asked in order at each node.
-use Rattle.std.specs.Prelude.{ℕ, List, [], ◌∷◌, Bool, false, true, ◌&&◌, ◌||◌, not, Option, Some, None, is_some, codes, if◌then◌else◌}
+use Rattle.std.specs.Prelude.{ℕ, List, [], ◌∷◌, Bool, false, ◌&&◌, ◌||◌, not, Option, Some, None, is_some, codes, if◌then◌else◌}
 use Rattle.es_tree.specs.Children.{child_at}
-use Rattle.es_tree.specs.Constructs.{is_exponentiation, is_object_spread, is_using}
+use Rattle.es_tree.specs.Constructs.{is_exponentiation, is_using}
 use Rattle.es_tree.specs.Tree.{Tree, node, Label, Fields, ◌then◌, one}
 use Rattle.es_tree.specs.declared.ast_type.AstType.{AstType}
-use Rattle.es_tree.specs.declared.ast_type.AstType.TheVariants.{ArrayPattern, ArrayTarget, ArrowFunctionExpression, AssignmentPattern, FunctionDeclaration, FunctionExpression, RestElement, TargetProperty, TargetRest, TargetWithDefault, VariableDeclaration, VariableDeclarator}
+use Rattle.es_tree.specs.declared.ast_type.AstType.TheVariants.{ArrowFunctionExpression, AssignmentPattern, FunctionDeclaration, FunctionExpression, VariableDeclaration, VariableDeclarator}
 use Rattle.es_tree.specs.declared.error.UnsupportedKind.{UnsupportedKind}
-use Rattle.es_tree.specs.declared.error.UnsupportedKind.TheVariants.{HeadName, HelperName, MathBound, NotBuilt, RestInArray, RestNested, RestParameter, SpreadLiteral, TagChain, UsingFunction}
+use Rattle.es_tree.specs.declared.error.UnsupportedKind.TheVariants.{HeadName, HelperName, MathBound, NotBuilt, RestParameter, SpreadLiteral, TagChain, UsingFunction}
 use Rattle.es_tree.specs.declared.ids.NodeId.{NodeId}
 use Rattle.es_tree.specs.declared.options.EnvOptions.{EnvOptions}
 use Rattle.es_semantic.specs.SymbolsOf.{Declared, find}
+use Rattle.es_conditions.specs.CoreConditions.{is_copied}
 use Rattle.es_rest_shapes.specs.HelperNames.{binds_helpers}
 use Rattle.es_rest_shapes.specs.RestShapes.{any_child, is_plain_pattern, is_rest_declaration, is_stray_rest}
 use Rattle.es_chain_tags.specs.ChainTags.{has_chain_tag}
 use Rattle.es_using_heads.specs.Heads.{asks_its_name}
 use Rattle.es_using_nodes.specs.Clashes.{clashes}
+use Rattle.es_unsupported.specs.PatternPlaces.{nests_patterns}
 use Rattle.es_unsupported.specs.SpreadLiterals.{is_uncopied}
 
 -- THE SHAPES, each told by the options, the symbols of the program, the scopes around a node, the innermost first, and the node
@@ -35,10 +37,10 @@ has_rest_parameter FunctionExpression fs = any_child is_rest_parameter fs
 has_rest_parameter ArrowFunctionExpression fs = any_child is_rest_parameter fs
 has_rest_parameter _ fs = false
 
--- A node that holds an object pattern with a rest, itself or in a property, that no declarator with a value declares, as an array does, or that is
--- exported (14.3.3, 13.15.5); or a function with such a parameter.
+-- A node that holds an object pattern with a rest, itself or in a property, that no declarator with a value declares, or that is exported (14.3.3), but
+-- for an array and what is assigned to, in which it is told at its own node; or a function with such a parameter.
 abbrev pub holds_stray : AstType → Label → Fields → Bool
-holds_stray k l fs = is_stray_rest k l fs || has_rest_parameter k fs
+holds_stray k l fs = (not (nests_patterns k) && is_stray_rest k l fs) || has_rest_parameter k fs
 
 -- A construct that no lowering takes: such a node, and `using` (14.3, with Explicit Resource Management), which is lowered before unless the program
 -- binds `babelHelpers`, of which the helper is a property.
@@ -64,12 +66,6 @@ abbrev pub parameter_shape : AstType → Fields → UnsupportedKind
 parameter_shape k fs = if has_rest_parameter k fs then RestParameter else NotBuilt
 
 abbrev pub stray_shape : AstType → Fields → UnsupportedKind
-stray_shape ArrayPattern fs = RestInArray
-stray_shape RestElement fs = RestInArray
-stray_shape TargetProperty fs = RestNested
-stray_shape TargetWithDefault fs = RestNested
-stray_shape ArrayTarget fs = RestNested
-stray_shape TargetRest fs = RestNested
 stray_shape VariableDeclaration fs = HelperName
 stray_shape VariableDeclarator fs = declarator_shape fs
 stray_shape k fs = parameter_shape k fs
@@ -78,10 +74,10 @@ stray_shape k fs = parameter_shape k fs
 abbrev pub is_math_bound : EnvOptions → List Declared → List ℕ → AstType → Label → Fields → Bool
 is_math_bound o ds up k l fs = o.es2016.exponentiation_operator && is_exponentiation k l fs && is_some (find ds up (codes "Math"))
 
--- An object literal with a spread where `babelHelpers`, of which the helper is a property, finds a binding (13.2.5); also where helpers are
--- imported, since it is a property until then.
+-- An object literal with a spread (13.2.5), or an object pattern with a rest that is assigned to (13.15.5), where `babelHelpers`, of which the helper is
+-- a property, finds a binding; also where helpers are imported, since it is a property until then.
 abbrev pub finds_helper : List Declared → List ℕ → AstType → Label → Fields → Bool
-finds_helper ds up k l fs = is_object_spread k l fs && is_some (find ds up (codes "babelHelpers"))
+finds_helper ds up k l fs = is_copied k l fs && is_some (find ds up (codes "babelHelpers"))
 
 -- and a declaration of a rest in a program that binds it anywhere
 abbrev pub finds_helpers : List Declared → List ℕ → AstType → Label → Fields → Bool

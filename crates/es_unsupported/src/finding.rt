@@ -1,8 +1,9 @@
 //! The first node of a program that a run doesn't take, and why.
 //!
 //! The shapes that a node and its scopes tell are the rows of one table, asked in order at each node. A shape more is a row
-//! of `specs/Shapes.antt`, and a test in `shapes.rt`. After them comes what stands in the way of arrows, which the places
-//! around tell, too (`specs/ArrowShapes.antt`, `arrow_shapes.rt`).
+//! of `specs/Shapes.antt`, and a test in `shapes.rt`. After them comes what the places around tell, too (`specs/NodePlaces.antt`,
+//! `node_places.rt`): that a pattern stands inside another (`specs/PatternPlaces.antt`), and then what stands in the way of arrows
+//! (`specs/ArrowShapes.antt`).
 ghost use Rattle.std.specs.Prelude.{◌≡◌, ℕ, ◌<◌, ◌^◌, List, true, option_map};
 ghost use Rattle.es_tree.specs.Tree.{Tree, trees};
 ghost use Rattle.es_tree.specs.Views.{plain_field, plain_fields};
@@ -16,7 +17,7 @@ ghost use Rattle.es_unsupported.specs.MarkedWalk.{LooksUp, LooksUpInField, first
 ghost use Rattle.es_unsupported.specs.Shapes.{plain_found};
 ghost use Rattle.es_unsupported.specs.Wanted.{IsWanted};
 
-use crate::arrow_places::ArrowPlace;
+use crate::node_places::NodePlace;
 use crate::scopes::{asked_arguments, field_scopes};
 use crate::shapes::{Wanted, find_shape};
 use es_scope::scoping::Scoping;
@@ -41,7 +42,7 @@ pub fn find_unsupported(
     if !wanted.any() {
         return None;
     }
-    let place = ArrowPlace::outside();
+    let place = NodePlace::of_program();
     find_in(
         program,
         scoping.root_scope_id(),
@@ -57,7 +58,7 @@ pub fn find_unsupported(
 fn find_in(
     node: &Node,
     scope: ScopeId,
-    place: ArrowPlace,
+    place: NodePlace,
     scoping: &Scoping,
     options: &EnvOptions,
     wanted: Wanted,
@@ -92,7 +93,7 @@ fn find_in(
 fn find_in_field(
     field: &Field,
     scope: ScopeId,
-    place: ArrowPlace,
+    place: NodePlace,
     scoping: &Scoping,
     options: &EnvOptions,
     wanted: Wanted,

@@ -12,7 +12,7 @@ pub fn law_built()
     ensures { LawBuilt }
 {}
 
-/// Where object rests are taken, none stands in a program that is taken where it isn't lowered.
+/// Where object rests are taken, none stands in a program that has form and is taken where it isn't lowered.
 pub fn law_strays_taken()
     ensures { LawStraysTaken }
 {}

@@ -8,6 +8,8 @@ mod edges;
 pub mod finding;
 pub mod laws;
 mod names;
+pub mod node_places;
+pub mod pattern_places;
 mod scopes;
 mod shapes;
 mod spread_literals;

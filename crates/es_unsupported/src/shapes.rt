@@ -9,21 +9,22 @@ ghost use Rattle.es_scope.specs.Tables.{scope_count};
 ghost use Rattle.es_semantic.specs.Places.{first};
 ghost use Rattle.es_semantic.specs.SymbolsOf.{Declared, find};
 ghost use Rattle.es_semantic.specs.Walks.{Binds};
+ghost use Rattle.es_conditions.specs.CoreConditions.{is_copied};
 ghost use Rattle.es_rest_shapes.specs.HelperNames.{binds_name};
-ghost use Rattle.es_unsupported.specs.ArrowShapes.{arrow_shape};
 ghost use Rattle.es_unsupported.specs.MarkedWalk.{FindsFrom, refers_by_mark};
+ghost use Rattle.es_unsupported.specs.NodePlaces.{place_shape};
 ghost use Rattle.es_runs.specs.OptionalChaining.{is_chain_kind};
 ghost use Rattle.es_chain_tags.specs.ChainTags.{has_chain_tag, is_chain_below};
 ghost use Rattle.es_unsupported.specs.Shapes.{finds_helper, is_head_name, is_helper_bound, is_math_bound, is_spread_literal, is_tag_chain, is_unbuilt, is_using_function, meets_helpers, shape_at};
 ghost use Rattle.es_unsupported.specs.Wanted.{IsWanted};
 
-use crate::arrow_places::ArrowPlace;
-use crate::arrow_shapes::arrow_shape;
 use crate::names::binds_anywhere;
+use crate::node_places::{NodePlace, place_shape};
 use crate::spread_literals::is_uncopied;
 use crate::stray_rests::{holds_stray, stray_shape};
 use es_nodes::construct::{is_exponentiation, is_object_spread, is_using};
 use es_nodes::fields::field_at;
+use es_nodes::rest_targets::is_target_with_rest;
 use es_rest_nodes::strays::is_rest_declaration;
 use es_scope::scoping::Scoping;
 use es_tree::error::UnsupportedKind;
@@ -88,21 +89,21 @@ fn where_bound(asked: bool, name: &str, scoping: &Scoping) -> bool
     asked && binds_anywhere(scoping, name)
 }
 
-/// The first shape that a node in this scope and at this place has, of those that are looked for: one of the table, or what
-/// stands in the way of arrows.
+/// The first shape that a node in this scope and at this place has, of those that are looked for: one of the table, or one
+/// that the place tells.
 pub(crate) fn find_shape(
     node: &Node,
     scope: ScopeId,
-    place: ArrowPlace,
+    place: NodePlace,
     scoping: &Scoping,
     wanted: Wanted,
 ) -> Option<UnsupportedKind>
     requires { scope.0 < scope_count scoping.now }
-    ensures { (o : PlainOptions) (ds : List Declared) (up : List ℕ) → IsWanted wanted o ds → scope.0 ≡ first up → FindsFrom scoping.now ds up → result ≡ option_or (shape_at o ds up (kind_of node.now) (label_of node.now) (fields_of node.now)) (arrow_shape o place (refers_by_mark (label_of node.now).marks) (kind_of node.now) (label_of node.now) (fields_of node.now)) }
+    ensures { (o : PlainOptions) (ds : List Declared) (up : List ℕ) → IsWanted wanted o ds → scope.0 ≡ first up → FindsFrom scoping.now ds up → result ≡ option_or (shape_at o ds up (kind_of node.now) (label_of node.now) (fields_of node.now)) (place_shape o place (refers_by_mark (label_of node.now).marks) (kind_of node.now) (label_of node.now) (fields_of node.now)) }
 {
     match shape_at(node, scope, scoping, wanted) {
         Some(shape) => Some(shape),
-        None => arrow_shape(node, place, wanted.arrows),
+        None => place_shape(node, place, wanted.stray_rest, wanted.arrows),
     }
 }
 
@@ -163,7 +164,7 @@ fn finds_math(node: &Node, scope: ScopeId, scoping: &Scoping) -> bool
     is_exponentiation(node) && binds(scoping, scope, "Math")
 }
 
-/// Whether an object literal with a spread stands where `babelHelpers` is bound, or a declaration of a rest in a program that binds it.
+/// Whether a node whose properties a helper copies stands where `babelHelpers` is bound, or a declaration of a rest in a program that binds it.
 fn is_helper_bound(node: &Node, scope: ScopeId, scoping: &Scoping, wanted: Wanted) -> bool
     requires { scope.0 < scope_count scoping.now }
     ensures { (o : PlainOptions) (ds : List Declared) (up : List ℕ) → IsWanted wanted o ds → scope.0 ≡ first up → FindsFrom scoping.now ds up → result ≡ is_helper_bound o ds up (kind_of node.now) (label_of node.now) (fields_of node.now) }
@@ -171,7 +172,7 @@ fn is_helper_bound(node: &Node, scope: ScopeId, scoping: &Scoping, wanted: Wante
     wanted.helper_name && meets_helpers(node, scope, scoping)
 }
 
-/// Whether an object literal with a spread stands where `babelHelpers` is bound, or a rest is declared at all.
+/// Whether a node whose properties a helper copies stands where `babelHelpers` is bound, or a rest is declared at all.
 fn meets_helpers(node: &Node, scope: ScopeId, scoping: &Scoping) -> bool
     requires { scope.0 < scope_count scoping.now }
     ensures { (ds : List Declared) (up : List ℕ) → scope.0 ≡ first up → FindsFrom scoping.now ds up → result ≡ meets_helpers ds up (kind_of node.now) (label_of node.now) (fields_of node.now) }
@@ -179,12 +180,19 @@ fn meets_helpers(node: &Node, scope: ScopeId, scoping: &Scoping) -> bool
     finds_helper(node, scope, scoping) || is_rest_declaration(node)
 }
 
-/// Whether an object literal with a spread stands where `babelHelpers` is bound.
+/// Whether a node whose properties a helper copies stands where `babelHelpers` is bound.
 fn finds_helper(node: &Node, scope: ScopeId, scoping: &Scoping) -> bool
     requires { scope.0 < scope_count scoping.now }
     ensures { (ds : List Declared) (up : List ℕ) → scope.0 ≡ first up → FindsFrom scoping.now ds up → result ≡ finds_helper ds up (kind_of node.now) (label_of node.now) (fields_of node.now) }
 {
-    is_object_spread(node) && binds(scoping, scope, "babelHelpers")
+    is_copied(node) && binds(scoping, scope, "babelHelpers")
+}
+
+/// Whether the node is an object literal with a spread, or an object pattern with a rest that is assigned to.
+fn is_copied(node: &Node) -> bool
+    ensures { result ≡ is_copied (kind_of node.now) (label_of node.now) (fields_of node.now) }
+{
+    is_object_spread(node) || is_target_with_rest(node)
 }
 
 /// Whether the node is an object literal with a spread whose properties can't be copied.

@@ -1,21 +1,23 @@
-//! Object patterns with a rest, itself or in a property, that aren't lowered (ECMA-262, 14.3.3), and the names by which their nodes are refused.
+//! Object patterns with a rest, itself or in a property, that aren't lowered (ECMA-262, 14.3.3), and the names by which the nodes are refused that hold
+//! them.
 ghost use Rattle.std.specs.Prelude.{◌≡◌};
 ghost use Rattle.es_tree.specs.Tree.{fields_of, kind_of, label_of, trees};
 ghost use Rattle.es_tree.specs.Views.{plain_field, plain_fields};
 ghost use Rattle.es_rest_shapes.specs.RestShapes.{any_child, any_child_by, any_tree};
 ghost use Rattle.es_unsupported.specs.Shapes.{begins_with_rest, declarator_shape, declares_head, has_rest_parameter, holds_stray, is_rest_parameter, parameter_shape, stray_shape};
 
+use crate::pattern_places::nests_patterns;
 use es_rest_nodes::patterns::is_plain_pattern;
 use es_rest_nodes::strays::is_stray_rest;
 use es_tree::error::UnsupportedKind;
 use es_tree::kind::Kind;
 use es_tree::node::{Field, Node};
 
-/// Whether the node holds a pattern with a rest that isn't lowered there, or is a function with such a parameter.
+/// Whether the node holds a pattern with a rest that isn't lowered there, and isn't told at its own node, or is a function with such a parameter.
 pub(crate) fn holds_stray(node: &Node) -> bool
     ensures { result ≡ holds_stray (kind_of node.now) (label_of node.now) (fields_of node.now) }
 {
-    is_stray_rest(node) || has_rest_parameter(node)
+    (!nests_patterns(node) && is_stray_rest(node)) || has_rest_parameter(node)
 }
 
 /// The name by which a node is refused that holds one, or is a declaration by `using`.
@@ -23,11 +25,6 @@ pub(crate) fn stray_shape(node: &Node) -> UnsupportedKind
     ensures { result ≡ stray_shape (kind_of node.now) (fields_of node.now) }
 {
     match &node.kind {
-        Kind::ArrayPattern | Kind::RestElement => UnsupportedKind::RestInArray,
-        Kind::TargetProperty { .. }
-        | Kind::TargetWithDefault
-        | Kind::ArrayTarget
-        | Kind::TargetRest => UnsupportedKind::RestNested,
         Kind::VariableDeclaration { .. } => UnsupportedKind::HelperName,
         Kind::VariableDeclarator => declarator_shape(node),
         _ => parameter_shape(node),

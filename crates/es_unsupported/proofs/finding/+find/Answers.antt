@@ -10,24 +10,25 @@ use Rattle.es_scope.specs.Tables.{scope_count}
 use Rattle.es_semantic.specs.Places.{first}
 use Rattle.es_semantic.specs.SymbolsOf.{Declared}
 use Rattle.es_semantic.proofs.Remaining.{field_within, tree_within}
-use Rattle.es_unsupported.specs.ArrowShapes.{arrow_place_in, binds_arguments}
+use Rattle.es_unsupported.specs.ArrowShapes.{binds_arguments}
 use Rattle.es_unsupported.specs.MarkedWalk.{LooksUpInField, LooksUpInFields, LooksUpInTrees, around_marked, first_at, first_in_field, first_in_fields, first_in_trees, has_known_scope, scope_at, scope_mark}
+use Rattle.es_unsupported.specs.NodePlaces.{node_place_in}
 use Rattle.es_unsupported.specs.Shapes.{plain_found}
-use Rattle.es_unsupported.specs.declared.arrow_places.ArrowPlace.{ArrowPlace}
+use Rattle.es_unsupported.specs.declared.node_places.NodePlace.{NodePlace}
 use Rattle.es_unsupported.proofs.Firsts.{first_found, none_further}
 use Rattle.es_unsupported.proofs.Parts.{asked_place, below_look_up, below_pass, field_looks_up, field_passes, found_below, found_here, own_looks_up, own_passes, own_places, tree_looks_up, tree_passes}
 use Rattle.es_unsupported.proofs.finding.+find.Goals as goal
 
 -- WHAT IS FOUND IN FIELDS, where for each it is known which scopes are around, and what of arrows
 
-module _ (o : EnvOptions) (ds : List Declared) (ups : ℕ → List ℕ) (qs : ℕ → Field → ArrowPlace) (xs : List NodeField) (i : ℕ) (x : NodeField) where
+module _ (o : EnvOptions) (ds : List Declared) (ups : ℕ → List ℕ) (qs : ℕ → Field → NodePlace) (xs : List NodeField) (i : ℕ) (x : NodeField) where
   field_found : (r : UnsupportedKind × ℕ) → i < length xs → x ≡ get_or xs i x → first_in_fields o ds ups qs (fields (map plain_field (take i xs))) ≡ None → first_in_field o ds (ups i) (qs i (plain_field x)) (plain_field x) ≡ Some r → first_in_fields o ds ups qs (fields (map plain_field xs)) ≡ Some r
   field_found r l e none here =
-      first_found {P = List ℕ × (Field → ArrowPlace)} (λ ps ys. first_in_fields o ds (λ j. (ps j).0) (λ j. (ps j).1) (fields (map plain_field ys))) (λ p y. first_in_field o ds p.0 (p.1 (plain_field y)) (plain_field y)) (λ ps. refl) (λ ps y ys. refl) (λ j. (ups j, qs j)) xs i x r l e none here
+      first_found {P = List ℕ × (Field → NodePlace)} (λ ps ys. first_in_fields o ds (λ j. (ps j).0) (λ j. (ps j).1) (fields (map plain_field ys))) (λ p y. first_in_field o ds p.0 (p.1 (plain_field y)) (plain_field y)) (λ ps. refl) (λ ps y ys. refl) (λ j. (ups j, qs j)) xs i x r l e none here
 
   no_field_further : i < length xs → x ≡ get_or xs i x → first_in_fields o ds ups qs (fields (map plain_field (take i xs))) ≡ None → first_in_field o ds (ups i) (qs i (plain_field x)) (plain_field x) ≡ None → first_in_fields o ds ups qs (fields (map plain_field (take (i + 1) xs))) ≡ None
   no_field_further l e none here =
-      none_further {P = List ℕ × (Field → ArrowPlace)} (λ ps ys. first_in_fields o ds (λ j. (ps j).0) (λ j. (ps j).1) (fields (map plain_field ys))) (λ p y. first_in_field o ds p.0 (p.1 (plain_field y)) (plain_field y)) (λ ps. refl) (λ ps y ys. refl) (λ j. (ups j, qs j)) xs i x l e none here
+      none_further {P = List ℕ × (Field → NodePlace)} (λ ps ys. first_in_fields o ds (λ j. (ps j).0) (λ j. (ps j).1) (fields (map plain_field ys))) (λ p y. first_in_field o ds p.0 (p.1 (plain_field y)) (plain_field y)) (λ ps. refl) (λ ps y ys. refl) (λ j. (ups j, qs j)) xs i x l e none here
 
 -- a node
 
@@ -55,9 +56,9 @@ find_in-returns-in-Some-find_in_field t c = λ ds up wanted binds at seen.
     let below : LooksUpInFields s ds ups (fields (map plain_field xs)) = subst (LooksUpInFields s ds ups) same (below_look_up s ds up u seen) in
     let sees : LooksUpInField s ds (ups i) (plain_field c.field-item.result) = field_looks_up s ds ups xs i c.field-item.result c.loop-index-test.true c.field-item.is below in
     let qs = own_places o ds up c.args.place u in
-    let inside : c.inside-inside.result ≡ qs i (plain_field c.field-item.result) = c.inside-inside.ensures ∙ (ap (λ (b : Bool). arrow_place_in o b c.args.place (kind_of u) (label_of u) (fields_of u) i (plain_field c.field-item.result)) (c.asked_arguments-binds.ensures ds binds) ∙ asked_place o c.args.wanted.arrows (binds_arguments ds (scope_mark (label_of u).marks) (kind_of u)) c.args.place (kind_of u) (label_of u) (fields_of u) i (plain_field c.field-item.result) wanted.arrows) in
+    let inside : c.inside-inside.result ≡ qs i (plain_field c.field-item.result) = c.inside-inside.ensures ∙ (ap (λ (b : Bool). node_place_in o b c.args.place (kind_of u) (label_of u) (fields_of u) i (plain_field c.field-item.result)) (c.asked_arguments-binds.ensures ds binds) ∙ asked_place o c.args.wanted.arrows (binds_arguments ds (scope_mark (label_of u).marks) (kind_of u)) c.args.place (kind_of u) (label_of u) (fields_of u) i (plain_field c.field-item.result) wanted.arrows) in
     let item = c.in-Some-find_in_field.ensures ds (ups i) wanted binds here sees in
-    let there : first_in_field o ds (ups i) (qs i (plain_field c.field-item.result)) (plain_field c.field-item.result) ≡ Some (plain_found c.in-Some-find_in_field.found) = subst (λ (q : ArrowPlace). first_in_field o ds (ups i) q (plain_field c.field-item.result) ≡ Some (plain_found c.in-Some-find_in_field.found)) inside (sym item) in
+    let there : first_in_field o ds (ups i) (qs i (plain_field c.field-item.result)) (plain_field c.field-item.result) ≡ Some (plain_found c.in-Some-find_in_field.found) = subst (λ (q : NodePlace). first_in_field o ds (ups i) q (plain_field c.field-item.result) ≡ Some (plain_found c.in-Some-find_in_field.found)) inside (sym item) in
     let found : first_in_fields o ds ups qs (fields (map plain_field xs)) ≡ Some (plain_found c.in-Some-find_in_field.found) =
     field_found o ds ups qs xs i c.field-item.result (plain_found c.in-Some-find_in_field.found) c.loop-index-test.true c.field-item.is (c.loop-index.invariant ds up wanted binds at seen) there in
     found_below o ds up c.args.place u (Some (plain_found c.in-Some-find_in_field.found)) (c.in_default.ensures o ds up wanted at (own_looks_up s ds up u seen)) (ap (first_in_fields o ds ups qs) same ∙ found)
@@ -71,9 +72,9 @@ find_in-loop-index-preserved t c = λ ds up wanted binds at seen.
     let below : LooksUpInFields s ds ups (fields (map plain_field xs)) = subst (LooksUpInFields s ds ups) same (below_look_up s ds up u seen) in
     let sees : LooksUpInField s ds (ups i) (plain_field c.field-item.result) = field_looks_up s ds ups xs i c.field-item.result c.loop-index-test.true c.field-item.is below in
     let qs = own_places o ds up c.args.place u in
-    let inside : c.inside-inside.result ≡ qs i (plain_field c.field-item.result) = c.inside-inside.ensures ∙ (ap (λ (b : Bool). arrow_place_in o b c.args.place (kind_of u) (label_of u) (fields_of u) i (plain_field c.field-item.result)) (c.asked_arguments-binds.ensures ds binds) ∙ asked_place o c.args.wanted.arrows (binds_arguments ds (scope_mark (label_of u).marks) (kind_of u)) c.args.place (kind_of u) (label_of u) (fields_of u) i (plain_field c.field-item.result) wanted.arrows) in
+    let inside : c.inside-inside.result ≡ qs i (plain_field c.field-item.result) = c.inside-inside.ensures ∙ (ap (λ (b : Bool). node_place_in o b c.args.place (kind_of u) (label_of u) (fields_of u) i (plain_field c.field-item.result)) (c.asked_arguments-binds.ensures ds binds) ∙ asked_place o c.args.wanted.arrows (binds_arguments ds (scope_mark (label_of u).marks) (kind_of u)) c.args.place (kind_of u) (label_of u) (fields_of u) i (plain_field c.field-item.result) wanted.arrows) in
     let item = c.in_default-find_in_field.ensures ds (ups i) wanted binds here sees in
-    let there : first_in_field o ds (ups i) (qs i (plain_field c.field-item.result)) (plain_field c.field-item.result) ≡ None = subst (λ (q : ArrowPlace). first_in_field o ds (ups i) q (plain_field c.field-item.result) ≡ None) inside (sym item) in
+    let there : first_in_field o ds (ups i) (qs i (plain_field c.field-item.result)) (plain_field c.field-item.result) ≡ None = subst (λ (q : NodePlace). first_in_field o ds (ups i) q (plain_field c.field-item.result) ≡ None) inside (sym item) in
     no_field_further o ds ups qs xs i c.field-item.result c.loop-index-test.true c.field-item.is (c.loop-index.invariant ds up wanted binds at seen) there
 
 pub find_in-returns : goal.find_in-returns

@@ -2,7 +2,7 @@ use Rattle.std.proofs.Common.{◌≡◌, [], ◌∷◌, option_map, subst, sym, 
 use Rattle.es_semantic.specs.SymbolsOf.{symbols_of}
 use Rattle.es_unsupported.specs.MarkedWalk.{first_at}
 use Rattle.es_unsupported.specs.Shapes.{plain_found}
-use Rattle.es_unsupported.specs.declared.arrow_places.ArrowPlace.{ArrowPlace}
+use Rattle.es_unsupported.specs.declared.node_places.NodePlace.{NodePlace}
 use Rattle.es_unsupported.proofs.Programs.{none_wanted, program_binds, program_first, program_known, program_looks_up}
 use Rattle.es_unsupported.proofs.finding.find_unsupported.Goals as goal
 
@@ -18,5 +18,5 @@ pub returns : goal.returns
 returns c = record {
   first = λ p built.
       let q = c.args.program.now in let s = c.args.scoping.now in let ds = symbols_of p in
-      subst (λ (a : ArrowPlace). option_map plain_found c.find_in.result ≡ first_at c.args.options.now ds (0 ∷ []) a q) c.outside-place.ensures (c.find_in.ensures ds (0 ∷ []) (c.of_program-wanted.ensures ds (program_binds p q s built)) (program_binds p q s built) c.root_scope_id.ensures.zero (program_looks_up p q s built)) ∙ program_first c.args.options.now p q s built;
+      subst (λ (a : NodePlace). option_map plain_found c.find_in.result ≡ first_at c.args.options.now ds (0 ∷ []) a q) c.of_program-place.ensures (c.find_in.ensures ds (0 ∷ []) (c.of_program-wanted.ensures ds (program_binds p q s built)) (program_binds p q s built) c.root_scope_id.ensures.zero (program_looks_up p q s built)) ∙ program_first c.args.options.now p q s built;
 }

@@ -25,10 +25,18 @@ returns c = record {
   property_parameter = record { formed = refl; first = λ o. refl };
   rest_default = record { formed = refl; first = λ o. refl };
   rest_head = record { formed = refl; first = λ o. refl };
+  array_declared = record { formed = refl; first = λ o. refl };
   rest_in_array = record { formed = refl; first = λ o. refl };
   property_in_array = record { formed = refl; first = λ o. refl };
   rest_nested = record { formed = refl; first = λ o. refl };
+  target_nested = record { formed = refl; first = λ o. refl };
+  rest_assigned = record { formed = refl; first = λ o. refl };
+  target_default = record { formed = refl; first = λ o. refl };
+  parameter_default = record { formed = refl; first = λ o. refl };
   bound_helper = record { formed = refl; first = λ o. refl };
+  bound_target = record { formed = refl; first = λ o. refl };
+  bound_nested = record { formed = refl; first = λ o. refl };
+  bound_elsewhere = record { formed = refl; first = λ o. refl };
   using_head = record { formed = refl; first = λ o. refl };
   using_function = record { formed = refl; first = λ o. refl };
   using_declared = record { formed = refl; first = λ o. refl };

@@ -1,4 +1,4 @@
-use Rattle.es_unsupported.proofs.Built.{law_strays_taken_proof}
+use Rattle.es_unsupported.proofs.StraysTaken.{law_strays_taken_proof}
 use Rattle.es_unsupported.proofs.laws.law_strays_taken.Goals as goal
 
 pub returns : goal.returns
