@@ -1,9 +1,10 @@
--- THE KEYS THAT AN OBJECT REST LEAVES OUT (ECMA-262, 14.3.3) stand in a list that the helper gets. Below the scope of the program, where it may be
+-- THE KEYS THAT AN OBJECT REST LEAVES OUT (ECMA-262, 14.3.3 and 13.15.5, excludedNames; 7.3.26, excludedItems) stand in a list that the helper gets. Below the scope of the program, where it may be
 -- called again and again, the list is made once, as a constant of the program: `function f(_ref) { let { a } = _ref, b =
 -- babelHelpers.objectWithoutProperties(_ref, ["a"]); }` becomes `const _excluded = ["a"]; function f(_ref) { let { a } = _ref, b =
 -- babelHelpers.objectWithoutProperties(_ref, _excluded); }`. A list in which a key is read stays where it is.
 use Rattle.std.specs.Prelude.{◌≡◌, ℕ, zero, suc, List, [], ◌∷◌, ◌++◌, Bool, true, false, ◌&&◌, ◌||◌, not, Option, Some, bytes_eq, codes, is_some}
 use Rattle.es_tree.specs.Bare.{bare}
+use Rattle.es_tree.specs.Constructs.{is_object_rest}
 use Rattle.es_tree.specs.Fresh.{IsFreshName, also}
 use Rattle.es_tree.specs.Names.{first_text, flag_at}
 use Rattle.es_tree.specs.Tree.{Tree, node, Label, Fields, done, ◌then◌, Field, missing, one, many, statements, Trees, empty, ◌before◌}
@@ -16,7 +17,6 @@ use Rattle.es_tree.specs.declared.helper.Helper.TheVariants.{ObjectWithoutProper
 use Rattle.es_tree.specs.declared.options.EnvOptions.{EnvOptions}
 use Rattle.es_semantic.specs.Places.{is_inside, makes_scope}
 use Rattle.es_resolution.specs.Declarations.{Bound}
-use Rattle.es_rest_shapes.specs.RestShapes.{is_rest_declaration}
 use Rattle.es_steps.specs.Nodes.{identifier}
 use Rattle.es_helper_calls.specs.HelperCalls.{helper_of}
 use Rattle.es_helper_calls.specs.TextLists.{is_text_list}
@@ -77,7 +77,8 @@ pub record SharesTo (in_use : Text → Bool) (p q : Tree) (names : List Text) : 
   pub shares : Shares false p (unmarked names) lists shared
   pub written : bare q ≡ bare (with_constants (constants_of (unmarked names) lists) shared)
 
--- WHEN: an object rest is lowered, and the program itself (before any step) names no `babelHelpers`: then each such call is one that was made for a rest.
+-- WHEN: an object rest is lowered, and no identifier of the source is `babelHelpers`, a key or a label neither: then each such call is one that was made
+-- for a rest.
 abbrev pub names_helpers : AstType → Label → Fields → Bool
 names_helpers Identifier l fs = bytes_eq (first_text l.texts) (codes "babelHelpers")
 names_helpers k l fs = false
@@ -86,4 +87,4 @@ abbrev pub names_itself : Tree → Bool
 names_itself p = any_node names_helpers p
 
 abbrev pub shares_keys : EnvOptions → Bool → Tree → Bool
-shares_keys o named p = is_some o.es2018.object_rest_spread && (any_node is_rest_declaration p && not named)
+shares_keys o named p = is_some o.es2018.object_rest_spread && (not named && any_node is_object_rest p)

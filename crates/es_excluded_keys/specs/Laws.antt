@@ -42,6 +42,6 @@ LawKeysShared = (p q : Tree) (names : List Text) → has_form s-Program p ≡ tr
 abbrev pub LawNoConstructs : Type 0
 LawNoConstructs = (o : EnvOptions) (in_use : Text → Bool) (p q : Tree) (names : List Text) → SharesTo in_use p q names → has_enabled_construct o p ≡ false → has_enabled_construct o q ≡ false
 
--- and at most half as many nodes more.
+-- and at most half as many nodes more, and one.
 abbrev pub LawSharedSize : Type 0
 LawSharedSize = (in_use : Text → Bool) (p q : Tree) (names : List Text) → SharesTo in_use p q names → 2 * tree_size q ≤ 3 * tree_size p + 2

@@ -4,6 +4,7 @@ use Rattle.std.specs.Option.{option_or}
 use Rattle.es_tree.specs.Constructs.{is_object_spread}
 use Rattle.es_tree.specs.Names.{first_text}
 use Rattle.es_tree.specs.Options.{is_external}
+use Rattle.es_tree.specs.RestTargets.{is_rest_assignment}
 use Rattle.es_tree.specs.Tree.{Tree, Label, Fields, label_of}
 use Rattle.es_tree.specs.Walks.{any_node, first_node}
 use Rattle.es_tree.specs.declared.ast_type.AstType.{AstType}
@@ -14,9 +15,10 @@ use Rattle.es_semantic.specs.SymbolsOf.{find, symbols_of}
 use Rattle.es_rest_shapes.specs.RestShapes.{is_rest_declaration}
 use Rattle.es_helper_calls.specs.HelperCalls.{used_helper}
 
--- a node for which a helper copies: an object literal with a spread (ECMA-262, 13.2.5), or a declaration of an object rest (14.3.3)
+-- a node for which a helper copies: an object literal with a spread (ECMA-262, 13.2.5), a declaration of an object rest (14.3.3), or an assignment to one
+-- (13.15.5)
 abbrev pub needs_helper : AstType → Label → Fields → Bool
-needs_helper k l fs = is_object_spread k l fs || is_rest_declaration k l fs
+needs_helper k l fs = is_object_spread k l fs || is_rest_declaration k l fs || is_rest_assignment k l fs
 
 -- a call of a helper, or one that hands one on
 abbrev pub uses_helper : AstType → Label → Fields → Bool

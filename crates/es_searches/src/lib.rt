@@ -9,8 +9,7 @@ ghost use Rattle.es_excluded_keys.specs.ExcludedKeys.{names_helpers};
 ghost use Rattle.es_searches.specs.Searches.{is_sought};
 ghost use Rattle.es_super_calls.specs.Constructors.{is_derived_class};
 
-use es_nodes::construct::is_using;
-use es_rest_nodes::strays::is_rest_declaration;
+use es_nodes::construct::{is_object_rest, is_using};
 use es_tree::kind::Kind;
 use es_tree::node::{Field, Node};
 
@@ -21,8 +20,8 @@ pub enum Sought {
     Using,
     /// A class that extends another.
     DerivedClass,
-    /// A declaration of an object rest.
-    RestDeclaration,
+    /// An object pattern with a rest.
+    ObjectRest,
     /// A name `babelHelpers`.
     HelpersName,
 }
@@ -68,7 +67,7 @@ fn is_sought(node: &Node, sought: Sought) -> bool
     match sought {
         Sought::Using => is_using(node),
         Sought::DerivedClass => is_derived_class(node),
-        Sought::RestDeclaration => is_rest_declaration(node),
+        Sought::ObjectRest => is_object_rest(node),
         Sought::HelpersName => names_helpers(node),
     }
 }

@@ -1,15 +1,16 @@
 -- Loads: a part weighs no more than its load, and what the places of fields may take is a node's own allowance.
-use Rattle.std.proofs.Common.{◌≡◌, ◌≤◌, ◌<◌, ◌+◌, ◌*◌, refl, sym, ap, arith, ℕ, zero, suc, length, List, [], ◌∷◌, get_or, set, Bool, true, false, true≢false}
+use Rattle.std.proofs.Common.{◌≡◌, ◌≤◌, ◌<◌, ◌+◌, ◌*◌, refl, sym, ap, arith, ℕ, zero, suc, length, List, [], ◌∷◌, get_or, set, Bool, true, false, if◌then◌else◌, true≢false}
+use Rattle.es_tree.specs.Constructs.{any_kind, is_rest}
 use Rattle.es_tree.specs.Tree.{Tree, node, Label, Fields, done, ◌then◌, Field, missing, one, many, statements, Trees, empty, ◌before◌, field_size, fields_size, tree_size, trees_size}
 use Rattle.es_tree.specs.declared.ast_type.AstType.{AstType}
-use Rattle.es_tree.specs.declared.ast_type.AstType.TheVariants.{ArrowFunctionExpression, AssignmentExpression, AssignmentPattern, BinaryExpression, CatchClause, LogicalExpression, PatternProperty, PropertyDefinition, SpreadElement}
+use Rattle.es_tree.specs.declared.ast_type.AstType.TheVariants.{ArrowFunctionExpression, AssignmentExpression, AssignmentPattern, BinaryExpression, CatchClause, LogicalExpression, ObjectTarget, PatternProperty, PropertyDefinition, SpreadElement, TargetProperty, TargetRest}
 use Rattle.es_runs.specs.Weights.{own_weight, field_weight, fields_weight, trees_weight, weight}
 use Rattle.es_runs.proofs.Weights.{weight-size}
 use Rattle.es_steps.specs.Open.{is_body}
 use Rattle.es_visit.specs.declared.hook.Hook.{Hook}
 use Rattle.es_visit.specs.declared.hook.Hook.TheVariants.{Expression}
 use Rattle.es_visit.proofs.Calls.{is_of_kind}
-use Rattle.es_traverse.specs.Loads.{allowance, field_load, fields_load, load, own_allowance, parameter_allowance, trees_load, wrapping, wrapping_by, writing, writing_by}
+use Rattle.es_traverse.specs.Loads.{allowance, field_load, fields_allowance, fields_load, load, members_allowance, own_allowance, trees_load, wrapping, wrapping_by, writing, writing_by}
 use Rattle.es_traverse.specs.Sites.{is_arrow_body, is_slot_place, may_be_slot}
 use Rattle.es_traverse.specs.declared.site.Site.{Site as CodeSite}
 use Rattle.es_traverse.specs.declared.site.Site.TheVariants.{ArrowBody, Slot}
@@ -41,26 +42,43 @@ own-same BinaryExpression l fs gs = refl
 own-same AssignmentExpression l fs gs = refl
 own-same _ l fs gs = refl
 
-parameter-loaded : (fs : Fields) → parameter_allowance CatchClause fs ≤ 2
+parameter-loaded : (fs : Fields) → fields_allowance CatchClause fs ≤ 2
 parameter-loaded (missing then fs) = omega arith
 parameter-loaded (one t then fs) = omega arith
 parameter-loaded (many ts then fs) = omega arith
 parameter-loaded (statements ts then fs) = omega arith
 parameter-loaded done = omega arith
 
-own-loaded : (k : AstType) (l : Label) (fs : Fields) → own_weight k l fs + own_allowance k + parameter_allowance k fs ≤ 60
-own-loaded PropertyDefinition l fs = omega arith
-own-loaded AssignmentPattern l fs = omega arith
-own-loaded PatternProperty l fs = omega arith
-own-loaded ArrowFunctionExpression l fs = omega arith
-own-loaded SpreadElement l fs = omega arith
-own-loaded CatchClause l fs = omega (arith, parameter-loaded fs)
-own-loaded k l fs = omega (arith, weight-size (node k l done), own-same k l fs done)
+own-loaded : (k : AstType) (l : Label) (fs : Fields) → fields_allowance k fs ≤ 2 → own_weight k l fs + own_allowance k + fields_allowance k fs ≤ 60
+own-loaded PropertyDefinition l fs h = omega (arith, h)
+own-loaded AssignmentPattern l fs h = omega (arith, h)
+own-loaded PatternProperty l fs h = omega (arith, h)
+own-loaded ArrowFunctionExpression l fs h = omega (arith, h)
+own-loaded SpreadElement l fs h = omega (arith, h)
+own-loaded CatchClause l fs h = omega (arith, h)
+own-loaded k l fs h = omega (arith, weight-size (node k l done), own-same k l fs done, h)
+
+taken-apart : (b : Bool) (n : ℕ) → (if b then n else 0) ≤ n
+taken-apart true n = omega arith
+taken-apart false n = omega arith
 
 -- a tree has at most 61 times its number of nodes as its load
 mutual
   pub load-size : (t : Tree) → load t ≤ 61 * tree_size t
-  load-size (node k l fs) = omega (arith, own-loaded k l fs, load-size-in fs)
+  load-size (node CatchClause l fs) = omega (arith, own-loaded CatchClause l fs (parameter-loaded fs), load-size-in fs)
+  load-size (node ObjectTarget l (many ps then fs)) = omega (arith, taken-apart (any_kind is_rest ps) (members_allowance ps), load-size-members ps, load-size-in fs)
+  load-size (node ObjectTarget l (missing then fs)) = omega (arith, load-size-in fs)
+  load-size (node ObjectTarget l (one t then fs)) = omega (arith, load-size t, load-size-in fs)
+  load-size (node ObjectTarget l (statements ts then fs)) = omega (arith, load-size-among ts, load-size-in fs)
+  load-size (node ObjectTarget l done) = omega arith
+  load-size (node k l fs) = omega (arith, own-loaded k l fs (omega arith), load-size-in fs)
+
+  -- with what the members of a pattern may take
+  load-size-members : (ts : Trees) → trees_load ts + members_allowance ts ≤ 61 * trees_size ts
+  load-size-members empty = omega arith
+  load-size-members (node TargetProperty l fs before ts) = omega (arith, load-size-in fs, load-size-members ts)
+  load-size-members (node TargetRest l fs before ts) = omega (arith, load-size-in fs, load-size-members ts)
+  load-size-members (node k l fs before ts) = omega (arith, load-size (node k l fs), load-size-members ts)
 
   pub load-size-in : (fs : Fields) → fields_load fs ≤ 61 * fields_size fs
   load-size-in done = omega arith

@@ -18,12 +18,13 @@ use Rattle.es_semantic.specs.SymbolsOf.{Declared, find, symbols_of}
 use Rattle.es_semantic.proofs.CoreSymbols.{core-symbols}
 use Rattle.es_valid_steps.specs.ArrowNodes.{is_arrow_accessor}
 use Rattle.es_valid_arrows.specs.ArrowPlaces.{is_wrapped_slot}
+use Rattle.es_conditions.specs.CoreConditions.{is_copied}
 use Rattle.es_rest_shapes.specs.HelperNames.{binds_helpers}
 use Rattle.es_rest_shapes.specs.RestShapes.{is_rest_declaration}
 use Rattle.es_rest_shapes.proofs.NoneLeft.{declaration-rest}
-use Rattle.es_unsupported.specs.ArrowShapes.{outside}
 use Rattle.es_unsupported.specs.FirstUnsupported.{first_of, first_unsupported}
 use Rattle.es_chain_tags.specs.ChainTags.{has_chain_tag}
+use Rattle.es_unsupported.specs.NodePlaces.{program_place}
 use Rattle.es_unsupported.specs.Shapes.{is_unbuilt_node, shape_at}
 use Rattle.es_unsupported.specs.SpreadLiterals.{has_uncopied}
 use Rattle.es_unsupported.proofs.QuietStrays.{holds_stray-none}
@@ -68,6 +69,11 @@ no_literal : (k : AstType) (l : Label) (fs : Fields) → is_asked k l fs ≡ fal
 no_literal ObjectExpression l fs h = absurd (cc h)
 no_literal _ l fs h = refl
 
+no_copy : (k : AstType) (l : Label) (fs : Fields) → is_asked k l fs ≡ false → is_copied k l fs ≡ false
+no_copy ObjectExpression l fs h = absurd (cc h)
+no_copy ObjectTarget l fs h = absurd (cc h)
+no_copy _ l fs h = refl
+
 no_using : (k : AstType) (l : Label) (fs : Fields) → is_asked k l fs ≡ false → is_using k l fs ≡ false
 no_using VariableDeclaration l fs h = absurd (cc h)
 no_using _ l fs h = refl
@@ -111,8 +117,8 @@ both_off false b = off b
 no_rest_inside : (fs : Fields) → any_in_fields is_asked fs ≡ false → any_in_fields is_object_rest fs ≡ false
 no_rest_inside = fewer-in-fields is_object_rest is_asked no_rest
 
-no_helper : (by_name spread bound declared binds : Bool) → spread ≡ false → declared ≡ false → (by_name && ((spread && bound) || (declared && binds))) ≡ false
-no_helper by_name spread bound declared binds h g = rw (h, g) (off by_name)
+no_helper : (by_name copied bound declared binds : Bool) → copied ≡ false → declared ≡ false → (by_name && ((copied && bound) || (declared && binds))) ≡ false
+no_helper by_name copied bound declared binds h g = rw (h, g) (off by_name)
 
 -- nor a declaration with `using`
 no_using_inside : (fs : Fields) → any_in_fields is_asked fs ≡ false → any_in_fields is_using fs ≡ false
@@ -134,7 +140,7 @@ module _ (o : EnvOptions) where
       rw (
         built k l fs h none,
         unbound o.es2016.exponentiation_operator (is_exponentiation k l fs) (is_some (find [] up (codes "Math"))) (ap is_some (found_nowhere up (codes "Math"))),
-        no_helper (is_some o.es2018.object_rest_spread) (is_object_spread k l fs) (is_some (find [] up (codes "babelHelpers"))) (is_rest_declaration k l fs) (binds_helpers []) (no_literal k l fs h) (declaration-rest k l fs none),
+        no_helper (is_some o.es2018.object_rest_spread) (is_copied k l fs) (is_some (find [] up (codes "babelHelpers"))) (is_rest_declaration k l fs) (binds_helpers []) (no_copy k l fs h) (declaration-rest k l fs none),
         ap (λ b. is_some o.es2018.object_rest_spread && (b && has_uncopied (field_at 0 fs))) (no_literal k l fs h) ∙ off (is_some o.es2018.object_rest_spread),
         ap (λ b. o.es2020.optional_chaining && b) (no_tag k l fs h) ∙ off o.es2020.optional_chaining,
         last_off o.es2026.explicit_resource_management (asks_its_name k l fs) (asks-none k l fs used),
@@ -163,11 +169,11 @@ generated-symbols n = rw (generated-declares n) at (core-symbols (generated n) (
 generated-taken : (o : EnvOptions) (n : ℕ) → first_unsupported o (generated n) ≡ None
 generated-taken o n =
     let p = generated n in
-    let none = none-of o [] is_asked (no_shape o)
+    let none = none-of o [] is_asked (no_shape o) (λ k l fs h. last_off (is_some o.es2018.object_rest_spread) (is_object_rest k l fs) (no_rest k l fs h))
     (λ on k l fs g. let h = or_first (is_asked k l fs) (any_in_fields is_asked fs) g in (no_accessor k l fs h, no_arrow k l fs h))
     (λ k l fs parameter i f h g. no_slot o k l fs parameter i f h)
-    (outermost p) outside 1 p (generated-plain n) (λ on. (refl, refl)) in
-    ap (λ (ds : List Declared). first_of o ds (outermost p) outside 1 p) (generated-symbols n) ∙ none
+    (outermost p) program_place 1 p (generated-plain n) (λ on. (refl, refl)) in
+    ap (λ (ds : List Declared). first_of o ds (outermost p) program_place 1 p) (generated-symbols n) ∙ none
 
 -- and no `using` is lowered there, no pattern moves, nor is a helper imported
 pub generated-finds : (o : EnvOptions) (n : ℕ) → Finds o (generated n) None

@@ -5,6 +5,7 @@ use Rattle.es_tree.specs.Bare.{bare}
 use Rattle.es_tree.specs.Constructs.{any_kind, has_enabled_construct, is_arrow, is_object_rest, is_rest}
 use Rattle.es_tree.specs.HasForm.{has_form}
 use Rattle.es_tree.specs.StaticRules.{breaks}
+use Rattle.es_tree.specs.RestTargets.{is_rest_assignment}
 use Rattle.es_tree.specs.Tree.{Tree, node, Label, Fields, done, ◌then◌, missing, one, many, statements, Trees, empty, ◌before◌, fields_size, kind_of, tree_size, trees_size}
 use Rattle.es_tree.specs.Walks.{any_node}
 use Rattle.es_tree.specs.Words.{Text}
@@ -28,14 +29,15 @@ use Rattle.es_steps.specs.Steps.Steps.{stays}
 use Rattle.es_changes.specs.Moments.{whole_at}
 use Rattle.es_reached.specs.Reached.{IsResult, built_rules}
 use Rattle.es_reached.specs.Walks.{is_other_construct}
-use Rattle.es_reached.proofs.FreeSteps.{law_no_rests_proof}
+use Rattle.es_reached.proofs.FreeSteps.{law_no_declared_rests_proof}
 use Rattle.es_reached.proofs.Results.{law_core_result_proof, law_result_proof, program-kind}
 use Rattle.es_reached.proofs.Sources.{law_bare_seen_proof, law_bare_source_proof}
 use Rattle.es_rest_shapes.specs.RestShapes.{bears_second, is_misplaced, is_rest_declaration, is_stray_rest, reads_key}
-use Rattle.es_rest_shapes.proofs.NoneLeft.{law_none_left_proof}
+use Rattle.es_rest_shapes.proofs.NoneLeft.{law_declared_rests_proof, law_none_left_proof}
 use Rattle.es_rest_rows.specs.Laws.{is_other_construct as rest_others}
 use Rattle.es_rest_rows.specs.RestRows.{RestWalkRow}
 use Rattle.es_rest_rows.proofs.RestsMakeNone.{law_rests_make_none_proof}
+use Rattle.es_rest_rows.proofs.DeclaredRests.{law_none_declared_proof}
 use Rattle.es_rest_rows.proofs.StraySteps.{law_strays_not_made_proof}
 use Rattle.es_lowered.specs.Lowered.{IsLowered}
 use Rattle.es_lowered.proofs.Idle.{law_idle_proof}
@@ -46,7 +48,7 @@ use Rattle.es_statement_steps.proofs.Results.{law_statement_result_proof}
 use Rattle.es_top_names.proofs.SameSort.{law_same_sort_proof}
 use Rattle.es_unsupported.specs.FirstUnsupported.{first_unsupported}
 use Rattle.es_unsupported.proofs.ArrowsTaken.{law_arrows_taken_proof}
-use Rattle.es_unsupported.proofs.Built.{law_strays_taken_proof}
+use Rattle.es_unsupported.proofs.StraysTaken.{law_strays_taken_proof}
 use Rattle.es_unsupported.proofs.HelpersFree.{law_helpers_free_proof}
 use Rattle.lower_nodes.specs.Nodes.{PaidTree, WalkedProgram, owed, owed_among, owed_in}
 use Rattle.lower_object_rest.specs.Profile.{key_ids, key_ids_by, nested_ids, nested_ids_by, nested_ids_of, profile_where, rest_owes}
@@ -60,7 +62,7 @@ use Rattle.es_helper_imports.proofs.BareConstructs.{same-constructs}
 use Rattle.lower_driver.proofs.CoreNodes.{no-rest}
 use Rattle.lower_driver.proofs.CopiedOptions.{copied-enabled, copied-reached, copied-unsupported}
 use Rattle.lower_driver.proofs.InOrder.{anyhow}
-use Rattle.lower_driver.proofs.NoneLeft.{none-beside-rests, none-enabled, none-with-rests}
+use Rattle.lower_driver.proofs.NoneLeft.{none-assigned, none-beside-rests, none-enabled, none-with-rests}
 use Rattle.lower_driver.proofs.NoneUnsupported.{none-unsupported}
 use Rattle.lower_driver.proofs.Untagged.{tags-are-no-chains}
 use Rattle.lower_driver.proofs.Visits.{Arrived, names-bound}
@@ -198,22 +200,26 @@ module _ (o c : EnvOptions) (copy : IsCopy o c) (p : Tree) (form : has_form s-Pr
   arrived-form : (z : Program) (ctx : TraverseCtx TransformState) → Arrived c p start z ctx → has_form s-Program (plain_program z) ≡ true
   arrived-form z ctx arrived = (result-so z ctx (reached-so z ctx arrived.steps)).form
 
-  -- WHERE NO REST IS TAKEN
+  -- WHERE NO DECLARED REST IS TAKEN
 
   ends : (z : Program) (ctx : TraverseCtx TransformState) → Steps (Step (in_order c) the_program) (nothing_beside (first_whole p)) (opened (source p)) (nothing_beside (whole_at (moment_of ctx))) (opened (seen names (plain_program z))) →
       any_node (is_other_construct c) (seen names (plain_program z)) ≡ false → (is_some c.es2015.arrow_function && any_node is_arrow (seen names (plain_program z))) ≡ false → (is_some c.es2018.object_rest_spread && any_node is_object_rest (seen names (plain_program z))) ≡ false →
-      tree_size (plain_program z) ≤ 31 * tree_size p → rests_there o p ≡ false → LowersInPlace o p (plain_program z) (made_of ctx)
-  ends z ctx steps other arrows rests size none =
+      tree_size (plain_program z) ≤ 31 * tree_size p → LowersInPlace o p (plain_program z) (made_of ctx)
+  ends z ctx steps other arrows rests size =
       let becomes = result-so z ctx (reached-so z ctx steps) in
       let there = seen names (plain_program z) in
       record {
         result = law_lowered_alone_proof o p (plain_program z) (made_of ctx) becomes;
         none = sym (copied-enabled o c copy (plain_program z)) ∙ same-constructs c there (plain_program z) (sym (law_bare_seen_proof names (plain_program z))) ∙ none-enabled c there other rests arrows;
         core = λ core. law_core_result_proof o p (plain_program z) (made_of ctx) core right becomes;
-        statements = λ no_rests runs. law_statement_result_proof o p (plain_program z) there (made_of ctx) runs (tags-are-no-chains o p taken_so) (ordered-so z ctx steps) (law_bare_seen_proof names (plain_program z));
-        importing = λ no_rests class m imported last runs require goes. law_importing_result_proof o m p (plain_program z) imported there (made_of ctx) last class (tags-are-no-chains o p taken_so) runs becomes (ordered-so z ctx steps) (law_bare_seen_proof names (plain_program z)) (law_same_sort_proof o p (plain_program z) (made_of ctx) form right (law_lowered_alone_proof o p (plain_program z) (made_of ctx) becomes)) require goes;
-        size = rw none (omega (arith, size));
+        statements = λ no_rests runs. law_statement_result_proof o p (plain_program z) there (made_of ctx) runs (tags-are-no-chains o p taken_so) no_rests (ordered-so z ctx steps) (law_bare_seen_proof names (plain_program z));
+        importing = λ no_rests class m imported last runs require goes. law_importing_result_proof o m p (plain_program z) imported there (made_of ctx) last class (tags-are-no-chains o p taken_so) no_rests runs becomes (ordered-so z ctx steps) (law_bare_seen_proof names (plain_program z)) (law_same_sort_proof o p (plain_program z) (made_of ctx) form right (law_lowered_alone_proof o p (plain_program z) (made_of ctx) becomes)) require goes;
+        size = at (rests_there o p);
       }
+    where
+      at : (b : Bool) → tree_size (plain_program z) ≤ (if b then 372 else 64) * tree_size p
+      at true = omega (arith, size)
+      at false = omega (arith, size)
 
   module _ (z u : Program) (ctx d : TraverseCtx TransformState) (arrived : Arrived c p start z ctx) where
     abbrev there : Tree
@@ -232,7 +238,7 @@ module _ (o c : EnvOptions) (copy : IsCopy o c) (p : Tree) (form : has_form s-Pr
 
     module _ (on : is_some o.es2018.object_rest_spread ≡ true) (paid : PaidTree rest_owes (moment_of ctx) (plain_program z) (moment_of d) (plain_program u)) (walked : WalkedProgram (profile_where true) (moment_of ctx) there (moment_of d) last) where
       strays-source : any_node is_stray_rest p ≡ false
-      strays-source = law_strays_taken_proof o p on taken_so
+      strays-source = law_strays_taken_proof o p on form taken_so
 
       strays : any_node is_stray_rest there ≡ false
       strays = law_strays_not_made_proof o p there (made_of ctx) reached strays-source
@@ -240,12 +246,17 @@ module _ (o c : EnvOptions) (copy : IsCopy o c) (p : Tree) (form : has_form s-Pr
       walk : Steps (Step RestWalkRow the_program) (nothing_beside (whole_at (moment_of ctx))) (opened there) (nothing_beside (whole_at (moment_of d))) (opened last)
       walk = walked.steps formed strays
 
+      -- no assignment to a pattern with a rest is left
+      assigned : any_node is_rest_assignment there ≡ false
+      assigned = none-assigned c (sym same-on ∙ on) there (none-beside-rests c there arrived.other arrived.arrows)
+
       -- there is none
-      idles : any_node is_object_rest p ≡ false → LowersInPlace o p (plain_program u) (made_of d)
+      idles : any_node is_rest_declaration p ≡ false → LowersInPlace o p (plain_program u) (made_of d)
       idles none =
-          let free = law_no_rests_proof o p there (made_of ctx) reached none in
+          let free = law_no_declared_rests_proof o p there (made_of ctx) reached (law_none_declared_proof p (misplaced-program p (program-kind p form)) strays-source none) in
           let idle = law_idle_proof there last (whole_at (moment_of ctx)) (whole_at (moment_of d)) walk free in
           let same : last ≡ there = idle.0 in
+          let rests = law_none_left_proof last (misplaced-program last (ap kind_of same ∙ program-kind there formed)) (walked.clear formed strays) (walked.none formed strays) (ap (any_node is_rest_assignment) same ∙ assigned) in
           let size : tree_size (plain_program u) ≡ tree_size (plain_program z) = sym (size-seen names (plain_program u)) ∙ ap tree_size same ∙ size-seen names (plain_program z) in
           let small = arrived.size in
           ends u d
@@ -253,27 +264,27 @@ module _ (o c : EnvOptions) (copy : IsCopy o c) (p : Tree) (form : has_form s-Pr
           (subst (λ (w : Whole). Steps (Step (in_order c) the_program) (nothing_beside (first_whole p)) (opened (source p)) (nothing_beside w) (opened there)) (sym idle.1) arrived.steps))
           (ap (any_node (is_other_construct c)) same ∙ arrived.other)
           (ap (λ (t : Tree). is_some c.es2015.arrow_function && any_node is_arrow t) same ∙ arrived.arrows)
-          (off-second (is_some c.es2018.object_rest_spread) (any_node is_object_rest last) (ap (any_node is_object_rest) same ∙ free))
-          (omega (arith, size, small)) (off-second (is_some o.es2018.object_rest_spread) (any_node is_object_rest p) none)
+          (off-second (is_some c.es2018.object_rest_spread) (any_node is_object_rest last) rests)
+          (omega (arith, size, small))
 
-      module _ (has : any_node is_object_rest p ≡ true) where
-        declared : any_node is_rest_declaration p ≡ true
-        declared = at (any_node is_rest_declaration p) refl
+      module _ (declared : any_node is_rest_declaration p ≡ true) where
+        has : any_node is_object_rest p ≡ true
+        has = at (any_node is_object_rest p) refl
           where
-            at : (b : Bool) → any_node is_rest_declaration p ≡ b → b ≡ true
+            at : (b : Bool) → any_node is_object_rest p ≡ b → b ≡ true
             at true e = refl
-            at false e = absurd (true≢false (sym has ∙ law_none_left_proof p (misplaced-program p (program-kind p form)) strays-source e))
+            at false e = absurd (true≢false (sym declared ∙ law_declared_rests_proof p e))
 
         lowered : IsLowered o p (plain_program u) (made_of d)
         unfolding reached reached-so ordered-so
         lowered =
             law_lowered_proof o p (plain_program u) there last (made_of ctx) (made_of d) (whole_at (moment_of d)) form right (λ asked. law_arrows_taken_proof o p asked taken_so) on (law_helpers_free_proof o p on taken_so declared) reached walk (names-bound (whole_at (moment_of d)).free_symbol (made_of d)) (law_bare_seen_proof names (plain_program u))
 
-        none-last : any_node is_object_rest last ≡ false
-        none-last = law_none_left_proof last (misplaced-program last (program-kind last (form-alike last (plain_program u) (law_bare_seen_proof names (plain_program u)) lowered.result.form))) (walked.clear formed strays) (walked.none formed strays)
-
         others : any_node (rest_others c) last ≡ false
         others = law_rests_make_none_proof c there last (whole_at (moment_of ctx)) (whole_at (moment_of d)) walk (none-beside-rests c there arrived.other arrived.arrows)
+
+        none-last : any_node is_object_rest last ≡ false
+        none-last = law_none_left_proof last (misplaced-program last (program-kind last (form-alike last (plain_program u) (law_bare_seen_proof names (plain_program u)) lowered.result.form))) (walked.clear formed strays) (walked.none formed strays) (none-assigned c (sym same-on ∙ on) last others)
 
         takes : LowersInPlace o p (plain_program u) (made_of d)
         takes =
@@ -291,10 +302,10 @@ module _ (o c : EnvOptions) (copy : IsCopy o c) (p : Tree) (form : has_form s-Pr
               size = rw there-is (omega (arith, small, few, light, more));
             }
 
-    by-source : (on : is_some o.es2018.object_rest_spread ≡ true) → PaidTree rest_owes (moment_of ctx) (plain_program z) (moment_of d) (plain_program u) → WalkedProgram (profile_where true) (moment_of ctx) there (moment_of d) last → (b : Bool) → any_node is_object_rest p ≡ b →
+    by-source : (on : is_some o.es2018.object_rest_spread ≡ true) → PaidTree rest_owes (moment_of ctx) (plain_program z) (moment_of d) (plain_program u) → WalkedProgram (profile_where true) (moment_of ctx) there (moment_of d) last → (b : Bool) → any_node is_rest_declaration p ≡ b →
         LowersInPlace o p (plain_program u) (made_of d)
     by-source on paid walked false none = idles on paid walked none
-    by-source on paid walked true has = takes on paid walked has
+    by-source on paid walked true declared = takes on paid walked declared
 
     pub becomes : AreTaken (is_some c.es2018.object_rest_spread) ctx z d u → LowersInPlace o p (plain_program u) (made_of d)
     becomes rests = at (is_some c.es2018.object_rest_spread) refl
@@ -304,8 +315,8 @@ module _ (o c : EnvOptions) (copy : IsCopy o c) (p : Tree) (form : has_form s-Pr
             let same = rests.same off in
             subst (λ (w : Program). LowersInPlace o p (plain_program w) (made_of d)) (sym same.0)
             (subst (λ (e : TraverseCtx TransformState). LowersInPlace o p (plain_program z) (made_of e)) (sym same.1)
-            (ends z ctx arrived.steps arrived.other arrived.arrows (off-first (is_some c.es2018.object_rest_spread) (any_node is_object_rest there) off) arrived.size (off-first (is_some o.es2018.object_rest_spread) (any_node is_object_rest p) (same-on ∙ off))))
-        at true on = by-source (same-on ∙ on) (rests.paid on) (rests.taken on names) (any_node is_object_rest p) refl
+            (ends z ctx arrived.steps arrived.other arrived.arrows (off-first (is_some c.es2018.object_rest_spread) (any_node is_object_rest there) off) arrived.size))
+        at true on = by-source (same-on ∙ on) (rests.paid on) (rests.taken on names) (any_node is_rest_declaration p) refl
 
 -- A program in which no construct stands that the options ask to lower stays as it is.
 pub stays-in-place : (o : EnvOptions) (p : Tree) → has_form s-Program p ≡ true → breaks p ≡ [] → has_enabled_construct o p ≡ false → LowersInPlace o p p []
@@ -316,8 +327,8 @@ stays-in-place o p form right none =
       result = law_lowered_alone_proof o p p [] becomes;
       none = none;
       core = λ core. law_core_result_proof o p p [] core right becomes;
-      statements = λ no_rests runs. law_statement_result_proof o p p (source p) [] runs (tags-are-no-chains o p taken) (record { whole = first_whole p; steps = stays; made = refl }) (law_bare_source_proof p);
-      importing = λ no_rests class m imported last runs require goes. law_importing_result_proof o m p p imported (source p) [] last class (tags-are-no-chains o p taken) runs becomes (record { whole = first_whole p; steps = stays; made = refl }) (law_bare_source_proof p) refl require goes;
+      statements = λ no_rests runs. law_statement_result_proof o p p (source p) [] runs (tags-are-no-chains o p taken) no_rests (record { whole = first_whole p; steps = stays; made = refl }) (law_bare_source_proof p);
+      importing = λ no_rests class m imported last runs require goes. law_importing_result_proof o m p p imported (source p) [] last class (tags-are-no-chains o p taken) no_rests runs becomes (record { whole = first_whole p; steps = stays; made = refl }) (law_bare_source_proof p) refl require goes;
       size = at (rests_there o p);
     }
   where

@@ -6,6 +6,7 @@ use Rattle.es_tree.specs.Constructs.{has_enabled_construct, is_object_rest, is_o
 use Rattle.es_tree.specs.Core.{is_core_node}
 use Rattle.es_tree.specs.HasForm.{has_form}
 use Rattle.es_tree.specs.Options.{is_external}
+use Rattle.es_tree.specs.RestTargets.{is_rest_assignment}
 use Rattle.es_tree.specs.StaticRules.{breaks}
 use Rattle.es_tree.specs.Tree.{Tree, node, Label, Fields, done, ◌then◌, Field, missing, one, many, statements, Trees, empty, ◌before◌, tree_size}
 use Rattle.es_tree.specs.Walks.{all_nodes, any_in_field, any_in_fields, any_in_trees, any_node, first_in_field, first_in_fields, first_in_trees, first_node, or_later}
@@ -17,7 +18,7 @@ use Rattle.es_tree.specs.declared.options.EnvOptions.{EnvOptions}
 use Rattle.es_tree.specs.declared.table.Sort.TheVariants.{Program as s-Program}
 use Rattle.es_runs.proofs.Named.{or_both}
 use Rattle.es_rest_shapes.specs.RestShapes.{is_rest_declaration}
-use Rattle.es_rest_shapes.proofs.NoneLeft.{law_declared_rests_proof}
+use Rattle.es_rest_shapes.proofs.NoneLeft.{law_assigned_rests_proof, law_declared_rests_proof}
 use Rattle.es_helper_calls.specs.Importing.{asks_helper, binds_require, uses_helper, first_unimported, imports_helpers, is_module, needs_helper, unimported, unimported_where}
 use Rattle.es_helper_calls.specs.HelperCalls.{helpers_called}
 use Rattle.es_helper_imports.specs.Imported.{imported_as, unmarked}
@@ -43,8 +44,12 @@ use Rattle.lower_driver.proofs.Shared.{none-shared, shared-program, shared-requi
 
 -- WHERE NOTHING NEEDS A HELPER
 
+abbrev spread_or_declaration : AstType → Label → Fields → Bool
+spread_or_declaration k l fs = is_object_spread k l fs || is_rest_declaration k l fs
+
 none-needs : (p : Tree) → any_node is_object_spread p ≡ false → any_node is_object_rest p ≡ false → any_node needs_helper p ≡ false
-none-needs p spreads rests = none-of-tree is_object_spread is_rest_declaration needs_helper (λ k l fs. refl) p spreads (law_declared_rests_proof p rests)
+none-needs p spreads rests =
+    none-of-tree spread_or_declaration is_rest_assignment needs_helper (λ k l fs. refl) p (none-of-tree is_object_spread is_rest_declaration spread_or_declaration (λ k l fs. refl) p spreads (law_declared_rests_proof p rests)) (law_assigned_rests_proof p rests)
 
 -- a program in which no `using` was lowered and no object spread or rest is to be lowered imports none
 pub none-unimporting : (o : EnvOptions) (made : Bool) (p : Tree) → made ≡ false → (is_some o.es2018.object_rest_spread && any_node is_object_spread p) ≡ false → (is_some o.es2018.object_rest_spread && any_node is_object_rest p) ≡ false → imports_helpers o made p ≡ false

@@ -22,6 +22,8 @@ use Rattle.es_steps.specs.OptionalCatch.{CatchRule}
 use Rattle.es_steps.specs.OptionalCatch.CatchRule.{catches}
 use Rattle.es_steps.specs.OptionalChaining.{OptionalChainingRule}
 use Rattle.es_steps.specs.OptionalChaining.OptionalChainingRule.{as_callee, by_tests, in_delete}
+use Rattle.es_steps.specs.RestAssignments.{RestAssignmentRule}
+use Rattle.es_steps.specs.RestAssignments.RestAssignmentRule.{assigns}
 use Rattle.es_steps.specs.Rules.{Writing}
 use Rattle.es_steps.specs.Rules.Replacing.{replaces}
 use Rattle.es_steps.specs.Rules.Writing.{all_pending, body_declarators, declarators, insertions}
@@ -69,6 +71,9 @@ chaining-order no_all o n w bs t u (in_delete e1 e2 e3 d h) = refl
 raising-order : OrderedRow ExponentiationRule
 raising-order o n w bs t u (power f e1 e2 e3) = refl
 raising-order o n w bs t u (power_assignment f e1 e2 e3 d) = refl
+
+rest-order : OrderedRow RestAssignmentRule
+rest-order o n w bs t u (assigns e1 e2 e3 d e4 h) = refl
 
 catch-order : Ordered CatchRule
 catch-order o n s x s' y (catches fresh) = refl
@@ -121,7 +126,8 @@ visit-order o n s x s' y (inr (inr (inl (inl (inr b))))) =
     on-order o.es2020.optional_chaining (RowRule (OptionalChainingRule o.assumptions.no_document_all)) (row-order (OptionalChainingRule o.assumptions.no_document_all) (chaining-order o.assumptions.no_document_all)) o n s x s' y b
 visit-order o n s x s' y (inr (inr (inl (inr never)))) = absurd never
 visit-order o n s x s' y (inr (inr (inr (inl c)))) = on-order o.es2019.optional_catch_binding CatchRule catch-order o n s x s' y c
-visit-order o n s x s' y (inr (inr (inr (inr (inl r))))) = past-order o n x r.1
+visit-order o n s x s' y (inr (inr (inr (inr (inl (inl r)))))) = past-order o n x r.1
+visit-order o n s x s' y (inr (inr (inr (inr (inl (inr r)))))) = on-order (is_some o.es2018.object_rest_spread) (RowRule RestAssignmentRule) (row-order RestAssignmentRule rest-order) o n s x s' y r
 visit-order o n s x s' y (inr (inr (inr (inr (inr p))))) = on-order o.es2016.exponentiation_operator (RowRule ExponentiationRule) (row-order ExponentiationRule raising-order) o n s x s' y p
 
 pub whole-order : (o : EnvOptions) (n : Site) (s : Ledger) (x : Spot) (s' : Ledger) (y : Spot) → whole_rule (visit_profile o) (visit_ending o) n s x s' y → is_in_order o n x ≡ true
@@ -133,7 +139,8 @@ whole-order o n s x s' y (inr (inr (inr (inl (inl (inr never)))))) = absurd neve
 whole-order o n s x s' y (inr (inr (inr (inl (inr (inl e)))))) = on-order o.es2020.export_namespace_from NamespaceRule namespace-order o n s x s' y e
 whole-order o n s x s' y (inr (inr (inr (inl (inr (inr w)))))) = writing-order o n s x s' y w
 whole-order o n s x s' y (inr (inr (inr (inr (inl never))))) = absurd never
-whole-order o n s x s' y (inr (inr (inr (inr (inr (inl never)))))) = absurd never
+whole-order o n s x s' y (inr (inr (inr (inr (inr (inl (inl never))))))) = absurd never
+whole-order o n s x s' y (inr (inr (inr (inr (inr (inl (inr never))))))) = absurd never
 whole-order o n s x s' y (inr (inr (inr (inr (inr (inr never)))))) = absurd never
 
 -- What steps in order reach steps of the built rules do.

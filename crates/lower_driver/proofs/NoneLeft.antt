@@ -5,6 +5,7 @@ use Rattle.std.specs.Prelude.{Bool, true, false, ◌&&◌, ◌||◌, is_some}
 use Rattle.es_tree.specs.Attributes.{child_entries}
 use Rattle.es_tree.specs.Constructs.{has_enabled_construct, is_arrow, is_chain, is_enabled_construct, is_enabled_statement, is_exponentiation, is_logical_assignment, is_namespace_export, is_nullish_coalescing, is_object_rest, is_object_spread, is_optional_catch, is_using}
 use Rattle.es_tree.specs.HasForm.{is_of_sort, elements_of, match_option, has_form, elements_form, fields_form, trees_form}
+use Rattle.es_tree.specs.RestTargets.{is_rest_assignment}
 use Rattle.es_tree.specs.Tree.{Tree, node, Label, Fields, done, ◌then◌, Field, many, statements, Trees, empty, ◌before◌}
 use Rattle.es_tree.specs.Walks.{any_node, any_in_trees}
 use Rattle.es_tree.specs.declared.ast_type.AstType.{AstType}
@@ -26,8 +27,8 @@ use Rattle.es_runs.proofs.Named.{and_left, and_right, or_both, or_first, or_seco
 
 -- CONSTRUCTS THAT ARE NEITHER ARROWS NOR RESTS: the rows that a visit takes away, exports, and what isn't built
 
-regrouped : (a b c d e x s r u : Bool) → ((a || b || c || d || (r && s)) || (e || x || u)) ≡ (((d || b || c || e || (r && s) || a) || x) || u)
-regrouped a b c d e x s r u = grind arith
+regrouped : (a b c d e x s t u : Bool) → ((a || b || c || d || s || t) || (e || x || u)) ≡ (((d || b || c || e || s || t || a) || x) || u)
+regrouped a b c d e x s t u = grind arith
 
 module _ (o : EnvOptions) where
   abbrev built_or_export : AstType → Label → Fields → Bool
@@ -42,11 +43,14 @@ module _ (o : EnvOptions) where
   abbrev arrow_function : AstType → Label → Fields → Bool
   arrow_function k l fs = is_some o.es2015.arrow_function && is_arrow k l fs
 
+  abbrev others_or_rest : AstType → Label → Fields → Bool
+  others_or_rest k l fs = rest_others o k l fs || rest_pattern k l fs
+
   in-rows : (k : AstType) (l : Label) (fs : Fields) → is_other_construct o k l fs ≡ (built_or_export k l fs || using_declaration k l fs)
   in-rows k l fs =
       regrouped (o.es2016.exponentiation_operator && is_exponentiation k l fs) (o.es2020.nullish_coalescing_operator && is_nullish_coalescing k l fs) (o.es2020.optional_chaining && is_chain k l fs)
       (o.es2021.logical_assignment_operators && is_logical_assignment k l fs) (o.es2019.optional_catch_binding && is_optional_catch k l fs) (o.es2020.export_namespace_from && is_namespace_export k l fs)
-      (is_object_spread k l fs) (is_some o.es2018.object_rest_spread) (o.es2026.explicit_resource_management && is_using k l fs)
+      (is_some o.es2018.object_rest_spread && is_object_spread k l fs) (is_some o.es2018.object_rest_spread && is_rest_assignment k l fs) (o.es2026.explicit_resource_management && is_using k l fs)
 
   -- where none of these is left
   pub none-other : (t : Tree) → any_node (is_built_construct o) t ≡ false → any_node (is_lowered_export o) t ≡ false → (o.es2026.explicit_resource_management && any_node is_using t) ≡ false → any_node (is_other_construct o) t ≡ false
@@ -58,26 +62,37 @@ module _ (o : EnvOptions) where
   beside-rests : (k : AstType) (l : Label) (fs : Fields) → rest_others o k l fs ≡ (is_other_construct o k l fs || arrow_function k l fs)
   beside-rests k l fs =
       swapped (o.es2016.exponentiation_operator && is_exponentiation k l fs) (o.es2020.nullish_coalescing_operator && is_nullish_coalescing k l fs) (o.es2020.optional_chaining && is_chain k l fs)
-      (o.es2021.logical_assignment_operators && is_logical_assignment k l fs) (is_some o.es2018.object_rest_spread && is_object_spread k l fs) (arrow_function k l fs) (is_enabled_statement o k l fs)
+      (o.es2021.logical_assignment_operators && is_logical_assignment k l fs) (is_some o.es2018.object_rest_spread && is_object_spread k l fs) (is_some o.es2018.object_rest_spread && is_rest_assignment k l fs) (arrow_function k l fs) (is_enabled_statement o k l fs)
     where
-      swapped : (a b c d e f s : Bool) → (a || b || c || d || e || f || s) ≡ (((a || b || c || d || e) || s) || f)
-      swapped a b c d e f s = grind arith
+      swapped : (a b c d e g f s : Bool) → (a || b || c || d || e || g || f || s) ≡ (((a || b || c || d || e || g) || s) || f)
+      swapped a b c d e g f s = grind arith
 
   pub none-beside-rests : (t : Tree) → any_node (is_other_construct o) t ≡ false → (is_some o.es2015.arrow_function && any_node is_arrow t) ≡ false → any_node (rest_others o) t ≡ false
   none-beside-rests t other arrows = none-of-tree (is_other_construct o) arrow_function (rest_others o) beside-rests t other (any-where (is_some o.es2015.arrow_function) is_arrow t ∙ arrows)
 
-  -- and no object rest
-  in-all : (k : AstType) (l : Label) (fs : Fields) → is_enabled_construct o k l fs ≡ (rest_others o k l fs || rest_pattern k l fs)
-  in-all k l fs =
-      with-rests (o.es2016.exponentiation_operator && is_exponentiation k l fs) (o.es2020.nullish_coalescing_operator && is_nullish_coalescing k l fs) (o.es2020.optional_chaining && is_chain k l fs)
-      (o.es2021.logical_assignment_operators && is_logical_assignment k l fs) (is_some o.es2018.object_rest_spread) (is_object_spread k l fs) (is_object_rest k l fs) (arrow_function k l fs) (is_enabled_statement o k l fs)
+  -- and so no assignment to a pattern with a rest, where that is asked for
+  pub none-assigned : is_some o.es2018.object_rest_spread ≡ true → (t : Tree) → any_node (rest_others o) t ≡ false → any_node is_rest_assignment t ≡ false
+  none-assigned on = fewer-in-tree is_rest_assignment (rest_others o) (λ k l fs h.
+      picked (o.es2016.exponentiation_operator && is_exponentiation k l fs || o.es2020.nullish_coalescing_operator && is_nullish_coalescing k l fs || o.es2020.optional_chaining && is_chain k l fs
+      || o.es2021.logical_assignment_operators && is_logical_assignment k l fs || is_some o.es2018.object_rest_spread && is_object_spread k l fs) (is_some o.es2018.object_rest_spread) (is_rest_assignment k l fs) (arrow_function k l fs) (is_enabled_statement o k l fs) on h)
     where
-      with-rests : (a b c d e x y f s : Bool) → ((a || b || c || d || (e && (x || y)) || f) || s) ≡ ((a || b || c || d || (e && x) || f || s) || (e && y))
-      with-rests a b c d true x y f s = grind arith
-      with-rests a b c d false x y f s = grind arith
+      picked : (first asked assigned next last : Bool) → asked ≡ true → (first || (asked && assigned) || next || last) ≡ false → assigned ≡ false
+      picked first asked assigned next last on h = sym (ap (λ b. b && assigned) on) ∙ or_second first (asked && assigned) (or_first (first || (asked && assigned)) next (or_first (first || (asked && assigned) || next) last h))
+
+  -- and no object rest
+  in-all : (k : AstType) (l : Label) (fs : Fields) → (rest_others o k l fs || rest_pattern k l fs) ≡ false → is_enabled_construct o k l fs ≡ false
+  in-all k l fs h =
+      or_first (is_enabled_construct o k l fs) (is_some o.es2018.object_rest_spread && is_rest_assignment k l fs)
+      (sym (with-rests (o.es2016.exponentiation_operator && is_exponentiation k l fs) (o.es2020.nullish_coalescing_operator && is_nullish_coalescing k l fs) (o.es2020.optional_chaining && is_chain k l fs)
+      (o.es2021.logical_assignment_operators && is_logical_assignment k l fs) (is_some o.es2018.object_rest_spread) (is_object_spread k l fs) (is_rest_assignment k l fs) (is_object_rest k l fs) (arrow_function k l fs) (is_enabled_statement o k l fs)) ∙ h)
+    where
+      with-rests : (a b c d e x r y f s : Bool) → ((a || b || c || d || (e && x) || (e && r) || f || s) || (e && y)) ≡ (((a || b || c || d || (e && (x || y)) || f) || s) || (e && r))
+      with-rests a b c d true x r y f s = grind arith
+      with-rests a b c d false x r y f s = grind arith
 
   pub none-with-rests : (t : Tree) → any_node (rest_others o) t ≡ false → (is_some o.es2018.object_rest_spread && any_node is_object_rest t) ≡ false → has_enabled_construct o t ≡ false
-  none-with-rests t others rests = none-of-tree (rest_others o) rest_pattern (is_enabled_construct o) in-all t others (any-where (is_some o.es2018.object_rest_spread) is_object_rest t ∙ rests)
+  none-with-rests t others rests =
+      fewer-in-tree (is_enabled_construct o) others_or_rest in-all t (none-of-tree (rest_others o) rest_pattern others_or_rest (λ k l fs. refl) t others (any-where (is_some o.es2018.object_rest_spread) is_object_rest t ∙ rests))
 
   pub none-enabled : (t : Tree) → any_node (is_other_construct o) t ≡ false → (is_some o.es2018.object_rest_spread && any_node is_object_rest t) ≡ false → (is_some o.es2015.arrow_function && any_node is_arrow t) ≡ false → has_enabled_construct o t ≡ false
   none-enabled t other rests arrows = none-with-rests t (none-beside-rests t other arrows) rests
@@ -119,16 +134,18 @@ switched_off true = refl
 switched_off false = refl
 
 module _ (o : EnvOptions) where
-  none_of_six : (o.es2021.logical_assignment_operators && false || o.es2020.nullish_coalescing_operator && false || o.es2020.optional_chaining && false || o.es2019.optional_catch_binding && false || is_some o.es2018.object_rest_spread && false || o.es2016.exponentiation_operator && false) ≡ false
-  none_of_six = λ i.
+  none_of_rows :
+      (o.es2021.logical_assignment_operators && false || o.es2020.nullish_coalescing_operator && false || o.es2020.optional_chaining && false || o.es2019.optional_catch_binding && false || is_some o.es2018.object_rest_spread && false
+      || is_some o.es2018.object_rest_spread && false || o.es2016.exponentiation_operator && false) ≡ false
+  none_of_rows = λ i.
       switched_off o.es2021.logical_assignment_operators i || switched_off o.es2020.nullish_coalescing_operator i || switched_off o.es2020.optional_chaining i || switched_off o.es2019.optional_catch_binding i
-      || switched_off (is_some o.es2018.object_rest_spread) i || switched_off o.es2016.exponentiation_operator i
+      || switched_off (is_some o.es2018.object_rest_spread) i || switched_off (is_some o.es2018.object_rest_spread) i || switched_off o.es2016.exponentiation_operator i
 
   directive_clear : (t : Tree) → has_form s-Directive t ≡ true → any_node (is_lowered_construct o) t ≡ false
   directive_clear (node k l fs) h = at k fs (node_form s-Directive k l fs h).sort (node_form s-Directive k l fs h).children
     where
       at : (k : AstType) (fs : Fields) → is_of_sort s-Directive k ≡ true → ChildrenForm k l fs → any_node (is_lowered_construct o) (node k l fs) ≡ false
-      at Directive done sort children = or_both (is_lowered_construct o Directive l done) false none_of_six refl
+      at Directive done sort children = or_both (is_lowered_construct o Directive l done) false none_of_rows refl
       at Directive (f then fs) sort children = absurd (cc children)
       at _ fs sort children = absurd (cc sort)
 
@@ -153,5 +170,5 @@ module _ (o : EnvOptions) where
       let test = is_lowered_construct o in
       let formed : (trees_form s-Directive s-Directive ds && (trees_form s-Statement s-Statement ts && true)) ≡ true = (node_form s-Program k-Program l (many ds then (statements ts then done)) form).children in
       let front = directives_clear es (ap (trees_form s-Directive s-Directive) (ap first_list same) ∙ and_left (trees_form s-Directive s-Directive ds) (trees_form s-Statement s-Statement ts && true) formed) in
-      or_both (test k-Program m (many es then (statements us then done))) (any_in_trees test es || (any_in_trees test us || false)) none_of_six
+      or_both (test k-Program m (many es then (statements us then done))) (any_in_trees test es || (any_in_trees test us || false)) none_of_rows
       (or_both (any_in_trees test es) (any_in_trees test us || false) front (or_both (any_in_trees test us) false free refl))

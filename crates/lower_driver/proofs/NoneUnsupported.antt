@@ -16,13 +16,15 @@ use Rattle.es_runs.proofs.Named.{or_both, or_first, or_second}
 use Rattle.es_semantic.specs.Places.{outermost}
 use Rattle.es_semantic.specs.SymbolsOf.{Declared, find, symbols_of}
 use Rattle.es_steps.specs.Slots.{closes, holds, holds_field, holds_fields, holds_trees}
-use Rattle.es_steps.specs.WrapRule.{is_rest_target, is_wrapped_for, takes_for_target}
+use Rattle.es_tree.specs.RestTargets.{is_rest_target}
+use Rattle.es_steps.specs.WrapRule.{is_wrapped_for, takes_for_target}
 use Rattle.es_valid_steps.specs.ArrowNodes.{is_arrow_accessor, is_kind_within}
-use Rattle.es_unsupported.specs.ArrowShapes.{outside}
 use Rattle.es_unsupported.specs.FirstUnsupported.{first_unsupported}
 use Rattle.es_runs.specs.OptionalChaining.{is_chain_kind}
 use Rattle.es_chain_tags.specs.ChainTags.{has_chain_tag, is_chain_below}
+use Rattle.es_unsupported.specs.NodePlaces.{program_place}
 use Rattle.es_unsupported.specs.Shapes.{holds_stray, is_unbuilt_node, shape_at}
+use Rattle.es_conditions.specs.CoreConditions.{is_copied}
 use Rattle.es_rest_shapes.specs.HelperNames.{binds_helpers}
 use Rattle.es_rest_shapes.specs.RestShapes.{is_rest_declaration}
 use Rattle.es_rest_shapes.proofs.NoneLeft.{declaration-rest}
@@ -69,9 +71,13 @@ quiet-where : (on inside test : Bool) → (on && inside) ≡ false → (inside �
 quiet-where true inside test h f = f h
 quiet-where false inside test h f = refl
 
-neither-bound : (on spread bound declared binds : Bool) → (on && spread) ≡ false → (on && declared) ≡ false → (on && ((spread && bound) || (declared && binds))) ≡ false
-neither-bound true spread bound declared binds h g = rw (h, g) refl
-neither-bound false spread bound declared binds h g = refl
+in-either : (on spread rest : Bool) → (on && spread) ≡ false → (on && rest) ≡ false → (on && (spread || rest)) ≡ false
+in-either true spread rest h g = rw (h, g) refl
+in-either false spread rest h g = refl
+
+neither-bound : (on copied bound declared binds : Bool) → (on && copied) ≡ false → (on && declared) ≡ false → (on && ((copied && bound) || (declared && binds))) ≡ false
+neither-bound true copied bound declared binds h g = rw (h, g) refl
+neither-bound false copied bound declared binds h g = refl
 
 wrapped-none : (e power n c g logical assigns takes r target : Bool) → (e && power) ≡ false → n ≡ false → c ≡ false → (g && logical) ≡ false → (r && target) ≡ false → (n || c || (e && assigns && power) || (g && logical && takes) || (r && assigns && target)) ≡ false
 wrapped-none e power n c g logical assigns takes r target h1 h2 h3 h4 h5 = rw (h2, h3, with-middle e assigns power h1, with-more g logical takes h4, with-middle r assigns target h5) refl
@@ -199,11 +205,12 @@ module _ (o : EnvOptions) where
         let disposes = o.es2026.explicit_resource_management in
         let used = usings-in fs (or_second (is_enabled_construct o k l fs) (any_in_fields (is_enabled_construct o) fs) h) in
         let declared = quiet-where copies (any_in_fields is_object_rest fs) (is_rest_declaration k l fs) inside (declaration-rest k l fs) in
+        let copied = in-either copies (is_object_spread k l fs) (is_rest_target (one (node k l fs))) own.spread (no-rest-target (one (node k l fs)) h) in
         let built : is_unbuilt_node o k l fs ≡ false = rw (quiet-where copies (any_in_fields is_object_rest fs) (holds_stray k l fs) inside (holds_stray-none k l fs), own.using) refl in
         rw (
           built,
           with-more o.es2016.exponentiation_operator (is_exponentiation k l fs) (is_some (find ds up (codes "Math"))) own.power,
-          neither-bound copies (is_object_spread k l fs) (is_some (find ds up (codes "babelHelpers"))) (is_rest_declaration k l fs) (binds_helpers ds) own.spread declared,
+          neither-bound copies (is_copied k l fs) (is_some (find ds up (codes "babelHelpers"))) (is_rest_declaration k l fs) (binds_helpers ds) copied declared,
           in-both copies (is_object_spread k l fs) (has_uncopied (field_at 0 fs)) own.spread,
           tag,
           quiet-where disposes (any_in_fields is_using fs) (asks_its_name k l fs) used (asks-none k l fs),
@@ -213,7 +220,7 @@ module _ (o : EnvOptions) where
 pub none-unsupported : (o : EnvOptions) (p : Tree) → has_enabled_construct o p ≡ false → first_unsupported o p ≡ None
 none-unsupported o p h =
     let test = is_enabled_construct o in
-    none-of o (symbols_of p) test (no-shape o (symbols_of p))
+    none-of o (symbols_of p) test (no-shape o (symbols_of p)) (own-rest-off o)
     (λ on k l fs g. (no-accessor o on k l fs (or_second (test k l fs) (any_in_fields test fs) g), no-arrow o on k l fs (or_first (test k l fs) (any_in_fields test fs) g)))
     (λ k l fs parameter i f g none. last-off _ (holds_field (is_wrapped_for o) f) (holds-none-by o f none))
-    (outermost p) outside 1 p h (λ on. (refl, refl))
+    (outermost p) program_place 1 p h (λ on. (refl, refl))

@@ -11,12 +11,13 @@ use Rattle.es_tree.specs.CoreStaticRules.{is_simple_target, is_stray_optional}
 use Rattle.es_tree.specs.HasForm.{ElementsPlace, element_form, elements_form, elements_of, field_form, fields_form, has_form, match_option, same_type, sort_at, sort_before_fields, sort_before_trees, trees_form}
 use Rattle.es_tree.specs.Names.{first_text, flag_at}
 use Rattle.es_tree.specs.Parens.{without_parens}
+use Rattle.es_tree.specs.RestTargets.{is_rest_assignment}
 use Rattle.es_tree.specs.Table.{own_kinds, rest_sort}
 use Rattle.es_tree.specs.Tree.{Tree, node, Label, Fields, done, ◌then◌, Field, missing, one, many, statements, Trees, empty, ◌before◌, kind_of}
 use Rattle.es_tree.specs.Walks.{any_node, any_in_fields, any_in_field, any_in_trees}
 use Rattle.es_tree.specs.Words.{Text}
 use Rattle.es_tree.specs.declared.ast_type.AstType.{AstType}
-use Rattle.es_tree.specs.declared.ast_type.AstType.TheVariants.{AssignmentExpression, BinaryExpression, Identifier, MemberExpression, ParenthesizedExpression}
+use Rattle.es_tree.specs.declared.ast_type.AstType.TheVariants.{AssignmentExpression, BinaryExpression, Identifier, MemberExpression, ObjectTarget, ParenthesizedExpression, TargetRest}
 use Rattle.es_tree.specs.declared.options.EnvOptions.{EnvOptions}
 use Rattle.es_tree.specs.declared.table.Content.{Content}
 use Rattle.es_tree.specs.declared.table.Content.TheVariants.{Child as c-Child}
@@ -28,7 +29,7 @@ use Rattle.es_tree.proofs.NodeForm.{node_form}
 use Rattle.es_resolution.proofs.Basics.{bytes_eq-equal}
 use Rattle.es_runs.proofs.Named.{or_both, or_first, or_second}
 use Rattle.es_runs.specs.Rules.{is_marked}
-use Rattle.es_row_laws.specs.Laws.{is_simple}
+use Rattle.es_row_laws.specs.Laws.{is_lowered_rest, is_simple, rests_are_simple}
 use Rattle.es_tree.specs.declared.place.Place.{Place}
 use Rattle.es_tree.specs.declared.place.Place.TheVariants.{Spine}
 use Rattle.es_valid_steps.specs.PlaceRules.{Keeps, KeepsAll, KeepsBy, KeepsHere, KeepsIn}
@@ -89,6 +90,28 @@ raised op b h = at (bytes_eq op (codes "**=")) refl h
     at true e h = other-operator op (codes "**=") e refl
     at false e h = absurd (true≢false (sym h))
 
+-- RESTS of objects that are assigned to (13.15.5): each is assigned to a name or a member
+
+kept-rest : (simple : Bool) → not simple ≡ false → simple ≡ true
+kept-rest true h = refl
+kept-rest false h = absurd (true≢false h)
+
+rests-kept : (up : List Ancestor) (l : Label) (all : Fields) (ps : Trees) → KeepsAll (ancestor ObjectTarget l all 0 0 ∷ up) ps → rests_are_simple ps ≡ true
+rests-kept up l all empty keeps = refl
+rests-kept up l all (node TargetRest m (one t then fs) before ps) keeps =
+    let rest = here-of (ancestor TargetRest m (one t then fs) 0 0 ∷ (ancestor ObjectTarget l all 0 0 ∷ up)) t keeps.0.1.0 in
+    rw (kept-rest (is_simple_target (kind_of (without_parens t))) rest.rest) (rests-kept up l all ps keeps.1)
+rests-kept up l all (p before ps) keeps = rests-kept up l all ps keeps.1
+
+none-assigned : (plain : Bool) → false ≡ (plain && false)
+none-assigned true = refl
+none-assigned false = refl
+
+rest-same : (up : List Ancestor) (l : Label) (t : Tree) (fs : Fields) → Keeps up t → is_lowered_rest AssignmentExpression l (one t then fs) ≡ is_rest_assignment AssignmentExpression l (one t then fs)
+rest-same up l (node ObjectTarget m (many ps then gs)) fs keeps =
+    same-and (is_rest_assignment AssignmentExpression l (one (node ObjectTarget m (many ps then gs)) then fs)) (rests_are_simple ps) (λ h. rests-kept up m (many ps then gs) ps keeps.1.0)
+rest-same up l (node k m gs) fs keeps = none-assigned (bytes_eq (first_text l.texts) (codes "="))
+
 -- THE ROWS
 
 module _ (o : EnvOptions) where
@@ -107,7 +130,9 @@ module _ (o : EnvOptions) where
       let simple : bytes_eq op (codes "=") ≡ false → is_simple t ≡ true = λ h. simple-kept (ancestor AssignmentExpression l (one t then fs) 0 0 ∷ up) t keeps.0 refl (kept-simple (bytes_eq op (codes "=")) (kind_of t) kind kept h) in
       let logical = same-and (is_logical_assignment AssignmentExpression l (one t then fs)) (is_simple t) (λ h. simple (one-of-three op _ h)) in
       let power = same-and (is_exponentiation AssignmentExpression l (one t then fs)) (is_simple t) (λ h. simple (raised op _ h)) in
-      λ i. (o.es2021.logical_assignment_operators && logical i) || (o.es2020.nullish_coalescing_operator && false) || (o.es2020.optional_chaining && false) || (o.es2019.optional_catch_binding && false) || (is_some o.es2018.object_rest_spread && false) || (o.es2016.exponentiation_operator && power i)
+      let rest = rest-same (ancestor AssignmentExpression l (one t then fs) 0 0 ∷ up) l t fs keeps.0 in
+      λ i. (o.es2021.logical_assignment_operators && logical i) || (o.es2020.nullish_coalescing_operator && false) || (o.es2020.optional_chaining && false) || (o.es2019.optional_catch_binding && false)
+      || (is_some o.es2018.object_rest_spread && false) || (is_some o.es2018.object_rest_spread && rest i) || (o.es2016.exponentiation_operator && power i)
   assignment-same up l done form keeps = absurd (true≢false (sym form))
   assignment-same up l (missing then fs) form keeps = absurd (true≢false (sym form))
   assignment-same up l (many ts then fs) form keeps = absurd (true≢false (sym form))

@@ -12,8 +12,6 @@ use Rattle.es_tree.specs.declared.table.Sort.TheVariants.{Program as s-Program}
 use Rattle.es_resolution.specs.Laws.{source}
 use Rattle.es_steps.specs.CoreBridge.{first_whole}
 use Rattle.es_helper_calls.specs.Importing.{is_module}
-use Rattle.es_rest_shapes.specs.RestShapes.{is_rest_declaration}
-use Rattle.es_rest_shapes.proofs.NoneLeft.{law_declared_rests_proof}
 use Rattle.es_top_imports.specs.Laws.{list_place}
 use Rattle.es_excluded_keys.specs.ExcludedKeys.{shares_keys}
 use Rattle.es_excluded_keys.specs.Laws.{IsShared}
@@ -29,16 +27,20 @@ use Rattle.lower_driver.specs.SharesKeys.{SharesKeys}
 pub none-shares : (o : EnvOptions) (named : Bool) (p : Tree) → rests_there o p ≡ false → shares_keys o named p ≡ false
 none-shares o named p none = at (is_some o.es2018.object_rest_spread) none
   where
-    at : (on : Bool) → (on && any_node is_object_rest p) ≡ false → (on && (any_node is_rest_declaration p && not named)) ≡ false
-    at true h = ap (λ b. b && not named) (law_declared_rests_proof p h)
+    and-off : (b : Bool) → (b && false) ≡ false
+    and-off true = refl
+    and-off false = refl
+
+    at : (on : Bool) → (on && any_node is_object_rest p) ≡ false → (on && (not named && any_node is_object_rest p)) ≡ false
+    at true h = ap (λ b. not named && b) h ∙ and-off (not named)
     at false h = refl
 
 -- told by a test that is made where rests are asked for alone
 pub shares-as : (o : EnvOptions) (asked named : Bool) (p : Tree) → asked ≡ (is_some o.es2018.object_rest_spread && named) → shares_keys o asked p ≡ shares_keys o named p
 shares-as o asked named p e = at (is_some o.es2018.object_rest_spread) e
   where
-    at : (on : Bool) → asked ≡ (on && named) → (on && (any_node is_rest_declaration p && not asked)) ≡ (on && (any_node is_rest_declaration p && not named))
-    at true h = ap (λ b. any_node is_rest_declaration p && not b) h
+    at : (on : Bool) → asked ≡ (on && named) → (on && (not asked && any_node is_object_rest p)) ≡ (on && (not named && any_node is_object_rest p))
+    at true h = ap (λ b. not b && any_node is_object_rest p) h
     at false h = refl
 
 -- WHAT IT IS

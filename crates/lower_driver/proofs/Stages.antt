@@ -264,38 +264,37 @@ module _
   most true h = h
   most false h = omega (arith, h)
 
-  half-more : (b : Bool) → 2 * tree_size shared ≤ (if b then 3 * tree_size lowered + 2 else 2 * tree_size lowered) → 2 * tree_size shared ≤ 3 * tree_size lowered + 2
-  half-more true h = h
-  half-more false h = omega (arith, h)
-
   some-node : (tree : Tree) → 1 ≤ tree_size tree
   some-node (node k l fs) = omega arith
 
-  shared-most : tree_size shared ≤ most_for_each (using_there o s) (rests_there o s) (splits_exports o s) * tree_size s
-  shared-most = at (using_there o s) (rests_there o s) refl refl
+  shared-most : tree_size shared ≤ most_for_each (using_there o s) (rests_there o s) (splits_exports o s) sharing * tree_size s
+  shared-most = at (using_there o s) (rests_there o s) sharing refl refl (shared-size sharing lowered shared keys shares)
     where
       grown : tree_size lowered ≤ 372 * tree_size q
       grown = most (rests_there o q) in_place.size
 
-      more : 2 * tree_size shared ≤ 3 * tree_size lowered + 2
-      more = half-more sharing (shared-size sharing lowered shared keys shares)
+      rests : (b c : Bool) → 2 * tree_size q ≤ (if b then 8 else 7) * tree_size s → 2 * tree_size shared ≤ (if c then 3 * tree_size lowered + 2 else 2 * tree_size lowered) → tree_size shared ≤ most_for_each false true b c * tree_size s
+      rests true true paid more = omega (arith, paid, grown, more, some-node s)
+      rests true false paid more = omega (arith, paid, grown, more, some-node s)
+      rests false true paid more = omega (arith, paid, grown, more, some-node s)
+      rests false false paid more = omega (arith, paid, grown, more, some-node s)
 
-      rests : (b : Bool) → 2 * tree_size q ≤ (if b then 8 else 7) * tree_size s → tree_size shared ≤ most_for_each false true b * tree_size s
-      rests true paid = omega (arith, paid, grown, more, some-node s)
-      rests false paid = omega (arith, paid, grown, more, some-node s)
+      used : (c : Bool) → 2 * tree_size shared ≤ (if c then 3 * tree_size lowered + 2 else 2 * tree_size lowered) → (b d : Bool) → tree_size shared ≤ most_for_each true b d c * tree_size s
+      used true more b d = let e = used-and-moved-size o s p t v z q heads contexts top_names names form x h u y m in omega (arith, e, grown, more, some-node s)
+      used false more b d = let e = used-and-moved-size o s p t v z q heads contexts top_names names form x h u y m in omega (arith, e, grown, more, some-node s)
 
-      at : (a b : Bool) → using_there o s ≡ a → rests_there o s ≡ b → tree_size shared ≤ most_for_each a b (splits_exports o s) * tree_size s
-      at true b _ d = let e = used-and-moved-size o s p t v z q heads contexts top_names names form x h u y m in omega (arith, e, grown, more, some-node s)
-      at false true e d = rests (splits_exports o s) (moved-size (same-used e).same)
-      at false false e d =
+      at : (a b c : Bool) → using_there o s ≡ a → rests_there o s ≡ b → 2 * tree_size shared ≤ (if c then 3 * tree_size lowered + 2 else 2 * tree_size lowered) → tree_size shared ≤ most_for_each a b (splits_exports o s) c * tree_size s
+      at true b c _ d more = used c more b (splits_exports o s)
+      at false true c e d more = rests (splits_exports o s) c (moved-size (same-used e).same) more
+      at false false c e d more =
           let same = same-there e d in
           subst (λ (t : Tree). tree_size t ≤ 64 * tree_size s) (sym same.unshared)
           (subst (λ (n : ℕ). tree_size lowered ≤ n * tree_size s) (ap (λ b. if b then 372 else 64) (ap (rests_there o) same.moved ∙ d)) (subst (λ (t : Tree). tree_size lowered ≤ (if rests_there o q then 372 else 64) * tree_size t) same.moved in_place.size))
 
-  imported-size : tree_size imported ≤ most_for_each (using_there o s) (rests_there o s) (splits_exports o s) * tree_size s + (if imports_helpers o made q then 36 else 0)
+  imported-size : tree_size imported ≤ most_for_each (using_there o s) (rests_there o s) (splits_exports o s) sharing * tree_size s + (if imports_helpers o made q then 36 else 0)
   imported-size = let least = shared-most in let more = size-after o made sharing own q lowered shared imported later keys last moved_there.form moved_there.kept none in_place.result shares imports in omega (arith, least, more)
 
-  sized : tree_size written ≤ (if sets_this o s then 3 else 1) * (most_for_each (using_there o s) (rests_there o s) (splits_exports o s) * tree_size s + (if imports_helpers o made q then 36 else 0))
+  sized : tree_size written ≤ (if sets_this o s then 3 else 1) * (most_for_each (using_there o s) (rests_there o s) (splits_exports o s) sharing * tree_size s + (if imports_helpers o made q then 36 else 0))
   sized = set-size (sets_this o s) later imported written sets _ imported-size
 
   imported-there : (has_form s-Program imported ≡ true) × (breaks imported ≡ [])

@@ -3,8 +3,8 @@ use Rattle.std.proofs.Common.{Some, ◌≡◌, ◌+◌, ◌*◌, ◌≤◌, ◌<
 use Rattle.std.specs.Prelude.{Bool, true, false, ◌&&◌, ◌||◌, is_some}
 use Rattle.es_tree.specs.Bare.{bare}
 use Rattle.es_tree.specs.Constructs.{is_arrow, is_chain, is_nullish_coalescing, is_object_spread, is_optional_catch, is_using}
-use Rattle.es_row_laws.proofs.Lawful.{object-spread-under}
-use Rattle.es_row_laws.specs.Laws.{is_lowered_assignment, is_lowered_power}
+use Rattle.es_row_laws.proofs.Lawful.{object-spread-under, rest-assignment-under}
+use Rattle.es_row_laws.specs.Laws.{is_lowered_assignment, is_lowered_power, is_lowered_rest}
 use Rattle.es_valid_steps.specs.Laws.{with_further_rules}
 use Rattle.es_valid_steps.specs.PlaceRules.{place_breaks}
 use Rattle.es_valid_steps.proofs.Visits.{law_among_proof, law_places_proof}
@@ -175,7 +175,8 @@ by-options o n s x s' y (inr (inl a)) = inl (inr (inr (inl a)))
 by-options o n s x s' y (inr (inr (inl (inl b)))) = inl (inr (inr (inr (inl b))))
 by-options o n s x s' y (inr (inr (inl (inr never)))) = absurd never
 by-options o n s x s' y (inr (inr (inr (inl c)))) = inr (inl c)
-by-options o n s x s' y (inr (inr (inr (inr (inl r))))) = object-spread-under o n s x s' y r
+by-options o n s x s' y (inr (inr (inr (inr (inl (inl r)))))) = object-spread-under o n s x s' y r
+by-options o n s x s' y (inr (inr (inr (inr (inl (inr r)))))) = rest-assignment-under o n s x s' y r
 by-options o n s x s' y (inr (inr (inr (inr (inr p))))) = inl (inr (inr (inr (inr p))))
 
 -- and after the program
@@ -188,7 +189,8 @@ whole-options o n s x s' y (inr (inr (inr (inl (inl (inr never)))))) = absurd ne
 whole-options o n s x s' y (inr (inr (inr (inl (inr (inl e)))))) = inr (inr (inl e))
 whole-options o n s x s' y (inr (inr (inr (inl (inr (inr w)))))) = inl (inl w)
 whole-options o n s x s' y (inr (inr (inr (inr (inl never))))) = absurd never
-whole-options o n s x s' y (inr (inr (inr (inr (inr (inl never)))))) = absurd never
+whole-options o n s x s' y (inr (inr (inr (inr (inr (inl (inl never))))))) = absurd never
+whole-options o n s x s' y (inr (inr (inr (inr (inr (inl (inr never))))))) = absurd never
 whole-options o n s x s' y (inr (inr (inr (inr (inr (inr never)))))) = absurd never
 
 -- they are among those that are built, and in order
@@ -215,16 +217,8 @@ exports-alone : (o : EnvOptions) → (visit_ending o).constructs ≡ is_lowered_
 exports-alone o = λ i k l fs. alone (is_lowered_export o k l fs) i
 
 -- the constructs that the hooks of expressions and of catch clauses remove, together
-grouped : (a b c s d e : Bool) → (a || b || c || e || s || d) ≡ ((false || (a || (((b || c) || false) || (false || (s || d))))) || (false || (false || (((false || false) || false) || (e || (false || false))))))
-grouped true b c s d e = refl
-grouped false true c s d e = refl
-grouped false false true s d e = refl
-grouped false false false true d true = refl
-grouped false false false true d false = refl
-grouped false false false false true true = refl
-grouped false false false false true false = refl
-grouped false false false false false true = refl
-grouped false false false false false false = refl
+grouped : (a b c s r d e : Bool) → (a || b || c || e || s || r || d) ≡ ((false || (a || (((b || c) || false) || (false || ((s || r) || d))))) || (false || (false || (((false || false) || false) || (e || ((false || false) || false))))))
+grouped a b c s r d e = grind arith
 
 -- THE SOURCE, for the walk after the visit
 
@@ -300,7 +294,7 @@ module _ (c : EnvOptions) (p : Tree) (ctx ctx' : TraverseCtx TransformState) (x 
       let free : (h : Hook) → any_in_trees (test h) ts ≡ false = λ h. or_first (any_in_trees (test h) ts) false (visited.free start fits known (Some h)) in
       none-of-trees (test Expression) (test CatchClause) (is_lowered_construct c)
       (λ k l fs. grouped (c.es2021.logical_assignment_operators && is_lowered_assignment k l fs) (c.es2020.nullish_coalescing_operator && is_nullish_coalescing k l fs) (c.es2020.optional_chaining && is_chain k l fs)
-      (is_some c.es2018.object_rest_spread && is_object_spread k l fs) (c.es2016.exponentiation_operator && is_lowered_power k l fs)
+      (is_some c.es2018.object_rest_spread && is_object_spread k l fs) (is_some c.es2018.object_rest_spread && is_lowered_rest k l fs) (c.es2016.exponentiation_operator && is_lowered_power k l fs)
       (c.es2019.optional_catch_binding && is_optional_catch k l fs)) ts (free Expression) (free CatchClause)
 
   -- AFTER THE VISIT

@@ -65,14 +65,17 @@ pub record LowersInPlace (o : EnvOptions) (source written : Tree) (names : List 
   -- last of three.
   pub size : tree_size written ≤ (if rests_there o source then 372 else 64) * tree_size source
 
--- The most nodes that are written for one of the source's, where `using` stands that is asked for, where an object rest does, and where an export of one
--- is split: moving `using` out of heads, lowering it and moving patterns make at most ten of one, moving patterns alone three and a half, and four where
--- exports were split; and constants for lists of excluded keys make half as many more.
-abbrev pub most_for_each : Bool → Bool → Bool → ℕ
-most_for_each true rests splits = 5760
-most_for_each false true true = 2304
-most_for_each false true false = 2016
-most_for_each false false splits = 64
+-- The most nodes that are written for one of the source's, where `using` stands that is asked for, where an object rest does, where an export of one
+-- is split, and where lists of excluded keys become constants: moving `using` out of heads, lowering it and moving patterns make at most ten of one,
+-- moving patterns alone three and a half, and four where exports were split; and those constants make half as many more.
+abbrev pub most_for_each : Bool → Bool → Bool → Bool → ℕ
+most_for_each true rests splits true = 5760
+most_for_each true rests splits false = 3840
+most_for_each false true true true = 2304
+most_for_each false true true false = 1536
+most_for_each false true false true = 2016
+most_for_each false true false false = 1344
+most_for_each false false splits shares = 64
 
 -- What a source of any kind becomes under these options: this program, with these fresh names.
 pub record Lowers (o : EnvOptions) (source written : Tree) (names : List Text) : Type 0 where
@@ -105,7 +108,7 @@ pub record Lowers (o : EnvOptions) (source written : Tree) (names : List Text) :
   pub lowered : Tree
   pub later_names : List Text
   pub in_place : LowersInPlace o moved lowered later_names
-  -- then, where an object rest was lowered of a source that named no `babelHelpers` itself, names of constants stand for the lists of the keys that
+  -- then, where an object rest was lowered of a source in which no identifier is `babelHelpers`, names of constants stand for the lists of the keys that
   -- rests leave out: it stays a program that breaks no static rule, each name keeps its binding, and it asks for the same modules and exports the same
   -- names.
   pub shared : Tree
@@ -135,4 +138,4 @@ pub record Lowers (o : EnvOptions) (source written : Tree) (names : List Text) :
   -- where the options ask for no construct of the source, nothing is changed
   pub unchanged : has_enabled_construct o source ≡ false → IsAsBefore source written names
   -- the nodes of the source and of what is written, with those of the imports: where a name is set behind `super(..)`, three times as many
-  pub size : tree_size written ≤ (if sets_this o source then 3 else 1) * (most_for_each (using_there o source) (rests_there o source) (splits_exports o source) * tree_size source + (if imports_helpers o (lowers_using o split) moved then 36 else 0))
+  pub size : tree_size written ≤ (if sets_this o source then 3 else 1) * (most_for_each (using_there o source) (rests_there o source) (splits_exports o source) (shares_keys o (names_itself split) moved) * tree_size source + (if imports_helpers o (lowers_using o split) moved then 36 else 0))

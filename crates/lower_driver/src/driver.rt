@@ -94,11 +94,11 @@ pub struct Lowered {
 /// - `HeadName` also, a `for-of` whose head declares a name by `using` that the right side has, and `UsingFunction`, a
 ///   function whose body declares directly by `using`, or a static block that does, and has a function at its top that
 ///   something else declares, too;
-/// - `RestInArray` and `RestNested`, what holds an object rest inside an array or a rest that is declared, or inside a
-///   part of the target of an assignment;
+/// - `RestInArray` and `RestNested`, an object pattern with a rest inside an array or a rest that is declared, or inside
+///   another pattern that is assigned to;
 /// - `MathBound`, an exponentiation where `Math` is bound;
-/// - `HelperName`, an object literal with a spread where `babelHelpers` is bound, or a declaration by `using` or of an
-///   object rest, or a pattern with one that moves to a declaration, in a program that binds it anywhere; and after all
+/// - `HelperName`, an object literal with a spread, or an object pattern with a rest that is assigned to, where
+///   `babelHelpers` is bound, or a declaration by `using` or of an object rest, or a pattern with one that moves to a declaration, in a program that binds it anywhere; and after all
 ///   others, where helpers have to be imported, the first of these in a script whose own scope binds `require`, or the
 ///   first use of a helper of `babelHelpers` that the source itself makes;
 /// - `SpreadLiteral`, an object literal with a spread whose properties can't be copied one by one;

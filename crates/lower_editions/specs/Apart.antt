@@ -1,17 +1,19 @@
 -- No lowering makes, writes or brings about a construct that one before it takes away, and each counts on what those before it leave.
-use Rattle.std.proofs.Common.{◌≡◌, Bool, ap, inl, inr, refl, sym, true≢false}
-use Rattle.std.specs.Prelude.{true, false, ◌&&◌, is_some}
-use Rattle.es_tree.specs.Constructs.{is_chain, is_nullish_coalescing, is_object_spread, is_optional_catch}
-use Rattle.es_tree.specs.Tree.{Tree, node, Label, Fields, fields_of, kind_of, label_of}
+use Rattle.std.proofs.Common.{◌≡◌, ◌∙◌, Bool, ap, codes, inl, inr, refl, sym, true≢false}
+use Rattle.std.specs.Prelude.{true, false, ◌&&◌, bytes_eq, is_some}
+use Rattle.es_tree.specs.Constructs.{field_at, is_chain, is_nullish_coalescing, is_object_spread, is_optional_catch}
+use Rattle.es_tree.specs.Names.{first_text}
+use Rattle.es_tree.specs.RestTargets.{is_rest_target}
+use Rattle.es_tree.specs.Tree.{Tree, node, Label, Fields, ◌then◌, many, one, fields_of, kind_of, label_of}
 use Rattle.es_tree.specs.declared.ast_type.AstType.{AstType}
-use Rattle.es_tree.specs.declared.ast_type.AstType.TheVariants.{AssignmentExpression, BinaryExpression, CallExpression, CatchClause, ChainExpression, ConditionalExpression, ExportAllDeclaration, LogicalExpression, ObjectExpression, SequenceExpression}
+use Rattle.es_tree.specs.declared.ast_type.AstType.TheVariants.{AssignmentExpression, BinaryExpression, CallExpression, CatchClause, ChainExpression, ConditionalExpression, ExportAllDeclaration, LogicalExpression, ObjectExpression, ObjectTarget, SequenceExpression}
 use Rattle.es_tree.specs.declared.options.EnvOptions.{EnvOptions}
 use Rattle.es_visit.specs.declared.hook.Hook.{Hook}
 use Rattle.es_visit.specs.declared.hook.Hook.TheVariants.{CatchClause as h-CatchClause, Expression}
-use Rattle.es_row_laws.specs.Laws.{KeepsConstructs, OfEachRule, is_lowered_assignment, is_lowered_power}
+use Rattle.es_row_laws.specs.Laws.{KeepsConstructs, OfEachRule, is_lowered_assignment, is_lowered_power, is_lowered_rest, object_spread_under, rest_assignment_under, rests_are_simple}
 use Rattle.es_row_laws.proofs.Stable.{law_stable_rows_proof}
 use Rattle.es_changes.specs.Conditions.{Conditions}
-use Rattle.es_conditions.specs.CoreConditions.{core_conditions}
+use Rattle.es_conditions.specs.CoreConditions.{core_conditions, is_free}
 use Rattle.es_steps.specs.Open.{finished_fields}
 use Rattle.es_steps.specs.Steps.{Ledger, Site, Spot}
 use Rattle.es_traverse.specs.Laws.{AreApart, Ending, EndsApart, IsStable, Profile, both_endings, both_profile, is_construct, no_ending}
@@ -28,10 +30,11 @@ use Rattle.lower_nullish_coalescing.specs.Profile.{nullish_coalescing_constructs
 use Rattle.lower_object_spread.specs.Profile.{object_spread_profile}
 use Rattle.lower_optional_catch.specs.Lawful.{catch_stable}
 use Rattle.lower_optional_catch.specs.Profile.{IsWholeCatch, optional_catch_constructs, optional_catch_profile}
-use Rattle.lower_temporaries.specs.RowProfiles.{constructs_where}
+use Rattle.lower_rest_assignments.specs.Profile.{rest_assignment_profile}
+use Rattle.lower_temporaries.specs.RowProfiles.{constructs_where, row_profile}
 use Rattle.lower_writing.specs.Writing.{MayBeWritten, common_profile}
 use Rattle.lower_editions.specs.ApartTogether.{AreSeparate, apart, both_separate_from, separate_from_both}
-use Rattle.lower_editions.specs.Editions.{editions_ending, es2016_profile, es2018_profile, es2019_profile, es2020_ending, es2020_profile, es2021_profile, expressions_profile, last_ending}
+use Rattle.lower_editions.specs.Editions.{editions_ending, es2016_profile, es2018_profile, es2019_profile, es2020_ending, es2018_ending, es2020_profile, es2021_profile, expressions_profile, last_ending}
 
 -- WHAT IS MADE is none of these constructs, where they are on or not
 
@@ -66,7 +69,7 @@ conditional_plain (node _ l fs) e = absurd (cc e)
 power_plain : (t : Tree) → IsCallOrAssignment t → (is_nullish_coalescing (kind_of t) (label_of t) (fields_of t) ≡ false) × (is_chain (kind_of t) (label_of t) (fields_of t) ≡ false) × (is_lowered_assignment (kind_of t) (label_of t) (fields_of t) ≡ false)
 power_plain (node CallExpression l fs) e = (refl, refl, refl)
 power_plain (node SequenceExpression l fs) e = (refl, refl, refl)
-power_plain (node AssignmentExpression l fs) e = (refl, refl, rw e refl)
+power_plain (node AssignmentExpression l fs) e = (refl, refl, rw e.0 refl)
 power_plain (node _ l fs) e = absurd e
 
 -- what is written for lists and bodies
@@ -87,9 +90,6 @@ none_where is on _ t e = refl
 
 no_power : (on : Bool) (h : Hook) (t : Tree) → is_lowered_power (kind_of t) (label_of t) (fields_of t) ≡ false → is_construct (exponentiation_constructs on h) t ≡ false
 no_power = none_where is_lowered_power
-
-no_spread : (on : Bool) (h : Hook) (t : Tree) → is_object_spread (kind_of t) (label_of t) (fields_of t) ≡ false → is_construct (constructs_where is_object_spread on h) t ≡ false
-no_spread = none_where is_object_spread
 
 -- a clause with its parameter
 abbrev is_clause : AstType → Bool
@@ -146,37 +146,54 @@ chain_stable R o Expression = λ n s s' k l first fs gs stand r e. kind_alone k 
     kind_alone _ l fs gs e = e
 chain_stable R o _ = λ n s s' k l first fs gs stand r e. refl
 
--- WHAT IS NO LITERAL: a literal is told by its kind first
+-- OBJECTS: a literal with spreads and an assignment to a pattern with a rest are told by their kinds first
 
-abbrev is_literal : AstType → Bool
-is_literal ObjectExpression = true
-is_literal _ = false
+abbrev is_object_kind : AstType → Bool
+is_object_kind ObjectExpression = true
+is_object_kind AssignmentExpression = true
+is_object_kind _ = false
 
-no_literal : (t : Tree) → is_literal (kind_of t) ≡ false → is_object_spread (kind_of t) (label_of t) (fields_of t) ≡ false
-no_literal (node ObjectExpression l fs) e = absurd (cc e)
-no_literal (node _ l fs) e = refl
+no_object : (t : Tree) → is_object_kind (kind_of t) ≡ false → (is_object_spread (kind_of t) (label_of t) (fields_of t) ≡ false) × (is_lowered_rest (kind_of t) (label_of t) (fields_of t) ≡ false)
+no_object (node ObjectExpression l fs) e = absurd (cc e)
+no_object (node AssignmentExpression l fs) e = absurd (cc e)
+no_object (node _ l fs) e = (refl, refl)
 
-raised_no_literal : (t : Tree) → IsCallOrAssignment t → is_literal (kind_of t) ≡ false
-raised_no_literal (node ObjectExpression l fs) e = absurd e
-raised_no_literal (node _ l fs) e = refl
+written_no_object : (t : Tree) → MayBeWritten t → is_object_kind (kind_of t) ≡ false
+written_no_object (node ObjectExpression l fs) w = absurd (true≢false (sym w))
+written_no_object (node AssignmentExpression l fs) w = absurd (true≢false (sym w))
+written_no_object (node _ l fs) w = refl
 
-written_no_literal : (t : Tree) → MayBeWritten t → is_literal (kind_of t) ≡ false
-written_no_literal (node ObjectExpression l fs) w = absurd (true≢false (sym w))
-written_no_literal (node _ l fs) w = refl
+clause_no_object : (t : Tree) → is_clause (kind_of t) ≡ true → is_object_kind (kind_of t) ≡ false
+clause_no_object (node ObjectExpression l fs) e = absurd (true≢false (sym e))
+clause_no_object (node AssignmentExpression l fs) e = absurd (true≢false (sym e))
+clause_no_object (node _ l fs) e = refl
 
-clause_no_literal : (t : Tree) → is_clause (kind_of t) ≡ true → is_literal (kind_of t) ≡ false
-clause_no_literal (node ObjectExpression l fs) e = absurd (true≢false (sym e))
-clause_no_literal (node _ l fs) e = refl
+module_no_object : (t : Tree) → IsModuleNode t → is_object_kind (kind_of t) ≡ false
+module_no_object (node ObjectExpression l fs) e = absurd (cc e)
+module_no_object (node AssignmentExpression l fs) e = absurd (cc e)
+module_no_object (node _ l fs) e = refl
 
-module_no_literal : (t : Tree) → IsModuleNode t → is_literal (kind_of t) ≡ false
-module_no_literal (node ObjectExpression l fs) e = absurd (cc e)
-module_no_literal (node _ l fs) e = refl
+-- what takes the place of an exponentiation
+other_target : (l : Label) (fs : Fields) → is_rest_target (field_at 0 fs) ≡ false → is_lowered_rest AssignmentExpression l fs ≡ false
+other_target l (one (node ObjectTarget m (many ps then gs)) then fs) e = rw e (ap (λ b. b && rests_are_simple ps) (off (bytes_eq (first_text l.texts) (codes "="))))
+other_target l _ e = refl
 
--- what stands in the place of one is a call
-called_plain : (t : Tree) → kind_of t ≡ CallExpression →
-    (is_nullish_coalescing (kind_of t) (label_of t) (fields_of t) ≡ false) × (is_chain (kind_of t) (label_of t) (fields_of t) ≡ false) × (is_lowered_assignment (kind_of t) (label_of t) (fields_of t) ≡ false) × (is_clause (kind_of t) ≡ false)
-called_plain (node CallExpression l fs) e = (refl, refl, refl, refl)
-called_plain (node _ l fs) e = absurd (cc e)
+raised_no_object : (t : Tree) → IsCallOrAssignment t → (is_object_spread (kind_of t) (label_of t) (fields_of t) ≡ false) × (is_lowered_rest (kind_of t) (label_of t) (fields_of t) ≡ false)
+raised_no_object (node AssignmentExpression l fs) e = (refl, other_target l fs e.1)
+raised_no_object (node ObjectExpression l fs) e = absurd e
+raised_no_object (node _ l fs) e = (refl, refl)
+
+-- what takes the place of these: a call or a sequence
+abbrev is_value : AstType → Bool
+is_value CallExpression = true
+is_value SequenceExpression = true
+is_value _ = false
+
+value_plain : (t : Tree) → is_value (kind_of t) ≡ true →
+    (is_nullish_coalescing (kind_of t) (label_of t) (fields_of t) ≡ false) × (is_chain (kind_of t) (label_of t) (fields_of t) ≡ false) × (is_lowered_assignment (kind_of t) (label_of t) (fields_of t) ≡ false) × (is_clause (kind_of t) ≡ false) × (is_object_kind (kind_of t) ≡ false)
+value_plain (node CallExpression l fs) e = (refl, refl, refl, refl, refl)
+value_plain (node SequenceExpression l fs) e = (refl, refl, refl, refl, refl)
+value_plain (node _ l fs) e = absurd (cc e)
 
 -- THE PAIRS
 
@@ -340,45 +357,93 @@ module _ (o : EnvOptions) where
   common_exports : AreSeparate (common_profile o) (namespace_profile o)
   common_exports = before_exports (common_profile o) refl (λ h t w. refl)
 
-  -- OBJECT SPREAD, of which calls take the place
+  -- OBJECT SPREAD, AND OBJECT RESTS IN ASSIGNMENTS, whose rows write nothing
 
-  before_spreads : (p : Profile) → p.conditions ≡ core_conditions o → ((t : Tree) → p.writes t → is_literal (kind_of t) ≡ false) → ((h : Hook) (t : Tree) → kind_of t ≡ CallExpression → is_construct (p.constructs h) t ≡ false) → IsStable p.rule is_object_spread → ((h : Hook) → IsStable (object_spread_profile o).rule (p.constructs h)) →
-      AreSeparate p (object_spread_profile o)
-  before_spreads p same written plain stable own = record {
-    makes = plain;
-    first_writes = λ h t w. no_spread on_spread h t (no_literal t (written t w));
-    second_writes = λ h t w. absurd w;
-    first_stable = own;
-    second_stable = where_stable is_object_spread p.rule stable on_spread;
-    before = λ n t. ap (λ (c : Conditions). c.before n t) (sym same);
-    after = λ n t. ap (λ (c : Conditions). c.after n t) (sym same);
-  }
+  module _ (R : Site → Ledger → Spot → Ledger → Spot → Type 0) (is : AstType → Label → Fields → Bool) (k : AstType) (value : is_value k ≡ true) where
+    abbrev row : Profile
+    row = row_profile o (is_free o) (is_free o) R (constructs_where is on_spread) (λ t. kind_of t ≡ k)
+
+    before_row : (p : Profile) → p.conditions ≡ core_conditions o → ((t : Tree) → p.writes t → is (kind_of t) (label_of t) (fields_of t) ≡ false) → ((h : Hook) (t : Tree) → is_value (kind_of t) ≡ true → is_construct (p.constructs h) t ≡ false) → IsStable p.rule is → ((h : Hook) → IsStable R (p.constructs h)) → AreSeparate p row
+    before_row p same written plain stable own = record {
+      makes = λ h t m. plain h t (ap is_value m ∙ value);
+      first_writes = λ h t w. none_where is on_spread h t (written t w);
+      second_writes = λ h t w. absurd w;
+      first_stable = own;
+      second_stable = where_stable is p.rule stable on_spread;
+      before = λ n t. ap (λ (c : Conditions). c.before n t) (sym same);
+      after = λ n t. ap (λ (c : Conditions). c.after n t) (sym same);
+    }
+
+    row_powers : ((t : Tree) → IsCallOrAssignment t → is (kind_of t) (label_of t) (fields_of t) ≡ false) → IsStable (exponentiation_profile o).rule is → IsStable R is_lowered_power → AreSeparate row (exponentiation_profile o)
+    row_powers raised stable own = record {
+      makes = λ h t m. none_where is on_spread h t (raised t m);
+      first_writes = λ h t w. absurd w;
+      second_writes = λ h t w. absurd w;
+      first_stable = where_stable is (exponentiation_profile o).rule stable on_spread;
+      second_stable = power_stable R own on_power;
+      before = λ n t. refl;
+      after = λ n t. refl;
+    }
+
+    coalescing_row : IsStable (nullish_coalescing_profile o).rule is → IsStable R is_nullish_coalescing → AreSeparate (nullish_coalescing_profile o) row
+    coalescing_row stable own = before_row (nullish_coalescing_profile o) refl (λ t w. absurd w) (λ h t v. no_coalescing on_nullish h t (value_plain t v).0) stable (coalescing_stable R own on_nullish)
+
+    chains_row : IsStable (chain_profile o).rule is → AreSeparate (chain_profile o) row
+    chains_row stable = before_row (chain_profile o) refl (λ t w. absurd w) (λ h t v. no_chain o h t (value_plain t v).1) stable (chain_stable R o)
+
+    assignments_row : IsStable (logical_assignment_profile o).rule is → IsStable R is_lowered_assignment → AreSeparate (logical_assignment_profile o) row
+    assignments_row stable own = before_row (logical_assignment_profile o) refl (λ t w. absurd w) (λ h t v. no_assignment on_logical h t (value_plain t v).2) stable (assignment_stable R own on_logical)
+
+    catches_row : ((t : Tree) → is_object_kind (kind_of t) ≡ false → is (kind_of t) (label_of t) (fields_of t) ≡ false) → IsStable (optional_catch_profile o).rule is → IsStable R is_optional_catch → AreSeparate (optional_catch_profile o) row
+    catches_row plain stable own = before_row (optional_catch_profile o) refl (λ t w. plain t (clause_no_object t (clause_written t w))) (λ h t v. no_catch on_catch h t (value_plain t v).3) stable (catch_stable R own on_catch)
+
+    exports_row : ((t : Tree) → is_object_kind (kind_of t) ≡ false → is (kind_of t) (label_of t) (fields_of t) ≡ false) → AreSeparate (namespace_profile o) row
+    exports_row plain = exports_before row refl (λ h t w. none_where is on_spread h t (plain t (module_no_object t w)))
+
+  abbrev spreads : Site → Ledger → Spot → Ledger → Spot → Type 0
+  spreads = object_spread_under o
+
+  abbrev rests : Site → Ledger → Spot → Ledger → Spot → Type 0
+  rests = rest_assignment_under o
 
   coalescing_spreads : AreSeparate (nullish_coalescing_profile o) (object_spread_profile o)
-  coalescing_spreads = before_spreads (nullish_coalescing_profile o) refl (λ t w. absurd w) (λ h t c. no_coalescing on_nullish h t (called_plain t c).0) rows.nullish_coalescing.object_spread (coalescing_stable (object_spread_profile o).rule rows.object_spread.nullish_coalescing on_nullish)
+  coalescing_spreads = coalescing_row spreads is_object_spread CallExpression refl rows.nullish_coalescing.object_spread rows.object_spread.nullish_coalescing
+
+  coalescing_rests : AreSeparate (nullish_coalescing_profile o) (rest_assignment_profile o)
+  coalescing_rests = coalescing_row rests is_lowered_rest SequenceExpression refl rows.nullish_coalescing.rest_assignment rows.rest_assignment.nullish_coalescing
 
   chains_spreads : AreSeparate (chain_profile o) (object_spread_profile o)
-  chains_spreads = before_spreads (chain_profile o) refl (λ t w. absurd w) (λ h t c. no_chain o h t (called_plain t c).1) rows.optional_chaining.object_spread (chain_stable (object_spread_profile o).rule o)
+  chains_spreads = chains_row spreads is_object_spread CallExpression refl rows.optional_chaining.object_spread
+
+  chains_rests : AreSeparate (chain_profile o) (rest_assignment_profile o)
+  chains_rests = chains_row rests is_lowered_rest SequenceExpression refl rows.optional_chaining.rest_assignment
 
   assignments_spreads : AreSeparate (logical_assignment_profile o) (object_spread_profile o)
-  assignments_spreads = before_spreads (logical_assignment_profile o) refl (λ t w. absurd w) (λ h t c. no_assignment on_logical h t (called_plain t c).2) rows.logical_assignment.object_spread (assignment_stable (object_spread_profile o).rule rows.object_spread.logical_assignment on_logical)
+  assignments_spreads = assignments_row spreads is_object_spread CallExpression refl rows.logical_assignment.object_spread rows.object_spread.logical_assignment
+
+  assignments_rests : AreSeparate (logical_assignment_profile o) (rest_assignment_profile o)
+  assignments_rests = assignments_row rests is_lowered_rest SequenceExpression refl rows.logical_assignment.rest_assignment rows.rest_assignment.logical_assignment
 
   catches_spreads : AreSeparate (optional_catch_profile o) (object_spread_profile o)
-  catches_spreads = before_spreads (optional_catch_profile o) refl (λ t w. clause_no_literal t (clause_written t w)) (λ h t c. no_catch on_catch h t (called_plain t c).3) rows.optional_catch.object_spread (catch_stable (object_spread_profile o).rule rows.object_spread.optional_catch on_catch)
+  catches_spreads = catches_row spreads is_object_spread CallExpression refl (λ t e. (no_object t e).0) rows.optional_catch.object_spread rows.object_spread.optional_catch
 
-  spreads_powers : AreSeparate (object_spread_profile o) (exponentiation_profile o)
-  spreads_powers = record {
-    makes = λ h t m. no_spread on_spread h t (no_literal t (raised_no_literal t m));
-    first_writes = λ h t w. absurd w;
-    second_writes = λ h t w. absurd w;
-    first_stable = where_stable is_object_spread (exponentiation_profile o).rule rows.exponentiation.object_spread on_spread;
-    second_stable = power_stable (object_spread_profile o).rule rows.object_spread.exponentiation on_power;
-    before = λ n t. refl;
-    after = λ n t. refl;
-  }
+  catches_rests : AreSeparate (optional_catch_profile o) (rest_assignment_profile o)
+  catches_rests = catches_row rests is_lowered_rest SequenceExpression refl (λ t e. (no_object t e).1) rows.optional_catch.rest_assignment rows.rest_assignment.optional_catch
 
   exports_spreads : AreSeparate (namespace_profile o) (object_spread_profile o)
-  exports_spreads = exports_before (object_spread_profile o) refl (λ h t w. no_spread on_spread h t (no_literal t (module_no_literal t w)))
+  exports_spreads = exports_row spreads is_object_spread CallExpression refl (λ t e. (no_object t e).0)
+
+  exports_rests : AreSeparate (namespace_profile o) (rest_assignment_profile o)
+  exports_rests = exports_row rests is_lowered_rest SequenceExpression refl (λ t e. (no_object t e).1)
+
+  spreads_powers : AreSeparate (object_spread_profile o) (exponentiation_profile o)
+  spreads_powers = row_powers spreads is_object_spread CallExpression refl (λ t m. (raised_no_object t m).0) rows.exponentiation.object_spread rows.object_spread.exponentiation
+
+  rests_powers : AreSeparate (rest_assignment_profile o) (exponentiation_profile o)
+  rests_powers = row_powers rests is_lowered_rest SequenceExpression refl (λ t m. (raised_no_object t m).1) rows.exponentiation.rest_assignment rows.rest_assignment.exponentiation
+
+  spreads_rests : AreSeparate (object_spread_profile o) (rest_assignment_profile o)
+  spreads_rests = before_row rests is_lowered_rest SequenceExpression refl (object_spread_profile o) refl (λ t w. absurd w) (λ h t v. none_where is_object_spread on_spread h t (no_object t (value_plain t v).4).0) rows.object_spread.rest_assignment (where_stable is_object_spread rests rows.rest_assignment.object_spread on_spread)
 
   -- WHAT IS WRITTEN for lists and bodies is none of them
 
@@ -409,7 +474,10 @@ module _ (o : EnvOptions) where
   common_catches = common_from (optional_catch_profile o) refl (λ h t w. no_catch on_catch h t (written_no_clause t w)) (catch_stable (common_profile o).rule rows.writing.optional_catch on_catch)
 
   common_spreads : AreSeparate (common_profile o) (object_spread_profile o)
-  common_spreads = common_from (object_spread_profile o) refl (λ h t w. no_spread on_spread h t (no_literal t (written_no_literal t w))) (where_stable is_object_spread (common_profile o).rule rows.writing.object_spread on_spread)
+  common_spreads = common_from (object_spread_profile o) refl (λ h t w. none_where is_object_spread on_spread h t (no_object t (written_no_object t w)).0) (where_stable is_object_spread (common_profile o).rule rows.writing.object_spread on_spread)
+
+  common_rests : AreSeparate (common_profile o) (rest_assignment_profile o)
+  common_rests = common_from (rest_assignment_profile o) refl (λ h t w. none_where is_lowered_rest on_spread h t (no_object t (written_no_object t w)).1) (where_stable is_lowered_rest (common_profile o).rule rows.writing.rest_assignment on_spread)
 
   -- TOGETHER
 
@@ -423,28 +491,35 @@ module _ (o : EnvOptions) where
   before_es2020 : (p : Profile) → AreSeparate p (nullish_coalescing_profile o) → AreSeparate p (chain_profile o) → AreSeparate p (namespace_profile o) → AreSeparate p (es2020_profile o)
   before_es2020 p coalescing chains exports = separate_from_both p (expressions_profile o) (namespace_profile o) (separate_from_both p (nullish_coalescing_profile o) (chain_profile o) coalescing chains) exports
 
-  -- catch clauses, then object spread and then exponentiations
+  pub es2018_apart : AreApart (object_spread_profile o) (rest_assignment_profile o)
+  es2018_apart = apart (object_spread_profile o) (rest_assignment_profile o) spreads_rests (record { none_late = λ k l fs. refl; none_later = λ t w. refl; counts_after = λ n t. refl }) (λ n t e. e)
+
+  -- catch clauses, then those of ECMAScript 2018 and then exponentiations
   abbrev values_profile : Profile
   values_profile = both_profile (es2018_profile o) (es2016_profile o)
 
   pub values_apart : AreApart (es2018_profile o) (es2016_profile o)
-  values_apart = apart (es2018_profile o) (es2016_profile o) spreads_powers (record { none_late = λ k l fs. refl; none_later = λ t w. refl; counts_after = λ n t. refl }) (λ n t e. e)
+  values_apart = apart (es2018_profile o) (es2016_profile o) (both_separate_from (object_spread_profile o) (rest_assignment_profile o) (es2016_profile o) spreads_powers rests_powers) (record { none_late = λ k l fs. refl; none_later = λ t w. refl; counts_after = λ n t. refl }) (λ n t e. e)
 
   abbrev last_profile : Profile
   last_profile = both_profile (es2019_profile o) values_profile
 
-  pub last_apart : AreApart (es2019_profile o) values_profile
-  last_apart = apart (es2019_profile o) values_profile (separate_from_both (es2019_profile o) (es2018_profile o) (es2016_profile o) catches_spreads catches_powers) (record { none_late = λ k l fs. refl; none_later = λ t w. refl; counts_after = λ n t. refl }) (λ n t e. e)
+  -- one type before those of ECMAScript 2018
+  before_es2018 : (p : Profile) → AreSeparate p (object_spread_profile o) → AreSeparate p (rest_assignment_profile o) → AreSeparate p (es2018_profile o)
+  before_es2018 p = separate_from_both p (object_spread_profile o) (rest_assignment_profile o)
 
-  -- one type before these
-  before_last : (p : Profile) → AreSeparate p (optional_catch_profile o) → AreSeparate p (object_spread_profile o) → AreSeparate p (exponentiation_profile o) → AreSeparate p last_profile
-  before_last p catches spreads powers = separate_from_both p (es2019_profile o) values_profile catches (separate_from_both p (es2018_profile o) (es2016_profile o) spreads powers)
+  pub last_apart : AreApart (es2019_profile o) values_profile
+  last_apart = apart (es2019_profile o) values_profile (separate_from_both (es2019_profile o) (es2018_profile o) (es2016_profile o) (before_es2018 (es2019_profile o) catches_spreads catches_rests) catches_powers) (record { none_late = λ k l fs. refl; none_later = λ t w. refl; counts_after = λ n t. refl }) (λ n t e. e)
+
+  -- and before all of these
+  before_last : (p : Profile) → AreSeparate p (optional_catch_profile o) → AreSeparate p (es2018_profile o) → AreSeparate p (exponentiation_profile o) → AreSeparate p last_profile
+  before_last p catches objects powers = separate_from_both p (es2019_profile o) values_profile catches (separate_from_both p (es2018_profile o) (es2016_profile o) objects powers)
 
   later_separate : AreSeparate (es2020_profile o) last_profile
   later_separate =
       both_separate_from (expressions_profile o) (namespace_profile o) last_profile
-      (both_separate_from (nullish_coalescing_profile o) (chain_profile o) last_profile (before_last (nullish_coalescing_profile o) coalescing_catches coalescing_spreads coalescing_powers) (before_last (chain_profile o) chains_catches chains_spreads chains_powers))
-      (before_last (namespace_profile o) exports_catches exports_spreads exports_powers)
+      (both_separate_from (nullish_coalescing_profile o) (chain_profile o) last_profile (before_last (nullish_coalescing_profile o) coalescing_catches (before_es2018 (nullish_coalescing_profile o) coalescing_spreads coalescing_rests) coalescing_powers) (before_last (chain_profile o) chains_catches (before_es2018 (chain_profile o) chains_spreads chains_rests) chains_powers))
+      (before_last (namespace_profile o) exports_catches (before_es2018 (namespace_profile o) exports_spreads exports_rests) exports_powers)
 
   pub later_apart : AreApart (es2020_profile o) last_profile
   later_apart = apart (es2020_profile o) last_profile later_separate (record { none_late = λ k l fs. refl; none_later = λ t w. refl; counts_after = λ n t. refl }) (λ n t e. e)
@@ -452,14 +527,14 @@ module _ (o : EnvOptions) where
   pub editions_apart : AreApart (es2021_profile o) (both_profile (es2020_profile o) last_profile)
   editions_apart =
       apart (es2021_profile o) (both_profile (es2020_profile o) last_profile)
-      (separate_from_both (es2021_profile o) (es2020_profile o) last_profile (before_es2020 (es2021_profile o) assignments_coalescing assignments_chains assignments_exports) (before_last (es2021_profile o) assignments_catches assignments_spreads assignments_powers)) (record { none_late = λ k l fs. refl; none_later = λ t w. refl; counts_after = λ n t. refl }) (λ n t e. e)
+      (separate_from_both (es2021_profile o) (es2020_profile o) last_profile (before_es2020 (es2021_profile o) assignments_coalescing assignments_chains assignments_exports) (before_last (es2021_profile o) assignments_catches (before_es2018 (es2021_profile o) assignments_spreads assignments_rests) assignments_powers)) (record { none_late = λ k l fs. refl; none_later = λ t w. refl; counts_after = λ n t. refl }) (λ n t e. e)
 
   -- the type that writes comes before all
   pub all_apart : AreApart (common_profile o) (both_profile (es2021_profile o) (both_profile (es2020_profile o) last_profile))
   all_apart =
       apart (common_profile o) (both_profile (es2021_profile o) (both_profile (es2020_profile o) last_profile))
       (separate_from_both (common_profile o) (es2021_profile o) (both_profile (es2020_profile o) last_profile) common_assignments
-      (separate_from_both (common_profile o) (es2020_profile o) last_profile (before_es2020 (common_profile o) common_coalescing common_chains common_exports) (before_last (common_profile o) common_catches common_spreads common_powers))) (record { none_late = λ k l fs. refl; none_later = λ t w. refl; counts_after = λ n t. refl }) (λ n t e. e)
+      (separate_from_both (common_profile o) (es2020_profile o) last_profile (before_es2020 (common_profile o) common_coalescing common_chains common_exports) (before_last (common_profile o) common_catches (before_es2018 (common_profile o) common_spreads common_rests) common_powers))) (record { none_late = λ k l fs. refl; none_later = λ t w. refl; counts_after = λ n t. refl }) (λ n t e. e)
 
   -- AFTER THE PROGRAM: what a type writes, one that acted there before it doesn't take away
 
@@ -475,10 +550,13 @@ module _ (o : EnvOptions) where
   pub es2020_end : EndsApart (expressions_profile o) (namespace_ending o)
   es2020_end t w = elim w [ inl i ↦ absurd i | inr j ↦ absurd j ]
 
+  pub es2018_end : EndsApart (object_spread_profile o) no_ending
+  es2018_end = ends_none (object_spread_profile o)
+
   pub values_end : EndsApart (es2018_profile o) no_ending
   values_end = ends_none (es2018_profile o)
 
-  pub last_end : EndsApart (es2019_profile o) (both_endings no_ending no_ending)
+  pub last_end : EndsApart (es2019_profile o) (both_endings es2018_ending no_ending)
   last_end t w = refl
 
   pub later_end : EndsApart (es2020_profile o) last_ending

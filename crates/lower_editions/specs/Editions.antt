@@ -8,6 +8,7 @@ use Rattle.lower_namespace_exports.specs.Profile.{namespace_ending, namespace_pr
 use Rattle.lower_nullish_coalescing.specs.Profile.{nullish_coalescing_profile}
 use Rattle.lower_object_spread.specs.Profile.{object_spread_profile}
 use Rattle.lower_optional_catch.specs.Profile.{optional_catch_profile}
+use Rattle.lower_rest_assignments.specs.Profile.{rest_assignment_profile}
 
 -- nullish coalescing and then optional chaining
 abbrev pub expressions_profile : EnvOptions → Profile
@@ -23,8 +24,9 @@ es2021_profile o = logical_assignment_profile o
 abbrev pub es2016_profile : EnvOptions → Profile
 es2016_profile o = exponentiation_profile o
 
+-- object spread and then object rests in assignments
 abbrev pub es2018_profile : EnvOptions → Profile
-es2018_profile o = object_spread_profile o
+es2018_profile o = both_profile (object_spread_profile o) (rest_assignment_profile o)
 
 abbrev pub es2019_profile : EnvOptions → Profile
 es2019_profile o = optional_catch_profile o
@@ -34,9 +36,13 @@ es2019_profile o = optional_catch_profile o
 abbrev pub es2020_ending : EnvOptions → Ending
 es2020_ending o = both_endings (both_endings no_ending no_ending) (namespace_ending o)
 
--- of the others, which do nothing there: catch clauses, then object spread and then exponentiation
+-- of object spread and object rests in assignments, which do nothing there
+abbrev pub es2018_ending : Ending
+es2018_ending = both_endings no_ending no_ending
+
+-- of the last, which do nothing there either: catch clauses, then these two and then exponentiation
 abbrev pub last_ending : Ending
-last_ending = both_endings no_ending (both_endings no_ending no_ending)
+last_ending = both_endings no_ending (both_endings es2018_ending no_ending)
 
 -- of all
 abbrev pub editions_ending : EnvOptions → Ending

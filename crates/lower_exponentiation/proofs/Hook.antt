@@ -31,7 +31,7 @@ use Rattle.lower_exponentiation.proofs.SeenParts.{lowerable-seen}
 none-made : (u : Tree) → IsCallOrAssignment u → is_construct is_lowered_power u ≡ false
 none-made (node CallExpression l fs) h = refl
 none-made (node SequenceExpression l fs) h = refl
-none-made (node AssignmentExpression l fs) h = rw h refl
+none-made (node AssignmentExpression l fs) h = rw h.0 refl
 none-made (node _ l fs) h = absurd h
 
 expression-made : (u : Tree) → IsCallOrAssignment u → is_expression_hook (hook_of_sort (sort_of (kind_of u))) ≡ true

@@ -7,6 +7,7 @@ use Rattle.es_tree.specs.Constructs.{is_big_int, is_exponentiation}
 use Rattle.es_tree.specs.Heads.{head_of, label}
 use Rattle.es_tree.specs.Names.{first_text}
 use Rattle.es_tree.specs.Parens.{without_parens}
+use Rattle.es_tree.specs.RestTargets.{is_rest_target}
 use Rattle.es_tree.specs.Tree.{Tree, Trees, node, Label, done, ◌then◌, one, many, trees, ◌before◌, tree_size, trees_size, kind_of, label_of, fields_of}
 use Rattle.es_tree.specs.Words.{Text, assignment_operator_text, binary_operator_text}
 use Rattle.es_tree.specs.declared.ast_type.AstType.TheVariants.{AssignmentExpression, BinaryExpression, SequenceExpression}
@@ -22,10 +23,12 @@ use Rattle.es_runs.proofs.OptionalChainingWeights.{stripped_size, tests_size-app
 use Rattle.es_runs.proofs.Temporary.{bytes_eq-equal}
 use Rattle.es_runs.specs.Exponentiation.{assign_at}
 use Rattle.es_runs.specs.Rules.{assign_node, in_place_of}
+use Rattle.es_resolution.specs.Declarations.{Bound}
 use Rattle.es_resolution.specs.Seen.{seen, seen_among}
-use Rattle.es_steps.specs.Exponentiation.{IsMathFree, assigned_power, power_at, power_node}
+use Rattle.es_steps.specs.Exponentiation.{IsMathFree, TargetTwice, assigned_power, power_at, power_node}
 use Rattle.es_steps.specs.Exponentiation.ExponentiationRule.{power, power_assignment}
-use Rattle.es_steps.specs.Steps.{Site}
+use Rattle.es_steps.specs.Exponentiation.TargetTwice.{bound_name, literal_key, other_key, other_name, private_member, static_member}
+use Rattle.es_steps.specs.Steps.{Site, Whole}
 use Rattle.es_changes.specs.Fits.{Fits}
 use Rattle.es_changes.specs.Moments.{Moment, whole_at}
 use Rattle.es_conditions.specs.CoreConditions.{is_free}
@@ -108,9 +111,18 @@ operation_lowers old new m l r texts left right on reads =
       made = tt;
     }
 
-assigned-made : (m : Label) (fs : List Tree) (target read r : Tree) → IsCallOrAssignment (assigned_power m fs target read r)
-assigned-made m [] target read r = refl
-assigned-made m (f ∷ fs) target read r = tt
+assigned-made : (m : Label) (fs : List Tree) (target read r : Tree) → is_rest_target (one target) ≡ false → IsCallOrAssignment (assigned_power m fs target read r)
+assigned-made m [] target read r plain = (refl, plain)
+assigned-made m (f ∷ fs) target read r plain = tt
+
+-- what is written is a name or a member
+no-pattern : (w : Whole) (xs : List Bound) (fs : List Tree) (t target read : Tree) → TargetTwice w xs fs t target read → is_rest_target (one target) ≡ false
+no-pattern w xs fs t target read (bound_name h) = refl
+no-pattern w xs fs t target read (other_name h next) = refl
+no-pattern w xs fs t target read (static_member flags o) = refl
+no-pattern w xs fs t target read (private_member flags o) = refl
+no-pattern w xs fs t target read (literal_key flags k o) = refl
+no-pattern w xs fs t target read (other_key flags k o next) = refl
 
 assignment_lowers : (old mid new : TraverseCtx TransformState) (m : Label) (t r : Tree) (first : List Tree) (written read : Tree) → m.texts ≡ Some (codes "**=") ∷ [] → is_big_int (kind_of r) ≡ false → old.options.es2016.exponentiation_operator ≡ true →
     UsedTwice (TargetRule old (without_parens t)) 14 33 old mid (without_parens t) first written read → ReadsMore (nodes_around first) mid new → Lowers old new (raising m t r) (assigned_power m first written read r)
@@ -130,7 +142,7 @@ assignment_lowers old mid new m t r first written read texts right on used reads
         nodes = omega (arith, many, smaller, used.nodes);
         lighter = omega (arith, heavy, whole, around, lighter, used.lighter, used.few);
       };
-      made = assigned-made m first written read r;
+      made = assigned-made m first written read r (no-pattern (whole_at (moment_of old)) used.made first (without_parens t) written read used.rule);
     }
 
 -- THE NODES THAT WERE OPENED

@@ -1,8 +1,9 @@
 -- The exponentiations that are lowered (ECMA-262, 13.6 and 13.15), the parts that their tests ask for one by one, and what takes their place.
 use Rattle.std.specs.Prelude.{◌≡◌, ◌&&◌, ◌||◌, not, Bool, true, false, List, [], ◌∷◌, Some, bytes_eq, codes}
-use Rattle.es_tree.specs.Constructs.{is_big_int, is_private_name}
+use Rattle.es_tree.specs.Constructs.{field_at, is_big_int, is_private_name}
 use Rattle.es_tree.specs.Names.{first_text}
 use Rattle.es_tree.specs.Parens.{without_parens}
+use Rattle.es_tree.specs.RestTargets.{is_rest_target}
 use Rattle.es_tree.specs.Tree.{Tree, node, Label, Fields, kind_of}
 use Rattle.es_tree.specs.declared.ast_type.AstType.{AstType}
 use Rattle.es_tree.specs.declared.ast_type.AstType.TheVariants.{AssignmentExpression, BinaryExpression, CallExpression, Identifier, MemberExpression, PrivateIdentifier, SequenceExpression}
@@ -60,9 +61,9 @@ is_expression_key computed k = computed || not (is_private_name (kind_of k))
 
 -- WHAT IS MADE
 
--- what takes the place of an exponentiation: a call, a sequence, or an assignment by `=`
+-- what takes the place of an exponentiation: a call, a sequence, or an assignment by `=`, but to no pattern with a rest
 abbrev pub IsCallOrAssignment : Tree → Type 0
 IsCallOrAssignment (node CallExpression l fs) = Unit {0}
 IsCallOrAssignment (node SequenceExpression l fs) = Unit {0}
-IsCallOrAssignment (node AssignmentExpression l fs) = l.texts ≡ Some (codes "=") ∷ []
+IsCallOrAssignment (node AssignmentExpression l fs) = (l.texts ≡ Some (codes "=") ∷ []) × (is_rest_target (field_at 0 fs) ≡ false)
 IsCallOrAssignment _ = ⊥

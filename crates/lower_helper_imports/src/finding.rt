@@ -13,6 +13,7 @@ ghost use Rattle.lower_helper_imports.specs.HelperImports.{Tells, first_asking, 
 
 use crate::calls::used_helper;
 use es_nodes::construct::is_object_spread;
+use es_nodes::rest_targets::is_rest_assignment;
 use es_rest_nodes::strays::is_rest_declaration;
 use es_scope::scoping::Scoping;
 use es_tree::ids::NodeId;
@@ -180,5 +181,5 @@ fn is_sought(node: &Node, sought: Sought) -> bool
 fn needs_helper(node: &Node) -> bool
     ensures { result ≡ needs_helper (kind_of node.now) (label_of node.now) (fields_of node.now) }
 {
-    is_object_spread(node) || is_rest_declaration(node)
+    is_object_spread(node) || is_rest_declaration(node) || is_rest_assignment(node)
 }

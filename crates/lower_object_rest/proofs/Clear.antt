@@ -13,8 +13,8 @@ use Rattle.es_rest_rows.specs.RestRows.{PutsName, group, groups, groups_by, keye
 use Rattle.es_rest_rows.specs.RestRows.PutsName.{for_pattern, with_default}
 use Rattle.es_rest_shapes.specs.RestShapes.{any_child, any_tree, are_plain, are_plain_members, bears_among, bears_rest, is_misplaced, is_name, is_odd_pattern, is_plain_key, is_plain_pattern, is_plain_property, is_plain_value, is_rest_declaration, is_rest_declarator, is_stray_rest, reads_key}
 use Rattle.es_tree.specs.Names.{has_computed}
+use Rattle.lower_temporaries.specs.Helpers.{elements}
 use Rattle.lower_object_rest.specs.Declarators.{AreKnown}
-use Rattle.lower_object_rest.specs.Groups.{elements}
 use Rattle.lower_object_rest.proofs.Composition.{nodes-joined, nodes-parts}
 use Rattle.lower_object_rest.proofs.Keys.{AreLeaves, IsLeaf, keys-leaves}
 use Rattle.lower_object_rest.proofs.Keys.IsLeaf.{text_leaf, word_leaf}

@@ -13,8 +13,9 @@ use Rattle.es_rest_rows.specs.RestRows.{group, groups, groups_by, keyed_by, keys
 use Rattle.es_rest_shapes.specs.RestShapes.{any_tree, are_plain, are_plain_members, bears_among, bears_rest, is_name, is_named_rest, is_plain_pattern, is_plain_property, reads_key}
 use Rattle.lower_nodes.specs.Nodes.{owed, owed_among, owed_in}
 use Rattle.lower_temporaries.specs.SeenTrees.{no_bindings}
+use Rattle.lower_temporaries.proofs.HelperCalls.{few-mapped}
 use Rattle.lower_temporaries.proofs.SeenLaws.{size-seen}
-use Rattle.lower_object_rest.specs.Groups.{elements, mapped_ids}
+use Rattle.lower_temporaries.specs.Helpers.{elements, mapped_ids}
 use Rattle.lower_object_rest.specs.Parts.{taken_ids}
 use Rattle.lower_object_rest.specs.Profile.{key_ids, key_ids_by, nested_ids, nested_ids_by, nested_ids_of, number_of, rest_owes}
 use Rattle.lower_object_rest.proofs.Keys.{AreLeaves, IsLeaf, keys-leaves, keys-number}
@@ -123,10 +124,6 @@ owed-made lp s xs (p before ps) t plain source name =
     omega (arith, owed-joined (groups lp s xs empty all) (declarator_with t value), owed-groups lp s source xs empty all refl plain, owed-name t name, owed-value (any_tree reads_key all) s xs all source)
 
 -- and what is owed for a pattern is enough for the ids that are given for it, and for those of a stored source
-pub few-mapped : (b : Bool) → mapped_ids b ≤ 6
-few-mapped true = omega arith
-few-mapped false = omega arith
-
 pub ids-enough : (ps : Trees) → 3 + taken_ids ps ≤ 17 + key_ids ps
 ids-enough empty = omega arith
 ids-enough (p before ps) = omega (arith, few-mapped (any_tree reads_key (p before ps)))

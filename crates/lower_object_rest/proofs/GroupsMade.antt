@@ -25,9 +25,10 @@ use Rattle.es_rest_shapes.specs.RestShapes.{any_tree, are_plain, is_plain_proper
 use Rattle.lower_temporaries.specs.SeenTrees.{IsSeenAs}
 use Rattle.lower_temporaries.specs.Takings.{ReadsMore, moment_of}
 use Rattle.lower_temporaries.specs.declared.state.TransformState.{TransformState}
-use Rattle.lower_object_rest.specs.Groups.{AddsProperty, Gives, MakesGroups, NamesKey, NamesRead, elements, keys_value}
+use Rattle.lower_temporaries.specs.Helpers.{elements, keys_value, rest_helper}
+use Rattle.lower_temporaries.proofs.HelperCalls.{elements-more}
+use Rattle.lower_object_rest.specs.Groups.{AddsProperty, Gives, MakesGroups, NamesKey, NamesRead}
 use Rattle.lower_object_rest.specs.Groups.NamesRead.{no_properties, knows, reads_one}
-use Rattle.lower_object_rest.specs.Parts.{rest_helper}
 use Rattle.lower_object_rest.specs.Profile.{key_ids, key_ids_by}
 use Rattle.lower_object_rest.specs.declared.groups.Groups.{Groups as RestGroups}
 use Rattle.lower_object_rest.specs.declared.groups.NamedKey.{NamedKey}
@@ -55,31 +56,6 @@ any-append test (q ∷ ps) p = ap (λ b. test q || b) (any-append test ps p) ∙
 key_ids-joined : (ps qs : List Tree) → key_ids (trees (ps ++ qs)) ≡ key_ids (trees ps) + key_ids (trees qs)
 key_ids-joined [] qs = omega arith
 key_ids-joined (p ∷ ps) qs = omega (arith, key_ids-joined ps qs)
-
--- an element more
-
-abbrev pushed : Fields → Field → Fields
-pushed done f = f then done
-pushed (g then gs) f = g then pushed gs f
-
-plain-pushed : (fs : List NodeField) (t : Tree) → plain_fields (fs ++ One t ∷ []) ≡ pushed (plain_fields fs) (one t)
-plain-pushed [] t = refl
-plain-pushed (f ∷ fs) t = ap (λ gs. plain_field f then gs) (plain-pushed fs t)
-
-seen-pushed : (names : ℕ → Text → Option ℕ) (gs : Fields) (f : Field) → seen_in names (pushed gs f) ≡ pushed (seen_in names gs) (seen_by names f)
-seen-pushed names done f = refl
-seen-pushed names (g then gs) f = ap (λ hs. seen_by names g then hs) (seen-pushed names gs f)
-
-elements-pushed : (ks : List Tree) (k : Tree) → elements (ks ++ k ∷ []) ≡ pushed (elements ks) (one k)
-elements-pushed [] k = refl
-elements-pushed (j ∷ ks) k = ap (λ gs. one j then gs) (elements-pushed ks k)
-
-elements-more : (names : ℕ → Text → Option ℕ) (fs gs : List NodeField) (t : Tree) (ks : List Tree) → gs ≡ fs ++ One t ∷ [] → seen_in names (plain_fields fs) ≡ elements ks → seen_in names (plain_fields gs) ≡ elements (ks ++ seen names t ∷ [])
-elements-more names fs gs t ks put h =
-    ap (λ hs. seen_in names (plain_fields hs)) put
-    ∙ (ap (seen_in names) (plain-pushed fs t)
-    ∙ (seen-pushed names (plain_fields fs) (one t)
-    ∙ (ap (λ hs. pushed hs (one (seen names t))) h ∙ sym (elements-pushed ks (seen names t)))))
 
 -- ONE PROPERTY, at the head of those that come
 
@@ -259,15 +235,3 @@ none-of (t ∷ ts) e = absurd (omega (arith, e))
 
 pub so-far-all : (old new : TraverseCtx TransformState) (all rest : List Tree) (s : Tree) (g : RestGroups) → length rest ≡ 0 → GroupsSoFar old new all rest s g → MakesGroups old new all s g
 so-far-all old new all rest s g e h = subst (λ (ts : List Tree). MakesGroups old new ts s g) (sym (h.are ∙ (ap (λ (ts : List Tree). h.first ++ ts) (none-of rest e) ∙ append-nil h.first))) h.made
-
--- as many ids, counted in another way
-pub reads-as : {old new : TraverseCtx TransformState} (m n : ℕ) → m ≡ n → ReadsMore m old new → ReadsMore n old new
-reads-as {old} {new} m n e h = subst (λ (k : ℕ). ReadsMore k old new) e h
-
--- THE KEYS, where one is read
-pub keys-mapped : (names : ℕ → Text → Option ℕ) (t callee array property convert : Tree) (arguments : List Tree) (fs : Fields) → seen names t ≡ node CallExpression (made [] (false ∷ [])) (one (seen names callee) then many (seen_among names (trees arguments)) then done) → arguments ≡ convert ∷ [] →
-    seen names callee ≡ node MemberExpression (made [] (false ∷ false ∷ [])) (one (seen names array) then one (seen names property) then done) → seen names array ≡ keys_value false fs → seen names property ≡ word (codes "map") → seen names convert ≡ helper_node (codes "toPropertyKey") → seen names t ≡ keys_value true fs
-keys-mapped names t callee array property convert arguments fs call all member a p h =
-    let called : seen names callee ≡ member_node (keys_value false fs) (codes "map") = member ∙ (λ i. node MemberExpression (made [] (false ∷ false ∷ [])) (one (a i) then one (p i) then done)) in
-    let given : seen_among names (trees arguments) ≡ helper_node (codes "toPropertyKey") before empty = ap (λ (ts : List Tree). seen_among names (trees ts)) all ∙ (λ i. h i before empty) in
-    call ∙ (λ i. node CallExpression (made [] (false ∷ [])) (one (called i) then many (given i) then done))

@@ -10,39 +10,21 @@ use Rattle.es_patterns.specs.PatternsArity.{IsPatternProperty}
 use Rattle.es_resolution.specs.Declarations.{Bound}
 use Rattle.es_steps.specs.Nodes.{string_node}
 use Rattle.es_rest_rows.specs.RestRows.{keys_by, keys_of, text_of_key}
-use Rattle.es_rest_shapes.specs.RestShapes.{is_known_key, is_literal_key, is_name, is_plain_key, is_plain_property, is_plain_value, key_text, reads_key}
+use Rattle.es_tree.specs.PropertyKeys.{is_literal_key, key_text}
+use Rattle.es_rest_shapes.specs.RestShapes.{is_known_key, is_name, is_plain_key, is_plain_property, is_plain_value, reads_key}
 use Rattle.lower_object_rest.specs.Profile.{number_of}
 use Rattle.lower_object_rest.proofs.PatternShapes.{plain-property, read-property}
 
--- A KEY THAT ISN'T READ
+-- THE KEY OF A PROPERTY, as its first child
 
--- a key that isn't read is a name or a literal
-known : (computed : Bool) (k : Tree) → is_plain_key computed k ≡ true → (computed && not (is_literal_key k)) ≡ false → is_known_key k ≡ true
-known false k h read = h
-known true k h read = or_right (is_name k) (is_literal_key k) (off (is_literal_key k) read)
+pub text-of : (t k : Tree) → Some k ≡ child_at 0 (fields_of t) → is_plain_property t ≡ true → text_of_key t ≡ string_node (key_text k)
+text-of t k e plain = let p = plain-property t plain in at t p.label p.key p.value p.is e
   where
-    off : (b : Bool) → not b ≡ false → b ≡ true
-    off true e = refl
-    off false e = absurd (cc e)
-
--- the key of a property, as its first child
-pub record IsKeyOf (t k : Tree) : Type 0 where
-  pub known : is_known_key k ≡ true
-  pub text : text_of_key t ≡ string_node (key_text k)
-
-pub known-key : (t k : Tree) → Some k ≡ child_at 0 (fields_of t) → is_plain_property t ≡ true → reads_key t ≡ false → IsKeyOf t k
-known-key t k e plain read =
-    let p = plain-property t plain in
-    let first : k ≡ p.key = at t p.label p.key p.value p.is e in
-    let both = (and_parts (is_plain_key (has_computed PatternProperty p.label.flags) p.key) (is_plain_value p.value) (ap is_plain_property (sym p.is) ∙ plain)).0 in
-    let unread : (has_computed PatternProperty p.label.flags && not (is_literal_key p.key)) ≡ false = ap reads_key (sym p.is) ∙ read in
-    record {
-      known = ap is_known_key first ∙ known (has_computed PatternProperty p.label.flags) p.key both unread;
-      text = ap text_of_key p.is ∙ ap (λ j. string_node (key_text j)) (sym first);
-    }
-  where
-    at : (t : Tree) (l : Label) (j v : Tree) → t ≡ node PatternProperty l (one j then one v then done) → Some k ≡ child_at 0 (fields_of t) → k ≡ j
-    at t l j v is e = let same : Some k ≡ Some j = e ∙ ap (λ u. child_at 0 (fields_of u)) is in cc
+    at : (t : Tree) (l : Label) (j v : Tree) → t ≡ node PatternProperty l (one j then one v then done) → Some k ≡ child_at 0 (fields_of t) → text_of_key t ≡ string_node (key_text k)
+    at t l j v is e =
+        let same : Some k ≡ Some j = e ∙ ap (λ u. child_at 0 (fields_of u)) is in
+        let first : k ≡ j = cc in
+        ap text_of_key is ∙ ap (λ i. string_node (key_text i)) (sym first)
 
 -- THE KEYS IN THE ARRAY are names and texts
 

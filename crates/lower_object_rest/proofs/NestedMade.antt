@@ -32,7 +32,7 @@ use Rattle.lower_nodes.specs.Nodes.{owed, owed_among}
 use Rattle.lower_temporaries.specs.SeenTrees.{IsSeenAs, no_bindings}
 use Rattle.lower_temporaries.specs.Takings.{ReadsMore, moment_of}
 use Rattle.lower_temporaries.specs.declared.state.TransformState.{TransformState}
-use Rattle.lower_temporaries.proofs.SeenLaws.{size-seen}
+use Rattle.lower_temporaries.proofs.SeenLaws.{any_kind-seen, size-seen}
 use Rattle.lower_object_rest.specs.Declarators.{AddsKept, AddsPattern, AreKnown, LowersPattern, Rows}
 use Rattle.lower_object_rest.specs.Nested.{AddsPart, PartsMade, Puts, TakesOut, Turns, declares_left, left_ids}
 use Rattle.lower_object_rest.specs.Nested.Puts.{for_pattern, with_default}
@@ -45,7 +45,7 @@ use Rattle.lower_object_rest.proofs.Declarators.{bound-grows, reads-grow, seen-n
 use Rattle.lower_object_rest.proofs.GroupsMade.{none-of, plain-among}
 use Rattle.lower_object_rest.proofs.KeptSources.{binds-behind, kept-later}
 use Rattle.lower_object_rest.proofs.PatternShapes.{plain-kind, plain-parts}
-use Rattle.lower_object_rest.proofs.SeenShapes.{any-bears-seen, bears-seen, kinds-seen, name-seen, owed-among, owed-seen, pattern-seen, plain-seen, size-among}
+use Rattle.lower_object_rest.proofs.SeenShapes.{any-bears-seen, bears-seen, name-seen, owed-among, owed-seen, pattern-seen, plain-seen, size-among}
 use Rattle.lower_object_rest.proofs.Steps.{RowAt, nested-row}
 use Rattle.lower_object_rest.proofs.Turning.{row-turns}
 
@@ -334,7 +334,7 @@ module _ (first old mid between new : TraverseCtx TransformState) (ps : List Tre
       let there = seen_among no_bindings (trees all) in
       let seen_owed : owed rest_owes g ≡ owed rest_owes (group (made [] []) (seen no_bindings s) there) = sym (owed-seen no_bindings g) ∙ ap (owed rest_owes) (declared no_bindings) in
       let clear : bears_among there ≡ false = any-bears-seen no_bindings (trees all) ∙ (bears-still these out.property property-clear ∙ m.clear) in
-      let kinds : any_kind is_rest there ≡ false = kinds-seen no_bindings (trees all) ∙ kinds-more these out.property m.kinds (ap (λ (p : Tree). is_rest (kind_of p)) t.property_is) in
+      let kinds : any_kind is_rest there ≡ false = any_kind-seen no_bindings is_rest (trees all) ∙ kinds-more these out.property m.kinds (ap (λ (p : Tree). is_rest (kind_of p)) t.property_is) in
       omega (arith, seen_owed, owed-clear (made [] []) there kinds clear, owed-among no_bindings (trees all), owed-append these (out.property ∷ []), owed-name (seen no_bindings s) (name-seen no_bindings s ∙ name))
 
   pub parts-nested : PartsMade first new (ps ++ q ∷ []) s [] (ts ++ g ∷ us)
@@ -481,7 +481,7 @@ module _ (old mid : TraverseCtx TransformState) (all rest : List Tree) (s : Tree
       last-known : (names : ℕ → Text → Option ℕ) → any_tree is_rest_declarator (seen names last before empty) ≡ false
       last-known names =
           let T = seen_among names (trees these) in
-          ap (λ (d : Tree). any_tree is_rest_declarator (d before empty)) (last_is names) ∙ (λ i. ((kinds-seen names (trees these) ∙ parts-all.kinds) i || (any-bears-seen names (trees these) ∙ parts-all.clear) i) || false)
+          ap (λ (d : Tree). any_tree is_rest_declarator (d before empty)) (last_is names) ∙ (λ i. ((any_kind-seen names is_rest (trees these) ∙ parts-all.kinds) i || (any-bears-seen names (trees these) ∙ parts-all.clear) i) || false)
 
       last-some : (names : ℕ → Text → Option ℕ) → declares_some (bare_label lp) (seen names s) (seen_among names (trees these)) ≡ seen names last before empty
       last-some names = at these some ∙ (λ i. sym (last_is names) i before empty)
@@ -499,7 +499,7 @@ module _ (old mid : TraverseCtx TransformState) (all rest : List Tree) (s : Tree
       last-owed =
           let there = seen_among no_bindings (trees these) in
           let seen_owed : owed rest_owes last ≡ owed rest_owes (group (bare_label lp) (seen no_bindings s) there) = sym (owed-seen no_bindings last) ∙ ap (owed rest_owes) (last_is no_bindings) in
-          omega (arith, seen_owed, owed-clear (bare_label lp) there (kinds-seen no_bindings (trees these) ∙ parts-all.kinds) (any-bears-seen no_bindings (trees these) ∙ parts-all.clear), owed-among no_bindings (trees these), owed-name (seen no_bindings s) (name-seen no_bindings s ∙ name))
+          omega (arith, seen_owed, owed-clear (bare_label lp) there (any_kind-seen no_bindings is_rest (trees these) ∙ parts-all.kinds) (any-bears-seen no_bindings (trees these) ∙ parts-all.clear), owed-among no_bindings (trees these), owed-name (seen no_bindings s) (name-seen no_bindings s ∙ name))
 
       pub parts-behind : (ws : List Tree) → ws ≡ vs ++ last ∷ [] → AddsKept old new pattern_of s us ws
       parts-behind ws put =

@@ -12,12 +12,13 @@ use Rattle.es_resolution.specs.Seen.{seen, seen_among, seen_by, seen_in, seen_ma
 use Rattle.es_steps.specs.Nodes.{joined_trees, string_node}
 use Rattle.es_steps.specs.ObjectRest.{pattern_node}
 use Rattle.es_rest_rows.specs.RestRows.{text_of_key, with_rest}
-use Rattle.es_rest_shapes.specs.RestShapes.{any_tree, are_plain, bears_among, bears_rest, is_name, is_plain_pattern, is_plain_property, key_text, literal_text, reads_key, template_text}
+use Rattle.es_rest_shapes.specs.RestShapes.{any_tree, are_plain, bears_among, bears_rest, is_name, is_plain_pattern, is_plain_property, reads_key}
 use Rattle.es_rest_shapes.proofs.BareRests.{bears-bare, plain-bare, property-bare}
 use Rattle.lower_nodes.specs.Nodes.{owed, owed_among, owed_by, owed_in}
-use Rattle.lower_temporaries.proofs.SeenLaws.{size-seen}
+use Rattle.lower_temporaries.proofs.KeysSeen.{key_text-seen, read_key-seen}
+use Rattle.lower_temporaries.proofs.SeenLaws.{any_kind-seen, size-seen}
 use Rattle.lower_temporaries.proofs.TwoFields.{two-seen}
-use Rattle.lower_object_rest.specs.Groups.{mapped_ids}
+use Rattle.lower_temporaries.specs.Helpers.{mapped_ids}
 use Rattle.lower_object_rest.specs.Parts.{taken_ids}
 use Rattle.lower_object_rest.specs.Profile.{key_ids, key_ids_by, nested_ids, nested_ids_by, nested_ids_of, rest_owes}
 use Rattle.lower_object_rest.specs.Shapes.{is_lowerable}
@@ -53,26 +54,6 @@ module _ (names : ℕ → Text → Option ℕ) where
   name-seen (node Identifier l (f then fs)) = refl
   name-seen (node _ l fs) = refl
 
-  template-seen : (fs : Fields) → template_text (seen_in names fs) ≡ template_text fs
-  template-seen (many (node TemplateElement l gs before empty) then (many empty then done)) = refl
-  template-seen (many (node TemplateElement l gs before empty) then (many empty then (f then fs))) = refl
-  template-seen (many (node TemplateElement l gs before empty) then (many (t before ts) then fs)) = refl
-  template-seen (many (node TemplateElement l gs before empty) then (one t then fs)) = refl
-  template-seen (many (node TemplateElement l gs before empty) then (statements ts then fs)) = refl
-  template-seen (many (node TemplateElement l gs before empty) then (missing then fs)) = refl
-  template-seen (many (node TemplateElement l gs before empty) then done) = refl
-  template-seen (many (node TemplateElement l gs before (t before ts)) then fs) = refl
-  template-seen (many (node _ l gs before ts) then fs) = refl
-  template-seen (many empty then fs) = refl
-  template-seen (one t then fs) = refl
-  template-seen (statements ts then fs) = refl
-  template-seen (missing then fs) = refl
-  template-seen done = refl
-
-  literal-seen : (t : Tree) → literal_text (seen names t) ≡ literal_text t
-  literal-seen (node TemplateLiteral l fs) = template-seen fs
-  literal-seen (node _ l fs) = refl
-
   property-seen : (t : Tree) → is_plain_property (seen names t) ≡ is_plain_property t
   property-seen t = sym (property-bare (seen names t)) ∙ (ap is_plain_property (bare-seen t) ∙ property-bare t)
 
@@ -97,7 +78,7 @@ module _ (names : ℕ → Text → Option ℕ) where
   -- KEYS
 
   pub reads-seen : (t : Tree) → reads_key (seen names t) ≡ reads_key t
-  reads-seen (node PatternProperty l (one k then (one v then done))) = ap (λ x. has_computed PatternProperty l.flags && not (is_some x)) (literal-seen k)
+  reads-seen (node PatternProperty l (one k then (one v then done))) = read_key-seen names (has_computed PatternProperty l.flags) k
   reads-seen (node PatternProperty l done) = refl
   reads-seen (node PatternProperty l (missing then fs)) = refl
   reads-seen (node PatternProperty l (many ts then fs)) = refl
@@ -113,11 +94,8 @@ module _ (names : ℕ → Text → Option ℕ) where
   any-read-seen empty = refl
   any-read-seen (t before ts) = λ i. reads-seen t i || any-read-seen ts i
 
-  key-text-seen : (t : Tree) → key_text (seen names t) ≡ key_text t
-  key-text-seen (node k l fs) = ap (λ x. unwrap_or x (first_text l.texts)) (literal-seen (node k l fs))
-
   pub key-of-seen : (t : Tree) → text_of_key (seen names t) ≡ text_of_key t
-  key-of-seen (node k l (one e then fs)) = ap string_node (key-text-seen e)
+  key-of-seen (node k l (one e then fs)) = ap string_node (key_text-seen names e)
   key-of-seen (node k l done) = refl
   key-of-seen (node k l (missing then fs)) = refl
   key-of-seen (node k l (many ts then fs)) = refl
@@ -134,10 +112,6 @@ module _ (names : ℕ → Text → Option ℕ) where
   size-among (t before ts) = λ i. size-seen names t i + size-among ts i
 
   -- IDS OWED
-
-  pub kinds-seen : (ts : Trees) → any_kind is_rest (seen_among names ts) ≡ any_kind is_rest ts
-  kinds-seen empty = refl
-  kinds-seen (node k l fs before ts) = ap (λ b. is_rest k || b) (kinds-seen ts)
 
   key_ids-seen : (ts : Trees) → key_ids (seen_among names ts) ≡ key_ids ts
   key_ids-seen empty = refl
@@ -157,7 +131,7 @@ module _ (names : ℕ → Text → Option ℕ) where
   ids-seen (t before ts) = λ i. 8 + key_ids-seen (t before ts) i + mapped_ids (any-read-seen (t before ts) i)
 
   own-seen : (k : AstType) (l m : Label) (fs : Fields) → rest_owes k m (seen_in names fs) ≡ rest_owes k l fs
-  own-seen ObjectPattern l m (many ps then fs) = λ i. (if kinds-seen ps i then 16 + key_ids-seen ps i else 0) + nested_ids-seen ps i
+  own-seen ObjectPattern l m (many ps then fs) = λ i. (if any_kind-seen names is_rest ps i then 16 + key_ids-seen ps i else 0) + nested_ids-seen ps i
   own-seen ObjectPattern l m done = refl
   own-seen ObjectPattern l m (missing then fs) = refl
   own-seen ObjectPattern l m (one t then fs) = refl

@@ -35,7 +35,8 @@ use Rattle.es_valid_rests.specs.RestRules.{all_declare, is_binding_kind}
 use Rattle.es_rest_rows.specs.RestRows.{NamesKeys, PutsName, RestWalkRow, declaring, is_exported, is_kept, parted, property_of, taken, with_rest}
 use Rattle.es_rest_rows.specs.RestRows.NamesKeys.{knows as k-knows, no_properties as k-no_properties, reads_one as k-reads_one}
 use Rattle.es_rest_rows.specs.RestRows.RowsWhere.{nested, stores, takes}
-use Rattle.es_rest_shapes.specs.RestShapes.{are_plain, bears_among, is_literal_key, is_name, is_plain_pattern, reads_key}
+use Rattle.es_tree.specs.PropertyKeys.{is_literal_key}
+use Rattle.es_rest_shapes.specs.RestShapes.{are_plain, bears_among, is_name, is_plain_pattern, reads_key}
 use Rattle.lower_temporaries.proofs.SeenLaws.{base-seen}
 use Rattle.lower_object_rest.specs.Groups.{NamesRead}
 use Rattle.lower_object_rest.specs.Groups.NamesRead.{knows, no_properties, reads_one}

@@ -18,9 +18,10 @@ use Rattle.es_rest_rows.specs.RestRows.{group, groups, keys_of, left_of}
 use Rattle.es_rest_shapes.specs.RestShapes.{any_tree, reads_key}
 use Rattle.lower_temporaries.specs.Takings.{ReadsMore, moment_of}
 use Rattle.lower_temporaries.specs.declared.state.TransformState.{TransformState}
-use Rattle.lower_object_rest.specs.Groups.{Gives, MakesGroups, NamesRead, keys_value, mapped_ids}
+use Rattle.lower_temporaries.specs.Helpers.{keys_value, mapped_ids, rest_helper}
+use Rattle.lower_object_rest.specs.Groups.{Gives, MakesGroups, NamesRead}
 use Rattle.lower_object_rest.specs.Groups.NamesRead.{no_properties}
-use Rattle.lower_object_rest.specs.Parts.{Parts, Takes, TakesAlone, TakesApart, TakesBeside, pattern_label, rest_helper}
+use Rattle.lower_object_rest.specs.Parts.{Parts, Takes, TakesAlone, TakesApart, TakesBeside, pattern_label}
 use Rattle.lower_object_rest.specs.Profile.{key_ids}
 use Rattle.lower_object_rest.specs.declared.groups.Groups.{Groups as RestGroups}
 use Rattle.lower_object_rest.specs.declared.rests.RestPattern.{RestPattern}

@@ -16,6 +16,7 @@ use Rattle.es_steps.specs.Steps.{Whole}
 use Rattle.es_changes.specs.Moments.{Moment, whole_at}
 use Rattle.es_rest_rows.specs.RestRows.{groups, keyed_by, keys_of, names_key}
 use Rattle.es_rest_shapes.specs.RestShapes.{any_tree, reads_key}
+use Rattle.lower_temporaries.specs.Helpers.{elements}
 use Rattle.lower_temporaries.specs.SeenTrees.{IsSeenAs}
 use Rattle.lower_temporaries.specs.Takings.{TakesBound, moment_of}
 use Rattle.lower_temporaries.specs.declared.state.TransformState.{TransformState}
@@ -24,10 +25,6 @@ use Rattle.lower_object_rest.specs.declared.groups.Groups.{Groups as RestGroups}
 use Rattle.lower_object_rest.specs.declared.groups.NamedKey.{NamedKey}
 
 -- IDS
-
--- six for the keys of a pattern together, where one is read
-abbrev pub mapped_ids : Bool → ℕ
-mapped_ids read = if read then 6 else 0
 
 -- So many ids are given, and names may be made: all else is as before.
 pub record Gives (ids : ℕ) (a b : Moment) : Type 0 where
@@ -44,16 +41,6 @@ pub data NamesRead : Whole → Trees → List Bound → Whole → Type 0 where
   knows : {w w' : Whole} {p : Tree} {ps : Trees} {xs : List Bound} → reads_key p ≡ false → NamesRead w ps xs w' → NamesRead w (p before ps) xs w'
   reads_one : {w w' : Whole} {l : Label} {k v : Tree} {ps : Trees} {xs : List Bound} (x : Bound) → reads_key (node PatternProperty l (one k then one v then done)) ≡ true → IsNext w (node_base k) x →
       NamesRead (with_made (x ∷ []) w) ps xs w' → NamesRead w (node PatternProperty l (one k then one v then done) before ps) (x ∷ xs) w'
-
--- KEYS
-
-abbrev pub elements : List Tree → Fields
-elements ks = fields (map one ks)
-
--- the keys that a rest leaves out, as an argument of the helper: an array of them, which is mapped where one is read
-abbrev pub keys_value : Bool → Fields → Tree
-keys_value true ks = call_node (member_node (node ArrayExpression (made [] []) ks) (codes "map")) (helper_node (codes "toPropertyKey") ∷ [])
-keys_value false ks = node ArrayExpression (made [] []) ks
 
 -- GROUPS
 

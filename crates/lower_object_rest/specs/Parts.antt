@@ -22,17 +22,14 @@ use Rattle.es_rest_shapes.specs.RestShapes.{any_tree, are_plain, bears_among, is
 use Rattle.lower_temporaries.specs.SeenTrees.{IsSeenAs}
 use Rattle.lower_temporaries.specs.Takings.{ReadsMore, TakesBound, moment_of}
 use Rattle.lower_temporaries.specs.declared.state.TransformState.{TransformState}
-use Rattle.lower_object_rest.specs.Groups.{Gives, NamesRead, mapped_ids}
+use Rattle.lower_temporaries.specs.Helpers.{mapped_ids}
+use Rattle.lower_object_rest.specs.Groups.{Gives, NamesRead}
 use Rattle.lower_object_rest.specs.Profile.{key_ids}
 use Rattle.es_patterns.specs.PatternsPlain.{plain_object_pattern}
 use Rattle.es_patterns.specs.declared.patterns.ObjectPattern.{ObjectPattern}
 use Rattle.lower_object_rest.specs.declared.rests.OpenPattern.{OpenPattern}
 use Rattle.lower_object_rest.specs.declared.rests.OpenPattern.TheVariants.{WithRest, WithoutRest}
 use Rattle.lower_object_rest.specs.declared.rests.RestPattern.{RestPattern}
-
--- `babelHelpers.objectWithoutProperties`
-abbrev pub rest_helper : Tree
-rest_helper = helper_node (codes "objectWithoutProperties")
 
 -- whether a node is an identifier of this name
 abbrev pub is_called : Text → Tree → Bool

@@ -1,14 +1,16 @@
 -- Shapes of what is alike save in declarations: patterns and declarators are the same ones.
 use Rattle.std.proofs.Common.{ap, refl, ◌+◌, ◌∙◌, ◌≡◌}
 use Rattle.std.proofs.lemmas.Bool.{or_from, or_parts}
-use Rattle.std.specs.Prelude.{Bool, false, if◌then◌else◌, is_some, not, true, ◌&&◌, ◌||◌}
+use Rattle.std.specs.Prelude.{Bool, bytes_eq, codes, false, if◌then◌else◌, is_some, not, true, ◌&&◌, ◌||◌}
 use Rattle.es_tree.specs.Constructs.{any_kind, is_object_rest, is_rest}
-use Rattle.es_tree.specs.Names.{has_computed}
-use Rattle.es_tree.specs.Tree.{Field, Fields, Label, Tree, Trees, empty, many, node, ◌before◌, ◌then◌}
+use Rattle.es_tree.specs.Names.{first_text, has_computed}
+use Rattle.es_tree.specs.RestTargets.{is_rest_target}
+use Rattle.es_tree.specs.Tree.{Field, Fields, Label, Tree, Trees, empty, many, node, one, ◌before◌, ◌then◌}
 use Rattle.es_tree.specs.Walks.{any_in_fields, any_in_trees, any_node}
 use Rattle.es_tree.specs.declared.ast_type.AstType.{AstType}
-use Rattle.es_tree.specs.declared.ast_type.AstType.TheVariants.{AssignmentPattern, ExportNamedDeclaration, Identifier, ObjectPattern, ObjectTarget, PatternProperty, RestElement, TemplateElement, TemplateLiteral, VariableDeclaration, VariableDeclarator}
-use Rattle.es_rest_shapes.specs.RestShapes.{any_beside, any_child, any_child_by, any_tree, are_plain_members, are_plain_parts, bears_among, bears_by, bears_first, bears_rest, bears_second, declares_rest, is_known_key, is_misplaced, is_name, is_named_rest, is_odd_pattern, is_plain_first, is_plain_key, is_plain_pattern, is_plain_property, is_plain_target, is_plain_value, is_rest_declaration, is_rest_declarator, is_stray_rest, literal_text, reads_key, template_text}
+use Rattle.es_tree.specs.declared.ast_type.AstType.TheVariants.{AssignmentExpression, AssignmentPattern, ExportNamedDeclaration, Identifier, ObjectPattern, ObjectTarget, PatternProperty, RestElement, TemplateElement, TemplateLiteral, VariableDeclaration, VariableDeclarator}
+use Rattle.es_tree.specs.PropertyKeys.{literal_text, template_text}
+use Rattle.es_rest_shapes.specs.RestShapes.{any_beside, any_child, any_child_by, any_tree, are_plain_members, are_plain_parts, bears_among, bears_by, bears_first, bears_rest, bears_second, declares_rest, is_known_key, is_misplaced, is_name, is_named_rest, is_odd_pattern, is_plain_first, is_plain_key, is_plain_pattern, is_plain_property, is_plain_target, is_plain_value, is_rest_declaration, is_rest_declarator, is_stray_rest, reads_key}
 use Rattle.lower_nodes.specs.Nodes.{Alike, AlikeAmong, AlikeBy, AlikeIn}
 use Rattle.lower_nodes.specs.Nodes.Alike.{changed, within}
 use Rattle.lower_nodes.specs.Nodes.AlikeIn.{no_fields, fields_alike}
@@ -307,6 +309,21 @@ beside_alike : {fs gs : Fields} → SameIn fs gs → any_beside gs ≡ any_besid
 beside_alike no_fields = refl
 beside_alike (fields_alike h r) = λ i. by_alike is_rest_declarator (λ t u. declarator_alike) h i || child_alike is_misplaced (λ t u. misplaced_alike) r i
 
+-- what is assigned to
+target_within : (k : AstType) (l : Label) {fs gs : Fields} → SameIn fs gs → is_rest_target (one (node k l gs)) ≡ is_rest_target (one (node k l fs))
+target_within ObjectTarget l h = rests_alike ObjectTarget l h
+target_within _ l h = refl
+
+rest_target_alike : {t u : Tree} → Same t u → is_rest_target (one u) ≡ is_rest_target (one t)
+rest_target_alike (changed {k = k} {l = l} {fs = fs} {gs = gs} e) = changed_only (λ j. is_rest_target (one (node j l gs)) ≡ is_rest_target (one (node j l fs))) refl k e
+rest_target_alike (within {k = k} {l = l} h) = target_within k l h
+
+assigned_alike : {f g : Field} → AlikeBy is_declaration f g → is_rest_target g ≡ is_rest_target f
+assigned_alike both_missing = refl
+assigned_alike (one_alike h) = rest_target_alike h
+assigned_alike (many_alike h) = refl
+assigned_alike (statements_alike h) = refl
+
 pub stray_alike : (k : AstType) (l : Label) {fs gs : Fields} → SameIn fs gs → any_in_fields is_rest_declaration gs ≡ false → is_stray_rest k l fs ≡ false → is_stray_rest k l gs ≡ false
 stray_alike VariableDeclarator l (fields_alike (one_alike h) (fields_alike (one_alike g) no_fields)) none e = (λ i. odd_alike h i || misplaced_alike g i) ∙ e
 stray_alike VariableDeclarator l no_fields none e = refl
@@ -329,6 +346,8 @@ stray_alike ObjectPattern l h none e = beside_alike h ∙ e
 stray_alike PatternProperty l no_fields none e = refl
 stray_alike PatternProperty l (fields_alike h r) none e = (λ i. by_alike is_misplaced (λ t u. misplaced_alike) h i || beside_alike r i) ∙ e
 stray_alike AssignmentPattern l h none e = beside_alike h ∙ e
+stray_alike AssignmentExpression l no_fields none e = refl
+stray_alike AssignmentExpression l (fields_alike h r) none e = (λ i. (by_alike is_misplaced (λ t u. misplaced_alike) h i && not (bytes_eq (first_text l.texts) (codes "=") && assigned_alike h i)) || child_alike is_misplaced (λ t u. misplaced_alike) r i) ∙ e
 stray_alike _ l h none e = misplaced_child h e
 
 -- IDS OWED

@@ -1,12 +1,12 @@
 //! The properties of a pattern with a rest in groups, each a declarator of its own: a property whose key is read begins one, once that key
 //! has a name. ECMA-262, 14.3.3 reads a key where it stands, behind the properties before it.
-ghost use Rattle.std.specs.Prelude.{◌+◌, ◌-◌, ◌<◌, ◌≡◌, ◌^◌, IfOk, OnOk, Option, [], false, string_bytes, true, ℕ};
+ghost use Rattle.std.specs.Prelude.{◌+◌, ◌-◌, ◌<◌, ◌≡◌, ◌^◌, IfOk, OnOk, Option, [], false, true, ℕ};
 ghost use Rattle.es_tree.specs.Tree.{trees};
 ghost use Rattle.es_tree.specs.Words.{Text};
 ghost use Rattle.es_resolution.specs.Seen.{seen, seen_among};
 ghost use Rattle.es_steps.specs.Nodes.{made};
 ghost use Rattle.es_rest_rows.specs.RestRows.{group, text_of_key};
-ghost use Rattle.es_rest_shapes.specs.RestShapes.{are_plain, is_known_key, is_name, is_plain_property, key_text, reads_key};
+ghost use Rattle.es_rest_shapes.specs.RestShapes.{are_plain, is_name, is_plain_property, reads_key};
 ghost use Rattle.lower_object_rest.specs.Groups.{AddsProperty, MakesGroups, NamesKey};
 ghost use Rattle.lower_object_rest.specs.Profile.{key_ids, key_ids_by};
 ghost use Rattle.lower_temporaries.specs.Takings.{ReadsMore};
@@ -14,17 +14,16 @@ ghost use Rattle.lower_temporaries.specs.Takings.{ReadsMore};
 use crate::sources::store;
 use es_expressions::literals::new_string_literal;
 use es_patterns::patterns::{PatternProperty, new_object_pattern};
-use es_rest_nodes::keys::literal_text;
+use es_rest_nodes::keys::key_text;
 use es_rest_nodes::patterns::reads_key;
 use es_scope::context::TraverseCtx;
 use es_statements::program::new_variable_declarator;
 use es_tree::builder::AstBuilder;
-use es_tree::kind::Kind;
 use es_tree::node::{Field, Node};
 use lower_temporaries::declarations::MADE;
 use lower_temporaries::readings::read_once_more;
 use lower_temporaries::state::TransformState;
-use std::alloc::{AllocError, Global};
+use std::alloc::AllocError;
 use std::mem;
 
 /// What was made so far of the properties of a pattern and its source.
@@ -176,7 +175,6 @@ fn name_key(property: Node, ctx: &mut TraverseCtx<TransformState>) -> Result<Nam
 /// The key of a property that isn't read, as a text: `"a"` for `a: x`, `"a": x` and `["a"]: x`, `"16"` for `0x10: x`, and `"null"` for `[null]: x`.
 fn new_key(property: &Node, ast: &mut AstBuilder) -> Result<Node, AllocError>
     requires plain { is_plain_property property.now ≡ true }
-    requires known { reads_key property.now ≡ false }
     requires room { ast.old.next + 1 < 2 ^ 32 }
     ensures made { IfOk result (λ key. (names : ℕ → Text → Option ℕ) → seen names key ≡ text_of_key property.now) }
     ensures counted { OnOk result (ast.new.next ≡ ast.old.next + 1) }
@@ -188,18 +186,4 @@ fn new_key(property: &Node, ast: &mut AstBuilder) -> Result<Node, AllocError>
     let text = key_text(key, ast.alloc)?;
     let made = new_string_literal(ast, MADE, text)?;
     Ok(made)
-}
-
-/// The text of a key that is a name or a literal.
-fn key_text(key: &Node, alloc: Global) -> Result<String, AllocError>
-    requires { is_known_key key.now ≡ true }
-    ensures { IfOk result (λ text. string_bytes text ≡ key_text key.now) }
-{
-    if let Some(text) = literal_text(key) {
-        return String::from_str(alloc, text);
-    }
-    match &key.kind {
-        Kind::Identifier { name, .. } => String::from_str(alloc, name.as_str()),
-        _ => unreachable!(),
-    }
 }

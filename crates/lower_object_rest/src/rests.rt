@@ -1,36 +1,29 @@
 //! A pattern with a rest, as declarators without one: the rest is what a helper answers that copies all but the keys before, or all where it
 //! stands alone.
 ghost use Rattle.std.specs.Prelude.{◌+◌, ◌-◌, ◌<◌, ◌≡◌, ◌^◌, ◌∷◌, IfOk, OnOk, Option, [], true, ℕ};
-ghost use Rattle.es_tree.specs.Helpers.{helper_text};
 ghost use Rattle.es_tree.specs.Tree.{Tree, trees};
 ghost use Rattle.es_tree.specs.Views.{plain_fields};
 ghost use Rattle.es_tree.specs.Words.{Text};
-ghost use Rattle.es_tree.specs.declared.helper.Helper.TheVariants.{ObjectDestructuringEmpty};
 ghost use Rattle.es_resolution.specs.Seen.{seen, seen_in};
 ghost use Rattle.es_steps.specs.Nodes.{call_node};
-ghost use Rattle.es_steps.specs.ObjectRest.{helper_node, whole_value};
+ghost use Rattle.es_steps.specs.ObjectRest.{whole_value};
 ghost use Rattle.es_rest_shapes.specs.RestShapes.{are_plain, is_name, is_plain_pattern};
-ghost use Rattle.lower_object_rest.specs.Groups.{keys_value, mapped_ids};
-ghost use Rattle.lower_object_rest.specs.Parts.{Opens, Takes, TakesAlone, TakesApart, TakesBeside, ends_in_rest, rest_helper};
+ghost use Rattle.lower_object_rest.specs.Parts.{Opens, Takes, TakesAlone, TakesApart, TakesBeside, ends_in_rest};
 ghost use Rattle.lower_object_rest.specs.Profile.{key_ids};
+ghost use Rattle.lower_temporaries.specs.Helpers.{keys_value, mapped_ids, rest_helper};
 ghost use Rattle.lower_temporaries.specs.Takings.{ReadsMore};
 
 use crate::groups::{Groups, split_groups};
-use es_expressions::composites::{new_array_expression, new_object_expression};
-use es_expressions::literals::new_identifier;
-use es_expressions::members::{new_call_expression, new_member_expression};
-use es_expressions::operations::new_sequence_expression;
 use es_patterns::patterns::{ObjectPattern, RestElement};
 use es_rest_nodes::patterns::is_named_rest;
 use es_scope::context::TraverseCtx;
 use es_statements::program::new_variable_declarator;
-use es_tree::helper::Helper;
 use es_tree::ids::{NodeId, Span};
 use es_tree::node::{Field, Node};
 use lower_temporaries::declarations::MADE;
+use lower_temporaries::helpers::{new_rest_value, new_whole_value};
 use lower_temporaries::readings::read_once_more;
 use lower_temporaries::state::TransformState;
-use lower_temporaries::temporaries::read_name;
 use std::alloc::AllocError;
 
 /// A pattern with a rest, taken apart.
@@ -122,7 +115,7 @@ fn take_all(
     requires room { ctx.old.ast.next + 12 < 2 ^ 32 }
     ensures { IfOk result (λ made. TakesAlone ctx.old ctx.new target source made) }
 {
-    let value = new_whole_value(source, ctx)?;
+    let value = new_all_value(source, ctx)?;
     let declarator = new_variable_declarator(&mut ctx.ast, MADE, target, Some(value))?;
     Ok(declarator)
 }
@@ -184,79 +177,19 @@ fn new_value(
     ensures made { IfOk result (λ value. (names : ℕ → Text → Option ℕ) → seen names value ≡ call_node rest_helper (seen names source.now ∷ keys_value is_read (seen_in names (plain_fields keys.items)) ∷ [])) }
     ensures reads { OnOk result (ReadsMore (6 + mapped_ids is_read) ctx.old ctx.new) }
 {
-    let callee = new_helper(Helper::ObjectWithoutProperties, ctx)?;
     let again = read_once_more(source, ctx)?;
-    let left_out = new_keys(keys, is_read, ctx)?;
-    let arguments = Vec::from_array(ctx.ast.alloc, [again, left_out])?;
-    let value = new_call_expression(&mut ctx.ast, MADE, false, callee, arguments)?;
+    let value = new_rest_value(again, keys, is_read, ctx)?;
     Ok(value)
 }
 
-/// `["a"]` for these keys, and `["a", _k].map(babelHelpers.toPropertyKey)` where one of them is read: an object has it under what
-/// ECMA-262, 7.1.19 makes of it.
-fn new_keys(
-    keys: Vec<Field>,
-    is_read: bool,
-    ctx: &mut TraverseCtx<TransformState>,
-) -> Result<Node, AllocError>
-    requires room { ctx.old.ast.next + 7 < 2 ^ 32 }
-    ensures made { IfOk result (λ node. (names : ℕ → Text → Option ℕ) → seen names node ≡ keys_value is_read (seen_in names (plain_fields keys.items))) }
-    ensures reads { OnOk result (ReadsMore (1 + mapped_ids is_read) ctx.old ctx.new) }
-{
-    let array = new_array_expression(&mut ctx.ast, MADE, keys)?;
-    if !is_read {
-        return Ok(array);
-    }
-    let map = String::from_str(ctx.ast.alloc, "map")?;
-    let property = new_identifier(&mut ctx.ast, MADE, map)?;
-    let callee = new_member_expression(&mut ctx.ast, MADE, false, false, array, property)?;
-    let convert = new_helper(Helper::ToPropertyKey, ctx)?;
-    let arguments = Vec::from_array(ctx.ast.alloc, [convert])?;
-    let mapped = new_call_expression(&mut ctx.ast, MADE, false, callee, arguments)?;
-    Ok(mapped)
-}
-
 /// `babelHelpers.extends({}, (babelHelpers.objectDestructuringEmpty(s), s))` for a source `s`.
-fn new_whole_value(source: Node, ctx: &mut TraverseCtx<TransformState>) -> Result<Node, AllocError>
+fn new_all_value(source: Node, ctx: &mut TraverseCtx<TransformState>) -> Result<Node, AllocError>
     requires name { is_name source ≡ true }
     requires room { ctx.old.ast.next + 11 < 2 ^ 32 }
     ensures made { IfOk result (λ value. (names : ℕ → Text → Option ℕ) → seen names value ≡ whole_value (seen names source)) }
     ensures reads { OnOk result (ReadsMore 11 ctx.old ctx.new) }
 {
-    let asked = new_emptied(&source, ctx)?;
-    let callee = new_helper(Helper::Extends, ctx)?;
-    let expressions = Vec::from_array(ctx.ast.alloc, [asked, source])?;
-    let sequence = new_sequence_expression(&mut ctx.ast, MADE, expressions)?;
-    let properties = Vec::new(ctx.ast.alloc);
-    let object = new_object_expression(&mut ctx.ast, MADE, properties)?;
-    let arguments = Vec::from_array(ctx.ast.alloc, [object, sequence])?;
-    let value = new_call_expression(&mut ctx.ast, MADE, false, callee, arguments)?;
+    let again = read_once_more(&source, ctx)?;
+    let value = new_whole_value(source, again, ctx)?;
     Ok(value)
-}
-
-/// `babelHelpers.objectDestructuringEmpty(s)` for a source `s`: it throws where `s` is undefined or null, as a pattern does.
-fn new_emptied(source: &Node, ctx: &mut TraverseCtx<TransformState>) -> Result<Node, AllocError>
-    requires name { is_name source.now ≡ true }
-    requires room { ctx.old.ast.next + 5 < 2 ^ 32 }
-    ensures made { IfOk result (λ value. (names : ℕ → Text → Option ℕ) → seen names value ≡ call_node (helper_node (helper_text ObjectDestructuringEmpty)) (seen names source.now ∷ [])) }
-    ensures reads { OnOk result (ReadsMore 5 ctx.old ctx.new) }
-{
-    let callee = new_helper(Helper::ObjectDestructuringEmpty, ctx)?;
-    let again = read_once_more(source, ctx)?;
-    let arguments = Vec::from_array(ctx.ast.alloc, [again])?;
-    let value = new_call_expression(&mut ctx.ast, MADE, false, callee, arguments)?;
-    Ok(value)
-}
-
-/// A helper, as a property of `babelHelpers`.
-fn new_helper(helper: Helper, ctx: &mut TraverseCtx<TransformState>) -> Result<Node, AllocError>
-    requires room { ctx.old.ast.next + 3 < 2 ^ 32 }
-    ensures made { IfOk result (λ node. (names : ℕ → Text → Option ℕ) → seen names node ≡ helper_node (helper_text helper)) }
-    ensures reads { OnOk result (ReadsMore 3 ctx.old ctx.new) }
-{
-    let object = read_name("babelHelpers", None, ctx)?;
-    let name = String::from_str(ctx.ast.alloc, helper.name())?;
-    let property = new_identifier(&mut ctx.ast, MADE, name)?;
-    let member = new_member_expression(&mut ctx.ast, MADE, false, false, object, property)?;
-    Ok(member)
 }

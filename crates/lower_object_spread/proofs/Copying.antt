@@ -20,7 +20,7 @@ use Rattle.lower_temporaries.specs.SeenTrees.{no_bindings}
 use Rattle.lower_temporaries.specs.Takings.{ReadsMore, moment_of}
 use Rattle.lower_temporaries.specs.declared.state.TransformState.{TransformState}
 use Rattle.lower_temporaries.proofs.Loads.{trees_load-append}
-use Rattle.lower_temporaries.proofs.SeenLaws.{load-seen, size-seen}
+use Rattle.lower_temporaries.proofs.SeenLaws.{load-seen, seen-trees, size-seen}
 use Rattle.lower_temporaries.proofs.Takings.{reads-none, reads-then}
 use Rattle.lower_object_spread.specs.Copying.{AddsProperty, CopiesAll, CopiesLast, arguments_before, copy_load, copy_size, helper, literals_before, seen_copy}
 use Rattle.lower_object_spread.specs.Literals.{any_lacks_argument, lacks_argument}
@@ -33,22 +33,17 @@ copied-call None ps e = refl
 copied-call (Some c) [] e = refl
 copied-call (Some c) (p ∷ ps) e = refl
 
--- a list as it is seen, node by node
-seen_among-trees : (names : ℕ → Text → Option ℕ) (ts : List Tree) → seen_among names (trees ts) ≡ trees (map (seen names) ts)
-seen_among-trees names [] = refl
-seen_among-trees names (t ∷ ts) = ap (λ us. seen names t before us) (seen_among-trees names ts)
-
 abbrev object_of : (ℕ → Text → Option ℕ) → List Tree → Tree
 object_of names ps = node ObjectExpression (made [] []) (many (seen_among names (trees ps)) then done)
 
 object-made : (names : ℕ → Text → Option ℕ) (ps : List Tree) → object_of names ps ≡ object_node (map (seen names) ps)
-object-made names ps = ap (λ (ts : Trees). node ObjectExpression (made [] []) (many ts then done)) (seen_among-trees names ps)
+object-made names ps = ap (λ (ts : Trees). node ObjectExpression (made [] []) (many ts then done)) (seen-trees names ps)
 
 pub call-made : (names : ℕ → Text → Option ℕ) (t callee object property : Tree) (arguments : List Tree) → seen names t ≡ node CallExpression (made [] (false ∷ [])) (one (seen names callee) then many (seen_among names (trees arguments)) then done) →
     seen names callee ≡ node MemberExpression (made [] (false ∷ false ∷ [])) (one (seen names object) then one (seen names property) then done) → seen names object ≡ word (codes "babelHelpers") → seen names property ≡ word (codes "objectSpread2") → seen names t ≡ call_node helper (map (seen names) arguments)
 call-made names t callee object property arguments call member o p =
     let called : seen names callee ≡ helper = member ∙ (λ i. node MemberExpression (made [] (false ∷ false ∷ [])) (one (o i) then one (p i) then done)) in
-    call ∙ (λ i. node CallExpression (made [] (false ∷ [])) (one (called i) then many (seen_among-trees names arguments i) then done))
+    call ∙ (λ i. node CallExpression (made [] (false ∷ [])) (one (called i) then many (seen-trees names arguments i) then done))
 
 -- what it begins with
 

@@ -18,6 +18,7 @@ use Rattle.es_resolution.specs.Declarations.{declared, declared_among}
 use Rattle.es_resolution.specs.Seen.{seen, seen_among, seen_by, seen_in}
 use Rattle.es_changes.proofs.Expressions.{law_expression_proof}
 use Rattle.es_traverse.specs.Laws.{is_construct}
+use Rattle.lower_temporaries.proofs.SeenLaws.{any_kind-seen}
 use Rattle.lower_object_spread.specs.Literals.{any_lacks_argument, has_argument, has_properties, is_lowerable_literal, lacks_argument}
 
 -- AS THE CODE SEES THEM
@@ -65,14 +66,10 @@ module _ (names : ℕ → Text → Option ℕ) where
   pub spread-seen : (t : Tree) → is_spread (kind_of (seen names t)) ≡ is_spread (kind_of t)
   spread-seen (node k l fs) = refl
 
-  pub any-spread-seen : (ts : Trees) → any_kind is_spread (seen_among names ts) ≡ any_kind is_spread ts
-  any-spread-seen empty = refl
-  any-spread-seen (t before ts) = λ i. spread-seen t i || any-spread-seen ts i
-
   properties-seen : (fs : Fields) → (has_member is_spread (field_at 0 (seen_in names fs)) && has_properties (seen_in names fs)) ≡ (has_member is_spread (field_at 0 fs) && has_properties fs)
   properties-seen done = refl
-  properties-seen (many ts then done) = λ i. any-spread-seen ts i && not (any-lacks-seen ts i)
-  properties-seen (many ts then (g then fs)) = ap (λ b. b && false) (any-spread-seen ts)
+  properties-seen (many ts then done) = λ i. any_kind-seen names is_spread ts i && not (any-lacks-seen ts i)
+  properties-seen (many ts then (g then fs)) = ap (λ b. b && false) (any_kind-seen names is_spread ts)
   properties-seen (missing then fs) = refl
   properties-seen (one t then fs) = refl
   properties-seen (statements ts then fs) = refl

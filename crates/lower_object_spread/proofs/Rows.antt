@@ -1,9 +1,10 @@
 -- A literal that was opened, and the calls that are made of it, as a row.
 use Rattle.std.proofs.Common.{◌≡◌, ◌∙◌, ℕ, List, [], ◌∷◌, ◌++◌, refl, sym, ap, subst, arith, Option, Some, None, codes}
-use Rattle.std.proofs.lemmas.Bool.{and_from, and_parts}
-use Rattle.std.specs.Prelude.{Bool, true, false, ◌||◌, ◌&&◌, not, is_some}
+use Rattle.std.proofs.lemmas.Bool.{and_parts}
+use Rattle.std.specs.Prelude.{Bool, true, false, ◌||◌, is_some}
 use Rattle.es_tree.specs.Constructs.{any_kind, is_object_spread, is_spread}
-use Rattle.es_tree.specs.Tree.{Tree, node, Label, Fields, done, ◌then◌, many, Trees, kind_of, label_of, fields_of, tree_size, trees}
+use Rattle.es_tree.specs.RestTargets.{is_rest_target}
+use Rattle.es_tree.specs.Tree.{Tree, node, Label, Fields, done, ◌then◌, many, one, Trees, kind_of, tree_size, trees}
 use Rattle.es_tree.specs.Words.{Text}
 use Rattle.es_tree.specs.declared.ast_type.AstType.{AstType}
 use Rattle.es_tree.specs.declared.ast_type.AstType.TheVariants.{AssignmentExpression, BinaryExpression, CallExpression, ClassDeclaration, ClassExpression, Identifier, LogicalExpression, MemberExpression, ObjectExpression}
@@ -15,22 +16,21 @@ use Rattle.es_steps.specs.Nodes.{placed}
 use Rattle.es_steps.specs.ObjectSpread.{Copies, SpreadRule, copied, last_copied}
 use Rattle.es_steps.specs.ObjectSpread.Copies.{copies, keeps, no_more}
 use Rattle.es_steps.specs.ObjectSpread.SpreadRule.{spreads}
-use Rattle.es_steps.specs.Open.{is_body, opened_fields}
-use Rattle.es_steps.specs.Slots.{in_open_slot}
-use Rattle.es_steps.specs.Steps.{Site, site_in}
+use Rattle.es_steps.specs.Steps.{Site}
 use Rattle.es_valid_steps.proofs.FurtherForms.{or-later, or-none}
 use Rattle.es_changes.specs.Moments.{whole_at}
-use Rattle.es_conditions.specs.CoreConditions.{are_marked, each_passes, each_passes_in, holds_none_where, is_chain_placed, is_copy_free, is_free, is_known, is_no_stray, is_past_chains, is_placed, is_power_free, is_settled, is_wrapped}
-use Rattle.es_conditions.proofs.Rows.{past-free}
+use Rattle.es_conditions.specs.CoreConditions.{is_free}
+use Rattle.es_conditions.proofs.Rows.{past-free, wrapped-free, wrapped-of}
 use Rattle.es_traverse.specs.Laws.{Seen, is_construct}
 use Rattle.es_traverse.specs.Loads.{load}
 use Rattle.lower_temporaries.specs.Takings.{moment_of}
 use Rattle.lower_temporaries.specs.declared.state.TransformState.{TransformState}
-use Rattle.lower_temporaries.proofs.SeenLaws.{load-seen, size-seen}
+use Rattle.lower_temporaries.proofs.Copied.{copied-unbound}
+use Rattle.lower_temporaries.proofs.SeenLaws.{any_kind-seen, load-seen, size-seen}
 use Rattle.lower_temporaries.proofs.Takings.{takes-none}
 use Rattle.lower_object_spread.specs.Copying.{CopiesAll, Lowers, helper}
 use Rattle.lower_object_spread.specs.Literals.{has_properties, is_lowerable_literal}
-use Rattle.lower_object_spread.proofs.Literals.{any-spread-seen, properties-declare}
+use Rattle.lower_object_spread.proofs.Literals.{properties-declare}
 
 -- WITH THE SPAN of another node
 
@@ -86,24 +86,10 @@ copies-kind f c ps ts u (keeps {t = t} {ts = rest} other r) e h = copies-kind f 
 
 -- `babelHelpers`
 
-unbound-by : (asked : Bool) (s : Option ℕ) → asked ≡ true → (not asked || not (is_some s)) ≡ true → s ≡ None
-unbound-by true None h free = refl
-unbound-by true (Some s) h free = absurd (cc free)
-unbound-by false s h free = absurd (cc h)
-
--- it is unbound at a literal with a spread
-copies-free : (o : EnvOptions) (n : Site) (t : Tree) → is_free o n t ≡ true → is_copy_free o n (kind_of t) (label_of t) (fields_of t) ≡ true
-copies-free o n (node k l fs) h =
-    let t = node k l fs in
-    let known = (and_parts (holds_none_where (in_open_slot n.above) o t) (is_known o n t) (and_parts (is_wrapped o n t) (is_settled o t) h).0).1 in
-    let all = (and_parts (each_passes (is_placed o) n t && are_marked o t && is_no_stray o n t) (is_past_chains o n) known).0 in
-    let each = (and_parts (each_passes (is_placed o) n t) (are_marked o t) (and_parts (each_passes (is_placed o) n t && are_marked o t) (is_no_stray o n t) all).0).0 in
-    let names = (and_parts (is_placed o n k l fs) (each_passes_in (is_placed o) (site_in n k l (opened_fields (is_body k) fs)) (is_body k) fs) each).0 in
-    (and_parts (is_power_free o n k l fs) (is_copy_free o n k l fs) (and_parts (is_power_free o n k l fs && is_copy_free o n k l fs) (is_chain_placed o n k) names).0).1
-
 copies-unbound : (o : EnvOptions) (n : Site) (t : Tree) → is_some o.es2018.object_rest_spread ≡ true → is_construct is_object_spread t ≡ true → is_free o n t ≡ true → n.names.scope (codes "babelHelpers") ≡ None
-copies-unbound o n t on spread free =
-    unbound-by (is_some o.es2018.object_rest_spread && is_construct is_object_spread t) (n.names.scope (codes "babelHelpers")) (and_from (is_some o.es2018.object_rest_spread) (is_construct is_object_spread t) on spread) (copies-free o n t free)
+copies-unbound o n (node k l fs) on spread free =
+    let t = node k l fs in
+    copied-unbound o n k l fs on (ap (λ b. b || is_rest_target (one t)) spread) (wrapped-of o n t (wrapped-free o n t free)).known.placed
 
 -- THE ROW
 
@@ -113,7 +99,7 @@ literal l ps = node ObjectExpression l (many (trees ps) then done)
 literal-lowers : (old new : TraverseCtx TransformState) (names : ℕ → Text → Option ℕ) (l : Label) (ps : List Tree) (c : Tree) → any_kind is_spread (trees ps) ≡ true → is_some old.options.es2018.object_rest_spread ≡ true → CopiesAll old new ps c → Lowers old new (seen names (literal l ps)) (seen names (placed l c))
 literal-lowers old new names l ps c some on all =
     let m : Label = record l { id = 0; marks = [] } in
-    let spread : any_kind is_spread (seen_among names (trees ps)) ≡ true = any-spread-seen names (trees ps) ∙ some in
+    let spread : any_kind is_spread (seen_among names (trees ps)) ≡ true = any_kind-seen names is_spread (trees ps) ∙ some in
     let made : placed m (seen names c) ≡ seen names (placed l c) = placed-alike m l (seen names c) refl refl ∙ sym (placed-seen names l c) in
     let way = all.copies names in
     record {

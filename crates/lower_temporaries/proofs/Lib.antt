@@ -13,3 +13,7 @@ pub mod Loads
 pub mod Later
 pub mod ParensForm
 pub mod BoundNames
+pub mod HelperCalls
+pub mod KeysSeen
+pub mod Outward
+pub mod Copied

@@ -1,21 +1,22 @@
 -- What is seen of trees: their sizes and loads, the bases of their names, and inert trees.
 use Rattle.std.proofs.Common.{◌≡◌, ◌+◌, ◌||◌, ◌++◌, ℕ, suc, Bool, true, false, refl, ap, List, [], ◌∷◌, Option, Some, None}
-use Rattle.std.specs.Prelude.{not}
+use Rattle.std.specs.Prelude.{if◌then◌else◌, map, not}
 use Rattle.std.proofs.lemmas.Bool.{or_parts}
 use Rattle.es_tree.specs.Ancestors.{is_class}
+use Rattle.es_tree.specs.Constructs.{any_kind, is_rest}
 use Rattle.es_tree.specs.Fresh.{field_parts, first_parts, first_characters, joined, longest_base, node_base, or_ref, parts, second_parts, without_last_digits, without_underscores}
 use Rattle.es_tree.specs.Order.{renumber, renumber_field, renumber_fields, renumber_trees}
 use Rattle.es_tree.specs.Parens.{without_parens}
-use Rattle.es_tree.specs.Tree.{Tree, node, Label, Fields, done, ◌then◌, Field, missing, one, many, statements, Trees, empty, ◌before◌, field_size, fields_size, tree_size, trees_size}
+use Rattle.es_tree.specs.Tree.{Tree, node, Label, Fields, done, ◌then◌, Field, missing, one, many, statements, Trees, empty, ◌before◌, field_size, fields_size, tree_size, trees, trees_size}
 use Rattle.es_tree.specs.Walks.{any_in_field, any_in_fields, any_in_trees, any_node}
 use Rattle.es_tree.specs.Words.{Text}
 use Rattle.es_tree.specs.declared.ast_type.AstType.{AstType}
-use Rattle.es_tree.specs.declared.ast_type.AstType.TheVariants.{AssignmentExpression, BinaryExpression, CallExpression, CatchClause, ChainExpression, ClassDeclaration, ClassExpression, Identifier, LogicalExpression, MemberExpression, NewExpression, ParenthesizedExpression, PrivateIdentifier, Super, ThisExpression, VariableDeclaration}
+use Rattle.es_tree.specs.declared.ast_type.AstType.TheVariants.{AssignmentExpression, BinaryExpression, CallExpression, CatchClause, ChainExpression, ClassDeclaration, ClassExpression, Identifier, LogicalExpression, MemberExpression, NewExpression, ObjectTarget, ParenthesizedExpression, PrivateIdentifier, Super, ThisExpression, VariableDeclaration}
 use Rattle.es_resolution.specs.Seen.{name_inside, seen, seen_among, seen_by, seen_in, seen_marks}
 use Rattle.es_runs.specs.Duplication.{duplicate_base}
 use Rattle.es_semantic.specs.NodeMarks.{scope_mark}
 use Rattle.es_runs.specs.Weights.{own_weight}
-use Rattle.es_traverse.specs.Loads.{field_load, fields_load, load, own_allowance, parameter_allowance, trees_load}
+use Rattle.es_traverse.specs.Loads.{field_load, fields_allowance, fields_load, load, member_allowance, members_allowance, own_allowance, trees_load}
 use Rattle.lower_temporaries.specs.SeenTrees.{is_inert, is_active_node, no_bindings, seen_alone}
 
 module _ (names : ℕ → Text → Option ℕ) where
@@ -35,9 +36,15 @@ module _ (names : ℕ → Text → Option ℕ) where
     sizes-by (many ts) = sizes-among ts
     sizes-by (statements ts) = sizes-among ts
 
-    sizes-among : (ts : Trees) → trees_size (seen_among names ts) ≡ trees_size ts
+    pub sizes-among : (ts : Trees) → trees_size (seen_among names ts) ≡ trees_size ts
     sizes-among empty = refl
     sizes-among (t before ts) = λ i. size-seen t i + sizes-among ts i
+
+  -- LISTS
+
+  pub seen-trees : (ts : List Tree) → seen_among names (trees ts) ≡ trees (map (seen names) ts)
+  seen-trees [] = refl
+  seen-trees (t ∷ ts) = ap (λ us. seen names t before us) (seen-trees ts)
 
   -- LOADS
 
@@ -50,17 +57,30 @@ module _ (names : ℕ → Text → Option ℕ) where
   own-load ChainExpression l fs gs = refl
   own-load _ l fs gs = refl
 
-  own-parameter : (k : AstType) (fs : Fields) → parameter_allowance k (seen_in names fs) ≡ parameter_allowance k fs
-  own-parameter CatchClause done = refl
-  own-parameter CatchClause (missing then fs) = refl
-  own-parameter CatchClause (one t then fs) = refl
-  own-parameter CatchClause (many ts then fs) = refl
-  own-parameter CatchClause (statements ts then fs) = refl
-  own-parameter _ fs = refl
+  members-seen : (ts : Trees) → members_allowance (seen_among names ts) ≡ members_allowance ts
+  members-seen empty = refl
+  members-seen (node k l fs before ts) = ap (λ n. member_allowance k + n) (members-seen ts)
+
+  pub any_kind-seen : (test : AstType → Bool) (ts : Trees) → any_kind test (seen_among names ts) ≡ any_kind test ts
+  any_kind-seen test empty = refl
+  any_kind-seen test (node k l fs before ts) = ap (λ b. test k || b) (any_kind-seen test ts)
+
+  own-fields : (k : AstType) (fs : Fields) → fields_allowance k (seen_in names fs) ≡ fields_allowance k fs
+  own-fields CatchClause done = refl
+  own-fields CatchClause (missing then fs) = refl
+  own-fields CatchClause (one t then fs) = refl
+  own-fields CatchClause (many ts then fs) = refl
+  own-fields CatchClause (statements ts then fs) = refl
+  own-fields ObjectTarget done = refl
+  own-fields ObjectTarget (missing then fs) = refl
+  own-fields ObjectTarget (one t then fs) = refl
+  own-fields ObjectTarget (many ts then fs) = λ i. if any_kind-seen is_rest ts i then members-seen ts i else 0
+  own-fields ObjectTarget (statements ts then fs) = refl
+  own-fields _ fs = refl
 
   mutual
     pub load-seen : (t : Tree) → load (seen names t) ≡ load t
-    load-seen (node k l fs) = λ i. suc (own-load k l fs (seen_in names fs) i + own_allowance k + own-parameter k fs i + loads-in fs i)
+    load-seen (node k l fs) = λ i. suc (own-load k l fs (seen_in names fs) i + own_allowance k + own-fields k fs i + loads-in fs i)
 
     loads-in : (fs : Fields) → fields_load (seen_in names fs) ≡ fields_load fs
     loads-in done = refl
@@ -72,7 +92,7 @@ module _ (names : ℕ → Text → Option ℕ) where
     loads-by (many ts) = loads-among ts
     loads-by (statements ts) = loads-among ts
 
-    loads-among : (ts : Trees) → trees_load (seen_among names ts) ≡ trees_load ts
+    pub loads-among : (ts : Trees) → trees_load (seen_among names ts) ≡ trees_load ts
     loads-among empty = refl
     loads-among (t before ts) = λ i. load-seen t i + loads-among ts i
 

@@ -43,6 +43,10 @@ ids-none a = let e : a.next + 0 ≡ a.next = omega arith in λ i. record a { nex
 pub reads-then : {m n : ℕ} {a b c : TraverseCtx TransformState} → ReadsMore m a b → ReadsMore n b c → ReadsMore (m + n) a c
 reads-then {m} {n} {a} g h = record { moment_is = h.moment_is ∙ (ap (with_ids n) g.moment_is ∙ ids-then m n (moment_of a)); symbols = h.symbols ∙ g.symbols; kept = kept-then g.kept h.kept }
 
+-- as many ids, counted in another way
+pub reads-as : {old new : TraverseCtx TransformState} (m n : ℕ) → m ≡ n → ReadsMore m old new → ReadsMore n old new
+reads-as {old} {new} m n e h = subst (λ (k : ℕ). ReadsMore k old new) e h
+
 -- nothing at all
 pub reads-none : (ctx : TraverseCtx TransformState) → ReadsMore 0 ctx ctx
 reads-none ctx = record { moment_is = sym (ids-none (moment_of ctx)); symbols = refl; kept = record { state = refl; options = refl; around = refl; scopes = refl; place = refl } }

@@ -12,3 +12,5 @@ pub mod Parenthesized
 pub mod Replacings
 pub mod Shapes
 pub mod RowProfiles
+pub mod Helpers
+pub mod Outward

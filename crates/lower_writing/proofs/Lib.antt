@@ -1,4 +1,3 @@
-pub mod SlotPlaces
 pub mod SlotSites
 pub mod SeenWeights
 pub mod SeenTests

@@ -14,7 +14,8 @@ use Rattle.es_resolution.specs.Seen.{seen, seen_among, seen_by, seen_in, seen_ma
 use Rattle.es_traverse.proofs.Kept.{kind-seen}
 use Rattle.lower_temporaries.proofs.SeenLaws.{parens-seen}
 use Rattle.es_steps.specs.Slots.{closes, holds, holds_field, holds_fields, holds_trees}
-use Rattle.es_steps.specs.WrapRule.{is_member_target, is_rest_target, is_wrapped_for}
+use Rattle.es_tree.specs.RestTargets.{is_rest_target}
+use Rattle.es_steps.specs.WrapRule.{is_member_target, is_wrapped_for}
 
 -- the label that is seen, with these marks
 abbrev seen_label : List (Option ℕ) → Label → Label

@@ -1,8 +1,9 @@
 -- What the ancestors of a context say of slots, by their kinds and fields alone.
-use Rattle.std.specs.Prelude.{ℕ, ◌==◌, ◌&&◌, ◌||◌, Bool, true, false, List, [], ◌∷◌, drop}
+use Rattle.std.specs.Prelude.{ℕ, ◌==◌, ◌||◌, Bool, true, false, List, [], ◌∷◌, drop}
 use Rattle.es_tree.specs.declared.ast_type.AstType.{AstType}
 use Rattle.es_tree.specs.declared.ast_type.AstType.TheVariants.{ArrayPattern, ArrowFunctionExpression, AssignmentPattern, FunctionDeclaration, FunctionExpression, ObjectPattern, PatternProperty, PropertyDefinition, RestElement}
 use Rattle.es_scope.specs.declared.ancestor.Ancestor.{Ancestor}
+use Rattle.lower_temporaries.specs.Outward.{reaches}
 
 abbrev pub is_class_field : AstType → Bool
 is_class_field PropertyDefinition = true
@@ -24,10 +25,16 @@ is_part_at AssignmentPattern i = i == 0
 is_part_at RestElement i = i == 0
 is_part_at _ i = false
 
+-- whether an ancestor has parameters in its field, and one parts of a pattern
+abbrev pub is_parameter_place : Ancestor → Bool
+is_parameter_place a = is_parameter_at a.kind a.field
+
+abbrev pub is_part_place : Ancestor → Bool
+is_part_place a = is_part_at a.kind a.field
+
 -- whether a pattern that stands here is a parameter, or a part of one
 abbrev pub in_parameter : List Ancestor → Bool
-in_parameter [] = false
-in_parameter (a ∷ up) = is_parameter_at a.kind a.field || (is_part_at a.kind a.field && in_parameter up)
+in_parameter xs = reaches is_parameter_place is_part_place xs
 
 -- whether the parent is one
 abbrev pub reaches_parameter : List Ancestor → Bool

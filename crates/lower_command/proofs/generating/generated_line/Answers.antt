@@ -33,16 +33,19 @@ more-at-most : (imports : Bool) → (if imports then 36 else 0) ≤ 36
 more-at-most true = omega arith
 more-at-most false = omega arith
 
-within : (sets using rests splits imports : Bool) (n m : ℕ) → m ≤ (if sets then 3 else 1) * (most_for_each using rests splits * n + (if imports then 36 else 0)) → n < 2 ^ 20 → m < 2 ^ 64
-within sets using rests splits imports n m size small =
-    let some = least using rests splits imports n small in
-    thrice sets (most_for_each using rests splits * n + (if imports then 36 else 0)) size some
+within : (sets using rests splits shares imports : Bool) (n m : ℕ) → m ≤ (if sets then 3 else 1) * (most_for_each using rests splits shares * n + (if imports then 36 else 0)) → n < 2 ^ 20 → m < 2 ^ 64
+within sets using rests splits shares imports n m size small =
+    let some = least using rests splits shares imports n small in
+    thrice sets (most_for_each using rests splits shares * n + (if imports then 36 else 0)) size some
   where
-    least : (using rests splits imports : Bool) (n : ℕ) → n < 2 ^ 20 → most_for_each using rests splits * n + (if imports then 36 else 0) < 2 ^ 33
-    least true rests splits imports n small = let more = more-at-most imports in omega (arith, small, more)
-    least false true true imports n small = let more = more-at-most imports in omega (arith, small, more)
-    least false true false imports n small = let more = more-at-most imports in omega (arith, small, more)
-    least false false splits imports n small = let more = more-at-most imports in omega (arith, small, more)
+    least : (using rests splits shares imports : Bool) (n : ℕ) → n < 2 ^ 20 → most_for_each using rests splits shares * n + (if imports then 36 else 0) < 2 ^ 33
+    least true rests splits true imports n small = let more = more-at-most imports in omega (arith, small, more)
+    least true rests splits false imports n small = let more = more-at-most imports in omega (arith, small, more)
+    least false true true true imports n small = let more = more-at-most imports in omega (arith, small, more)
+    least false true true false imports n small = let more = more-at-most imports in omega (arith, small, more)
+    least false true false true imports n small = let more = more-at-most imports in omega (arith, small, more)
+    least false true false false imports n small = let more = more-at-most imports in omega (arith, small, more)
+    least false false splits shares imports n small = let more = more-at-most imports in omega (arith, small, more)
 
     thrice : (sets : Bool) (k : ℕ) → m ≤ (if sets then 3 else 1) * k → k < 2 ^ 33 → m < 2 ^ 64
     thrice true k h small = omega (arith, h, small)
@@ -56,7 +59,7 @@ returns-clause-line c =
     let is : IsLoweredTree o p lowered = subst (λ (t : Tree). IsLoweredTree o t lowered) c.in_ok-read.ensures.tree c.in_ok-lowered.ensures.lowered in
     let small = generated-small c.args.count c.requires in
     let before : c.count_nodes-before.result ≡ tree_size p = c.count_nodes-before.ensures ∙ (ap (λ (t : Tree). capped (tree_size t)) c.in_ok-read.ensures.tree ∙ uncapped (tree_size p) (omega (arith, small))) in
-    let after : capped (tree_size lowered.program) ≡ tree_size lowered.program = uncapped (tree_size lowered.program) (within (sets_this o p) (using_there o p) (rests_there o p) (splits_exports o p) (imports_helpers o (lowers_using o is.lowers.split) is.lowers.moved) (tree_size p) (tree_size lowered.program) is.lowers.size small) in
+    let after : capped (tree_size lowered.program) ≡ tree_size lowered.program = uncapped (tree_size lowered.program) (within (sets_this o p) (using_there o p) (rests_there o p) (splits_exports o p) _ (imports_helpers o (lowers_using o is.lowers.split) is.lowers.moved) (tree_size p) (tree_size lowered.program) is.lowers.size small) in
     let names : length lowered.temporaries.items ≡ length (map string_bytes lowered.temporaries.items) = sym (length-map lowered.temporaries.items string_bytes) in
     let warned : length lowered.warnings.items ≡ length (warnings_of o.es2020 p) = ap length is.warnings in
     record {

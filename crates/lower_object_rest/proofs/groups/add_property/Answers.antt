@@ -10,9 +10,6 @@ begin_group-requires-clause-read c = sym c.reads_key.ensures ∙ c.if-reads_key.
 pub begin_group-requires-clause-room : goal.begin_group-requires-clause-room
 begin_group-requires-clause-room c = omega (arith, ap key_ids_by (sym c.reads_key.ensures ∙ c.if-reads_key.true), c.requires.room)
 
-pub new_key-requires-clause-known : goal.new_key-requires-clause-known
-new_key-requires-clause-known c = sym c.reads_key.ensures ∙ c.if-reads_key.false
-
 pub new_key-requires-clause-room : goal.new_key-requires-clause-room
 new_key-requires-clause-room c = omega (arith, ap key_ids_by (sym c.reads_key.ensures ∙ c.if-reads_key.false), c.requires.room)
 

@@ -12,7 +12,7 @@ new_variable_declarator-requires c =
 
 pub returns : goal.returns
 returns c =
-    let valued = c.new_whole_value.new.ctx in
+    let valued = c.new_all_value.new.ctx in
     record {
       last_is = λ names. ap (seen names) c.in_ok-declarator.ensures.made ∙ ap (λ v. declarator_with (seen names c.args.target) v) (c.in_ok-value.ensures.made names);
       reads = reads-then {m = 11} {n = 1} c.in_ok-value.ensures.reads (reads-ids 1 valued _ c.new_variable_declarator.ensures.counted refl (record { used = λ x. refl; made_is = refl }) (record { state = refl; options = refl; around = refl; scopes = refl; place = refl }));

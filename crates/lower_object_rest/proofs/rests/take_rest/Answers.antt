@@ -3,7 +3,7 @@ use Rattle.es_tree.specs.Tree.{Tree}
 use Rattle.es_changes.specs.Moments.{Moment}
 use Rattle.es_resolution.specs.Seen.{seen}
 use Rattle.lower_temporaries.proofs.Takings.{reads-ids}
-use Rattle.lower_object_rest.proofs.Costs.{few-mapped}
+use Rattle.lower_temporaries.proofs.HelperCalls.{few-mapped}
 use Rattle.lower_object_rest.proofs.Taken.{beside-made}
 use Rattle.lower_object_rest.proofs.rests.take_rest.Goals as goal
 

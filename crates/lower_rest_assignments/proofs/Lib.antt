@@ -1,0 +1,9 @@
+pub mod Properties
+pub mod Splits
+pub mod Opened
+pub mod Formed
+pub mod Patterns
+pub mod Places
+pub mod Unbound
+pub mod Rows
+pub mod Hook
