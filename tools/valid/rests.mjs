@@ -1,7 +1,7 @@
 #!/usr/bin/env node
-// Evaluates random programs with object rests in parameters, catch clauses, heads of loops, declarations and exported ones before and after the
-// tool lowered them, by node itself: the same properties have to be read in the same order, the same values seen, the same names exported with
-// the same values, and the same errors thrown. Names are few, so that patterns, default values, other parameters and bodies meet them. What the
+// Evaluates random programs with object rests in parameters, catch clauses, heads of loops, declarations, exported ones and assignments before and
+// after the tool lowered them, by node itself: the same properties have to be read and set in the same order, the same values seen, the same names
+// exported with the same values, and the same errors thrown. Names are few, so that patterns, default values, other parameters and bodies meet them. What the
 // tool refuses is counted.
 //   rests.mjs [--seed N] [--count N] [--imported] [--all] [--tool PROGRAM]     so many programs, with helpers of `babelHelpers` or required ones, by all flags or one
 import { parseArgs } from 'node:util';
@@ -84,7 +84,7 @@ function bound() {
 
 function program() {
   free = [...NAMES];
-  const made = pick([inFunction, inFunction, inFunction, inCatch, inLoop, inDeclaration, inExport])();
+  const made = pick([inFunction, inFunction, inFunction, inCatch, inLoop, inDeclaration, inExport, inAssignment, inAssignment, inAssignment])();
   return `${below(4) === 0 ? '"use strict"; ' : ''}${made}`;
 }
 
@@ -119,6 +119,47 @@ function inLoop() {
 
 function inDeclaration() {
   return `${pick(['const', 'let', 'var'])} ${pattern()} = ${value()}, ${pattern()} = source(${place()}); ${body()}`;
+}
+
+/** An assignment to a pattern with a rest as a statement, where its value is used, and as the head of a loop. */
+function inAssignment() {
+  const assigns = `${assigned()} = ${value()}`;
+  const made = pick([
+    () => `(${assigns});`,
+    () => `(${assigns});`,
+    () => `((${assigns}));`,
+    () => `${pick(NAMES)} = ${assigns};`,
+    () => `see(${place()}, [(${assigns})]);`,
+    () => `(${assigns}), told(${place()});`,
+    () => `(function (${pick(NAMES)} = (${assigns})) { ${tells()}; })();`,
+    () => `see(${place()}, [(() => (${assigns}))()]);`,
+    () => `see(${place()}, [new (class { x = (${assigns}); })().x]);`,
+    () => `{ ${body()} (${assigns}); ${tells()}; }`,
+    () => `for (${assigned()} of [source(${place()}), ${value()}, source(${place()})]) { ${body()} }`,
+    () => `for (${assigned()} in { x: ${value()}, yz: 1 }) ${tells()};`,
+    () => `for (${assigns}; ${assigned()} = source(${place()}); ) { ${tells()}; break; }`,
+  ]);
+  return `${made()} ${tells()};`;
+}
+
+function assigned() {
+  return `{ ${[...Array.from({ length: below(3) }, assignedProperty), `...${target()}`].join(', ')} }`;
+}
+
+function assignedProperty() {
+  return pick([
+    () => pick(NAMES), () => `${pick(NAMES)} = ${value()}`, () => `p${below(3)}: ${target()}`, () => `"p${below(3)}": ${target()} = ${value()}`,
+    () => `${pick(['["p1"]', '[`p0`]', '0', '[0n]', '[null]', '[true]'])}: ${target()}`, () => `[${key()}]: ${target()}`, () => `[${key()}]: ${target()} = ${value()}`,
+    () => `[${key()}]: ${target()}`, () => `p1: { ${assignedProperty()} }`, () => `c: [${target()}, ...${target()}] = []`, () => `a: ${target()} = (${assigned()} = ${value()})`,
+    () => `p1: ${below(4) === 0 ? assigned() : target()}`,
+  ])();
+}
+
+function target() {
+  return pick([
+    () => pick(NAMES), () => pick(NAMES), () => pick(NAMES), () => `(${pick(NAMES)})`, () => `target(${place()}).p${below(3)}`, () => `(target(${place()}).q)`,
+    () => `target(${place()})[${key()}]`,
+  ])();
 }
 
 function inExport() {
@@ -212,7 +253,9 @@ async function evaluated(text) {
     return `${String(key)}${number}`;
   };
   const see = (number, names) => { log.push(`${number}:${names.map(name => described(name, 2)).join(';')}`); };
-  const host = { told, source, see, require: requireHelper };
+  /** What is set tells it. */
+  const target = number => new Proxy({}, { set: (_, key, set) => { log.push(`set ${String(key)} of ${number} to ${described(set, 2)}`); return true; } });
+  const host = { told, source, target, see, require: requireHelper };
   try {
     if (isModule(text)) {
       log.push(...await exported(text, host));

@@ -5,11 +5,13 @@ ghost use Rattle.es_tree.specs.HasForm.{same_type};
 ghost use Rattle.es_tree.specs.Names.{first_text};
 ghost use Rattle.es_tree.specs.Tree.{fields_of, kind_of, label_of, trees};
 ghost use Rattle.es_tree.specs.Words.{assignment_operator_text};
-ghost use Rattle.es_steps.specs.WrapRule.{is_member_target, is_rest_target};
+ghost use Rattle.es_tree.specs.RestTargets.{is_rest_target};
+ghost use Rattle.es_steps.specs.WrapRule.{is_member_target};
 ghost use Rattle.es_nodes.specs.MaybeFields.{maybe_field};
 
-use es_nodes::construct::{has_rest, is_exponentiation};
+use es_nodes::construct::is_exponentiation;
 use es_nodes::fields::field_at;
+use es_nodes::rest_targets::is_rest_target;
 use es_tree::ast_type::AstType;
 use es_tree::kind::Kind;
 use es_tree::node::{Field, Node};
@@ -66,20 +68,4 @@ fn is_member(node: &Node) -> bool
     ensures { result ≡ same_type (kind_of node.now) AstType.MemberExpression }
 {
     matches!(node.kind, Kind::MemberExpression { .. })
-}
-
-/// Whether the field is an object target with a rest.
-fn is_rest_target(field: Option<&Field>) -> bool
-    ensures { result ≡ is_rest_target (maybe_field field.entry) }
-{
-    match field {
-        Some(Field::One(target)) => is_object_target(target) && has_rest(field_at(target, 0)),
-        _ => false,
-    }
-}
-
-fn is_object_target(node: &Node) -> bool
-    ensures { result ≡ same_type (kind_of node.now) AstType.ObjectTarget }
-{
-    matches!(node.kind, Kind::ObjectTarget)
 }

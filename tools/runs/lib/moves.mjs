@@ -35,12 +35,17 @@ export class Mover {
     this.made = new Set(); // what the engine makes itself
     this.keyIterators = new Set();
     this.written = new Set(); // names that the engine keeps
+    this.copied = new Set(); // what a second copy has the engine tells by the keys that were read before the first, too
   }
 
   move({ is, operands }) {
     this.count += 1;
     const [first] = operands;
     if (OF_AN_OBJECT.has(is) && this.isMade(first)) throw new GivenUp();
+    if (is === 'copy' && first.index !== undefined) {
+      if (this.copied.has(first.index)) throw new GivenUp();
+      this.copied.add(first.index);
+    }
     if (is === 'write') this.written.add(first);
     if (['read', 'typeof_read'].includes(is) && this.written.has(first)) throw new GivenUp();
     switch (is) {
