@@ -7,8 +7,8 @@ use Rattle.es_tree.specs.Tree.{Tree, Label, one, Trees}
 use Rattle.es_tree.specs.Words.{Text}
 use Rattle.es_resolution.specs.Declarations.{Bound}
 use Rattle.es_steps.specs.Nodes.{array_node, assign_node, call_node, identifier, made, member_node, object_node, placed, sequence_node, string_node}
-use Rattle.es_steps.specs.ObjectRest.{helper_node, whole_value}
-use Rattle.es_steps.specs.RestAssignments.{TakesTarget, left_of, object_target, property_target, rest_target, value_after}
+use Rattle.es_steps.specs.ObjectRest.{helper_node, left_of, whole_value}
+use Rattle.es_steps.specs.RestAssignments.{TakesTarget, object_target, property_target, rest_target, value_after}
 use Rattle.es_steps.specs.Steps.{Whole}
 use Rattle.es_steps.proofs.RestParts.{EachAmong, EachTree, IsLeft, PartsRight, each-append, each-name, each-part, parts-right, simple-target}
 use Rattle.es_steps.proofs.RestParts.IsLeft.{name_left, text_left}

@@ -59,7 +59,7 @@ use Rattle.es_helper_imports.proofs.BareCalls.{bare-calling, bare-helpers}
 use Rattle.es_helper_imports.proofs.BareTops.{bare-top}
 use Rattle.es_top_imports.specs.Laws.{list_place}
 use Rattle.es_top_imports.specs.TopImports.{top_of, with_top}
-use Rattle.es_statement_steps.specs.Laws.{LacksRests, TagsAreNoChains, assumes_no_all, powers_there}
+use Rattle.es_statement_steps.specs.Laws.{AssignsNoRest, TagsAreNoChains, assumes_no_all, powers_there}
 use Rattle.es_statement_steps.specs.Orders.{in_order}
 use Rattle.es_statement_steps.proofs.AvoidedNames.{AtNames, AtNamesAll, AtNamesBy, AtNamesIn, OwnAt, aims_pass, both_names, is_aimed, names_avoid, top_fine}
 use Rattle.es_statement_steps.proofs.BareRuns.{alike-seen, list-bare, run-told}
@@ -383,7 +383,7 @@ none_found t form fine resolved none =
     let found = finds_top a.label (many a.directives then (statements a.body then done)) 1 (subst Fine a.same fine) (subst IsResolved a.same resolved) (codes "require") in
     ap (λ (z : Tree). is_declared (declared_at_top z) (codes "require")) a.same ∙ declared_is (top_in a.body) (codes "require") ∙ sym found ∙ ap (λ (z : Tree). is_some ((list_place z).scope (codes "require"))) (sym a.same) ∙ ap is_some none
 
-module _ (o : EnvOptions) (m : Text) (p q r t : Tree) (names last : List Text) (h : IsStatementProgram p) (untagged : TagsAreNoChains o p) (lacks : LacksRests o p) (imp : RunsImporting o m p) (result : IsResult o p q names) (reached : Reached (in_order o) p (first_whole p) names t) (written : bare t ≡ bare q)
+module _ (o : EnvOptions) (m : Text) (p q r t : Tree) (names last : List Text) (h : IsStatementProgram p) (untagged : TagsAreNoChains o p) (lacks : AssignsNoRest o p) (imp : RunsImporting o m p) (result : IsResult o p q names) (reached : Reached (in_order o) p (first_whole p) names t) (written : bare t ≡ bare q)
     (sort : is_module q ≡ is_module p) (require : is_module q ≡ false → (list_place (source q)).scope (codes "require") ≡ None) (goes : ImportsTo (first_whole q).in_use m q r last) where
   abbrev no_all : Bool
   no_all = assumes_no_all o p

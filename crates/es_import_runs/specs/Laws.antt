@@ -40,7 +40,7 @@ use Rattle.es_helper_calls.specs.HelperCalls.{bound_of, calling, helpers_in, is_
 use Rattle.es_helper_imports.specs.Imported.{ImportsTo, imported_as}
 use Rattle.es_helper_calls.specs.Importing.{is_module}
 use Rattle.es_top_imports.specs.Laws.{list_place}
-use Rattle.es_statement_steps.specs.Laws.{LacksRests, TagsAreNoChains, assumes_no_all, powers_there}
+use Rattle.es_statement_steps.specs.Laws.{AssignsNoRest, TagsAreNoChains, assumes_no_all, powers_there}
 use Rattle.es_statement_steps.specs.Orders.{in_order}
 
 -- Under one supply and another: the same outcome, the same questions, and the same cells of the names that the source declares, unless its run is outside.
@@ -124,5 +124,5 @@ pub record RunsImporting (o : EnvOptions) (m : Text) (p : Tree) : Type 0 where
 -- finds nothing at its top. Where spreads and chains are lowered no spread is while a chain stands around it, and no tag is a chain; and where chains assume that
 -- no value is `document.all`, it does in every run in which none is.
 abbrev pub LawImportingResult : Type 0
-LawImportingResult = (o : EnvOptions) (m : Text) (p q r t : Tree) (names last : List Text) → IsStatementProgram p → TagsAreNoChains o p → LacksRests o p → RunsImporting o m p → IsResult o p q names → Reached (in_order o) p (first_whole p) names t → bare t ≡ bare q → is_module q ≡ is_module p →
+LawImportingResult = (o : EnvOptions) (m : Text) (p q r t : Tree) (names last : List Text) → IsStatementProgram p → TagsAreNoChains o p → AssignsNoRest o p → RunsImporting o m p → IsResult o p q names → Reached (in_order o) p (first_whole p) names t → bare t ≡ bare q → is_module q ≡ is_module p →
     (is_module q ≡ false → (list_place (source q)).scope (codes "require") ≡ None) → ImportsTo (first_whole q).in_use m q r last → RunAlike (supply_in m p) (assumes_no_all o p) p r

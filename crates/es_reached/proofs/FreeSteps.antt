@@ -20,7 +20,7 @@ use Rattle.es_steps.proofs.Opened.{finished-followed, finished-opened, finished-
 use Rattle.es_steps.proofs.Taken.{flanks-rest}
 use Rattle.es_reached.specs.NoRests.{LawNoDeclaredRests, LawNoUsings, is_declared_rest}
 use Rattle.es_reached.specs.Reached.{built_rules}
-use Rattle.es_reached.specs.Unmade.{LawNoneMade, Sought, is_any_logical_assignment, is_any_power, is_sought, of_declared_rests, of_rests, of_usings}
+use Rattle.es_reached.specs.Unmade.{LawNoneMade, Sought, is_any_logical_assignment, is_any_power, is_sought, of_declared_rests, of_usings}
 use Rattle.es_reached.proofs.FreeTrees.{Free, FreeAll, FreeBy, FreeIn, LedgerFree, body-free, flanks-free, free, free-body, free-flanks, free-joined, free-whole, is_part, joined-free, joined-kinds, joined-none, neither, none, rest-members, sought-bare, sought-made, spread-members, whole-free}
 use Rattle.es_reached.proofs.FreeRows.{RuleFree, built-free}
 use Rattle.es_reached.proofs.Sources.{law_bare_source_proof}
@@ -230,7 +230,7 @@ law_none_made_proof c o p r names h e =
     let end = in-a-row c (built_rules o) (built-free c o) h.steps (record { pending = record { vars = tt; lets = tt }; excluded = tt }) (subst (λ (t : Tree). Free sought t) (sym (finished-opened (source p))) begin) in
     none sought r (subst (λ (t : Tree). Free sought t) (finished-opened r) end)
 
--- PATTERNS WITH A REST are such a construct
+-- PATTERNS WITH A REST THAT ARE DECLARED are such a construct
 
 and-true : (b : Bool) → (b && true) ≡ b
 and-true true = refl
@@ -240,15 +240,6 @@ and-false : (b : Bool) → (b && false) ≡ false
 and-false true = refl
 and-false false = refl
 
-rests-sought : (k : AstType) (l : Label) (fs : Fields) → is_sought of_rests k l fs ≡ is_object_rest k l fs
-rests-sought k l fs =
-    (λ i. and-true (is_object_rest k l fs) i || and-false (is_object_spread k l fs) i || and-false (is_chain k l fs) i || and-false (is_any_logical_assignment k l fs) i || and-false (is_any_power k l fs) i || and-false (is_using k l fs) i)
-    ∙ or-none (is_object_rest k l fs || false) ∙ or-false (is_object_rest k l fs)
-
-pub rests-in : (t : Tree) → any_node (is_sought of_rests) t ≡ any_node is_object_rest t
-rests-in t = λ i. any_node (λ k l fs. rests-sought k l fs i) t
-
--- those that are declared alone, too
 declared-sought : (k : AstType) (l : Label) (fs : Fields) → is_sought of_declared_rests k l fs ≡ is_declared_rest k l fs
 declared-sought k l fs =
     (λ i. is_declared_rest k l fs || and-false (is_object_spread k l fs) i || and-false (is_chain k l fs) i || and-false (is_any_logical_assignment k l fs) i || and-false (is_any_power k l fs) i || and-false (is_using k l fs) i)

@@ -7,7 +7,7 @@ use Rattle.es_tree.specs.Tree.{Tree, Label, Fields}
 use Rattle.es_tree.specs.Walks.{any_node}
 use Rattle.es_tree.specs.Words.{Text}
 use Rattle.es_tree.specs.declared.ast_type.AstType.{AstType}
-use Rattle.es_tree.specs.declared.ast_type.AstType.TheVariants.{AssignmentExpression, BinaryExpression, ObjectPattern}
+use Rattle.es_tree.specs.declared.ast_type.AstType.TheVariants.{AssignmentExpression, BinaryExpression, ObjectPattern, ObjectTarget}
 use Rattle.es_tree.specs.declared.options.EnvOptions.{EnvOptions}
 use Rattle.es_runs.specs.LogicalAssignment.{is_logical_assignment_operator}
 use Rattle.es_steps.specs.CoreBridge.{Reached, first_whole}
@@ -47,12 +47,13 @@ is_sought c k l fs =
 abbrev pub nothing_sought : Sought
 nothing_sought = record { rests = λ k. false; spreads = false; chains = false; assignments = false; powers = false; usings = false }
 
-abbrev pub of_rests : Sought
-of_rests = record nothing_sought { rests = λ k. true }
-
--- those that are declared: one to which a value is assigned is an object target
+-- of object patterns with a rest those that are declared
 abbrev pub of_declared_rests : Sought
 of_declared_rests = record nothing_sought { rests = λ k. same_type k ObjectPattern }
+
+-- and those to which a value is assigned
+abbrev pub of_assigned_rests : Sought
+of_assigned_rests = record nothing_sought { rests = λ k. same_type k ObjectTarget }
 
 abbrev pub of_spreads : Sought
 of_spreads = record nothing_sought { spreads = true }

@@ -11,7 +11,7 @@ use Rattle.es_tree.specs.declared.ast_type.AstType.TheVariants.{ArrayExpression,
 use Rattle.es_tree.specs.declared.options.EnvOptions.{EnvOptions}
 use Rattle.es_resolution.specs.Declarations.{Bound}
 use Rattle.es_steps.specs.Nodes.{array_node, call_node, declarator_with, identifier, joined_trees, made as made_label, member_node}
-use Rattle.es_steps.specs.ObjectRest.{declares_as, declares_some, helper_node, pattern_node, whole_value}
+use Rattle.es_steps.specs.ObjectRest.{declares_as, declares_some, helper_node, left_of, pattern_node, whole_value}
 use Rattle.es_steps.specs.Open.{Pending, body_with, opened, with_vars, written_body}
 use Rattle.es_steps.specs.Rules.{next_name}
 use Rattle.es_steps.specs.Steps.{Ledger, Site, Spot, Step, Steps, Whole, the_program}
@@ -23,7 +23,7 @@ use Rattle.es_reached.specs.Walks.{is_other_expression}
 use Rattle.es_reached.proofs.FreeTrees.{Free, FreeAll, FreeBy, FreeIn, PassesNoMade, body-free, free, free-body, free-joined, free-whole, joined-free, joined-kinds, none, vars-free, whole-free}
 use Rattle.es_reached.proofs.WalkTests.{Alike, AlikeBy, AlikeIn, IsBlind, alike-node, by-one, by-same, others-steady}
 use Rattle.es_rest_rows.specs.Laws.{LawRestsMakeNone, is_other_construct}
-use Rattle.es_rest_rows.specs.RestRows.{NamesKeys, PutsName, RestWalkRow, declaring, group, groups, groups_by, keyed_by, keys_by, keys_of, left_of, names_key, parted, property_of, taken, text_of_key, with_rest}
+use Rattle.es_rest_rows.specs.RestRows.{NamesKeys, PutsName, RestWalkRow, declaring, group, groups, groups_by, keyed_by, keys_by, keys_of, names_key, parted, property_of, taken, text_of_key, with_rest}
 use Rattle.es_rest_rows.specs.RestRows.NamesKeys.{knows, no_properties, reads_one}
 use Rattle.es_rest_rows.specs.RestRows.PutsName.{for_pattern, with_default}
 use Rattle.es_rest_rows.specs.RestRows.RowsWhere.{nested, stores, takes}

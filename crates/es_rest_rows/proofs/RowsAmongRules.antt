@@ -19,7 +19,7 @@ use Rattle.es_steps.specs.ObjectRest.RestOf.{alone, beside, mapped}
 use Rattle.es_steps.specs.ObjectRest.SplitRule.{splits}
 use Rattle.es_steps.specs.ObjectRest.SplitsOff.{key, nested as splits_nested, nested_default, source}
 use Rattle.es_steps.specs.ObjectRest.TakesRest.{takes_rest}
-use Rattle.es_steps.specs.ObjectRest.{AreKeys, Declares, IsKey, RestOf, SplitsOff, and_declarator, declares_as, declares_some, kind_of_declaration, mapped_value, pattern_node, rest_value, whole_value}
+use Rattle.es_steps.specs.ObjectRest.{AreKeys, Declares, IsKey, RestOf, SplitsOff, and_declarator, declares_as, declares_some, kind_of_declaration, left_of, mapped_value, pattern_node, rest_value, whole_value}
 use Rattle.es_steps.specs.Open.{Additions, Pending}
 use Rattle.es_steps.specs.Rules.{next_name, with_made}
 use Rattle.es_steps.specs.Steps.{Ledger, Site, Spot, Steps, Whole, ledger}
@@ -33,7 +33,7 @@ use Rattle.es_rest_rows.specs.RestParts.{PartsWhere}
 use Rattle.es_rest_rows.specs.RestRows.NamesKeys.{knows, no_properties, reads_one}
 use Rattle.es_rest_rows.specs.RestRows.PutsName.{for_pattern, with_default}
 use Rattle.es_rest_rows.specs.RestRows.RowsWhere.{nested, stores, takes}
-use Rattle.es_rest_rows.specs.RestRows.{NamesKeys, PutsName, RowsWhere, declaring, group, groups, groups_by, is_exported, keyed_by, keys_by, keys_of, left_of, names_key, parted, property_of, taken, text_of_key, with_rest}
+use Rattle.es_rest_rows.specs.RestRows.{NamesKeys, PutsName, RowsWhere, declaring, group, groups, groups_by, is_exported, keyed_by, keys_by, keys_of, names_key, parted, property_of, taken, text_of_key, with_rest}
 use Rattle.es_rest_rows.proofs.PlainPatterns.{plain-binds, plain-holds}
 use Rattle.es_tree.specs.PropertyKeys.{is_read_key, key_text}
 use Rattle.es_rest_shapes.specs.RestShapes.{any_tree, is_name, is_plain_pattern, reads_key}

@@ -13,8 +13,8 @@ use Rattle.es_resolution.specs.Declarations.{Bound, symbol_of}
 use Rattle.es_resolution.specs.Resolved.{bound_by}
 use Rattle.es_semantic.specs.RolesOf.{reads}
 use Rattle.es_steps.specs.Duplication.{is_among_symbols}
-use Rattle.es_steps.specs.Nodes.{array_node, call_node, declarator_with, identifier, joined_trees, made, string_node}
-use Rattle.es_steps.specs.ObjectRest.{Declares, declares_as, declares_some, helper_node, kind_of_declaration, mapped_value, pattern_node, whole_value}
+use Rattle.es_steps.specs.Nodes.{declarator_with, identifier, joined_trees, made, string_node}
+use Rattle.es_steps.specs.ObjectRest.{Declares, declares_as, declares_some, kind_of_declaration, left_of, pattern_node, whole_value}
 use Rattle.es_steps.specs.Open.{Additions, Pending}
 use Rattle.es_steps.specs.Patterns.{IsSilent}
 use Rattle.es_steps.specs.Rules.{next_name, with_made}
@@ -86,12 +86,6 @@ keys_by _ xs p behind = text_of_key p ∷ behind xs
 abbrev pub keys_of : List Bound → Trees → List Tree
 keys_of xs empty = []
 keys_of xs (p before ps) = keys_by (reads_key p) xs p (λ ys. keys_of ys ps)
-
--- `babelHelpers.objectWithoutProperties(s, [keys])`, and where one of the keys is read,
--- `babelHelpers.objectWithoutProperties(s, [keys].map(babelHelpers.toPropertyKey))`
-abbrev pub left_of : Bool → Tree → List Tree → Tree
-left_of true s ks = mapped_value s ks
-left_of false s ks = call_node (helper_node (codes "objectWithoutProperties")) (s ∷ array_node ks ∷ [])
 
 -- The groups, and behind them `r = babelHelpers.objectWithoutProperties(s, [keys])`, or the rest alone where it has no properties beside it:
 -- `r = babelHelpers.extends({}, (babelHelpers.objectDestructuringEmpty(s), s))`

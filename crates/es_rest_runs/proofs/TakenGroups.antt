@@ -12,12 +12,12 @@ use Rattle.es_runs.specs.Runs.{identifier, is_declared}
 use Rattle.es_runs.specs.Rules.{member_node}
 use Rattle.es_resolution.specs.Declarations.{Bound}
 use Rattle.es_steps.specs.Nodes.{array_node, call_node, identifier as bound_name, joined_trees, made, member_node as path_node, string_node, word}
-use Rattle.es_steps.specs.ObjectRest.{helper_node, pattern_node}
+use Rattle.es_steps.specs.ObjectRest.{helper_node, left_of, pattern_node}
 use Rattle.es_steps.specs.Rules.{next_name, with_made}
 use Rattle.es_steps.specs.Steps.{Whole}
 use Rattle.es_tree.specs.PropertyKeys.{is_literal_key, is_read_key, key_text}
 use Rattle.es_rest_shapes.specs.RestShapes.{any_tree, are_plain, is_plain_property, reads_key}
-use Rattle.es_rest_rows.specs.RestRows.{NamesKeys, declaring, group, groups, groups_by, keyed_by, keys_by, keys_of, left_of, names_key}
+use Rattle.es_rest_rows.specs.RestRows.{NamesKeys, declaring, group, groups, groups_by, keyed_by, keys_by, keys_of, names_key}
 use Rattle.es_rest_rows.specs.RestRows.NamesKeys.{knows, no_properties, reads_one}
 use Rattle.es_statement_runs.specs.Helpers.Supply.{by_global}
 use Rattle.es_statement_runs.specs.Kinds.{portions, sense, senses}

@@ -13,13 +13,13 @@ use Rattle.es_tree.specs.Words.{Text}
 use Rattle.es_tree.specs.declared.ast_type.AstType.TheVariants.{Identifier, RestElement}
 use Rattle.es_resolution.specs.Declarations.{Bound}
 use Rattle.es_steps.specs.Nodes.{declarator_with, joined_trees}
-use Rattle.es_steps.specs.ObjectRest.{declares_as}
+use Rattle.es_steps.specs.ObjectRest.{declares_as, left_of}
 use Rattle.es_steps.specs.Rules.{next_name}
 use Rattle.es_steps.specs.Steps.{Ledger, Site, Whole}
 use Rattle.es_steps.specs.Steps.Spot.{at_node}
 use Rattle.es_steps.proofs.Taken.{whole_in}
 use Rattle.es_rest_shapes.specs.RestShapes.{any_tree, are_plain, is_name, is_plain_property, reads_key}
-use Rattle.es_rest_rows.specs.RestRows.{NamesKeys, RestRow, declaring, groups, groups_by, is_kept, keyed_by, keys_of, left_of, taken, with_rest}
+use Rattle.es_rest_rows.specs.RestRows.{NamesKeys, RestRow, declaring, groups, groups_by, is_kept, keyed_by, keys_of, taken, with_rest}
 use Rattle.es_rest_rows.specs.RestRows.NamesKeys.{knows, no_properties, reads_one}
 use Rattle.es_rest_rows.specs.RestRows.RowsWhere.{nested, stores, takes}
 use Rattle.es_statement_runs.specs.Laws.{among_names}

@@ -24,10 +24,10 @@ use Rattle.es_semantic.specs.declared.place.Role.TheVariants.{Binds}
 use Rattle.es_resolution.specs.Declarations.{Bound, symbol_of}
 use Rattle.es_resolution.specs.Resolved.{Place, place_in}
 use Rattle.es_steps.specs.Nodes.{declarator_with, joined_trees, made}
-use Rattle.es_steps.specs.ObjectRest.{declares_as, whole_value}
+use Rattle.es_steps.specs.ObjectRest.{declares_as, left_of, whole_value}
 use Rattle.es_steps.specs.Steps.{Whole}
 use Rattle.es_rest_shapes.specs.RestShapes.{any_tree, are_plain, is_plain_property, reads_key}
-use Rattle.es_rest_rows.specs.RestRows.{NamesKeys, declaring, groups, keys_of, left_of, with_rest}
+use Rattle.es_rest_rows.specs.RestRows.{NamesKeys, declaring, groups, keys_of, with_rest}
 use Rattle.es_statement_runs.specs.Alike.{SenseLike}
 use Rattle.es_statement_runs.specs.Helpers.{silent_names}
 use Rattle.es_statement_runs.specs.Helpers.Supply.{by_global}

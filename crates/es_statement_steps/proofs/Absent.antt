@@ -35,7 +35,7 @@ use Rattle.es_steps.proofs.FormOpen.{IsProper}
 use Rattle.es_valid_steps.proofs.FurtherSteps.{alone as all_alone}
 use Rattle.es_statement_steps.proofs.AloneRules.{alone, among-all}
 use Rattle.es_reached.specs.Reached.{built_rules}
-use Rattle.es_reached.specs.Unmade.{Sought, is_sought, of_assignments, of_chains, of_powers, of_rests, of_spreads}
+use Rattle.es_reached.specs.Unmade.{Sought, is_sought, of_assigned_rests, of_assignments, of_chains, of_powers, of_spreads}
 use Rattle.es_reached.proofs.FreeRows.{built-free}
 use Rattle.es_steps.proofs.RestParts.{pattern-rest}
 use Rattle.es_reached.proofs.FreeSteps.{kept, or-none, source-sought}
@@ -146,7 +146,7 @@ power-acts : (n : Site) (w : Whole) (bs : List Bound) (t u : Tree) → Exponenti
 power-acts n w bs t u (power {m = m} f texts left right) h = no-one (bytes_eq (first_text m.texts) (codes "**")) (ap (λ (ts : List (Option Text)). bytes_eq (first_text ts) (codes "**")) texts) h.0
 power-acts n w bs t u (power_assignment {m = m} f texts right alone twice) h = no-last (is_logical_assignment_operator (first_text m.texts)) (bytes_eq (first_text m.texts) (codes "**=")) (ap (λ (ts : List (Option Text)). bytes_eq (first_text ts) (codes "**=")) texts) h.0
 
-rest-acts : (n : Site) (w : Whole) (bs : List Bound) (t u : Tree) → RestAssignmentRule n w bs t u → Free (is_sought of_rests) t → ⊥
+rest-acts : (n : Site) (w : Whole) (bs : List Bound) (t u : Tree) → RestAssignmentRule n w bs t u → Free (is_sought of_assigned_rests) t → ⊥
 rest-acts n w bs t u (assigns {lp = lp} {ps = ps} {x = x} {xs = xs} {us = us} scope used texts silent next takes) h =
     no-both (any_kind is_rest ps) (pattern-rest (identifier x) lp _ ps xs us takes) (or_first (any_kind is_rest ps && true) false (sym (or-none ((any_kind is_rest ps && true) || false)) ∙ h.1.0.0))
 
@@ -166,8 +166,8 @@ no-assignment p e s s' x y h proper class a = never (is_sought of_assignments) (
 pub no-power : (p : Tree) → any_node (is_sought of_powers) p ≡ false → Never p (RowRule ExponentiationRule)
 no-power p e s s' x y h proper class a = never (is_sought of_powers) (OutsideSlots ExponentiationRule) (λ n w bs t u d. power-acts n w bs t u d.rule) h proper class (a of_powers e)
 
-pub no-rest : (p : Tree) → any_node (is_sought of_rests) p ≡ false → Never p (RowRule RestAssignmentRule)
-no-rest p e s s' x y h proper class a = never (is_sought of_rests) (OutsideSlots RestAssignmentRule) (λ n w bs t u d. rest-acts n w bs t u d.rule) h proper class (a of_rests e)
+pub no-rest : (p : Tree) → any_node (is_sought of_assigned_rests) p ≡ false → Never p (RowRule RestAssignmentRule)
+no-rest p e s s' x y h proper class a = never (is_sought of_assigned_rests) (OutsideSlots RestAssignmentRule) (λ n w bs t u d. rest-acts n w bs t u d.rule) h proper class (a of_assigned_rests e)
 
 -- nor is one where it isn't asked for
 pub not-there : (asked there : Bool) (p : Tree) (R : Site → Ledger → Spot → Ledger → Spot → Type 0) → (asked && there) ≡ false → (there ≡ false → Never p R) → Never p (where_on asked R)

@@ -1,6 +1,6 @@
--- Where no object rest stands in a program none is taken: of steps of the built rules none assigns one.
-use Rattle.std.proofs.Common.{◌∙◌, ap, inl, inr}
-use Rattle.std.specs.Prelude.{◌⊎◌, ◌&&◌, Bool, is_some}
+-- Where a program assigns to no object rest, no step of the built rules takes one.
+use Rattle.std.proofs.Common.{inl, inr}
+use Rattle.std.specs.Prelude.{◌⊎◌, Bool, is_some}
 use Rattle.es_tree.specs.Tree.{Tree}
 use Rattle.es_tree.specs.declared.options.EnvOptions.{EnvOptions}
 use Rattle.es_steps.specs.CoreRules.{RowRule}
@@ -11,15 +11,14 @@ use Rattle.es_steps.specs.Steps.{Ledger, Site, Spot, Step, the_program}
 use Rattle.es_steps.proofs.BridgeInclusion.{step_under}
 use Rattle.es_steps.proofs.FormOpen.{IsProper}
 use Rattle.es_valid_steps.proofs.FurtherSteps.{alone as all_alone}
-use Rattle.es_reached.proofs.FreeSteps.{rests-in}
-use Rattle.es_statement_steps.specs.Laws.{LacksRests}
+use Rattle.es_statement_steps.specs.Laws.{AssignsNoRest}
 use Rattle.es_statement_steps.specs.Orders.{only_where}
 use Rattle.es_statement_steps.proofs.Absent.{Absent, no-rest, not-there}
 use Rattle.es_statement_steps.proofs.AloneRules.{alone, assigned_rests, told-assigned}
 use Rattle.es_statement_steps.proofs.StepSplits.{step-either}
 use Rattle.es_statement_steps.proofs.Tamed.{Class}
 
-module _ (o : EnvOptions) (p : Tree) (lacks : LacksRests o p) (at : Site → Spot → Bool) where
+module _ (o : EnvOptions) (p : Tree) (lacks : AssignsNoRest o p) (at : Site → Spot → Bool) where
   told-there : (n : Site) (s : Ledger) (x : Spot) (s' : Ledger) (y : Spot) → only_where at (all_alone o) n s x s' y → either_rule (only_where at (alone o)) (assigned_rests o) n s x s' y
   told-there n s x s' y h = by-rule (told-assigned o n s x s' y h.0)
     where
@@ -32,4 +31,4 @@ module _ (o : EnvOptions) (p : Tree) (lacks : LacksRests o p) (at : Site → Spo
     where
       told : Step (only_where at (alone o)) the_program s x s' y ⊎ Step (assigned_rests o) the_program s x s' y → Step (only_where at (alone o)) the_program s x s' y
       told (inl r) = r
-      told (inr r) = absurd (not-there (is_some o.es2018.object_rest_spread) _ p (RowRule RestAssignmentRule) (ap (λ b. is_some o.es2018.object_rest_spread && b) (rests-in p) ∙ lacks) (no-rest p) s s' x y r proper class a)
+      told (inr r) = absurd (not-there (is_some o.es2018.object_rest_spread) _ p (RowRule RestAssignmentRule) lacks (no-rest p) s s' x y r proper class a)

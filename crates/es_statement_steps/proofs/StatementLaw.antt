@@ -35,7 +35,7 @@ use Rattle.es_statement_runs.specs.Programs.{IsStatementProgram, uses_no_helper}
 use Rattle.es_statement_runs.specs.HelperMembers.{no_helper_member}
 use Rattle.es_statement_runs.specs.Runs.{RunAlike}
 use Rattle.es_statement_runs.proofs.Spreads.{has_global_spread}
-use Rattle.es_statement_steps.specs.Laws.{LacksRests, LawStatementRules, TagsAreNoChains, assignments_there, assumes_no_all, chains_there, powers_there, spreads_there, supply_there}
+use Rattle.es_statement_steps.specs.Laws.{AssignsNoRest, LawStatementRules, TagsAreNoChains, assignments_there, assumes_no_all, chains_there, powers_there, spreads_there, supply_there}
 use Rattle.es_statement_steps.specs.Orders.{in_order, is_in_order, only_where}
 use Rattle.es_statement_steps.proofs.Absent.{Absent, Never, absent-alone, absent-exports, absent-source, no-assignment, no-chain, no-power, no-spread, not-there}
 use Rattle.es_statement_steps.proofs.Composition.{AloneRuns, Exports, Known, NamespaceRuns, anywhere}
@@ -56,7 +56,7 @@ use Rattle.es_statement_steps.proofs.StepRules.{Does, EachDoesWhere, Keeping, Of
 
 -- THE LAW, from what each rule does and what is kept of a program on the way
 
-module _ (o : EnvOptions) (p : Tree) (lacks : LacksRests o p) (at there : Site → Spot → Bool) (off : OffSlots at there) (no_all : Bool) (u : Supply) (Clean : Whole → Tree → Type 0) (quiet : (w : Whole) (t : Tree) → Clean w t → silent_names u t ≡ []) (absent : (w : Whole) (t : Tree) → Clean w t → Absent p t)
+module _ (o : EnvOptions) (p : Tree) (lacks : AssignsNoRest o p) (at there : Site → Spot → Bool) (off : OffSlots at there) (no_all : Bool) (u : Supply) (Clean : Whole → Tree → Type 0) (quiet : (w : Whole) (t : Tree) → Clean w t → silent_names u t ≡ []) (absent : (w : Whole) (t : Tree) → Clean w t → Absent p t)
     (each : EachDoesWhere (Keeping no_all u Clean quiet) o there) (clean : (s s' : Ledger) (x y : Open) → Step (only_where at (alone o)) the_program s x s' y → Known s x → Known s' y → Clean (whole_in s) (finished x) → Clean (whole_in s') (finished y)) (exports : NamespaceRuns o no_all u Clean) where
   alone-runs : AloneRuns o at no_all u Clean
   alone-runs = record {
@@ -101,7 +101,7 @@ not-so false h = refl
 
 -- WITH THE OBJECT OF ALL HELPERS, beside which no row of chains, logical assignment and exponentiation acts
 
-module _ (o : EnvOptions) (no_all : Bool) (p : Tree) (lacks : LacksRests o p) (off : NoneBeside o p) where
+module _ (o : EnvOptions) (no_all : Bool) (p : Tree) (lacks : AssignsNoRest o p) (off : NoneBeside o p) where
   abbrev IsWithoutKeys : Whole → Tree → Type 0
   IsWithoutKeys w t = IsKeyless t
 
@@ -204,14 +204,14 @@ module _ (o : EnvOptions) (p : Tree) (no_all : Bool) (u : Supply) (plain : is_co
   abbrev StaysAsked : Type 0
   StaysAsked = (s s' : Ledger) (x y : Open) → Step (only_where at (StatementRules o)) the_program s x s' y → Known s x → Known s' y → Absent p (finished x) → Asked (finished x) → Asked (finished y)
 
-  plain-run : LacksRests o p → (first : Site → Spot → Bool) → OffSlots first at → Chains → Spreads → StaysAsked → ExportsKeep o Asked → (q : Tree) (names : List Text) → IsStatementProgram p → TagsAreNoChains o p → Asked (source p) → Reached (only_where first (built_rules o)) p (first_whole p) names q → StepAlike no_all u p q × Asked q
+  plain-run : AssignsNoRest o p → (first : Site → Spot → Bool) → OffSlots first at → Chains → Spreads → StaysAsked → ExportsKeep o Asked → (q : Tree) (names : List Text) → IsStatementProgram p → TagsAreNoChains o p → Asked (source p) → Reached (only_where first (built_rules o)) p (first_whole p) names q → StepAlike no_all u p q × Asked q
   plain-run lacks first off chains spreads stays kept q names h untagged so reached =
       let r = rules-run o p lacks first at off no_all u (Lacking p (Plain o Asked)) kept-silent (λ w t c. c.1) (plain-does chains spreads)
       (λ s s' x y r k m c. let a = anywhere first (alone o) r in ((suited-step o s s' x y a k m c.0.0, stays s s' x y (tamed-where o first at off r k.proper m.proper k.class) k m c.1 c.0.1), absent-alone o p a k.alone c.1)) (plain-exports kept) q names h (λ t e. none-silent u plain t) ((suited-start o p h untagged, so), absent-source p) reached in
       (r.0, r.1.0.1)
 
   -- in whatever order
-  anyhow : LacksRests o p → Chains → Spreads → StaysAsked → ExportsKeep o Asked → (q : Tree) (names : List Text) → IsStatementProgram p → TagsAreNoChains o p → Asked (source p) → Reached (only_where at (built_rules o)) p (first_whole p) names q → StepAlike no_all u p q × Asked q
+  anyhow : AssignsNoRest o p → Chains → Spreads → StaysAsked → ExportsKeep o Asked → (q : Tree) (names : List Text) → IsStatementProgram p → TagsAreNoChains o p → Asked (source p) → Reached (only_where at (built_rules o)) p (first_whole p) names q → StepAlike no_all u p q × Asked q
   anyhow lacks = plain-run lacks at (same-places at)
 
   -- rows that don't act
@@ -253,7 +253,7 @@ pub record KeptInOrder (o : EnvOptions) (p : Tree) (Asked : Tree → Type 0) : T
 
 -- THE LAWS
 
-module _ (o : EnvOptions) (p q : Tree) (names : List Text) (h : IsStatementProgram p) (untagged : TagsAreNoChains o p) (lacks : LacksRests o p) where
+module _ (o : EnvOptions) (p q : Tree) (names : List Text) (h : IsStatementProgram p) (untagged : TagsAreNoChains o p) (lacks : AssignsNoRest o p) where
   abbrev assumes : Bool
   assumes = assumes_no_all o p
 

@@ -2,7 +2,6 @@
 -- program does.
 use Rattle.std.specs.Prelude.{◌≡◌, ◌&&◌, ◌||◌, Bool, false, true, not, List, is_some, if◌then◌else◌}
 use Rattle.es_tree.specs.Bare.{bare}
-use Rattle.es_tree.specs.Constructs.{is_object_rest}
 use Rattle.es_tree.specs.Tree.{Fields, Label, Tree}
 use Rattle.es_tree.specs.Walks.{all_nodes, any_node}
 use Rattle.es_tree.specs.Words.{Text}
@@ -10,7 +9,7 @@ use Rattle.es_tree.specs.declared.ast_type.AstType.{AstType}
 use Rattle.es_tree.specs.declared.options.EnvOptions.{EnvOptions}
 use Rattle.es_steps.specs.CoreBridge.{Reached, first_whole}
 use Rattle.es_reached.specs.Reached.{built_rules}
-use Rattle.es_reached.specs.Unmade.{is_sought, of_assignments, of_chains, of_powers, of_spreads}
+use Rattle.es_reached.specs.Unmade.{is_sought, of_assigned_rests, of_assignments, of_chains, of_powers, of_spreads}
 use Rattle.es_chain_tags.specs.ChainTags.{has_chain_tag}
 use Rattle.es_statement_runs.specs.Helpers.{Supply}
 use Rattle.es_statement_runs.specs.Helpers.Supply.{no_helpers, spread_by_global, by_global}
@@ -53,14 +52,14 @@ no_chain_tag k l fs = not (has_chain_tag k l fs)
 abbrev pub TagsAreNoChains : EnvOptions → Tree → Type 0
 TagsAreNoChains o p = o.es2020.optional_chaining ≡ true → all_nodes no_chain_tag p ≡ true
 
--- Where object rests are lowered none stands in the program: of what becomes of them no law of whole programs speaks.
-abbrev pub LacksRests : EnvOptions → Tree → Type 0
-LacksRests o p = (is_some o.es2018.object_rest_spread && any_node is_object_rest p) ≡ false
+-- Where object rests are lowered the program assigns to none (13.15.5): of what becomes of that no law of runs speaks.
+abbrev pub AssignsNoRest : EnvOptions → Tree → Type 0
+AssignsNoRest o p = (is_some o.es2018.object_rest_spread && any_node (is_sought of_assigned_rests) p) ≡ false
 
 -- A valid program that uses no helper itself runs as what steps of these rules reach from it, at whatever places they are taken and in
 -- whatever order, but that where both are lowered no spread is while a chain stands around it: of whatever operands its expressions are, and where it is assumed that no value is `document.all` in every run in which none is.
 abbrev pub LawStatementRules : Type 0
-LawStatementRules = (o : EnvOptions) (p q : Tree) (names : List Text) → IsStatementProgram p → TagsAreNoChains o p → LacksRests o p → uses_no_helper (supply_there o p) p ≡ true → Reached (built_rules o) p (first_whole p) names q →
+LawStatementRules = (o : EnvOptions) (p q : Tree) (names : List Text) → IsStatementProgram p → TagsAreNoChains o p → AssignsNoRest o p → uses_no_helper (supply_there o p) p ≡ true → Reached (built_rules o) p (first_whole p) names q →
     (are_mixed o p ≡ true → Reached (in_order o) p (first_whole p) names q) → RunAlike (supply_there o p) (assumes_no_all o p) p q
 
 -- A program of which the law speaks under these options.
@@ -71,4 +70,4 @@ pub record RunsAsStatements (o : EnvOptions) (p : Tree) : Type 0 where
 
 -- So it is of what a program becomes by steps in order: what is written of it, which is equal but for ids and marks, runs as it does.
 abbrev pub LawStatementResult : Type 0
-LawStatementResult = (o : EnvOptions) (p q r : Tree) (names : List Text) → RunsAsStatements o p → TagsAreNoChains o p → LacksRests o p → Reached (in_order o) p (first_whole p) names r → bare r ≡ bare q → RunAlike (supply_there o p) (assumes_no_all o p) p q
+LawStatementResult = (o : EnvOptions) (p q r : Tree) (names : List Text) → RunsAsStatements o p → TagsAreNoChains o p → AssignsNoRest o p → Reached (in_order o) p (first_whole p) names r → bare r ≡ bare q → RunAlike (supply_there o p) (assumes_no_all o p) p q

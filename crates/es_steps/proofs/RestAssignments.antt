@@ -17,9 +17,9 @@ use Rattle.es_resolution.specs.Resolved.{Place, Resolved, ResolvedAll, ResolvedI
 use Rattle.es_resolution.specs.Single.{scopes_among, scopes_in, scopes_with}
 use Rattle.es_steps.specs.Identifiers.{Passes, PassesAll, PassesIn}
 use Rattle.es_steps.specs.Nodes.{array_node, assign_node, call_node, identifier, made, member_node, object_node, sequence_node, string_node, word}
-use Rattle.es_steps.specs.ObjectRest.{helper_node, whole_value}
+use Rattle.es_steps.specs.ObjectRest.{helper_node, left_of, whole_value}
 use Rattle.es_steps.specs.Patterns.{IsSilent}
-use Rattle.es_steps.specs.RestAssignments.{Groups, RestAssignmentRule, TakesTarget, is_unused, left_of, object_target, pattern_assigned, property_target, rest_target, value_after}
+use Rattle.es_steps.specs.RestAssignments.{Groups, RestAssignmentRule, TakesTarget, is_unused, object_target, pattern_assigned, property_target, rest_target, value_after}
 use Rattle.es_steps.specs.RestAssignments.Groups.{begins, ends, keeps}
 use Rattle.es_steps.specs.RestAssignments.RestAssignmentRule.{assigns}
 use Rattle.es_steps.specs.RestAssignments.TakesTarget.{alone, beside}

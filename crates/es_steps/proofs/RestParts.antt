@@ -14,8 +14,8 @@ use Rattle.es_tree.specs.Words.{Text}
 use Rattle.es_tree.specs.declared.ast_type.AstType.TheVariants.{ObjectTarget, TargetProperty, TargetRest}
 use Rattle.es_resolution.specs.Declarations.{Bound}
 use Rattle.es_steps.specs.Nodes.{assign_node, identifier, made, string_node}
-use Rattle.es_steps.specs.ObjectRest.{whole_value}
-use Rattle.es_steps.specs.RestAssignments.{Groups, RestAssignmentRule, TakesTarget, left_of, object_target, property_target, rest_target}
+use Rattle.es_steps.specs.ObjectRest.{left_of, whole_value}
+use Rattle.es_steps.specs.RestAssignments.{Groups, RestAssignmentRule, TakesTarget, object_target, property_target, rest_target}
 use Rattle.es_steps.specs.RestAssignments.Groups.{begins, ends, keeps}
 use Rattle.es_steps.specs.RestAssignments.RestAssignmentRule.{assigns}
 use Rattle.es_steps.specs.RestAssignments.TakesTarget.{alone, beside}

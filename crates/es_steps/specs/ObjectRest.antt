@@ -3,7 +3,7 @@
 -- `let _c = c, b = babelHelpers.extends({}, (babelHelpers.objectDestructuringEmpty(_c), _c));`. Where a key is computed, the keys become
 -- `[k].map(babelHelpers.toPropertyKey)`. It goes in parts: each takes one temporary, or none, and leaves a declaration of the same word,
 -- with declarators in the declarator's place. A row of object rest is a row of them.
-use Rattle.std.specs.Prelude.{◌≡◌, true, false, List, ◌∷◌, Option, None, codes, map, []}
+use Rattle.std.specs.Prelude.{◌≡◌, Bool, true, false, List, ◌∷◌, Option, None, codes, map, []}
 use Rattle.es_resolution.specs.Declarations.{Bound, is_lexical}
 use Rattle.es_semantic.specs.RolesOf.{reads, role_at, binding_of}
 use Rattle.es_semantic.specs.declared.place.Binding.{Binding}
@@ -71,6 +71,12 @@ rest_value s ks = call_node (helper_node (codes "objectWithoutProperties")) (s �
 
 abbrev pub mapped_value : Tree → List Tree → Tree
 mapped_value s ks = call_node (helper_node (codes "objectWithoutProperties")) (s ∷ call_node (member_node (array_node ks) (codes "map")) (helper_node (codes "toPropertyKey") ∷ []) ∷ [])
+
+-- `babelHelpers.objectWithoutProperties(s, [keys])`, and where one of the keys is read,
+-- `babelHelpers.objectWithoutProperties(s, [keys].map(babelHelpers.toPropertyKey))`
+abbrev pub left_of : Bool → Tree → List Tree → Tree
+left_of true s ks = mapped_value s ks
+left_of false s ks = call_node (helper_node (codes "objectWithoutProperties")) (s ∷ array_node ks ∷ [])
 
 abbrev pub whole_value : Tree → Tree
 whole_value s = call_node (helper_node (codes "extends")) (object_node [] ∷ sequence_node (call_node (helper_node (codes "objectDestructuringEmpty")) (s ∷ []) ∷ s ∷ []) ∷ [])

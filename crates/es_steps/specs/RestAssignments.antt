@@ -15,20 +15,14 @@ use Rattle.es_tree.specs.PropertyKeys.{is_read_key, key_text}
 use Rattle.es_resolution.specs.Declarations.{Bound}
 use Rattle.es_semantic.specs.RolesOf.{reads}
 use Rattle.es_steps.specs.Duplication.{IsNext}
-use Rattle.es_steps.specs.Nodes.{array_node, assign_node, call_node, identifier, made, placed, sequence_node, string_node}
-use Rattle.es_steps.specs.ObjectRest.{helper_node, mapped_value, whole_value}
+use Rattle.es_steps.specs.Nodes.{assign_node, identifier, made, placed, sequence_node, string_node}
+use Rattle.es_steps.specs.ObjectRest.{left_of, whole_value}
 use Rattle.es_steps.specs.Patterns.{IsSilent}
 use Rattle.es_steps.specs.Rules.{with_made}
 use Rattle.es_steps.specs.Steps.{Whole, Site}
 use Rattle.es_steps.specs.WrapRule.{is_member_target}
 
 -- VALUES of a rest
-
--- `babelHelpers.objectWithoutProperties(s, [keys])`, and where one of the keys is read,
--- `babelHelpers.objectWithoutProperties(s, [keys].map(babelHelpers.toPropertyKey))`
-abbrev pub left_of : Bool → Tree → List Tree → Tree
-left_of true s ks = mapped_value s ks
-left_of false s ks = call_node (helper_node (codes "objectWithoutProperties")) (s ∷ array_node ks ∷ [])
 
 -- GROUPS of properties: one whose key is read begins one
 

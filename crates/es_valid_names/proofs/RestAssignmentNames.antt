@@ -7,8 +7,8 @@ use Rattle.es_tree.specs.declared.ast_type.AstType.{AstType}
 use Rattle.es_tree.specs.declared.ast_type.AstType.TheVariants.{ArrayExpression, ExportSpecifier, PrivateIdentifier}
 use Rattle.es_resolution.specs.Declarations.{Bound}
 use Rattle.es_steps.specs.Nodes.{array_node, assign_node, identifier}
-use Rattle.es_steps.specs.ObjectRest.{whole_value}
-use Rattle.es_steps.specs.RestAssignments.{RestAssignmentRule, is_unused, left_of, value_after}
+use Rattle.es_steps.specs.ObjectRest.{left_of, whole_value}
+use Rattle.es_steps.specs.RestAssignments.{RestAssignmentRule, is_unused, value_after}
 use Rattle.es_steps.specs.RestAssignments.RestAssignmentRule.{assigns}
 use Rattle.es_steps.specs.Rules.{with_made}
 use Rattle.es_steps.specs.Steps.{Site, Whole}

@@ -21,8 +21,8 @@ use Rattle.es_resolution.specs.Declarations.{Bound}
 use Rattle.es_steps.specs.CoreRules.{RowRule}
 use Rattle.es_steps.specs.Duplication.{IsNext}
 use Rattle.es_steps.specs.Nodes.{array_node, assign_node, call_node, identifier, made, member_node, object_node, sequence_node, word}
-use Rattle.es_steps.specs.ObjectRest.{helper_node, whole_value}
-use Rattle.es_steps.specs.RestAssignments.{Groups, RestAssignmentRule, TakesTarget, is_unused, left_of, object_target, property_target, rest_target, value_after}
+use Rattle.es_steps.specs.ObjectRest.{helper_node, left_of, whole_value}
+use Rattle.es_steps.specs.RestAssignments.{Groups, RestAssignmentRule, TakesTarget, is_unused, object_target, property_target, rest_target, value_after}
 use Rattle.es_steps.specs.RestAssignments.Groups.{begins, ends, keeps}
 use Rattle.es_steps.specs.RestAssignments.RestAssignmentRule.{assigns}
 use Rattle.es_steps.specs.RestAssignments.TakesTarget.{alone, beside}

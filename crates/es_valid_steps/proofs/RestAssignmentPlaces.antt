@@ -11,8 +11,8 @@ use Rattle.es_tree.specs.declared.table.Sort.{Sort}
 use Rattle.es_resolution.specs.Declarations.{Bound}
 use Rattle.es_steps.specs.CoreRules.{RowRule}
 use Rattle.es_steps.specs.Nodes.{array_node, assign_node, call_node, identifier, made, member_node, object_node, sequence_node, string_node, word}
-use Rattle.es_steps.specs.ObjectRest.{helper_node, whole_value}
-use Rattle.es_steps.specs.RestAssignments.{RestAssignmentRule, is_unused, left_of, object_target, property_target, rest_target, value_after}
+use Rattle.es_steps.specs.ObjectRest.{helper_node, left_of, whole_value}
+use Rattle.es_steps.specs.RestAssignments.{RestAssignmentRule, is_unused, object_target, property_target, rest_target, value_after}
 use Rattle.es_steps.specs.RestAssignments.RestAssignmentRule.{assigns}
 use Rattle.es_steps.specs.Rules.{with_made}
 use Rattle.es_steps.specs.Steps.{Site, Whole}

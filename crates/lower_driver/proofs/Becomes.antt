@@ -62,7 +62,7 @@ use Rattle.es_helper_imports.proofs.BareConstructs.{same-constructs}
 use Rattle.lower_driver.proofs.CoreNodes.{no-rest}
 use Rattle.lower_driver.proofs.CopiedOptions.{copied-enabled, copied-reached, copied-unsupported}
 use Rattle.lower_driver.proofs.InOrder.{anyhow}
-use Rattle.lower_driver.proofs.NoneLeft.{none-assigned, none-beside-rests, none-enabled, none-with-rests}
+use Rattle.lower_driver.proofs.NoneLeft.{assigns-no-rest, none-assigned, none-beside-rests, none-enabled, none-with-rests}
 use Rattle.lower_driver.proofs.NoneUnsupported.{none-unsupported}
 use Rattle.lower_driver.proofs.Untagged.{tags-are-no-chains}
 use Rattle.lower_driver.proofs.Visits.{Arrived, names-bound}
@@ -212,8 +212,8 @@ module _ (o c : EnvOptions) (copy : IsCopy o c) (p : Tree) (form : has_form s-Pr
         result = law_lowered_alone_proof o p (plain_program z) (made_of ctx) becomes;
         none = sym (copied-enabled o c copy (plain_program z)) ∙ same-constructs c there (plain_program z) (sym (law_bare_seen_proof names (plain_program z))) ∙ none-enabled c there other rests arrows;
         core = λ core. law_core_result_proof o p (plain_program z) (made_of ctx) core right becomes;
-        statements = λ no_rests runs. law_statement_result_proof o p (plain_program z) there (made_of ctx) runs (tags-are-no-chains o p taken_so) no_rests (ordered-so z ctx steps) (law_bare_seen_proof names (plain_program z));
-        importing = λ no_rests class m imported last runs require goes. law_importing_result_proof o m p (plain_program z) imported there (made_of ctx) last class (tags-are-no-chains o p taken_so) no_rests runs becomes (ordered-so z ctx steps) (law_bare_seen_proof names (plain_program z)) (law_same_sort_proof o p (plain_program z) (made_of ctx) form right (law_lowered_alone_proof o p (plain_program z) (made_of ctx) becomes)) require goes;
+        statements = λ no_rests runs. law_statement_result_proof o p (plain_program z) there (made_of ctx) runs (tags-are-no-chains o p taken_so) (assigns-no-rest o p no_rests) (ordered-so z ctx steps) (law_bare_seen_proof names (plain_program z));
+        importing = λ no_rests class m imported last runs require goes. law_importing_result_proof o m p (plain_program z) imported there (made_of ctx) last class (tags-are-no-chains o p taken_so) (assigns-no-rest o p no_rests) runs becomes (ordered-so z ctx steps) (law_bare_seen_proof names (plain_program z)) (law_same_sort_proof o p (plain_program z) (made_of ctx) form right (law_lowered_alone_proof o p (plain_program z) (made_of ctx) becomes)) require goes;
         size = at (rests_there o p);
       }
     where
@@ -327,8 +327,8 @@ stays-in-place o p form right none =
       result = law_lowered_alone_proof o p p [] becomes;
       none = none;
       core = λ core. law_core_result_proof o p p [] core right becomes;
-      statements = λ no_rests runs. law_statement_result_proof o p p (source p) [] runs (tags-are-no-chains o p taken) no_rests (record { whole = first_whole p; steps = stays; made = refl }) (law_bare_source_proof p);
-      importing = λ no_rests class m imported last runs require goes. law_importing_result_proof o m p p imported (source p) [] last class (tags-are-no-chains o p taken) no_rests runs becomes (record { whole = first_whole p; steps = stays; made = refl }) (law_bare_source_proof p) refl require goes;
+      statements = λ no_rests runs. law_statement_result_proof o p p (source p) [] runs (tags-are-no-chains o p taken) (assigns-no-rest o p no_rests) (record { whole = first_whole p; steps = stays; made = refl }) (law_bare_source_proof p);
+      importing = λ no_rests class m imported last runs require goes. law_importing_result_proof o m p p imported (source p) [] last class (tags-are-no-chains o p taken) (assigns-no-rest o p no_rests) runs becomes (record { whole = first_whole p; steps = stays; made = refl }) (law_bare_source_proof p) refl require goes;
       size = at (rests_there o p);
     }
   where

@@ -1,15 +1,15 @@
 -- Where a visit leaves no construct among the statements of a program, none is left: its directives have none, and exports stand in its
 -- own list.
-use Rattle.std.proofs.Common.{◌≡◌, ◌∙◌, [], ap, arith, refl, sym}
+use Rattle.std.proofs.Common.{◌≡◌, ◌∙◌, [], ap, arith, refl, sym, true≢false}
 use Rattle.std.specs.Prelude.{Bool, true, false, ◌&&◌, ◌||◌, is_some}
 use Rattle.es_tree.specs.Attributes.{child_entries}
 use Rattle.es_tree.specs.Constructs.{has_enabled_construct, is_arrow, is_chain, is_enabled_construct, is_enabled_statement, is_exponentiation, is_logical_assignment, is_namespace_export, is_nullish_coalescing, is_object_rest, is_object_spread, is_optional_catch, is_using}
-use Rattle.es_tree.specs.HasForm.{is_of_sort, elements_of, match_option, has_form, elements_form, fields_form, trees_form}
+use Rattle.es_tree.specs.HasForm.{is_of_sort, same_type, elements_of, match_option, has_form, elements_form, fields_form, trees_form}
 use Rattle.es_tree.specs.RestTargets.{is_rest_assignment}
 use Rattle.es_tree.specs.Tree.{Tree, node, Label, Fields, done, ◌then◌, Field, many, statements, Trees, empty, ◌before◌}
 use Rattle.es_tree.specs.Walks.{any_node, any_in_trees}
 use Rattle.es_tree.specs.declared.ast_type.AstType.{AstType}
-use Rattle.es_tree.specs.declared.ast_type.AstType.TheVariants.{Directive, Program as k-Program}
+use Rattle.es_tree.specs.declared.ast_type.AstType.TheVariants.{Directive, ObjectTarget, Program as k-Program}
 use Rattle.es_tree.specs.declared.options.EnvOptions.{EnvOptions}
 use Rattle.es_tree.specs.declared.table.Sort.TheVariants.{Program as s-Program, Directive as s-Directive, Statement as s-Statement}
 use Rattle.es_tree.proofs.NodeForm.{node_form}
@@ -20,7 +20,9 @@ use Rattle.es_traverse.specs.Laws.{is_construct}
 use Rattle.es_traverse.specs.Listed.{any_among, any_listed}
 use Rattle.es_rest_rows.specs.Laws.{is_other_construct as rest_others}
 use Rattle.es_unsupported.specs.Shapes.{holds_stray, is_unbuilt_node}
+use Rattle.es_reached.specs.Unmade.{is_any_logical_assignment, is_any_power, is_sought, of_assigned_rests}
 use Rattle.es_reached.specs.Walks.{is_other_construct}
+use Rattle.es_statement_steps.specs.Laws.{AssignsNoRest}
 use Rattle.lower_driver.specs.Constructs.{is_built_construct, is_lowered_construct, is_lowered_export}
 use Rattle.lower_driver.proofs.EitherTest.{any-where, fewer-in-tree, none-of-tree}
 use Rattle.es_runs.proofs.Named.{and_left, and_right, or_both, or_first, or_second}
@@ -105,10 +107,20 @@ module _ (o : EnvOptions) where
   pub no-usings : (t : Tree) → any_node (is_unbuilt_node o) t ≡ false → (o.es2026.explicit_resource_management && any_node is_using t) ≡ false
   no-usings t h = sym (any-where o.es2026.explicit_resource_management is_using t) ∙ fewer-in-tree using_declaration (is_unbuilt_node o) (λ k l fs e. or_second (stray_rest k l fs) (using_declaration k l fs) e) t h
 
+-- nor is a pattern with a rest assigned to where none stands
+not-sought : (a s b c d e g : Bool) → a ≡ false → ((a && s) || (b && false) || (c && false) || (d && false) || (e && false) || (g && false)) ≡ false
+not-sought true s b c d e g h = absurd (true≢false h)
+not-sought false s b c d e g h = grind arith
+
 -- none comes up where there was none
 pub none-came : (on old new : Bool) → (old ≡ false → new ≡ false) → (on && old) ≡ false → (on && new) ≡ false
 none-came true old new stays h = stays h
 none-came false old new stays h = refl
+
+pub assigns-no-rest : (o : EnvOptions) (p : Tree) → (is_some o.es2018.object_rest_spread && any_node is_object_rest p) ≡ false → AssignsNoRest o p
+assigns-no-rest o p = none-came (is_some o.es2018.object_rest_spread) (any_node is_object_rest p) (any_node (is_sought of_assigned_rests) p)
+    (fewer-in-tree (is_sought of_assigned_rests) is_object_rest (λ k l fs.
+    not-sought (is_object_rest k l fs) (same_type k ObjectTarget) (is_object_spread k l fs) (is_chain k l fs) (is_any_logical_assignment k l fs) (is_any_power k l fs) (is_using k l fs)) p)
 
 -- EXPORTS stand in the list of the program alone
 

@@ -8,8 +8,8 @@ use Rattle.es_tree.specs.declared.ast_type.AstType.{AstType}
 use Rattle.es_tree.specs.declared.ast_type.AstType.TheVariants.{AssignmentPattern, Identifier, ObjectPattern, PatternProperty, RestElement, StringLiteral}
 use Rattle.es_resolution.specs.Declarations.{Bound}
 use Rattle.es_steps.specs.Nodes.{declarator_with, identifier, joined_trees, made}
-use Rattle.es_steps.specs.ObjectRest.{declares_as, declares_some, pattern_node, whole_value}
-use Rattle.es_rest_rows.specs.RestRows.{PutsName, group, groups, groups_by, keyed_by, keys_of, left_of, names_key, parted, property_of, taken, with_rest}
+use Rattle.es_steps.specs.ObjectRest.{declares_as, declares_some, left_of, pattern_node, whole_value}
+use Rattle.es_rest_rows.specs.RestRows.{PutsName, group, groups, groups_by, keyed_by, keys_of, names_key, parted, property_of, taken, with_rest}
 use Rattle.es_rest_rows.specs.RestRows.PutsName.{for_pattern, with_default}
 use Rattle.es_rest_shapes.specs.RestShapes.{any_child, any_tree, are_plain, are_plain_members, bears_among, bears_rest, is_misplaced, is_name, is_odd_pattern, is_plain_key, is_plain_pattern, is_plain_property, is_plain_value, is_rest_declaration, is_rest_declarator, is_stray_rest, reads_key}
 use Rattle.es_tree.specs.Names.{has_computed}

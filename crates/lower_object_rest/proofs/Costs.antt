@@ -8,8 +8,8 @@ use Rattle.es_tree.specs.declared.ast_type.AstType.TheVariants.{Identifier, Obje
 use Rattle.es_resolution.specs.Declarations.{Bound}
 use Rattle.es_resolution.specs.Seen.{seen, seen_among}
 use Rattle.es_steps.specs.Nodes.{declarator_with, joined_trees, made}
-use Rattle.es_steps.specs.ObjectRest.{pattern_node, whole_value}
-use Rattle.es_rest_rows.specs.RestRows.{group, groups, groups_by, keyed_by, keys_of, left_of, names_key, taken, with_rest}
+use Rattle.es_steps.specs.ObjectRest.{left_of, pattern_node, whole_value}
+use Rattle.es_rest_rows.specs.RestRows.{group, groups, groups_by, keyed_by, keys_of, names_key, taken, with_rest}
 use Rattle.es_rest_shapes.specs.RestShapes.{any_tree, are_plain, are_plain_members, bears_among, bears_rest, is_name, is_named_rest, is_plain_pattern, is_plain_property, reads_key}
 use Rattle.lower_nodes.specs.Nodes.{owed, owed_among, owed_in}
 use Rattle.lower_temporaries.specs.SeenTrees.{no_bindings}

@@ -14,13 +14,13 @@ use Rattle.es_resolution.specs.Declarations.{Bound}
 use Rattle.es_resolution.specs.Seen.{seen, seen_among, seen_by, seen_in}
 use Rattle.es_steps.specs.Duplication.{IsNext}
 use Rattle.es_steps.specs.Nodes.{call_node, identifier, joined_trees, made, member_node, word}
-use Rattle.es_steps.specs.ObjectRest.{helper_node}
+use Rattle.es_steps.specs.ObjectRest.{helper_node, left_of}
 use Rattle.es_steps.specs.Rules.{with_made}
 use Rattle.es_steps.specs.Steps.{Whole}
 use Rattle.es_steps.proofs.Lists.{joined-empty}
 use Rattle.es_steps.proofs.Written.{joined-twice}
 use Rattle.es_changes.specs.Moments.{Moment, whole_at}
-use Rattle.es_rest_rows.specs.RestRows.{group, groups, groups_by, keyed_by, keys_by, keys_of, left_of, names_key, text_of_key}
+use Rattle.es_rest_rows.specs.RestRows.{group, groups, groups_by, keyed_by, keys_by, keys_of, names_key, text_of_key}
 use Rattle.es_rest_shapes.specs.RestShapes.{any_tree, are_plain, is_plain_property, reads_key}
 use Rattle.lower_temporaries.specs.SeenTrees.{IsSeenAs}
 use Rattle.lower_temporaries.specs.Takings.{ReadsMore, moment_of}

@@ -10,11 +10,11 @@ use Rattle.es_scope.specs.declared.context.TraverseCtx.{TraverseCtx}
 use Rattle.es_resolution.specs.Declarations.{Bound}
 use Rattle.es_resolution.specs.Seen.{seen, seen_among, seen_in}
 use Rattle.es_steps.specs.Nodes.{call_node, declarator_with, joined_trees}
-use Rattle.es_steps.specs.ObjectRest.{pattern_node}
+use Rattle.es_steps.specs.ObjectRest.{left_of, pattern_node}
 use Rattle.es_steps.specs.Steps.{Whole}
 use Rattle.es_steps.proofs.Written.{joined-twice}
 use Rattle.es_changes.specs.Moments.{Moment, whole_at}
-use Rattle.es_rest_rows.specs.RestRows.{group, groups, keys_of, left_of}
+use Rattle.es_rest_rows.specs.RestRows.{group, groups, keys_of}
 use Rattle.es_rest_shapes.specs.RestShapes.{any_tree, reads_key}
 use Rattle.lower_temporaries.specs.Takings.{ReadsMore, moment_of}
 use Rattle.lower_temporaries.specs.declared.state.TransformState.{TransformState}

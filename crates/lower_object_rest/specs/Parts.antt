@@ -15,9 +15,9 @@ use Rattle.es_resolution.specs.Declarations.{Bound}
 use Rattle.es_resolution.specs.Seen.{seen, seen_among}
 use Rattle.es_steps.specs.Duplication.{IsNext}
 use Rattle.es_steps.specs.Nodes.{declarator_with, identifier, joined_trees}
-use Rattle.es_steps.specs.ObjectRest.{helper_node, whole_value}
+use Rattle.es_steps.specs.ObjectRest.{helper_node, left_of, whole_value}
 use Rattle.es_changes.specs.Moments.{whole_at}
-use Rattle.es_rest_rows.specs.RestRows.{groups, keys_of, left_of, taken, with_rest}
+use Rattle.es_rest_rows.specs.RestRows.{groups, keys_of, taken, with_rest}
 use Rattle.es_rest_shapes.specs.RestShapes.{any_tree, are_plain, bears_among, is_name, is_named_rest, reads_key}
 use Rattle.lower_temporaries.specs.SeenTrees.{IsSeenAs}
 use Rattle.lower_temporaries.specs.Takings.{ReadsMore, TakesBound, moment_of}

@@ -18,8 +18,8 @@ use Rattle.es_resolution.specs.Declarations.{Bound}
 use Rattle.es_resolution.specs.Seen.{seen, seen_among, seen_in}
 use Rattle.es_runs.proofs.OptionalChainingWeights.{tests_size-append}
 use Rattle.es_steps.specs.Nodes.{assign_node, call_node, identifier, made}
-use Rattle.es_steps.specs.ObjectRest.{whole_value}
-use Rattle.es_steps.specs.RestAssignments.{Groups, TakesTarget, left_of, object_target, property_target, rest_target}
+use Rattle.es_steps.specs.ObjectRest.{left_of, whole_value}
+use Rattle.es_steps.specs.RestAssignments.{Groups, TakesTarget, object_target, property_target, rest_target}
 use Rattle.es_steps.specs.RestAssignments.Groups.{ends}
 use Rattle.es_steps.specs.RestAssignments.TakesTarget.{alone, beside}
 use Rattle.es_steps.specs.Steps.{Whole}
