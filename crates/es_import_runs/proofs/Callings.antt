@@ -93,7 +93,7 @@ pub member_helper : (h : Helper) (j i m : Label) (gs hs : Fields) → flag_at 0 
 member_helper h j i m gs hs a b object name = rw (a, b, object) name
 
 -- the flags as the machine reads them
-first_flag : (bs : List Bool) → flag_at 0 bs ≡ flag bs
+pub first_flag : (bs : List Bool) → flag_at 0 bs ≡ flag bs
 first_flag [] = refl
 first_flag (b ∷ bs) = refl
 
@@ -122,6 +122,20 @@ found_text x k (g ∷ gs) r n = let d = and_parts (is_helper_text (helper_text g
 
 pub text_named : (x : Text) (k : Helper) → named_helper x ≡ Some k → (helper_text k ≡ x) × (is_helper_text x ≡ true)
 text_named x k n = found_text x k made_helpers refl n
+
+-- WHAT A MEMBER SAYS
+
+-- `babelHelpers.NAME` says that it is this helper, where nothing declares `babelHelpers`
+member_says : (w : World) (y : Text) (m : Meaning) → is_helper_text y ≡ true → is_free (w.scope helpers_) ≡ true → (member_by (placed_at by_global w [] []) (said_in by_global (w.scope helpers_)) (word helpers_) (word y) m).more ≡ helper_call y
+member_says w y m known k = at (w.scope helpers_) k
+  where
+    at : (b : Binding) → is_free b ≡ true → (member_by (placed_at by_global w [] []) (said_in by_global b) (word helpers_) (word y) m).more ≡ helper_call y
+    at free h = rw (known, k) refl
+    at _ h = absurd (cc h)
+
+pub callee_says : (w : World) (j i m : Label) (gs hs : Fields) → flag_at 0 j.flags ≡ false → flag_at 1 j.flags ≡ false → first_text i.texts ≡ helpers_ → is_helper_text (first_text m.texts) ≡ true → is_free (w.scope helpers_) ≡ true →
+    (sense (placed_at by_global w [] []) (node MemberExpression j (one (node Identifier i gs) then (one (node Identifier m hs) then done)))).more ≡ helper_call (first_text m.texts)
+callee_says w j i m gs hs a b e known unbound = rw (sym (first_flag j.flags) ∙ a, sym (second_flag j.flags) ∙ b, e) (member_says w (first_text m.texts) _ known unbound)
 
 not_so : (a : Bool) → not a ≡ true → a ≡ false
 not_so true h = absurd (cc h)
@@ -253,21 +267,9 @@ module _ (hidden : Text → Bool) (known : Helper → Bool) (c : Helper → Boun
       said_parts n y f d ts fs block flags e j (one_portion (rows_like h) no_portion) = rw flags (said_call n y f d e j h)
       said_parts n y f d ts fs block flags e j _ = nothing_sense F quiet n w v same
 
-      -- `babelHelpers.NAME` says that it is this helper
-      member_says : (y : Text) (m : Meaning) → is_helper_text y ≡ true → is_free (w.scope helpers_) ≡ true → (member_by source (said_in by_global (w.scope helpers_)) (word helpers_) (word y) m).more ≡ helper_call y
-      member_says y m known k = at (w.scope helpers_) k
-        where
-          at : (b : Binding) → is_free b ≡ true → (member_by source (said_in by_global b) (word helpers_) (word y) m).more ≡ helper_call y
-          at free h = rw (known, k) refl
-          at _ h = absurd (cc h)
-
       -- and so does a name that stands for it
       name_says : (h : Helper) → v.scope (c h).name ≡ silent (helper_name (helper_text h)) → (sense target (named h)).more ≡ helper_call (helper_text h)
       name_says h e = ap (λ (b : Binding). said_in by_global b) e
-
-    callee_says : (w : World) (j i m : Label) (gs hs : Fields) → flag_at 0 j.flags ≡ false → flag_at 1 j.flags ≡ false → first_text i.texts ≡ helpers_ → is_helper_text (first_text m.texts) ≡ true → is_free (w.scope helpers_) ≡ true →
-        (sense (placed_at by_global w [] []) (node MemberExpression j (one (node Identifier i gs) then (one (node Identifier m hs) then done)))).more ≡ helper_call (first_text m.texts)
-    callee_says w j i m gs hs a b e known unbound = rw (sym (first_flag j.flags) ∙ a, sym (second_flag j.flags) ∙ b, e) (member_says w w (record { scope = λ x e. refl; this = refl; counts = refl }) [] [] (first_text m.texts) _ known unbound)
 
     -- THE TREE
 

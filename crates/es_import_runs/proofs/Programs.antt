@@ -145,7 +145,7 @@ module _ (m : Text) (l : Label) (ds body : Trees) (b : Bound) (h : CallsSpread m
       alike : (v : World) → senses (placed_at by_global v [] []) us ≡ senses (placed_at o v [] []) us
       declares : (y : Text) → only x y ≡ false → (es : List Declared) → kind_in (top_names n ++ es) y ≡ kind_in es y
       quiet : using_here n ≡ false
-      silent_there : (this : Value) → (program_world o this q).scope x ≡ silent said → IsSilent o x (program_world o this q) n
+      silent_there : (this : Value) → (program_world o this q).scope x ≡ silent said → IsSilent o (only x) (program_world o this q) n
 
     module _ (it : Stands) where
       tops : (y : Text) → only x y ≡ false → kind_in (top_in after) y ≡ kind_in (top_in body) y
@@ -206,7 +206,7 @@ module _ (m : Text) (l : Label) (ds body : Trees) (b : Bound) (h : CallsSpread m
             (trees_like (only x) known (bound_of (ObjectSpread2 ∷ []) (b ∷ [])) hides (one_quiet x h.math h.no_cell) (one_stack x h.no_cell) h.seen handed_other body body_taken refl h.name parts.1.1.0 all_in_body (place_like same (record { global = free_before; names = stands })))
 
         runs : (k : ℕ) (moves : List Move) → Same (apart_from x) Equal (run by_global k p this moves) (run o k q this moves)
-        runs k moves = program_after by_global o x w v same (one_quiet x h.math h.no_cell) n (it.silent_there this bound) (one_stack x h.no_cell) it.quiet l ds (calling_among (spread_name b) ds) body us like
+        runs k moves = program_after by_global o (only x) w v same (one_quiet x h.math h.no_cell) n (it.silent_there this bound) (one_stack x h.no_cell) it.quiet l ds (calling_among (spread_name b) ds) body us like
             (using_all_now (spread_name b) (λ g. refl) body) _ _ (start_same (only x) (top_in body) (top_in after) tops k moves)
 
       as_before : RunUnder by_global o p q

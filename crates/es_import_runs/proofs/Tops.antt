@@ -1,5 +1,5 @@
 -- The program that imports a helper, or requires it: its list is that of the program before, with a statement behind the first imports, which asks nothing and
--- sets a hidden cell.
+-- sets a hidden cell; and so it is of other such statements.
 use Rattle.std.proofs.Common.{◌≡◌, ◌∙◌, refl, sym, ap, subst, List, [], ◌∷◌, ◌++◌}
 use Rattle.std.specs.Prelude.{◌||◌, Bool, true, false, Option, None, Some, bytes_eq, codes, if◌then◌else◌}
 use Rattle.es_tree.specs.Scopes.{Declared}
@@ -24,7 +24,7 @@ use Rattle.es_statement_runs.specs.Calls.{call_by, core_call, required_or}
 use Rattle.es_statement_runs.specs.Helpers.{Supply, helper_in, imported_helper, imported_helpers}
 use Rattle.es_statement_runs.specs.Helpers.Supply.{by_require}
 use Rattle.es_statement_runs.specs.Kinds.{kind_in, sense, senses}
-use Rattle.es_statement_runs.specs.Laws.{apart_from}
+use Rattle.es_statement_runs.specs.Laws.{any_cells, apart_from}
 use Rattle.es_statement_runs.specs.Names.{top_in, top_names, using_here, using_in}
 use Rattle.es_statement_runs.specs.Places.{placed_at, value_taken}
 use Rattle.es_statement_runs.specs.Senses.{Place, Sense, cores, plain_sense, said_in}
@@ -36,16 +36,16 @@ use Rattle.es_statement_runs.proofs.Combinators.{stack_alike}
 use Rattle.es_runs.proofs.Temporary.{bytes_eq-self}
 use Rattle.es_top_imports.specs.TopImports.{Import, import_of, require_of}
 
--- A STATEMENT MORE that asks nothing, but sets a hidden cell
-pub record IsSilent (o : Supply) (x : Text) (v : World) (n : Tree) : Type 0 where
-  pub begins : (us : Trees) (m k : M Value) → Alike (apart_from x) Equal m (begun (senses (placed_at o v [] []) us) k) → Alike (apart_from x) Equal m (begun (senses (placed_at o v [] []) (n before us)) k)
-  pub goes : (us : Trees) (m : M Value) → Alike (apart_from x) Equal m (in_order v (cores (senses (placed_at o v [] []) us))) → Alike (apart_from x) Equal m (in_order v (cores (senses (placed_at o v [] []) (n before us))))
+-- A STATEMENT MORE that asks nothing, but may set hidden cells
+pub record IsSilent (o : Supply) (hidden : Text → Bool) (v : World) (n : Tree) : Type 0 where
+  pub begins : (us : Trees) (m k : M Value) → Alike (any_cells hidden) Equal m (begun (senses (placed_at o v [] []) us) k) → Alike (any_cells hidden) Equal m (begun (senses (placed_at o v [] []) (n before us)) k)
+  pub goes : (us : Trees) (m : M Value) → Alike (any_cells hidden) Equal m (in_order v (cores (senses (placed_at o v [] []) us))) → Alike (any_cells hidden) Equal m (in_order v (cores (senses (placed_at o v [] []) (n before us))))
 
 hidden_first : (x : Text) (u : Value) {m k : M Value} → Alike (apart_from x) Equal m k → Alike (apart_from x) Equal m ((set_cell x u >>= λ _. return undefined) >>= λ _. k)
 hidden_first x u h _ _ (agree f g i) = hide_set (only x) x u (bytes_eq-self x) h _ _ (agree f g i)
 
 -- an import of a name that stands for a helper is one
-pub import_silent : (o : Supply) (i : Import) (t : Text) (v : World) → v.scope i.local.name ≡ silent (helper_name t) → IsSilent o i.local.name v (import_of i)
+pub import_silent : (o : Supply) (i : Import) (t : Text) (v : World) → v.scope i.local.name ≡ silent (helper_name t) → IsSilent o (only i.local.name) v (import_of i)
 import_silent o i t v bound = record { begins = begins; goes = λ us m h. λ s t a. h s t a }
   where
     asked : (us : Trees) (k : M Value) → begun (senses (placed_at o v [] []) (import_of i before us)) k ≡ ((set_cell i.local.name (own (helper t)) >>= λ _. return undefined) >>= λ _. begun (senses (placed_at o v [] []) us) k)
@@ -97,7 +97,7 @@ module _ (m t : Text) (i : Import) (v : World) (bound : v.scope i.local.name ≡
   set_first : {m k : M Value} → Alike (apart_from x) Equal m k → Alike (apart_from x) Equal m (value v (gives_value (declared false (set_name ∷ []))) >>= λ _. k)
   set_first h _ _ (agree f g i) = hide_set (only x) x (own (helper t)) (bytes_eq-self x) h _ _ (agree f g i)
 
-  pub require_silent : IsSilent (by_require m) x v (require_of i)
+  pub require_silent : IsSilent (by_require m) (only x) v (require_of i)
   require_silent = record {
     begins = λ us m k h. subst (λ (s : Sense). Alike (apart_from x) Equal m (first_asked s.more (begun (senses here us) k))) (sym statement) h;
     goes = λ us m h. subst (λ (s : Sense). Alike (apart_from x) Equal m (value v s.core >>= λ _. in_order v (cores (senses here us)))) (sym statement) (set_first h);
@@ -105,9 +105,9 @@ module _ (m t : Text) (i : Import) (v : World) (bound : v.scope i.local.name ≡
 
 -- A LIST with it behind the first imports
 
-module _ (u o : Supply) (x : Text) (w v : World) (same : SameWorld (only x) w v) (quiet : Quiet (apart_from x)) (n : Tree) (silent : IsSilent o x v n) where
+module _ (u o : Supply) (hidden : Text → Bool) (w v : World) (same : SameWorld hidden w v) (quiet : Quiet (any_cells hidden)) (n : Tree) (silent : IsSilent o hidden v n) where
   abbrev F : Frame
-  F = apart_from x
+  F = any_cells hidden
 
   begun_after : (ts us : Trees) → SensesLike F w v body_taken (senses (placed_at u w [] []) ts) (senses (placed_at o v [] []) us) → {m k : M Value} → Alike F Equal m k →
       Alike F Equal (begun (senses (placed_at u w [] []) ts) m) (begun (senses (placed_at o v [] []) (after_imports (n before empty) us)) k)

@@ -89,6 +89,30 @@ module _ (xs : List Text) where
   more_append (as_before h) g = as_before (more_append h g)
   more_append (one_more e h) g = one_more e (more_append h g)
 
+-- NO DECLARATION STANDS in an expression or a pattern
+
+module _ (A : Tree → Tree → Type 0) (outer : (a b : Tree) → A a b → is_inner (kind_of a) ≡ true → ⊥) where
+  abbrev Inner : Tree → Type 0
+  Inner t = Apt t × (is_inner (kind_of t) ≡ true)
+
+  mutual
+    pub none_inside : {a b : Tree} → Changed A a b → Apt a → is_inner (kind_of a) ≡ true → ⊥
+    none_inside (here {a = a} {b = b} h) apt e = outer a b h e
+    none_inside (below {k = k} {l = l} {fs = fs} h) apt e = none_in h (map_below (λ i t. Part k i t) (λ i. Inner) (λ i t p. (p.0, (child_parts k i t p.1.0).inner e)) fs (parts_of k l fs apt))
+
+    pub none_in : {fs gs : Fields} → ChangedIn A fs gs → Below (λ i. Inner) fs → ⊥
+    none_in (first_of h) p = none_by h p.0
+    none_in (later_of h) p = none_in h p.1
+
+    pub none_by : {f g : Field} → ChangedBy A f g → BelowField Inner f → ⊥
+    none_by (one_of h) p = none_inside h p.0 p.1
+    none_by (many_of h) p = none_among h p
+    none_by (statements_of h) p = none_among h p
+
+    none_among : {ts us : Trees} → ChangedAmong A ts us → BelowTrees Inner ts → ⊥
+    none_among (head_of h) p = none_inside h p.0.0 p.0.1
+    none_among (tail_of h) p = none_among h p.1
+
 module _ (v : Bool) (xs : List Text) (A : Tree → Tree → Type 0) (grow : (a b : Tree) → A a b → Grows v xs a b) where
   abbrev pub More : List Declared → List Declared → Type 0
   More = NamesMore (among_names xs)
@@ -96,27 +120,18 @@ module _ (v : Bool) (xs : List Text) (A : Tree → Tree → Type 0) (grow : (a b
   same : (ds : List Declared) → More ds ds
   same = same_names (among_names xs)
 
-  -- NO DECLARATION STANDS in an expression, a pattern or a declaration
+  -- nor in a declaration
   not_inner : {a b : Tree} → Grows v xs a b → is_inner (kind_of a) ≡ true → ⊥
   not_inner (grows m ds es word lone more names) e = absurd (cc e)
 
-  mutual
-    pub inner_still : {a b : Tree} → Changed A a b → Apt a → is_inner (kind_of a) ≡ true → ⊥
-    inner_still (here {a = a} {b = b} h) apt e = not_inner (grow a b h) e
-    inner_still (below {k = k} {l = l} {fs = fs} h) apt e = inner_in h (map_below (λ i t. Part k i t) (λ i t. Apt t × (is_inner (kind_of t) ≡ true)) (λ i t p. (p.0, (child_parts k i t p.1.0).inner e)) fs (parts_of k l fs apt))
+  pub inner_still : {a b : Tree} → Changed A a b → Apt a → is_inner (kind_of a) ≡ true → ⊥
+  inner_still h = none_inside A (λ a b g. not_inner (grow a b g)) h
 
-    pub inner_in : {fs gs : Fields} → ChangedIn A fs gs → Below (λ i t. Apt t × (is_inner (kind_of t) ≡ true)) fs → ⊥
-    inner_in (first_of h) p = inner_by h p.0
-    inner_in (later_of h) p = inner_in h p.1
+  pub inner_in : {fs gs : Fields} → ChangedIn A fs gs → Below (λ i t. Apt t × (is_inner (kind_of t) ≡ true)) fs → ⊥
+  inner_in h = none_in A (λ a b g. not_inner (grow a b g)) h
 
-    pub inner_by : {f g : Field} → ChangedBy A f g → BelowField (λ t. Apt t × (is_inner (kind_of t) ≡ true)) f → ⊥
-    inner_by (one_of h) p = inner_still h p.0 p.1
-    inner_by (many_of h) p = inner_among h p
-    inner_by (statements_of h) p = inner_among h p
-
-    inner_among : {ts us : Trees} → ChangedAmong A ts us → BelowTrees (λ t. Apt t × (is_inner (kind_of t) ≡ true)) ts → ⊥
-    inner_among (head_of h) p = inner_still h p.0.0 p.0.1
-    inner_among (tail_of h) p = inner_among h p.1
+  pub inner_by : {f g : Field} → ChangedBy A f g → BelowField (λ t. Apt t × (is_inner (kind_of t) ≡ true)) f → ⊥
+  inner_by h = none_by A (λ a b g. not_inner (grow a b g)) h
 
   declarator_inner : (i : ℕ) (j : AstType) → parts_fit VariableDeclaration i j ≡ true → is_inner j ≡ true
   declarator_inner zero VariableDeclarator e = refl

@@ -51,7 +51,7 @@ use Rattle.es_rest_runs.specs.Growth.{Grows}
 use Rattle.es_rest_runs.specs.Growth.Grows.{grows}
 use Rattle.es_rest_runs.specs.Laws.{NestsRow, is_nested}
 use Rattle.es_rest_runs.proofs.GrownNames.{Apt, Decl, in_right, more_append, using_so}
-use Rattle.es_rest_runs.proofs.QuietSteps.{PlainRule}
+use Rattle.es_rest_runs.proofs.QuietSteps.{Before, PlainRule}
 use Rattle.es_rest_runs.proofs.SeenPlaces.{Seen}
 use Rattle.es_rest_runs.proofs.SeenPrograms.{New, Raw, unused}
 use Rattle.es_rest_runs.proofs.SourcePlaces.{SourceFacts, source_facts}
@@ -84,7 +84,7 @@ row_made (nested {w = w} m l lp lq ls a ps rs c k p v u x b1 b2 plain b4 pattern
 row_made (stores m l a c p e x b1 b2 b3 b4 b5 b6 b7) so = absurd (cc so)
 row_made (takes m l lp lr ls a ps c t xs b1 b2 b3 b4 b5 b6 b7 b8 b9) so = absurd (cc so)
 
-pub nests-rule : PlainRule NestsRow SomeNested
+pub nests-rule : PlainRule NestsRow (Before SomeNested)
 nests-rule = record {
   nodes = λ n s s' x y h. row_nodes h.row;
   pending = λ n s s' t u h. row_pending h.row;

@@ -21,7 +21,7 @@ use Rattle.es_rest_runs.specs.Quiet.{IsQuiet}
 use Rattle.es_rest_runs.proofs.GrownNames.{Apt}
 use Rattle.es_rest_runs.proofs.GrownPrograms.{ProgramChanged, program_changed}
 use Rattle.es_rest_runs.proofs.NestedPlaces.{NestedAt, SomeNested, are_new, grow, nested_place, nests-rule}
-use Rattle.es_rest_runs.proofs.QuietSteps.{Left, opened_quiet, step_changed}
+use Rattle.es_rest_runs.proofs.QuietSteps.{Before, Left, opened_quiet, step_changed}
 use Rattle.es_rest_runs.proofs.SeenPlaces.{Known}
 use Rattle.es_rest_runs.proofs.SeenPrograms.{New, SeenAlike, declared_still, program_apt, program_known, seen_run}
 use Rattle.es_rest_runs.proofs.Stores.{Picked, kind_program, pick, said_of}
@@ -48,7 +48,7 @@ module _ (u : Supply) (s s' : Ledger) (p : Tree) (y : Open) (apt : Apt p) (known
 pub nested_alike : (u : Supply) (s s' : Ledger) (x y : Open) (p : Tree) → finished x ≡ p → IsStatementProgram p → IsWellBound (whole_in s) p → KeepsSources (whole_in s) p → Step NestsRow the_program s x s' y → IsQuiet x → silent_names u p ≡ [] →
     SeenAlike u (SomeNested (whole_in s)) s s' p y
 nested_alike u s s' x y p same class bound sources step quiet silent =
-    let left = subst (λ (t : Tree). Left s s' (IsQuiet y) (Changed (SomeNested (whole_in s)) t (finished y))) {x = finished x} same (step_changed NestsRow SomeNested nests-rule step quiet) in
+    let left = subst (λ (t : Tree). Left s s' (IsQuiet y) (Changed (SomeNested (whole_in s)) t (finished y))) {x = finished x} same (step_changed NestsRow (Before SomeNested) nests-rule step quiet) in
     alike_where u s s' p y (program_apt p class) (program_known (whole_in s) p class bound sources) silent left (kind_program p class.form) (pick (Bool × Text) (NestedAt (whole_in s)) left.changed)
 
 pub law_nests_proof : LawNests

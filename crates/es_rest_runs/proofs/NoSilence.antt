@@ -20,13 +20,13 @@ apart true x (node Identifier l fs) h = absurd (cc h)
 apart true x (node _ l fs) h = refl
 apart false x k h = refl
 
-none_by : (x : Text) (k : AstType) (l : Label) (fs : Fields) → excludes_no_name k l fs ≡ true → excludes_by by_global [] x k fs ≡ false
+pub none_by : (x : Text) (k : AstType) (l : Label) (fs : Fields) → excludes_no_name k l fs ≡ true → excludes_by by_global [] x k fs ≡ false
 none_by x CallExpression l (one f then (many (e before (key before empty)) then fs)) h = apart (is_helper by_global [] (codes "objectWithoutProperties") f) x key h
 none_by x _ l fs h = refl
 
 module _ (x : Text) where
   mutual
-    no_places : (t : Tree) → all_nodes excludes_no_name t ≡ true → key_places by_global [] x t ≡ 0
+    pub no_places : (t : Tree) → all_nodes excludes_no_name t ≡ true → key_places by_global [] x t ≡ 0
     no_places (node k l fs) h =
         let d = and_parts (excludes_no_name k l fs) (all_in_fields excludes_no_name fs) h in
         let own : one_where (excludes_by by_global [] x k fs) ≡ 0 = ap one_where (none_by x k l fs d.0) in
@@ -55,11 +55,11 @@ module _ (x : Text) where
         let rest : key_places_all by_global [] x ts ≡ 0 = no_places_all ts d.1 in
         omega arith
 
-module _ (p : Tree) (none : all_nodes excludes_no_name p ≡ true) where
-  none_where : (y : Text) (o : Option Values) → constant_where y false o ≡ []
-  none_where y (Some vs) = refl
-  none_where y None = refl
+pub none_where : (y : Text) (o : Option Values) → constant_where y false o ≡ []
+none_where y (Some vs) = refl
+none_where y None = refl
 
+module _ (p : Tree) (none : all_nodes excludes_no_name p ≡ true) where
   none_constant : (d : Tree) → constant_by by_global [] p d ≡ []
   none_constant (node VariableDeclarator l (one (node Identifier k gs) then (one (node ArrayExpression m es) then done))) =
       ap (λ n. constant_where (first_text k.texts) (only_excludes n (occurrences (first_text k.texts) (names_of p))) (texts_of es)) (no_places (first_text k.texts) p none) ∙ none_where (first_text k.texts) (texts_of es)

@@ -47,13 +47,17 @@ mutual
   opened_trees_quiet empty = tt
   opened_trees_quiet (t before ts) = (opened_quiet t, opened_trees_quiet ts)
 
--- A rule of nodes that puts nothing into lists, and what it makes of a node, by what is known of the whole
-pub record PlainRule (Q : Site → Ledger → Spot → Ledger → Spot → Type 0) (A : Whole → Tree → Tree → Type 0) : Type 0 where
+-- A rule of nodes that puts nothing into lists, and what it makes of a node, by what is known of the whole before and after
+pub record PlainRule (Q : Site → Ledger → Spot → Ledger → Spot → Type 0) (A : Whole → Whole → Tree → Tree → Type 0) : Type 0 where
   pub nodes : (n : Site) (s s' : Ledger) (x y : Spot) → Q n s x s' y → AtNodes x y
   pub pending : (n : Site) (s s' : Ledger) (t u : Tree) → Q n s (at_node t) s' (at_node u) → pending_in s' ≡ pending_in s
   pub this : (n : Site) (s s' : Ledger) (t u : Tree) → Q n s (at_node t) s' (at_node u) → this_in s' ≡ this_in s
   pub top : (n : Site) (s s' : Ledger) (t u : Tree) → Q n s (at_node t) s' (at_node u) → top_in s' ≡ top_in s
-  pub made : (n : Site) (s s' : Ledger) (t u : Tree) → Q n s (at_node t) s' (at_node u) → A (whole_in s) t u
+  pub made : (n : Site) (s s' : Ledger) (t u : Tree) → Q n s (at_node t) s' (at_node u) → A (whole_in s) (whole_in s') t u
+
+-- what is made by what was known before alone
+abbrev pub Before : (Whole → Tree → Tree → Type 0) → Whole → Whole → Tree → Tree → Type 0
+Before A w w' = A w
 
 -- what a step leaves
 pub record Left (s s' : Ledger) (K C : Type 0) : Type 0 where
@@ -78,68 +82,68 @@ listed A p x a e f g ts us h =
 bodied : (A : Tree → Tree → Type 0) (p : Pending) → p ≡ nothing_pending → (t u : Tree) → Changed A t u → ChangedBy A (one (written_body p t)) (one (written_body p u))
 bodied A p e t u h = subst (λ p. ChangedBy A (one (written_body p t)) (one (written_body p u))) (sym e) (one_of h)
 
-module _ (Q : Site → Ledger → Spot → Ledger → Spot → Type 0) (A : Whole → Tree → Tree → Type 0) (law : PlainRule Q A) where
+module _ (Q : Site → Ledger → Spot → Ledger → Spot → Type 0) (A : Whole → Whole → Tree → Tree → Type 0) (law : PlainRule Q A) where
   mutual
-    pub step_changed : {n : Site} {s s' : Ledger} {t u : Open} → Step Q n s t s' u → IsQuiet t → Left s s' (IsQuiet u) (Changed (A (whole_in s)) (finished t) (finished u))
+    pub step_changed : {n : Site} {s s' : Ledger} {t u : Open} → Step Q n s t s' u → IsQuiet t → Left s s' (IsQuiet u) (Changed (A (whole_in s) (whole_in s')) (finished t) (finished u))
     step_changed (acts {n = n} {s = s} {s' = s'} t u h) q = record {
       pending = law.pending n s s' t u h;
       this = law.this n s s' t u h;
       top = law.top n s s' t u h;
       quiet = opened_quiet u;
-      changed = subst (λ x. Changed (A (whole_in s)) x (finished (opened u))) (sym (finished-opened t)) (subst (λ x. Changed (A (whole_in s)) t x) (sym (finished-opened u)) (here (law.made n s s' t u h)));
+      changed = subst (λ x. Changed (A (whole_in s) (whole_in s')) x (finished (opened u))) (sym (finished-opened t)) (subst (λ x. Changed (A (whole_in s) (whole_in s')) t x) (sym (finished-opened u)) (here (law.made n s s' t u h)));
     }
     step_changed (inside h) q = onward (λ k. k) below (fields_changed h q)
 
-    fields_changed : {c : ℕ → Site} {s s' : Ledger} {fs gs : OpenFields} → FieldsStep Q c s fs s' gs → AreQuietFields fs → Left s s' (AreQuietFields gs) (ChangedIn (A (whole_in s)) (finished_fields fs) (finished_fields gs))
+    fields_changed : {c : ℕ → Site} {s s' : Ledger} {fs gs : OpenFields} → FieldsStep Q c s fs s' gs → AreQuietFields fs → Left s s' (AreQuietFields gs) (ChangedIn (A (whole_in s) (whole_in s')) (finished_fields fs) (finished_fields gs))
     fields_changed (in_first h) q = onward (λ k. (k, q.1)) first_of (field_changed h q.0)
     fields_changed (in_later h) q = onward (λ k. (q.0, k)) later_of (fields_changed h q.1)
 
-    field_changed : {n : Site} {s s' : Ledger} {f g : OpenField} → FieldStep Q n s f s' g → IsQuietField f → Left s s' (IsQuietField g) (ChangedBy (A (whole_in s)) (finished_field f) (finished_field g))
+    field_changed : {n : Site} {s s' : Ledger} {f g : OpenField} → FieldStep Q n s f s' g → IsQuietField f → Left s s' (IsQuietField g) (ChangedBy (A (whole_in s) (whole_in s')) (finished_field f) (finished_field g))
     field_changed (in_child h) q = onward (λ k. k) one_of (step_changed h q)
     field_changed (in_children h) q = onward (λ k. k) many_of (trees_changed h q)
-    field_changed (in_body {w = w} {p = p} {q = r} {t = t} {u = u} e y y' h) q =
+    field_changed (in_body {w = w} {w' = w'} {p = p} {q = r} {t = t} {u = u} e y y' h) q =
         let g = step_changed h q.1 in
         record {
           pending = refl;
           this = g.this;
           top = g.top;
           quiet = (g.pending ∙ q.0, g.quiet);
-          changed = subst (λ z. ChangedBy (A w) (one (written_body p (finished t))) (one (written_body z (finished u)))) (sym g.pending) (bodied (A w) p q.0 (finished t) (finished u) g.changed);
+          changed = subst (λ z. ChangedBy (A w w') (one (written_body p (finished t))) (one (written_body z (finished u)))) (sym g.pending) (bodied (A w w') p q.0 (finished t) (finished u) g.changed);
         }
-    field_changed (in_list {w = w} {p = p} {q = r} {y = y} {b = b} {ts = ts} {us = us} e e' h) q =
+    field_changed (in_list {w = w} {w' = w'} {p = p} {q = r} {y = y} {b = b} {ts = ts} {us = us} e e' h) q =
         let g = trees_changed h q.3 in
         record {
           pending = refl;
           this = g.this;
           top = g.top;
           quiet = (g.pending ∙ q.0, q.1, q.2, g.quiet);
-          changed = subst (λ z. ChangedBy (A w) (statements (whole_list p y b (finished_trees ts))) (statements (whole_list z y b (finished_trees us)))) (sym g.pending) (listed (A w) p y b q.0 q.1 q.2 (finished_trees ts) (finished_trees us) g.changed);
+          changed = subst (λ z. ChangedBy (A w w') (statements (whole_list p y b (finished_trees ts))) (statements (whole_list z y b (finished_trees us)))) (sym g.pending) (listed (A w w') p y b q.0 q.1 q.2 (finished_trees ts) (finished_trees us) g.changed);
         }
-    field_changed (in_target {w = w} {p = p} {q = r} {y = y} {y' = y'} {b = b} {ts = ts} {us = us} e h) q =
+    field_changed (in_target {w = w} {w' = w'} {p = p} {q = r} {y = y} {y' = y'} {b = b} {ts = ts} {us = us} e h) q =
         let g = trees_changed h q.3 in
         record {
           pending = refl;
           this = refl;
           top = g.top;
           quiet = (g.pending ∙ q.0, g.this ∙ q.1, q.2, g.quiet);
-          changed = subst (λ z. ChangedBy (A w) (statements (whole_list p y b (finished_trees ts))) (statements (whole_list z y' b (finished_trees us)))) (sym g.pending)
-              (subst (λ z. ChangedBy (A w) (statements (whole_list p y b (finished_trees ts))) (statements (whole_list p z b (finished_trees us)))) (sym g.this) (listed (A w) p y b q.0 q.1 q.2 (finished_trees ts) (finished_trees us) g.changed));
+          changed = subst (λ z. ChangedBy (A w w') (statements (whole_list p y b (finished_trees ts))) (statements (whole_list z y' b (finished_trees us)))) (sym g.pending)
+              (subst (λ z. ChangedBy (A w w') (statements (whole_list p y b (finished_trees ts))) (statements (whole_list p z b (finished_trees us)))) (sym g.this) (listed (A w w') p y b q.0 q.1 q.2 (finished_trees ts) (finished_trees us) g.changed));
         }
-    field_changed (in_program {w = w} {p = p} {q = r} {y = y} {y' = y'} {b = b} {b' = b'} {ts = ts} {us = us} e h) q =
+    field_changed (in_program {w = w} {w' = w'} {p = p} {q = r} {y = y} {y' = y'} {b = b} {b' = b'} {ts = ts} {us = us} e h) q =
         let g = trees_changed h q.3 in
         record {
           pending = refl;
           this = refl;
           top = refl;
           quiet = (g.pending ∙ q.0, g.this ∙ q.1, g.top ∙ q.2, g.quiet);
-          changed = subst (λ z. ChangedBy (A w) (statements (whole_list p y b (finished_trees ts))) (statements (whole_list z y' b' (finished_trees us)))) (sym g.pending)
-              (subst (λ z. ChangedBy (A w) (statements (whole_list p y b (finished_trees ts))) (statements (whole_list p z b' (finished_trees us)))) (sym g.this)
-              (subst (λ z. ChangedBy (A w) (statements (whole_list p y b (finished_trees ts))) (statements (whole_list p y z (finished_trees us)))) (sym g.top) (listed (A w) p y b q.0 q.1 q.2 (finished_trees ts) (finished_trees us) g.changed)));
+          changed = subst (λ z. ChangedBy (A w w') (statements (whole_list p y b (finished_trees ts))) (statements (whole_list z y' b' (finished_trees us)))) (sym g.pending)
+              (subst (λ z. ChangedBy (A w w') (statements (whole_list p y b (finished_trees ts))) (statements (whole_list p z b' (finished_trees us)))) (sym g.this)
+              (subst (λ z. ChangedBy (A w w') (statements (whole_list p y b (finished_trees ts))) (statements (whole_list p y z (finished_trees us)))) (sym g.top) (listed (A w w') p y b q.0 q.1 q.2 (finished_trees ts) (finished_trees us) g.changed)));
         }
     field_changed (acts_on_list {n = n} {s = s} {s' = s'} {p = p} {q = r} {x = x} {y = y} {a = a} {b = b} ts us h) q = absurd (law.nodes n s s' (at_list p x a ts) (at_list r y b us) h)
     field_changed (acts_on_body {n = n} {s = s} {s' = s'} {p = p} t u h) q = absurd (law.nodes n s s' (at_body p t) (at_node u) h)
 
-    trees_changed : {n : Site} {s s' : Ledger} {ts us : OpenTrees} → TreesStep Q n s ts s' us → AreQuietTrees ts → Left s s' (AreQuietTrees us) (ChangedAmong (A (whole_in s)) (finished_trees ts) (finished_trees us))
+    trees_changed : {n : Site} {s s' : Ledger} {ts us : OpenTrees} → TreesStep Q n s ts s' us → AreQuietTrees ts → Left s s' (AreQuietTrees us) (ChangedAmong (A (whole_in s) (whole_in s')) (finished_trees ts) (finished_trees us))
     trees_changed (in_head h) q = onward (λ k. (k, q.1)) head_of (step_changed h q.0)
     trees_changed (in_tail h) q = onward (λ k. (q.0, k)) tail_of (trees_changed h q.1)
     trees_changed (in_flanked h) q = absurd q

@@ -32,7 +32,7 @@ use Rattle.es_statement_steps.proofs.Stands.{is_inner, is_program, standing, sta
 use Rattle.es_statement_steps.proofs.SteadyNames.{NoneWritten, is_bound, none_below}
 
 -- NO SCOPE stands in a pattern of the class
-no_scope : (k : AstType) → is_statement_kind k ≡ true → is_inner k ≡ true → makes_scope k ≡ false
+pub no_scope : (k : AstType) → is_statement_kind k ≡ true → is_inner k ≡ true → makes_scope k ≡ false
 no_scope BlockStatement c e = absurd (cc e)
 no_scope StaticBlock c e = absurd (cc c)
 no_scope FunctionDeclaration c e = absurd (cc c)

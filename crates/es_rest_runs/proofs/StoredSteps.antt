@@ -43,7 +43,7 @@ use Rattle.es_rest_rows.proofs.PlainPatterns.{plain-holds}
 use Rattle.es_statement_runs.specs.Helpers.{is_helper}
 use Rattle.es_statement_runs.specs.Helpers.Supply.{by_global}
 use Rattle.es_statement_runs.specs.Names.{declared_at_top}
-use Rattle.es_statement_runs.specs.Programs.{IsStatementProgram, is_statement_node, names_no_cell}
+use Rattle.es_statement_runs.specs.Programs.{IsStatementProgram, is_statement_node, names_no_cell, uses_no_helper}
 use Rattle.es_statement_runs.proofs.Composing.{law_then_proof}
 use Rattle.es_statement_steps.proofs.KeylessPrograms.{excludes_none}
 use Rattle.es_statement_steps.proofs.KeylessSources.{named-keyless, same-keyless}
@@ -185,6 +185,11 @@ of_keyless _ l fs h = refl
 not_so : (b : Bool) → not b ≡ true → b ≡ false
 not_so true h = absurd (cc h)
 not_so false h = refl
+
+pub source_no_name : (p : Tree) → IsStatementProgram p → uses_no_helper by_global p ≡ true → all_nodes excludes_no_name (source p) ≡ true
+source_no_name p class none =
+    nodes_so excludes_none excludes_no_name of_keyless (source p)
+    (named-keyless (length (symbols_of p)) (is_among (names_of p)) (not_so (is_among (names_of p) (codes "babelHelpers")) none) reads (source p) (law_named_proof p (is_among (names_of p)) (length (symbols_of p)) class.form class.rules (λ x e. e) (omega arith)))
 
 pub law_no_name_excluded_proof : LawNoNameExcluded
 law_no_name_excluded_proof p class none =

@@ -64,7 +64,7 @@ use Rattle.es_rest_runs.proofs.GrownNames.{Apt, Decl, in_right, more_append, usi
 use Rattle.es_rest_runs.proofs.GrownPrograms.{ProgramChanged, list_grown_at_top, program_changed, tops_more}
 use Rattle.es_rest_runs.proofs.TestsHold.{program_tested}
 use Rattle.es_rest_runs.specs.Quiet.{IsQuiet}
-use Rattle.es_rest_runs.proofs.QuietSteps.{Left, PlainRule, opened_quiet, step_changed}
+use Rattle.es_rest_runs.proofs.QuietSteps.{Before, Left, PlainRule, opened_quiet, step_changed}
 
 -- ONE PLACE has one name
 pub record Picked (I : Type 0) (C : I → Type 0) : Type 0 where
@@ -148,7 +148,7 @@ row_made (stores {w = w} m l a c p e x b1 b2 plain b4 b5 b6 fresh) so =
 row_made (takes m l lp lr ls a ps c t xs b1 b2 b3 b4 b5 b6 b7 b8 b9) so = absurd (cc so)
 row_made (nested m l lp lq ls a ps rs c k p v u x b1 b2 b3 b4 b5 b6 b7 b8 b9) so = absurd (cc so)
 
-pub stores-rule : PlainRule StoresRow SomeStored
+pub stores-rule : PlainRule StoresRow (Before SomeStored)
 stores-rule = record {
   nodes = λ n s s' x y h. row_nodes h.row;
   pending = λ n s s' t u h. row_pending h.row;
@@ -377,7 +377,7 @@ pub stored_alike : (u : Supply) (s s' : Ledger) (x y : Open) → IsStatementProg
 stored_alike u s s' x y class named step quiet silent =
     let keeps = (law_places_proof (finished x)).to_places (law_among_proof (finished x) class.rules) in
     let apt : Apt (finished x) = (program_stands (finished x) class.form class.without_functions keeps, program_tested (finished x) class.form class.without_functions keeps) in
-    let left = step_changed StoresRow SomeStored stores-rule step quiet in
+    let left = step_changed StoresRow (Before SomeStored) stores-rule step quiet in
     alike_where u s s' (finished x) y apt named silent (kind_program (finished x) class.form) left (pick (Bool × Text) (StoredAt (whole_in s)) left.changed)
 
 one_step : (u : Supply) (w : Whole) (s : Ledger) (t : Tree) (p q : Open) → finished p ≡ t → IsStatementProgram t → Named w.in_use w.free_symbol reads t → Step StoresRow the_program (nothing_beside w) p s q → IsQuiet p → silent_names u t ≡ [] → silent_names u (finished q) ≡ [] → RunAlike u false t (finished q)

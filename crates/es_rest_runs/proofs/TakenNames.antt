@@ -32,7 +32,7 @@ use Rattle.es_rest_runs.specs.Growth.{Grows}
 use Rattle.es_rest_runs.specs.Growth.Grows.{grows}
 use Rattle.es_rest_runs.specs.Laws.{TakesRow, is_taken}
 use Rattle.es_rest_runs.proofs.GrownNames.{Decl, in_left, in_right, more_append}
-use Rattle.es_rest_runs.proofs.QuietSteps.{PlainRule}
+use Rattle.es_rest_runs.proofs.QuietSteps.{Before, PlainRule}
 use Rattle.es_rest_runs.proofs.Stores.{Picked, lone_joined, or_true, row_nodes, row_pending, row_this, row_top}
 use Rattle.es_rest_runs.proofs.TakenGroups.{texts_of}
 
@@ -66,7 +66,7 @@ row_made (takes {w = w} m l lp lr ls a ps c t xs b1 b2 plain name b5 kept keys b
 row_made (stores m l a c p e x b1 b2 b3 b4 b5 b6 b7) so = absurd (cc so)
 row_made (nested m l lp lq ls a ps rs c k p v u x b1 b2 b3 b4 b5 b6 b7 b8 b9) so = absurd (cc so)
 
-pub takes-rule : PlainRule TakesRow SomeTaken
+pub takes-rule : PlainRule TakesRow (Before SomeTaken)
 takes-rule = record {
   nodes = λ n s s' x y h. row_nodes h.row;
   pending = λ n s s' t u h. row_pending h.row;

@@ -31,7 +31,7 @@ use Rattle.es_rest_runs.specs.Laws.{KeepsSources, LawTakes, LeavesHelpers, Takes
 use Rattle.es_rest_runs.specs.Quiet.{IsQuiet}
 use Rattle.es_rest_runs.proofs.GrownNames.{Apt}
 use Rattle.es_rest_runs.proofs.GrownPrograms.{ProgramChanged, program_changed}
-use Rattle.es_rest_runs.proofs.QuietSteps.{Left, opened_quiet, step_changed}
+use Rattle.es_rest_runs.proofs.QuietSteps.{Before, Left, opened_quiet, step_changed}
 use Rattle.es_rest_runs.proofs.SeenPlaces.{Known}
 use Rattle.es_rest_runs.proofs.SeenPrograms.{New, SeenAlike, declared_still, program_apt, program_known, seen_run}
 use Rattle.es_rest_runs.proofs.SparedNames.{trees_both}
@@ -85,7 +85,7 @@ module _ (s s' : Ledger) (p : Tree) (y : Open) (apt : Apt p) (known : Known (who
 pub taken_alike : (s s' : Ledger) (x y : Open) (p : Tree) → finished x ≡ p → IsStatementProgram p → IsWellBound (whole_in s) p → KeepsSources (whole_in s) p → LeavesHelpers p → Step TakesRow the_program s x s' y → IsQuiet x → silent_names by_global p ≡ [] →
     SeenAlike by_global (SomeTaken (whole_in s)) s s' p y
 taken_alike s s' x y p same class bound sources helpers step quiet silent =
-    let left = subst (λ (t : Tree). Left s s' (IsQuiet y) (Changed (SomeTaken (whole_in s)) t (finished y))) {x = finished x} same (step_changed TakesRow SomeTaken takes-rule step quiet) in
+    let left = subst (λ (t : Tree). Left s s' (IsQuiet y) (Changed (SomeTaken (whole_in s)) t (finished y))) {x = finished x} same (step_changed TakesRow (Before SomeTaken) takes-rule step quiet) in
     alike_where s s' p y (program_apt p class) (program_known (whole_in s) p class bound sources) helpers silent left (kind_program p class.form) (pick (Bool × List Bound) (TakenAt (whole_in s)) left.changed)
 
 pub law_takes_proof : LawTakes

@@ -1,0 +1,16 @@
+pub mod HeldNames
+pub mod BlocksGiveNothing
+pub mod ClausesAlike
+pub mod TurnedNames
+pub mod TurnedPlaces
+pub mod TurnedRuns
+pub mod MovedSteps
+pub mod CatchMoves
+pub mod HeadsAlike
+pub mod BoundCells
+pub mod HeadMoves
+pub mod MovedKept
+pub mod MovesInRow
+pub mod SoStill
+pub mod SoSeen
+pub mod MovedPrograms
