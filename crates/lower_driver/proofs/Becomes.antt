@@ -42,6 +42,8 @@ use Rattle.es_rest_rows.proofs.StraySteps.{law_strays_not_made_proof}
 use Rattle.es_lowered.specs.Lowered.{IsLowered}
 use Rattle.es_lowered.proofs.Idle.{law_idle_proof}
 use Rattle.es_lowered.proofs.Lowered.{law_lowered_alone_proof, law_lowered_proof}
+use Rattle.es_rest_results.specs.Laws.{RunsTaken, TakesRestsAlone}
+use Rattle.es_rest_results.proofs.Results.{law_none_taken_proof, law_rests_alone_proof}
 use Rattle.es_import_runs.proofs.ImportingResults.{law_importing_result_proof}
 use Rattle.es_statement_steps.specs.Orders.{in_order}
 use Rattle.es_statement_steps.proofs.Results.{law_statement_result_proof}
@@ -214,6 +216,7 @@ module _ (o c : EnvOptions) (copy : IsCopy o c) (p : Tree) (form : has_form s-Pr
         core = λ core. law_core_result_proof o p (plain_program z) (made_of ctx) core right becomes;
         statements = λ no_rests runs. law_statement_result_proof o p (plain_program z) there (made_of ctx) runs (tags-are-no-chains o p taken_so) (assigns-no-rest o p no_rests) (ordered-so z ctx steps) (law_bare_seen_proof names (plain_program z));
         importing = λ no_rests class m imported last runs require goes. law_importing_result_proof o m p (plain_program z) imported there (made_of ctx) last class (tags-are-no-chains o p taken_so) (assigns-no-rest o p no_rests) runs becomes (ordered-so z ctx steps) (law_bare_seen_proof names (plain_program z)) (law_same_sort_proof o p (plain_program z) (made_of ctx) form right (law_lowered_alone_proof o p (plain_program z) (made_of ctx) becomes)) require goes;
+        rests = λ alone. law_none_taken_proof o p (plain_program z) there (made_of ctx) alone (reached-so z ctx steps) (law_bare_seen_proof names (plain_program z));
         size = at (rests_there o p);
       }
     where
@@ -280,6 +283,10 @@ module _ (o c : EnvOptions) (copy : IsCopy o c) (p : Tree) (form : has_form s-Pr
         lowered =
             law_lowered_proof o p (plain_program u) there last (made_of ctx) (made_of d) (whole_at (moment_of d)) form right (λ asked. law_arrows_taken_proof o p asked taken_so) on (law_helpers_free_proof o p on taken_so declared) reached walk (names-bound (whole_at (moment_of d)).free_symbol (made_of d)) (law_bare_seen_proof names (plain_program u))
 
+        rests-run : TakesRestsAlone o p → RunsTaken p (plain_program u)
+        unfolding reached reached-so ordered-so
+        rests-run alone = law_rests_alone_proof o p (plain_program u) there last (made_of ctx) (whole_at (moment_of d)) alone (law_helpers_free_proof o p on taken_so declared) reached walk (law_bare_seen_proof names (plain_program u))
+
         others : any_node (rest_others c) last ≡ false
         others = law_rests_make_none_proof c there last (whole_at (moment_of ctx)) (whole_at (moment_of d)) walk (none-beside-rests c there arrived.other arrived.arrows)
 
@@ -299,6 +306,7 @@ module _ (o c : EnvOptions) (copy : IsCopy o c) (p : Tree) (form : has_form s-Pr
               core = λ core. absurd (true≢false (sym has ∙ no-rest p core.core));
               statements = λ no_rests runs. absurd (true≢false (sym there-is ∙ no_rests));
               importing = λ no_rests class m imported last runs require goes. absurd (true≢false (sym there-is ∙ no_rests));
+              rests = rests-run;
               size = rw there-is (omega (arith, small, few, light, more));
             }
 
@@ -329,6 +337,7 @@ stays-in-place o p form right none =
       core = λ core. law_core_result_proof o p p [] core right becomes;
       statements = λ no_rests runs. law_statement_result_proof o p p (source p) [] runs (tags-are-no-chains o p taken) (assigns-no-rest o p no_rests) (record { whole = first_whole p; steps = stays; made = refl }) (law_bare_source_proof p);
       importing = λ no_rests class m imported last runs require goes. law_importing_result_proof o m p p imported (source p) [] last class (tags-are-no-chains o p taken) (assigns-no-rest o p no_rests) runs becomes (record { whole = first_whole p; steps = stays; made = refl }) (law_bare_source_proof p) refl require goes;
+      rests = λ alone. law_none_taken_proof o p p (source p) [] alone (record { whole = first_whole p; steps = stays; made = refl }) (law_bare_source_proof p);
       size = at (rests_there o p);
     }
   where

@@ -5,7 +5,7 @@ use Rattle.es_tree.specs.Constructs.{is_object_rest}
 use Rattle.es_tree.specs.HasForm.{has_form}
 use Rattle.es_tree.specs.StaticRules.{breaks}
 use Rattle.es_tree.specs.Tree.{Tree, node, Fields, done, ◌then◌, Field, missing, one, many, statements, Trees, empty, ◌before◌, field_size, fields_size, tree_size, trees_size}
-use Rattle.es_tree.specs.Walks.{any_node}
+use Rattle.es_tree.specs.Walks.{any_node, all_nodes}
 use Rattle.es_tree.specs.Words.{Text}
 use Rattle.es_tree.specs.declared.ast_type.AstType.{AstType}
 use Rattle.es_tree.specs.declared.ast_type.AstType.TheVariants.{ArrowFunctionExpression, FunctionDeclaration, FunctionExpression, ObjectPattern, RestElement}
@@ -22,6 +22,10 @@ use Rattle.es_pattern_moves.proofs.MovedStays.{law_stays_proof}
 use Rattle.es_lowered.specs.Moved.{IsMoved}
 use Rattle.es_lowered.proofs.Moved.{law_moved_proof, law_unmoved_proof}
 use Rattle.lower_driver.specs.Moves.{Moves}
+use Rattle.es_moved_runs.specs.Laws.{MovedOn, moves_so}
+use Rattle.es_moved_runs.proofs.MovedPrograms.{law_moved_runs_proof}
+use Rattle.es_statement_runs.specs.Helpers.Supply.{by_global}
+use Rattle.es_statement_runs.specs.Programs.{IsStatementProgram, uses_no_helper}
 
 -- ONE PROGRAM
 
@@ -74,6 +78,11 @@ is-moved o p q names form right m = at (is_some o.es2018.object_rest_spread) ref
     at false e =
         let same = m.stays e in
         subst (λ (t : Tree). IsMoved (is_some o.es2018.object_rest_spread) p t names) (sym same.0) (subst (λ (xs : List Text). IsMoved (is_some o.es2018.object_rest_spread) p p xs) (sym same.1) (law_unmoved_proof (is_some o.es2018.object_rest_spread) p form right))
+
+-- RUNS: a program of statements that uses no helper itself, and whose patterns move so, runs as what it becomes
+pub moved-run : (on : Bool) (p q : Tree) (names : List Text) → IsStatementProgram p → uses_no_helper by_global p ≡ true → all_nodes moves_so p ≡ true → Moves on p q names → MovedOn p q
+moved-run true p q names class helpers so m = law_moved_runs_proof p q names class helpers so (m.goes refl)
+moved-run false p q names class helpers so m = subst (λ (t : Tree). MovedOn p t) (sym (m.stays refl).0) (record { runs = λ n this moves assumed t ms inside. record { outcomes = refl; questions = refl; final_cells = λ y e i. refl }; declared = λ y e. e; class = class; helpers = helpers })
 
 -- SIZE: what it weighs pays for it
 

@@ -1,6 +1,6 @@
 -- What a program becomes when its constructs are lowered: names stand for its lists of excluded keys, or it stays as it is.
-use Rattle.std.proofs.Common.{◌≡◌, ◌∙◌, ◌*◌, ◌+◌, ◌≤◌, List, [], None, ap, arith, refl, sym}
-use Rattle.std.specs.Prelude.{Bool, true, false, ◌&&◌, codes, is_some, not, if◌then◌else◌}
+use Rattle.std.proofs.Common.{◌≡◌, ◌∙◌, ◌*◌, ◌+◌, ◌≤◌, List, [], None, ap, arith, refl, subst, sym}
+use Rattle.std.specs.Prelude.{Bool, true, false, ◌&&◌, codes, is_some, not, if◌then◌else◌, ◌||◌}
 use Rattle.es_tree.specs.Constructs.{has_enabled_construct, is_object_rest}
 use Rattle.es_tree.specs.HasForm.{has_form}
 use Rattle.es_tree.specs.StaticRules.{breaks}
@@ -10,7 +10,7 @@ use Rattle.es_tree.specs.Words.{Text}
 use Rattle.es_tree.specs.declared.options.EnvOptions.{EnvOptions}
 use Rattle.es_tree.specs.declared.table.Sort.TheVariants.{Program as s-Program}
 use Rattle.es_resolution.specs.Laws.{source}
-use Rattle.es_steps.specs.CoreBridge.{first_whole}
+use Rattle.es_steps.specs.CoreBridge.{first_whole, is_written_name}
 use Rattle.es_helper_calls.specs.Importing.{is_module}
 use Rattle.es_top_imports.specs.Laws.{list_place}
 use Rattle.es_excluded_keys.specs.ExcludedKeys.{shares_keys}
@@ -21,6 +21,13 @@ use Rattle.es_excluded_keys.proofs.SameSort.{same-sort}
 use Rattle.es_excluded_keys.proofs.Sizes.{law_shared_size_proof}
 use Rattle.lower_driver.specs.Lowers.{rests_there}
 use Rattle.lower_driver.specs.SharesKeys.{SharesKeys}
+use Rattle.es_tree.specs.Fresh.{is_among}
+use Rattle.es_tree.specs.Names.{names_of}
+use Rattle.es_constant_runs.proofs.SharedPrograms.{law_shared_runs_proof}
+use Rattle.es_rest_results.specs.Laws.{RunsTaken}
+use Rattle.es_statement_runs.specs.Helpers.Supply.{by_global}
+use Rattle.es_statement_runs.specs.Runs.{RunAlike}
+use Rattle.es_statement_runs.proofs.Composing.{law_then_proof}
 
 -- WHERE NO OBJECT REST IS TAKEN none is shared
 
@@ -42,6 +49,16 @@ shares-as o asked named p e = at (is_some o.es2018.object_rest_spread) e
     at : (on : Bool) → asked ≡ (on && named) → (on && (not asked && any_node is_object_rest p)) ≡ (on && (not named && any_node is_object_rest p))
     at true h = ap (λ b. not b && any_node is_object_rest p) h
     at false h = refl
+
+-- RUNS: with names for its lists a program in which rests were taken runs as it did
+
+in-use : (p : Tree) (x : Text) → is_among (names_of p) x ≡ true → (first_whole p).in_use x ≡ true
+in-use p x e = ap (λ b. b || is_written_name x) e
+
+pub shared-run : (on : Bool) (p lowered shared : Tree) (names : List Text) → SharesKeys on lowered shared names → RunsTaken p lowered → RunAlike by_global false p shared
+shared-run true p lowered shared names m taken =
+    law_then_proof by_global false p lowered shared taken.runs (law_shared_runs_proof (first_whole lowered).in_use lowered shared names taken.class taken.no_name taken.leaves (in-use lowered) (m.goes refl)) taken.declared
+shared-run false p lowered shared names m taken = subst (λ (t : Tree). RunAlike by_global false p t) (sym (m.stays refl).0) taken.runs
 
 -- WHAT IT IS
 

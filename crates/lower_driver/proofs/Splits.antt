@@ -1,17 +1,23 @@
 -- What a source becomes first of all: its exports of declarations with an object rest are split, or it stays as it is; there is one such program.
 use Rattle.std.proofs.Common.{◌≡◌, ◌∙◌, ◌*◌, ◌≤◌, [], ap, refl, subst, sym, true≢false}
 use Rattle.std.proofs.lemmas.Bool.{or_parts}
-use Rattle.std.specs.Prelude.{Bool, true, false, ◌&&◌, ◌||◌, is_some, if◌then◌else◌}
+use Rattle.std.specs.Prelude.{Bool, true, false, ◌&&◌, ◌||◌, is_some, if◌then◌else◌, not}
 use Rattle.es_tree.specs.Constructs.{is_object_rest, is_using}
 use Rattle.es_tree.specs.HasForm.{has_form}
 use Rattle.es_tree.specs.StaticRules.{breaks}
-use Rattle.es_tree.specs.Tree.{Tree, node, Label, Fields, done, ◌then◌, missing, one, many, statements, Trees, empty, ◌before◌, tree_size}
-use Rattle.es_tree.specs.Walks.{any_in_fields, any_in_trees, any_node}
+use Rattle.es_tree.specs.Tree.{Tree, node, Label, Fields, done, ◌then◌, missing, one, many, statements, Trees, empty, ◌before◌, tree_size, Field}
+use Rattle.es_tree.specs.Walks.{any_in_fields, any_in_trees, any_node, all_in_field, all_in_fields, all_in_trees, all_nodes, any_in_field}
 use Rattle.es_tree.specs.declared.ast_type.AstType.{AstType}
 use Rattle.es_tree.specs.declared.ast_type.AstType.TheVariants.{ExportNamedDeclaration, Program}
 use Rattle.es_tree.specs.declared.options.EnvOptions.{EnvOptions}
 use Rattle.es_tree.specs.declared.table.Sort.TheVariants.{Program as s-Program}
 use Rattle.es_pattern_moves.specs.Weights.{weighed}
+use Rattle.es_export_runs.proofs.SplitClass.{law_split_class_proof, law_split_helpers_proof}
+use Rattle.es_export_runs.proofs.SplitRuns.{law_split_runs_proof, law_split_top_proof}
+use Rattle.es_statement_runs.specs.Helpers.Supply.{by_global}
+use Rattle.es_statement_runs.specs.Names.{declared_at_top}
+use Rattle.es_statement_runs.specs.Programs.{IsStatementProgram, uses_no_helper}
+use Rattle.es_statement_runs.specs.Runs.{RunAlike}
 use Rattle.es_rest_shapes.specs.RestShapes.{declares_rest, is_rest_declaration}
 use Rattle.es_rest_shapes.proofs.NoneLeft.{law_declared_rests_proof}
 use Rattle.es_export_splits.specs.Laws.{IsElsewhere, IsSplit, split_rules}
@@ -78,6 +84,54 @@ module _ (o : EnvOptions) (p q : Tree) (s : Splits (splits_exports o p) p q) whe
 
   pub same-rests : rests_there o q ≡ rests_there o p
   same-rests = ap (λ b. is_some o.es2018.object_rest_spread && b) (same-test is_object_rest (splits_exports o p) p q (record { exports = λ l fs. refl; specifiers = λ l fs. refl; names = λ l fs. refl; programs = λ l ds ts us. refl }) s)
+
+-- RUNS: a program of statements that uses no helper itself runs as it does when its exports are split, and is again such a program
+
+pub split-class : (on : Bool) (p q : Tree) → IsStatementProgram p → Splits on p q → IsStatementProgram q
+split-class true p q class s = subst (λ (t : Tree). IsStatementProgram t) (sym (s.goes refl)) (law_split_class_proof p class)
+split-class false p q class s = subst (λ (t : Tree). IsStatementProgram t) (sym (s.stays refl)) class
+
+pub split-helpers : (on : Bool) (p q : Tree) → uses_no_helper by_global p ≡ true → Splits on p q → uses_no_helper by_global q ≡ true
+split-helpers true p q none s = subst (λ (t : Tree). uses_no_helper by_global t ≡ true) (sym (s.goes refl)) (law_split_helpers_proof by_global p none)
+split-helpers false p q none s = subst (λ (t : Tree). uses_no_helper by_global t ≡ true) (sym (s.stays refl)) none
+
+pub split-run : (on : Bool) (p q : Tree) → IsStatementProgram p → uses_no_helper by_global p ≡ true → Splits on p q → RunAlike by_global false p q
+split-run true p q class none s = subst (λ (t : Tree). RunAlike by_global false p t) (sym (s.goes refl)) (law_split_runs_proof by_global false p class none)
+split-run false p q class none s = subst (λ (t : Tree). RunAlike by_global false p t) (sym (s.stays refl)) (λ n this moves assumed t ms inside. record { outcomes = refl; questions = refl; final_cells = λ y e i. refl })
+
+pub split-top : (on : Bool) (p q : Tree) → IsStatementProgram p → Splits on p q → declared_at_top q ≡ declared_at_top p
+split-top true p q class s = ap declared_at_top (s.goes refl) ∙ law_split_top_proof p class
+split-top false p q class s = ap declared_at_top (s.stays refl)
+
+-- a test of every node that exports and names pass
+both : (a b c : Bool) → b ≡ not c → (a && b) ≡ not (not a || c)
+both true b c e = e
+both false b c e = refl
+
+joined : (a b c d : Bool) → a ≡ not c → b ≡ not d → (a && b) ≡ not (c || d)
+joined a b true d e f = ap (λ v. v && b) e
+joined a b false d e f = (λ i. e i && b) ∙ f
+
+mutual
+  all-any : (P : AstType → Label → Fields → Bool) (t : Tree) → all_nodes P t ≡ not (any_node (λ k l fs. not (P k l fs)) t)
+  all-any P (node k l fs) = both (P k l fs) (all_in_fields P fs) (any_in_fields (λ k l fs. not (P k l fs)) fs) (all-any-in P fs)
+
+  all-any-in : (P : AstType → Label → Fields → Bool) (fs : Fields) → all_in_fields P fs ≡ not (any_in_fields (λ k l fs. not (P k l fs)) fs)
+  all-any-in P done = refl
+  all-any-in P (f then fs) = joined (all_in_field P f) (all_in_fields P fs) (any_in_field (λ k l fs. not (P k l fs)) f) (any_in_fields (λ k l fs. not (P k l fs)) fs) (all-any-by P f) (all-any-in P fs)
+
+  all-any-by : (P : AstType → Label → Fields → Bool) (f : Field) → all_in_field P f ≡ not (any_in_field (λ k l fs. not (P k l fs)) f)
+  all-any-by P missing = refl
+  all-any-by P (one t) = all-any P t
+  all-any-by P (many ts) = all-any-among P ts
+  all-any-by P (statements ts) = all-any-among P ts
+
+  all-any-among : (P : AstType → Label → Fields → Bool) (ts : Trees) → all_in_trees P ts ≡ not (any_in_trees (λ k l fs. not (P k l fs)) ts)
+  all-any-among P empty = refl
+  all-any-among P (t before ts) = joined (all_nodes P t) (all_in_trees P ts) (any_node (λ k l fs. not (P k l fs)) t) (any_in_trees (λ k l fs. not (P k l fs)) ts) (all-any P t) (all-any-among P ts)
+
+pub split-passes : (P : AstType → Label → Fields → Bool) (on : Bool) (p q : Tree) → IsElsewhere (λ k l fs. not (P k l fs)) → Splits on p q → all_nodes P p ≡ true → all_nodes P q ≡ true
+split-passes P on p q elsewhere s h = all-any P q ∙ ap not (same-test (λ k l fs. not (P k l fs)) on p q elsewhere s) ∙ sym (all-any P p) ∙ h
 
 -- SIZE: what it weighs
 

@@ -28,18 +28,22 @@ use Rattle.es_lowered.specs.Moved.{IsMoved}
 use Rattle.es_lowered.specs.Used.{IsUsed}
 use Rattle.es_reached.specs.Reached.{IsCoreResult}
 use Rattle.es_import_runs.specs.Laws.{RunsImporting, supply_in}
+use Rattle.es_statement_runs.specs.Helpers.Supply.{by_global}
+use Rattle.es_runs.specs.Runs.{is_declared}
+use Rattle.es_tree.specs.Scopes.{Declared}
 use Rattle.es_statement_runs.specs.Programs.{IsStatementProgram}
 use Rattle.es_statement_runs.specs.Runs.{RunAlike}
+use Rattle.es_statement_runs.proofs.Composing.{law_then_proof}
 use Rattle.es_statement_steps.specs.Laws.{RunsAsStatements, assumes_no_all, supply_there}
 use Rattle.es_export_splits.specs.Laws.{IsSplit}
 use Rattle.es_export_splits.specs.Splits.{has_split}
-use Rattle.es_helper_calls.specs.Importing.{uses_helper, imports_helpers, own_call}
+use Rattle.es_helper_calls.specs.Importing.{asks_helper, imports_helpers, own_call, uses_helper}
 use Rattle.es_using_modules.specs.Laws.{IsTopped}
 use Rattle.es_using_modules.specs.ModuleTops.{uses_at_top}
 use Rattle.es_super_calls.specs.Constructors.{is_derived_class}
 use Rattle.lower_driver.specs.Copies.{IsCopy}
 use Rattle.lower_driver.specs.Imports.{Imports}
-use Rattle.lower_driver.specs.Lowers.{Lowers, LowersInPlace, most_for_each, rests_there}
+use Rattle.lower_driver.specs.Lowers.{Lowers, LowersInPlace, LowersRestsAlone, most_for_each, rests_there}
 use Rattle.lower_driver.specs.Moves.{Moves}
 use Rattle.lower_driver.specs.Sets.{Sets, sets_this}
 use Rattle.lower_driver.specs.SharesKeys.{SharesKeys}
@@ -50,12 +54,13 @@ use Rattle.lower_driver.specs.UnsupportedPrograms.{Finds, IsFirstOrMemory, IsUns
 use Rattle.lower_driver.proofs.CopiedOptions.{copied-refused}
 use Rattle.lower_driver.proofs.CoreNodes.{no-class, no-class-among-statements, no-rest, no-using}
 use Rattle.lower_driver.proofs.Imported.{core-unimporting, imported-program, is-imported, none-left, require-free, size-after}
-use Rattle.lower_driver.proofs.Moved.{is-moved, moved-weight, moves-itself, no-moves, off-anyway, one-program, stays-itself}
+use Rattle.lower_driver.proofs.Moved.{is-moved, moved-run, moved-weight, moves-itself, no-moves, off-anyway, one-program, stays-itself}
 use Rattle.lower_driver.proofs.Set.{is-set, none-after, set-size, sets-itself}
-use Rattle.lower_driver.proofs.Shared.{is-shared, none-shares, shared-size}
-use Rattle.lower_driver.proofs.Splits.{is-split, off-without, one-split, same-using, split-weight, splits-itself}
+use Rattle.lower_driver.proofs.Shared.{is-shared, none-shares, shared-run, shared-size}
+use Rattle.lower_driver.proofs.Splits.{is-split, off-without, one-split, same-using, split-class, split-helpers, split-passes, split-run, split-top, split-weight, splits-itself}
 use Rattle.lower_driver.proofs.Tops.{is-topped, one-topped, top-weight, tops-as, tops-itself, untopped-off}
 use Rattle.lower_driver.proofs.Used.{heads-as, heads-itself, is-headed, is-used, one-headed, one-used, unasked-off, uses-as, uses-itself}
+use Rattle.es_moved_runs.specs.Laws.{moves_so}
 
 -- ONE THING IS FOUND in a source
 
@@ -249,6 +254,22 @@ module _
       let unset : written ≡ imported = sets.stays (off-anyway (is_some o.es2015.arrow_function) (any_node is_derived_class s) (no-class-among-statements s class.without_functions)) in
       subst (λ (t : Tree). RunAlike (supply_in m s) (assumes_no_all o s) s t) (sym unset) (subst (λ (t : Tree). RunAlike (supply_in m t) (assumes_no_all o t) t imported) same.moved there)
 
+  -- a program of statements in which object rests alone are lowered, each where it stands
+  rests-there : LowersRestsAlone o s q → RunAlike by_global false s written
+  rests-there alone =
+      let splits = splits_exports o s in
+      let class = split-class splits s p alone.class x in
+      let helpers = split-helpers splits s p alone.helpers x in
+      let so = split-passes moves_so splits s p (record { exports = λ l fs. refl; specifiers = λ l fs. refl; names = λ l fs. refl; programs = λ l ds ts us. refl }) x alone.moves in
+      let moves : Moves on p q names = subst (λ (t : Tree). Moves on t q names) (same-used alone.no_using).same m in
+      let moved = moved-run on p q names class helpers so moves in
+      let taken = in_place.rests (record { class = moved.class; helpers = moved.helpers; others = alone.others }) in
+      let unimported = imports.stays (ap (λ (b : Bool). not b && any_node (asks_helper o made) q) alone.external) in
+      let unset : written ≡ imported = sets.stays (off-anyway (is_some o.es2015.arrow_function) (any_node is_derived_class s) (no-class-among-statements s alone.class.without_functions)) in
+      let from_split : RunAlike by_global false p shared = law_then_proof by_global false p q shared moved.runs (shared-run sharing q lowered shared keys shares taken) moved.declared in
+      subst (λ (t : Tree). RunAlike by_global false s t) (sym (unset ∙ unimported.0))
+      (law_then_proof by_global false s p shared (split-run splits s p alone.class alone.helpers x) from_split (λ y e. ap (λ (ds : List Declared). is_declared ds y) (split-top splits s p alone.class x) ∙ e))
+
   -- SIZE
 
   moved-size : z ≡ p → 2 * tree_size q ≤ (if splits_exports o s then 8 else 7) * tree_size s
@@ -339,6 +360,7 @@ module _
     core = core-there;
     statements = statements-there;
     statements_importing = importing-there;
+    rests = rests-there;
     unchanged = λ unasked. absurd (true≢false (sym some ∙ unasked));
     size = sized;
   }
@@ -397,6 +419,7 @@ becomes-itself o p form right unused rests off none in_place =
       core = in_place.core;
       statements = λ no_using no_rests unasked runs. in_place.statements no_rests runs;
       statements_importing = λ no_using no_rests on_here class runs. absurd (true≢false (sym on_here ∙ ap (λ (b : Bool). imports_helpers o b p) (sym off_here) ∙ off));
+      rests = λ alone. (in_place.rests (record { class = alone.class; helpers = alone.helpers; others = alone.others })).runs;
       unchanged = λ unasked. record { same = refl; no_names = refl };
       size = sized o p p p p p p p p p p [] [] [] [] [] [] [] form right x h u y m none in_place shares imports sets;
     }

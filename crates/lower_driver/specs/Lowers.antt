@@ -2,8 +2,9 @@
 use Rattle.std.specs.Prelude.{◌≡◌, ◌≤◌, ◌+◌, ◌*◌, ◌++◌, ◌&&◌, Bool, List, [], None, codes, false, true, is_some, string_bytes, if◌then◌else◌, ℕ}
 use Rattle.es_tree.specs.Constructs.{has_enabled_construct, is_object_rest}
 use Rattle.es_tree.specs.Core.{IsCoreProgram}
+use Rattle.es_tree.specs.Options.{is_external}
 use Rattle.es_tree.specs.Tree.{Tree, tree_size}
-use Rattle.es_tree.specs.Walks.{any_node}
+use Rattle.es_tree.specs.Walks.{any_node, all_nodes}
 use Rattle.es_tree.specs.Words.{Text}
 use Rattle.es_tree.specs.declared.options.EnvOptions.{EnvOptions}
 use Rattle.es_json.specs.Canonical.{canonical}
@@ -21,7 +22,9 @@ use Rattle.es_excluded_keys.specs.ExcludedKeys.{names_itself, shares_keys}
 use Rattle.es_excluded_keys.specs.Laws.{IsShared}
 use Rattle.es_reached.specs.Reached.{IsCoreResult}
 use Rattle.es_resolution.specs.Laws.{source as with_symbols}
-use Rattle.es_statement_runs.specs.Programs.{IsStatementProgram}
+use Rattle.es_rest_results.specs.Laws.{RunsTaken, TakesRestsAlone}
+use Rattle.es_statement_runs.specs.Helpers.Supply.{by_global}
+use Rattle.es_statement_runs.specs.Programs.{IsStatementProgram, uses_no_helper}
 use Rattle.es_statement_runs.specs.Runs.{RunAlike}
 use Rattle.es_statement_steps.specs.Laws.{RunsAsStatements, assumes_no_all, supply_there}
 use Rattle.es_steps.specs.CoreBridge.{first_whole}
@@ -33,6 +36,8 @@ use Rattle.lower_driver.specs.SharesKeys.{SharesKeys}
 use Rattle.lower_driver.specs.Splits.{Splits, splits_exports}
 use Rattle.lower_driver.specs.Tops.{Tops, lowers_top}
 use Rattle.lower_driver.specs.Uses.{Heads, Uses, lowers_using, using_there}
+use Rattle.es_moved_runs.specs.Laws.{moves_so}
+use Rattle.es_rest_results.specs.Others.{others_there}
 
 -- a source as it is written, with no name made
 pub record IsAsBefore (source written : Tree) (names : List Text) : Type 0 where
@@ -42,6 +47,17 @@ pub record IsAsBefore (source written : Tree) (names : List Text) : Type 0 where
 -- whether an object rest is taken
 abbrev pub rests_there : EnvOptions → Tree → Bool
 rests_there o p = is_some o.es2018.object_rest_spread && any_node is_object_rest p
+
+-- A program of statements, without functions, arrows and classes, that uses no helper itself, and in which object rests that are declared are lowered, and
+-- nothing else: nothing else that is asked for stands in what it is once its patterns moved. Of the heads of its loops patterns move where the loop's body
+-- is a block and its words are `let` and `const` (`moves_so`), and helpers are properties of `babelHelpers`.
+pub record LowersRestsAlone (o : EnvOptions) (p moved : Tree) : Type 0 where
+  pub class : IsStatementProgram p
+  pub helpers : uses_no_helper by_global p ≡ true
+  pub no_using : using_there o p ≡ false
+  pub moves : all_nodes moves_so p ≡ true
+  pub others : others_there o moved ≡ false
+  pub external : is_external o.helper_loader.mode ≡ true
 
 -- WHERE THEY STAND its constructs are lowered: what a program becomes in which no pattern moves any more.
 pub record LowersInPlace (o : EnvOptions) (source written : Tree) (names : List Text) : Type 0 where
@@ -61,6 +77,9 @@ pub record LowersInPlace (o : EnvOptions) (source written : Tree) (names : List 
   -- is bound nowhere, whatever is lowered beside it, but exponentiation in a script.
   pub importing : rests_there o source ≡ false → IsStatementProgram source → (m : Text) (imported : Tree) (last : List Text) → RunsImporting o m source → (is_module written ≡ false → (list_place (with_symbols written)).scope (codes "require") ≡ None) →
       ImportsTo (first_whole written).in_use m written imported last → RunAlike (supply_in m source) (assumes_no_all o source) source imported
+  -- And so do a program in which object rests that are declared are lowered, and nothing else, and what becomes of it, of which is known besides what
+  -- the later stages count on.
+  pub rests : TakesRestsAlone o source → RunsTaken source written
   -- It has at most so many nodes for each of the source's: an object rest makes a text for each property before it, and the walk that takes rests is the
   -- last of three.
   pub size : tree_size written ≤ (if rests_there o source then 372 else 64) * tree_size source
@@ -135,6 +154,9 @@ pub record Lowers (o : EnvOptions) (source written : Tree) (names : List Text) :
   -- a program that imports the helper of object spread, or requires it, runs alike under what its import or call of `require` means
   pub statements_importing : using_there o source ≡ false → rests_there o source ≡ false → imports_helpers o false source ≡ true → IsStatementProgram source → RunsImporting o (string_bytes o.helper_loader.module_name) source →
       RunAlike (supply_in (string_bytes o.helper_loader.module_name) source) (assumes_no_all o source) source written
+  -- Where of what the options ask for object rests that are declared alone stand in a program of statements, at its top, in blocks, `catch` clauses and
+  -- heads of loops, exported or not, the source and what is written run alike, with the helpers as properties of `babelHelpers`.
+  pub rests : LowersRestsAlone o source moved → RunAlike by_global false source written
   -- where the options ask for no construct of the source, nothing is changed
   pub unchanged : has_enabled_construct o source ≡ false → IsAsBefore source written names
   -- the nodes of the source and of what is written, with those of the imports: where a name is set behind `super(..)`, three times as many
